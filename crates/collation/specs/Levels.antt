@@ -1,0 +1,56 @@
+-- Which references stand below one, and which stand before a cut.
+use Rattle.std.specs.Prelude.{ℕ, Bool, true, false, not, ◌&&◌, ◌||◌, nat_eq, List, [], ◌∷◌, Option, None, Some, is_some, if◌then◌else◌}
+use Rattle.std.specs.Cmp.Lexicographic.{pointwise}
+use Rattle.std.specs.Ordering.{is_lt}
+use Rattle.collation.specs.Reference.{Reference, Spot}
+use Rattle.collation.specs.Order.{ref_cmp}
+use Rattle.collation.specs.Database.{is_under}
+
+-- where xs goes on from ps, its first element beyond ps
+abbrev pub child : List (List ℕ) → List (List ℕ) → Option (List ℕ)
+child [] [] = None
+child [] (x ∷ xs) = Some x
+child (p ∷ ps) [] = None
+child (p ∷ ps) (x ∷ xs) = if pointwise nat_eq p x then child ps xs else None
+
+-- where x is a descendant of r, the subscript under r on the way to it
+abbrev pub child_of : Reference → Reference → Option (List ℕ)
+child_of r x = if pointwise nat_eq r.name x.name then child r.subscripts x.subscripts else None
+
+-- x is a descendant of r, and not r itself
+abbrev pub is_below : Reference → Reference → Bool
+is_below r x = is_some (child_of r x)
+
+abbrev pub has_name : Reference → Reference → Bool
+has_name r x = pointwise nat_eq r.name x.name
+
+abbrev pub is_nil : List (List ℕ) → Bool
+is_nil [] = true
+is_nil (s ∷ ss) = false
+
+-- all but the last
+abbrev pub front : List (List ℕ) → List (List ℕ)
+front [] = []
+front (x ∷ []) = []
+front (x ∷ y ∷ ys) = x ∷ front (y ∷ ys)
+
+abbrev pub last : List (List ℕ) → List ℕ
+last [] = []
+last (x ∷ []) = x
+last (x ∷ y ∷ ys) = last (y ∷ ys)
+
+-- one level up from a place: an open one stands one level below its reference
+abbrev pub parent_of : Spot → Reference
+parent_of p = if p.is_open then p.reference else record { name = p.reference.name; subscripts = front p.reference.subscripts }
+
+-- x stands after r and all that is under r
+abbrev pub is_past : Reference → Reference → Bool
+is_past r x = not (is_under r x) && is_lt (ref_cmp r x)
+
+-- x stands after r, or (whole) after all that is under r
+abbrev pub is_after : Bool → Reference → Reference → Bool
+is_after whole r x = if whole then is_past r x else is_lt (ref_cmp r x)
+
+-- x stands before r, or (whole) before the end of all that is under r
+abbrev pub is_before : Bool → Reference → Reference → Bool
+is_before whole r x = if whole then (is_under r x || is_lt (ref_cmp x r)) else is_lt (ref_cmp x r)

@@ -1,0 +1,10 @@
+pub mod Order
+pub mod OrderLaws
+pub mod Reference
+pub mod Name
+pub mod Faults
+pub mod Database
+pub mod Nearest
+pub mod Levels
+pub mod Answers
+pub mod Data

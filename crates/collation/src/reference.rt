@@ -1,0 +1,198 @@
+//! References.
+ghost use Rattle.std.specs.Prelude.{◌≡◌, MatchResult, None, Some};
+ghost use Rattle.std.specs.Cmp.Lexicographic.{slice_cmp};
+ghost use Rattle.collation.specs.Order.{subscript_cmp};
+ghost use Rattle.collation.specs.Faults.{reference_fault, subscripts_fault};
+
+use crate::{Name, Text, cmp_subscript};
+use canonic_number::LONGEST_SUBSCRIPT;
+use refusal::Refusal;
+use smallvec::SmallVec;
+use std::alloc::AllocError;
+use std::cmp::Ordering;
+use std::hash::{Hash, Hasher};
+use std::marker::Model;
+
+/// How many subscripts a reference may have.
+pub const MOST_SUBSCRIPTS: usize = 31;
+
+/// A list of subscripts. Up to 3 lie in the value itself.
+pub type Subscripts = SmallVec<Text, 3>;
+
+/// A global reference: a name, and at most 31 subscripts of 1 to 127 bytes.
+#[derive(Debug, Drop)]
+pub struct Ref {
+    name: Name,
+    subscripts: Subscripts,
+}
+
+impl Model for Ref {
+    ghost use Rattle.std.specs.Prelude.{◌≡◌, None};
+    ghost use Rattle.collation.specs.Reference.{Reference};
+    ghost use Rattle.collation.specs.Faults.{reference_fault};
+
+    ghost Value = { Reference };
+
+    ghost view = { λ r. record { name = r.name; subscripts = r.subscripts.items } };
+
+    ghost invariant = { λ r. reference_fault r.subscripts.items ≡ None };
+}
+
+fn find_fault(subscripts: &[Text]) -> Option<Refusal>
+    ensures { result ≡ reference_fault subscripts.now }
+{
+    if subscripts.len() > MOST_SUBSCRIPTS {
+        return Some(Refusal::TooManySubscripts);
+    }
+    for subscript in subscripts {
+        let len = subscript.as_slice().len();
+        if len == 0 {
+            return Some(Refusal::EmptySubscript);
+        }
+        if len > LONGEST_SUBSCRIPT {
+            return Some(Refusal::SubscriptTooLong);
+        }
+    }
+    None
+}
+
+impl Ref {
+    /// The reference of this name and these subscripts.
+    ///
+    /// Refusals, in this order: `TooManySubscripts` over 31; then the first subscript that is at fault,
+    /// `EmptySubscript`, or `SubscriptTooLong` over 127 bytes.
+    pub fn new(name: Name, subscripts: Subscripts) -> Result<Ref, Refusal>
+        ensures { MatchResult result (λ r. (reference_fault subscripts.items ≡ None) × (r.name ≡ name) × (r.subscripts ≡ subscripts.items))
+            (λ refusal. reference_fault subscripts.items ≡ Some refusal) }
+    {
+        match find_fault(&subscripts) {
+            Some(refusal) => Err(refusal),
+            None => Ok(Ref { name, subscripts }),
+        }
+    }
+
+    /// The name's bytes.
+    pub fn name(&self) -> &[u8]
+        ensures { result.now ≡ self.now.name }
+    {
+        self.name.as_slice()
+    }
+
+    /// The subscripts, none of them empty.
+    pub fn subscripts(&self) -> &[Text]
+        ensures value { result.now ≡ self.now.subscripts }
+        ensures form { reference_fault self.now.subscripts ≡ None }
+    {
+        self.subscripts.as_slice()
+    }
+}
+
+fn cmp_subscripts(a: &[Text], b: &[Text]) -> Ordering
+    requires a_form { subscripts_fault a.now ≡ None }
+    requires b_form { subscripts_fault b.now ≡ None }
+    ensures { result ≡ slice_cmp subscript_cmp a.now b.now }
+{
+    match a {
+        [] => {
+            if b.is_empty() {
+                Ordering::Equal
+            } else {
+                Ordering::Less
+            }
+        }
+        [x, xs @ ..] => match b {
+            [] => Ordering::Greater,
+            [y, ys @ ..] => {
+                let first = cmp_subscript(x.as_slice(), y.as_slice());
+                match first {
+                    Ordering::Equal => cmp_subscripts(xs, ys),
+                    _ => first,
+                }
+            }
+        },
+    }
+}
+
+impl PartialEq for Ref {
+    ghost use Rattle.collation.specs.Order.{ref_eq};
+    ghost use Rattle.collation.specs.OrderLaws.{ref_eq_laws};
+    ghost use Rattle.std.specs.Cmp.{partial_equiv_from_equiv};
+
+    ghost eq = { ref_eq };
+
+    ghost laws = { partial_equiv_from_equiv ref_eq_laws };
+
+    fn eq(&self, other: &Ref) -> bool {
+        self.name.as_slice() == other.name.as_slice() && self.subscripts == other.subscripts
+    }
+}
+
+impl Eq for Ref {
+    ghost use Rattle.collation.specs.OrderLaws.{ref_eq_laws};
+
+    ghost laws = { ref_eq_laws };
+}
+
+impl Ord for Ref {
+    ghost use Rattle.std.specs.Prelude.{refl};
+    ghost use Rattle.collation.specs.Order.{ref_cmp};
+    ghost use Rattle.collation.specs.OrderLaws.{ref_cmp_total, ref_ties};
+
+    ghost cmp = { ref_cmp };
+
+    ghost total = { ref_cmp_total };
+
+    ghost matches_partial_cmp = { λ _ _. refl };
+
+    ghost matches_eq = { ref_ties };
+
+    #[tactic(auto, unfolding(crate::specs::Order::ref_cmp))]
+    fn cmp(&self, other: &Ref) -> Ordering {
+        let names = self.name.as_slice().cmp(&other.name.as_slice());
+        names.then_with(|| cmp_subscripts(self.subscripts.as_slice(), other.subscripts.as_slice()))
+    }
+}
+
+impl PartialOrd for Ref {
+    ghost use Rattle.std.specs.Prelude.{refl};
+    ghost use Rattle.std.specs.Ordering.{as_partial_cmp};
+    ghost use Rattle.std.specs.Cmp.{partial_order_from_agreeing_total};
+    ghost use Rattle.collation.specs.Order.{ref_cmp};
+    ghost use Rattle.collation.specs.OrderLaws.{ref_cmp_total, ref_ties};
+
+    ghost partial_cmp = { as_partial_cmp ref_cmp };
+
+    ghost laws = { partial_order_from_agreeing_total ref_cmp ref_cmp_total (λ _ _. refl) ref_ties };
+
+    fn partial_cmp(&self, other: &Ref) -> Option<Ordering> {
+        Some(self.cmp(other))
+    }
+}
+
+impl Hash for Ref {
+    ghost use Rattle.std.specs.Prelude.{◌++◌};
+    ghost use Rattle.std.specs.Hash as fed;
+    ghost use Rattle.collation.specs.OrderLaws.{ref_eq_decides};
+    ghost use Rattle.std.specs.Hash.{same_Alike};
+
+    ghost hash_input = { λ r. fed.slice fed.u8 r.name ++ fed.slice (fed.slice fed.u8) r.subscripts };
+
+    ghost respects_eq = { (same_Alike (λ r. fed.slice fed.u8 r.name ++ fed.slice (fed.slice fed.u8) r.subscripts) ref_eq_decides).fed };
+
+    fn hash<H: Hasher>(&self, state: &mut H) {
+        self.name.as_slice().hash(state);
+        self.subscripts.hash(state);
+    }
+}
+
+impl Clone for Ref {
+    ghost use Rattle.std.specs.Prelude.{◌≡◌};
+
+    ghost is_clone = { λ a b. a ≡ b };
+
+    fn clone(&self) -> Result<Ref, AllocError> {
+        let name = self.name.clone()?;
+        let subscripts = self.subscripts.clone()?;
+        Ok(Ref { name, subscripts })
+    }
+}
