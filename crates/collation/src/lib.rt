@@ -17,7 +17,7 @@ pub use command::{Command, Reply};
 pub use job::Job;
 pub use name::Name;
 pub use place::{Direction, Place};
-pub use reference::{Ref, Subscripts};
+pub use reference::{MOST_SUBSCRIPTS, Ref, Subscripts, cmp_ref};
 pub use subscript::cmp_subscript;
 pub use text::Text;
 

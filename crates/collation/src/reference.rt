@@ -1,7 +1,7 @@
 //! References.
 ghost use Rattle.std.specs.Prelude.{◌≡◌, MatchResult, None, Some};
 ghost use Rattle.std.specs.Cmp.Lexicographic.{slice_cmp};
-ghost use Rattle.collation.specs.Order.{subscript_cmp};
+ghost use Rattle.collation.specs.Order.{subscript_cmp, ref_cmp};
 ghost use Rattle.collation.specs.Faults.{reference_fault, subscripts_fault};
 
 use crate::{Name, Text, cmp_subscript};
@@ -111,6 +111,13 @@ fn cmp_subscripts(a: &[Text], b: &[Text]) -> Ordering
             }
         },
     }
+}
+
+/// Compares two references: by name, then subscript by subscript, a beginning first.
+pub fn cmp_ref(a: &Ref, b: &Ref) -> Ordering
+    ensures { result ≡ ref_cmp a.now b.now }
+{
+    a.cmp(b)
 }
 
 impl PartialEq for Ref {

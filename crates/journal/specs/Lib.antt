@@ -1,0 +1,5 @@
+pub mod History
+pub mod HistoryLaws
+pub mod Story
+pub mod StoryLaws
+pub mod Kept
