@@ -1,6 +1,6 @@
 -- The last subscript of a place.
-use Rattle.std.proofs.Common.{◌≡◌, ℕ, Bool, true, false, List, [], ◌∷◌, ◌++◌, ◌+◌, ◌<◌, length, take, zero, suc, refl, ap, arith}
-use Rattle.std.specs.Prelude.{◌==◌, if◌then◌else◌}
+use Rattle.std.proofs.Common.{◌≡◌, ℕ, true, false, List, [], ◌∷◌, ◌++◌, ◌+◌, ◌<◌, length, take, zero, suc, refl, ap, arith}
+use Rattle.std.specs.Prelude.{◌==◌}
 use Rattle.collation.specs.Faults.{ends_open, closed_part}
 
 pub ends_open-last : (ss : List (List ℕ)) (s : List ℕ) → ends_open (ss ++ s ∷ []) ≡ (length s == 0)

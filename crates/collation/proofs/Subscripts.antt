@@ -1,7 +1,7 @@
 -- What decides between two subscripts, by their classes.
 use Rattle.std.proofs.Common.{◌≡◌, ℕ, ℤ, List, true, false, refl}
 use Rattle.std.specs.declared.cmp.Ordering.{Ordering}
-use Rattle.std.specs.declared.cmp.Ordering.TheVariants.{Less, Equal, Greater}
+use Rattle.std.specs.declared.cmp.Ordering.TheVariants.{Less, Greater}
 use Rattle.std.specs.Ordering.{nat_cmp, int_cmp, ordering_then}
 use Rattle.std.specs.Cmp.Lexicographic.{slice_cmp}
 use Rattle.canonic_number.specs.Number.{is_canonic, value_of}

@@ -1,5 +1,5 @@
 -- What a data command replies and leaves, or why it is refused. Source: docs/RULES.md, "Data commands".
-use Rattle.std.specs.Prelude.{ℕ, Bool, true, false, not, ◌||◌, nat_lt, List, [], length, Option, None, Some, unwrap_or, if◌then◌else◌}
+use Rattle.std.specs.Prelude.{Bool, true, false, not, ◌||◌, nat_lt, [], length, Option, None, Some, unwrap_or, if◌then◌else◌}
 use Rattle.std.specs.List.{list_any}
 use Rattle.std.specs.FinMap as finmap
 use Rattle.refusal.specs.declared.Refusal.{Refusal}

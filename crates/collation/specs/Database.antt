@@ -1,5 +1,5 @@
 -- A database: a finite map from references to values. What lies under a reference.
-use Rattle.std.specs.Prelude.{◌≡◌, ℕ, Bool, true, false, ◌&&◌, nat_eq, List, [], ◌∷◌, IsTrue, refl}
+use Rattle.std.specs.Prelude.{ℕ, Bool, true, false, ◌&&◌, nat_eq, List, [], ◌∷◌, IsTrue, refl}
 use Rattle.std.specs.FinMap.{FinMap, code}
 use Rattle.std.specs.Coded.{Coded, code_by, coded×, coded_ℕ, coded_list}
 use Rattle.std.specs.Cmp.Lexicographic.{pointwise}

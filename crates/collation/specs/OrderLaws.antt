@@ -4,11 +4,11 @@ use Rattle.std.specs.Bool.{Decides, one_answer}
 use Rattle.std.specs.declared.cmp.Ordering.{Ordering}
 use Rattle.std.specs.declared.cmp.Ordering.TheVariants.{Less, Equal, Greater}
 use Rattle.std.proofs.Common.{refl, ap, subst}
-use Rattle.std.specs.Ordering.{nat_cmp, int_cmp, on, then_cmp, ordering_then, is_eq, eq_by_cmp}
+use Rattle.std.specs.Ordering.{nat_cmp, int_cmp, ordering_then, is_eq, eq_by_cmp}
 use Rattle.std.specs.Cmp.{IsTotalOrder, then_total, on_total, nat_cmp_total, int_cmp_total, tied_itself, first_so, second_so, IsEquivalence, and_equiv, on_equiv, nat_eq_equiv, bool_eq_equiv}
 use Rattle.std.specs.Cmp.Lexicographic.{slice_cmp, lists_total, nat_list_cmp_total, pointwise, pointwise_decides, bytes_decides, lists_equiv}
 use Rattle.std.specs.FinMap.{IsAntisymmetric, slice_cmp-IsAntisymmetric, nat_cmp-IsAntisymmetric}
-use Rattle.collation.specs.Reference.{Reference, Spot}
+use Rattle.collation.specs.Reference.{Reference}
 use Rattle.collation.specs.Order.{class_of, number_of, subscript_cmp, ref_cmp, ref_eq, spot_eq}
 
 pub subscript_cmp_total : IsTotalOrder subscript_cmp
@@ -56,12 +56,14 @@ subscript_eq_decides x y = bytes_decides x y
 pub ref_eq_decides : (x y : Reference) → Decides (ref_eq x y) (x ≡ y)
 ref_eq_decides x y =
     let names = bytes_decides x.name y.name in
-    let subscripts = pointwise_decides subscript_eq_decides x.subscripts y.subscripts in
-    (λ e. joined x y (names.0 (first_so _ _ e)) (subscripts.0 (second_so (pointwise nat_eq x.name y.name) _ e)),
-     λ e. both_so _ _ (names.1 (ap (λ r. r.name) e)) (subscripts.1 (ap (λ r. r.subscripts) e)))
+    let subscripts = pointwise_decides subscript_eq_decides x.subscripts y.subscripts in (
+      λ e. joined x y (names.0 (first_so _ _ e)) (subscripts.0 (second_so (pointwise nat_eq x.name y.name) _ e)),
+      λ e. both_so _ _ (names.1 (ap (λ r. r.name) e)) (subscripts.1 (ap (λ r. r.subscripts) e)),
+    )
   where
     joined : (x y : Reference) → x.name ≡ y.name → x.subscripts ≡ y.subscripts → x ≡ y
     joined x y names subscripts = λ i. record { name = names i; subscripts = subscripts i }
+
     both_so : (a b : Bool) → a ≡ true → b ≡ true → (a && b) ≡ true
     both_so true b p q = q
     both_so false b p q = p

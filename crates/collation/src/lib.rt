@@ -15,6 +15,7 @@
 
 pub use command::{Command, Reply};
 pub use job::Job;
+pub use laws::{numbers_compare_by_value, order_is_total};
 pub use name::Name;
 pub use place::{Direction, Place};
 pub use reference::{MOST_SUBSCRIPTS, Ref, Subscripts, cmp_ref};
@@ -23,11 +24,11 @@ pub use text::Text;
 
 mod command;
 mod job;
+mod laws;
 mod name;
 mod place;
 mod reference;
 mod subscript;
-mod text;
-
 #[cfg(test)]
 mod tests;
+mod text;

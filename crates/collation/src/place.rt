@@ -79,7 +79,7 @@ impl Place {
     /// subscript that is at fault, `EmptySubscript`, or `SubscriptTooLong` over 127 bytes.
     pub fn new(name: Name, subscripts: Subscripts) -> Result<Place, Refusal>
         ensures { MatchResult result (λ p. (place_fault subscripts.items ≡ None)
-                × (p ≡ record { reference = record { name = name; subscripts = closed_part subscripts.items }; is_open = ends_open_spec subscripts.items }))
+            × (p ≡ record { reference = record { name = name; subscripts = closed_part subscripts.items }; is_open = ends_open_spec subscripts.items }))
             (λ refusal. place_fault subscripts.items ≡ Some refusal) }
     {
         if subscripts.len() > MOST_SUBSCRIPTS {

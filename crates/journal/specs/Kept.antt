@@ -1,5 +1,7 @@
 -- What is seen of a journal and of a receipt.
-use Rattle.std.specs.Prelude.{ℕ, List}
+use Rattle.std.specs.Prelude.{◌≡◌, ◌⊎◌, ℕ, ◌+◌, ◌-◌, ◌^◌, ◌<◌, List}
+use Rattle.refusal.specs.declared.Refusal.{Refusal}
+use Rattle.refusal.specs.declared.Refusal.TheVariants.{OutOfMemory, StampsUsedUp}
 use Rattle.journal.specs.declared.unit.Unit.{Unit as JournalUnit}
 use Rattle.journal.specs.declared.unit.Unit.TheVariants.{Lone}
 
@@ -17,3 +19,7 @@ pub record Claim : Type 0 where
 -- the job that a unit is of
 abbrev pub job_of : JournalUnit → ℕ
 job_of (Lone job command reply) = job
+
+-- why there is no room for more units: memory was refused, or the journal would pass 2^64 - 1 units
+abbrev pub HasNoRoom : Refusal → ℕ → ℕ → Type 0
+HasNoRoom refusal more units = (refusal ≡ OutOfMemory) ⊎ ((refusal ≡ StampsUsedUp) × (2 ^ 64 - 1 < units + more))

@@ -1,7 +1,7 @@
 //! The list of units, and the receipts for them.
-ghost use Rattle.std.specs.Prelude.{◌≡◌, List, ◌+◌, ◌≤◌, ◌<◌, ◌^◌, ◌-◌, [], ◌∷◌, ◌++◌, length, OnOk, OnErr, IsErrOf, MatchOption, ◌↔◌};
+ghost use Rattle.std.specs.Prelude.{◌≡◌, List, ◌+◌, ◌≤◌, ◌<◌, ◌^◌, ◌-◌, [], ◌∷◌, ◌++◌, length, OnOk, OnErr, IfErr, IsErrOf, MatchOption};
 ghost use Rattle.journal.specs.declared.unit.Unit.{Unit as JournalUnit};
-ghost use Rattle.journal.specs.Kept.{job_of};
+ghost use Rattle.journal.specs.Kept.{job_of, HasNoRoom};
 ghost use Rattle.std.specs.List.{IsLastAndRest};
 
 use crate::Unit;
@@ -102,7 +102,8 @@ impl Journal {
     pub fn reserve(&mut self, more: usize) -> Result<(), Refusal>
         ensures units { self.new.units ≡ self.old.units }
         ensures ok { OnOk result (more ≤ self.new.spare) }
-        ensures used_up { IsErrOf result Refusal.StampsUsedUp ↔ (2 ^ 64 - 1 < length self.old.units + more) }
+        ensures used_up { 2 ^ 64 - 1 < length self.old.units + more → IsErrOf result Refusal.StampsUsedUp }
+        ensures cause { IfErr result (λ refusal. HasNoRoom refusal more (length self.old.units)) }
     {
         if more > usize::MAX - self.units.len() {
             return Err(Refusal::StampsUsedUp);

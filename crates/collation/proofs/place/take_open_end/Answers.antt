@@ -1,4 +1,4 @@
-use Rattle.std.proofs.Common.{◌≡◌, ◌<◌, ◌+◌, ◌-◌, true, false, sym, ap, ◌∙◌, length, arith}
+use Rattle.std.proofs.Common.{◌≡◌, ◌<◌, ◌-◌, true, false, sym, ap, ◌∙◌, length, arith}
 use Rattle.collation.specs.Faults.{ends_open}
 use Rattle.collation.proofs.Places.{closed_part-open, closed_part-closed, some_open}
 use Rattle.collation.proofs.place.take_open_end.Goals as goal

@@ -1,0 +1,90 @@
+//! Canonic numbers: the test, and the sign and digits of one.
+ghost use Rattle.std.specs.Prelude.{◌≡◌, ◌↔◌, [], IfSome, IsTrue, MatchOption, is_some};
+ghost use Rattle.std.specs.List.{position};
+ghost use Rattle.canonic_number.specs.Number as number;
+ghost use Rattle.canonic_number.specs.Grammar.{IsCanonic};
+ghost use Rattle.canonic_number.specs.Parts.{IsNumeralOf};
+
+use crate::digits::{is_fraction, is_whole};
+
+/// A canonic number, read: its sign, and its digits before and after the point. Zero has none.
+#[derive(Clone, Copy, Debug)]
+pub struct Numeral<'a> {
+    pub negative: bool,
+    pub whole: &'a [u8],
+    pub fraction: &'a [u8],
+}
+
+// Whether a '-' stands in front, and what stands behind it.
+pub(crate) fn split_sign(text: &[u8]) -> (bool, &[u8])
+    ensures sign { result.0 ≡ number.is_negative text.now }
+    ensures magnitude { result.1.now ≡ number.magnitude text.now }
+{
+    match text {
+        [b'-', magnitude @ ..] => (true, magnitude),
+        _ => (false, text),
+    }
+}
+
+fn point_of(magnitude: &[u8]) -> Option<usize>
+    ensures { result ≡ position number.is_point magnitude.now }
+{
+    magnitude.iter().position(|byte| *byte == b'.')
+}
+
+// What stands before the point, and what behind it where there is one.
+pub(crate) fn split_point(magnitude: &[u8]) -> (&[u8], Option<&[u8]>)
+    ensures whole { result.0.now ≡ number.whole_part magnitude.now }
+    ensures point { is_some result.1 ≡ is_some (position number.is_point magnitude.now) }
+    ensures fraction { MatchOption result.1 (number.fraction_part magnitude.now ≡ []) (λ f. f.now ≡ number.fraction_part magnitude.now) }
+{
+    match point_of(magnitude) {
+        Some(point) => (&magnitude[..point], Some(&magnitude[point + 1..])),
+        None => (magnitude, None),
+    }
+}
+
+fn is_zero(text: &[u8]) -> bool
+    ensures { result ≡ number.is_zero text.now }
+{
+    matches!(text, [b'0'])
+}
+
+/// The sign and digits of a canonic number, lent from its text; none where the text isn't canonic.
+pub fn read_numeral(text: &[u8]) -> Option<Numeral<'_>>
+    ensures canonic { is_some result ≡ number.is_canonic text.now }
+    ensures parts { IfSome result (IsNumeralOf text.now) }
+{
+    if is_zero(text) {
+        let (none, _) = text.split_at(0);
+        return Some(Numeral {
+            negative: false,
+            whole: none,
+            fraction: none,
+        });
+    }
+    let (negative, magnitude) = split_sign(text);
+    let (whole, fraction) = split_point(magnitude);
+    let (_, none) = magnitude.split_at(magnitude.len());
+    let canonic = !magnitude.is_empty() && is_whole(whole) && fraction.is_none_or(is_fraction);
+    if !canonic {
+        return None;
+    }
+    let fraction = fraction.unwrap_or(none);
+    Some(Numeral {
+        negative,
+        whole,
+        fraction,
+    })
+}
+
+/// Whether a text is a canonic number, of any length.
+///
+/// That is: `0`, or an optional `-` and then a whole part that begins with 1 to 9, a `.` with a fraction that
+/// doesn't end with 0, or both.
+pub fn is_canonic(text: &[u8]) -> bool
+    ensures test { result ≡ number.is_canonic text.now }
+    ensures grammar { IsTrue result ↔ IsCanonic text.now }
+{
+    read_numeral(text).is_some()
+}

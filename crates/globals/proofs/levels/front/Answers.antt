@@ -1,0 +1,5 @@
+use Rattle.globals.proofs.Paths.{take_front}
+use Rattle.globals.proofs.levels.front.Goals as goal
+
+pub returns : goal.returns
+returns c = take_front c.args.subscripts.now c.requires

@@ -1,0 +1,40 @@
+-- Which references stand before a cut, and which members of a database stand next to it.
+use Rattle.std.specs.Prelude.{ℕ, Bool, true, false, not, List, Option, if◌then◌else◌}
+use Rattle.std.specs.Ordering.{is_lt}
+use Rattle.collation.specs.Reference.{Reference, Spot}
+use Rattle.collation.specs.Order.{ref_cmp}
+use Rattle.collation.specs.Database.{Database}
+use Rattle.collation.specs.Nearest.{nearest}
+use Rattle.collation.specs.Levels.{is_before}
+use Rattle.globals.specs.declared.cut.Cut.{Cut}
+use Rattle.globals.specs.declared.cut.Cut.TheVariants.{Start, Before, After, Past}
+
+-- x stands before the cut
+abbrev pub stands_before : Cut → Reference → Bool
+stands_before Start x = false
+stands_before (Before r) x = is_lt (ref_cmp x r.now)
+stands_before (After r) x = not (is_lt (ref_cmp r.now x))
+stands_before (Past r) x = is_before true r.now x
+
+-- the first member that doesn't stand before the cut
+abbrev pub first_from : Cut → Database → Option (Reference × List ℕ)
+first_from cut m = nearest true (λ x. not (stands_before cut x)) m
+
+-- the last member that stands before the cut
+abbrev pub last_before : Cut → Database → Option (Reference × List ℕ)
+last_before cut m = nearest false (stands_before cut) m
+
+-- the first of these, or (not forward) the last
+abbrev pub next_to : Bool → Cut → Database → Option (Reference × List ℕ)
+next_to true cut m = first_from cut m
+next_to false cut m = last_before cut m
+
+-- x stands before the cut at which $ORDER starts: an open place's descendants are its level, a closed one's are passed over
+abbrev pub order_start : Bool → Spot → Reference → Bool
+order_start true p x = if p.is_open then not (is_lt (ref_cmp p.reference x)) else is_before true p.reference x
+order_start false p x = is_before p.is_open p.reference x
+
+-- x stands before the cut at which $QUERY starts
+abbrev pub query_start : Bool → Spot → Reference → Bool
+query_start true p x = not (is_lt (ref_cmp p.reference x))
+query_start false p x = is_before p.is_open p.reference x

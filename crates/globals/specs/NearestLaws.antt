@@ -1,0 +1,138 @@
+-- The nearest entry that passes a test, next to a bound.
+use Rattle.std.specs.Prelude.{◌≡◌, Bool, true, false, cond, ◌&&◌, ◌||◌, map, T, List, [], ◌∷◌, Option, None, Some, is_some}
+use Rattle.std.proofs.Common.{refl, sym, ap, subst, ◌∙◌}
+use Rattle.std.specs.declared.cmp.Ordering.{Ordering}
+use Rattle.std.specs.declared.cmp.Ordering.TheVariants.{Less, Equal, Greater}
+use Rattle.std.specs.Ordering.{is_lt}
+use Rattle.std.specs.Option.{option_or, option_and_then}
+use Rattle.std.specs.List.{find, list_any}
+use Rattle.std.specs.FinMap as finmap
+use Rattle.std.specs.FinMap.{FinMap}
+use Rattle.std.specs.FinMap.Entries.{below_all, is_sorted}
+use Rattle.collation.specs.Nearest.{find_last, nearest}
+
+-- the entry, where its key passes the test
+abbrev pub keep : {K X : Type 0} → (K → Bool) → Option (K × X) → Option (K × X)
+keep test None = None
+keep test (Some e) = cond (test e.0) (Some e) None
+
+and_first : (a b : Bool) → (a && b) ≡ true → a ≡ true
+and_first true b e = refl
+and_first false b e = cc
+
+and_second : (a b : Bool) → (a && b) ≡ true → b ≡ true
+and_second true b e = e
+and_second false b e = cc
+
+is_less : (o : Ordering) → is_lt o ≡ true → o ≡ Less
+is_less Less e = refl
+is_less Equal e = cc
+is_less Greater e = cc
+
+true_of : (b : Bool) → T b → b ≡ true
+true_of true h = refl
+true_of false h = absurd h
+
+any_found : {K X : Type 0} (P : K → Bool) (es : List (K × X)) → list_any P (map (λ e. e.0) es) ≡ is_some (find (λ e. P e.0) es)
+any_found P [] = refl
+any_found P (e ∷ es) = elim (P e.0) as (λ b. (b || list_any P (map (λ e. e.0) es)) ≡ is_some (cond b (Some e) (find (λ e. P e.0) es))) [ true ↦ refl | false ↦ any_found P es ]
+
+module _ {K X : Type 0} (R : K → K → Ordering) where
+  none_after : (P : K → Bool) (x : K) (es : List (K × X)) → below_all R x es ≡ true → ((y : K) → R x y ≡ Less → P y ≡ true → ⊥) → find (λ e. P e.0) es ≡ None
+  none_after P x [] h never = refl
+  none_after P x (e ∷ es) h never =
+      elim (P e.0) as (λ p. P e.0 ≡ p → cond p (Some e) (find (λ e. P e.0) es) ≡ None) [
+        | true ↦ λ p. absurd (never e.0 (is_less _ (and_first _ _ h)) p)
+        | false ↦ λ p. none_after P x es (and_second (is_lt (R x e.0)) _ h) never
+      ] refl
+
+  -- what passes a test within a bound stands next to the bound
+  pub find_within : (P B : K → Bool) → ((x : K) → P x ≡ true → B x ≡ true) → ((x y : K) → B x ≡ true → R x y ≡ Less → P y ≡ true → P x ≡ true) → (es : List (K × X)) → is_sorted R es ≡ true → find (λ e. P e.0) es ≡ keep P (find (λ e. B e.0) es)
+  find_within P B inside down [] h = refl
+  find_within P B inside down (e ∷ es) h =
+      let rest = find_within P B inside down es (and_second (below_all R e.0 es) _ h) in
+      elim (B e.0) as (λ b. B e.0 ≡ b → cond (P e.0) (Some e) (find (λ e. P e.0) es) ≡ keep P (cond b (Some e) (find (λ e. B e.0) es))) [
+        | true ↦ λ b. elim (P e.0) as (λ p. P e.0 ≡ p → cond p (Some e) (find (λ e. P e.0) es) ≡ cond p (Some e) None) [
+          | true ↦ λ p. refl
+          | false ↦ λ p. none_after P e.0 es (and_first _ _ h) (λ y l q. let r = down e.0 y b l q in absurd (cc))
+        ] refl
+        | false ↦ λ b. elim (P e.0) as (λ p. P e.0 ≡ p → cond p (Some e) (find (λ e. P e.0) es) ≡ keep P (find (λ e. B e.0) es)) [
+          | true ↦ λ p. let r = inside e.0 p in absurd (cc)
+          | false ↦ λ p. rest
+        ] refl
+      ] refl
+
+  -- what the last answer is
+  record IsFound (B : K → Bool) (x : K) (es : List (K × X)) (f : K × X) : Type 0 where
+    passes : B f.0 ≡ true
+    after : below_all R x es ≡ true → R x f.0 ≡ Less
+
+  found_last : (B : K → Bool) (x : K) (es : List (K × X)) (f : K × X) → find_last (λ e. B e.0) es ≡ Some f → IsFound B x es f
+  found_last B x [] f is = absurd (cc)
+  found_last B x (e ∷ es) f is =
+      elim (find_last (λ e. B e.0) es) as (λ o. find_last (λ e. B e.0) es ≡ o → option_or o (cond (B e.0) (Some e) None) ≡ Some f → IsFound B x (e ∷ es) f) [
+        | None ↦ λ was. elim (B e.0) as (λ b. B e.0 ≡ b → cond b (Some e) None ≡ Some f → IsFound B x (e ∷ es) f) [
+          | true ↦ λ b is. let same : e ≡ f = cc in subst (IsFound B x (e ∷ es)) same (record { passes = b; after = λ h. is_less _ (and_first _ _ h) })
+          | false ↦ λ b is. absurd (cc)
+        ] refl
+        | Some g ↦ λ was is.
+            let there = found_last B x es f (was ∙ is) in
+            record { passes = there.passes; after = λ h. there.after (and_second (is_lt (R x e.0)) _ h) }
+      ] refl is
+
+  pub find_last_within : (P B : K → Bool) → ((x : K) → P x ≡ true → B x ≡ true) → ((x y : K) → B y ≡ true → R x y ≡ Less → P x ≡ true → P y ≡ true) → (es : List (K × X)) → is_sorted R es ≡ true → find_last (λ e. P e.0) es ≡ keep P (find_last (λ e. B e.0) es)
+  find_last_within P B inside up [] h = refl
+  find_last_within P B inside up (e ∷ es) h =
+      let rest = find_last_within P B inside up es (and_second (below_all R e.0 es) _ h) in
+      ap (λ o. option_or o (cond (P e.0) (Some e) None)) rest
+      ∙ elim (find_last (λ e. B e.0) es) as (λ o. find_last (λ e. B e.0) es ≡ o → option_or (keep P o) (cond (P e.0) (Some e) None) ≡ keep P (option_or o (cond (B e.0) (Some e) None))) [
+        | None ↦ λ was. elim (B e.0) as (λ b. B e.0 ≡ b → cond (P e.0) (Some e) None ≡ keep P (cond b (Some e) None)) [
+          | true ↦ λ b. refl
+          | false ↦ λ b. elim (P e.0) as (λ p. P e.0 ≡ p → cond p (Some e) None ≡ None) [
+            | true ↦ λ p. let r = inside e.0 p in absurd (cc)
+            | false ↦ λ p. refl
+          ] refl
+        ] refl
+        | Some f ↦ λ was.
+            let there = found_last B e.0 es f was in
+            let less = there.after (and_first _ _ h) in
+            elim (P f.0) as (λ q. P f.0 ≡ q → option_or (cond q (Some f) None) (cond (P e.0) (Some e) None) ≡ cond q (Some f) None) [
+              | true ↦ λ q. refl
+              | false ↦ λ q. elim (P e.0) as (λ p. P e.0 ≡ p → cond p (Some e) None ≡ None) [
+                | true ↦ λ p. let r = up e.0 f.0 there.passes less p in absurd (cc)
+                | false ↦ λ p. refl
+              ] refl
+            ] refl
+      ] refl
+
+  pub nearest_after : (P B : K → Bool) → ((x : K) → P x ≡ true → B x ≡ true) → ((x y : K) → B x ≡ true → R x y ≡ Less → P y ≡ true → P x ≡ true) → (m : FinMap R X) → nearest true P m ≡ keep P (nearest true B m)
+  nearest_after P B inside down m = find_within P B inside down (finmap.entries m) (true_of _ (finmap.entries_sorted m))
+
+  pub nearest_before : (P B : K → Bool) → ((x : K) → P x ≡ true → B x ≡ true) → ((x y : K) → B y ≡ true → R x y ≡ Less → P x ≡ true → P y ≡ true) → (m : FinMap R X) → nearest false P m ≡ keep P (nearest false B m)
+  nearest_before P B inside up m = find_last_within P B inside up (finmap.entries m) (true_of _ (finmap.entries_sorted m))
+
+  find_passes : (B : K → Bool) (es : List (K × X)) (f : K × X) → find (λ e. B e.0) es ≡ Some f → B f.0 ≡ true
+  find_passes B [] f is = absurd (cc)
+  find_passes B (e ∷ es) f is =
+      elim (B e.0) as (λ b. B e.0 ≡ b → cond b (Some e) (find (λ e. B e.0) es) ≡ Some f → B f.0 ≡ true) [
+        | true ↦ λ b is. let same : e ≡ f = cc in subst (λ z. B z.0 ≡ true) same b
+        | false ↦ λ b is. find_passes B es f is
+      ] refl is
+
+  -- the nearest one passes the test
+  pub nearest_passes : (forward : Bool) (B : K → Bool) (m : FinMap R X) (f : K × X) → nearest forward B m ≡ Some f → B f.0 ≡ true
+  nearest_passes true B m f is = find_passes B (finmap.entries m) f is
+  nearest_passes false B m f is = let there = found_last B f.0 (finmap.entries m) f is in there.passes
+
+some_kept : {K X Y : Type 0} (e : K × X) (o : Option Y) (f : K → Option Y) → f e.0 ≡ o → option_and_then (λ e. f e.0) (cond (is_some o) (Some e) None) ≡ f e.0
+some_kept e (Some y) f is = refl
+some_kept e None f is = sym is
+
+-- where the test says that the function answers, the test can be left out
+pub answered : {K X Y : Type 0} (P B : K → Bool) (f : K → Option Y) → ((x : K) → B x ≡ true → P x ≡ is_some (f x)) → (o : Option (K × X)) → ((e : K × X) → o ≡ Some e → B e.0 ≡ true) → option_and_then (λ e. f e.0) (keep P o) ≡ option_and_then (λ e. f e.0) o
+answered P B f so None within = refl
+answered P B f so (Some e) within = rw (so e.0 (within e refl)) (some_kept e (f e.0) f refl)
+
+-- whether some key passes
+pub any_nearest : {K X : Type 0} {R : K → K → Ordering} (P : K → Bool) (m : FinMap R X) → list_any P (finmap.keys m) ≡ is_some (nearest true P m)
+any_nearest P m = any_found P (finmap.entries m)

@@ -1,0 +1,27 @@
+//! $GET, $DATA, $ORDER and $QUERY over any ordered view of a database.
+//!
+//! A view is whatever implements `OrderedView`: it shows a finite map from references to values, and answers three
+//! look-ups: the value at a reference, the first member from a cut on, the last member before a cut. A cut parts the
+//! references in two: `specs/Cuts.antt`. What each function answers stands in `specs/Answers.antt` and
+//! `specs/Data.antt` of `collation`, so that callers see one meaning whatever the view is.
+//!
+//! Nothing here scans siblings. $DATA takes two look-ups, $ORDER and $QUERY one. Over ^A(1,5), ^A(3), ^B the place
+//! ^A(1) forward starts past ^A(1) and finds ^A(3): $ORDER answers 3. Backward ^A("") starts past ^A and finds ^A(3).
+//!
+//! Read `specs/Cuts.antt`, then `view.rt`, then `sibling.rt`. The proofs go by lists in lexicographic order:
+//! `proofs/Sequences.antt`, `proofs/Seeks.antt`.
+//! Not promised: how long a view takes for a look-up.
+#![tactic(auto)]
+
+pub use cut::{Cut, stands_before};
+pub use node::{data, get};
+pub use sibling::order;
+pub use traversal::query;
+pub use view::OrderedView;
+
+mod cut;
+mod levels;
+mod node;
+mod sibling;
+mod traversal;
+mod view;

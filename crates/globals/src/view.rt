@@ -1,0 +1,53 @@
+//! What the data functions need of a database.
+ghost use Rattle.std.specs.Prelude.{◌≡◌, Some, None, MatchOption};
+ghost use Rattle.std.specs.Option.{option_copied, option_map};
+ghost use Rattle.std.specs.FinMap as map;
+ghost use Rattle.collation.specs.Database.{Database};
+ghost use Rattle.collation.specs.Data.{is_forward};
+ghost use Rattle.globals.specs.Cuts.{first_from, last_before, next_to};
+
+use crate::Cut;
+use collation::{Direction, Ref, Text};
+
+/// A database that can be looked up and walked in order, however it is kept.
+///
+/// An implementor says what it contains, and owes three answers about just that. Keys and values are lent for as
+/// long as the view is.
+pub trait OrderedView {
+    /// What it contains: a finite map from references to values.
+    ghost content: { Self → Database };
+
+    /// The value of a reference, where it has one.
+    fn get(&self, reference: &Ref) -> Option<&Text>
+        ensures { option_copied result ≡ map.get (content self.now) reference.now };
+
+    /// The first reference with a value that doesn't stand before the cut, with its value.
+    fn next(&self, cut: Cut<'_>) -> Option<(&Ref, &Text)>
+        ensures { MatchOption result (first_from cut.entry (content self.now) ≡ None)
+            (λ e. first_from cut.entry (content self.now) ≡ Some (e.0.now, e.1.now)) };
+
+    /// The last reference with a value that stands before the cut, with its value.
+    fn prev(&self, cut: Cut<'_>) -> Option<(&Ref, &Text)>
+        ensures { MatchOption result (last_before cut.entry (content self.now) ≡ None)
+            (λ e. last_before cut.entry (content self.now) ≡ Some (e.0.now, e.1.now)) };
+}
+
+// The first key from the cut on, or backward the last before it.
+pub(crate) fn key_at<'v, V: OrderedView>(
+    view: &'v V,
+    cut: Cut<'_>,
+    direction: Direction,
+) -> Option<&'v Ref>
+    ensures { option_copied result ≡ option_map (λ e. e.0) (next_to (is_forward direction) cut.entry (V.content view.now)) }
+{
+    match direction {
+        Direction::Forward => match view.next(cut) {
+            Some((key, _)) => Some(key),
+            None => None,
+        },
+        Direction::Backward => match view.prev(cut) {
+            Some((key, _)) => Some(key),
+            None => None,
+        },
+    }
+}

@@ -1,0 +1,4 @@
+pub mod Search
+pub mod Stored
+pub mod Legality
+pub mod CauseLemmas
