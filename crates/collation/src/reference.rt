@@ -1,5 +1,6 @@
 //! References.
-ghost use Rattle.std.specs.Prelude.{◌≡◌, MatchResult, None, Some};
+ghost use Rattle.std.specs.Prelude.{◌≡◌, MatchResult, None, Some, true};
+ghost use Rattle.collation.specs.Name.{is_name};
 ghost use Rattle.std.specs.Cmp.Lexicographic.{slice_cmp};
 ghost use Rattle.collation.specs.Order.{subscript_cmp, ref_cmp};
 ghost use Rattle.collation.specs.Faults.{reference_fault, subscripts_fault};
@@ -73,7 +74,8 @@ impl Ref {
 
     /// The name's bytes.
     pub fn name(&self) -> &[u8]
-        ensures { result.now ≡ self.now.name }
+        ensures value { result.now ≡ self.now.name }
+        ensures form { is_name self.now.name ≡ true }
     {
         self.name.as_slice()
     }

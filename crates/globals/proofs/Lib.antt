@@ -1,3 +1,3 @@
-pub mod Sequences
-pub mod Paths
 pub mod Seeks
+pub mod Walks
+pub mod Merging

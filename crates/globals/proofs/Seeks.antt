@@ -13,13 +13,14 @@ use Rattle.collation.specs.Order.{subscript_cmp, ref_cmp}
 use Rattle.collation.specs.OrderLaws.{subscript_cmp_total}
 use Rattle.collation.specs.Database.{Database}
 use Rattle.globals.specs.NearestLaws.{keep, nearest_after, nearest_before, nearest_passes, answered, any_nearest}
-use Rattle.globals.proofs.Sequences.{sibling, below_after, below_closed, below_before, below_closed_back, sibling_after, sibling_closed, sibling_before, sibling_closed_back, sibling_known, sibling_known_back, head_closed, head_closed_back, head_closed_end, not_passed_so}
+use Rattle.globals.specs.SequenceLaws.{sibling, below_after, below_closed, below_before, below_closed_back, sibling_after, sibling_closed, sibling_before, sibling_closed_back, sibling_known, sibling_known_back, head_closed, head_closed_back, head_closed_end}
 use Rattle.collation.specs.Nearest.{nearest}
-use Rattle.collation.specs.Levels.{child_of, is_below, has_name, is_nil, parent_of, is_after, is_before, is_past}
+use Rattle.collation.specs.Levels.{child_of, is_below, has_name, is_nil, parent_of, is_after, is_before}
 use Rattle.collation.specs.Answers.{any_of, counts, follows, order_of, query_of}
 use Rattle.globals.specs.declared.cut.Cut.{Cut}
+use Rattle.globals.specs.CutLaws.{not_not, not_before_end}
 use Rattle.globals.specs.Cuts.{stands_before, next_to, order_start, query_start}
-use Rattle.globals.proofs.Paths.{path, cmp_path, child_path, past_path, before_path, sibling_next, name_path}
+use Rattle.globals.specs.PathLaws.{path, cmp_path, child_path, past_path, before_path, sibling_next, name_path}
 
 is_less : (o : Ordering) → is_lt o ≡ true → o ≡ Less
 is_less Less h = refl
@@ -205,14 +206,6 @@ kept_key N None = refl
 kept_key N (Some e) = elim (N e.0) as (λ b. option_map (λ e. e.0) (cond b (Some e) None) ≡ cond b (Some e.0) None) [ true ↦ refl | false ↦ refl ]
 
 -- ---- the same, from a cut
-
-not_not : (b : Bool) → not (not b) ≡ b
-not_not true = refl
-not_not false = refl
-
--- what isn't before the end of all under r is past r
-not_before_end : (r x : Reference) → not (is_before true r x) ≡ is_past r x
-not_before_end r x = ap not (before_path r x ∙ not_passed_so subscript_cmp subscript_cmp_total (path r) (path x)) ∙ not_not _ ∙ sym (past_path r x)
 
 after_order_start : (p : Spot) (x : Reference) → not (order_start true p x) ≡ seek true p x
 after_order_start p x =

@@ -1,9 +1,10 @@
 -- Which references stand before a cut, and which members of a database stand next to it.
-use Rattle.std.specs.Prelude.{ℕ, Bool, true, false, not, List, Option, if◌then◌else◌}
+use Rattle.std.specs.Prelude.{ℕ, Bool, true, false, not, List, Option, [], ◌∷◌, filter, if◌then◌else◌}
 use Rattle.std.specs.Ordering.{is_lt}
+use Rattle.std.specs.FinMap as finmap
 use Rattle.collation.specs.Reference.{Reference, Spot}
 use Rattle.collation.specs.Order.{ref_cmp}
-use Rattle.collation.specs.Database.{Database}
+use Rattle.collation.specs.Database.{Database, is_under}
 use Rattle.collation.specs.Nearest.{nearest}
 use Rattle.collation.specs.Levels.{is_before}
 use Rattle.globals.specs.declared.cut.Cut.{Cut}
@@ -38,3 +39,12 @@ order_start false p x = is_before p.is_open p.reference x
 abbrev pub query_start : Bool → Spot → Reference → Bool
 query_start true p x = not (is_lt (ref_cmp p.reference x))
 query_start false p x = is_before p.is_open p.reference x
+
+-- the members that don't stand before the cut, in order
+abbrev pub entries_from : Cut → Database → List (Reference × List ℕ)
+entries_from cut m = filter (λ e. not (stands_before cut e.0)) (finmap.entries m)
+
+-- the beginning of a list of entries that is at or under r
+abbrev pub front_under : Reference → List (Reference × List ℕ) → List (Reference × List ℕ)
+front_under r [] = []
+front_under r (e ∷ es) = if is_under r e.0 then e ∷ front_under r es else []

@@ -1,2 +1,5 @@
 pub mod Cuts
+pub mod CutLaws
 pub mod NearestLaws
+pub mod SequenceLaws
+pub mod PathLaws

@@ -1,27 +1,33 @@
-//! $GET, $DATA, $ORDER and $QUERY over any ordered view of a database.
+//! $GET, $DATA, $ORDER, $QUERY and MERGE's list over any ordered view of a database, and walks over it.
 //!
 //! A view is whatever implements `OrderedView`: it shows a finite map from references to values, and answers three
 //! look-ups: the value at a reference, the first member from a cut on, the last member before a cut. A cut parts the
 //! references in two: `specs/Cuts.antt`. What each function answers stands in `specs/Answers.antt` and
-//! `specs/Data.antt` of `collation`, so that callers see one meaning whatever the view is.
+//! `specs/Data.antt` of `collation`, so that callers see one meaning whatever the view is. A walk is seen as the list
+//! of members that it has left, in order.
 //!
-//! Nothing here scans siblings. $DATA takes two look-ups, $ORDER and $QUERY one. Over ^A(1,5), ^A(3), ^B the place
-//! ^A(1) forward starts past ^A(1) and finds ^A(3): $ORDER answers 3. Backward ^A("") starts past ^A and finds ^A(3).
+//! Nothing here scans siblings. $DATA takes two look-ups, $ORDER and $QUERY one, a walk one for each member. Over
+//! ^A(1,5), ^A(3), ^B the place ^A(1) forward starts past ^A(1) and finds ^A(3): $ORDER answers 3. Backward ^A("")
+//! starts past ^A and finds ^A(3).
 //!
-//! Read `specs/Cuts.antt`, then `view.rt`, then `sibling.rt`. The proofs go by lists in lexicographic order:
-//! `proofs/Sequences.antt`, `proofs/Seeks.antt`.
+//! Read `specs/Cuts.antt`, then `view.rt`, `sibling.rt`, `walk.rt`. The proofs go by lists in lexicographic order:
+//! `specs/SequenceLaws.antt`, `proofs/Seeks.antt`.
 //! Not promised: how long a view takes for a look-up.
 #![tactic(auto)]
 
 pub use cut::{Cut, stands_before};
+pub use merge::merge_list;
 pub use node::{data, get};
 pub use sibling::order;
 pub use traversal::query;
 pub use view::OrderedView;
+pub use walk::{Descent, Walk, subtree, walk_from};
 
 mod cut;
 mod levels;
+mod merge;
 mod node;
 mod sibling;
 mod traversal;
 mod view;
+mod walk;

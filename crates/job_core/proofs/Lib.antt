@@ -1,4 +1,6 @@
-pub mod Search
-pub mod Stored
 pub mod Legality
 pub mod CauseLemmas
+pub mod Found
+pub mod Stored
+pub mod Parts
+pub mod Lookups

@@ -1,6 +1,6 @@
-pub mod Held
-pub mod Places
 pub mod Agrees
 pub mod Steps
 pub mod Causes
 pub mod Looks
+pub mod Held
+pub mod Places

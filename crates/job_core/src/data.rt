@@ -6,7 +6,7 @@ ghost use Rattle.journal.specs.Kept.{HasNoRoom};
 ghost use Rattle.job_core.specs.Causes.{IsCause};
 ghost use Rattle.job_core.specs.Looks.{is_look};
 
-use crate::answer::answer;
+use crate::functions::answer;
 use crate::store::Store;
 use collation::{Command, Job, Ref, Reply, Text};
 use journal::{Journal, Receipt, Unit};
@@ -151,7 +151,10 @@ fn merge(
     ensures refused { OnErr result ((journal.new.units ≡ journal.old.units) × (store.new.map ≡ store.old.map)) }
     ensures cause { IfErr result (λ refusal. IsCause refusal (Command.Merge target source) store.old.map (length journal.old.units)) }
 {
-    let copies = globals::merge_list(alloc, store, &target, &source)?;
+    let copies = match globals::merge_list(alloc, store, &target, &source) {
+        Ok(copies) => copies,
+        Err(refusal) => return Err(refusal),
+    };
     store.reserve(copies.len())?;
     journal.reserve(1)?;
     store.set_all_reserved(copies);

@@ -14,14 +14,17 @@
 //! Read `specs/Agrees.antt`, then `machine.rt`, `data.rt`, `store.rt`.
 #![tactic(auto)]
 
-pub use answer::answer;
+
 pub use data::lone;
+pub use functions::answer;
 pub use machine::{JobCore, Step, run_from_nothing};
 pub use store::Store;
 
-mod answer;
+
 mod data;
+mod functions;
 mod machine;
+mod search;
 mod store;
 
 #[cfg(test)]

@@ -1,18 +1,22 @@
-//! A store: a vector of references and values, in order.
-ghost use Rattle.std.specs.Prelude.{◌≡◌, true, ◌+◌, ◌≤◌, ◌<◌, OnOk, OnErr, IsErrOf, MatchResult, vec_len, vec_capacity};
+//! The store, its look-ups and its changes.
+ghost use Rattle.std.specs.Prelude.{◌≡◌, true, ◌+◌, ◌≤◌, ◌<◌, OnOk, OnErr, IsErrOf, vec_len, vec_capacity};
 ghost use Rattle.std.specs.Option.{option_copied};
 ghost use Rattle.std.specs.FinMap as map;
 ghost use Rattle.std.specs.FinMap.Entries.{put};
-ghost use Rattle.std.specs.List.{insert};
+ghost use Rattle.std.specs.List.{insert, remove_range};
 ghost use Rattle.collation.specs.Order.{ref_cmp};
-ghost use Rattle.job_core.specs.Places.{IsPlaceOf, IsGapFor};
+ghost use Rattle.collation.specs.Answers.{set_all};
+ghost use Rattle.collation.specs.Data.{data_after};
+ghost use Rattle.collation.specs.declared.command.Command.TheVariants.{Set as set_command, Kill as kill_command};
 
+use crate::search::{count_before, place_of};
 use collation::{Ref, Text};
+use globals::{Cut, OrderedView};
 use refusal::Refusal;
 use std::alloc::Global;
 use std::marker::Model;
 
-/// The nodes that have a value, in the order of their references.
+/// The references that have a value, with their values, in order.
 #[derive(Debug, Drop)]
 pub struct Store {
     nodes: Vec<(Ref, Text)>,
@@ -31,14 +35,6 @@ impl Model for Store {
     ghost view = { λ s. record { map = map.from_sorted s.nodes.items; spare = vec_capacity s.nodes - vec_len s.nodes } };
 
     ghost invariant = { λ s. IsTrue (map.is_sorted ref_cmp s.nodes.items) };
-}
-
-// Where the reference is, or where it would go.
-fn place_of(nodes: &[(Ref, Text)], reference: &Ref) -> Result<usize, usize>
-    requires { map.is_sorted ref_cmp nodes.now ≡ true }
-    ensures { MatchResult result (IsPlaceOf ref_cmp nodes.now reference.now) (IsGapFor ref_cmp nodes.now reference.now) }
-{
-    nodes.binary_search_by(|node| node.0.cmp(reference))
 }
 
 fn discard(_reference: Ref) {}
@@ -73,7 +69,18 @@ fn insert_reserved(nodes: &mut Vec<(Ref, Text)>, place: usize, node: (Ref, Text)
     }
 }
 
+fn remove_between(nodes: &mut Vec<(Ref, Text)>, low: usize, high: usize)
+    requires in_order { low ≤ high }
+    requires in_range { high ≤ vec_len nodes.old }
+    ensures items { nodes.new.items ≡ remove_range nodes.old.items low high }
+    ensures capacity { vec_capacity nodes.new ≡ vec_capacity nodes.old }
+    ensures len { vec_len nodes.new ≤ vec_len nodes.old }
+{
+    drop(nodes.drain(low..high));
+}
+
 impl Store {
+    /// A store without references. Takes no memory.
     pub fn new(alloc: Global) -> Store
         ensures { result.map ≡ map.empty }
     {
@@ -82,7 +89,7 @@ impl Store {
         }
     }
 
-    /// The value of a node.
+    /// The value of a reference, where it has one.
     pub fn get(&self, reference: &Ref) -> Option<&Text>
         ensures { option_copied result ≡ map.get self.now.map reference.now }
     {
@@ -92,14 +99,14 @@ impl Store {
         }
     }
 
-    /// The nodes, in the order of their references.
+    /// The references and their values, in order.
     pub fn nodes(&self) -> &[(Ref, Text)]
         ensures { result.now ≡ map.entries self.now.map }
     {
         &self.nodes
     }
 
-    /// Makes room for `more` nodes.
+    /// Makes room for `more` further references. Where memory is refused nothing has changed.
     pub fn reserve(&mut self, more: usize) -> Result<(), Refusal>
         ensures map { self.new.map ≡ self.old.map }
         ensures ok { OnOk result (more ≤ self.new.spare) }
@@ -109,12 +116,60 @@ impl Store {
         Ok(())
     }
 
-    /// Sets the value of a node, which takes no memory.
+    /// Sets the value of a reference, for which there is room. Takes no memory.
     pub fn set_reserved(&mut self, reference: Ref, value: Text)
         requires { 0 < self.old.spare }
-        ensures map { self.new.map ≡ map.insert self.old.map reference value }
+        ensures map { self.new.map ≡ data_after (set_command reference value) self.old.map }
         ensures spare { self.old.spare ≤ self.new.spare + 1 }
     {
         put_node(&mut self.nodes, reference, value);
+    }
+
+    /// Sets the values of these references, in turn, for which there is room. Takes no memory.
+    pub fn set_all_reserved(&mut self, nodes: Vec<(Ref, Text)>)
+        requires { vec_len nodes ≤ self.old.spare }
+        ensures map { self.new.map ≡ set_all nodes.items self.old.map }
+    {
+        for (reference, value) in nodes {
+            self.set_reserved(reference, value);
+        }
+    }
+
+    /// Removes the reference and all its descendants. Takes no memory.
+    pub fn kill(&mut self, reference: &Ref)
+        ensures map { self.new.map ≡ data_after (kill_command reference.now) self.old.map }
+        ensures spare { self.old.spare ≤ self.new.spare }
+    {
+        let low = count_before(&self.nodes, Cut::Before(reference));
+        let high = count_before(&self.nodes, Cut::Past(reference));
+        remove_between(&mut self.nodes, low, high);
+    }
+}
+
+impl OrderedView for Store {
+    ghost content = { λ s. s.map };
+
+    fn get(&self, reference: &Ref) -> Option<&Text> {
+        Store::get(self, reference)
+    }
+
+    fn next(&self, cut: Cut<'_>) -> Option<(&Ref, &Text)> {
+        let place = count_before(&self.nodes, cut);
+        if place < self.nodes.len() {
+            let node = &self.nodes[place];
+            Some((&node.0, &node.1))
+        } else {
+            None
+        }
+    }
+
+    fn prev(&self, cut: Cut<'_>) -> Option<(&Ref, &Text)> {
+        let place = count_before(&self.nodes, cut);
+        if place > 0 {
+            let node = &self.nodes[place - 1];
+            Some((&node.0, &node.1))
+        } else {
+            None
+        }
     }
 }

@@ -5,7 +5,7 @@ ghost use Rattle.journal.specs.Kept.{job_of};
 use collation::{Command, Job, Reply};
 
 /// What was done in one step.
-#[derive(Debug, Drop)]
+#[derive(Debug, Drop, PartialEq, Eq)]
 pub enum Unit {
     /// A data command outside a transaction, with its reply.
     Lone(Job, Command, Reply),

@@ -1,4 +1,4 @@
-use Rattle.globals.proofs.Paths.{take_front}
+use Rattle.globals.specs.PathLaws.{take_front}
 use Rattle.globals.proofs.levels.front.Goals as goal
 
 pub returns : goal.returns

@@ -1,7 +1,6 @@
-use Rattle.std.proofs.Common.{sym, ap, ◌∙◌, arith, set}
-use Rattle.std.proofs.lemmas.Grind.{common_steps}
+use Rattle.std.proofs.Common.{sym, ap, ◌∙◌, set}
 use Rattle.collation.specs.OrderLaws.{ref_cmp_total}
-use Rattle.job_core.proofs.Search.{put_at, put_in_gap}
+use Rattle.job_core.proofs.Found.{put_at, put_in_gap}
 use Rattle.job_core.proofs.store.put_node.Goals as goal
 
 pub returns-in-Ok-clause-items : goal.returns-in-Ok-clause-items

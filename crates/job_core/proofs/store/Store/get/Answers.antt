@@ -1,7 +1,7 @@
-use Rattle.std.proofs.Common.{◌≡◌, Some, None, sym, ap, ◌∙◌, ◌↔◌}
+use Rattle.std.proofs.Common.{Some, sym, ap, ◌∙◌}
 use Rattle.collation.specs.OrderLaws.{ref_cmp_total}
 use Rattle.collation.specs.Order.{ref_cmp}
-use Rattle.job_core.proofs.Search.{find_at, find_in_gap}
+use Rattle.job_core.proofs.Found.{find_at, find_in_gap}
 use Rattle.job_core.proofs.Stored.{map_find}
 use Rattle.job_core.proofs.store.Store.get.Goals as goal
 

@@ -1,4 +1,3 @@
-use Rattle.std.proofs.Common.{sym, ◌∙◌}
 use Rattle.collation.specs.OrderLaws.{ref_cmp_total}
 use Rattle.job_core.proofs.Stored.{sorted_put, map_put}
 use Rattle.job_core.proofs.store.Store.set_reserved.Goals as goal

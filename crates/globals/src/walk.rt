@@ -1,0 +1,102 @@
+//! Walks over a view, in order.
+ghost use Rattle.std.specs.Prelude.{◌≡◌};
+ghost use Rattle.std.specs.Iterator.{YieldsFirstBy, item_count};
+ghost use Rattle.collation.specs.Answers.{subtree_of};
+ghost use Rattle.globals.specs.Cuts.{entries_from};
+
+use crate::levels::is_under;
+use crate::{Cut, OrderedView};
+use collation::{Ref, Text};
+use std::marker::Model;
+
+/// A walk over the members of a view, from a cut on. It is seen as the list of members that are left.
+#[derive(Drop)]
+pub struct Walk<'v, V: OrderedView> {
+    view: &'v V,
+    cut: Cut<'v>,
+}
+
+impl<'v, V: OrderedView> Model for Walk<'v, V> {
+    ghost use Rattle.std.specs.Prelude.{List, ℕ};
+    ghost use Rattle.collation.specs.Reference.{Reference};
+    ghost use Rattle.globals.specs.Cuts.{entries_from};
+
+    ghost Value = { List (Reference × List ℕ) };
+
+    ghost view = { λ w. entries_from w.cut (V.content w.view.now) };
+}
+
+/// The walk over all members that don't stand before the cut, in order. Takes one look-up for each member.
+pub fn walk_from<'v, V: OrderedView>(view: &'v V, cut: Cut<'v>) -> Walk<'v, V>
+    ensures { result ≡ entries_from cut.entry (V.content view.now) }
+{
+    Walk { view, cut }
+}
+
+impl<'v, V: OrderedView> Iterator for Walk<'v, V> {
+    type Item = (&'v Ref, &'v Text);
+
+    ghost next_gives = { YieldsFirstBy (λ e. (e.0.now, e.1.now)) (λ w. w) };
+
+    ghost remaining = { item_count (λ w. w) };
+
+    fn next(&mut self) -> Option<(&'v Ref, &'v Text)> {
+        match self.view.next(self.cut) {
+            Some((key, value)) => {
+                self.cut = Cut::After(key);
+                Some((key, value))
+            }
+            None => None,
+        }
+    }
+}
+
+/// A walk over what is at and under a reference. It is seen as the list of members that are left.
+#[derive(Drop)]
+pub struct Descent<'v, V: OrderedView> {
+    view: &'v V,
+    root: &'v Ref,
+    cut: Cut<'v>,
+}
+
+impl<'v, V: OrderedView> Model for Descent<'v, V> {
+    ghost use Rattle.std.specs.Prelude.{List, ℕ};
+    ghost use Rattle.collation.specs.Reference.{Reference};
+    ghost use Rattle.globals.specs.Cuts.{entries_from, front_under};
+
+    ghost Value = { List (Reference × List ℕ) };
+
+    ghost view = { λ s. front_under s.root.now (entries_from s.cut (V.content s.view.now)) };
+}
+
+/// The walk over the members at and under the reference, in order. Takes one look-up for each member and one more.
+pub fn subtree<'v, V: OrderedView>(view: &'v V, root: &'v Ref) -> Descent<'v, V>
+    ensures { result ≡ subtree_of root.now (V.content view.now) }
+{
+    Descent {
+        view,
+        root,
+        cut: Cut::Before(root),
+    }
+}
+
+impl<'v, V: OrderedView> Iterator for Descent<'v, V> {
+    type Item = (&'v Ref, &'v Text);
+
+    ghost next_gives = { YieldsFirstBy (λ e. (e.0.now, e.1.now)) (λ s. s) };
+
+    ghost remaining = { item_count (λ s. s) };
+
+    fn next(&mut self) -> Option<(&'v Ref, &'v Text)> {
+        match self.view.next(self.cut) {
+            Some((key, value)) => {
+                if !is_under(self.root, key) {
+                    return None;
+                }
+                self.cut = Cut::After(key);
+                Some((key, value))
+            }
+            None => None,
+        }
+    }
+}

@@ -1,0 +1,10 @@
+pub mod Key
+pub mod Form
+pub mod Bounds
+pub mod ByteLaws
+pub mod SubscriptLaws
+pub mod KeyLaws
+pub mod BoundLaws
+pub mod PartsKey
+pub mod Range
+pub mod RangeLaws

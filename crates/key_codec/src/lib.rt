@@ -1,0 +1,52 @@
+//! References as key bytes, which compare byte by byte as the references do.
+//!
+//! Callers see a key as a list of bytes: `key_of` of its reference (`specs/Key.antt`). The name, 00, then each
+//! subscript behind a byte that tells its kind, and each with an end, so that no subscript's bytes begin another's.
+//!
+//! (1) Keys compare as references, a beginning first, and no two references have one key.
+//! (2) A key begins with another exactly where its reference is the other or lies under it.
+//! (3) From a reference's key on, and before its key with byte 06 behind it, lie the keys of what is under it.
+//!
+//! `^A(10,0)` has the key 41 00 04 82 02 00 03: the name and its end; a number above zero whose point stands
+//! behind two digits, its digit 1, its end; zero.
+//!
+//! Read `specs/Key.antt` and `specs/Bounds.antt`, then `write.rt`, `bounds.rt`, `range.rt`. All lemmas
+//! hold over any limit of subscripts and any width of a point's place (`KeyForm`, `specs/Form.antt`); the form
+//! in use has subscripts of at most 127 bytes and a place of one byte. Lemmas for the crates above:
+//! `specs/KeyLaws.antt`, `specs/BoundLaws.antt`, `specs/RangeLaws.antt`.
+#![tactic(auto)]
+
+pub use bounds::{sibling_after, sibling_before, subtree_prefix};
+pub use laws::keys_are_as_references;
+pub use range::KeyRange;
+pub use write::encode;
+
+mod bounds;
+mod laws;
+mod range;
+mod write;
+
+// The first byte of a subscript's key.
+const BELOW_ZERO: u8 = 2;
+
+const ZERO: u8 = 3;
+
+const ABOVE_ZERO: u8 = 4;
+
+const TEXT: u8 = 5;
+
+// What ends a name and a text, and the digits of a number.
+const END: u8 = 0;
+
+const END_ABOVE_ZERO: u8 = 0;
+
+const END_BELOW_ZERO: u8 = 255;
+
+// The most digits of a fraction: a point's place is counted from as many places before it.
+const FRACTION: usize = 126;
+
+// Greater than the first byte of each subscript's key.
+const ABOVE_TAGS: u8 = 6;
+
+#[cfg(test)]
+mod tests;

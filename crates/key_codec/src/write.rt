@@ -1,0 +1,152 @@
+//! The key of a reference.
+ghost use Rattle.std.specs.Prelude.{◌≡◌, ◌≤◌, ◌++◌, ◌-◌, IfErr, IfOk, OnOk, None, [], ◌∷◌, map};
+ghost use Rattle.canonic_number.specs.Number.{limit, scale};
+ghost use Rattle.collation.specs.Faults.{subscripts_fault};
+ghost use Rattle.key_codec.specs.Bounds.{KeepsOrder, IsPrefixOf};
+ghost use Rattle.key_codec.specs.Key as spec;
+ghost use Rattle.key_codec.specs.Key.{short_form, IsReference, IsSubscript};
+ghost use Rattle.key_codec.specs.PartsKey.{parts_key};
+
+use crate::{ABOVE_ZERO, BELOW_ZERO, END, END_ABOVE_ZERO, END_BELOW_ZERO, FRACTION, TEXT, ZERO};
+use canonic_number::{NumberParts, parts};
+use collation::{Ref, Text};
+use refusal::Refusal;
+use std::alloc::{AllocError, Global};
+
+/// The key of a reference, by which references compare as by themselves.
+///
+/// It begins with another reference's key exactly where this one is that reference or lies under it.
+/// Refusals: `OutOfMemory`. Takes memory once, for the key.
+pub fn encode(alloc: Global, reference: &Ref) -> Result<Vec<u8>, Refusal>
+    ensures key { IfOk result (λ key. key.items ≡ spec.key_of reference.now) }
+    ensures order { IfOk result (λ key. KeepsOrder reference.now key.items) }
+    ensures prefix { IfOk result (λ key. IsPrefixOf reference.now key.items) }
+    ensures refused { IfErr result (λ refusal. refusal ≡ Refusal.OutOfMemory) }
+{
+    let key = write_key(alloc, reference, 0)?;
+    Ok(key)
+}
+
+// The key, with room for as many bytes more.
+pub(crate) fn write_key(alloc: Global, reference: &Ref, more: usize) -> Result<Vec<u8>, Refusal>
+    ensures key { IfOk result (λ key. key.items ≡ spec.key_of reference.now) }
+    ensures form { OnOk result (IsReference reference.now) }
+    ensures refused { IfErr result (λ refusal. refusal ≡ Refusal.OutOfMemory) }
+{
+    let size = most_key_bytes(reference).saturating_add(more);
+    let mut key = Vec::with_capacity(alloc, size)?;
+    key.extend_from_slice(reference.name())?;
+    key.push(END)?;
+    push_subscripts(&mut key, reference.subscripts())?;
+    Ok(key)
+}
+
+// How many bytes a key has at most.
+fn most_key_bytes(reference: &Ref) -> usize {
+    let mut bytes = reference.name().len().saturating_add(1);
+    for subscript in reference.subscripts() {
+        bytes = bytes.saturating_add(most_subscript_bytes(subscript.as_slice()));
+    }
+    bytes
+}
+
+// A tag, a place and an end beside the text's bytes, of which 0 and 1 count twice.
+fn most_subscript_bytes(subscript: &[u8]) -> usize {
+    let escaped = subscript.iter().filter(|byte| **byte <= 1).count();
+    subscript.len().saturating_add(escaped).saturating_add(3)
+}
+
+fn push_subscripts(key: &mut Vec<u8>, subscripts: &[Text]) -> Result<(), AllocError>
+    requires { subscripts_fault subscripts.now ≡ None }
+    ensures { OnOk result (key.new.items ≡ key.old.items ++ spec.subscripts_key short_form subscripts.now) }
+{
+    for subscript in subscripts {
+        push_subscript(key, subscript.as_slice())?;
+    }
+    Ok(())
+}
+
+fn push_subscript(key: &mut Vec<u8>, subscript: &[u8]) -> Result<(), AllocError>
+    requires { IsSubscript short_form subscript.now }
+    ensures { OnOk result (key.new.items ≡ key.old.items ++ spec.subscript_key short_form subscript.now) }
+{
+    match parts(subscript) {
+        Some(number) => push_number(key, &number),
+        None => push_text(key, subscript),
+    }
+}
+
+fn push_number(key: &mut Vec<u8>, number: &NumberParts<'_>) -> Result<(), AllocError>
+    requires whole_short { number.now.whole ≤ limit }
+    requires zeros_short { number.now.zeros ≤ scale }
+    ensures { OnOk result (key.new.items ≡ key.old.items ++ parts_key number.now) }
+{
+    let place = number.whole + FRACTION - number.zeros;
+    if number.first.is_empty() && number.second.is_empty() {
+        key.push(ZERO)?;
+    } else if number.negative {
+        key.push(BELOW_ZERO)?;
+        key.push((2 * FRACTION + 1 - place) as u8)?;
+        push_falling(key, number.first)?;
+        push_falling(key, number.second)?;
+        key.push(END_BELOW_ZERO)?;
+    } else {
+        key.push(ABOVE_ZERO)?;
+        key.push((place + 2) as u8)?;
+        push_rising(key, number.first)?;
+        push_rising(key, number.second)?;
+        key.push(END_ABOVE_ZERO)?;
+    }
+    Ok(())
+}
+
+fn push_rising(key: &mut Vec<u8>, digits: &[u8]) -> Result<(), AllocError>
+    ensures { OnOk result (key.new.items ≡ key.old.items ++ map (λ d. d - 47) digits.now) }
+{
+    for digit in digits {
+        key.push(digit.saturating_sub(47))?;
+    }
+    Ok(())
+}
+
+fn push_falling(key: &mut Vec<u8>, digits: &[u8]) -> Result<(), AllocError>
+    ensures { OnOk result (key.new.items ≡ key.old.items ++ map (λ d. 58 - d) digits.now) }
+{
+    for digit in digits {
+        key.push(58_u8.saturating_sub(*digit))?;
+    }
+    Ok(())
+}
+
+fn push_text(key: &mut Vec<u8>, text: &[u8]) -> Result<(), AllocError>
+    ensures { OnOk result (key.new.items ≡ key.old.items ++ spec.text_key text.now) }
+{
+    key.push(TEXT)?;
+    push_escaped(key, text)?;
+    key.push(END)?;
+    Ok(())
+}
+
+fn push_escaped(key: &mut Vec<u8>, text: &[u8]) -> Result<(), AllocError>
+    ensures { OnOk result (key.new.items ≡ key.old.items ++ spec.escaped text.now) }
+{
+    for byte in text {
+        push_byte(key, *byte)?;
+    }
+    Ok(())
+}
+
+fn push_byte(key: &mut Vec<u8>, byte: u8) -> Result<(), AllocError>
+    ensures { OnOk result (key.new.items ≡ key.old.items ++ spec.escape byte) }
+{
+    if byte == 0 {
+        key.push(1)?;
+        key.push(1)?;
+    } else if byte == 1 {
+        key.push(1)?;
+        key.push(2)?;
+    } else {
+        key.push(byte)?;
+    }
+    Ok(())
+}

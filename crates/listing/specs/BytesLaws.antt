@@ -1,0 +1,41 @@
+-- What was written, piece after piece.
+use Rattle.std.proofs.Common.{◌≡◌, ℕ, ◌+◌, ◌-◌, ◌≤◌, List, [], ◌∷◌, ◌++◌, length, take, drop, refl, sym, ap, subst, ◌∙◌, arith, append_assoc, append-nil, length-drop, length-append, Option, Some, None}
+use Rattle.std.proofs.Math.Seq.{take-add, take-append-add}
+use Rattle.std.proofs.lemmas.List.{take_all, take-append-le}
+use Rattle.std.specs.Io.KnownBytes.{Appends}
+use Rattle.listing.specs.Bytes.{WritesBeginning}
+
+-- nothing more was written
+pub Appends-nothing : (a : Option (List ℕ)) → Appends a a []
+Appends-nothing None = tt
+Appends-nothing (Some xs) = sym (append-nil xs)
+
+-- two texts, one after the other
+pub Appends-more : (a b c : Option (List ℕ)) (x y : List ℕ) → Appends a b x → Appends b c y → Appends a c (x ++ y)
+Appends-more None b c x y h k = tt
+Appends-more (Some xs) None c x y h k = absurd h
+Appends-more (Some xs) (Some bs) None x y h k = absurd k
+Appends-more (Some xs) (Some bs) (Some cs) x y h k = k ∙ ap (λ l. l ++ y) h ∙ append_assoc xs x y
+
+-- a piece more of a text was written
+pub written_more : (a b c : Option (List ℕ)) (text piece : List ℕ) (i n : ℕ) → Appends a b (take i text) → Appends b c (take n piece) → piece ≡ take (length text - i) (drop i text) → n ≤ length piece → Appends a c (take (i + n) text)
+written_more a b c text piece i n h k e l = subst (Appends a c) (joined text piece i n e l) (Appends-more a b c _ _ h k)
+  where
+    joined : (text piece : List ℕ) (i n : ℕ) → piece ≡ take (length text - i) (drop i text) → n ≤ length piece → take i text ++ take n piece ≡ take (i + n) text
+    joined text piece i n e l = ap (λ p. take i text ++ take n p) (e ∙ take_all (length text - i) (drop i text) (omega (arith, length-drop i text))) ∙ sym (take-add i n text)
+
+-- a text is a beginning of itself
+pub WritesBeginning-all : (a c : Option (List ℕ)) (x : List ℕ) → Appends a c x → WritesBeginning a c x
+WritesBeginning-all a c x h = record { count = length x; in_range = omega arith; bytes = subst (Appends a c) (sym (take_all (length x) x (omega arith))) h }
+
+-- a beginning of a text is one of each that goes on from it
+pub WritesBeginning-longer : (a c : Option (List ℕ)) (x y : List ℕ) → WritesBeginning a c x → WritesBeginning a c (x ++ y)
+WritesBeginning-longer a c x y h = record { count = h.count; in_range = omega (arith, h.in_range, length-append x y); bytes = subst (Appends a c) (sym (take-append-le h.count x y h.in_range)) h.bytes }
+
+-- a text and then a beginning of the next
+pub WritesBeginning-then : (a b c : Option (List ℕ)) (x y : List ℕ) → Appends a b x → WritesBeginning b c y → WritesBeginning a c (x ++ y)
+WritesBeginning-then a b c x y h k = record {
+  count = length x + k.count;
+  in_range = omega (arith, k.in_range, length-append x y);
+  bytes = subst (Appends a c) (sym (take-append-add x y k.count)) (Appends-more a b c x (take k.count y) h k.bytes);
+}

@@ -1,0 +1,109 @@
+//! A reader or writer whose failed calls are counted.
+ghost use Rattle.std.specs.Prelude.{◌≡◌, ◌+◌, ◌≤◌, ◌<◌, ◌^◌, ◌-◌, length, take, IfOk, OnOk, OnErr};
+ghost use Rattle.std.specs.Io.KnownBytes.{Appends, Consumes, IsAtEnd, Keeps};
+ghost use Rattle.listing.specs.Bytes.{WritesBeginning, Counts};
+
+use std::io::{Read, Write};
+use thiserror::Error;
+
+/// A reader or writer, and how many of its calls failed. Nothing is tried again.
+#[derive(Drop)]
+pub struct Counted<T> {
+    inner: T,
+    failures: u64,
+}
+
+/// A call of the reader failed.
+#[derive(Clone, Copy, Debug, PartialEq, Eq, Error)]
+#[error("cannot read input")]
+pub struct ReadFault;
+
+/// A call of the writer failed, or took no byte.
+#[derive(Clone, Copy, Debug, PartialEq, Eq, Error)]
+#[error("cannot write output")]
+pub struct WriteFault;
+
+impl<T> Counted<T> {
+    /// Counts from 0.
+    pub fn new(inner: T) -> Counted<T>
+        ensures inner { result.inner ≡ inner }
+        ensures failures { result.failures ≡ 0 }
+    {
+        Counted { inner, failures: 0 }
+    }
+
+    /// The reader or writer.
+    pub fn inner(&self) -> &T
+        ensures { result.now ≡ self.now.inner }
+    {
+        &self.inner
+    }
+
+    /// How many calls failed. The count stays at 2^64 - 1 once there.
+    pub fn failures(&self) -> u64
+        ensures { result ≡ self.now.failures }
+    {
+        self.failures
+    }
+
+    fn count_failure(&mut self)
+        ensures inner { self.new.inner ≡ self.old.inner }
+        ensures failures { Counts self.old.failures self.new.failures }
+    {
+        self.failures = self.failures.saturating_add(1);
+    }
+}
+
+impl<W: Write> Counted<W> {
+    // One write of some bytes of a text that isn't empty.
+    fn write_some(&mut self, text: &[u8]) -> Result<usize, WriteFault>
+        requires { 0 < length text.now }
+        ensures count { IfOk result (λ n. (0 < n) × (n ≤ length text.now)) }
+        ensures ok { IfOk result (λ n. Appends (W.contents self.old.inner) (W.contents self.new.inner) (take n text.now)) }
+        ensures err { OnErr result (Keeps (W.contents self.old.inner) (W.contents self.new.inner)) }
+        ensures kept { OnOk result (self.new.failures ≡ self.old.failures) }
+        ensures counted { OnErr result (Counts self.old.failures self.new.failures) }
+    {
+        match self.inner.write(text) {
+            Ok(n) if n > 0 => Ok(n),
+            _ => {
+                self.count_failure();
+                Err(WriteFault)
+            }
+        }
+    }
+
+    /// Writes a text. After a fault a beginning of it was written, and one more failure is counted.
+    pub fn write_text(&mut self, text: &[u8]) -> Result<(), WriteFault>
+        ensures ok { OnOk result (Appends (W.contents self.old.inner) (W.contents self.new.inner) text.now) }
+        ensures err { OnErr result (WritesBeginning (W.contents self.old.inner) (W.contents self.new.inner) text.now) }
+        ensures kept { OnOk result (self.new.failures ≡ self.old.failures) }
+        ensures counted { OnErr result (Counts self.old.failures self.new.failures) }
+    {
+        let mut done = 0;
+        while done < text.len() {
+            done += self.write_some(&text[done..])?;
+        }
+        Ok(())
+    }
+}
+
+impl<R: Read> Counted<R> {
+    /// Reads once, to the front of `piece`, and tells how many bytes came; 0 at the end of input.
+    pub fn read_some(&mut self, piece: &mut [u8]) -> Result<usize, ReadFault>
+        requires { 0 < length piece.old }
+        ensures count { IfOk result (λ n. n ≤ length piece.new) }
+        ensures bytes { IfOk result (λ n. Consumes (R.remaining self.old.inner) (R.remaining self.new.inner) (take n piece.new)) }
+        ensures end { IfOk result (λ n. n ≡ 0 → IsAtEnd (R.remaining self.new.inner)) }
+        ensures kept { OnOk result (self.new.failures ≡ self.old.failures) }
+        ensures counted { OnErr result (Counts self.old.failures self.new.failures) }
+    {
+        match self.inner.read(piece) {
+            Ok(n) => Ok(n),
+            Err(_) => {
+                self.count_failure();
+                Err(ReadFault)
+            }
+        }
+    }
+}

@@ -1,0 +1,18 @@
+//! The listing: a database as text, a line a node; and readers and writers whose failures are counted.
+//!
+//! Callers see the listing as `listing_text` of the database (`specs/Listing.antt`), and what a writer got as
+//! bytes after those that it held, or a beginning of them (`specs/Bytes.antt`). A `Counted` shows its inner
+//! reader or writer and how many of its calls failed, so that a contract can say: this fault, only where a
+//! call failed.
+//!
+//! Read `specs/Listing.antt`, then `counted.rt`, then `nodes.rt`.
+//! Not promised: how the text is cut into writes.
+#![tactic(auto)]
+
+pub use counted::{Counted, ReadFault, WriteFault};
+pub use nodes::{ListingFault, write_listing};
+
+
+mod counted;
+mod nodes;
+

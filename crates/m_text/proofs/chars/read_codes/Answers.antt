@@ -1,0 +1,20 @@
+use Rattle.std.proofs.Common.{◌≡◌, ◌-◌, ◌+◌, suc, length, arith}
+use Rattle.std.proofs.lemmas.Result.{err_from_is_err_and}
+use Rattle.m_text.specs.Reading.{with_front, parted_at}
+use Rattle.m_text.specs.Literal.{code_at}
+use Rattle.m_text.proofs.Parted.{reads_on, reads_last, read_refused, none_left}
+use Rattle.m_text.proofs.chars.read_codes.Goals as goal
+
+pub returns-in_err-behind : goal.returns-in_err-behind
+returns-in_err-behind c =
+    let p = err_from_is_err_and c.from_residual.result c.from_residual.ensures.1 in
+    rw (p.1, p.2) (read_refused c.in_err-behind.field-0.0 code_at 44 (length c.args.text.now - (c.codes.counter + 1)) (length c.args.text.now - c.codes.counter) c.codes.out c.codes.rest.now _ (omega arith) c.in_err-behind.ensures c.codes.invariant)
+
+pub returns-in-None : goal.returns-in-None
+returns-in-None c = reads_last code_at 44 (length c.args.text.now - (c.codes.counter + 1)) (length c.args.text.now - c.codes.counter) c.codes.out c.read_code.new.out c.codes.rest.now c.in_ok-behind.behind.now _ (omega arith) c.in_ok-behind.ensures c.in-None.ensures c.codes.invariant
+
+pub codes-preserved : goal.codes-preserved
+codes-preserved c = reads_on code_at 44 (length c.args.text.now - (c.codes.counter + 1)) (length c.args.text.now - c.codes.counter) c.codes.out c.read_code.new.out c.codes.rest.now c.in_ok-behind.behind.now c.in-Some.more.now _ (omega arith) c.in_ok-behind.ensures c.in-Some.ensures.0 c.in-Some.ensures.1 c.codes.invariant
+
+pub returns : goal.returns
+returns c = none_left code_at 44 (length c.args.text.now - c.codes.counter) c.codes.out c.codes.rest.now _ (omega arith) c.codes.invariant

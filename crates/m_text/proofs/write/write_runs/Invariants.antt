@@ -1,0 +1,10 @@
+use Rattle.std.proofs.Common.{◌≡◌, ◌++◌, length}
+use Rattle.m_text.specs.Written.{parted, run_text, runs}
+use Rattle.m_text.proofs.write.write_runs.Given as goal
+
+-- what is written, and what the rest will add
+abbrev pub invariant-runs : goal.invariant-runs
+invariant-runs l = l.out.items ++ parted 95 run_text (runs l.rest) ≡ l.fn.out.items ++ parted 95 run_text (runs l.text)
+
+abbrev pub decreases-runs : goal.decreases-runs
+decreases-runs l = length l.rest

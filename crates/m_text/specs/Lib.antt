@@ -1,0 +1,4 @@
+pub mod Reading
+pub mod Literal
+pub mod Place
+pub mod Written

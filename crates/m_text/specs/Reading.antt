@@ -1,0 +1,72 @@
+-- Reading at the front of a text: what is read there, and what follows it.
+use Rattle.std.specs.Prelude.{◌≡◌, ◌==◌, ◌-◌, ⊤, ℕ, zero, suc, Bool, true, false, if◌then◌else◌, List, [], ◌∷◌, ◌++◌, length, drop, Option, None, Some, Result, Ok, Err}
+use Rattle.std.specs.Option.{option_map, option_and_then}
+use Rattle.refusal.specs.declared.Refusal.{Refusal}
+use Rattle.refusal.specs.declared.Refusal.TheVariants.{BadLine, OutOfMemory}
+
+-- what is read, with what stands before it
+abbrev pub with_front : {A : Type 0} → List A → Option (List A × List ℕ) → Option (List A × List ℕ)
+with_front front read = option_map (λ x. (front ++ x.0, x.1)) read
+
+-- what follows what is read
+abbrev pub rest_of : {A : Type 0} → Option (A × List ℕ) → Option (List ℕ)
+rest_of read = option_map (λ x. x.1) read
+
+-- the first byte is b
+abbrev pub begins_with : ℕ → List ℕ → Bool
+begins_with b [] = false
+begins_with b (c ∷ cs) = c == b
+
+-- what follows the byte b, where the text begins with it
+abbrev pub after : ℕ → List ℕ → Option (List ℕ)
+after b text = if begins_with b text then Some (drop 1 text) else None
+
+-- one thing read after another
+infixl 10 ◌>>=◌
+abbrev pub ◌>>=◌ : {A B : Type 0} → Option A → (A → Option B) → Option B
+None >>= f = None
+(Some x) >>= f = f x
+
+-- one or more, at most n of them, with the byte b between two
+unfoldable pub some_at : {A : Type 0} → (List ℕ → Option (List A × List ℕ)) → ℕ → ℕ → List ℕ → Option (List A × List ℕ)
+some_at read b zero text = None
+some_at read b (suc n) text =
+    option_and_then (λ x. if begins_with b x.1 then with_front x.0 (some_at read b n (drop 1 x.1)) else Some x) (read text)
+
+-- one or more, with the byte b between two
+abbrev pub parted_at : {A : Type 0} → (List ℕ → Option (List A × List ℕ)) → ℕ → List ℕ → Option (List A × List ℕ)
+parted_at read b text = some_at read b (length text) text
+
+-- what is read, and a closing parenthesis
+abbrev pub closed : {A : Type 0} → Option (A × List ℕ) → Option (A × List ℕ)
+closed read = option_and_then (λ x. if begins_with 41 x.1 then Some (x.0, drop 1 x.1) else None) read
+
+-- a function is refused where nothing is read, or memory ran out
+abbrev pub IsRefused : {Y : Type 0} → Refusal → Option Y → Type 0
+IsRefused BadLine read = read ≡ None
+IsRefused OutOfMemory read = ⊤
+IsRefused refusal read = ⊥
+
+-- what a function answered, seen by view, is what is read
+abbrev pub Gives : {X Y : Type 0} → (X → Y) → Result X Refusal → Option Y → Type 0
+Gives view (Ok x) read = read ≡ Some (view x)
+Gives view (Err refusal) read = IsRefused refusal read
+
+-- the same of a function that takes no memory
+abbrev pub IsRefusedAlways : {Y : Type 0} → Refusal → Option Y → Type 0
+IsRefusedAlways BadLine read = read ≡ None
+IsRefusedAlways refusal read = ⊥
+
+abbrev pub Skips : {X Y : Type 0} → (X → Y) → Result X Refusal → Option Y → Type 0
+Skips view (Ok x) read = read ≡ Some (view x)
+Skips view (Err refusal) read = IsRefusedAlways refusal read
+
+-- the refusal is the one that is due, or memory ran out
+abbrev pub IsDue : {Y : Type 0} → Refusal → Result Y Refusal → Type 0
+IsDue OutOfMemory read = ⊤
+IsDue refusal read = read ≡ Err refusal
+
+-- what a function answered, seen by view, is what is read, or the refusal that is due
+abbrev pub Answers : {X Y : Type 0} → (X → Y) → Result X Refusal → Result Y Refusal → Type 0
+Answers view (Ok x) read = read ≡ Ok (view x)
+Answers view (Err refusal) read = IsDue refusal read

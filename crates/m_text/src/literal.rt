@@ -1,0 +1,101 @@
+//! Literals.
+ghost use Rattle.std.specs.Prelude.{◌≡◌, ◌||◌};
+ghost use Rattle.m_text.specs.Reading.{Gives, Skips, begins_with, rest_of, with_front, parted_at};
+ghost use Rattle.m_text.specs.Literal.{part_at, literal_at};
+
+use crate::chars::{read_chars, skip_chars};
+use crate::front::after;
+use crate::numeral::{read_number, skip_number};
+use crate::quoted::{read_quoted, skip_quoted};
+use collation::Text;
+use refusal::Refusal;
+use std::alloc::Global;
+
+#[tactic(auto, unfolding(crate::specs::Literal::part_at))]
+fn read_part<'a>(text: &'a [u8], out: &mut Text) -> Result<&'a [u8], Refusal>
+    ensures { Gives (λ rest. (out.new, rest.now)) result (with_front out.old (part_at text.now)) }
+{
+    match text {
+        [b'"', rest @ ..] => read_quoted(rest, out),
+        [b'$', rest @ ..] => read_chars(rest, out),
+        _ => Err(Refusal::BadLine),
+    }
+}
+
+fn read_parts<'a>(text: &'a [u8], out: &mut Text) -> Result<&'a [u8], Refusal>
+    ensures { Gives (λ rest. (out.new, rest.now)) result (with_front out.old (parted_at part_at 95 text.now)) }
+{
+    let mut rest = text;
+    'parts: for _ in 0..text.len() {
+        let behind = read_part(rest, out)?;
+        match after(b'_', behind) {
+            Some(more) => rest = more,
+            None => return Ok(behind),
+        }
+    }
+    Err(Refusal::BadLine)
+}
+
+#[tactic(auto, unfolding(crate::specs::Literal::part_at))]
+fn skip_part(text: &[u8]) -> Result<&[u8], Refusal>
+    ensures { Skips (λ rest. rest.now) result (rest_of (part_at text.now)) }
+{
+    match text {
+        [b'"', rest @ ..] => skip_quoted(rest),
+        [b'$', rest @ ..] => skip_chars(rest),
+        _ => Err(Refusal::BadLine),
+    }
+}
+
+fn skip_parts(text: &[u8]) -> Result<&[u8], Refusal>
+    ensures { Skips (λ rest. rest.now) result (rest_of (parted_at part_at 95 text.now)) }
+{
+    let mut rest = text;
+    'parts: for _ in 0..text.len() {
+        let behind = skip_part(rest)?;
+        match after(b'_', behind) {
+            Some(more) => rest = more,
+            None => return Ok(behind),
+        }
+    }
+    Err(Refusal::BadLine)
+}
+
+// Whether a text begins as a quoted text or as `$C` does.
+fn begins_part(text: &[u8]) -> bool
+    ensures { result ≡ (begins_with 34 text.now || begins_with 36 text.now) }
+{
+    match text {
+        [] => false,
+        [first, ..] => *first == b'"' || *first == b'$',
+    }
+}
+
+/// The literal at the front of a text: the string that it stands for, and what follows it.
+///
+/// A string has no limit here. Refusals: `BadLine` where no literal stands there; `OutOfMemory`.
+#[tactic(auto, using(crate::proofs::Fronts::from_nothing), unfolding(crate::specs::Literal::literal_at))]
+pub fn read_literal(alloc: Global, text: &[u8]) -> Result<(Text, &[u8]), Refusal>
+    ensures exact { Gives (λ x. (x.0, x.1.now)) result (literal_at text.now) }
+{
+    if !begins_part(text) {
+        return read_number(alloc, text);
+    }
+    let mut string = Text::new(alloc);
+    let rest = read_parts(text, &mut string)?;
+    Ok((string, rest))
+}
+
+/// What follows the literal at the front of a text. Takes no memory.
+///
+/// Refusals: `BadLine` where no literal stands there.
+#[tactic(auto, unfolding(crate::specs::Literal::literal_at))]
+pub fn skip_literal(text: &[u8]) -> Result<&[u8], Refusal>
+    ensures exact { Skips (λ rest. rest.now) result (rest_of (literal_at text.now)) }
+{
+    if begins_part(text) {
+        skip_parts(text)
+    } else {
+        skip_number(text)
+    }
+}

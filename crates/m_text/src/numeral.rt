@@ -1,0 +1,86 @@
+//! Numeric literals.
+ghost use Rattle.std.specs.Prelude.{◌≡◌, ◌≤◌, ◌+◌, length, take, drop, true, if◌then◌else◌};
+ghost use Rattle.std.specs.List.{position, position_or_len};
+ghost use Rattle.canonic_number.specs.Number as number;
+ghost use Rattle.m_text.specs.Reading.{Gives, Skips, rest_of};
+ghost use Rattle.m_text.specs.Literal as literal;
+
+use canonic_number::{canonic_of, is_canonic, is_numeric};
+use collation::Text;
+use refusal::Refusal;
+use std::alloc::Global;
+
+// What stands behind the sign.
+fn split_sign(text: &[u8]) -> (bool, &[u8])
+    ensures sign { result.0 ≡ number.is_negative text.now }
+    ensures magnitude { result.1.now ≡ number.magnitude text.now }
+    ensures length { length text.now ≡ (if result.0 then length result.1.now + 1 else length result.1.now) }
+{
+    match text {
+        [b'-', magnitude @ ..] => (true, magnitude),
+        _ => (false, text),
+    }
+}
+
+fn number_end(text: &[u8]) -> Option<usize>
+    ensures { result ≡ position literal.ends_number text.now }
+{
+    text.iter().position(|byte| !(byte.is_ascii_digit() || *byte == b'.'))
+}
+
+// How many digits and points stand at the front.
+fn run_len(text: &[u8]) -> usize
+    ensures value { result ≡ position_or_len literal.ends_number text.now }
+    ensures within { result ≤ length text.now }
+{
+    match number_end(text) {
+        Some(n) => n,
+        None => text.len(),
+    }
+}
+
+fn number_len(text: &[u8]) -> usize
+    ensures value { result ≡ literal.number_len text.now }
+    ensures within { result ≤ length text.now }
+{
+    let (negative, magnitude) = split_sign(text);
+    let run = run_len(magnitude);
+    if negative { run + 1 } else { run }
+}
+
+// The bytes at the front that a number could take, and what follows them.
+pub(crate) fn split_number(text: &[u8]) -> (&[u8], &[u8])
+    ensures number { result.0.now ≡ take (literal.number_len text.now) text.now }
+    ensures rest { result.1.now ≡ drop (literal.number_len text.now) text.now }
+{
+    let n = number_len(text);
+    text.split_at(n)
+}
+
+// A numeric literal at the front of a text: its canonic number, and what follows it.
+#[tactic(auto, using(crate::proofs::Numbers::canonic_texts), unfolding(crate::specs::Literal::numeric_at))]
+pub(crate) fn read_number(alloc: Global, text: &[u8]) -> Result<(Text, &[u8]), Refusal>
+    ensures { Gives (λ x. (x.0, x.1.now)) result (literal.numeric_at text.now) }
+{
+    let (number, rest) = split_number(text);
+    if is_canonic(number) {
+        return Ok((Text::from_slice(alloc, number)?, rest));
+    }
+    match canonic_of(alloc, number)? {
+        Some(canonic) => Ok((Text::from(canonic), rest)),
+        None => Err(Refusal::BadLine),
+    }
+}
+
+// What follows a numeric literal.
+#[tactic(auto, unfolding(crate::specs::Literal::numeric_at))]
+pub(crate) fn skip_number(text: &[u8]) -> Result<&[u8], Refusal>
+    ensures { Skips (λ rest. rest.now) result (rest_of (literal.numeric_at text.now)) }
+{
+    let (number, rest) = split_number(text);
+    if is_numeric(number) {
+        Ok(rest)
+    } else {
+        Err(Refusal::BadLine)
+    }
+}

@@ -1,0 +1,161 @@
+//! Strings and references as text.
+ghost use Rattle.std.specs.Prelude.{◌≡◌, ◌<◌, ◌++◌, ◌∷◌, length, decimal, OnOk};
+ghost use Rattle.std.specs.Bool.{beq};
+ghost use Rattle.std.specs.List.{flat_map, position};
+ghost use Rattle.m_text.specs.Written as written;
+
+use crate::quoted::write_quoted;
+use canonic_number::is_canonic;
+use collation::{Ref, Text};
+use itoa::Buffer;
+use std::alloc::AllocError;
+
+fn is_plain(byte: u8) -> bool
+    ensures { result ≡ written.is_plain byte }
+{
+    byte >= 32 && byte <= 126
+}
+
+// The first byte that isn't of the kind.
+fn run_end(plain: bool, text: &[u8]) -> Option<usize>
+    ensures { result ≡ position (written.ends_run plain) text.now }
+{
+    text.iter().position(|byte| is_plain(*byte) != plain)
+}
+
+// The longest run at the front, and what follows it.
+fn split_run(text: &[u8]) -> (&[u8], &[u8])
+    requires { 0 < length text.now }
+    ensures runs { written.runs text.now ≡ result.0.now ∷ written.runs result.1.now }
+    ensures shorter { length result.1.now < length text.now }
+{
+    let plain = is_plain(text[0]);
+    match run_end(plain, text) {
+        Some(n) => text.split_at(n),
+        None => text.split_at(text.len()),
+    }
+}
+
+fn write_code(byte: u8, out: &mut Vec<u8>) -> Result<(), AllocError>
+    ensures { OnOk result (out.new.items ≡ out.old.items ++ decimal byte) }
+{
+    let mut buffer = Buffer::new();
+    out.extend_from_slice(buffer.format(byte).as_bytes())
+}
+
+fn write_more_codes(bytes: &[u8], out: &mut Vec<u8>) -> Result<(), AllocError>
+    ensures { OnOk result (out.new.items ≡ out.old.items ++ flat_map (λ b. 44 ∷ decimal b) bytes.now) }
+{
+    'codes: for byte in bytes {
+        out.push(b',')?;
+        write_code(*byte, out)?;
+    }
+    Ok(())
+}
+
+fn write_codes(bytes: &[u8], out: &mut Vec<u8>) -> Result<(), AllocError>
+    ensures { OnOk result (out.new.items ≡ out.old.items ++ written.parted 44 decimal bytes.now) }
+{
+    match bytes {
+        [] => Ok(()),
+        [first, rest @ ..] => {
+            write_code(*first, out)?;
+            write_more_codes(rest, out)
+        }
+    }
+}
+
+fn write_chars(bytes: &[u8], out: &mut Vec<u8>) -> Result<(), AllocError>
+    ensures { OnOk result (out.new.items ≡ out.old.items ++ written.char_text bytes.now) }
+{
+    out.extend_from_slice(b"$C(")?;
+    write_codes(bytes, out)?;
+    out.push(b')')?;
+    Ok(())
+}
+
+fn write_run(run: &[u8], out: &mut Vec<u8>) -> Result<(), AllocError>
+    ensures { OnOk result (out.new.items ≡ out.old.items ++ written.run_text run.now) }
+{
+    match run {
+        [] => write_quoted(run, out),
+        [first, ..] => {
+            if is_plain(*first) {
+                write_quoted(run, out)
+            } else {
+                write_chars(run, out)
+            }
+        }
+    }
+}
+
+fn write_runs(text: &[u8], out: &mut Vec<u8>) -> Result<(), AllocError>
+    ensures { OnOk result (out.new.items ≡ out.old.items ++ written.parted 95 written.run_text (written.runs text.now)) }
+{
+    let mut rest = text;
+    'runs: while !rest.is_empty() {
+        let (run, after) = split_run(rest);
+        write_run(run, out)?;
+        if after.is_empty() {
+            return Ok(());
+        }
+        out.push(b'_')?;
+        rest = after;
+    }
+    Ok(())
+}
+
+/// Writes a string at the end of `out`, as a literal, in the one way in which it is written.
+///
+/// A canonic number is written bare; another string as its longest runs of bytes 32 to 126, in quotes, and
+/// of other bytes, as `$C` with their codes, joined by `_`. Where memory is refused a part may be written.
+pub fn write_literal(string: &[u8], out: &mut Vec<u8>) -> Result<(), AllocError>
+    ensures { OnOk result (out.new.items ≡ out.old.items ++ written.literal_text string.now) }
+{
+    match string {
+        [] => write_quoted(string, out),
+        [_, ..] => {
+            if is_canonic(string) {
+                out.extend_from_slice(string)
+            } else {
+                write_runs(string, out)
+            }
+        }
+    }
+}
+
+fn write_more(subscripts: &[Text], out: &mut Vec<u8>) -> Result<(), AllocError>
+    ensures { OnOk result (out.new.items ≡ out.old.items ++ flat_map (λ s. 44 ∷ written.literal_text s) subscripts.now) }
+{
+    'subscripts: for subscript in subscripts {
+        out.push(b',')?;
+        write_literal(subscript.as_slice(), out)?;
+    }
+    Ok(())
+}
+
+fn write_subscripts(subscripts: &[Text], out: &mut Vec<u8>) -> Result<(), AllocError>
+    ensures { OnOk result (out.new.items ≡ out.old.items ++ written.subscripts_text subscripts.now) }
+{
+    match subscripts {
+        [] => Ok(()),
+        [first, rest @ ..] => {
+            out.push(b'(')?;
+            write_literal(first.as_slice(), out)?;
+            write_more(rest, out)?;
+            out.push(b')')?;
+            Ok(())
+        }
+    }
+}
+
+/// Writes a reference at the end of `out`: a caret, the name, and the subscripts as literals.
+///
+/// Where memory is refused a part may be written.
+pub fn write_ref(reference: &Ref, out: &mut Vec<u8>) -> Result<(), AllocError>
+    ensures { OnOk result (out.new.items ≡ out.old.items ++ written.reference_text reference.now) }
+{
+    out.push(b'^')?;
+    out.extend_from_slice(reference.name())?;
+    write_subscripts(reference.subscripts(), out)
+}

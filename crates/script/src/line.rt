@@ -1,0 +1,95 @@
+//! Lines.
+ghost use Rattle.std.specs.Prelude.{◌≡◌, ◌&&◌, Some, None, if◌then◌else◌};
+ghost use Rattle.m_text.specs.Reading.{Gives};
+ghost use Rattle.m_text.specs.Literal.{number_from};
+ghost use Rattle.script.specs.Commands.{command_of};
+ghost use Rattle.script.specs.Line.{IsReading, IsRefusalOf, is_job, ends_digits as ends_digits_spec, spelled_by, reading_of, job_of};
+
+use crate::finish::finish;
+use crate::sentence::{Sentence, begins_blank, past_blank, read_sentence, skip_blank};
+use collation::{Command, Job};
+use m_text::{number_up_to, split_digits};
+use refusal::Refusal;
+use std::alloc::Global;
+
+/// Why a line was refused, and the job that stands in it, where one could be read.
+#[derive(Clone, Copy, Debug)]
+pub struct LineFault {
+    pub refusal: Refusal,
+    pub job: Option<Job>,
+}
+
+// The job of a number.
+fn job_at(digits: &[u8]) -> Option<Job>
+    ensures { result ≡ (if is_job (number_from 0 digits.now) then Some (number_from 0 digits.now) else None) }
+{
+    let number = number_up_to(4096, digits)?;
+    match Job::new(number as u64) {
+        Ok(job) => Some(job),
+        Err(_) => None,
+    }
+}
+
+fn ends_digits(rest: &[u8]) -> bool
+    ensures { result ≡ ends_digits_spec rest.now }
+{
+    rest.is_empty() || begins_blank(rest)
+}
+
+// The job that is printed before a refusal.
+#[tactic(auto, unfolding(crate::specs::Line::job_of))]
+fn printed_job(line: &[u8]) -> Option<Job>
+    ensures { result ≡ job_of line.now }
+{
+    let (digits, rest) = split_digits(line);
+    if ends_digits(rest) {
+        job_at(digits)
+    } else {
+        None
+    }
+}
+
+#[tactic(auto, unfolding(crate::specs::Line::spelled_by))]
+fn read_spelled_line(alloc: Global, line: &[u8]) -> Result<Sentence<'_>, Refusal>
+    ensures { Gives (λ s. command_of s) result (spelled_by line.now) }
+{
+    let (digits, rest) = split_digits(line);
+    if digits.is_empty() {
+        return Err(Refusal::BadLine);
+    }
+    let rest = skip_blank(rest)?;
+    let (sentence, rest) = read_sentence(alloc, rest)?;
+    if past_blank(rest).is_empty() {
+        Ok(sentence)
+    } else {
+        Err(Refusal::BadLine)
+    }
+}
+
+/// The job and the command of a line, which comes without its end.
+///
+/// Refusals, in this order: `BadLine` where the line isn't of the grammar; `BadJob` where its job isn't 1 to 4,096;
+/// then the command's first fault from left to right: `BadName`, `TooManySubscripts`, `EmptySubscript`,
+/// `SubscriptTooLong`, `ValueTooLong`. And `OutOfMemory`, which may hide another. The job that is printed stands in
+/// the fault.
+#[tactic(auto, using(crate::proofs::Judging::of_lines))]
+pub fn read_line(alloc: Global, line: &[u8]) -> Result<(Job, Command), LineFault>
+    ensures { IsReading line.now result }
+{
+    let job = printed_job(line);
+    let sentence = match read_spelled_line(alloc, line) {
+        Ok(sentence) => sentence,
+        Err(refusal) => return Err(LineFault { refusal, job }),
+    };
+    let Some(number) = job else {
+        drop(sentence);
+        return Err(LineFault {
+            refusal: Refusal::BadJob,
+            job,
+        });
+    };
+    match finish(alloc, sentence) {
+        Ok(command) => Ok((number, command)),
+        Err(refusal) => Err(LineFault { refusal, job }),
+    }
+}

@@ -1,0 +1,76 @@
+-- Cutting a text into lines.
+use Rattle.std.proofs.Common.{◌≡◌, ℕ, zero, suc, ◌+◌, ◌≤◌, ◌<◌, Bool, true, false, eqb, List, [], ◌∷◌, ◌++◌, length, take, drop, get_or, not, ◌&&◌, refl, sym, ap, ◌∙◌, append_assoc, arith}
+use Rattle.std.proofs.lemmas.List.{append-nil}
+use Rattle.std.proofs.lemmas.Bool.{eqb-true}
+use Rattle.std.specs.Prelude.{Some}
+use Rattle.bstr.specs.Find.{IsFirstByte, is_byte}
+use Rattle.std.specs.Io.BufRead.{strip_last}
+use Rattle.script_run.specs.Lines.{kept, lines_from, lines_of, has_no_end}
+
+-- the first byte 10 stands at n
+abbrev pub EndsAt : List ℕ → ℕ → Type 0
+EndsAt [] n = ⊥
+EndsAt (b ∷ bs) zero = eqb b 10 ≡ true
+EndsAt (b ∷ bs) (suc n) = (eqb b 10 ≡ false) × EndsAt bs n
+
+is_false : (b : Bool) → (b ≡ true → ⊥) → b ≡ false
+is_false true h = absurd (h refl)
+is_false false h = refl
+
+pub ends_at : (xs : List ℕ) (n : ℕ) → n < length xs → ((k : ℕ) → 0 ≤ k → k < n → eqb (get_or xs k 0) 10 ≡ true → ⊥) → eqb (get_or xs n 0) 10 ≡ true → EndsAt xs n
+ends_at [] n lt before at = absurd (omega arith)
+ends_at (b ∷ bs) zero lt before at = at
+ends_at (b ∷ bs) (suc n) lt before at = (is_false _ (before 0 (omega arith) (omega arith)), ends_at bs n (omega arith) (λ k low high. before (suc k) (omega arith) (omega arith)) at)
+
+first_from : (line xs more : List ℕ) (n : ℕ) → EndsAt xs n → lines_from line (xs ++ more) ≡ kept (strip_last 13 (line ++ take n xs)) ++ lines_of (drop (suc n) xs ++ more)
+first_from line [] more n h = absurd h
+first_from line (b ∷ bs) more zero h = rw h (ap (λ (l : List ℕ). kept (strip_last 13 l) ++ lines_of (bs ++ more)) (sym (append-nil line)))
+first_from line (b ∷ bs) more (suc n) h = rw h.0 (first_from (line ++ b ∷ []) bs more n h.1 ∙ ap (λ (l : List ℕ). kept (strip_last 13 l) ++ lines_of (drop (suc n) bs ++ more)) (append_assoc line (b ∷ []) (take n bs)))
+
+-- the first line, and the lines of what follows its end
+pub first_line : (xs more : List ℕ) (n : ℕ) → EndsAt xs n → lines_of (xs ++ more) ≡ kept (strip_last 13 (take n xs)) ++ lines_of (drop (suc n) xs ++ more)
+first_line xs more n h = first_from [] xs more n h
+
+-- where no byte 10 stands
+pub no_end : (xs : List ℕ) → ((k : ℕ) → 0 ≤ k → k < length xs → eqb (get_or xs k 0) 10 ≡ true → ⊥) → has_no_end xs ≡ true
+no_end [] h = refl
+no_end (b ∷ bs) h = rw (is_false _ (h 0 (omega arith) (omega arith))) (no_end bs (λ k low high. h (suc k) (omega arith) (omega arith)))
+
+goes_on : (b : ℕ) (bs : List ℕ) → has_no_end (b ∷ bs) ≡ true → (eqb b 10 ≡ false) × (has_no_end bs ≡ true)
+goes_on b bs h = elim (eqb b 10) as (λ t. (not t && has_no_end bs) ≡ true → (t ≡ false) × (has_no_end bs ≡ true)) [ true ↦ λ e. absurd cc | false ↦ λ e. (refl, e) ] h
+
+last_from : (line xs : List ℕ) → has_no_end xs ≡ true → lines_from line xs ≡ kept (line ++ xs)
+last_from line [] h = ap kept (sym (append-nil line))
+last_from line (b ∷ bs) h = let p = goes_on b bs h in rw p.0 (last_from (line ++ b ∷ []) bs p.1 ∙ ap kept (append_assoc line (b ∷ []) bs))
+
+-- a line without an end
+pub last_line : (xs : List ℕ) → has_no_end xs ≡ true → lines_of xs ≡ kept xs
+last_line xs h = last_from [] xs h
+
+joined_from : (line begun xs more : List ℕ) (n : ℕ) → has_no_end begun ≡ true → EndsAt xs n → lines_from line ((begun ++ xs) ++ more) ≡ kept (strip_last 13 (line ++ (begun ++ take n xs))) ++ lines_of (drop (suc n) xs ++ more)
+joined_from line [] xs more n h e = first_from line xs more n e
+joined_from line (b ∷ bs) xs more n h e =
+    let p = goes_on b bs h in
+    rw p.0 (joined_from (line ++ b ∷ []) bs xs more n p.1 e ∙ ap (λ (l : List ℕ). kept (strip_last 13 l) ++ lines_of (drop (suc n) xs ++ more)) (append_assoc line (b ∷ []) (bs ++ take n xs)))
+
+-- a line that had begun ends in the next piece
+pub joined_line : (begun xs more : List ℕ) (n : ℕ) → has_no_end begun ≡ true → EndsAt xs n → lines_of ((begun ++ xs) ++ more) ≡ kept (strip_last 13 (begun ++ take n xs)) ++ lines_of (drop (suc n) xs ++ more)
+joined_line begun xs more n h e = joined_from [] begun xs more n h e
+
+-- a line goes on through a piece
+pub has_no_end-append : (xs ys : List ℕ) → has_no_end xs ≡ true → has_no_end ys ≡ true → has_no_end (xs ++ ys) ≡ true
+has_no_end-append [] ys h k = k
+has_no_end-append (x ∷ xs) ys h k = let p = goes_on x xs h in rw p.0 (has_no_end-append xs ys p.1 k)
+
+pub end_of : (xs : List ℕ) (n : ℕ) → IsFirstByte (is_byte 10) xs (Some n) → EndsAt xs n
+end_of xs n h = ends_at xs n h.0.high (λ k low high p. h.0.before k low high p) h.1
+
+drop-nothing : (m : ℕ) → drop {A = ℕ} m [] ≡ []
+drop-nothing zero = refl
+drop-nothing (suc m) = refl
+
+pub drop_more : (n m k : ℕ) (xs : List ℕ) → k ≡ n + m → drop m (drop n xs) ≡ drop k xs
+drop_more zero m k xs e = let same : m ≡ k = omega (arith, e) in ap (λ (j : ℕ). drop j xs) same
+drop_more (suc n) m k [] e = drop-nothing m ∙ sym (drop-nothing k)
+drop_more (suc n) m zero (x ∷ xs) e = absurd (omega (arith, e))
+drop_more (suc n) m (suc k) (x ∷ xs) e = drop_more n m k xs (omega (arith, e))

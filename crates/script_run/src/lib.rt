@@ -1,0 +1,20 @@
+//! Scripts from bytes to bytes: lines in, replies and the listing out.
+//!
+//! Callers see it as one relation between the bytes read and the bytes written: `IsOutput` of
+//! `specs/Output.antt`. Each line that isn't empty has one reply, the story of lines and replies is a legal
+//! journal, and what is written is the text of the replies, `--`, and the listing of the map that the journal
+//! leaves. After a fault what was written is a beginning of such a text.
+//!
+//! Input is read in pieces. The whole lines of a piece are run and their replies written before the next read,
+//! so that a person or a program at the other end of a pipe gets its replies at once. A line is copied only
+//! where it goes on from one piece to the next.
+//!
+//! Read `specs/Lines.antt`, `specs/Output.antt`, then `run.rt`.
+//! Not promised: that memory is there; how the text is cut into writes.
+#![tactic(auto)]
+
+pub use fault::Fault;
+pub use run::{Outcome, run_script};
+
+mod fault;
+mod run;
