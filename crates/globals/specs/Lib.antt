@@ -3,3 +3,5 @@ pub mod CutLaws
 pub mod NearestLaws
 pub mod SequenceLaws
 pub mod PathLaws
+pub mod AnswerLaws
+pub mod ChangeLaws

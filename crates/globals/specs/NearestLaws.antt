@@ -3,11 +3,12 @@ use Rattle.std.specs.Prelude.{◌≡◌, Bool, true, false, cond, ◌&&◌, ◌|
 use Rattle.std.proofs.Common.{refl, sym, ap, subst, ◌∙◌}
 use Rattle.std.specs.declared.cmp.Ordering.{Ordering}
 use Rattle.std.specs.declared.cmp.Ordering.TheVariants.{Less, Equal, Greater}
-use Rattle.std.specs.Ordering.{is_lt}
+use Rattle.std.specs.Ordering.{is_lt, is_eq, ordering_reverse}
+use Rattle.std.specs.Cmp.{IsTotalOrder, tied_itself}
 use Rattle.std.specs.Option.{option_or, option_and_then}
 use Rattle.std.specs.List.{find, list_any}
 use Rattle.std.specs.FinMap as finmap
-use Rattle.std.specs.FinMap.{FinMap}
+use Rattle.std.specs.FinMap.{FinMap, IsAntisymmetric}
 use Rattle.std.specs.FinMap.Entries.{below_all, is_sorted}
 use Rattle.collation.specs.Nearest.{find_last, nearest}
 
@@ -136,3 +137,134 @@ answered P B f so (Some e) within = rw (so e.0 (within e refl)) (some_kept e (f 
 -- whether some key passes
 pub any_nearest : {K X : Type 0} {R : K → K → Ordering} (P : K → Bool) (m : FinMap R X) → list_any P (finmap.keys m) ≡ is_some (nearest true P m)
 any_nearest P m = any_found P (finmap.entries m)
+
+-- ---- the nearest entry, told by what `get` answers
+
+-- e passes and is in the map, and nothing in the map that passes stands before it (backward after it)
+pub record IsNearest {K X : Type 0} {R : K → K → Ordering} (forward : Bool) (P : K → Bool) (m : FinMap R X) (e : K × X) : Type 0 where
+  pub passes : P e.0 ≡ true
+  pub there : finmap.get m e.0 ≡ Some e.1
+  pub none_nearer : (x : K) → P x ≡ true → is_some (finmap.get m x) ≡ true → cond forward (R x e.0) (R e.0 x) ≡ Less → ⊥
+
+module _ {K X : Type 0} (R : K → K → Ordering) (o : IsTotalOrder R) (same : IsAntisymmetric R) where
+  -- what is less than each key is not found
+  not_found_below : (q x : K) (es : List (K × X)) → R q x ≡ Less → below_all R x es ≡ true → finmap.find R q es ≡ None
+  not_found_below q x [] l h = refl
+  not_found_below q x (e ∷ es) l h =
+      let less = o.trans q x e.0 l (is_less _ (and_first _ _ h)) in
+      rw less (not_found_below q x es l (and_second (is_lt (R x e.0)) _ h))
+
+  -- a key below all of a list is not in it
+  pub not_found_itself : (x : K) (es : List (K × X)) → below_all R x es ≡ true → finmap.find R x es ≡ None
+  not_found_itself x [] h = refl
+  not_found_itself x (e ∷ es) h = rw (is_less (R x e.0) (and_first _ _ h)) (not_found_itself x es (and_second (is_lt (R x e.0)) _ h))
+
+  -- where a key passes and the first doesn't, it is sought behind the first
+  behind_first : (P : K → Bool) (x : K) (f : K × X) (fs : List (K × X)) → P x ≡ true → P f.0 ≡ false → finmap.find R x (f ∷ fs) ≡ finmap.find R x fs
+  behind_first P x f fs p n = by_order (R x f.0) refl
+    where
+      by_order : (r : Ordering) → R x f.0 ≡ r → cond (is_eq r) (Some f.1) (finmap.find R x fs) ≡ finmap.find R x fs
+      by_order Less e = refl
+      by_order Equal e = let t : P f.0 ≡ true = subst (λ z. P z ≡ true) (same x f.0 e) p in absurd (cc)
+      by_order Greater e = refl
+
+  none_first : (P : K → Bool) (es : List (K × X)) → find (λ e. P e.0) es ≡ None → (x : K) → P x ≡ true → finmap.find R x es ≡ None
+  none_first P [] is x p = refl
+  none_first P (f ∷ fs) is x p = elim (P f.0) as (λ b. P f.0 ≡ b → cond b (Some f) (find (λ e. P e.0) fs) ≡ None → finmap.find R x (f ∷ fs) ≡ None) [
+    | true ↦ λ b is. absurd (cc)
+    | false ↦ λ b is. behind_first P x f fs p b ∙ none_first P fs is x p
+  ] refl is
+
+  later_found : (P : K → Bool) (x : K) (es : List (K × X)) (e : K × X) → below_all R x es ≡ true → find (λ e. P e.0) es ≡ Some e → R x e.0 ≡ Less
+  later_found P x [] e h is = absurd (cc)
+  later_found P x (f ∷ fs) e h is = elim (P f.0) as (λ b. cond b (Some f) (find (λ e. P e.0) fs) ≡ Some e → R x e.0 ≡ Less) [
+    | true ↦ λ is. let f_is : f ≡ e = cc in subst (λ z. R x z.0 ≡ Less) f_is (is_less _ (and_first _ _ h))
+    | false ↦ λ is. later_found P x fs e (and_second (is_lt (R x f.0)) _ h) is
+  ] is
+
+  -- a key after the first is sought behind it
+  behind : (x : K) (f : K × X) (fs : List (K × X)) → R f.0 x ≡ Less → finmap.find R x (f ∷ fs) ≡ finmap.find R x fs
+  behind x f fs l = let t : R x f.0 ≡ Greater = o.antisymm x f.0 ∙ ap ordering_reverse l in rw t refl
+
+  first_there : (P : K → Bool) (es : List (K × X)) (e : K × X) → is_sorted R es ≡ true → find (λ e. P e.0) es ≡ Some e → finmap.find R e.0 es ≡ Some e.1
+  first_there P [] e h is = absurd (cc)
+  first_there P (f ∷ fs) e h is = elim (P f.0) as (λ b. P f.0 ≡ b → cond b (Some f) (find (λ e. P e.0) fs) ≡ Some e → finmap.find R e.0 (f ∷ fs) ≡ Some e.1) [
+    | true ↦ λ b is. let f_is : f ≡ e = cc in subst (λ z. finmap.find R z.0 (f ∷ fs) ≡ Some z.1) f_is (ap (λ r. cond (is_eq r) (Some f.1) (finmap.find R f.0 fs)) (tied_itself o f.0))
+    | false ↦ λ b is. behind e.0 f fs (later_found P f.0 fs e (and_first _ _ h) is) ∙ first_there P fs e (and_second (below_all R f.0 fs) _ h) is
+  ] refl is
+
+  first_nearest : (P : K → Bool) (es : List (K × X)) (e : K × X) → is_sorted R es ≡ true → find (λ e. P e.0) es ≡ Some e → (x : K) → P x ≡ true → is_some (finmap.find R x es) ≡ true → R x e.0 ≡ Less → ⊥
+  first_nearest P [] e h is x p there l = absurd (cc)
+  first_nearest P (f ∷ fs) e h is x p there l = elim (P f.0) as (λ b. P f.0 ≡ b → cond b (Some f) (find (λ e. P e.0) fs) ≡ Some e → ⊥) [
+    | true ↦ λ b is.
+        let f_is : e ≡ f = cc in
+        let less : R x f.0 ≡ Less = subst (λ z. R x z.0 ≡ Less) f_is l in
+        let none : finmap.find R x (f ∷ fs) ≡ None = ap (λ r. cond (is_eq r) (Some f.1) (finmap.find R x fs)) less ∙ not_found_below x f.0 fs less (and_first _ _ h) in
+        absurd (cc)
+    | false ↦ λ b is. first_nearest P fs e (and_second (below_all R f.0 fs) _ h) is x p (sym (ap is_some (behind_first P x f fs p b)) ∙ there) l
+  ] refl is
+
+  none_last : (P : K → Bool) (es : List (K × X)) → find_last (λ e. P e.0) es ≡ None → (x : K) → P x ≡ true → finmap.find R x es ≡ None
+  none_last P [] is x p = refl
+  none_last P (f ∷ fs) is x p =
+      elim (find_last (λ e. P e.0) fs) as (λ g. find_last (λ e. P e.0) fs ≡ g → option_or g (cond (P f.0) (Some f) None) ≡ None → finmap.find R x (f ∷ fs) ≡ None) [
+        | Some g ↦ λ was is. absurd (cc)
+        | None ↦ λ was is. elim (P f.0) as (λ b. P f.0 ≡ b → cond b (Some f) None ≡ None → finmap.find R x (f ∷ fs) ≡ None) [
+          | true ↦ λ b is. absurd (cc)
+          | false ↦ λ b is. behind_first P x f fs p b ∙ none_last P fs was x p
+        ] refl is
+      ] refl is
+
+  last_there : (P : K → Bool) (es : List (K × X)) (e : K × X) → is_sorted R es ≡ true → find_last (λ e. P e.0) es ≡ Some e → finmap.find R e.0 es ≡ Some e.1
+  last_there P [] e h is = absurd (cc)
+  last_there P (f ∷ fs) e h is =
+      elim (find_last (λ e. P e.0) fs) as (λ g. find_last (λ e. P e.0) fs ≡ g → option_or g (cond (P f.0) (Some f) None) ≡ Some e → finmap.find R e.0 (f ∷ fs) ≡ Some e.1) [
+        | Some g ↦ λ was is.
+            let g_is : g ≡ e = cc in
+            let there = found_last R P f.0 fs g was in
+            subst (λ z. finmap.find R z.0 (f ∷ fs) ≡ Some z.1) g_is (behind g.0 f fs (there.after (and_first _ _ h)) ∙ last_there P fs g (and_second (below_all R f.0 fs) _ h) was)
+        | None ↦ λ was is. elim (P f.0) as (λ b. cond b (Some f) None ≡ Some e → finmap.find R e.0 (f ∷ fs) ≡ Some e.1) [
+          | true ↦ λ is. let f_is : f ≡ e = cc in subst (λ z. finmap.find R z.0 (f ∷ fs) ≡ Some z.1) f_is (ap (λ r. cond (is_eq r) (Some f.1) (finmap.find R f.0 fs)) (tied_itself o f.0))
+          | false ↦ λ is. absurd (cc)
+        ] is
+      ] refl is
+
+  last_nearest : (P : K → Bool) (es : List (K × X)) (e : K × X) → is_sorted R es ≡ true → find_last (λ e. P e.0) es ≡ Some e → (x : K) → P x ≡ true → is_some (finmap.find R x es) ≡ true → R e.0 x ≡ Less → ⊥
+  last_nearest P [] e h is x p there l = absurd (cc)
+  last_nearest P (f ∷ fs) e h is x p there l =
+      elim (find_last (λ e. P e.0) fs) as (λ g. find_last (λ e. P e.0) fs ≡ g → option_or g (cond (P f.0) (Some f) None) ≡ Some e → ⊥) [
+        | Some g ↦ λ was is.
+            let g_is : g ≡ e = cc in
+            let after = found_last R P f.0 fs g was in
+            let less : R g.0 x ≡ Less = subst (λ z. R z.0 x ≡ Less) (sym g_is) l in
+            let farther : R f.0 x ≡ Less = o.trans f.0 g.0 x (after.after (and_first _ _ h)) less in
+            last_nearest P fs g (and_second (below_all R f.0 fs) _ h) was x p (sym (ap is_some (behind x f fs farther)) ∙ there) less
+        | None ↦ λ was is. elim (P f.0) as (λ b. cond b (Some f) None ≡ Some e → ⊥) [
+          | true ↦ λ is.
+              let f_is : e ≡ f = cc in
+              let less : R f.0 x ≡ Less = subst (λ z. R z.0 x ≡ Less) f_is l in
+              let none : finmap.find R x (f ∷ fs) ≡ None = behind x f fs less ∙ none_last P fs was x p in
+              absurd (cc)
+          | false ↦ λ is. absurd (cc)
+        ] is
+      ] refl is
+
+  pub nearest_is : (forward : Bool) (P : K → Bool) (m : FinMap R X) (e : K × X) → nearest forward P m ≡ Some e → IsNearest forward P m e
+  nearest_is true P m e is =
+      let sorted = true_of _ (finmap.entries_sorted m) in
+      record {
+        passes = nearest_passes R true P m e is;
+        there = finmap.get-entries m e.0 ∙ first_there P (finmap.entries m) e sorted is;
+        none_nearer = λ x p there. first_nearest P (finmap.entries m) e sorted is x p (sym (ap is_some (finmap.get-entries m x)) ∙ there);
+      }
+  nearest_is false P m e is =
+      let sorted = true_of _ (finmap.entries_sorted m) in
+      record {
+        passes = nearest_passes R false P m e is;
+        there = finmap.get-entries m e.0 ∙ last_there P (finmap.entries m) e sorted is;
+        none_nearer = λ x p there. last_nearest P (finmap.entries m) e sorted is x p (sym (ap is_some (finmap.get-entries m x)) ∙ there);
+      }
+
+  pub nearest_none : (forward : Bool) (P : K → Bool) (m : FinMap R X) → nearest forward P m ≡ None → (x : K) → P x ≡ true → finmap.get m x ≡ None
+  nearest_none true P m is x p = finmap.get-entries m x ∙ none_first P (finmap.entries m) is x p
+  nearest_none false P m is x p = finmap.get-entries m x ∙ none_last P (finmap.entries m) is x p

@@ -283,3 +283,20 @@ module _ {A : Type 0} (R : A → A → Ordering) where
     begins_not_before [] (x ∷ xs) h = refl
     begins_not_before (p ∷ ps) [] h = absurd (cc)
     begins_not_before (p ∷ ps) (x ∷ xs) h = let e = and_tied (R p x) _ h in rw (tied_back o p x e) (begins_not_before ps xs (rw e at h))
+
+    -- lists that go on from ps are in the order of the elements with which they do
+    pub next_less : (ps xs ys : List A) (s t : A) → next_of ps xs ≡ Some s → next_of ps ys ≡ Some t → R s t ≡ Less → slice_cmp R xs ys ≡ Less
+    next_less [] [] ys s t a b l = absurd (cc)
+    next_less [] (x ∷ xs) [] s t a b l = absurd (cc)
+    next_less [] (x ∷ xs) (y ∷ ys) s t a b l =
+        let x_is : s ≡ x = cc in
+        let y_is : t ≡ y = cc in
+        let less : R x y ≡ Less = sym (λ i. R (x_is i) (y_is i)) ∙ l in
+        rw less refl
+    next_less (p ∷ ps) [] ys s t a b l = absurd (cc)
+    next_less (p ∷ ps) (x ∷ xs) [] s t a b l = absurd (cc)
+    next_less (p ∷ ps) (x ∷ xs) (y ∷ ys) s t a b l =
+        let e = tied_some (R p x) (next_of ps xs) (ap is_some a) in
+        let f = tied_some (R p y) (next_of ps ys) (ap is_some b) in
+        let t_is : R x y ≡ Equal = sym (o.congr p x y e) ∙ f in
+        rw t_is (next_less ps xs ys s t (rw e at a) (rw f at b) l)

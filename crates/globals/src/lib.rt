@@ -16,6 +16,11 @@
 #![tactic(auto)]
 
 pub use cut::{Cut, stands_before};
+pub use laws::{
+    data_tells_value_and_descendants, descendants_are_under, kill_kills_the_subtree,
+    merge_copies_the_subtree, order_answers_the_nearest_sibling, query_answers_the_nearest_node,
+    set_sets_one,
+};
 pub use merge::merge_list;
 pub use node::{data, get};
 pub use sibling::order;
@@ -24,6 +29,7 @@ pub use view::OrderedView;
 pub use walk::{Descent, Walk, subtree, walk_from};
 
 mod cut;
+mod laws;
 mod levels;
 mod merge;
 mod node;

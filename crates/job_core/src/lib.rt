@@ -26,6 +26,3 @@ mod functions;
 mod machine;
 mod search;
 mod store;
-
-#[cfg(test)]
-mod tests;

@@ -8,3 +8,4 @@ pub mod BoundLaws
 pub mod PartsKey
 pub mod Range
 pub mod RangeLaws
+pub mod Reading

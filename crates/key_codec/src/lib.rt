@@ -10,7 +10,7 @@
 //! `^A(10,0)` has the key 41 00 04 82 02 00 03: the name and its end; a number above zero whose point stands
 //! behind two digits, its digit 1, its end; zero.
 //!
-//! Read `specs/Key.antt` and `specs/Bounds.antt`, then `write.rt`, `bounds.rt`, `range.rt`. All lemmas
+//! Read `specs/Key.antt` and `specs/Bounds.antt`, then `write.rt`, `read.rt`, `bounds.rt`, `range.rt`. All lemmas
 //! hold over any limit of subscripts and any width of a point's place (`KeyForm`, `specs/Form.antt`); the form
 //! in use has subscripts of at most 127 bytes and a place of one byte. Lemmas for the crates above:
 //! `specs/KeyLaws.antt`, `specs/BoundLaws.antt`, `specs/RangeLaws.antt`.
@@ -19,27 +19,37 @@
 pub use bounds::{sibling_after, sibling_before, subtree_prefix};
 pub use laws::keys_are_as_references;
 pub use range::KeyRange;
+pub use read::decode;
 pub use write::encode;
 
 mod bounds;
 mod laws;
 mod range;
+mod read;
+mod read_number;
+mod read_subscript;
+mod read_text;
 mod write;
 
-// The first byte of a subscript's key.
+// The first byte of the key of a number below zero.
 const BELOW_ZERO: u8 = 2;
 
+// The key of zero.
 const ZERO: u8 = 3;
 
+// The first byte of the key of a number above zero.
 const ABOVE_ZERO: u8 = 4;
 
+// The first byte of the key of any other subscript.
 const TEXT: u8 = 5;
 
-// What ends a name and a text, and the digits of a number.
+// What ends a name and a text.
 const END: u8 = 0;
 
+// What ends the digits of a number above zero: less than any digit's byte.
 const END_ABOVE_ZERO: u8 = 0;
 
+// What ends the digits of a number below zero: greater than any digit's byte.
 const END_BELOW_ZERO: u8 = 255;
 
 // The most digits of a fraction: a point's place is counted from as many places before it.

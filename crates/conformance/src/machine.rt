@@ -1,8 +1,7 @@
 //! Worked lists of steps with their replies and the content that they leave, from docs/RULES.md, and long
 //! lists that end within the runner's limit.
-use crate::{JobCore, Step, run_from_nothing};
 use collation::{Command, Direction, Job, Name, Place, Ref, Reply, Subscripts, Text};
-use globals::OrderedView;
+use job_core::{JobCore, Step, run_from_nothing};
 use refusal::Refusal;
 use std::alloc::Global;
 use std::test::Fail;

@@ -1,0 +1,5 @@
+use Rattle.globals.proofs.Telling.{data_tells}
+use Rattle.globals.proofs.laws.data_tells_value_and_descendants.Goals as goal
+
+pub returns : goal.returns
+returns c = data_tells

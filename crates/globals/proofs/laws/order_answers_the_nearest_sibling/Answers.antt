@@ -1,0 +1,5 @@
+use Rattle.globals.proofs.Telling.{order_tells}
+use Rattle.globals.proofs.laws.order_answers_the_nearest_sibling.Goals as goal
+
+pub returns : goal.returns
+returns c = order_tells

@@ -1,0 +1,5 @@
+use Rattle.globals.proofs.Telling.{query_tells}
+use Rattle.globals.proofs.laws.query_answers_the_nearest_node.Goals as goal
+
+pub returns : goal.returns
+returns c = query_tells

@@ -1,0 +1,5 @@
+use Rattle.globals.proofs.Changing.{set_one}
+use Rattle.globals.proofs.laws.set_sets_one.Goals as goal
+
+pub returns : goal.returns
+returns c = set_one

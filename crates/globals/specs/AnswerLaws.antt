@@ -1,0 +1,60 @@
+-- What the answers of $DATA, $ORDER and $QUERY say of a database. The law functions of `laws.rt` prove each.
+use Rattle.std.specs.Prelude.{◌≡◌, ℕ, Bool, true, false, not, ◌&&◌, ◌⊎◌, List, [], ◌∷◌, ◌++◌, if◌then◌else◌, MatchOption}
+use Rattle.std.specs.Ordering.{is_lt}
+use Rattle.std.specs.FinMap as finmap
+use Rattle.collation.specs.Reference.{Reference, Spot}
+use Rattle.collation.specs.Order.{subscript_cmp, ref_cmp, ref_eq}
+use Rattle.collation.specs.Database.{Database, is_under}
+use Rattle.collation.specs.Levels.{is_below, parent_of}
+use Rattle.collation.specs.Answers.{data_of, is_beyond, order_of, follows, query_of}
+
+-- r has a value
+abbrev pub HasValue : Database → Reference → Type 0
+HasValue m r = finmap.contains_key m r ≡ true
+
+-- a descendant of r has a value
+abbrev pub HasDescendant : Database → Reference → Type 0
+HasDescendant m r = (x : Reference) × (is_below r x ≡ true) × HasValue m x
+
+-- a descendant of r is what is under r and isn't r
+abbrev pub DescendantsAreUnder : Type 0
+DescendantsAreUnder = (r x : Reference) → is_below r x ≡ (is_under r x && not (ref_eq r x))
+
+-- $DATA is 1 for a value alone, 10 for descendants alone, 11 for both and 0 for neither
+pub record DataTells (m : Database) (r : Reference) : Type 0 where
+  pub neither : ¬ (HasValue m r) → ¬ (HasDescendant m r) → data_of r m ≡ 0
+  pub value : HasValue m r → ¬ (HasDescendant m r) → data_of r m ≡ 1
+  pub descendants : ¬ (HasValue m r) → HasDescendant m r → data_of r m ≡ 10
+  pub both : HasValue m r → HasDescendant m r → data_of r m ≡ 11
+
+-- the reference one level below r
+abbrev pub below : Reference → List ℕ → Reference
+below r s = record { name = r.name; subscripts = r.subscripts ++ s ∷ [] }
+
+-- at the place's level, a member stands at or under the subscript s
+abbrev pub HasSibling : Spot → Database → List ℕ → Type 0
+HasSibling p m s = (x : Reference) × (is_under (below (parent_of p) s) x ≡ true) × HasValue m x
+
+-- t is a sibling beyond the start, and no sibling beyond the start stands before it (backward after it)
+pub record IsNearestSibling (forward : Bool) (p : Spot) (m : Database) (t : List ℕ) : Type 0 where
+  pub there : HasSibling p m t
+  pub beyond : is_beyond forward p t ≡ true
+  pub none_between : (s : List ℕ) → HasSibling p m s → is_beyond forward p s ≡ true → is_lt (if forward then subscript_cmp s t else subscript_cmp t s) ≡ false
+
+-- no sibling stands beyond the start
+abbrev pub HasNoSibling : Bool → Spot → Database → Type 0
+HasNoSibling forward p m = (s : List ℕ) → HasSibling p m s → is_beyond forward p s ≡ false
+
+-- $ORDER answers the nearest sibling, or the empty string where there is none
+abbrev pub OrderTells : Bool → Spot → Database → Type 0
+OrderTells forward p m = IsNearestSibling forward p m (order_of forward p m) ⊎ ((order_of forward p m ≡ []) × HasNoSibling forward p m)
+
+-- r has a value and follows the place, and none that does stands before it (backward after it)
+pub record IsNearestNode (forward : Bool) (p : Spot) (m : Database) (r : Reference) : Type 0 where
+  pub there : HasValue m r
+  pub beyond : follows forward p r ≡ true
+  pub none_between : (x : Reference) → HasValue m x → follows forward p x ≡ true → is_lt (if forward then ref_cmp x r else ref_cmp r x) ≡ false
+
+-- $QUERY answers the nearest node that follows the place, or none where there is none
+abbrev pub QueryTells : Bool → Spot → Database → Type 0
+QueryTells forward p m = MatchOption (query_of forward p m) ((x : Reference) → HasValue m x → follows forward p x ≡ false) (IsNearestNode forward p m)

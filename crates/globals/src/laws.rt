@@ -1,0 +1,41 @@
+//! The laws of the data commands, in the words of references and values.
+ghost use Rattle.std.specs.Prelude.{Bool};
+ghost use Rattle.collation.specs.Reference.{Reference, Spot};
+ghost use Rattle.collation.specs.Database.{Database};
+ghost use Rattle.globals.specs.AnswerLaws.{DescendantsAreUnder, DataTells, OrderTells, QueryTells};
+ghost use Rattle.globals.specs.ChangeLaws.{SetSetsOne, KillKillsSubtree, MergeCopiesSubtree};
+
+/// A descendant of a reference is what is under it and isn't the reference itself.
+pub fn descendants_are_under()
+    ensures { DescendantsAreUnder }
+{}
+
+/// $DATA tells a value by 1 and descendants by 10.
+pub fn data_tells_value_and_descendants()
+    ensures { (m : Database) (r : Reference) → DataTells m r }
+{}
+
+/// $ORDER answers the nearest sibling beyond the start: nothing stands between.
+pub fn order_answers_the_nearest_sibling()
+    ensures { (forward : Bool) (p : Spot) (m : Database) → OrderTells forward p m }
+{}
+
+/// $QUERY answers the nearest node of the name beyond the place: nothing stands between.
+pub fn query_answers_the_nearest_node()
+    ensures { (forward : Bool) (p : Spot) (m : Database) → QueryTells forward p m }
+{}
+
+/// SET changes one reference.
+pub fn set_sets_one()
+    ensures { SetSetsOne }
+{}
+
+/// KILL takes away what is at and under its reference, and nothing else.
+pub fn kill_kills_the_subtree()
+    ensures { KillKillsSubtree }
+{}
+
+/// MERGE copies node by node, over what was there.
+pub fn merge_copies_the_subtree()
+    ensures { MergeCopiesSubtree }
+{}

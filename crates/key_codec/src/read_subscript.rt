@@ -1,0 +1,125 @@
+//! One subscript of a key: its text, and the bytes behind it.
+ghost use Rattle.std.specs.Prelude.{◌≡◌, ◌↔◌, [], ◌∷◌, List, ℕ, not, nat_eq, true, IfErr, IfOk, IfNone, IfSome, IsTrue};
+ghost use Rattle.std.specs.List.{list_all};
+ghost use Rattle.key_codec.specs.Reading as reading;
+ghost use Rattle.key_codec.specs.Reading.{BeginsWith, BeginsWithNone, IsNumberKey, IsOtherText};
+
+use crate::read::split_at_end;
+use crate::read_number::{are_digit_bytes, is_number_of, place_of, read_digits, write_number};
+use crate::read_text::unescape;
+use crate::{ABOVE_ZERO, BELOW_ZERO, END, END_ABOVE_ZERO, END_BELOW_ZERO, TEXT, ZERO};
+use canonic_number::{LONGEST_SUBSCRIPT, is_canonic};
+use collation::Text;
+use refusal::Refusal;
+use std::alloc::Global;
+
+// The subscript whose key stands in front, and what follows it.
+pub(crate) fn read_subscript(alloc: Global, bytes: &[u8]) -> Result<Option<(Text, &[u8])>, Refusal>
+    ensures some { IfOk result (λ found. IfSome found (λ p. BeginsWith bytes.now p.0 p.1.now)) }
+    ensures none { IfOk result (λ found. IfNone found (BeginsWithNone bytes.now)) }
+    ensures refused { IfErr result (λ refusal. refusal ≡ Refusal.OutOfMemory) }
+{
+    let [tag, behind @ ..] = bytes else {
+        return Ok(None);
+    };
+    match *tag {
+        BELOW_ZERO => read_number(alloc, true, behind),
+        ZERO => {
+            let text = Text::from_slice(alloc, b"0")?;
+            Ok(Some((text, behind)))
+        }
+        ABOVE_ZERO => read_number(alloc, false, behind),
+        TEXT => read_text(alloc, behind),
+        _ => Ok(None),
+    }
+}
+
+fn end_of(negative: bool) -> u8
+    ensures { result ≡ reading.end_of negative }
+{
+    if negative {
+        END_BELOW_ZERO
+    } else {
+        END_ABOVE_ZERO
+    }
+}
+
+fn take_byte(bytes: &[u8]) -> Option<(u8, &[u8])>
+    ensures some { IfSome result (λ p. bytes.now ≡ p.0 ∷ p.1.now) }
+    ensures none { IfNone result (bytes.now ≡ []) }
+{
+    let [first, rest @ ..] = bytes else {
+        return None;
+    };
+    Some((*first, rest))
+}
+
+// The number whose key stands in front, less its first byte.
+fn read_number(
+    alloc: Global,
+    negative: bool,
+    bytes: &[u8],
+) -> Result<Option<(Text, &[u8])>, Refusal>
+    ensures some { IfOk result (λ found. IfSome found (λ p. BeginsWith (reading.tag_of negative ∷ bytes.now) p.0 p.1.now)) }
+    ensures none { IfOk result (λ found. IfNone found (BeginsWithNone (reading.tag_of negative ∷ bytes.now))) }
+    ensures refused { IfErr result (λ refusal. refusal ≡ Refusal.OutOfMemory) }
+{
+    let Some((byte, behind)) = take_byte(bytes) else {
+        return Ok(None);
+    };
+    let Some((front, rest)) = split_at_end(behind, end_of(negative)) else {
+        return Ok(None);
+    };
+    let Some(text) = number_of(alloc, negative, byte, front)? else {
+        return Ok(None);
+    };
+    Ok(Some((text, rest)))
+}
+
+// The number with this byte of its place and these bytes of its digits.
+fn number_of(alloc: Global, negative: bool, byte: u8, front: &[u8]) -> Result<Option<Text>, Refusal>
+    requires { list_all (λ b. not (nat_eq b (reading.end_of negative))) front.now ≡ true }
+    ensures some { IfOk result (λ found. IfSome found (IsNumberKey negative byte front.now)) }
+    ensures none { IfOk result (λ found. IfNone found ((s : List ℕ) → IsNumberKey negative byte front.now s → ⊥)) }
+    ensures refused { IfErr result (λ refusal. refusal ≡ Refusal.OutOfMemory) }
+{
+    let Some(place) = place_of(negative, byte) else {
+        return Ok(None);
+    };
+    if !are_digit_bytes(front) {
+        return Ok(None);
+    }
+    let digits = read_digits(alloc, negative, front)?;
+    let draft = write_number(alloc, negative, place, digits.as_slice())?;
+    if !is_number_of(draft.as_slice(), negative, place, digits.as_slice()) {
+        return Ok(None);
+    }
+    let text = Text::from_slice(alloc, draft.as_slice())?;
+    Ok(Some(text))
+}
+
+// The text whose key stands in front, less its first byte.
+fn read_text(alloc: Global, bytes: &[u8]) -> Result<Option<(Text, &[u8])>, Refusal>
+    ensures some { IfOk result (λ found. IfSome found (λ p. BeginsWith (5 ∷ bytes.now) p.0 p.1.now)) }
+    ensures none { IfOk result (λ found. IfNone found (BeginsWithNone (5 ∷ bytes.now))) }
+    ensures refused { IfErr result (λ refusal. refusal ≡ Refusal.OutOfMemory) }
+{
+    let Some((front, rest)) = split_at_end(bytes, END) else {
+        return Ok(None);
+    };
+    let Some(draft) = unescape(alloc, front)? else {
+        return Ok(None);
+    };
+    if !is_text(draft.as_slice()) {
+        return Ok(None);
+    }
+    let text = Text::from_slice(alloc, draft.as_slice())?;
+    Ok(Some((text, rest)))
+}
+
+// Whether the text is a subscript and no canonic number.
+fn is_text(text: &[u8]) -> bool
+    ensures { IsTrue result ↔ IsOtherText text.now }
+{
+    !text.is_empty() && text.len() <= LONGEST_SUBSCRIPT && !is_canonic(text)
+}

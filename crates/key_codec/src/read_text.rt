@@ -1,0 +1,56 @@
+//! A text from its escaped bytes.
+ghost use Rattle.std.specs.Prelude.{◌≡◌, ◌<◌, ◌++◌, ◌∷◌, ℕ, List, IfNone, IfOk, IfSome, length};
+ghost use Rattle.key_codec.specs.Key.{escape, escaped};
+
+use crate::read_number::Draft;
+use smallvec::SmallVec;
+use std::alloc::{AllocError, Global};
+
+// The text with these escaped bytes.
+pub(crate) fn unescape(alloc: Global, bytes: &[u8]) -> Result<Option<Draft>, AllocError>
+    ensures some { IfOk result (λ found. IfSome found (λ text. escaped text.items ≡ bytes.now)) }
+    ensures none { IfOk result (λ found. IfNone found ((t : List ℕ) → bytes.now ≡ escaped t → ⊥)) }
+{
+    let mut text = SmallVec::new(alloc);
+    let mut rest = bytes;
+    while !rest.is_empty() {
+        let Some((byte, more)) = next_byte(rest) else {
+            return Ok(None);
+        };
+        text.push(byte)?;
+        rest = more;
+    }
+    Ok(Some(text))
+}
+
+// The byte whose escape stands in front, and what follows it.
+fn next_byte(bytes: &[u8]) -> Option<(u8, &[u8])>
+    ensures some { IfSome result (λ p. bytes.now ≡ escape p.0 ++ p.1.now) }
+    ensures shorter { IfSome result (λ p. length p.1.now < length bytes.now) }
+    ensures none { IfNone result ((b : ℕ) (u : List ℕ) → bytes.now ≡ escape b ++ u → ⊥) }
+{
+    let [first, rest @ ..] = bytes else {
+        return None;
+    };
+    match *first {
+        0 => None,
+        1 => next_escaped(rest),
+        byte => Some((byte, rest)),
+    }
+}
+
+// The same behind a byte 1.
+fn next_escaped(bytes: &[u8]) -> Option<(u8, &[u8])>
+    ensures some { IfSome result (λ p. 1 ∷ bytes.now ≡ escape p.0 ++ p.1.now) }
+    ensures shorter { IfSome result (λ p. length p.1.now < length bytes.now) }
+    ensures none { IfNone result ((b : ℕ) (u : List ℕ) → 1 ∷ bytes.now ≡ escape b ++ u → ⊥) }
+{
+    let [second, rest @ ..] = bytes else {
+        return None;
+    };
+    match *second {
+        1 => Some((0, rest)),
+        2 => Some((1, rest)),
+        _ => None,
+    }
+}
