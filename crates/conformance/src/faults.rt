@@ -6,7 +6,8 @@ use script_run::{Fault, Outcome, run_script};
 use std::alloc::Global;
 use std::test::Fail;
 
-const SCRIPT: &[u8] = b"1 SET ^A(1)=1\n2 SET ^A(2)=\"two\"\n1 $ORDER(^A(\"\"),-1)\n1 FOO\n\n2 KILL ^A(1)\n1 $DATA(^A)";
+const SCRIPT: &[u8] =
+    b"1 SET ^A(1)=1\n2 SET ^A(2)=\"two\"\n1 $ORDER(^A(\"\"),-1)\n1 FOO\n\n2 KILL ^A(1)\n1 $DATA(^A)";
 
 // How a script of pieces of this size went, and what was written.
 fn run_pieces(

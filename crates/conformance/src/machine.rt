@@ -16,10 +16,7 @@ fn reference(alloc: Global, texts: &[&[u8]]) -> Result<Ref, Refusal> {
 
 fn set(alloc: Global, texts: &[&[u8]], value: &[u8]) -> Result<Step, Refusal> {
     let value = Text::from_slice(alloc, value)?;
-    Ok(Step::Do(
-        Job::new(1)?,
-        Command::Set(reference(alloc, texts)?, value),
-    ))
+    Ok(Step::Do(Job::new(1)?, Command::Set(reference(alloc, texts)?, value)))
 }
 
 fn value(alloc: Global, bytes: &[u8]) -> Result<Reply, Refusal> {

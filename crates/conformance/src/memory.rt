@@ -62,8 +62,10 @@ fn ends_alike(alloc: Global) -> Result<bool, Refusal> {
             _ => return Ok(false),
         }
     }
-    Ok(first.journal().units() == second.journal().units()
-        && first.content().nodes() == second.content().nodes())
+    Ok(
+        first.journal().units() == second.journal().units()
+            && first.content().nodes() == second.content().nodes(),
+    )
 }
 
 #[test]

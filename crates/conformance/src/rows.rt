@@ -77,9 +77,15 @@ fn refused_lines_keep_their_place(rt: HostRuntime) -> Result<(), Fail> {
         ("1\n", "1 error 1 BadLine\n--\n"),
         (" \n", "0 error 1 BadLine\n--\n"),
         ("\r\n\n", "--\n"),
-        ("1 SET ^A=1\r\n1 $GET(^A)\r", "1 ok\n1 error 1 BadLine\n--\n^A=1\n"),
+        (
+            "1 SET ^A=1\r\n1 $GET(^A)\r",
+            "1 ok\n1 error 1 BadLine\n--\n^A=1\n",
+        ),
         ("1 SET ^A=1  \n", "1 ok\n--\n^A=1\n"),
-        ("1 LOCK ^A\n1 TSTART\n1 HALT\n", "1 error 1 BadLine\n1 error 1 BadLine\n1 error 1 BadLine\n--\n"),
+        (
+            "1 LOCK ^A\n1 TSTART\n1 HALT\n",
+            "1 error 1 BadLine\n1 error 1 BadLine\n1 error 1 BadLine\n--\n",
+        ),
     ];
     for (input, output) in rows {
         let (text, refused) = output_of(rt.alloc(), input.as_bytes())?;
@@ -137,13 +143,23 @@ fn a_copy_too_deep_sets_nothing(rt: HostRuntime) -> Result<(), Fail> {
 #[test]
 fn query_backward_from_an_open_place_has_three_cases(rt: HostRuntime) -> Result<(), Fail> {
     let rows = [
-        ("1 SET ^A(4)=1\n1 SET ^A(5)=1\n1 SET ^A(5,2)=1\n1 $QUERY(^A(5,\"\"),-1)\n", "1 ^A(5,2)\n--\n"),
-        ("1 SET ^A(4)=1\n1 SET ^A(5)=1\n1 $QUERY(^A(5,\"\"),-1)\n", "1 ^A(5)\n--\n"),
+        (
+            "1 SET ^A(4)=1\n1 SET ^A(5)=1\n1 SET ^A(5,2)=1\n1 $QUERY(^A(5,\"\"),-1)\n",
+            "1 ^A(5,2)\n--\n",
+        ),
+        (
+            "1 SET ^A(4)=1\n1 SET ^A(5)=1\n1 $QUERY(^A(5,\"\"),-1)\n",
+            "1 ^A(5)\n--\n",
+        ),
         ("1 SET ^A(4)=1\n1 $QUERY(^A(5,\"\"),-1)\n", "1 ^A(4)\n--\n"),
     ];
     for (input, found) in rows {
         let (text, _) = output_of(rt.alloc(), input.as_bytes())?;
-        assert!(rt; text.windows(found.len()).any(|part| part == found.as_bytes()), "for {input}");
+        assert!(rt;
+            text.windows(found.len())
+                .any(|part| part == found.as_bytes()),
+            "for {input}"
+        );
     }
     Ok(())
 }

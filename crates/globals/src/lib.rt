@@ -10,6 +10,9 @@
 //! ^A(1,5), ^A(3), ^B the place ^A(1) forward starts past ^A(1) and finds ^A(3): $ORDER answers 3. Backward ^A("")
 //! starts past ^A and finds ^A(3).
 //!
+//! What the answers and changes say in the words of references and values: `laws.rt`, with `specs/AnswerLaws.antt`
+//! and `specs/ChangeLaws.antt`.
+//!
 //! Read `specs/Cuts.antt`, then `view.rt`, `sibling.rt`, `walk.rt`. The proofs go by lists in lexicographic order:
 //! `specs/SequenceLaws.antt`, `proofs/Seeks.antt`.
 //! Not promised: how long a view takes for a look-up.

@@ -11,8 +11,10 @@ use collation::{Direction, Ref, Text};
 
 /// A database that can be looked up and walked in order, however it is kept.
 ///
-/// An implementor says what it contains, and owes three answers about just that. Keys and values are lent for as
-/// long as the view is.
+/// An implementor says what it contains, and owes three answers about just that; there are no further laws. What
+/// stands before a cut is always a beginning of the members in order (`stands_before-earlier` of
+/// `specs/CutLaws.antt`), so a partition point serves `next` and `prev` both. Keys and values are lent for as long as
+/// the view is.
 pub trait OrderedView {
     /// What it contains: a finite map from references to values.
     ghost content: { Self → Database };

@@ -35,11 +35,7 @@ pub fn answer<V: OrderedView>(alloc: Global, view: &V, command: &Command) -> Res
 }
 
 // The value, the default, or the empty string.
-fn found_or(
-    alloc: Global,
-    found: Option<&Text>,
-    default: &Option<Text>,
-) -> Result<Text, AllocError>
+fn found_or(alloc: Global, found: Option<&Text>, default: &Option<Text>) -> Result<Text, AllocError>
     ensures { IfOk result (λ text. text ≡ unwrap_or (option_copied found.entry) (unwrap_or default.now [])) }
 {
     match found {

@@ -14,12 +14,10 @@
 //! Read `specs/Agrees.antt`, then `machine.rt`, `data.rt`, `store.rt`.
 #![tactic(auto)]
 
-
 pub use data::lone;
 pub use functions::answer;
 pub use machine::{JobCore, Step, run_from_nothing};
 pub use store::Store;
-
 
 mod data;
 mod functions;

@@ -120,10 +120,7 @@ ghost use Rattle.job_core.specs.Steps.{commands_of};
 /// command, and the whole database, are those of one map from names and subscripts to values: with J the new
 /// core's journal, J is the story of the steps and their replies, each reply in J is the one map's at its
 /// place, and the content is the map that J leaves. (`content` ensures the last of any core.)
-pub fn run_from_nothing(
-    alloc: Global,
-    steps: Vec<Step>,
-) -> Result<(JobCore, Vec<Reply>), Refusal>
+pub fn run_from_nothing(alloc: Global, steps: Vec<Step>) -> Result<(JobCore, Vec<Reply>), Refusal>
     ensures story { IfOk result (λ r. r.0 ≡ story_of (commands_of steps.items) r.1.items) }
     ensures each { IfOk result (λ r. length r.1.items ≡ length steps.items) }
     ensures legal { IfOk result (λ r. IsLegal r.0 initial) }

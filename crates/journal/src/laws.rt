@@ -11,12 +11,10 @@ ghost use Rattle.journal.specs.Story.{story_of};
 pub fn joined_histories()
     ensures state { (us vs : List JournalUnit) → (s : State) → after (us ++ vs) s ≡ after vs (after us s) }
     ensures legal { (us vs : List JournalUnit) → (s : State) → IsLegal (us ++ vs) s ↔ (IsLegal us s × IsLegal vs (after us s)) }
-{
-}
+{}
 
 /// Lists of steps joined, each with a reply, tell their stories joined.
 pub fn joined_stories()
     ensures { (steps more : List (ℕ × Command)) → (replies others : List Reply) → length replies ≡ length steps
         → story_of (steps ++ more) (replies ++ others) ≡ story_of steps replies ++ story_of more others }
-{
-}
+{}

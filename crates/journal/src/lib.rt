@@ -19,7 +19,6 @@ pub use unit::Unit;
 
 mod laws;
 mod list;
-mod unit;
-
 #[cfg(test)]
 mod tests;
+mod unit;

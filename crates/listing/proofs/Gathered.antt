@@ -60,17 +60,17 @@ pub begun_more : (old now last : Option (List ℕ)) (all done left front : List 
     → WritesBeginning now last more → WritesBeginning old last (lines_of all)
 begun_more old now last all done left front e out more h f m w =
     begun_out old now last all (done ++ e ∷ []) left more
-      (record {
-        parts = append_assoc done (e ∷ []) left ∙ ap (λ (es : List Entry). done ++ es) (sym f) ∙ h.parts;
-        passes = record { written = h.passes.written; appended = h.passes.appended; rest = lines-more done e ∙ ap (λ (t : List ℕ). t ++ node_text e) h.passes.rest ∙ append_assoc h.passes.written out (node_text e) ∙ ap (λ (t : List ℕ). h.passes.written ++ t) (sym m) };
-      })
-      w
+    (record {
+      parts = append_assoc done (e ∷ []) left ∙ ap (λ (es : List Entry). done ++ es) (sym f) ∙ h.parts;
+      passes = record { written = h.passes.written; appended = h.passes.appended; rest = lines-more done e ∙ ap (λ (t : List ℕ). t ++ node_text e) h.passes.rest ∙ append_assoc h.passes.written out (node_text e) ∙ ap (λ (t : List ℕ). h.passes.written ++ t) (sym m) };
+    })
+    w
 
 -- nothing is left, and what was gathered was written
 pub wrote_all : (old now last : Option (List ℕ)) (all done left : List Entry) (out : List ℕ) → Stands old now all done left out → left ≡ [] → Appends now last out → Appends old last (lines_of all)
 wrote_all old now last all done left out h none w =
     subst (Appends old last) (ap (λ (t : List ℕ). h.passes.written ++ t) (sym (append-nil out) ∙ ap (λ (es : List Entry). out ++ lines_of es) (sym none)) ∙ sym (whole old now all done left out h))
-      (Appends-more old now last h.passes.written out h.passes.appended w)
+    (Appends-more old now last h.passes.written out h.passes.appended w)
 
 -- from the start all entries are left
 pub from_start : (es : List Entry) → filter (λ e. not (stands_before Start e.0)) es ≡ es

@@ -12,7 +12,5 @@
 pub use counted::{Counted, ReadFault, WriteFault};
 pub use nodes::{ListingFault, write_listing};
 
-
 mod counted;
 mod nodes;
-

@@ -1,13 +1,13 @@
 -- Which refusal is due.
-use Rattle.std.proofs.Common.{◌≡◌, ℕ, ◌+◌, ◌<◌, ◌≤◌, Bool, true, false, cond, ◌&&◌, leb, suc, List, [], ◌∷◌, length, Option, Some, None, Result, Ok, Err, refl, sym, ap, ◌∙◌, arith}
+use Rattle.std.proofs.Common.{◌≡◌, ℕ, ◌+◌, ◌<◌, Bool, true, false, cond, suc, List, [], ◌∷◌, length, Option, Some, None, Result, Ok, Err, refl, sym, ap, ◌∙◌, arith}
 use Rattle.std.specs.Prelude.{nat_lt, ◌==◌, MatchResult}
 use Rattle.std.specs.Option.{option_or, option_map}
 use Rattle.std.proofs.lemmas.Bool.{lt-leb, and_right}
 use Rattle.refusal.specs.declared.Refusal.{Refusal}
-use Rattle.refusal.specs.declared.Refusal.TheVariants.{BadLine, OutOfMemory, BadName, TooManySubscripts}
+use Rattle.refusal.specs.declared.Refusal.TheVariants.{BadLine, OutOfMemory, TooManySubscripts}
 use Rattle.collation.specs.Reference.{Reference, Spot}
 use Rattle.collation.specs.Faults.{reference_fault, place_fault, ends_open, closed_part}
-use Rattle.collation.specs.Name.{is_name, is_letter_or_digit}
+use Rattle.collation.specs.Name.{is_name}
 use Rattle.m_text.specs.Reading.{IsRefused, IsDue, Answers}
 use Rattle.m_text.specs.Place.{name_fault, ref_fault, spot_fault, spot_of, unless, without_fault}
 

@@ -1,6 +1,6 @@
 -- Reading one after the other, as loops do.
-use Rattle.std.proofs.Common.{◌≡◌, ℕ, zero, suc, ◌+◌, ◌-◌, ◌<◌, ◌≤◌, Bool, true, false, cond, List, [], ◌∷◌, ◌++◌, length, drop, Option, Some, None, refl, sym, ap, ◌∙◌, append_assoc, arith}
-use Rattle.std.specs.Option.{option_map, option_and_then}
+use Rattle.std.proofs.Common.{◌≡◌, ℕ, suc, Bool, true, false, cond, List, ◌++◌, drop, Option, Some, None, refl, sym, ap, ◌∙◌}
+use Rattle.std.specs.Option.{option_and_then}
 use Rattle.std.proofs.lemmas.Option.{same_Some, some_pair_parts}
 use Rattle.m_text.specs.Reading.{with_front, rest_of, begins_with, some_at, IsRefused, IsRefusedAlways}
 use Rattle.refusal.specs.declared.Refusal.{Refusal}
@@ -38,7 +38,7 @@ read_one {A} read b n k front out text rest total e one so_far =
     let p = front_some front (read text) out rest one in
     let two : some_at read b k text ≡ next_of read b n (p.0, rest) = some_step read b n k text e ∙ ap (option_and_then (next_of read b n)) p.1 in
     ap (λ (o : List A). cond (begins_with b rest) (with_front o (some_at read b n (drop 1 rest))) (Some (o, rest))) p.2
-      ∙ sym (front_next (begins_with b rest) front p.0 rest (some_at read b n (drop 1 rest))) ∙ ap (with_front front) (sym two) ∙ so_far
+    ∙ sym (front_next (begins_with b rest) front p.0 rest (some_at read b n (drop 1 rest))) ∙ ap (with_front front) (sym two) ∙ so_far
 
 pub reads_on : {A : Type 0} → (read : List ℕ → Read A) (b n k : ℕ) (front out : List A) (text rest more : List ℕ) (total : Read A) → k ≡ suc n → with_front front (read text) ≡ Some (out, rest) →
     begins_with b rest ≡ true → more ≡ drop 1 rest → with_front front (some_at read b k text) ≡ total → with_front out (some_at read b n more) ≡ total

@@ -1,10 +1,10 @@
 -- Quoted texts, run after run.
-use Rattle.std.proofs.Common.{◌≡◌, ℕ, zero, suc, ◌+◌, ◌-◌, ◌<◌, ◌≤◌, Bool, true, false, not, cond, eqb, ltb, List, [], ◌∷◌, ◌++◌, length, take, drop, Option, Some, None, refl, sym, ap, ◌∙◌, append_assoc, arith, ◌==◌}
+use Rattle.std.proofs.Common.{◌≡◌, ℕ, suc, ◌+◌, ◌<◌, ◌≤◌, Bool, true, false, not, cond, List, [], ◌∷◌, ◌++◌, length, take, drop, Option, Some, None, refl, sym, ap, ◌∙◌, arith, ◌==◌}
 use Rattle.std.proofs.Math.Numerals.{add-one, one-add}
 use Rattle.std.proofs.lemmas.Bool.{eqb-true}
-use Rattle.std.proofs.lemmas.List.{take_all, drop-drop, length-drop}
+use Rattle.std.proofs.lemmas.List.{length-drop}
 use Rattle.std.specs.List.{flat_map, position, position_or_len}
-use Rattle.m_text.specs.Reading.{with_front, rest_of}
+use Rattle.m_text.specs.Reading.{with_front}
 use Rattle.m_text.specs.Literal.{is_quote, quoted_at}
 use Rattle.m_text.specs.Written.{doubled}
 use Rattle.m_text.proofs.Ends.{ends_at, ends_nowhere}
@@ -91,4 +91,3 @@ pub not_doubled : (bs : List ℕ) → position is_quote bs ≡ None → flat_map
 not_doubled bs e = undoubled bs (omega (arith, ends_nowhere is_quote bs e))
 
 pub ruleset runs = (with_front-append, rest_of-front)
-

@@ -1,9 +1,8 @@
 -- Strings, run after run.
-use Rattle.std.proofs.Common.{◌≡◌, ℕ, zero, suc, ◌+◌, ◌<◌, ◌≤◌, Bool, true, false, cond, List, [], ◌∷◌, ◌++◌, length, get_or, take, drop, Some, None, refl, sym, ap, ◌∙◌, append_assoc, arith}
+use Rattle.std.proofs.Common.{◌≡◌, ℕ, suc, ◌<◌, Bool, true, false, List, [], ◌∷◌, ◌++◌, length, get_or, take, drop, refl, sym, ap, ◌∙◌, arith}
 use Rattle.std.proofs.Math.Numerals.{one-add}
-use Rattle.std.specs.List.{flat_map, position, position_or_len}
+use Rattle.std.specs.List.{position_or_len}
 use Rattle.m_text.specs.Written.{is_plain, ends_run, put_before, runs, parted, run_text}
-use Rattle.m_text.proofs.Ends.{ends_at, ends_nowhere}
 
 abbrev first_run : Bool → ℕ → List ℕ → List (List ℕ)
 first_run plain b bs = (b ∷ take (position_or_len (ends_run plain) bs) bs) ∷ runs (drop (position_or_len (ends_run plain) bs) bs)

@@ -2,3 +2,11 @@ pub mod Reading
 pub mod Literal
 pub mod Place
 pub mod Written
+pub mod Forms
+pub mod Laws
+pub mod FrontLaws
+pub mod PartedLaws
+pub mod PartLaws
+pub mod LiteralLaws
+pub mod PlaceLaws
+pub mod WrittenLaws

@@ -1,6 +1,6 @@
 -- References and places at the front of a text. Source: docs/FORMATS.md, "Lines".
 -- Read place_at, then ref_at and spot_at.
-use Rattle.std.specs.Prelude.{ℕ, Bool, true, false, not, ◌||◌, ◌==◌, if◌then◌else◌, List, [], ◌∷◌, length, ◌+◌, nat_lt, drop, Option, None, Some, Result, Ok, Err}
+use Rattle.std.specs.Prelude.{ℕ, Bool, not, ◌||◌, ◌==◌, if◌then◌else◌, List, [], ◌∷◌, length, ◌+◌, nat_lt, drop, Option, None, Some, Result, Ok, Err}
 use Rattle.std.specs.List.{before_first, position_or_len}
 use Rattle.std.specs.Option.{option_map, option_or}
 use Rattle.refusal.specs.declared.Refusal.{Refusal}

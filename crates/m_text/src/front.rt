@@ -45,13 +45,7 @@ pub fn after(byte: u8, text: &[u8]) -> Option<&[u8]>
 {
     match text {
         [] => None,
-        [first, rest @ ..] => {
-            if *first == byte {
-                Some(rest)
-            } else {
-                None
-            }
-        }
+        [first, rest @ ..] => { if *first == byte { Some(rest) } else { None } }
     }
 }
 

@@ -25,7 +25,8 @@ fn split_sign(text: &[u8]) -> (bool, &[u8])
 fn number_end(text: &[u8]) -> Option<usize>
     ensures { result ≡ position literal.ends_number text.now }
 {
-    text.iter().position(|byte| !(byte.is_ascii_digit() || *byte == b'.'))
+    text.iter()
+        .position(|byte| !(byte.is_ascii_digit() || *byte == b'.'))
 }
 
 // How many digits and points stand at the front.

@@ -10,7 +10,11 @@ use refusal::Refusal;
 use std::alloc::Global;
 use std::marker::Model;
 
-fn read_subscript<'a>(alloc: Global, text: &'a [u8], out: &mut Subscripts) -> Result<&'a [u8], Refusal>
+fn read_subscript<'a>(
+    alloc: Global,
+    text: &'a [u8],
+    out: &mut Subscripts,
+) -> Result<&'a [u8], Refusal>
     ensures { Gives (λ rest. (out.new.items, rest.now)) result (with_front out.old.items (subscript_at text.now)) }
 {
     let (subscript, rest) = read_literal(alloc, text)?;

@@ -23,16 +23,15 @@ fn file_of<'a>(alloc: Global, words: &'a [String]) -> Result<Option<&'a str>, cl
         .help("The script; without it standard input is read");
     let command = Command::new(alloc, "mrun")
         .version("0.1.0")
-        .about("Runs a script of numbered jobs' commands on M globals, and prints replies and a listing")
+        .about(
+            "Runs a script of numbered jobs' commands on M globals, and prints replies and a listing",
+        )
         .arg(file)?;
     let matches = command.try_get_matches_from(words)?;
     Ok(matches.get_str("FILE"))
 }
 
-fn run_from<R: Read + Drop>(
-    rt: &(impl Print + AllocGlobal),
-    input: R,
-) -> Result<Outcome, Fault> {
+fn run_from<R: Read + Drop>(rt: &(impl Print + AllocGlobal), input: R) -> Result<Outcome, Fault> {
     let mut reader = Counted::new(input);
     let mut writer = Counted::new(io::writer(rt));
     run_script(rt.alloc(), &mut reader, &mut writer)

@@ -78,7 +78,7 @@ more_lines text line at end old mid new le so_far first e ran =
     let line-is : line ≡ strip_last 13 (take end (drop at text)) = e ∙ ap (λ (t : List ℕ). strip_last 13 (take end t)) whole in
     let rest-is : drop (suc end) (drop at text) ≡ drop (at + (end + 1)) text = drop_more at (suc end) (at + (end + 1)) text (omega arith) in
     let split : (more : List ℕ) → lines_of (drop at text ++ more) ≡ kept line ++ lines_of (drop (at + (end + 1)) text ++ more) =
-        λ more. first_line (drop at text) more end ends ∙ ap (λ (l : List ℕ). kept l ++ lines_of (drop (suc end) (drop at text) ++ more)) (sym line-is) ∙ ap (λ (r : List ℕ). kept line ++ lines_of (r ++ more)) rest-is in
+    λ more. first_line (drop at text) more end ends ∙ ap (λ (l : List ℕ). kept l ++ lines_of (drop (suc end) (drop at text) ++ more)) (sym line-is) ∙ ap (λ (r : List ℕ). kept line ++ lines_of (r ++ more)) rest-is in
     (omega (arith, length-drop at text, found.0.high), RanFront-more text (drop at text) (drop (at + (end + 1)) text) (kept line) old mid new so_far ran split)
 
 pub no_more_lines : (text : List ℕ) (at : ℕ) → at ≤ length text → IsFirstByte (is_byte 10) (take (length text - at) (drop at text)) None → has_no_end (drop at text) ≡ true

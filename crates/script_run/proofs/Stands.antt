@@ -52,7 +52,12 @@ Follows-start (Some xs) = refl
 
 pub stands_first : (all old : Option (List ℕ)) (begun : List ℕ) (script : Script) → script.core ≡ [] → script.out.items ≡ [] → script.refused ≡ false → begun ≡ [] → Stands all all begun old old script
 stands_first all old begun script u o r b = record {
-  answers = []; each = tt; units = u; legal = subst (λ (us : List JournalUnit). IsLegal us initial) (sym u) tt; out = o; refused = r;
+  answers = [];
+  each = tt;
+  units = u;
+  legal = subst (λ (us : List JournalUnit). IsLegal us initial) (sym u) tt;
+  out = o;
+  refused = r;
   written = Appends-nothing old;
   split = subst (λ (l : List ℕ). Follows all all [] l) (sym b) (Follows-start all);
   whole = subst (λ (l : List ℕ). has_no_end l ≡ true) (sym b) refl;
@@ -99,9 +104,15 @@ pub stands_next : (all left left' old new new' : Option (List ℕ)) (begun piece
 stands_next all left left' old new new' begun piece rest a b c h r f w p u d o =
     let m = moved all left left' old new begun piece rest a b h r f in
     record {
-      answers = h.answers ++ m.more; each = m.each; units = u ∙ m.units; legal = subst (λ (us : List JournalUnit). IsLegal us initial) (sym u) m.legal; out = o; refused = d ∙ m.refused;
+      answers = h.answers ++ m.more;
+      each = m.each;
+      units = u ∙ m.units;
+      legal = subst (λ (us : List JournalUnit). IsLegal us initial) (sym u) m.legal;
+      out = o;
+      refused = d ∙ m.refused;
       written = subst (Appends old new') (ap (λ (t : List ℕ). text_of h.answers ++ t) m.out ∙ sym (flat_map-append _ h.answers m.more)) (Appends-more old new new' (text_of h.answers) b.out.items h.written p);
-      split = m.split; whole = w;
+      split = m.split;
+      whole = w;
     }
 
 -- ---- the rest answered by want of memory
@@ -174,7 +185,7 @@ pub begun_piece : (all left left' old new new' : Option (List ℕ)) (begun piece
 begun_piece all left left' old new new' begun piece rest a b h r f w =
     let m = moved all left left' old new begun piece rest a b h r f in
     begun_of all left' old new' (h.answers ++ m.more) rest m.split m.each (subst (λ (us : List JournalUnit). IsLegal us initial) m.units m.legal)
-      (subst (WritesBeginning old new') (ap (λ (t : List ℕ). text_of h.answers ++ t) m.out ∙ sym (flat_map-append _ h.answers m.more)) (WritesBeginning-then old new new' (text_of h.answers) b.out.items h.written w))
+    (subst (WritesBeginning old new') (ap (λ (t : List ℕ). text_of h.answers ++ t) m.out ∙ sym (flat_map-append _ h.answers m.more)) (WritesBeginning-then old new new' (text_of h.answers) b.out.items h.written w))
 
 at_end : (bytes : List ℕ) (left left' : Option (List ℕ)) (ls : List (List ℕ)) (begun piece : List ℕ) → Follows (Some bytes) left ls begun → Consumes left left' piece → piece ≡ [] → IsAtEnd left' → lines_of bytes ≡ ls ++ lines_of begun
 at_end bytes None left' ls begun piece h k p e = absurd h

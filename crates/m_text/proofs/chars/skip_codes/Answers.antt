@@ -1,4 +1,4 @@
-use Rattle.std.proofs.Common.{◌≡◌, ◌-◌, ◌+◌, suc, length, arith}
+use Rattle.std.proofs.Common.{◌-◌, ◌+◌, length, arith}
 use Rattle.std.proofs.lemmas.Result.{err_from_is_err_and}
 use Rattle.m_text.specs.Literal.{code_at}
 use Rattle.m_text.proofs.Parted.{skips_on, skips_last, skip_refused, none_to_skip}

@@ -17,4 +17,4 @@ returns-clause-ran c =
     let rest-is : rest ≡ drop (suc end) piece = rest_of piece (end + 1) ∙ ap (λ (n : ℕ). drop n piece) (add-one end) in
     let after-is = c.in_ok-extend_from_slice-2.ensures.items ∙ ap (λ (t : List ℕ). t ++ take (length rest - c.in_ok-at.at) (drop c.in_ok-at.at rest)) c.in_ok-end_line.ensures.begun ∙ rest_of rest c.in_ok-at.at in
     subst (λ (t : List ℕ). RanFront (begun ++ piece) t c.args.script.now c.run_lines.new.script) (sym after-is)
-      (joined_lines begun piece _ rest _ end _ _ _ c.requires c.in-Some.ensures line-is rest-is c.in_ok-end_line.ensures.ran c.in_ok-at.ensures.ran)
+    (joined_lines begun piece _ rest _ end _ _ _ c.requires c.in-Some.ensures line-is rest-is c.in_ok-end_line.ensures.ran c.in_ok-at.ensures.ran)

@@ -1,4 +1,3 @@
-use Rattle.std.proofs.Common.{refl}
 use Rattle.m_text.proofs.Faults.{made_place}
 use Rattle.m_text.proofs.place.Spelled.into_place.Goals as goal
 

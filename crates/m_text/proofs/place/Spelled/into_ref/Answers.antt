@@ -1,4 +1,3 @@
-use Rattle.std.proofs.Common.{refl}
 use Rattle.m_text.proofs.Faults.{made_ref}
 use Rattle.m_text.proofs.place.Spelled.into_ref.Goals as goal
 
