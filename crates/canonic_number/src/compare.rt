@@ -1,6 +1,7 @@
 //! Canonic numbers, compared by value.
 ghost use Rattle.std.specs.Prelude.{◌≡◌, ◌≤◌, length};
-ghost use Rattle.std.specs.Ordering.{nat_cmp, int_cmp};
+ghost use Rattle.std.specs.Ordering.{nat_cmp, int_cmp, ordering_then};
+ghost use Rattle.std.specs.Cmp.Lexicographic.{slice_cmp};
 ghost use Rattle.canonic_number.specs.Number as number;
 ghost use Rattle.canonic_number.specs.Parts.{IsNumeral, numeral_at, unsigned_at};
 
@@ -31,8 +32,21 @@ fn cmp_unsigned(a: &Numeral<'_>, b: &Numeral<'_>) -> Ordering
     requires b_short { length b.now.fraction.now ≤ number.scale }
     ensures { result ≡ nat_cmp (unsigned_at number.scale a.now) (unsigned_at number.scale b.now) }
 {
-    let lengths = a.whole.len().cmp(&b.whole.len());
-    let wholes = a.whole.cmp(&b.whole);
-    let fractions = a.fraction.cmp(&b.fraction);
-    lengths.then(wholes.then(fractions))
+    cmp_digits(a, b)
+}
+
+// The longer whole part, else the whole parts, else the fractions decide; each is looked at only if needed.
+fn cmp_digits(a: &Numeral<'_>, b: &Numeral<'_>) -> Ordering
+    ensures { result ≡ ordering_then (nat_cmp (length a.now.whole.now) (length b.now.whole.now))
+        (ordering_then (slice_cmp nat_cmp a.now.whole.now b.now.whole.now) (slice_cmp nat_cmp a.now.fraction.now b.now.fraction.now)) }
+{
+    match a.whole.len().cmp(&b.whole.len()) {
+        Ordering::Less => Ordering::Less,
+        Ordering::Greater => Ordering::Greater,
+        Ordering::Equal => match a.whole.cmp(&b.whole) {
+            Ordering::Less => Ordering::Less,
+            Ordering::Greater => Ordering::Greater,
+            Ordering::Equal => a.fraction.cmp(&b.fraction),
+        },
+    }
 }

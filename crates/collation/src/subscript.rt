@@ -13,7 +13,7 @@ pub fn cmp_subscript(a: &[u8], b: &[u8]) -> Ordering
     ensures { result ≡ subscript_cmp a.now b.now }
 {
     match (read_numeral(a), read_numeral(b)) {
-        (Some(x), Some(y)) => cmp_numerals(&x, &y).then(a.cmp(&b)),
+        (Some(x), Some(y)) => cmp_numerals(&x, &y),
         (Some(_), None) => Ordering::Less,
         (None, Some(_)) => Ordering::Greater,
         (None, None) => a.cmp(&b),

@@ -1,8 +1,7 @@
+use Rattle.std.proofs.Common.{◌∙◌}
 use Rattle.canonic_number.specs.Number.{scale}
 use Rattle.canonic_number.specs.DigitLaws.{magnitudes_cmp}
 use Rattle.canonic_number.proofs.compare.cmp_unsigned.Goals as goal
 
 pub returns : goal.returns
-returns c =
-    let is = magnitudes_cmp scale _ _ _ _ c.requires.a_form.digits c.requires.b_form.digits c.requires.a_short c.requires.b_short in
-    cc is
+returns c = c.cmp_digits.ensures ∙ magnitudes_cmp scale _ _ _ _ c.requires.a_form.digits c.requires.b_form.digits c.requires.a_short c.requires.b_short

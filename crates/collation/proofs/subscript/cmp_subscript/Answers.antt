@@ -5,7 +5,8 @@ use Rattle.collation.proofs.subscript.cmp_subscript.Goals as goal
 
 pub returns-in-Some-Some : goal.returns-in-Some-Some
 returns-in-Some-Some c =
-    numbers_as _ _ _ _ _ _ _ (sym c.in-Some-Some.ensures.canonic) (sym c.in-Some-Some.ensures'.canonic) (c.in-Some-Some.ensures.parts.value scale) (c.in-Some-Some.ensures'.parts.value scale) c.cmp_numerals.ensures c.cmp.ensures c.then.ensures
+    numbers_as _ _ _ _ _ (sym c.in-Some-Some.ensures.canonic) (sym c.in-Some-Some.ensures'.canonic) c.requires.a_short c.requires.b_short
+    (c.in-Some-Some.ensures.parts.value scale) (c.in-Some-Some.ensures'.parts.value scale) c.cmp_numerals.ensures
 
 pub returns-in-Some-None : goal.returns-in-Some-None
 returns-in-Some-None c = sym (number_first _ _ (sym c.in-Some-None.ensures.canonic) (sym c.in-Some-None.ensures'.canonic))
@@ -14,7 +15,7 @@ pub returns-in-None-Some : goal.returns-in-None-Some
 returns-in-None-Some c = sym (number_second _ _ (sym c.in-None-Some.ensures.canonic) (sym c.in-None-Some.ensures'.canonic))
 
 pub returns-in-None-None : goal.returns-in-None-None
-returns-in-None-None c = c.cmp-in-None-None.ensures ∙ sym (no_numbers _ _ (sym c.in-None-None.ensures.canonic) (sym c.in-None-None.ensures'.canonic))
+returns-in-None-None c = c.cmp.ensures ∙ sym (no_numbers _ _ (sym c.in-None-None.ensures.canonic) (sym c.in-None-None.ensures'.canonic))
 
 pub cmp_numerals-requires-clause-a_short : goal.cmp_numerals-requires-clause-a_short
 cmp_numerals-requires-clause-a_short c = omega (arith, c.in-Some-Some.ensures.parts.short)
