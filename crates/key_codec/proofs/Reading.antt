@@ -1,5 +1,5 @@
 -- What stands in front of a key's bytes: one subscript, by its parts.
-use Rattle.std.proofs.Common.{◌≡◌, ◌≢◌, ℕ, ◌+◌, ◌-◌, ◌<◌, ◌≤◌, Bool, List, [], ◌∷◌, ◌++◌, length, not, true, false, refl, ap, sym, subst, ◌∙◌, arith, zero, suc, append_assoc, append-nil, map, take, drop, get_or, length-append, length-drop, ◌↔◌}
+use Rattle.std.proofs.Common.{◌≡◌, ◌≢◌, ℕ, ◌+◌, ◌-◌, ◌*◌, ◌<◌, ◌≤◌, Bool, List, [], ◌∷◌, ◌++◌, length, not, true, false, refl, ap, sym, subst, ◌∙◌, arith, zero, suc, append_assoc, append-nil, map, take, drop, get_or, length-append, length-drop, ◌↔◌}
 use Rattle.std.proofs.Math.Seq.{take-append_seam, drop-append_seam}
 use Rattle.std.proofs.lemmas.List.{take_all}
 use Rattle.std.proofs.lemmas.List.Sums.{split_at_first, passes_at_first}
@@ -94,7 +94,7 @@ number_not_zero s n place ds is =
 pub number_key_is : (s : List ℕ) (n : Bool) (place : ℕ) (ds : List ℕ) → IsNumberOf s n place ds → subscript_key short_form s ≡ tag_of n ∷ place_byte n place ∷ (map (digit_byte n) ds ++ end_of n ∷ [])
 number_key_is s true place ds is =
     key_below short_form s is.canonic (number_not_zero s true place ds is) (sym is.sign)
-    ∙ ap (λ p. 2 ∷ (253 - p) ∷ (map (digit_byte true) (digits_of s) ++ 255 ∷ [])) (sym is.point) ∙ ap (λ t. 2 ∷ (253 - place) ∷ (map (digit_byte true) t ++ 255 ∷ [])) (sym is.digits)
+    ∙ ap (λ p. 2 ∷ (2 * scale + 1 - p) ∷ (map (digit_byte true) (digits_of s) ++ 255 ∷ [])) (sym is.point) ∙ ap (λ t. 2 ∷ (2 * scale + 1 - place) ∷ (map (digit_byte true) t ++ 255 ∷ [])) (sym is.digits)
 number_key_is s false place ds is =
     key_above short_form s is.canonic (number_not_zero s false place ds is) (sym is.sign)
     ∙ ap (λ p. 4 ∷ (p + 2) ∷ (map (digit_byte false) (digits_of s) ++ 0 ∷ [])) (sym is.point) ∙ ap (λ t. 4 ∷ (place + 2) ∷ (map (digit_byte false) t ++ 0 ∷ [])) (sym is.digits)
@@ -132,7 +132,7 @@ number_at true bytes s u is (Below p z m) h = record {
   canonic = is;
   placed = p;
   sign = m;
-  behind = tails _ _ _ _ (h ∙ ap (λ t. t ++ u) (key_below short_form s is z m)) ∙ ap (λ t. (253 - place_at scale s) ∷ t) (append_assoc (map (digit_byte true) (digits_of s)) (255 ∷ []) u);
+  behind = tails _ _ _ _ (h ∙ ap (λ t. t ++ u) (key_below short_form s is z m)) ∙ ap (λ t. (2 * scale + 1 - place_at scale s) ∷ t) (append_assoc (map (digit_byte true) (digits_of s)) (255 ∷ []) u);
 }
 number_at false bytes s u is (Above p z m) h = record {
   canonic = is;
@@ -159,7 +159,7 @@ number_of_itself n bytes s u bounds has =
     record { canonic = has.canonic; short = bounds.short; some = form.some; sign = sym has.sign; point = refl; digits = refl }
 
 -- one place has one byte
-pub one_place : (n : Bool) (p q : ℕ) → p ≤ 253 → q ≤ 253 → place_byte n p ≡ place_byte n q → p ≡ q
+pub one_place : (n : Bool) (p q : ℕ) → p ≤ 2 * scale + 1 → q ≤ 2 * scale + 1 → place_byte n p ≡ place_byte n q → p ≡ q
 one_place true p q h k e = omega arith
 one_place false p q h k e = omega arith
 
@@ -169,7 +169,7 @@ pub record HasKeyParts (n : Bool) (byte : ℕ) (front s : List ℕ) : Type 0 whe
   pub point : byte ≡ place_byte n (place_at scale s)
   pub digits : front ≡ map (digit_byte n) (digits_of s)
   pub above : 0 < place_at scale s
-  pub within : place_at scale s ≤ 253
+  pub within : place_at scale s ≤ 2 * scale + 1
 
 pub key_parts : (n : Bool) (byte : ℕ) (front s : List ℕ) → list_all (λ b. not (nat_eq b (end_of n))) front ≡ true → IsNumberKey n byte front s → HasKeyParts n byte front s
 key_parts n byte front s free is =
@@ -180,7 +180,7 @@ key_parts n byte front s free is =
     record { number = has; point = heads _ _ _ _ has.behind; digits = parted.front; above = omega (arith, form.some, form.within); within = omega (arith, has.placed.bound, bounds.short) }
 
 -- what is read of a number's key is that number
-pub read_back : (n : Bool) (byte place : ℕ) (front ds text s : List ℕ) → list_all (λ b. not (nat_eq b (end_of n))) front ≡ true → IsNumberKey n byte front s → place_byte n place ≡ byte → place ≤ 253 → ds ≡ map (digit_of n) front → text ≡ signed n (written_at scale place ds) → IsNumberOf text n place ds
+pub read_back : (n : Bool) (byte place : ℕ) (front ds text s : List ℕ) → list_all (λ b. not (nat_eq b (end_of n))) front ≡ true → IsNumberKey n byte front s → place_byte n place ≡ byte → place ≤ 2 * scale + 1 → ds ≡ map (digit_of n) front → text ≡ signed n (written_at scale place ds) → IsNumberOf text n place ds
 read_back n byte place front ds text s free is p within d t =
     let has : HasKeyParts n byte front s = key_parts n byte front s free is in
     let number : HasNumber n (byte ∷ (front ++ end_of n ∷ [])) s [] = has.number in

@@ -1,5 +1,5 @@
 -- From the sentence of a line to what the line asks.
-use Rattle.std.proofs.Common.{◌≡◌, ℕ, Bool, true, false, cond, List, [], ◌∷◌, length, Option, Some, None, Result, Ok, Err, refl, sym, ap, ◌∙◌}
+use Rattle.std.proofs.Common.{◌≡◌, ℕ, Bool, true, false, cond, List, length, Option, Some, None, Ok, Err, refl, sym, ap, ◌∙◌}
 use Rattle.std.specs.Prelude.{◌&&◌, ◌||◌, ◌==◌}
 use Rattle.refusal.specs.declared.Refusal.{Refusal}
 use Rattle.refusal.specs.declared.Refusal.TheVariants.{BadLine, BadJob, OutOfMemory}
@@ -7,8 +7,8 @@ use Rattle.collation.specs.declared.command.Command.{Command}
 use Rattle.m_text.specs.Reading.{◌>>=◌, IsRefused, IsDue}
 use Rattle.m_text.specs.Literal.{front_digits, past_digits, number_from}
 use Rattle.m_text.specs.Place.{unless}
-use Rattle.script.specs.Commands.{begins_blank, past_blank, blank_at, command_at, fault_of}
-use Rattle.script.specs.Line.{is_job, end_of, spelled_by, judged, reading_of, ends_digits, job_of, IsRefusalOf}
+use Rattle.script.specs.Commands.{begins_blank, past_blank, command_at, fault_of}
+use Rattle.script.specs.Line.{is_job, end_of, spelled_by, judged, reading_of, job_of, IsRefusalOf}
 use Rattle.script.proofs.Due.{unless_err, unless_ok}
 
 -- a line that isn't of the grammar

@@ -1,3 +1,9 @@
 pub mod Line
 pub mod Commands
 pub mod Text
+pub mod Grammar
+pub mod Laws
+pub mod WordLaws
+pub mod CommandLaws
+pub mod FunctionLaws
+pub mod LineLaws

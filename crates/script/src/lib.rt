@@ -1,11 +1,32 @@
-//! Lines and replies as text.
+//! The text of a script: what a line asks, and replies as lines.
+//!
+//! Callers see a line as a list of bytes, and what it asks as the number of a job and a command of the language, or
+//! a refusal: `reading_of` in `specs/Line.antt`. A line is looked at in this order, and the first fault decides:
+//!
+//! (1) its grammar: `command_at` in `specs/Commands.antt`, which knows no limits;
+//! (2) its job, from 1 to 4,096, however many digits it has;
+//! (3) its references and values from left to right: `fault_of` in `specs/Commands.antt`.
+//!
+//! So `4097 KILL ^1A x` gets BadLine, `4097 KILL ^1A` gets BadJob, `1 KILL ^1A` gets BadName. The job that is
+//! printed before a refusal is `job_of`. Replies: `reply_text` in `specs/Text.antt`.
+//!
+//! The grammar stands apart as a relation, `IsLine` in `specs/Grammar.antt`; `specs/Laws.antt` ties both together.
+//!
+//! A line is read once: first as a sentence, whose references are as they are spelled, then as the command.
+//!
+//! Read `specs/Line.antt`, `specs/Grammar.antt`, `specs/Laws.antt`, `specs/Text.antt`, then `line.rt`, `sentence.rt`, `finish.rt`,
+//! `reply.rt`. Not here: LOCK, transactions and HALT, whose words get BadLine.
 #![tactic(auto)]
 
+pub use laws::lines_are_read_as_spelled;
 pub use line::{LineFault, read_line};
 pub use reply::write_reply;
 
 mod finish;
+mod laws;
 mod line;
 mod reply;
 mod sentence;
+#[cfg(test)]
+mod tests;
 mod word;

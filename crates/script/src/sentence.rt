@@ -201,7 +201,11 @@ fn read_act(alloc: Global, act: Act, text: &[u8]) -> Result<(Sentence<'_>, &[u8]
     }
 }
 
-fn read_function(alloc: Global, function: Function, text: &[u8]) -> Result<(Sentence<'_>, &[u8]), Refusal>
+fn read_function(
+    alloc: Global,
+    function: Function,
+    text: &[u8],
+) -> Result<(Sentence<'_>, &[u8]), Refusal>
     ensures { Gives (λ x. (command_of x.0, x.1.now)) result (commands.function_at function text.now) }
 {
     match function {

@@ -1,4 +1,3 @@
-use Rattle.std.proofs.Common.{refl}
 use Rattle.std.proofs.lemmas.Result.{err_from_is_err_and}
 use Rattle.m_text.specs.Place.{ref_fault}
 use Rattle.script.proofs.Due.{due_second}

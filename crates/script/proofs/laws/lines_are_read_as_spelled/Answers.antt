@@ -1,0 +1,11 @@
+use Rattle.script.specs.LineLaws.{line_spelled, line_judged, line_not_spelled}
+use Rattle.script.proofs.laws.lines_are_read_as_spelled.Goals as goal
+
+pub returns-clause-found : goal.returns-clause-found
+returns-clause-found c = line_spelled
+
+pub returns-clause-again : goal.returns-clause-again
+returns-clause-again c = line_judged
+
+pub returns-clause-bad_line : goal.returns-clause-bad_line
+returns-clause-bad_line c = line_not_spelled

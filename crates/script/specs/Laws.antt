@@ -1,0 +1,19 @@
+-- What ties the reading of lines to their grammar. Each is a clause of a function in `src/laws.rt`.
+use Rattle.std.specs.Prelude.{◌≡◌, ℕ, true, List, None, Some, Ok, Err}
+use Rattle.refusal.specs.declared.Refusal.TheVariants.{BadLine}
+use Rattle.collation.specs.declared.command.Command.{Command}
+use Rattle.script.specs.Commands.{fault_of}
+use Rattle.script.specs.Line.{is_job, judged, reading_of}
+use Rattle.script.specs.Grammar.{IsLine}
+
+-- a line that is read is spelled so, its job is one, and its command has no fault
+abbrev pub ReadLinesAreSpelled : Type 0
+ReadLinesAreSpelled = (line : List ℕ) (job : ℕ) (c : Command) → reading_of line ≡ Ok (job, c) → IsLine line job c × (is_job job ≡ true) × (fault_of c ≡ None)
+
+-- a line that is spelled so is read, or refused for its job, or for its command's first fault
+abbrev pub SpelledLinesAreJudged : Type 0
+SpelledLinesAreJudged = (line : List ℕ) (job : ℕ) (c : Command) → IsLine line job c → reading_of line ≡ judged job (Some c)
+
+-- only a line that isn't spelled so gets BadLine
+abbrev pub BadLinesAreNotSpelled : Type 0
+BadLinesAreNotSpelled = (line : List ℕ) (job : ℕ) (c : Command) → reading_of line ≡ Err BadLine → IsLine line job c → ⊥
