@@ -1,34 +1,8 @@
-//! The work of `mrun` for SET and $GET, written by hand in plain Rust: parse, one ordered map, replies, listing;
-//! no journal, and memory that runs out ends the process. It is the mark that `bench/run` compares with.
-use std::cmp::Ordering;
+//! The work of `mrun` for SET and $GET, written by hand in plain Rust: parse, one ordered map of key bytes, replies,
+//! listing; no journal, and memory that runs out ends the process. It is the mark that `bench/run` compares with.
+//! The bytes of a key are those of docs/FORMATS.md, "Key bytes".
 use std::collections::BTreeMap;
 use std::io::{self, Read, Write};
-
-#[derive(PartialEq, Eq)]
-struct Reference {
-    name: Vec<u8>,
-    subscripts: Vec<Vec<u8>>,
-}
-
-impl Ord for Reference {
-    fn cmp(&self, other: &Self) -> Ordering {
-        self.name.cmp(&other.name).then_with(|| {
-            for (a, b) in self.subscripts.iter().zip(&other.subscripts) {
-                match compare(a, b) {
-                    Ordering::Equal => {}
-                    unequal => return unequal,
-                }
-            }
-            self.subscripts.len().cmp(&other.subscripts.len())
-        })
-    }
-}
-
-impl PartialOrd for Reference {
-    fn partial_cmp(&self, other: &Self) -> Option<Ordering> {
-        Some(self.cmp(other))
-    }
-}
 
 struct Number<'a> {
     negative: bool,
@@ -61,28 +35,116 @@ fn number(text: &[u8]) -> Option<Number<'_>> {
     Some(Number { negative, whole, fraction: fraction.unwrap_or(b"") })
 }
 
-fn compare(a: &[u8], b: &[u8]) -> Ordering {
-    match (number(a), number(b)) {
-        (Some(x), Some(y)) => {
-            let magnitude = |p: &Number, q: &Number| {
-                p.whole.len().cmp(&q.whole.len()).then_with(|| p.whole.cmp(q.whole)).then_with(|| p.fraction.cmp(q.fraction))
-            };
-            match (x.negative, y.negative) {
-                (false, false) => magnitude(&x, &y),
-                (true, true) => magnitude(&y, &x),
-                (true, false) => Ordering::Less,
-                (false, true) => Ordering::Greater,
-            }
-        }
-        (Some(_), None) => Ordering::Less,
-        (None, Some(_)) => Ordering::Greater,
-        (None, None) => a.cmp(b),
+/// Puts the digits of a number that isn't zero behind its sign and its place.
+fn encode_number(found: &Number, key: &mut Vec<u8>) {
+    let zeros = found.fraction.iter().position(|d| *d != b'0').unwrap_or(0);
+    let (place, first, second) = if found.whole.is_empty() {
+        (128 - zeros as u8, &found.fraction[zeros..], &[][..])
+    } else {
+        (128 + found.whole.len() as u8, found.whole, found.fraction)
+    };
+    let first = if second.is_empty() {
+        &first[..first.iter().rposition(|d| *d != b'0').map_or(0, |at| at + 1)]
+    } else {
+        first
+    };
+    if found.negative {
+        key.extend([2, 255 - place]);
+        key.extend(first.iter().chain(second).map(|d| 58 - d));
+        key.push(255);
+    } else {
+        key.extend([4, place]);
+        key.extend(first.iter().chain(second).map(|d| d - 47));
+        key.push(0);
     }
 }
 
+fn encode(subscript: &[u8], key: &mut Vec<u8>) {
+    match number(subscript) {
+        Some(_) if subscript == b"0" => key.push(3),
+        Some(found) => encode_number(&found, key),
+        None => {
+            key.push(5);
+            for b in subscript {
+                match b {
+                    0 => key.extend([1, 1]),
+                    1 => key.extend([1, 2]),
+                    b => key.push(*b),
+                }
+            }
+            key.push(0);
+        }
+    }
+}
+
+/// Writes the subscript whose bytes stand in front, and answers what follows them.
+fn write_subscript<'a>(key: &'a [u8], out: &mut Vec<u8>) -> &'a [u8] {
+    let (tag, rest) = (key[0], &key[1..]);
+    let end = if tag == 2 { 255 } else { 0 };
+    match tag {
+        3 => {
+            out.push(b'0');
+            rest
+        }
+        2 | 4 => {
+            let place = if tag == 2 { 255 - rest[0] } else { rest[0] };
+            let at = rest[1..].iter().position(|b| *b == end).unwrap() + 1;
+            let digits = rest[1..at].iter().map(|b| if tag == 2 { 58 - b } else { b + 47 });
+            if tag == 2 {
+                out.push(b'-');
+            }
+            if place <= 128 {
+                out.push(b'.');
+                out.extend(std::iter::repeat_n(b'0', (128 - place) as usize));
+                out.extend(digits);
+            } else {
+                let whole = (place - 128) as usize;
+                let count = digits.len();
+                for (i, digit) in digits.enumerate() {
+                    if i == whole {
+                        out.push(b'.');
+                    }
+                    out.push(digit);
+                }
+                out.extend(std::iter::repeat_n(b'0', whole.saturating_sub(count)));
+            }
+            &rest[at + 1..]
+        }
+        _ => {
+            let at = rest.iter().position(|b| *b == end).unwrap();
+            let mut text = Vec::with_capacity(at);
+            let mut bytes = rest[..at].iter();
+            while let Some(b) = bytes.next() {
+                text.push(if *b == 1 { bytes.next().unwrap() - 1 } else { *b });
+            }
+            write_literal(&text, out);
+            &rest[at + 1..]
+        }
+    }
+}
+
+fn write_reference(key: &[u8], out: &mut Vec<u8>) {
+    let end = key.iter().position(|b| *b == 0).unwrap();
+    out.push(b'^');
+    out.extend_from_slice(&key[..end]);
+    let mut rest = &key[end + 1..];
+    if rest.is_empty() {
+        return;
+    }
+    out.push(b'(');
+    loop {
+        rest = write_subscript(rest, out);
+        if rest.is_empty() {
+            break;
+        }
+        out.push(b',');
+    }
+    out.push(b')');
+}
+
 enum Command {
-    Set(Reference, Vec<u8>),
-    Get(Reference, Option<Vec<u8>>),
+    Set(Vec<u8>, Vec<u8>),
+    Get(Vec<u8>, Option<Vec<u8>>),
 }
 
 fn literal(text: &[u8]) -> Option<(Vec<u8>, &[u8])> {
@@ -112,14 +174,18 @@ fn literal(text: &[u8]) -> Option<(Vec<u8>, &[u8])> {
     None
 }
 
-fn reference(text: &[u8]) -> Option<(Reference, &[u8])> {
+/// The key of the reference in front.
+fn reference(text: &[u8]) -> Option<(Vec<u8>, &[u8])> {
     let [b'^', rest @ ..] = text else { return None };
     let end = rest.iter().position(|b| !(b.is_ascii_alphanumeric() || *b == b'%')).unwrap_or(rest.len());
     let (name, mut rest) = rest.split_at(end);
     if name.is_empty() || name[0].is_ascii_digit() || name.len() > 31 {
         return None;
     }
-    let mut subscripts = Vec::new();
+    let mut key = Vec::with_capacity(name.len() + 24);
+    key.extend_from_slice(name);
+    key.push(0);
+    let mut count = 0;
     if let [b'(', more @ ..] = rest {
         rest = more;
         loop {
@@ -127,7 +193,8 @@ fn reference(text: &[u8]) -> Option<(Reference, &[u8])> {
             if subscript.is_empty() || subscript.len() > 127 {
                 return None;
             }
-            subscripts.push(subscript);
+            encode(&subscript, &mut key);
+            count += 1;
             match more {
                 [b',', more @ ..] => rest = more,
                 [b')', more @ ..] => {
@@ -138,10 +205,10 @@ fn reference(text: &[u8]) -> Option<(Reference, &[u8])> {
             }
         }
     }
-    if subscripts.len() > 31 {
+    if count > 31 {
         return None;
     }
-    Some((Reference { name: name.to_vec(), subscripts }, rest))
+    Some((key, rest))
 }
 
 fn word<'a>(text: &'a [u8], long: &[u8], short: &[u8]) -> Option<&'a [u8]> {
@@ -193,7 +260,7 @@ fn write_literal(text: &[u8], out: &mut Vec<u8>) {
     out.push(b'"');
 }
 
-fn run(text: &[u8], map: &mut BTreeMap<Reference, Vec<u8>>, out: &mut Vec<u8>) {
+fn run(text: &[u8], map: &mut BTreeMap<Vec<u8>, Vec<u8>>, out: &mut Vec<u8>) {
     let (job, command) = line(text);
     let _ = write!(out, "{job} ");
     match command {
@@ -245,16 +312,8 @@ fn main() -> io::Result<()> {
         run(&begun, &mut map, &mut out);
     }
     out.extend_from_slice(b"--\n");
-    for (r, value) in &map {
-        out.push(b'^');
-        out.extend_from_slice(&r.name);
-        for (i, subscript) in r.subscripts.iter().enumerate() {
-            out.push(if i == 0 { b'(' } else { b',' });
-            write_literal(subscript, &mut out);
-        }
-        if !r.subscripts.is_empty() {
-            out.push(b')');
-        }
+    for (key, value) in &map {
+        write_reference(key, &mut out);
         out.push(b'=');
         write_literal(value, &mut out);
         out.push(b'\n');

@@ -18,7 +18,7 @@ pub enum Direction {
 #[derive(Clone, Debug, Drop)]
 pub struct Place {
     reference: Ref,
-    is_open: bool,
+    ends_open: bool,
 }
 
 impl Model for Place {
@@ -26,7 +26,7 @@ impl Model for Place {
 
     ghost Value = { Spot };
 
-    ghost view = { λ p. record { reference = p.reference; is_open = p.is_open } };
+    ghost view = { λ p. record { reference = p.reference; is_open = p.ends_open } };
 }
 
 impl PartialEq for Place {
@@ -39,7 +39,7 @@ impl PartialEq for Place {
     ghost laws = { partial_equiv_from_equiv spot_eq_laws };
 
     fn eq(&self, other: &Place) -> bool {
-        self.reference == other.reference && self.is_open == other.is_open
+        self.reference() == other.reference() && self.is_open() == other.is_open()
     }
 }
 
@@ -88,7 +88,10 @@ impl Place {
         let mut closed = subscripts;
         let is_open = take_open_end(&mut closed);
         match Ref::new(name, closed) {
-            Ok(reference) => Ok(Place { reference, is_open }),
+            Ok(reference) => Ok(Place {
+                reference,
+                ends_open: is_open,
+            }),
             Err(refusal) => Err(refusal),
         }
     }
@@ -99,7 +102,7 @@ impl Place {
     {
         Place {
             reference,
-            is_open: false,
+            ends_open: false,
         }
     }
 
@@ -114,6 +117,6 @@ impl Place {
     pub fn is_open(&self) -> bool
         ensures { result ≡ self.now.is_open }
     {
-        self.is_open
+        self.ends_open
     }
 }

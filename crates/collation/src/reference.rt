@@ -132,7 +132,7 @@ impl PartialEq for Ref {
     ghost laws = { partial_equiv_from_equiv ref_eq_laws };
 
     fn eq(&self, other: &Ref) -> bool {
-        self.name.as_slice() == other.name.as_slice() && self.subscripts == other.subscripts
+        self.name() == other.name() && self.subscripts == other.subscripts
     }
 }
 
@@ -157,8 +157,8 @@ impl Ord for Ref {
 
     #[tactic(auto, unfolding(crate::specs::Order::ref_cmp))]
     fn cmp(&self, other: &Ref) -> Ordering {
-        let names = self.name.as_slice().cmp(&other.name.as_slice());
-        names.then_with(|| cmp_subscripts(self.subscripts.as_slice(), other.subscripts.as_slice()))
+        let names = self.name().cmp(&other.name());
+        names.then_with(|| cmp_subscripts(self.subscripts(), other.subscripts()))
     }
 }
 
@@ -189,7 +189,7 @@ impl Hash for Ref {
     ghost respects_eq = { (same_Alike (λ r. fed.slice fed.u8 r.name ++ fed.slice (fed.slice fed.u8) r.subscripts) ref_eq_decides).fed };
 
     fn hash<H: Hasher>(&self, state: &mut H) {
-        self.name.as_slice().hash(state);
+        self.name().hash(state);
         self.subscripts.hash(state);
     }
 }

@@ -150,6 +150,11 @@ fn jobs_run_from_1_to_4096(rt: HostRuntime) -> Result<(), Fail> {
     Ok(())
 }
 
+fn hash_of(reference: &Ref) -> u64 {
+    let hasher: BuildHasherDefault<FoldHasher> = BuildHasherDefault::new();
+    hasher.hash_one(reference)
+}
+
 #[test]
 fn copies_are_equal_and_hash_alike(rt: HostRuntime) -> Result<(), Fail> {
     let alloc = rt.alloc();
@@ -157,10 +162,16 @@ fn copies_are_equal_and_hash_alike(rt: HostRuntime) -> Result<(), Fail> {
     let made = reference(alloc, b"Accounts", &[b"1", b"a", b"2", &long])?;
     let copy = made.clone()?;
     assert!(rt; made == copy);
-    let hasher: BuildHasherDefault<FoldHasher> = BuildHasherDefault::new();
-    assert_eq!(rt; hasher.hash_one(&made), hasher.hash_one(&copy));
+    assert_eq!(rt; hash_of(&made), hash_of(&copy));
     assert_eq!(rt; copy.name(), b"Accounts".as_slice());
     assert_eq!(rt; copy.subscripts().len(), 4);
+    Ok(())
+}
+
+#[test]
+fn texts_grow_past_their_room(rt: HostRuntime) -> Result<(), Fail> {
+    let alloc = rt.alloc();
+    let long = repeated(alloc, b'x', 40)?;
     let mut text = Text::new(alloc);
     assert!(rt; text.is_empty());
     text.extend_from_slice(b"ab")?;

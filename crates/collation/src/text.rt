@@ -57,7 +57,7 @@ impl Text {
     pub fn is_empty(&self) -> bool
         ensures { result ≡ (length self.now == 0) }
     {
-        self.bytes.len() == 0
+        self.len() == 0
     }
 
     /// Puts these bytes at its end. Where memory is refused it stays as it was.
@@ -95,7 +95,7 @@ impl Clone for Text {
     ghost is_clone = { λ a b. a ≡ b };
 
     fn clone(&self) -> Result<Text, AllocError> {
-        let bytes = SmallVec::from_slice(*self.bytes.allocator(), self.bytes.as_slice())?;
+        let bytes = SmallVec::from_slice(*self.bytes.allocator(), self.as_slice())?;
         Ok(Text { bytes })
     }
 }
@@ -110,7 +110,7 @@ impl PartialEq for Text {
     ghost laws = { partial_equiv_from_equiv (lists_equiv nat_eq_equiv) };
 
     fn eq(&self, other: &Text) -> bool {
-        self.bytes.as_slice() == other.bytes.as_slice()
+        self.as_slice() == other.as_slice()
     }
 }
 
@@ -131,6 +131,6 @@ impl Hash for Text {
     ghost respects_eq = { (same_Alike (fed.slice fed.u8) bytes_decides).fed };
 
     fn hash<H: Hasher>(&self, state: &mut H) {
-        self.bytes.as_slice().hash(state);
+        self.as_slice().hash(state);
     }
 }

@@ -3,6 +3,7 @@
 use collation::{Direction, Name, Place, Ref, Subscripts, Text};
 use globals::{Cut, OrderedView, data, get, merge_list, order, query, subtree, walk_from};
 use job_core::Store;
+use key_codec::Key;
 use refusal::Refusal;
 use smallvec::SmallVec;
 use std::alloc::Global;
@@ -24,6 +25,10 @@ fn reference(alloc: Global, subscripts: &[&str]) -> Result<Ref, Refusal> {
     Ref::new(name_a(alloc)?, texts(alloc, subscripts)?)
 }
 
+fn key(alloc: Global, subscripts: &[&str]) -> Result<Key, Refusal> {
+    Key::of(alloc, &reference(alloc, subscripts)?)
+}
+
 fn place(alloc: Global, subscripts: &[&str]) -> Result<Place, Refusal> {
     Place::new(name_a(alloc)?, texts(alloc, subscripts)?)
 }
@@ -37,7 +42,7 @@ fn store_of(alloc: Global, nodes: &[&[&str]]) -> Result<Store, Refusal> {
             Some(subscript) => Text::from_slice(alloc, subscript.as_bytes())?,
             None => Text::new(alloc),
         };
-        store.set_reserved(reference(alloc, subscripts)?, value);
+        store.set_reserved(key(alloc, subscripts)?, value);
     }
     Ok(store)
 }
@@ -61,7 +66,7 @@ fn data_of_parents_and_leaves_is_as_tabled(rt: HostRuntime) -> Result<(), Fail> 
         (&["3"], 11),
     ];
     for (subscripts, want) in rows {
-        let answer = data(&store, &reference(alloc, subscripts)?);
+        let answer = data(alloc, &store, &reference(alloc, subscripts)?)?;
         assert_eq!(rt; answer, want);
     }
     Ok(())
@@ -80,8 +85,8 @@ fn order_goes_both_ways_from_any_start(rt: HostRuntime) -> Result<(), Fail> {
     ];
     for (subscripts, direction, want) in rows {
         let start = place(alloc, subscripts)?;
-        let answer = order(&store, &start, direction)?;
-        assert_eq!(rt; bytes(answer), want.as_bytes());
+        let answer = order(alloc, &store, &start, direction)?;
+        assert_eq!(rt; bytes(answer.as_ref()), want.as_bytes());
     }
     Ok(())
 }
@@ -91,7 +96,7 @@ fn order_of_a_bare_name_needs_a_subscript(rt: HostRuntime) -> Result<(), Fail> {
     let alloc = rt.alloc();
     let store = store_of(alloc, &[&["1"]])?;
     let start = place(alloc, &[])?;
-    let refusal = order(&store, &start, Direction::Forward).err();
+    let refusal = order(alloc, &store, &start, Direction::Forward).err();
     assert_eq!(rt; refusal, Some(Refusal::NeedSubscript));
     Ok(())
 }
@@ -100,11 +105,18 @@ fn order_of_a_bare_name_needs_a_subscript(rt: HostRuntime) -> Result<(), Fail> {
 fn kill_takes_descendants_and_no_longer_sibling(rt: HostRuntime) -> Result<(), Fail> {
     let alloc = rt.alloc();
     let mut store = store_of(alloc, &[&["12"], &["1", "1"], &["1"]])?;
-    store.kill(&reference(alloc, &["1"])?);
+    store.kill(&key(alloc, &["1"])?);
     let left = reference(alloc, &["12"])?;
     assert_eq!(rt; store.nodes().len(), 1);
-    assert_eq!(rt; bytes(get(&store, &left)), b"12".as_slice());
+    assert_eq!(rt; bytes(get(alloc, &store, &left)?), b"12".as_slice());
     Ok(())
+}
+
+fn last_of(found: &Option<Ref>) -> Option<&Text> {
+    match found {
+        Some(reference) => reference.subscripts().last(),
+        None => None,
+    }
 }
 
 // $QUERY(^A(5,""),-1) answers what is under ^A(5), else ^A(5) itself, else the one before.
@@ -123,8 +135,8 @@ fn query_walks_depth_first_from_any_start(rt: HostRuntime) -> Result<(), Fail> {
     ];
     for (subscripts, direction, want) in rows {
         let start = place(alloc, subscripts)?;
-        let answer = query(&store, &start, direction).and_then(|found| found.subscripts().last());
-        assert_eq!(rt; bytes(answer), want.as_bytes());
+        let answer = query(alloc, &store, &start, direction)?;
+        assert_eq!(rt; bytes(last_of(&answer)), want.as_bytes());
     }
     Ok(())
 }
@@ -133,7 +145,7 @@ fn query_walks_depth_first_from_any_start(rt: HostRuntime) -> Result<(), Fail> {
 fn next_and_prev_part_the_nodes_at_each_form_of_cut(rt: HostRuntime) -> Result<(), Fail> {
     let alloc = rt.alloc();
     let store = store_of(alloc, &[&["1"], &["1", "a"], &["2"]])?;
-    let one = reference(alloc, &["1"])?;
+    let one = key(alloc, &["1"])?;
     let rows = [
         (Cut::Start, "1", "none"),
         (Cut::Before(&one), "1", "none"),
@@ -152,7 +164,7 @@ fn next_and_prev_part_the_nodes_at_each_form_of_cut(rt: HostRuntime) -> Result<(
 fn subtree_walks_the_root_and_its_descendants_in_order(rt: HostRuntime) -> Result<(), Fail> {
     let alloc = rt.alloc();
     let store = store_of(alloc, &[&["12"], &["1", "b"], &["1", "9"], &["1"]])?;
-    let root = reference(alloc, &["1"])?;
+    let root = key(alloc, &["1"])?;
     let mut met = Vec::new(alloc);
     for (_, value) in subtree(&store, &root) {
         met.extend_from_slice(value.as_slice())?;
@@ -183,8 +195,8 @@ fn merge_copies_the_value_and_the_descendants(rt: HostRuntime) -> Result<(), Fai
     store.set_all_reserved(copies);
     let below = reference(alloc, &["9", "2"])?;
     assert_eq!(rt; store.nodes().len(), 5);
-    assert_eq!(rt; data(&store, &target), 11);
-    assert_eq!(rt; bytes(get(&store, &below)), b"2".as_slice());
+    assert_eq!(rt; data(alloc, &store, &target)?, 11);
+    assert_eq!(rt; bytes(get(alloc, &store, &below)?), b"2".as_slice());
     Ok(())
 }
 

@@ -1,6 +1,6 @@
 -- Each answer is found next to one bound.
 use Rattle.std.proofs.Common.{◌≡◌, ℕ, Bool, true, false, List, [], ◌∷◌, refl, sym, ap, ◌∙◌, Option, Some, None}
-use Rattle.std.specs.Prelude.{cond, not, ◌&&◌, ◌||◌, is_some, unwrap_or}
+use Rattle.std.specs.Prelude.{cond, not, ◌&&◌, ◌||◌, is_some, unwrap_or, IfOk, Result, Ok, Err}
 use Rattle.std.specs.Option.{option_map, option_and_then}
 use Rattle.std.specs.declared.cmp.Ordering.{Ordering}
 use Rattle.std.specs.declared.cmp.Ordering.TheVariants.{Less, Equal, Greater}
@@ -15,7 +15,8 @@ use Rattle.collation.specs.Database.{Database}
 use Rattle.globals.specs.NearestLaws.{keep, nearest_after, nearest_before, nearest_passes, answered, any_nearest}
 use Rattle.globals.specs.SequenceLaws.{sibling, below_after, below_closed, below_before, below_closed_back, sibling_after, sibling_closed, sibling_before, sibling_closed_back, sibling_known, sibling_known_back, head_closed, head_closed_back, head_closed_end}
 use Rattle.collation.specs.Nearest.{nearest}
-use Rattle.collation.specs.Levels.{child_of, is_below, has_name, is_nil, parent_of, is_after, is_before}
+use Rattle.refusal.specs.declared.Refusal.{Refusal}
+use Rattle.collation.specs.Levels.{child_of, front, is_below, has_name, is_nil, parent_of, is_after, is_before}
 use Rattle.collation.specs.Answers.{any_of, counts, follows, order_of, query_of}
 use Rattle.globals.specs.declared.cut.Cut.{Cut}
 use Rattle.globals.specs.CutLaws.{not_not, not_before_end}
@@ -225,6 +226,28 @@ order_found true p m cut k h start is =
 order_found false p m cut k h start is =
     let same : key_at false cut m ≡ option_map (λ e. e.0) (nearest false (seek false p) m) = λ i. option_map (λ e. e.0) (nearest false (λ x. start x i) m) in
     order_seek false p m h ∙ ap (λ o. unwrap_or o []) (next_key (child_of (parent_of p)) (nearest false (seek false p) m) ∙ ap (option_and_then (child_of (parent_of p))) (sym (is ∙ same)))
+
+-- a place by its parts
+pub spot_is : (p : Spot) (r : Reference) (b : Bool) → r ≡ p.reference → b ≡ p.is_open → record { reference = r; is_open = b } ≡ p
+spot_is p r b e f = λ i. record { reference = e i; is_open = f i }
+
+pub parent_open : (p : Spot) → p.is_open ≡ true → parent_of p ≡ p.reference
+parent_open p e = ap (λ b. cond b p.reference (record { name = p.reference.name; subscripts = front p.reference.subscripts })) e
+
+pub parent_closed : (p : Spot) → p.is_open ≡ false → parent_of p ≡ record { name = p.reference.name; subscripts = front p.reference.subscripts }
+parent_closed p e = ap (λ b. cond b p.reference (record { name = p.reference.name; subscripts = front p.reference.subscripts })) e
+
+-- the child of the place's level on the way to what a look-up gives is what $ORDER answers
+pub sibling_answer : (forward : Bool) (p q : Spot) (m : Database) (cut : Cut) (level : Reference) (r : Result (Option (List ℕ)) Refusal) → (p.is_open || not (is_nil p.reference.subscripts)) ≡ true → q ≡ p
+    → ((x : Reference) → stands_before cut x ≡ order_start forward q x) → level ≡ parent_of p → IfOk r (λ child. child ≡ option_and_then (child_of level) (key_at forward cut m)) → IfOk r (λ answer. unwrap_or answer [] ≡ order_of forward p m)
+sibling_answer forward p q m cut level (Ok child) h same start up is =
+    let found = order_found forward p m cut (key_at forward cut m) h (λ x. start x ∙ ap (λ s. order_start forward s x) same) refl in
+    ap (λ o. unwrap_or o []) (is ∙ ap (λ l. option_and_then (child_of l) (key_at forward cut m)) up) ∙ sym found
+sibling_answer forward p q m cut level (Err refusal) h same start up is = tt
+
+-- $QUERY starts at a place by its parts as at the place
+pub starts_at : (forward : Bool) (cut : Cut) (p q : Spot) → q ≡ p → ((x : Reference) → stands_before cut x ≡ query_start forward q x) → (x : Reference) → stands_before cut x ≡ query_start forward p x
+starts_at forward cut p q same start x = start x ∙ ap (λ s. query_start forward s x) same
 
 pub query_found : (forward : Bool) (p : Spot) (m : Database) (cut : Cut) (k : Option Reference) → ((x : Reference) → stands_before cut x ≡ query_start forward p x) → k ≡ key_at forward cut m → query_of forward p m ≡ option_and_then (λ k. cond (has_name p.reference k) (Some k) None) k
 query_found true p m cut k start is =

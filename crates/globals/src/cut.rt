@@ -2,8 +2,7 @@
 ghost use Rattle.std.specs.Prelude.{◌≡◌};
 ghost use Rattle.globals.specs.Cuts.{stands_before as stands_before_spec};
 
-use crate::levels::is_under;
-use collation::Ref;
+use key_codec::Key;
 
 /// A cut between references: each stands before it, or doesn't.
 #[derive(Clone, Copy, Debug)]
@@ -11,21 +10,21 @@ pub enum Cut<'a> {
     /// Before all references.
     Start,
     /// Directly before this reference.
-    Before(&'a Ref),
+    Before(&'a Key),
     /// Directly after this reference, before its descendants.
-    After(&'a Ref),
+    After(&'a Key),
     /// After this reference and all that is under it.
-    Past(&'a Ref),
+    Past(&'a Key),
 }
 
 /// Whether the reference stands before the cut.
-pub fn stands_before(cut: Cut<'_>, key: &Ref) -> bool
+pub fn stands_before(cut: Cut<'_>, key: &Key) -> bool
     ensures { result ≡ stands_before_spec cut.entry key.now }
 {
     match cut {
         Cut::Start => false,
         Cut::Before(reference) => key.cmp(reference).is_lt(),
         Cut::After(reference) => !reference.cmp(key).is_lt(),
-        Cut::Past(reference) => is_under(reference, key) || key.cmp(reference).is_lt(),
+        Cut::Past(reference) => key.is_under(reference) || key.cmp(reference).is_lt(),
     }
 }

@@ -7,29 +7,31 @@ ghost use Rattle.collation.specs.Data.{is_forward};
 ghost use Rattle.globals.specs.Cuts.{first_from, last_before, next_to};
 
 use crate::Cut;
-use collation::{Direction, Ref, Text};
+use collation::{Direction, Text};
+use key_codec::Key;
 
 /// A database that can be looked up and walked in order, however it is kept.
 ///
 /// An implementor says what it contains, and owes three answers about just that; there are no further laws. What
 /// stands before a cut is always a beginning of the members in order (`stands_before-earlier` of
-/// `specs/CutLaws.antt`), so a partition point serves `next` and `prev` both. Keys and values are lent for as long as
-/// the view is.
+/// `specs/CutLaws.antt`), so a partition point serves `next` and `prev` both. Members are held and looked up by their
+/// keys, whose bytes compare as the references do, and contracts see the references. Keys and values are lent for as
+/// long as the view is.
 pub trait OrderedView {
     /// What it contains: a finite map from references to values.
     ghost content: { Self → Database };
 
     /// The value of a reference, where it has one.
-    fn get(&self, reference: &Ref) -> Option<&Text>
-        ensures { option_copied result ≡ map.get (content self.now) reference.now };
+    fn get(&self, key: &Key) -> Option<&Text>
+        ensures { option_copied result ≡ map.get (content self.now) key.now };
 
     /// The first reference with a value that doesn't stand before the cut, with its value.
-    fn next(&self, cut: Cut<'_>) -> Option<(&Ref, &Text)>
+    fn next(&self, cut: Cut<'_>) -> Option<(&Key, &Text)>
         ensures { MatchOption result (first_from cut.entry (content self.now) ≡ None)
             (λ e. first_from cut.entry (content self.now) ≡ Some (e.0.now, e.1.now)) };
 
     /// The last reference with a value that stands before the cut, with its value.
-    fn prev(&self, cut: Cut<'_>) -> Option<(&Ref, &Text)>
+    fn prev(&self, cut: Cut<'_>) -> Option<(&Key, &Text)>
         ensures { MatchOption result (last_before cut.entry (content self.now) ≡ None)
             (λ e. last_before cut.entry (content self.now) ≡ Some (e.0.now, e.1.now)) };
 }
@@ -39,7 +41,7 @@ pub(crate) fn key_at<'v, V: OrderedView>(
     view: &'v V,
     cut: Cut<'_>,
     direction: Direction,
-) -> Option<&'v Ref>
+) -> Option<&'v Key>
     ensures { option_copied result ≡ option_map (λ e. e.0) (next_to (is_forward direction) cut.entry (V.content view.now)) }
 {
     match direction {

@@ -4,9 +4,9 @@ ghost use Rattle.std.specs.Iterator.{YieldsFirstBy, item_count};
 ghost use Rattle.collation.specs.Answers.{subtree_of};
 ghost use Rattle.globals.specs.Cuts.{entries_from};
 
-use crate::levels::is_under;
 use crate::{Cut, OrderedView};
-use collation::{Ref, Text};
+use collation::Text;
+use key_codec::Key;
 use std::marker::Model;
 
 /// A walk over the members of a view, from a cut on. It is seen as the list of members that are left.
@@ -34,13 +34,13 @@ pub fn walk_from<'v, V: OrderedView>(view: &'v V, cut: Cut<'v>) -> Walk<'v, V>
 }
 
 impl<'v, V: OrderedView> Iterator for Walk<'v, V> {
-    type Item = (&'v Ref, &'v Text);
+    type Item = (&'v Key, &'v Text);
 
     ghost next_gives = { YieldsFirstBy (λ e. (e.0.now, e.1.now)) (λ w. w) };
 
     ghost remaining = { item_count (λ w. w) };
 
-    fn next(&mut self) -> Option<(&'v Ref, &'v Text)> {
+    fn next(&mut self) -> Option<(&'v Key, &'v Text)> {
         match self.view.next(self.cut) {
             Some((key, value)) => {
                 self.cut = Cut::After(key);
@@ -55,7 +55,7 @@ impl<'v, V: OrderedView> Iterator for Walk<'v, V> {
 #[derive(Drop)]
 pub struct Descent<'v, V: OrderedView> {
     view: &'v V,
-    root: &'v Ref,
+    root: &'v Key,
     cut: Cut<'v>,
 }
 
@@ -70,7 +70,7 @@ impl<'v, V: OrderedView> Model for Descent<'v, V> {
 }
 
 /// The walk over the members at and under the reference, in order. Takes one look-up for each member and one more.
-pub fn subtree<'v, V: OrderedView>(view: &'v V, root: &'v Ref) -> Descent<'v, V>
+pub fn subtree<'v, V: OrderedView>(view: &'v V, root: &'v Key) -> Descent<'v, V>
     ensures { result ≡ subtree_of root.now (V.content view.now) }
 {
     Descent {
@@ -81,16 +81,16 @@ pub fn subtree<'v, V: OrderedView>(view: &'v V, root: &'v Ref) -> Descent<'v, V>
 }
 
 impl<'v, V: OrderedView> Iterator for Descent<'v, V> {
-    type Item = (&'v Ref, &'v Text);
+    type Item = (&'v Key, &'v Text);
 
     ghost next_gives = { YieldsFirstBy (λ e. (e.0.now, e.1.now)) (λ s. s) };
 
     ghost remaining = { item_count (λ s. s) };
 
-    fn next(&mut self) -> Option<(&'v Ref, &'v Text)> {
+    fn next(&mut self) -> Option<(&'v Key, &'v Text)> {
         match self.view.next(self.cut) {
             Some((key, value)) => {
-                if !is_under(self.root, key) {
+                if !key.is_under(self.root) {
                     return None;
                 }
                 self.cut = Cut::After(key);

@@ -10,6 +10,7 @@ use crate::functions::answer;
 use crate::store::Store;
 use collation::{Command, Job, Ref, Reply, Text};
 use journal::{Journal, Receipt, Unit};
+use key_codec::Key;
 use refusal::Refusal;
 use std::alloc::Global;
 
@@ -34,8 +35,8 @@ pub fn lone(
     ensures cause { IfErr result (λ refusal. IsCause refusal command store.old.map (length journal.old.units)) }
 {
     match command {
-        Command::Set(reference, value) => set(store, journal, job, reference, value),
-        Command::Kill(reference) => kill(store, journal, job, reference),
+        Command::Set(reference, value) => set(alloc, store, journal, job, reference, value),
+        Command::Kill(reference) => kill(alloc, store, journal, job, reference),
         Command::Merge(target, source) => merge(alloc, store, journal, job, target, source),
         Command::Data(reference) => look(alloc, store, journal, job, Command::Data(reference)),
         Command::Get(reference, default) => {
@@ -92,6 +93,7 @@ fn record(
 }
 
 fn set(
+    alloc: Global,
     store: &mut Store,
     journal: &mut Journal,
     job: Job,
@@ -105,17 +107,18 @@ fn set(
     ensures refused { OnErr result ((journal.new.units ≡ journal.old.units) × (store.new.map ≡ store.old.map)) }
     ensures cause { IfErr result (λ refusal. HasNoRoom refusal 1 (length journal.old.units)) }
 {
-    let node = reference.clone()?;
+    let key = Key::of(alloc, &reference)?;
     let kept = value.clone()?;
     store.reserve(1)?;
     journal.reserve(1)?;
-    store.set_reserved(node, kept);
+    store.set_reserved(key, kept);
     let unit = Unit::Lone(job, Command::Set(reference, value), Reply::Done);
     let receipt = journal.push_reserved(unit);
     Ok((Reply::Done, receipt))
 }
 
 fn kill(
+    alloc: Global,
     store: &mut Store,
     journal: &mut Journal,
     job: Job,
@@ -128,8 +131,9 @@ fn kill(
     ensures refused { OnErr result ((journal.new.units ≡ journal.old.units) × (store.new.map ≡ store.old.map)) }
     ensures cause { IfErr result (λ refusal. HasNoRoom refusal 1 (length journal.old.units)) }
 {
+    let key = Key::of(alloc, &reference)?;
     journal.reserve(1)?;
-    store.kill(&reference);
+    store.kill(&key);
     let unit = Unit::Lone(job, Command::Kill(reference), Reply::Done);
     let receipt = journal.push_reserved(unit);
     Ok((Reply::Done, receipt))

@@ -20,15 +20,19 @@ pub fn answer<V: OrderedView>(alloc: Global, view: &V, command: &Command) -> Res
     ensures cause { IfErr result (λ refusal. IsRuleOrMemory refusal (data_refusal command.now (V.content view.now))) }
 {
     match command {
-        Command::Data(reference) => Ok(Reply::Number(globals::data(view, reference))),
+        Command::Data(reference) => {
+            let number = globals::data(alloc, view, reference)?;
+            Ok(Reply::Number(number))
+        }
         Command::Get(reference, default) => {
-            let value = found_or(alloc, globals::get(view, reference), default)?;
+            let found = globals::get(alloc, view, reference)?;
+            let value = found_or(alloc, found, default)?;
             Ok(Reply::Value(value))
         }
         Command::Order(place, direction) => order(alloc, view, place, *direction),
         Command::Query(place, direction) => {
-            let found = found(alloc, globals::query(view, place, *direction))?;
-            Ok(found)
+            let found = globals::query(alloc, view, place, *direction)?;
+            Ok(reply_of(alloc, found))
         }
         Command::Set(_, _) | Command::Kill(_) | Command::Merge(_, _) => unreachable!(),
     }
@@ -48,15 +52,12 @@ fn found_or(alloc: Global, found: Option<&Text>, default: &Option<Text>) -> Resu
 }
 
 // The reference, or the empty string.
-fn found(alloc: Global, found: Option<&Ref>) -> Result<Reply, AllocError>
-    ensures { IfOk result (λ reply. reply ≡ found_reply (option_copied found.entry)) }
+fn reply_of(alloc: Global, found: Option<Ref>) -> Reply
+    ensures { result ≡ found_reply found }
 {
     match found {
-        Some(reference) => {
-            let reference = reference.clone()?;
-            Ok(Reply::Found(reference))
-        }
-        None => Ok(Reply::Value(Text::new(alloc))),
+        Some(reference) => Reply::Found(reference),
+        None => Reply::Value(Text::new(alloc)),
     }
 }
 
@@ -70,11 +71,9 @@ fn order<V: OrderedView>(
     ensures accepted { OnOk result (data_refusal (Command.Order place.now direction) (V.content view.now) ≡ None) }
     ensures cause { IfErr result (λ refusal. IsRuleOrMemory refusal (data_refusal (Command.Order place.now direction) (V.content view.now))) }
 {
-    match globals::order(view, place, direction) {
-        Ok(found) => {
-            let value = found_or(alloc, found, &None)?;
-            Ok(Reply::Value(value))
-        }
+    match globals::order(alloc, view, place, direction) {
+        Ok(Some(subscript)) => Ok(Reply::Value(subscript)),
+        Ok(None) => Ok(Reply::Value(Text::new(alloc))),
         Err(refusal) => Err(refusal),
     }
 }

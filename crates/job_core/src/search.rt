@@ -5,19 +5,20 @@ ghost use Rattle.collation.specs.Order.{ref_cmp};
 ghost use Rattle.globals.specs.Cuts.{stands_before as stands_before_spec};
 ghost use Rattle.job_core.specs.Places.{IsPlaceOf, IsGapFor};
 
-use collation::{Ref, Text};
+use collation::Text;
 use globals::{Cut, stands_before};
+use key_codec::Key;
 
-// Where the reference is, or where it would go.
-pub(crate) fn place_of(nodes: &[(Ref, Text)], reference: &Ref) -> Result<usize, usize>
+// Where the key is, or where it would go.
+pub(crate) fn place_of(nodes: &[(Key, Text)], key: &Key) -> Result<usize, usize>
     requires { map.is_sorted ref_cmp nodes.now ≡ true }
-    ensures { MatchResult result (IsPlaceOf ref_cmp nodes.now reference.now) (IsGapFor ref_cmp nodes.now reference.now) }
+    ensures { MatchResult result (IsPlaceOf ref_cmp nodes.now key.now) (IsGapFor ref_cmp nodes.now key.now) }
 {
-    nodes.binary_search_by(|node| node.0.cmp(reference))
+    nodes.binary_search_by(|node| node.0.cmp(key))
 }
 
 // How many nodes stand before the cut.
-pub(crate) fn count_before(nodes: &[(Ref, Text)], cut: Cut<'_>) -> usize
+pub(crate) fn count_before(nodes: &[(Key, Text)], cut: Cut<'_>) -> usize
     requires { map.is_sorted ref_cmp nodes.now ≡ true }
     ensures count { result ≡ length (filter (λ e. stands_before_spec cut.entry e.0) nodes.now) }
     ensures in_range { result ≤ length nodes.now }

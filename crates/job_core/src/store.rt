@@ -10,16 +10,17 @@ ghost use Rattle.collation.specs.Data.{data_after};
 ghost use Rattle.collation.specs.declared.command.Command.TheVariants.{Set as set_command, Kill as kill_command};
 
 use crate::search::{count_before, place_of};
-use collation::{Ref, Text};
+use collation::Text;
 use globals::{Cut, OrderedView};
+use key_codec::Key;
 use refusal::Refusal;
 use std::alloc::Global;
 use std::marker::Model;
 
-/// The references that have a value, with their values, in order.
+/// The references that have a value, by their keys, with their values, in order.
 #[derive(Debug, Drop)]
 pub struct Store {
-    nodes: Vec<(Ref, Text)>,
+    nodes: Vec<(Key, Text)>,
 }
 
 impl Model for Store {
@@ -37,26 +38,26 @@ impl Model for Store {
     ghost invariant = { λ s. IsTrue (map.is_sorted ref_cmp s.nodes.items) };
 }
 
-fn discard(_reference: Ref) {}
+fn discard(_key: Key) {}
 
 // Writes the value of a node, or adds the node in its place.
-fn put_node(nodes: &mut Vec<(Ref, Text)>, reference: Ref, value: Text)
+fn put_node(nodes: &mut Vec<(Key, Text)>, key: Key, value: Text)
     requires room { vec_len nodes.old < vec_capacity nodes.old }
     requires sorted { map.is_sorted ref_cmp nodes.old.items ≡ true }
-    ensures items { nodes.new.items ≡ put ref_cmp reference value nodes.old.items }
+    ensures items { nodes.new.items ≡ put ref_cmp key value nodes.old.items }
     ensures capacity { vec_capacity nodes.new ≡ vec_capacity nodes.old }
     ensures len { vec_len nodes.new ≤ vec_len nodes.old + 1 }
 {
-    match place_of(nodes, &reference) {
+    match place_of(nodes, &key) {
         Ok(place) => {
             nodes[place].1 = value;
-            discard(reference);
+            discard(key);
         }
-        Err(place) => insert_reserved(nodes, place, (reference, value)),
+        Err(place) => insert_reserved(nodes, place, (key, value)),
     }
 }
 
-fn insert_reserved(nodes: &mut Vec<(Ref, Text)>, place: usize, node: (Ref, Text))
+fn insert_reserved(nodes: &mut Vec<(Key, Text)>, place: usize, node: (Key, Text))
     requires room { vec_len nodes.old < vec_capacity nodes.old }
     requires in_range { place ≤ vec_len nodes.old }
     ensures items { nodes.new.items ≡ insert nodes.old.items place node }
@@ -69,7 +70,7 @@ fn insert_reserved(nodes: &mut Vec<(Ref, Text)>, place: usize, node: (Ref, Text)
     }
 }
 
-fn remove_between(nodes: &mut Vec<(Ref, Text)>, low: usize, high: usize)
+fn remove_between(nodes: &mut Vec<(Key, Text)>, low: usize, high: usize)
     requires in_order { low ≤ high }
     requires in_range { high ≤ vec_len nodes.old }
     ensures items { nodes.new.items ≡ remove_range nodes.old.items low high }
@@ -89,18 +90,18 @@ impl Store {
         }
     }
 
-    /// The value of a reference, where it has one.
-    pub fn get(&self, reference: &Ref) -> Option<&Text>
-        ensures { option_copied result ≡ map.get self.now.map reference.now }
+    /// The value of a reference, by its key, where it has one.
+    pub fn get(&self, key: &Key) -> Option<&Text>
+        ensures { option_copied result ≡ map.get self.now.map key.now }
     {
-        match place_of(&self.nodes, reference) {
+        match place_of(&self.nodes, key) {
             Ok(place) => Some(&self.nodes[place].1),
             Err(_) => None,
         }
     }
 
-    /// The references and their values, in order.
-    pub fn nodes(&self) -> &[(Ref, Text)]
+    /// The keys of the references and their values, in order.
+    pub fn nodes(&self) -> &[(Key, Text)]
         ensures { result.now ≡ map.entries self.now.map }
     {
         &self.nodes
@@ -117,31 +118,31 @@ impl Store {
     }
 
     /// Sets the value of a reference, for which there is room. Takes no memory.
-    pub fn set_reserved(&mut self, reference: Ref, value: Text)
+    pub fn set_reserved(&mut self, key: Key, value: Text)
         requires { 0 < self.old.spare }
-        ensures map { self.new.map ≡ data_after (set_command reference value) self.old.map }
+        ensures map { self.new.map ≡ data_after (set_command key value) self.old.map }
         ensures spare { self.old.spare ≤ self.new.spare + 1 }
     {
-        put_node(&mut self.nodes, reference, value);
+        put_node(&mut self.nodes, key, value);
     }
 
     /// Sets the values of these references, in turn, for which there is room. Takes no memory.
-    pub fn set_all_reserved(&mut self, nodes: Vec<(Ref, Text)>)
+    pub fn set_all_reserved(&mut self, nodes: Vec<(Key, Text)>)
         requires { vec_len nodes ≤ self.old.spare }
         ensures map { self.new.map ≡ set_all nodes.items self.old.map }
     {
-        for (reference, value) in nodes {
-            self.set_reserved(reference, value);
+        for (key, value) in nodes {
+            self.set_reserved(key, value);
         }
     }
 
     /// Removes the reference and all its descendants. Takes no memory.
-    pub fn kill(&mut self, reference: &Ref)
-        ensures map { self.new.map ≡ data_after (kill_command reference.now) self.old.map }
+    pub fn kill(&mut self, key: &Key)
+        ensures map { self.new.map ≡ data_after (kill_command key.now) self.old.map }
         ensures spare { self.old.spare ≤ self.new.spare }
     {
-        let low = count_before(&self.nodes, Cut::Before(reference));
-        let high = count_before(&self.nodes, Cut::Past(reference));
+        let low = count_before(&self.nodes, Cut::Before(key));
+        let high = count_before(&self.nodes, Cut::Past(key));
         remove_between(&mut self.nodes, low, high);
     }
 }
@@ -149,11 +150,11 @@ impl Store {
 impl OrderedView for Store {
     ghost content = { λ s. s.map };
 
-    fn get(&self, reference: &Ref) -> Option<&Text> {
-        Store::get(self, reference)
+    fn get(&self, key: &Key) -> Option<&Text> {
+        Store::get(self, key)
     }
 
-    fn next(&self, cut: Cut<'_>) -> Option<(&Ref, &Text)> {
+    fn next(&self, cut: Cut<'_>) -> Option<(&Key, &Text)> {
         let place = count_before(&self.nodes, cut);
         if place < self.nodes.len() {
             let node = &self.nodes[place];
@@ -163,7 +164,7 @@ impl OrderedView for Store {
         }
     }
 
-    fn prev(&self, cut: Cut<'_>) -> Option<(&Ref, &Text)> {
+    fn prev(&self, cut: Cut<'_>) -> Option<(&Key, &Text)> {
         let place = count_before(&self.nodes, cut);
         if place > 0 {
             let node = &self.nodes[place - 1];

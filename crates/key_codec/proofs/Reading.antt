@@ -25,6 +25,7 @@ use Rattle.key_codec.specs.Form.{short_form_is}
 use Rattle.key_codec.specs.Reading.{BeginsWith, BeginsWithNone, tag_of, place_byte, digit_byte, digit_of, end_of, IsNumberOf, IsNumberKey, IsOtherText}
 use Rattle.key_codec.specs.ByteLaws.{escape_cmp, by_byte}
 use Rattle.key_codec.specs.SubscriptLaws.{zero_key, key_below, key_above, key_text, tied_lists, tied_same}
+use Rattle.key_codec.specs.BackLaws.{digits_back, no_end, no_zero, escaped_free}
 use Rattle.key_codec.specs.KeyLaws.{has_tag, AreSubscripts, one_subscript, lists_cmp, FitsForm, fits_short, name_above}
 
 -- the first end byte parts the bytes in one way
@@ -42,18 +43,7 @@ one_split end (x ∷ xs) (y ∷ ys) u v p q e =
     let rest : AreSame xs ys u v = one_split end xs ys u v (second_so (not (nat_eq x end)) _ p) (second_so (not (nat_eq y end)) _ q) tails in
     record { front = (λ i. same i ∷ rest.front i); rest = rest.rest }
 
--- digits and their bytes
-pub digits_back : (n : Bool) (ds : List ℕ) → list_all is_ascii_digit ds ≡ true → map (digit_of n) (map (digit_byte n) ds) ≡ ds
-digits_back n [] e = refl
-digits_back true (d ∷ ds) e =
-    let is = head_digit d ds e in
-    let back : 58 - (58 - d) ≡ d = omega (arith, is.high) in
-    λ i. back i ∷ digits_back true ds (tail_digits d ds e) i
-digits_back false (d ∷ ds) e =
-    let is = head_digit d ds e in
-    let back : 57 - (10 - (d - 47)) ≡ d = omega (arith, is.low, is.high) in
-    λ i. back i ∷ digits_back false ds (tail_digits d ds e) i
-
+-- digits' bytes and their digits
 pub bytes_back : (n : Bool) (bs : List ℕ) → list_all (λ b. nat_le b 10) bs ≡ true → map (digit_byte n) (map (digit_of n) bs) ≡ bs
 bytes_back n [] e = refl
 bytes_back true (b ∷ bs) e =
@@ -71,17 +61,6 @@ pub digit_bytes : (n : Bool) (ds : List ℕ) → list_all is_ascii_digit ds ≡ 
 digit_bytes n [] e = refl
 digit_bytes true (d ∷ ds) e = let is = head_digit d ds e in and_from (nat_le (58 - d) 10) _ (grind (arith, nat_tests, is.low)) (digit_bytes true ds (tail_digits d ds e))
 digit_bytes false (d ∷ ds) e = let is = head_digit d ds e in and_from (nat_le (d - 47) 10) _ (grind (arith, nat_tests, is.high)) (digit_bytes false ds (tail_digits d ds e))
-
-pub no_end : (n : Bool) (ds : List ℕ) → list_all is_ascii_digit ds ≡ true → list_all (λ b. not (nat_eq b (end_of n))) (map (digit_byte n) ds) ≡ true
-no_end n [] e = refl
-no_end true (d ∷ ds) e =
-    let is = head_digit d ds e in
-    let other : nat_eq (58 - d) 255 ≡ false = grind (arith, nat_tests, is.low) in
-    and_from (not (nat_eq (58 - d) 255)) _ (not_from_false _ other) (no_end true ds (tail_digits d ds e))
-no_end false (d ∷ ds) e =
-    let is = head_digit d ds e in
-    let other : nat_eq (d - 47) 0 ≡ false = grind (arith, nat_tests, is.low) in
-    and_from (not (nat_eq (d - 47) 0)) _ (not_from_false _ other) (no_end false ds (tail_digits d ds e))
 
 -- the key of a number with these parts
 number_not_zero : (s : List ℕ) (n : Bool) (place : ℕ) (ds : List ℕ) → IsNumberOf s n place ds → is_zero s ≡ false
@@ -309,14 +288,6 @@ pub escaped-push : (t : List ℕ) (b : ℕ) → escaped (t ++ b ∷ []) ≡ esca
 escaped-push [] b = append-nil (escape b)
 escaped-push (x ∷ t) b = ap (λ r. escape x ++ r) (escaped-push t b) ∙ sym (append_assoc (escape x) (escaped t) (escape b))
 
-pub escaped_free : (t : List ℕ) → list_all (λ b. not (nat_eq b 0)) (escaped t) ≡ true
-escaped_free [] = refl
-escaped_free (b ∷ t) =
-    by_byte b
-    (λ h. ap (λ c. list_all (λ x. not (nat_eq x 0)) (escape c ++ escaped t)) h ∙ escaped_free t)
-    (λ h. ap (λ c. list_all (λ x. not (nat_eq x 0)) (escape c ++ escaped t)) h ∙ escaped_free t)
-    (λ h g. let other : nat_eq b 0 ≡ false = grind (arith, nat_tests) in ap (λ c. list_all (λ x. not (nat_eq x 0)) (c ++ escaped t)) g ∙ and_from (not (nat_eq b 0)) _ (test_not b 0 other) (escaped_free t))
-
 -- where a text's key stands in front, its bytes
 pub record HasText (bytes s u : List ℕ) : Type 0 where
   pub other : is_canonic s ≡ false
@@ -435,13 +406,6 @@ pub record HasReference (front rest : List ℕ) (x : Reference) : Type 0 where
   pub is_name : is_name front ≡ true
   pub subscripts : AreSubscripts short_form x.subscripts
   pub keys : rest ≡ subscripts_key short_form x.subscripts
-
-no_zero : (bs : List ℕ) → list_all (nat_lt 0) bs ≡ true → list_all (λ b. not (nat_eq b 0)) bs ≡ true
-no_zero [] e = refl
-no_zero (b ∷ bs) e =
-    let low : nat_lt 0 b ≡ true = first_so _ _ e in
-    let other : nat_eq b 0 ≡ false = grind (arith, nat_tests) in
-    and_from (not (nat_eq b 0)) _ (test_not b 0 other) (no_zero bs (second_so (nat_lt 0 b) _ e))
 
 pub has_reference : (bytes front rest : List ℕ) (x : Reference) → IsReference x → bytes ≡ front ++ 0 ∷ rest → list_all (λ b. not (nat_eq b 0)) front ≡ true → bytes ≡ key_of x → HasReference front rest x
 has_reference bytes front rest x is b free e =

@@ -17,7 +17,7 @@ use Rattle.collation.specs.Database.{begins_with, is_under}
 use Rattle.collation.specs.Order.{subscript_cmp, ref_cmp}
 use Rattle.collation.specs.OrderLaws.{subscript_cmp-IsAntisymmetric, ref_cmp-IsAntisymmetric}
 use Rattle.refusal.specs.declared.Refusal.{Refusal}
-use Rattle.key_codec.specs.Key.{KeyForm, short_form, subscript_key, subscripts_key, key_in, IsSubscript, IsReference, below_key, above_key, text_key}
+use Rattle.key_codec.specs.Key.{KeyForm, short_form, subscript_key, subscripts_key, key_in, key_of, IsSubscript, IsReference, below_key, above_key, text_key}
 use Rattle.key_codec.specs.Form.{IsKeyForm}
 use Rattle.key_codec.specs.ByteLaws.{named_cmp}
 use Rattle.key_codec.specs.SubscriptLaws.{subscripts_cmp, tied_lists, tied_same}
@@ -81,6 +81,15 @@ not_too_many ss e = at (nat_lt 31 (length ss)) e
 -- what a `Ref` keeps lies within the short form's limit
 pub fits_short : (r : Reference) → IsReference r → FitsForm short_form r
 fits_short r is = record { name = is.name; subscripts = are_subscripts r.subscripts (not_too_many r.subscripts is.subscripts) }
+
+-- the keys of two lists of subscripts stand one behind the other
+pub subscripts_key-append : (form : KeyForm) (xs ys : List (List ℕ)) → subscripts_key form (xs ++ ys) ≡ subscripts_key form xs ++ subscripts_key form ys
+subscripts_key-append form [] ys = refl
+subscripts_key-append form (x ∷ xs) ys = ap (λ t. subscript_key form x ++ t) (subscripts_key-append form xs ys) ∙ sym (append_assoc (subscript_key form x) (subscripts_key form xs) (subscripts_key form ys))
+
+-- the key of a reference with further subscripts is its key and theirs behind it
+pub key_of-append : (r : Reference) (more : List (List ℕ)) → key_of (record { name = r.name; subscripts = r.subscripts ++ more }) ≡ key_of r ++ subscripts_key short_form more
+key_of-append r more = ap (λ t. r.name ++ 0 ∷ t) (subscripts_key-append short_form r.subscripts more) ∙ sym (append_assoc r.name (0 ∷ subscripts_key short_form r.subscripts) (subscripts_key short_form more))
 
 -- a subscript's key has a first byte, from 2 to 5
 pub record HasTag (key : List ℕ) : Type 0 where

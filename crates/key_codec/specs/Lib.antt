@@ -9,3 +9,6 @@ pub mod PartsKey
 pub mod Range
 pub mod RangeLaws
 pub mod Reading
+pub mod Back
+pub mod BackLaws
+pub mod Kept

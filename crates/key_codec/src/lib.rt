@@ -3,6 +3,8 @@
 //! Callers see a key as a list of bytes: `key_of` of its reference (`specs/Key.antt`). The name, 00, then each
 //! subscript behind a byte that tells its kind, and each with an end, so that no subscript's bytes begin another's.
 //!
+//! `Key` is a reference that is kept as these bytes; callers see it as the reference.
+//!
 //! (1) Keys compare as references, a beginning first, and no two references have one key.
 //! (2) A key begins with another exactly where its reference is the other or lies under it.
 //! (3) From a reference's key on, and before its key with byte 06 behind it, lie the keys of what is under it.
@@ -10,19 +12,23 @@
 //! `^A(10,0)` has the key 41 00 04 82 02 00 03: the name and its end; a number above zero whose point stands
 //! behind two digits, its digit 1, its end; zero.
 //!
-//! Read `specs/Key.antt` and `specs/Bounds.antt`, then `write.rt`, `read.rt`, `bounds.rt`, `range.rt`. All lemmas
-//! hold over any limit of subscripts and any width of a point's place (`KeyForm`, `specs/Form.antt`); the form
-//! in use has subscripts of at most 127 bytes and a place of one byte. Lemmas for the crates above:
-//! `specs/KeyLaws.antt`, `specs/BoundLaws.antt`, `specs/RangeLaws.antt`.
+//! Read `specs/Key.antt`, `specs/Back.antt` and `specs/Bounds.antt`, then `write.rt`, `read.rt`, `key.rt`,
+//! `bounds.rt`, `range.rt`. The laws of order, beginnings and bounds hold over any limit of subscripts and any width
+//! of a point's place (`KeyForm`, `specs/Form.antt`); the form in use, which alone is read back, has subscripts of at
+//! most 127 bytes and a place of one byte. Lemmas for the crates above: `specs/KeyLaws.antt`, `specs/BackLaws.antt`,
+//! `specs/BoundLaws.antt`, `specs/RangeLaws.antt`.
 #![tactic(auto)]
 
 pub use bounds::{sibling_after, sibling_before, subtree_prefix};
+pub use key::Key;
 pub use laws::keys_are_as_references;
 pub use range::KeyRange;
 pub use read::decode;
 pub use write::encode;
 
 mod bounds;
+mod count;
+mod key;
 mod laws;
 mod range;
 mod read;

@@ -19,6 +19,7 @@ use std::alloc::Global;
 /// Refusals: `OutOfMemory`.
 pub fn decode(alloc: Global, bytes: &[u8]) -> Result<Option<Ref>, Refusal>
     ensures some { IfOk result (λ found. IfSome found (λ r. spec.key_of r ≡ bytes.now)) }
+    ensures form { IfOk result (λ found. IfSome found IsReference) }
     ensures none { IfOk result (λ found. IfNone found ((x : Reference) → IsReference x → bytes.now ≡ spec.key_of x → ⊥)) }
     ensures refused { IfErr result (λ refusal. refusal ≡ Refusal.OutOfMemory) }
 {

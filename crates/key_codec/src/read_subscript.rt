@@ -34,7 +34,7 @@ pub(crate) fn read_subscript(alloc: Global, bytes: &[u8]) -> Result<Option<(Text
     }
 }
 
-fn end_of(negative: bool) -> u8
+pub(crate) fn end_of(negative: bool) -> u8
     ensures { result ≡ reading.end_of negative }
 {
     if negative {
@@ -44,7 +44,7 @@ fn end_of(negative: bool) -> u8
     }
 }
 
-fn take_byte(bytes: &[u8]) -> Option<(u8, &[u8])>
+pub(crate) fn take_byte(bytes: &[u8]) -> Option<(u8, &[u8])>
     ensures some { IfSome result (λ p. bytes.now ≡ p.0 ∷ p.1.now) }
     ensures none { IfNone result (bytes.now ≡ []) }
 {

@@ -1,8 +1,10 @@
 // Expected bytes are those of the tables in docs/FORMATS.md, "Key bytes".
 use crate::{
-    KeyRange, decode, encode, keys_are_as_references, sibling_after, sibling_before, subtree_prefix,
+    Key, KeyRange, decode, encode, keys_are_as_references, sibling_after, sibling_before,
+    subtree_prefix,
 };
 use collation::{Name, Ref, Text};
+use refusal::Refusal;
 use smallvec::SmallVec;
 use std::alloc::Global;
 use std::process::Abort;
@@ -176,5 +178,133 @@ fn range_without_end_contains_all_from_its_least_key_on(rt: HostRuntime) -> Resu
     assert!(rt; range.contains(b"B"));
     assert!(rt; range.contains(b"\xFF\xFF"));
     assert!(rt; !range.contains(b"A\xFF"));
+    Ok(())
+}
+
+fn make_key(alloc: Global, name: &[u8], subscripts: &[&[u8]]) -> Result<Key, Fail> {
+    let reference = make_ref(alloc, name, subscripts)?;
+    let key = Key::of(alloc, &reference)?;
+    Ok(key)
+}
+
+#[test]
+fn keys_stand_in_the_order_of_the_table(rt: HostRuntime) -> Result<(), Fail> {
+    let table: [(&[u8], &[&[u8]]); 15] = [
+        (b"A", &[]),
+        (b"A", &[b"-1.5"]),
+        (b"A", &[b"-1"]),
+        (b"A", &[b"-.5"]),
+        (b"A", &[b"0"]),
+        (b"A", &[b".5"]),
+        (b"A", &[b"7"]),
+        (b"A", &[b"9"]),
+        (b"A", &[b"10"]),
+        (b"A", &[b"10", b"0"]),
+        (b"A", &[b"12"]),
+        (b"A", &[b"\0\x01b"]),
+        (b"A", &[b"007"]),
+        (b"A", &[b"x"]),
+        (b"AB", &[b"1"]),
+    ];
+    for (i, (name, subscripts)) in table.iter().enumerate() {
+        let here = make_key(rt.alloc(), name, subscripts)?;
+        for (j, (other_name, other_subscripts)) in table.iter().enumerate() {
+            let there = make_key(rt.alloc(), other_name, other_subscripts)?;
+            assert_eq!(rt; here.cmp(&there), i.cmp(&j), "{i} and {j}");
+            assert_eq!(rt; here == there, i == j, "{i} and {j}");
+        }
+    }
+    Ok(())
+}
+
+fn key_above(rt: &impl Abort, alloc: Global, reference: &Ref) -> Result<Key, Refusal> {
+    assert!(rt; !reference.subscripts().is_empty());
+    Key::above(alloc, reference)
+}
+
+#[test]
+fn key_shows_its_reference_and_the_one_above(rt: HostRuntime) -> Result<(), Fail> {
+    let reference = make_ref(rt.alloc(), b"AB", &[b"12", b"0"])?;
+    let key = Key::of(rt.alloc(), &reference)?;
+    let above = key_above(&rt, rt.alloc(), &reference)?;
+    assert!(rt; key.reference(rt.alloc())? == reference);
+    assert_eq!(rt; key.name(), b"AB".as_slice());
+    assert_eq!(rt;
+        key.as_slice(),
+        b"\x41\x42\x00\x04\x82\x02\x03\x00\x03".as_slice()
+    );
+    assert_eq!(rt;
+        above.as_slice(),
+        b"\x41\x42\x00\x04\x82\x02\x03\x00".as_slice()
+    );
+    Ok(())
+}
+
+fn check_child(
+    rt: &impl Abort,
+    alloc: Global,
+    key: &Key,
+    parent: &[&[u8]],
+    child: Option<&[u8]>,
+) -> Result<(), Fail> {
+    let parent = make_key(alloc, b"A", parent)?;
+    let found = key.child_under(alloc, &parent)?;
+    assert_eq!(rt; found.as_ref().map(|text| text.as_slice()), child);
+    Ok(())
+}
+
+#[test]
+fn key_lies_under_its_ancestors_alone(rt: HostRuntime) -> Result<(), Fail> {
+    let alloc = rt.alloc();
+    let key = make_key(alloc, b"A", &[b"12", b"x", b"0"])?;
+    assert!(rt; key.is_under(&make_key(alloc, b"A", &[b"12"])?));
+    assert!(rt; key.is_under(&key));
+    assert!(rt; !key.is_under(&make_key(alloc, b"A", &[b"1"])?));
+    check_child(&rt, alloc, &key, &[], Some(b"12"))?;
+    check_child(&rt, alloc, &key, &[b"12"], Some(b"x"))?;
+    check_child(&rt, alloc, &key, &[b"12", b"x", b"0"], None)?;
+    check_child(&rt, alloc, &key, &[b"1"], None)?;
+    Ok(())
+}
+
+fn move_key(
+    rt: &impl Abort,
+    alloc: Global,
+    key: &Key,
+    from: &Key,
+    to: &Key,
+) -> Result<Key, Refusal> {
+    assert!(rt; key.is_under(from));
+    key.moved(alloc, from, to)
+}
+
+// What stands behind the root holds each kind of subscript, and bytes that end one inside a text.
+#[test]
+fn moved_key_keeps_what_stands_behind_the_root(rt: HostRuntime) -> Result<(), Fail> {
+    let from = make_key(rt.alloc(), b"A", &[b"12"])?;
+    let to = make_key(rt.alloc(), b"BC", &[b"-1.5", b"7"])?;
+    let key = make_key(rt.alloc(), b"A", &[b"12", b"\0\xFF", b"-1.5", b"0", b".5"])?;
+    let moved = move_key(&rt, rt.alloc(), &key, &from, &to)?;
+    let expected = make_key(
+        rt.alloc(),
+        b"BC",
+        &[b"-1.5", b"7", b"\0\xFF", b"-1.5", b"0", b".5"],
+    )?;
+    assert!(rt; moved == expected);
+    Ok(())
+}
+
+#[test]
+fn moved_key_has_at_most_31_subscripts(rt: HostRuntime) -> Result<(), Fail> {
+    let alloc = rt.alloc();
+    let subscripts: [&[u8]; 31] = [b"-1"; 31];
+    let root = make_key(alloc, b"A", &[])?;
+    let key = make_key(alloc, b"A", &[b"0", b"x"])?;
+    let to = make_key(alloc, b"B", &subscripts[..29])?;
+    let deepest = move_key(&rt, alloc, &key, &root, &to)?;
+    assert_eq!(rt; deepest.as_slice().len(), 2 + 29 * 4 + 4);
+    let to = make_key(alloc, b"B", &subscripts[..30])?;
+    let refused = move_key(&rt, alloc, &key, &root, &to);
+    assert_eq!(rt; refused.err(), Some(Refusal::TooManySubscripts));
     Ok(())
 }

@@ -1,7 +1,7 @@
 //! The key of a reference.
 ghost use Rattle.std.specs.Prelude.{◌≡◌, ◌≤◌, ◌++◌, ◌-◌, IfErr, IfOk, OnOk, None, [], ◌∷◌, map};
 ghost use Rattle.canonic_number.specs.Number.{limit, scale};
-ghost use Rattle.collation.specs.Faults.{subscripts_fault};
+ghost use Rattle.collation.specs.Faults.{reference_fault, subscripts_fault};
 ghost use Rattle.key_codec.specs.Bounds.{KeepsOrder, IsPrefixOf};
 ghost use Rattle.key_codec.specs.Key as spec;
 ghost use Rattle.key_codec.specs.Key.{short_form, IsReference, IsSubscript};
@@ -33,18 +33,32 @@ pub(crate) fn write_key(alloc: Global, reference: &Ref, more: usize) -> Result<V
     ensures form { OnOk result (IsReference reference.now) }
     ensures refused { IfErr result (λ refusal. refusal ≡ Refusal.OutOfMemory) }
 {
-    let size = most_key_bytes(reference).saturating_add(more);
+    write_parts(alloc, reference.name(), reference.subscripts(), more)
+}
+
+// The key of this name and these subscripts, with room for as many bytes more.
+pub(crate) fn write_parts(
+    alloc: Global,
+    name: &[u8],
+    subscripts: &[Text],
+    more: usize,
+) -> Result<Vec<u8>, Refusal>
+    requires { reference_fault subscripts.now ≡ None }
+    ensures key { IfOk result (λ key. key.items ≡ spec.key_of (record { name = name.now; subscripts = subscripts.now })) }
+    ensures refused { IfErr result (λ refusal. refusal ≡ Refusal.OutOfMemory) }
+{
+    let size = most_key_bytes(name, subscripts).saturating_add(more);
     let mut key = Vec::with_capacity(alloc, size)?;
-    key.extend_from_slice(reference.name())?;
+    key.extend_from_slice(name)?;
     key.push(END)?;
-    push_subscripts(&mut key, reference.subscripts())?;
+    push_subscripts(&mut key, subscripts)?;
     Ok(key)
 }
 
 // How many bytes a key has at most.
-fn most_key_bytes(reference: &Ref) -> usize {
-    let mut bytes = reference.name().len().saturating_add(1);
-    for subscript in reference.subscripts() {
+fn most_key_bytes(name: &[u8], subscripts: &[Text]) -> usize {
+    let mut bytes = name.len().saturating_add(1);
+    for subscript in subscripts {
         bytes = bytes.saturating_add(most_subscript_bytes(subscript.as_slice()));
     }
     bytes

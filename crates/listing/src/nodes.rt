@@ -1,5 +1,5 @@
 //! The listing of a view.
-ghost use Rattle.std.specs.Prelude.{◌≡◌, ◌++◌, OnOk, OnErr, IsErrOf};
+ghost use Rattle.std.specs.Prelude.{◌≡◌, ◌++◌, IfErr, OnOk, OnErr, IsErrOf};
 ghost use Rattle.std.specs.Io.KnownBytes.{Appends};
 ghost use Rattle.listing.specs.Bytes.{WritesBeginning, Passes, Counts};
 ghost use Rattle.listing.specs.Listing.{node_text, listing_text};
@@ -7,6 +7,7 @@ ghost use Rattle.listing.specs.Listing.{node_text, listing_text};
 use crate::{Counted, WriteFault};
 use collation::{Ref, Text};
 use globals::{Cut, OrderedView, walk_from};
+use key_codec::Key;
 use m_text::{write_literal, write_ref};
 use std::alloc::{AllocError, Global};
 use std::io::Write;
@@ -27,13 +28,25 @@ pub enum ListingFault {
 const GATHERED: usize = 16384;
 
 // A node's line at the end of `out`.
-fn push_node(reference: &Ref, value: &Text, out: &mut Vec<u8>) -> Result<(), AllocError>
+fn push_line(reference: &Ref, value: &Text, out: &mut Vec<u8>) -> Result<(), AllocError>
     ensures { OnOk result (out.new.items ≡ out.old.items ++ node_text (reference.now, value.now)) }
 {
     write_ref(reference, out)?;
     out.push(b'=')?;
     write_literal(value.as_slice(), out)?;
     out.push(b'\n')?;
+    Ok(())
+}
+
+// The same of a key.
+fn push_node(alloc: Global, key: &Key, value: &Text, out: &mut Vec<u8>) -> Result<(), ListingFault>
+    ensures line { OnOk result (out.new.items ≡ out.old.items ++ node_text (key.now, value.now)) }
+    ensures memory { IfErr result (λ fault. fault ≡ ListingFault.Memory) }
+{
+    let Ok(reference) = key.reference(alloc) else {
+        return Err(ListingFault::Memory);
+    };
+    push_line(&reference, value, out)?;
     Ok(())
 }
 
@@ -66,8 +79,8 @@ pub fn write_listing<V: OrderedView, W: Write>(
     ensures counted { IsErrOf result ListingFault.Write → Counts writer.old.failures writer.new.failures }
 {
     let mut out = Vec::new(alloc);
-    'nodes: for (reference, value) in walk_from(view, Cut::Start) {
-        push_node(reference, value, &mut out)?;
+    'nodes: for (key, value) in walk_from(view, Cut::Start) {
+        push_node(alloc, key, value, &mut out)?;
         write_gathered(writer, &mut out)?;
     }
     writer.write_text(&out)?;

@@ -7,17 +7,17 @@ use Rattle.listing.proofs.nodes.write_listing.Goals as goal
 pub nodes-init : goal.nodes-init
 nodes-init g c = record {
   steps = (tt, tt);
-  stands = stands_first _ _ _ _ (c.into_iter-reference-iterator.ensures.into_iter_gives ∙ c.walk_from-reference-items.ensures ∙ from_start _) c.new-out.ensures.items;
+  stands = stands_first _ _ _ _ (c.into_iter-key-iterator.ensures.into_iter_gives ∙ c.walk_from-key-items.ensures ∙ from_start _) c.new-out.ensures.items;
   kept = refl;
 }
 
 pub nodes-preserved : goal.nodes-preserved
 nodes-preserved g c =
-    let next = stands_next _ _ _ _ _ _ _ _ _ _ _ c.nodes.invariant.stands c.in-Some.ensures.steps c.in_ok-push_node.ensures c.in_ok-write_gathered.ensures.ok in
+    let next = stands_next _ _ _ _ _ _ _ _ _ _ _ c.nodes.invariant.stands c.in-Some.ensures.steps c.in_ok-push_node.ensures.line c.in_ok-write_gathered.ensures.ok in
     record {
       steps = (tt, tt);
       stands = subst (λ (done : List Entry). Stands (g.W.Write.contents c.args.writer.now.inner) (g.W.Write.contents c.write_gathered.new.writer.inner) (finmap.entries (g.V.OrderedView.content c.args.view.now)) done c.next.new.self c.write_gathered.new.out.items)
-          (sym (map-append (λ e. (e.0.now, e.1.now)) c.nodes.yielded ((c.in-Some.reference, c.in-Some.value) ∷ []))) next;
+          (sym (map-append (λ e. (e.0.now, e.1.now)) c.nodes.yielded ((c.in-Some.key, c.in-Some.value) ∷ []))) next;
       kept = c.in_ok-write_gathered.ensures.kept ∙ c.nodes.invariant.kept;
     }
 
@@ -26,7 +26,7 @@ returns-in_err-push_node-clause-err g c = on_err _ _ (begun _ _ _ _ _ _ c.nodes.
 
 pub returns-in_err-write_gathered-clause-err : goal.returns-in_err-write_gathered-clause-err
 returns-in_err-write_gathered-clause-err g c =
-    on_err _ _ (begun_more _ _ _ _ _ _ _ _ _ _ c.nodes.invariant.stands c.in-Some.ensures.steps c.in_ok-push_node.ensures c.in_err-write_gathered.ensures.err)
+    on_err _ _ (begun_more _ _ _ _ _ _ _ _ _ _ c.nodes.invariant.stands c.in-Some.ensures.steps c.in_ok-push_node.ensures.line c.in_err-write_gathered.ensures.err)
 
 pub returns-in_err-write_text-clause-err : goal.returns-in_err-write_text-clause-err
 returns-in_err-write_text-clause-err g c =

@@ -7,7 +7,7 @@ use Rattle.listing.proofs.nodes.write_listing.Given as goal
 -- the nodes so far were written or are gathered, and no call failed
 abbrev pub invariant-nodes : goal.invariant-nodes
 invariant-nodes g l = record {
-  steps : (goal.iterator-nodes g).can_next l.reference-iterator × (goal.iterator-nodes g).is_finite l.reference-iterator;
-  stands : Stands (g.W.Write.contents l.fn.writer.inner) (g.W.Write.contents l.writer.inner) (finmap.entries (g.V.OrderedView.content l.view)) (map (λ e. (e.0.now, e.1.now)) l.yielded) l.reference-iterator l.out.items;
+  steps : (goal.iterator-nodes g).can_next l.key-iterator × (goal.iterator-nodes g).is_finite l.key-iterator;
+  stands : Stands (g.W.Write.contents l.fn.writer.inner) (g.W.Write.contents l.writer.inner) (finmap.entries (g.V.OrderedView.content l.view)) (map (λ e. (e.0.now, e.1.now)) l.yielded) l.key-iterator l.out.items;
   kept : l.writer.failures ≡ l.fn.writer.failures;
 }

@@ -1,0 +1,234 @@
+//! Keys: references that are kept as their key bytes.
+ghost use Rattle.std.specs.Prelude.{◌≡◌, None, ◌++◌, ◌≢◌, ◌≤◌, ◌⊎◌, List, ℕ, IfErr, IfNone, IfOk, IfSome, OnOk, MatchResult, false, true, length, nat_lt};
+ghost use Rattle.collation.specs.Reference.{Reference};
+ghost use Rattle.collation.specs.Faults.{reference_fault};
+ghost use Rattle.collation.specs.Database.{is_under as is_under_spec};
+ghost use Rattle.collation.specs.Answers.{moved as moved_spec};
+ghost use Rattle.collation.specs.Levels.{child_of, front as front_spec};
+ghost use Rattle.key_codec.specs.Key as spec;
+ghost use Rattle.key_codec.specs.Key.{IsReference};
+
+use crate::END;
+use crate::count::count_subscripts;
+use crate::read::{decode, split_at_end};
+use crate::read_subscript::read_subscript;
+use crate::write::{write_key, write_parts};
+use collation::{MOST_SUBSCRIPTS, Ref, Text};
+use refusal::Refusal;
+use std::alloc::{AllocError, Global};
+use std::cmp::Ordering;
+use std::marker::Model;
+
+/// A reference that is kept as its key bytes, in one allocation of their size.
+///
+/// Contracts see the reference. Keys compare by their bytes alone, and that is the order of references.
+#[derive(Debug, Drop)]
+pub struct Key {
+    bytes: Vec<u8>,
+}
+
+impl Model for Key {
+    ghost use Rattle.collation.specs.Reference.{Reference};
+    ghost use Rattle.key_codec.specs.Back.{reference_of};
+    ghost use Rattle.key_codec.specs.Kept.{Keeps};
+
+    ghost Value = { Reference };
+
+    ghost view = { λ k. reference_of k.bytes.items };
+
+    ghost invariant = { λ k. Keeps k.bytes.items (reference_of k.bytes.items) };
+}
+
+// All but the last.
+fn front(subscripts: &[Text]) -> &[Text]
+    requires some { 1 ≤ length subscripts.now }
+    requires form { reference_fault subscripts.now ≡ None }
+    ensures front { result.now ≡ front_spec subscripts.now }
+    ensures form { reference_fault result.now ≡ None }
+{
+    &subscripts[..subscripts.len() - 1]
+}
+
+// The one, and the other behind it, in one allocation of their size.
+fn joined(alloc: Global, first: &[u8], second: &[u8]) -> Result<Vec<u8>, AllocError>
+    ensures { IfOk result (λ bytes. bytes.items ≡ first.now ++ second.now) }
+{
+    let mut bytes = Vec::with_capacity(alloc, first.len().saturating_add(second.len()))?;
+    bytes.extend_from_slice(first)?;
+    bytes.extend_from_slice(second)?;
+    Ok(bytes)
+}
+
+impl Key {
+    /// The key of a reference. Takes memory once.
+    ///
+    /// Refusals: `OutOfMemory`.
+    pub fn of(alloc: Global, reference: &Ref) -> Result<Key, Refusal>
+        ensures key { IfOk result (λ key. key ≡ reference.now) }
+        ensures refused { IfErr result (λ refusal. refusal ≡ Refusal.OutOfMemory) }
+    {
+        let bytes = write_key(alloc, reference, 0)?;
+        Ok(Key { bytes })
+    }
+
+    /// The key of a reference without its last subscript: one level up. Takes memory once.
+    ///
+    /// Refusals: `OutOfMemory`.
+    pub fn above(alloc: Global, reference: &Ref) -> Result<Key, Refusal>
+        requires { 1 ≤ length reference.now.subscripts }
+        ensures key { IfOk result (λ key. key ≡ record { name = reference.now.name; subscripts = front_spec reference.now.subscripts }) }
+        ensures refused { IfErr result (λ refusal. refusal ≡ Refusal.OutOfMemory) }
+    {
+        let bytes = write_parts(alloc, reference.name(), front(reference.subscripts()), 0)?;
+        Ok(Key { bytes })
+    }
+
+    /// Its bytes: the key of the reference, as `encode` writes it.
+    pub fn as_slice(&self) -> &[u8]
+        ensures value { result.now ≡ spec.key_of self.now }
+        ensures form { IsReference self.now }
+    {
+        self.bytes.as_slice()
+    }
+
+    /// The reference, written out.
+    ///
+    /// Refusals: `OutOfMemory`.
+    pub fn reference(&self, alloc: Global) -> Result<Ref, Refusal>
+        ensures reference { IfOk result (λ reference. reference ≡ self.now) }
+        ensures refused { IfErr result (λ refusal. refusal ≡ Refusal.OutOfMemory) }
+    {
+        match decode(alloc, self.as_slice())? {
+            Some(reference) => Ok(reference),
+            None => unreachable!(),
+        }
+    }
+
+    /// The bytes of the reference's name.
+    pub fn name(&self) -> &[u8]
+        ensures { result.now ≡ self.now.name }
+    {
+        match split_at_end(self.as_slice(), END) {
+            Some((name, _)) => name,
+            None => unreachable!(),
+        }
+    }
+
+    // What stands behind the other key, where this one begins with it.
+    fn behind(&self, root: &Key) -> Option<&[u8]>
+        ensures some { IfSome result (λ rest. spec.key_of self.now ≡ spec.key_of root.now ++ rest.now) }
+        ensures none { IfNone result ((rest : List ℕ) → spec.key_of self.now ≢ spec.key_of root.now ++ rest) }
+        ensures form { IsReference self.now }
+        ensures root_form { IsReference root.now }
+    {
+        self.as_slice().strip_prefix(root.as_slice())
+    }
+
+    // How many subscripts the reference has.
+    fn depth(&self) -> usize
+        ensures depth { result ≡ length self.now.subscripts }
+        ensures few { result ≤ 31 }
+    {
+        match split_at_end(self.as_slice(), END) {
+            Some((_, rest)) => count_subscripts(rest),
+            None => unreachable!(),
+        }
+    }
+
+    /// Whether the reference is the root's or a descendant of it.
+    pub fn is_under(&self, root: &Key) -> bool
+        ensures { result ≡ is_under_spec root.now self.now }
+    {
+        self.behind(root).is_some()
+    }
+
+    /// The subscript under the other reference on the way to this one; none where this isn't a descendant of it.
+    ///
+    /// Refusals: `OutOfMemory`.
+    pub fn child_under(&self, alloc: Global, parent: &Key) -> Result<Option<Text>, Refusal>
+        ensures child { IfOk result (λ child. child ≡ child_of parent.now self.now) }
+        ensures refused { IfErr result (λ refusal. refusal ≡ Refusal.OutOfMemory) }
+    {
+        let Some(rest) = self.behind(parent) else {
+            return Ok(None);
+        };
+        match read_subscript(alloc, rest)? {
+            Some((text, _)) => Ok(Some(text)),
+            None => Ok(None),
+        }
+    }
+
+    /// The reference that stands to `to` as this one, at or under `from`, stands to `from`. Takes memory once.
+    ///
+    /// Refusals: `TooManySubscripts` where it would have over 31; `OutOfMemory`.
+    pub fn moved(&self, alloc: Global, from: &Key, to: &Key) -> Result<Key, Refusal>
+        requires { is_under_spec from.now self.now ≡ true }
+        ensures { MatchResult result
+            (λ copy. (copy ≡ moved_spec to.now from.now self.now) × (nat_lt 31 (length copy.subscripts) ≡ false))
+            (λ refusal. (refusal ≡ Refusal.OutOfMemory) ⊎ ((refusal ≡ Refusal.TooManySubscripts) × (nat_lt 31 (length (moved_spec to.now from.now self.now).subscripts) ≡ true))) }
+    {
+        let Some(rest) = self.behind(from) else {
+            unreachable!()
+        };
+        let subscripts = to.depth() + count_subscripts(rest);
+        if subscripts > MOST_SUBSCRIPTS {
+            return Err(Refusal::TooManySubscripts);
+        }
+        let bytes = joined(alloc, to.as_slice(), rest)?;
+        Ok(Key { bytes })
+    }
+}
+
+impl PartialEq for Key {
+    ghost use Rattle.collation.specs.Order.{ref_eq};
+    ghost use Rattle.collation.specs.OrderLaws.{ref_eq_laws};
+    ghost use Rattle.std.specs.Cmp.{partial_equiv_from_equiv};
+
+    ghost eq = { ref_eq };
+
+    ghost laws = { partial_equiv_from_equiv ref_eq_laws };
+
+    fn eq(&self, other: &Key) -> bool {
+        self.as_slice() == other.as_slice()
+    }
+}
+
+impl Eq for Key {
+    ghost use Rattle.collation.specs.OrderLaws.{ref_eq_laws};
+
+    ghost laws = { ref_eq_laws };
+}
+
+impl Ord for Key {
+    ghost use Rattle.std.specs.Prelude.{refl};
+    ghost use Rattle.collation.specs.Order.{ref_cmp};
+    ghost use Rattle.collation.specs.OrderLaws.{ref_cmp_total, ref_ties};
+
+    ghost cmp = { ref_cmp };
+
+    ghost total = { ref_cmp_total };
+
+    ghost matches_partial_cmp = { λ _ _. refl };
+
+    ghost matches_eq = { ref_ties };
+
+    fn cmp(&self, other: &Key) -> Ordering {
+        self.as_slice().cmp(&other.as_slice())
+    }
+}
+
+impl PartialOrd for Key {
+    ghost use Rattle.std.specs.Prelude.{refl};
+    ghost use Rattle.std.specs.Ordering.{as_partial_cmp};
+    ghost use Rattle.std.specs.Cmp.{partial_order_from_agreeing_total};
+    ghost use Rattle.collation.specs.Order.{ref_cmp};
+    ghost use Rattle.collation.specs.OrderLaws.{ref_cmp_total, ref_ties};
+
+    ghost partial_cmp = { as_partial_cmp ref_cmp };
+
+    ghost laws = { partial_order_from_agreeing_total ref_cmp ref_cmp_total (λ _ _. refl) ref_ties };
+
+    fn partial_cmp(&self, other: &Key) -> Option<Ordering> {
+        Some(self.cmp(other))
+    }
+}
