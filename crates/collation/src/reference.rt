@@ -17,8 +17,8 @@ use std::marker::Model;
 /// How many subscripts a reference may have.
 pub const MOST_SUBSCRIPTS: usize = 31;
 
-/// A list of subscripts. Up to 3 lie in the value itself.
-pub type Subscripts = SmallVec<Text, 3>;
+/// A list of subscripts. One lies in the value itself.
+pub type Subscripts = SmallVec<Text, 1>;
 
 /// A global reference: a name, and at most 31 subscripts of 1 to 127 bytes.
 #[derive(Debug, Drop)]

@@ -1,5 +1,5 @@
 //! Strings of bytes, short ones without an allocation.
-ghost use Rattle.std.specs.Prelude.{◌≡◌, ◌==◌, ◌++◌, [], length, IfOk, OnOk, OnErr};
+ghost use Rattle.std.specs.Prelude.{◌≡◌, ◌==◌, ◌++◌, ◌≤◌, [], length, IsOk, IfOk, OnOk, OnErr};
 
 use smallvec::SmallVec;
 use std::alloc::{AllocError, Global};
@@ -33,7 +33,8 @@ impl Text {
 
     /// A copy of these bytes. Fails only for want of memory, and never at 16 bytes or fewer.
     pub fn from_slice(alloc: Global, bytes: &[u8]) -> Result<Text, AllocError>
-        ensures { IfOk result (λ text. text ≡ bytes.now) }
+        ensures ok { IfOk result (λ text. text ≡ bytes.now) }
+        ensures short { length bytes.now ≤ 16 → IsOk result }
     {
         let bytes = SmallVec::from_slice(alloc, bytes)?;
         Ok(Text { bytes })

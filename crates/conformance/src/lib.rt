@@ -1,5 +1,5 @@
-//! Tests that cross crates: scripts as text in and text out, each read and write failing in turn, and the
-//! core with each allocation refused in turn.
+//! Tests that cross crates: scripts as text in and text out, each read and write failing in turn, and worked
+//! lists of steps. What happens where memory is refused is the crate `refused_memory`.
 //!
 //! Expected texts come from docs/RULES.md and docs/FORMATS.md, never from the program.
 #![tactic(auto)]
@@ -10,8 +10,6 @@ mod examples;
 mod faults;
 #[cfg(test)]
 mod machine;
-#[cfg(test)]
-mod memory;
 #[cfg(test)]
 mod rows;
 #[cfg(test)]

@@ -1,5 +1,5 @@
-//! Worked lists of steps with their replies and the content that they leave, from docs/RULES.md, and long
-//! lists that end within the runner's limit.
+//! A worked list of steps with its replies and the content that it leaves, from docs/RULES.md, and long lists
+//! that end within the runner's limit.
 use collation::{Command, Direction, Job, Name, Place, Ref, Reply, Subscripts, Text};
 use job_core::{JobCore, Step, run_from_nothing};
 use refusal::Refusal;
@@ -14,57 +14,133 @@ fn reference(alloc: Global, texts: &[&[u8]]) -> Result<Ref, Refusal> {
     Ref::new(Name::new(Text::from_slice(alloc, b"A")?)?, subscripts)
 }
 
-fn set(alloc: Global, texts: &[&[u8]], value: &[u8]) -> Result<Step, Refusal> {
-    let value = Text::from_slice(alloc, value)?;
-    Ok(Step::Do(Job::new(1)?, Command::Set(reference(alloc, texts)?, value)))
-}
-
 fn value(alloc: Global, bytes: &[u8]) -> Result<Reply, Refusal> {
     Ok(Reply::Value(Text::from_slice(alloc, bytes)?))
 }
 
-#[test]
-fn a_worked_list_has_its_replies_and_content(rt: HostRuntime) -> Result<(), Fail> {
-    let alloc = rt.alloc();
-    let mut steps = Vec::new(alloc);
-    steps.push(set(alloc, &[b"1"], b"a")?)?;
-    steps.push(set(alloc, &[b"12"], b"b")?)?;
-    steps.push(set(alloc, &[b"1", b"x"], b"c")?)?;
-    let job = Job::new(2)?;
-    steps.push(Step::Do(job, Command::Kill(reference(alloc, &[b"1"])?)))?;
-    steps.push(Step::Do(job, Command::Data(reference(alloc, &[])?)))?;
-    steps.push(Step::Do(job, Command::Get(reference(alloc, &[b"1"])?, None)))?;
-    let first = Place::at(reference(alloc, &[b"1"])?);
-    steps.push(Step::Do(job, Command::Order(first, Direction::Forward)))?;
-    let bare = Place::at(reference(alloc, &[])?);
-    steps.push(Step::Do(job, Command::Order(bare, Direction::Forward)))?;
-    let (core, replies) = run_from_nothing(alloc, steps)?;
-    let mut want = Vec::new(alloc);
-    for _ in 0..4 {
-        want.push(Reply::Done)?;
-    }
-    want.push(Reply::Number(10))?;
-    want.push(value(alloc, b"")?)?;
-    want.push(value(alloc, b"12")?)?;
-    want.push(Reply::Refused(Refusal::NeedSubscript))?;
-    assert_eq!(rt; replies.as_slice(), want.as_slice());
-    assert_eq!(rt; core.journal().len(), 7);
-    assert_eq!(rt; core.content().nodes().len(), 1);
-    let left = core.content().get(&reference(alloc, &[b"12"])?);
-    assert_eq!(rt; left.map(|text| text.as_slice()), Some(b"b".as_slice()));
+fn push_set(
+    alloc: Global,
+    steps: &mut Vec<Step>,
+    texts: &[&[u8]],
+    value: &[u8],
+) -> Result<(), Refusal> {
+    let node = reference(alloc, texts)?;
+    let command = Command::Set(node, Text::from_slice(alloc, value)?);
+    push_step(steps, 1, command)
+}
+
+fn push_step(steps: &mut Vec<Step>, job: u64, command: Command) -> Result<(), Refusal> {
+    steps.push(Step::Do(Job::new(job)?, command))?;
     Ok(())
+}
+
+fn push_sets(alloc: Global, steps: &mut Vec<Step>) -> Result<(), Refusal> {
+    push_set(alloc, steps, &[b"1"], b"a")?;
+    push_set(alloc, steps, &[b"12"], b"b")?;
+    push_set(alloc, steps, &[b"1", b"x"], b"c")
+}
+
+fn push_kill(alloc: Global, steps: &mut Vec<Step>) -> Result<(), Refusal> {
+    let killed = reference(alloc, &[b"1"])?;
+    push_step(steps, 2, Command::Kill(killed))
+}
+
+fn push_reads(alloc: Global, steps: &mut Vec<Step>) -> Result<(), Refusal> {
+    let whole = reference(alloc, &[])?;
+    push_step(steps, 2, Command::Data(whole))?;
+    let killed = reference(alloc, &[b"1"])?;
+    push_step(steps, 2, Command::Get(killed, None))
+}
+
+// $ORDER from ^A(1), and from ^A, which needs a subscript.
+fn push_orders(alloc: Global, steps: &mut Vec<Step>) -> Result<(), Refusal> {
+    let first = Place::at(reference(alloc, &[b"1"])?);
+    push_step(steps, 2, Command::Order(first, Direction::Forward))?;
+    let bare = Place::at(reference(alloc, &[])?);
+    push_step(steps, 2, Command::Order(bare, Direction::Forward))
+}
+
+fn worked_steps(alloc: Global) -> Result<Vec<Step>, Refusal> {
+    let mut steps = Vec::new(alloc);
+    push_sets(alloc, &mut steps)?;
+    push_kill(alloc, &mut steps)?;
+    push_reads(alloc, &mut steps)?;
+    push_orders(alloc, &mut steps)?;
+    Ok(steps)
+}
+
+fn push_answers(alloc: Global, replies: &mut Vec<Reply>) -> Result<(), Refusal> {
+    replies.push(Reply::Number(10))?;
+    replies.push(value(alloc, b"")?)?;
+    replies.push(value(alloc, b"12")?)?;
+    Ok(())
+}
+
+fn worked_replies(alloc: Global) -> Result<Vec<Reply>, Refusal> {
+    let mut replies = Vec::new(alloc);
+    for _ in 0..4 {
+        replies.push(Reply::Done)?;
+    }
+    push_answers(alloc, &mut replies)?;
+    replies.push(Reply::Refused(Refusal::NeedSubscript))?;
+    Ok(replies)
+}
+
+// The replies alone.
+fn replies_from_nothing(alloc: Global, steps: Vec<Step>) -> Result<Vec<Reply>, Refusal> {
+    let (_core, replies) = run_from_nothing(alloc, steps)?;
+    Ok(replies)
+}
+
+#[test]
+fn a_worked_list_has_its_replies(rt: HostRuntime) -> Result<(), Fail> {
+    let replies = replies_from_nothing(rt.alloc(), worked_steps(rt.alloc())?)?;
+    let want = worked_replies(rt.alloc())?;
+    assert_eq!(rt; replies.as_slice(), want.as_slice());
+    Ok(())
+}
+
+// Whether the reference has this value in the core's content.
+fn holds(alloc: Global, core: &JobCore, texts: &[&[u8]], value: &[u8]) -> Result<bool, Refusal> {
+    let reference = reference(alloc, texts)?;
+    let found = globals::get(alloc, core.content(), &reference)?;
+    Ok(found.map(|text| text.as_slice()) == Some(value))
+}
+
+// Every step but the refused one is in the journal, and ^A(12) alone is left.
+fn is_left_by_the_list(alloc: Global, core: &JobCore) -> Result<bool, Refusal> {
+    let is_held = holds(alloc, core, &[b"12"], b"b")?;
+    Ok(is_held && core.journal().len() == 7 && core.content().nodes().len() == 1)
+}
+
+#[test]
+fn a_worked_list_leaves_its_content(rt: HostRuntime) -> Result<(), Fail> {
+    let steps = worked_steps(rt.alloc())?;
+    let (core, _replies) = run_from_nothing(rt.alloc(), steps)?;
+    assert!(rt; is_left_by_the_list(rt.alloc(), &core)?);
+    Ok(())
+}
+
+fn answer(core: &mut JobCore, command: Command) -> Result<Reply, Refusal> {
+    Ok(core.step(Job::new(1)?, command))
+}
+
+fn is_set(alloc: Global, core: &mut JobCore, text: &[u8]) -> Result<bool, Refusal> {
+    let node = reference(alloc, &[text])?;
+    let value = Text::from_slice(alloc, text)?;
+    Ok(answer(core, Command::Set(node, value))? == Reply::Done)
+}
+
+fn is_got(alloc: Global, core: &mut JobCore, text: &[u8]) -> Result<bool, Refusal> {
+    let node = reference(alloc, &[text])?;
+    let got = answer(core, Command::Get(node, None))?;
+    Ok(got == value(alloc, text)?)
 }
 
 // Sets ^A(n) = n and gets it again.
 fn is_set_and_got(alloc: Global, core: &mut JobCore, n: u32) -> Result<bool, Fail> {
     let digits = n.to_string(alloc)?;
-    let text = digits.as_bytes();
-    let job = Job::new(1)?;
-    let key = reference(alloc, &[text])?;
-    let again = key.clone()?;
-    let done = core.step(job, Command::Set(key, Text::from_slice(alloc, text)?));
-    let got = core.step(job, Command::Get(again, None));
-    Ok(done == Reply::Done && got == value(alloc, text)?)
+    Ok(is_set(alloc, core, digits.as_bytes())? && is_got(alloc, core, digits.as_bytes())?)
 }
 
 const MANY: u32 = 100_000;

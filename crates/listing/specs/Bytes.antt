@@ -1,5 +1,5 @@
 -- What was written, and what was read.
-use Rattle.std.specs.Prelude.{◌≡◌, ℕ, ◌+◌, ◌-◌, ◌^◌, ◌<◌, ◌≤◌, List, ◌++◌, length, take, Option}
+use Rattle.std.specs.Prelude.{◌≡◌, ℕ, ◌+◌, ◌-◌, ◌^◌, ◌≤◌, min, List, ◌++◌, length, take, Option}
 use Rattle.std.specs.Io.KnownBytes.{Appends}
 
 -- the first n bytes of the text were written
@@ -8,9 +8,9 @@ pub record WritesBeginning (old new : Option (List ℕ)) (text : List ℕ) : Typ
   pub in_range : count ≤ length text
   pub bytes : Appends old new (take count text)
 
--- one more failure, unless the count is full
+-- one more failure, where the count isn't full
 abbrev pub Counts : ℕ → ℕ → Type 0
-Counts old new = old < 2 ^ 64 - 1 → new ≡ old + 1
+Counts old new = new ≡ min (old + 1) (2 ^ 64 - 1)
 
 -- what was gathered has been written in part, and the rest is gathered still
 pub record Passes (old new : Option (List ℕ)) (gathered left : List ℕ) : Type 0 where

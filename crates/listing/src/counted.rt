@@ -89,12 +89,14 @@ impl<W: Write> Counted<W> {
 }
 
 impl<R: Read> Counted<R> {
-    /// Reads once, to the front of `piece`, and tells how many bytes came; 0 at the end of input.
+    /// Reads once, to the front of `piece`, and tells how many bytes came; 0 at the end of input. A failed read
+    /// takes nothing.
     pub fn read_some(&mut self, piece: &mut [u8]) -> Result<usize, ReadFault>
         requires { 0 < length piece.old }
         ensures count { IfOk result (λ n. n ≤ length piece.new) }
         ensures bytes { IfOk result (λ n. Consumes (R.remaining self.old.inner) (R.remaining self.new.inner) (take n piece.new)) }
         ensures end { IfOk result (λ n. n ≡ 0 → IsAtEnd (R.remaining self.new.inner)) }
+        ensures err { OnErr result (Keeps (R.remaining self.old.inner) (R.remaining self.new.inner)) }
         ensures kept { OnOk result (self.new.failures ≡ self.old.failures) }
         ensures counted { OnErr result (Counts self.old.failures self.new.failures) }
     {

@@ -67,8 +67,8 @@ fn write_gathered<W: Write>(writer: &mut Counted<W>, out: &mut Vec<u8>) -> Resul
 
 /// Writes the listing of a view: a line for each reference with a value, in order.
 ///
-/// After a fault a beginning of it was written: `Write` where a call of the writer failed, `Memory` where
-/// memory was refused.
+/// After a fault a beginning of it was written: `Write` exactly where a call of the writer failed, else `Memory`,
+/// where memory was refused.
 pub fn write_listing<V: OrderedView, W: Write>(
     alloc: Global,
     view: &V,
@@ -77,6 +77,8 @@ pub fn write_listing<V: OrderedView, W: Write>(
     ensures ok { OnOk result (Appends (W.contents writer.old.inner) (W.contents writer.new.inner) (listing_text (V.content view.now))) }
     ensures err { OnErr result (WritesBeginning (W.contents writer.old.inner) (W.contents writer.new.inner) (listing_text (V.content view.now))) }
     ensures counted { IsErrOf result ListingFault.Write → Counts writer.old.failures writer.new.failures }
+    ensures kept { OnOk result (writer.new.failures ≡ writer.old.failures) }
+    ensures memory { IsErrOf result ListingFault.Memory → writer.new.failures ≡ writer.old.failures }
 {
     let mut out = Vec::new(alloc);
     'nodes: for (key, value) in walk_from(view, Cut::Start) {

@@ -1,9 +1,8 @@
 -- Lines that were answered, one after the other.
-use Rattle.std.proofs.Common.{◌≡◌, ℕ, suc, ◌+◌, ◌-◌, ◌≤◌, take, Bool, true, false, ◌||◌, List, [], ◌∷◌, ◌++◌, map, length, drop, Option, refl, sym, ap, ◌∙◌, append_assoc, arith, length-drop}
+use Rattle.std.proofs.Common.{◌≡◌, ℕ, suc, ◌+◌, ◌-◌, ◌≤◌, take, Bool, true, false, ◌||◌, List, [], ◌∷◌, ◌++◌, map, length, drop, Option, refl, sym, ap, subst, ◌∙◌, append_assoc, arith, length-drop}
 use Rattle.std.proofs.lemmas.List.{append-nil, map-append}
 use Rattle.std.proofs.lemmas.Grind.{flat_map-append}
 use Rattle.std.proofs.lemmas.List.Folds.{list_any-append}
-use Rattle.std.specs.List.{AllByRecursion, flat_map, list_any}
 use Rattle.collation.specs.declared.command.Reply.{Reply}
 use Rattle.journal.specs.declared.unit.Unit.{Unit as JournalUnit}
 use Rattle.journal.specs.History.{initial, IsLegal}
@@ -15,7 +14,7 @@ use Rattle.std.proofs.lemmas.List.{take_all}
 use Rattle.bstr.specs.Find.{IsFirstByte, is_byte}
 use Rattle.script_run.specs.Lines.{kept, lines_of, has_no_end}
 use Rattle.script_run.proofs.Cut.{end_of, first_line, no_end, joined_line, has_no_end-append, drop_more}
-use Rattle.script_run.specs.Output.{Answer, Answers, told_by, units_of, text_of, is_refused, some_refused, Ran, RanFront}
+use Rattle.script_run.specs.Output.{Answer, IsAnswer, AreAnswers, told_by, units_of, text_of, is_refused, some_refused, Ran, RanFront}
 use Rattle.script_run.specs.declared.run.Script.{Script}
 
 or-false : (b : Bool) → b ≡ (b || false)
@@ -29,7 +28,7 @@ or-assoc false b c = refl
 pub Ran-none : (s : Script) → Ran [] s s
 Ran-none s = record { answers = []; of_lines = refl; each = tt; units = sym (append-nil s.core); text = sym (append-nil s.out.items); refused = or-false s.refused; legal = λ h. h }
 
-pub Ran-one : (line : List ℕ) (reply : Reply) (job : Option ℕ) (old new : Script) → job ≡ job_of line → Answers (line, reply) → new.core ≡ old.core ++ told_by (reading_of line) reply
+pub Ran-one : (line : List ℕ) (reply : Reply) (job : Option ℕ) (old new : Script) → job ≡ job_of line → IsAnswer old.core (reading_of line) reply → new.core ≡ old.core ++ told_by (reading_of line) reply
     → new.out.items ≡ old.out.items ++ reply_text job reply → new.refused ≡ (old.refused || is_refused reply) → (IsLegal old.core initial → IsLegal new.core initial) → Ran (line ∷ []) old new
 Ran-one line reply job old new j a u t r l = record {
   answers = (line, reply) ∷ [];
@@ -41,15 +40,18 @@ Ran-one line reply job old new j a u t r l = record {
   legal = l;
 }
 
-pub All-append : (xs ys : List Answer) → AllByRecursion Answers xs → AllByRecursion Answers ys → AllByRecursion Answers (xs ++ ys)
-All-append [] ys h k = k
-All-append (x ∷ xs) ys h k = (h.0, All-append xs ys h.1 k)
+-- answers after some units, and then answers after theirs
+pub AreAnswers-append : (us vs : List JournalUnit) (xs ys : List Answer) → AreAnswers us xs → vs ≡ us ++ units_of xs → AreAnswers vs ys → AreAnswers us (xs ++ ys)
+AreAnswers-append us vs [] ys h e k = subst (λ (ws : List JournalUnit). AreAnswers ws ys) (e ∙ append-nil us) k
+AreAnswers-append us vs (x ∷ xs) ys h e k =
+    let told : List JournalUnit = told_by (reading_of x.0) x.1 in
+    (h.0, AreAnswers-append (us ++ told) vs xs ys h.1 (e ∙ sym (append_assoc us told (units_of xs))) k)
 
 pub Ran-then : (ls ms : List (List ℕ)) (a b c : Script) → Ran ls a b → Ran ms b c → Ran (ls ++ ms) a c
 Ran-then ls ms a b c h k = record {
   answers = h.answers ++ k.answers;
   of_lines = map-append (λ (x : Answer). x.0) h.answers k.answers ∙ ap (λ (l : List (List ℕ)). l ++ map (λ (x : Answer). x.0) k.answers) h.of_lines ∙ ap (λ (l : List (List ℕ)). ls ++ l) k.of_lines;
-  each = All-append h.answers k.answers h.each k.each;
+  each = AreAnswers-append a.core b.core h.answers k.answers h.each h.units k.each;
   units = k.units ∙ ap (λ (us : List JournalUnit). us ++ units_of k.answers) h.units ∙ append_assoc a.core (units_of h.answers) (units_of k.answers)
       ∙ ap (λ (us : List JournalUnit). a.core ++ us) (sym (flat_map-append _ h.answers k.answers));
   text = k.text ∙ ap (λ (ts : List ℕ). ts ++ text_of k.answers) h.text ∙ append_assoc a.out.items (text_of h.answers) (text_of k.answers)

@@ -1,29 +1,25 @@
 -- How far a script has come.
-use Rattle.std.proofs.Common.{◌≡◌, ℕ, ◌+◌, ◌≤◌, Bool, true, false, ◌||◌, List, [], ◌∷◌, ◌++◌, map, length, take, drop, Option, Some, None, Result, Ok, Err, IfSome, refl, sym, ap, subst, ◌∙◌, append_assoc, arith, inl, inr}
-use Rattle.std.proofs.lemmas.List.{append-nil, map-append, length-append}
+use Rattle.std.proofs.Common.{◌≡◌, ℕ, Bool, true, false, ◌||◌, List, [], ◌∷◌, ◌++◌, map, length, Option, Some, None, Result, Ok, Err, IfSome, refl, sym, ap, subst, ◌∙◌, append_assoc, arith, inl, inr}
+use Rattle.std.proofs.lemmas.List.{append-nil, map-append}
 use Rattle.std.proofs.lemmas.Grind.{flat_map-append}
 use Rattle.std.proofs.lemmas.List.Folds.{list_any-append}
-use Rattle.std.proofs.lemmas.List.{take_all, take-append-le}
-use Rattle.std.proofs.Math.Seq.{take-append-add}
 use Rattle.std.specs.Prelude.{codes, ⊤, OnErr}
-use Rattle.std.specs.List.{AllByRecursion}
 use Rattle.std.specs.Io.KnownBytes.{Appends, Consumes, IsAtEnd}
 use Rattle.refusal.specs.declared.Refusal.{Refusal}
 use Rattle.refusal.specs.declared.Refusal.TheVariants.{OutOfMemory}
 use Rattle.collation.specs.declared.command.Command.{Command}
-use Rattle.collation.specs.declared.command.Reply.{Reply}
 use Rattle.collation.specs.declared.command.Reply.TheVariants.{Refused}
 use Rattle.journal.specs.declared.unit.Unit.{Unit as JournalUnit}
 use Rattle.journal.specs.History.{initial, after, IsLegal}
-use Rattle.script.specs.Line.{reading_of, job_of}
+use Rattle.script.specs.Line.{reading_of}
 use Rattle.listing.specs.Listing.{listing_text}
 use Rattle.listing.specs.Bytes.{WritesBeginning}
-use Rattle.script_run.specs.Lines.{kept, lines_of, has_no_end}
-use Rattle.script_run.specs.Output.{Answer, Answers, IsAnswer, told_by, units_of, text_of, some_refused, Ran, RanFront, RanEnd, HasRead, IsOutput, Wrote, IsBegun}
+use Rattle.script_run.specs.Lines.{lines_of, has_no_end}
+use Rattle.script_run.specs.Output.{Answer, IsAnswer, AreAnswers, told_by, units_of, text_of, some_refused, RanFront, RanEnd, HasRead, IsOutput, Wrote, IsBegun}
 use Rattle.script_run.specs.declared.run.Script.{Script}
 use Rattle.listing.specs.BytesLaws.{Appends-nothing, Appends-more, WritesBeginning-all, WritesBeginning-longer, WritesBeginning-then}
 use Rattle.script_run.proofs.Cut.{last_line}
-use Rattle.script_run.proofs.Runs.{All-append}
+use Rattle.script_run.proofs.Runs.{AreAnswers-append}
 
 abbrev pub lines_in : List Answer → List (List ℕ)
 lines_in answers = map (λ a. a.0) answers
@@ -37,7 +33,7 @@ Follows (Some all) (Some more) lines begun = lines_of all ≡ lines ++ lines_of 
 -- lines were answered and the answers written, and a line has begun
 pub record Stands (all left : Option (List ℕ)) (begun : List ℕ) (old new : Option (List ℕ)) (script : Script) : Type 0 where
   pub answers : List Answer
-  pub each : AllByRecursion Answers answers
+  pub each : AreAnswers [] answers
   pub units : script.core ≡ units_of answers
   pub legal : IsLegal script.core initial
   pub out : script.out.items ≡ []
@@ -77,7 +73,7 @@ Follows-lines (Some all) (Some more) ls ms begun rest h k = h ∙ ap (λ (l : Li
 -- what was answered when a block was run, before it is written
 pub record Moved (all left : Option (List ℕ)) (begun : List ℕ) (before : List Answer) (script : Script) : Type 0 where
   pub more : List Answer
-  pub each : AllByRecursion Answers (before ++ more)
+  pub each : AreAnswers [] (before ++ more)
   pub units : script.core ≡ units_of (before ++ more)
   pub legal : IsLegal script.core initial
   pub out : script.out.items ≡ text_of more
@@ -90,7 +86,7 @@ lines-append xs ys = map-append (λ (x : Answer). x.0) xs ys
 pub moved : (all left left' old new : Option (List ℕ)) (begun piece rest : List ℕ) (a b : Script) (h : Stands all left begun old new a) → HasRead left left' piece → RanFront (begun ++ piece) rest a b → Moved all left' rest h.answers b
 moved all left left' old new begun piece rest a b h r f = record {
   more = f.ran.answers;
-  each = All-append h.answers f.ran.answers h.each f.ran.each;
+  each = AreAnswers-append [] a.core h.answers f.ran.answers h.each h.units f.ran.each;
   units = f.ran.units ∙ ap (λ (us : List JournalUnit). us ++ units_of f.ran.answers) h.units ∙ sym (flat_map-append _ h.answers f.ran.answers);
   legal = f.ran.legal h.legal;
   out = f.ran.text ∙ ap (λ (t : List ℕ). t ++ text_of f.ran.answers) h.out;
@@ -125,13 +121,13 @@ silent-lines : (ls : List (List ℕ)) → lines_in (silent ls) ≡ ls
 silent-lines [] = refl
 silent-lines (l ∷ ls) = ap (λ (m : List (List ℕ)). l ∷ m) (silent-lines ls)
 
-no_memory : (r : Result (ℕ × Command) Refusal) → IsAnswer r (Refused OutOfMemory)
-no_memory (Ok step) = tt
-no_memory (Err e) = inr refl
+no_memory : (us : List JournalUnit) (r : Result (ℕ × Command) Refusal) → IsAnswer us r (Refused OutOfMemory)
+no_memory us (Ok step) = inl (inr refl)
+no_memory us (Err e) = inr refl
 
-silent-each : (ls : List (List ℕ)) → AllByRecursion Answers (silent ls)
-silent-each [] = tt
-silent-each (l ∷ ls) = (no_memory (reading_of l), silent-each ls)
+silent-each : (us : List JournalUnit) (ls : List (List ℕ)) → AreAnswers us (silent ls)
+silent-each us [] = tt
+silent-each us (l ∷ ls) = (no_memory us (reading_of l), silent-each (us ++ told_by (reading_of l) (Refused OutOfMemory)) ls)
 
 told-nothing : (r : Result (ℕ × Command) Refusal) → told_by r (Refused OutOfMemory) ≡ []
 told-nothing (Ok step) = refl
@@ -147,7 +143,7 @@ pub record Goes (bytes text : List ℕ) : Type 0 where
   pub output : IsOutput bytes (text ++ more) refused
 
 -- a text of answers goes on to a whole output
-pub goes_on : (bytes : List ℕ) (answers : List Answer) (rest : List (List ℕ)) → lines_of bytes ≡ lines_in answers ++ rest → AllByRecursion Answers answers → IsLegal (units_of answers) initial → Goes bytes (text_of answers)
+pub goes_on : (bytes : List ℕ) (answers : List Answer) (rest : List (List ℕ)) → lines_of bytes ≡ lines_in answers ++ rest → AreAnswers [] answers → IsLegal (units_of answers) initial → Goes bytes (text_of answers)
 goes_on bytes answers rest e each legal =
     let whole : List Answer = answers ++ silent rest in
     let same : units_of whole ≡ units_of answers = flat_map-append _ answers (silent rest) ∙ ap (λ (us : List JournalUnit). units_of answers ++ us) (silent-units rest) ∙ append-nil (units_of answers) in
@@ -158,7 +154,7 @@ goes_on bytes answers rest e each legal =
       output = record {
         answers = whole;
         of_lines = lines-append answers (silent rest) ∙ ap (λ (l : List (List ℕ)). lines_in answers ++ l) (silent-lines rest) ∙ sym e;
-        each = All-append answers (silent rest) each (silent-each rest);
+        each = AreAnswers-append [] (units_of answers) answers (silent rest) each refl (silent-each (units_of answers) rest);
         legal = subst (λ (us : List JournalUnit). IsLegal us initial) (sym same) legal;
         written = sym (append_assoc (text_of answers) (text_of (silent rest)) tail) ∙ ap (λ (t : List ℕ). t ++ tail) (sym (flat_map-append _ answers (silent rest))) ∙ sym (append_assoc (text_of whole) (codes "--\n") (listing_text (after (units_of whole) initial).map));
         told = refl;
@@ -167,7 +163,7 @@ goes_on bytes answers rest e each legal =
 
 -- ---- what was written
 
-begun_of : (all left old new : Option (List ℕ)) (answers : List Answer) (begun : List ℕ) → Follows all left (lines_in answers) begun → AllByRecursion Answers answers → IsLegal (units_of answers) initial
+begun_of : (all left old new : Option (List ℕ)) (answers : List Answer) (begun : List ℕ) → Follows all left (lines_in answers) begun → AreAnswers [] answers → IsLegal (units_of answers) initial
     → WritesBeginning old new (text_of answers) → IfSome all (λ bytes. IsBegun bytes old new)
 begun_of None left old new answers begun f each legal w = tt
 begun_of (Some bytes) None old new answers begun f each legal w = absurd f
@@ -215,7 +211,7 @@ whole_output bytes left left' old new begun piece a b h r none e =
     record {
       answers = whole;
       of_lines = lines-append h.answers f.answers ∙ ap (λ (l : List (List ℕ)). lines_in h.answers ++ l) (f.of_lines ∙ sym (last_line begun h.whole)) ∙ sym (at_end bytes left left' (lines_in h.answers) begun piece h.split r.consumed (nothing_read piece none) (r.ended none));
-      each = All-append h.answers f.answers h.each f.each;
+      each = AreAnswers-append [] a.core h.answers f.answers h.each h.units f.each;
       legal = subst (λ (us : List JournalUnit). IsLegal us initial) (sym e.core ∙ units-is) (f.legal h.legal);
       written = ap (λ (t : List ℕ). t ++ listing_of b) front-is ∙ ap (λ (us : List JournalUnit). (text_of whole ++ dashes) ++ listing_text (after us initial).map) units-is;
       told = e.refused ∙ f.refused ∙ ap (λ (x : Bool). x || some_refused f.answers) h.refused ∙ sym (list_any-append _ h.answers f.answers);

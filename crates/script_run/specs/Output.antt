@@ -1,6 +1,6 @@
 -- What a script writes.
-use Rattle.std.specs.Prelude.{◌≡◌, ◌⊎◌, ⊤, ℕ, Bool, true, false, ◌||◌, List, [], ◌∷◌, ◌++◌, map, Option, None, Some, Result, Ok, Err, length, codes}
-use Rattle.std.specs.List.{flat_map, list_any, AllByRecursion}
+use Rattle.std.specs.Prelude.{◌≡◌, ◌⊎◌, ⊤, ℕ, Bool, true, false, ◌||◌, List, [], ◌∷◌, ◌++◌, map, Option, Result, Ok, Err, length, codes}
+use Rattle.std.specs.List.{flat_map, list_any}
 use Rattle.std.specs.Io.KnownBytes.{Appends, Consumes, IsAtEnd}
 use Rattle.refusal.specs.declared.Refusal.{Refusal}
 use Rattle.refusal.specs.declared.Refusal.TheVariants.{OutOfMemory}
@@ -10,6 +10,7 @@ use Rattle.collation.specs.declared.command.Reply.TheVariants.{Done, Value, Numb
 use Rattle.journal.specs.declared.unit.Unit.{Unit as JournalUnit}
 use Rattle.journal.specs.History.{initial, after, IsLegal}
 use Rattle.journal.specs.Story.{told}
+use Rattle.job_core.specs.Causes.{IsCaused}
 use Rattle.script.specs.Line.{reading_of, job_of}
 use Rattle.script.specs.Text.{reply_text}
 use Rattle.listing.specs.Listing.{listing_text}
@@ -21,13 +22,10 @@ use Rattle.script_run.specs.declared.run.Script.{Script}
 abbrev pub Answer : Type 0
 Answer = List ℕ × Reply
 
--- a line that asks nothing gets its refusal, or that of memory; what another gets is the machine's to say
-abbrev pub IsAnswer : Result (ℕ × Command) Refusal → Reply → Type 0
-IsAnswer (Ok step) reply = ⊤
-IsAnswer (Err refusal) reply = (reply ≡ Refused refusal) ⊎ (reply ≡ Refused OutOfMemory)
-
-abbrev pub Answers : Answer → Type 0
-Answers a = IsAnswer (reading_of a.0) a.1
+-- a line that asks nothing gets its refusal, or that of memory; another is refused after these units only with a cause
+abbrev pub IsAnswer : List JournalUnit → Result (ℕ × Command) Refusal → Reply → Type 0
+IsAnswer units (Ok step) reply = IsCaused reply step.1 (after units initial).map (length units)
+IsAnswer units (Err refusal) reply = (reply ≡ Refused refusal) ⊎ (reply ≡ Refused OutOfMemory)
 
 -- the units that one reads off a line and its reply
 abbrev pub told_by : Result (ℕ × Command) Refusal → Reply → List JournalUnit
@@ -36,6 +34,11 @@ told_by (Err refusal) reply = []
 
 abbrev pub units_of : List Answer → List JournalUnit
 units_of answers = flat_map (λ a. told_by (reading_of a.0) a.1) answers
+
+-- each line has its answer after these units and those of the lines before it
+abbrev pub AreAnswers : List JournalUnit → List Answer → Type 0
+AreAnswers units [] = ⊤
+AreAnswers units (a ∷ answers) = IsAnswer units (reading_of a.0) a.1 × AreAnswers (units ++ told_by (reading_of a.0) a.1) answers
 
 abbrev pub text_of : List Answer → List ℕ
 text_of answers = flat_map (λ a. reply_text (job_of a.0) a.1) answers
@@ -54,7 +57,7 @@ some_refused answers = list_any (λ a. is_refused a.1) answers
 pub record Ran (lines : List (List ℕ)) (old new : Script) : Type 0 where
   pub answers : List Answer
   pub of_lines : map (λ a. a.0) answers ≡ lines
-  pub each : AllByRecursion Answers answers
+  pub each : AreAnswers old.core answers
   pub units : new.core ≡ old.core ++ units_of answers
   pub text : new.out.items ≡ old.out.items ++ text_of answers
   pub refused : new.refused ≡ (old.refused || some_refused answers)
@@ -83,7 +86,7 @@ pub record HasRead (old new : Option (List ℕ)) (piece : List ℕ) : Type 0 whe
 pub record IsOutput (bytes text : List ℕ) (refused : Bool) : Type 0 where
   pub answers : List Answer
   pub of_lines : map (λ a. a.0) answers ≡ lines_of bytes
-  pub each : AllByRecursion Answers answers
+  pub each : AreAnswers [] answers
   pub legal : IsLegal (units_of answers) initial
   pub written : text ≡ text_of answers ++ codes "--\n" ++ listing_text (after (units_of answers) initial).map
   pub told : refused ≡ some_refused answers

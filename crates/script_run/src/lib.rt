@@ -1,9 +1,9 @@
 //! Scripts from bytes to bytes: lines in, replies and the listing out.
 //!
 //! Callers see it as one relation between the bytes read and the bytes written: `IsOutput` of
-//! `specs/Output.antt`. Each line that isn't empty has one reply, the story of lines and replies is a legal
-//! journal, and what is written is the text of the replies, `--`, and the listing of the map that the journal
-//! leaves. After a fault what was written is a beginning of such a text.
+//! `specs/Output.antt`. Each line that isn't empty has one reply, a command is refused only with a cause at its
+//! place, the story of lines and replies is a legal journal, and what is written is the text of the replies, `--`,
+//! and the listing of the map that the journal leaves. After a fault what was written is a beginning of such a text.
 //!
 //! Input is read in pieces. The whole lines of a piece are run and their replies written before the next read,
 //! so that a person or a program at the other end of a pipe gets its replies at once. A line is copied only

@@ -6,7 +6,7 @@ ghost use Rattle.script.specs.Line.{reading_of, job_of};
 ghost use Rattle.journal.specs.History.{initial, IsLegal};
 ghost use Rattle.listing.specs.Bytes.{Counts};
 ghost use Rattle.script_run.specs.Lines.{kept, has_no_end};
-ghost use Rattle.script_run.specs.Output.{Answers, told_by, is_refused as refused_of, Ran, RanFront, RanEnd, HasRead, Wrote, IsBegun};
+ghost use Rattle.script_run.specs.Output.{IsAnswer, told_by, is_refused as refused_of, Ran, RanFront, RanEnd, HasRead, Wrote, IsBegun};
 
 use crate::Fault;
 use bstr::ByteSlice;
@@ -37,7 +37,7 @@ struct Script {
 
 fn answer_line(alloc: Global, core: &mut JobCore, line: &[u8]) -> (Option<Job>, Reply)
     ensures job { result.0 ≡ job_of line.now }
-    ensures answer { Answers (line.now, result.1) }
+    ensures answer { IsAnswer core.old (reading_of line.now) result.1 }
     ensures units { core.new ≡ core.old ++ told_by (reading_of line.now) result.1 }
     ensures legal { IsLegal core.old initial → IsLegal core.new initial }
 {
@@ -178,8 +178,8 @@ fn finish(alloc: Global, script: &mut Script, begun: &[u8]) -> Result<(), AllocE
 /// the listing.
 ///
 /// On `Ok` the text is whole. After a fault it is a beginning of a whole one, without a listing unless the
-/// fault came while that was written. `Read` and `Write` are answered only where a call of the reader or the
-/// writer failed, `Memory` where memory was refused and no reply could say so.
+/// fault came while that was written. `Read` and `Write` are answered exactly where a call of the reader or the
+/// writer failed, `Memory` where none did, but memory was refused and no reply could say so.
 pub fn run_script<R: Read, W: Write>(
     alloc: Global,
     reader: &mut Counted<R>,
@@ -191,6 +191,8 @@ pub fn run_script<R: Read, W: Write>(
         (λ bytes. IsBegun bytes (W.contents writer.old.inner) (W.contents writer.new.inner))) }
     ensures read { IsErrOf result Fault.Read → Counts reader.old.failures reader.new.failures }
     ensures write { IsErrOf result Fault.Write → Counts writer.old.failures writer.new.failures }
+    ensures kept { OnOk result ((reader.new.failures ≡ reader.old.failures) × (writer.new.failures ≡ writer.old.failures)) }
+    ensures memory { IsErrOf result Fault.Memory → (reader.new.failures ≡ reader.old.failures) × (writer.new.failures ≡ writer.old.failures) }
 {
     let mut script = Script {
         core: JobCore::new(alloc),

@@ -1,4 +1,4 @@
-use Rattle.std.proofs.Common.{◌≡◌, ◌<◌, ◌+◌, ◌-◌, length, sym, ap, ◌∙◌, arith, ◌++◌}
+use Rattle.std.proofs.Common.{◌≡◌, ◌<◌, ◌+◌, ◌-◌, length, refl, sym, ap, inl, inr, ◌∙◌, arith, ◌++◌}
 use Rattle.std.proofs.lemmas.Bool.Decides.{nat_tests}
 use Rattle.canonic_number.specs.PlaceLaws.{length-after_zeros}
 use Rattle.canonic_number.proofs.Zeros.{significant-fraction, significant-whole, place-fraction, place-whole}
@@ -19,6 +19,7 @@ returns-then-is_empty-clause-parts c =
       place = λ k. ap (λ t. 0 + k - (length n.fraction.now - length t)) rest ∙ sym (place-fraction k n.whole.now n.fraction.now none) ∙ of.place k;
       whole_short = omega arith;
       zeros_short = omega (arith, of.short);
+      one_none = inl refl;
     }
 
 pub returns-clause-parts : goal.returns-clause-parts
@@ -32,4 +33,5 @@ returns-clause-parts c =
       place = λ k. sym (place-whole k n.whole.now n.fraction.now some of.form.digits.begins) ∙ of.place k;
       whole_short = of.whole_short;
       zeros_short = omega (arith, of.short);
+      one_none = inr refl;
     }

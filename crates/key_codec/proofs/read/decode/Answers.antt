@@ -8,7 +8,7 @@ pub returns-in_default-new-clause-none : goal.returns-in_default-new-clause-none
 returns-in_default-new-clause-none c = λ x is e.
     let parted = c.in-Some.ensures.some in
     let has : HasReference c.in-Some.front.now c.in-Some.rest.now x = has_reference c.args.bytes.now c.in-Some.front.now c.in-Some.rest.now x is parted.1 parted.0 e in
-    let clash : true ≡ false = sym has.is_name ∙ ap is_name (sym c.in_ok-front.ensures) ∙ c.in_default-new.ensures.0 in
+    let clash : true ≡ false = sym has.is_name ∙ ap is_name (sym c.in_ok-front.ensures.ok) ∙ c.in_default-new.ensures.0 in
     cc
 
 pub returns-in_default-2-clause-none : goal.returns-in_default-2-clause-none

@@ -35,6 +35,6 @@ returns-clause-some c =
     let digits : c.as_slice-3.result.now ≡ map (digit_of c.args.negative) c.args.front.now = c.as_slice-3.ensures ∙ c.in_ok-digits.ensures in
     let low : list_all (λ b. nat_le b 10) c.args.front.now ≡ true = sym c.are_digit_bytes.ensures ∙ c.if-not-are_digit_bytes.false in
     let number : IsNumberOf c.as_slice-2.result.now c.args.negative c.in-Some.place c.as_slice-3.result.now = c.is_number_of.ensures.0 c.if-not-is_number_of.false in
-    let same : c.as_slice-2.result.now ≡ c.in_ok-text.text = c.as_slice-2.ensures ∙ sym c.as_slice-4.ensures ∙ sym c.in_ok-text.ensures in
+    let same : c.as_slice-2.result.now ≡ c.in_ok-text.text = c.as_slice-2.ensures ∙ sym c.as_slice-4.ensures ∙ sym c.in_ok-text.ensures.ok in
     subst (IsNumberKey c.args.negative c.args.byte c.args.front.now) same
     (found_number c.args.negative c.args.byte c.in-Some.place c.args.front.now c.as_slice-3.result.now c.as_slice-2.result.now number c.in-Some.ensures.some.0 low digits)

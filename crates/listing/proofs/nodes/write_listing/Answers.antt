@@ -1,4 +1,4 @@
-use Rattle.std.proofs.Common.{List, ◌++◌, ◌∷◌, [], sym, subst, refl, ◌∙◌}
+use Rattle.std.proofs.Common.{List, ◌∷◌, [], sym, subst, refl, ◌∙◌}
 use Rattle.std.proofs.lemmas.List.{map-append}
 use Rattle.std.specs.FinMap as finmap
 use Rattle.listing.proofs.Gathered.{Entry, Stands, stands_first, stands_next, begun, begun_more, begun_out, wrote_all, from_start, on_err}

@@ -1,4 +1,4 @@
-use Rattle.std.proofs.Common.{◌≡◌, ◌+◌, ◌-◌, ◌++◌, [], suc, List, ℕ, length, take, drop, sym, ap, subst, ◌∙◌, arith, add-one}
+use Rattle.std.proofs.Common.{◌≡◌, ◌+◌, ◌-◌, ◌++◌, suc, List, ℕ, length, take, drop, sym, ap, subst, ◌∙◌, add-one}
 use Rattle.std.specs.Io.BufRead.{strip_last}
 use Rattle.script_run.specs.Output.{RanFront}
 use Rattle.script_run.proofs.Runs.{no_end_piece, joined_lines, rest_of}
