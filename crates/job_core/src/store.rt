@@ -104,7 +104,7 @@ impl Store {
     pub fn nodes(&self) -> &[(Key, Text)]
         ensures { result.now ≡ map.entries self.now.map }
     {
-        &self.nodes
+        self.nodes.as_slice()
     }
 
     /// Makes room for `more` further references. Where memory is refused nothing has changed.

@@ -72,7 +72,7 @@ impl Journal {
     pub fn len(&self) -> u64
         ensures { result ≡ length self.now.units }
     {
-        self.units.len() as u64
+        self.units().len() as u64
     }
 
     /// The units, the first with number 1.

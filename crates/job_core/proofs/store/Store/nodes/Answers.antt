@@ -6,4 +6,4 @@ use Rattle.job_core.proofs.Stored.{map_entries}
 use Rattle.job_core.proofs.store.Store.nodes.Goals as goal
 
 pub returns : goal.returns
-returns c = c.deref.ensures.value ∙ map_entries ref_cmp c.self.inside.nodes.items c.self.invariant ∙ ap (λ (h : Held). entries h.map) c.self.view_is
+returns c = c.as_slice.ensures.value ∙ map_entries ref_cmp c.self.inside.nodes.items c.self.invariant ∙ ap (λ (h : Held). entries h.map) c.self.view_is
