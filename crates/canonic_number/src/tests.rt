@@ -3,9 +3,9 @@ use crate::{
     Numeral, canonic_of, canonic_of_is_right, cmp_numerals, equal_values_are_equal_texts,
     is_canonic, is_numeric, parts, read_numeral,
 };
+use refusal::Refusal;
 use std::alloc::Global;
 use std::cmp::Ordering;
-use std::process::Abort;
 use std::test::Fail;
 
 #[test]
@@ -29,30 +29,30 @@ fn is_canonic_of_other_texts_is_false(rt: HostRuntime) {
     }
 }
 
-fn check_canonic_of(
-    rt: &impl Abort,
-    alloc: Global,
-    literal: &[u8],
-    canonic: &[u8],
-) -> Result<(), Fail> {
-    assert!(rt; is_numeric(literal), "{literal:?}");
-    let answer = canonic_of(alloc, literal)?;
-    let answer = answer.ok_or("a literal was taken for none")?;
-    assert_eq!(rt; answer.as_slice(), canonic, "{literal:?}");
-    Ok(())
+fn is_canonic_of(alloc: Global, literal: &[u8], canonic: &[u8]) -> Result<bool, Refusal> {
+    match canonic_of(alloc, literal)? {
+        Some(answer) => Ok(answer.as_slice() == canonic),
+        None => Ok(false),
+    }
 }
 
 #[test]
 fn canonic_of_drops_zeros_that_do_not_count(rt: HostRuntime) -> Result<(), Fail> {
-    check_canonic_of(&rt, rt.alloc(), b"01.50", b"1.5")?;
-    check_canonic_of(&rt, rt.alloc(), b"0.50", b".5")?;
-    check_canonic_of(&rt, rt.alloc(), b"-0", b"0")?;
-    check_canonic_of(&rt, rt.alloc(), b"-0.0", b"0")?;
-    check_canonic_of(&rt, rt.alloc(), b"-00.10", b"-.1")?;
-    check_canonic_of(&rt, rt.alloc(), b".000", b"0")?;
-    check_canonic_of(&rt, rt.alloc(), b"007", b"7")?;
-    check_canonic_of(&rt, rt.alloc(), b"100", b"100")?;
-    check_canonic_of(&rt, rt.alloc(), b"5.00", b"5")?;
+    let rows: [(&[u8], &[u8]); 9] = [
+        (b"01.50", b"1.5"),
+        (b"0.50", b".5"),
+        (b"-0", b"0"),
+        (b"-0.0", b"0"),
+        (b"-00.10", b"-.1"),
+        (b".000", b"0"),
+        (b"007", b"7"),
+        (b"100", b"100"),
+        (b"5.00", b"5"),
+    ];
+    for (literal, canonic) in rows {
+        assert!(rt; is_numeric(literal), "{literal:?}");
+        assert!(rt; is_canonic_of(rt.alloc(), literal, canonic)?, "{literal:?}");
+    }
     Ok(())
 }
 
@@ -69,33 +69,33 @@ fn canonic_of_other_texts_is_none(rt: HostRuntime) -> Result<(), Fail> {
     Ok(())
 }
 
-fn check_parts(
-    rt: &impl Abort,
-    text: &[u8],
-    negative: bool,
-    place: (usize, usize),
-    digits: (&[u8], &[u8]),
-) -> Result<(), Fail> {
-    let parts = parts(text).ok_or("a canonic text was taken for none")?;
-    assert_eq!(rt; parts.negative, negative, "{text:?}");
-    assert_eq!(rt; (parts.whole, parts.zeros), place, "{text:?}");
-    assert_eq!(rt; parts.first, digits.0, "{text:?}");
-    assert_eq!(rt; parts.second, digits.1, "{text:?}");
-    Ok(())
+fn has_parts(text: &[u8], negative: bool, place: (usize, usize), digits: (&[u8], &[u8])) -> bool {
+    match parts(text) {
+        Some(parts) => {
+            parts.negative == negative
+                && (parts.whole, parts.zeros) == place
+                && (parts.first, parts.second) == digits
+        }
+        None => false,
+    }
 }
 
 #[test]
-fn parts_of_worked_numbers(rt: HostRuntime) -> Result<(), Fail> {
-    check_parts(&rt, b"7", false, (1, 0), (b"7", b""))?;
-    check_parts(&rt, b"10", false, (2, 0), (b"1", b""))?;
-    check_parts(&rt, b"12", false, (2, 0), (b"12", b""))?;
-    check_parts(&rt, b"-1.5", true, (1, 0), (b"1", b"5"))?;
-    check_parts(&rt, b"-.5", true, (0, 0), (b"", b"5"))?;
-    check_parts(&rt, b".05", false, (0, 1), (b"", b"5"))?;
-    check_parts(&rt, b"100", false, (3, 0), (b"1", b""))?;
-    check_parts(&rt, b"0", false, (0, 0), (b"", b""))?;
+fn parts_of_worked_numbers(rt: HostRuntime) {
+    let rows: [(&[u8], bool, (usize, usize), (&[u8], &[u8])); 8] = [
+        (b"7", false, (1, 0), (b"7", b"")),
+        (b"10", false, (2, 0), (b"1", b"")),
+        (b"12", false, (2, 0), (b"12", b"")),
+        (b"-1.5", true, (1, 0), (b"1", b"5")),
+        (b"-.5", true, (0, 0), (b"", b"5")),
+        (b".05", false, (0, 1), (b"", b"5")),
+        (b"100", false, (3, 0), (b"1", b"")),
+        (b"0", false, (0, 0), (b"", b"")),
+    ];
+    for (text, negative, place, digits) in rows {
+        assert!(rt; has_parts(text, negative, place, digits), "{text:?}");
+    }
     assert!(rt; parts(b"007").is_none());
-    Ok(())
 }
 
 // As many digits as a subscript can have: no machine number holds them.

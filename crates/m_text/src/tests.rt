@@ -4,45 +4,35 @@ use crate::{
     read_spelled, references_are_read_as_spelled, skip_literal, skip_place, split_digits,
     split_letters, write_literal, write_ref,
 };
+use collation::{Place, Ref};
 use refusal::Refusal;
 use std::alloc::Global;
-use std::process::Abort;
 use std::test::Fail;
 
-// The whole text is a literal of the string.
-fn check_read(rt: &impl Abort, alloc: Global, text: &[u8], string: &[u8]) -> Result<(), Fail> {
+fn is_read_as(alloc: Global, text: &[u8], string: &[u8]) -> Result<bool, Refusal> {
     let (read, rest) = read_literal(alloc, text)?;
-    assert_eq!(rt; read.as_slice(), string, "{text:?}");
-    assert!(rt; rest.is_empty(), "{text:?}");
-    assert!(rt; skip_literal(text)?.is_empty(), "{text:?}");
-    Ok(())
+    Ok(read.as_slice() == string && rest.is_empty())
 }
 
-// The whole text is no literal.
-fn check_none(rt: &impl Abort, alloc: Global, text: &[u8]) -> Result<(), Fail> {
-    match read_literal(alloc, text) {
-        Ok((_, rest)) => assert!(rt; !rest.is_empty(), "{text:?}"),
-        Err(refusal) => assert_eq!(rt; refusal, Refusal::BadLine, "{text:?}"),
-    }
-    match skip_literal(text) {
-        Ok(rest) => assert!(rt; !rest.is_empty(), "{text:?}"),
-        Err(refusal) => assert_eq!(rt; refusal, Refusal::BadLine, "{text:?}"),
-    }
-    Ok(())
+// Whether the whole text is a literal of the string.
+fn is_literal_of(alloc: Global, text: &[u8], string: &[u8]) -> Result<bool, Refusal> {
+    Ok(is_read_as(alloc, text, string)? && skip_literal(text)?.is_empty())
 }
 
-// Written and read again.
-fn check_again(rt: &impl Abort, alloc: Global, string: &[u8]) -> Result<(), Fail> {
+fn literal_of(alloc: Global, string: &[u8]) -> Result<Vec<u8>, Refusal> {
     let mut out = Vec::new(alloc);
     write_literal(string, &mut out)?;
-    check_read(rt, alloc, out.as_slice(), string)
+    Ok(out)
 }
 
-fn check_written(rt: &impl Abort, alloc: Global, string: &[u8], text: &[u8]) -> Result<(), Fail> {
-    let mut out = Vec::new(alloc);
-    write_literal(string, &mut out)?;
-    assert_eq!(rt; out.as_slice(), text);
-    check_read(rt, alloc, text, string)
+fn is_read_again(alloc: Global, string: &[u8]) -> Result<bool, Refusal> {
+    let literal = literal_of(alloc, string)?;
+    is_literal_of(alloc, &literal, string)
+}
+
+fn is_written_as(alloc: Global, string: &[u8], text: &[u8]) -> Result<bool, Refusal> {
+    let literal = literal_of(alloc, string)?;
+    Ok(literal.as_slice() == text)
 }
 
 #[test]
@@ -60,7 +50,8 @@ fn strings_of_the_table_are_written_and_read(rt: HostRuntime) -> Result<(), Fail
         (b"", b"\"\""),
     ];
     for (string, text) in table {
-        check_written(&rt, alloc, string, text)?;
+        assert!(rt; is_written_as(alloc, string, text)?, "{text:?}");
+        assert!(rt; is_literal_of(alloc, text, string)?, "{text:?}");
     }
     Ok(())
 }
@@ -85,14 +76,26 @@ fn read_literal_of_other_forms_gives_the_string(rt: HostRuntime) -> Result<(), F
         (b"\"\"\"\"", b"\""),
     ];
     for (text, string) in forms {
-        check_read(&rt, alloc, text, string)?;
+        assert!(rt; is_literal_of(alloc, text, string)?, "{text:?}");
     }
     Ok(())
 }
 
+fn behind_literal(alloc: Global, text: &[u8]) -> Result<&[u8], Refusal> {
+    let (_, rest) = read_literal(alloc, text)?;
+    Ok(rest)
+}
+
+// Whether some of the text is left, or it was refused as no literal.
+fn leaves_some(rest: Result<&[u8], Refusal>) -> bool {
+    match rest {
+        Ok(rest) => !rest.is_empty(),
+        Err(refusal) => refusal == Refusal::BadLine,
+    }
+}
+
 #[test]
-fn read_literal_of_what_is_none_reads_less(rt: HostRuntime) -> Result<(), Fail> {
-    let alloc = rt.alloc();
+fn read_literal_of_what_is_none_reads_less(rt: HostRuntime) {
     let texts: [&[u8]; 22] = [
         b"1.",
         b"+1",
@@ -118,16 +121,16 @@ fn read_literal_of_what_is_none_reads_less(rt: HostRuntime) -> Result<(), Fail> 
         b"$C(-1)",
     ];
     for text in texts {
-        check_none(&rt, alloc, text)?;
+        assert!(rt; leaves_some(behind_literal(rt.alloc(), text)), "{text:?}");
+        assert!(rt; leaves_some(skip_literal(text)), "{text:?}");
     }
-    Ok(())
 }
 
 #[test]
 fn strings_of_one_byte_are_read_again(rt: HostRuntime) -> Result<(), Fail> {
     let alloc = rt.alloc();
     for byte in 0..=255u8 {
-        check_again(&rt, alloc, &[byte])?;
+        assert!(rt; is_read_again(alloc, &[byte])?, "{byte}");
     }
     Ok(())
 }
@@ -138,28 +141,37 @@ fn pairs_of_telling_bytes_are_read_again(rt: HostRuntime) -> Result<(), Fail> {
     let telling = *b"\"_$-.07A\x1F\x7F";
     for first in telling {
         for second in telling {
-            check_again(&rt, alloc, &[first, second])?;
+            assert!(rt; is_read_again(alloc, &[first, second])?, "{first} {second}");
         }
     }
     Ok(())
 }
 
-fn check_reference(
-    rt: &impl Abort,
-    alloc: Global,
-    text: &[u8],
-    written: &[u8],
-    rest: &[u8],
-) -> Result<(), Fail> {
-    let (reference, behind) = read_ref(alloc, text)?;
-    assert_eq!(rt; behind, rest, "{text:?}");
-    assert_eq!(rt; skip_place(text)?, rest, "{text:?}");
+fn ref_of(alloc: Global, text: &[u8]) -> Result<Ref, Refusal> {
+    let (reference, _) = read_ref(alloc, text)?;
+    Ok(reference)
+}
+
+fn is_ref_before(alloc: Global, text: &[u8], rest: &[u8]) -> Result<bool, Refusal> {
+    let (_, behind) = read_ref(alloc, text)?;
+    Ok(behind == rest && skip_place(text)? == rest)
+}
+
+fn is_ref_written_as(alloc: Global, reference: &Ref, text: &[u8]) -> Result<bool, Refusal> {
     let mut out = Vec::new(alloc);
-    write_ref(&reference, &mut out)?;
-    assert_eq!(rt; out.as_slice(), written, "{text:?}");
-    let (again, _) = read_ref(alloc, written)?;
-    assert!(rt; again == reference, "{text:?}");
-    Ok(())
+    write_ref(reference, &mut out)?;
+    Ok(out.as_slice() == text)
+}
+
+fn is_ref_of(alloc: Global, reference: &Ref, text: &[u8]) -> Result<bool, Refusal> {
+    let read = ref_of(alloc, text)?;
+    Ok(read == *reference)
+}
+
+// Whether the reference is written so, and read from that again.
+fn is_ref_kept_as(alloc: Global, text: &[u8], written: &[u8]) -> Result<bool, Refusal> {
+    let reference = ref_of(alloc, text)?;
+    Ok(is_ref_written_as(alloc, &reference, written)? && is_ref_of(alloc, &reference, written)?)
 }
 
 #[test]
@@ -176,16 +188,14 @@ fn read_ref_of_a_reference_is_written_again(rt: HostRuntime) -> Result<(), Fail>
         ),
     ];
     for (text, written, rest) in rows {
-        check_reference(&rt, alloc, text, written, rest)?;
+        assert!(rt; is_ref_before(alloc, text, rest)?, "{text:?}");
+        assert!(rt; is_ref_kept_as(alloc, text, written)?, "{text:?}");
     }
     Ok(())
 }
 
-fn check_refused(rt: &impl Abort, alloc: Global, text: &[u8], refusal: Refusal) {
-    match read_ref(alloc, text) {
-        Ok(_) => assert!(rt; false, "{text:?}"),
-        Err(found) => assert_eq!(rt; found, refusal, "{text:?}"),
-    }
+fn refusal_of(alloc: Global, text: &[u8]) -> Option<Refusal> {
+    ref_of(alloc, text).err()
 }
 
 #[test]
@@ -206,26 +216,54 @@ fn read_ref_of_faults_gives_the_first(rt: HostRuntime) {
         ),
     ];
     for (text, refusal) in rows {
-        check_refused(&rt, alloc, text, refusal);
+        assert_eq!(rt; refusal_of(alloc, text), Some(refusal), "{text:?}");
     }
+}
+
+fn place_of(alloc: Global, text: &[u8]) -> Result<Place, Refusal> {
+    let (place, _) = read_place(alloc, text)?;
+    Ok(place)
+}
+
+// Whether an open place with one subscript is read, and this is left.
+fn is_open_before(alloc: Global, text: &[u8], rest: &[u8]) -> Result<bool, Refusal> {
+    let (place, behind) = read_place(alloc, text)?;
+    let is_open = place.is_open() && place.reference().subscripts().len() == 1;
+    Ok(is_open && behind == rest)
 }
 
 #[test]
 fn read_place_of_an_empty_last_subscript_is_open(rt: HostRuntime) -> Result<(), Fail> {
-    let alloc = rt.alloc();
-    let (place, rest) = read_place(alloc, b"^A(5,\"\"),-1")?;
-    assert!(rt; place.is_open());
-    assert_eq!(rt; place.reference().subscripts().len(), 1);
-    assert_eq!(rt; rest, b",-1".as_slice());
-    match read_place(alloc, b"^A(\"\",\"\")") {
-        Ok(_) => assert!(rt; false),
-        Err(refusal) => assert_eq!(rt; refusal, Refusal::EmptySubscript),
-    }
-    let (spelled, _) = read_spelled(alloc, b"^A(\"\")")?;
-    let closed = spelled.into_place(alloc)?;
-    assert!(rt; closed.is_open());
-    let (spelled, _) = read_spelled(alloc, b"^A(2)")?;
-    assert_eq!(rt; spelled.into_ref(alloc)?.name(), b"A".as_slice());
+    assert!(rt; is_open_before(rt.alloc(), b"^A(5,\"\"),-1", b",-1")?);
+    Ok(())
+}
+
+fn refusal_of_place(alloc: Global, text: &[u8]) -> Option<Refusal> {
+    place_of(alloc, text).err()
+}
+
+#[test]
+fn read_place_of_an_empty_first_subscript_is_refused(rt: HostRuntime) {
+    let refusal = refusal_of_place(rt.alloc(), b"^A(\"\",\"\")");
+    assert_eq!(rt; refusal, Some(Refusal::EmptySubscript));
+}
+
+fn is_spelled_open(alloc: Global, text: &[u8]) -> Result<bool, Refusal> {
+    let (spelled, _) = read_spelled(alloc, text)?;
+    let place = spelled.into_place(alloc)?;
+    Ok(place.is_open())
+}
+
+fn is_spelled_of(alloc: Global, text: &[u8], name: &[u8]) -> Result<bool, Refusal> {
+    let (spelled, _) = read_spelled(alloc, text)?;
+    let reference = spelled.into_ref(alloc)?;
+    Ok(reference.name() == name)
+}
+
+#[test]
+fn read_spelled_is_made_a_place_or_a_reference(rt: HostRuntime) -> Result<(), Fail> {
+    assert!(rt; is_spelled_open(rt.alloc(), b"^A(\"\")")?);
+    assert!(rt; is_spelled_of(rt.alloc(), b"^A(2)", b"A")?);
     Ok(())
 }
 
