@@ -1,5 +1,5 @@
 //! Numeric literals: the canonic text of one.
-ghost use Rattle.std.specs.Prelude.{◌≡◌, ◌↔◌, [], ◌++◌, IfErr, IfOk, IfSome, IsSome, IsTrue, MatchOption, is_some};
+ghost use Rattle.std.specs.Prelude.{◌≡◌, ◌↔◌, [], ◌++◌, true, IfErr, IfOk, IfSome, IsSome, IsTrue, MatchOption, OnErr, is_some};
 ghost use Rattle.std.specs.Prelude.{◌&&◌};
 ghost use Rattle.std.specs.Char.{is_ascii_digit};
 ghost use Rattle.std.specs.List.{list_all};
@@ -17,12 +17,13 @@ use std::alloc::Global;
 ///
 /// A literal is an optional `-`, then digits, digits `.` digits, or `.` digits, of any length. Its value stays:
 /// zeros before its first digit that counts and zeros at the end of its fraction go, and zero is `0`.
-/// Refusals: `OutOfMemory`. Takes memory once, for the answer.
+/// Refusals: `OutOfMemory`, only of a literal. Takes memory once, for the answer.
 pub fn canonic_of(alloc: Global, text: &[u8]) -> Result<Option<Vec<u8>>, Refusal>
     ensures test { IfOk result (λ answer. is_some answer ≡ literal.is_numeric text.now) }
     ensures grammar { IfOk result (λ answer. IsSome answer ↔ IsNumericLiteral text.now) }
     ensures canonic { IfOk result (λ answer. IfSome answer (λ canonic. canonic.items ≡ literal.canonic_of text.now)) }
     ensures refused { IfErr result (λ refusal. refusal ≡ Refusal.OutOfMemory) }
+    ensures asked { OnErr result (literal.is_numeric text.now ≡ true) }
 {
     let (negative, magnitude) = split_sign(text);
     let (whole, fraction) = split_point(magnitude);

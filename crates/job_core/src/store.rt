@@ -107,10 +107,13 @@ impl Store {
         self.nodes.as_slice()
     }
 
-    /// Makes room for `more` further references. Where memory is refused nothing has changed.
+    /// Makes room for `more` further references, and keeps what room there is. Where that is enough it isn't refused.
+    /// Where memory is refused nothing has changed.
     pub fn reserve(&mut self, more: usize) -> Result<(), Refusal>
         ensures map { self.new.map ≡ self.old.map }
+        ensures room { self.old.spare ≤ self.new.spare }
         ensures ok { OnOk result (more ≤ self.new.spare) }
+        ensures full { OnErr result (self.old.spare < more) }
         ensures memory { OnErr result (IsErrOf result Refusal.OutOfMemory) }
     {
         self.nodes.reserve(more)?;

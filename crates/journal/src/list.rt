@@ -97,11 +97,14 @@ impl Journal {
         self.units.capacity() - self.units.len()
     }
 
-    /// Makes room for `more` units. A refusal leaves the units as they were: `StampsUsedUp` exactly where the
-    /// journal would pass 2^64 - 1 units, else `OutOfMemory`.
+    /// Makes room for `more` units, and keeps what room there is. Where that is enough it isn't refused. A refusal
+    /// leaves the units as they were: `StampsUsedUp` exactly where the journal would pass 2^64 - 1 units, else
+    /// `OutOfMemory`.
     pub fn reserve(&mut self, more: usize) -> Result<(), Refusal>
         ensures units { self.new.units ≡ self.old.units }
+        ensures room { self.old.spare ≤ self.new.spare }
         ensures ok { OnOk result (more ≤ self.new.spare) }
+        ensures full { OnErr result (self.old.spare < more) }
         ensures used_up { 2 ^ 64 - 1 < length self.old.units + more → IsErrOf result Refusal.StampsUsedUp }
         ensures cause { IfErr result (λ refusal. HasNoRoom refusal more (length self.old.units)) }
     {

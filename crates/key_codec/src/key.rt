@@ -19,7 +19,8 @@ use std::alloc::{AllocError, Global};
 use std::cmp::Ordering;
 use std::marker::Model;
 
-/// A reference that is kept as its key bytes, in one allocation of their size.
+/// A reference that is kept as its key bytes, in one allocation. Its size is reckoned from the texts of the
+/// subscripts, so it may be some bytes larger than the key.
 ///
 /// Contracts see the reference. Keys compare by their bytes alone, and that is the order of references.
 #[derive(Debug, Drop)]

@@ -9,4 +9,5 @@ pub mod PartedLaws
 pub mod PartLaws
 pub mod LiteralLaws
 pub mod PlaceLaws
+pub mod RunLaws
 pub mod WrittenLaws

@@ -19,6 +19,7 @@ use Rattle.std.proofs.lemmas.Fmt.{digits_decimal, digits_value-decimal, length-d
 use Rattle.m_text.specs.Forms.{IsParted, IsCode, IsChars, IsPart, IsLiteral, IsSubscript, AreSubscripts, IsReference, is_word_byte, IsBreak, IsReferenceBreak, are_bytes}
 use Rattle.m_text.specs.Forms.IsParted.{one, more}
 use Rattle.m_text.specs.Forms.AreSubscripts.{none, listed}
+use Rattle.m_text.specs.RunLaws.{runs_joined}
 use Rattle.m_text.specs.LiteralLaws.{literal_read}
 use Rattle.m_text.specs.PlaceLaws.{place_read}
 
@@ -83,19 +84,6 @@ put_bytes b ((c ∷ r) ∷ rs) e all = at (beq (is_plain b) (is_plain c))
 runs_bytes : (s : List ℕ) → are_bytes s ≡ true → list_all are_bytes (runs s) ≡ true
 runs_bytes [] all = refl
 runs_bytes (b ∷ bs) all = let h = and_parts (nat_le b 255) _ all in put_bytes b (runs bs) h.0 (runs_bytes bs h.1)
-
-put_joined : (b : ℕ) (rs : List (List ℕ)) → flat_map (λ (r : List ℕ). r) (put_before b rs) ≡ b ∷ flat_map (λ (r : List ℕ). r) rs
-put_joined b [] = refl
-put_joined b ([] ∷ rs) = refl
-put_joined b ((c ∷ r) ∷ rs) = at (beq (is_plain b) (is_plain c))
-  where
-    at : (t : Bool) → flat_map (λ (r : List ℕ). r) (cond t ((b ∷ c ∷ r) ∷ rs) ((b ∷ []) ∷ (c ∷ r) ∷ rs)) ≡ b ∷ flat_map (λ (r : List ℕ). r) ((c ∷ r) ∷ rs)
-    at true = refl
-    at false = refl
-
-runs_joined : (s : List ℕ) → flat_map (λ (r : List ℕ). r) (runs s) ≡ s
-runs_joined [] = refl
-runs_joined (b ∷ bs) = put_joined b (runs bs) ∙ ap (λ xs. b ∷ xs) (runs_joined bs)
 
 -- there is a run
 put_some : (b : ℕ) (rs : List (List ℕ)) → (r : List ℕ) × (more : List (List ℕ)) × (put_before b rs ≡ r ∷ more)

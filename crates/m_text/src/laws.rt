@@ -1,12 +1,14 @@
 //! Laws of literals and references, stated in `specs/Laws.antt`. Calling them does nothing.
-ghost use Rattle.m_text.specs.Laws.{ReadLiteralsAreSpelled, SpelledLiteralsAreRead, WrittenStringsAreLiterals, WrittenStringsAreRead, ReadReferencesAreSpelled, SpelledReferencesAreRead, WrittenReferencesAreRead};
+ghost use Rattle.m_text.specs.Laws.{ReadLiteralsAreSpelled, SpelledLiteralsAreRead, WrittenStringsAreLiterals, WrittenStringsAreRead, RunsAreTheLongest, ReadReferencesAreSpelled, SpelledReferencesAreRead, WrittenReferencesAreRead};
 
-/// A literal is read as the string that it spells and as no other, and what is written of a string is such a literal.
+/// A literal is read as the string that it spells and as no other, and what is written of a string is such a literal,
+/// in its longest runs.
 pub fn literals_are_read_as_spelled()
     ensures found { ReadLiteralsAreSpelled }
     ensures again { SpelledLiteralsAreRead }
     ensures written { WrittenStringsAreLiterals }
     ensures round_trip { WrittenStringsAreRead }
+    ensures runs { RunsAreTheLongest }
 {}
 
 /// The same of references: what is written of one is read as it again.

@@ -1,10 +1,11 @@
 -- Cutting a text into lines.
-use Rattle.std.proofs.Common.{◌≡◌, ℕ, zero, suc, ◌+◌, ◌≤◌, ◌<◌, Bool, true, false, eqb, List, [], ◌∷◌, ◌++◌, length, take, drop, get_or, not, ◌&&◌, refl, sym, ap, ◌∙◌, append_assoc, arith}
+use Rattle.std.proofs.Common.{◌≡◌, ℕ, zero, suc, ◌+◌, ◌≤◌, ◌<◌, Bool, true, false, eqb, List, [], ◌∷◌, ◌++◌, length, take, drop, get_or, refl, sym, ap, ◌∙◌, append_assoc, arith}
 use Rattle.std.proofs.lemmas.List.{append-nil}
 use Rattle.std.specs.Prelude.{Some}
 use Rattle.bstr.specs.Find.{IsFirstByte, is_byte}
 use Rattle.std.specs.Io.BufRead.{strip_last}
 use Rattle.script_run.specs.Lines.{kept, lines_from, lines_of, has_no_end}
+use Rattle.script_run.specs.LineLaws.{goes_on}
 
 -- the first byte 10 stands at n
 abbrev pub EndsAt : List ℕ → ℕ → Type 0
@@ -34,17 +35,6 @@ first_line xs more n h = first_from [] xs more n h
 pub no_end : (xs : List ℕ) → ((k : ℕ) → 0 ≤ k → k < length xs → eqb (get_or xs k 0) 10 ≡ true → ⊥) → has_no_end xs ≡ true
 no_end [] h = refl
 no_end (b ∷ bs) h = rw (is_false _ (h 0 (omega arith) (omega arith))) (no_end bs (λ k low high. h (suc k) (omega arith) (omega arith)))
-
-goes_on : (b : ℕ) (bs : List ℕ) → has_no_end (b ∷ bs) ≡ true → (eqb b 10 ≡ false) × (has_no_end bs ≡ true)
-goes_on b bs h = elim (eqb b 10) as (λ t. (not t && has_no_end bs) ≡ true → (t ≡ false) × (has_no_end bs ≡ true)) [ true ↦ λ e. absurd cc | false ↦ λ e. (refl, e) ] h
-
-last_from : (line xs : List ℕ) → has_no_end xs ≡ true → lines_from line xs ≡ kept (line ++ xs)
-last_from line [] h = ap kept (sym (append-nil line))
-last_from line (b ∷ bs) h = let p = goes_on b bs h in rw p.0 (last_from (line ++ b ∷ []) bs p.1 ∙ ap kept (append_assoc line (b ∷ []) bs))
-
--- a line without an end
-pub last_line : (xs : List ℕ) → has_no_end xs ≡ true → lines_of xs ≡ kept xs
-last_line xs h = last_from [] xs h
 
 joined_from : (line begun xs more : List ℕ) (n : ℕ) → has_no_end begun ≡ true → EndsAt xs n → lines_from line ((begun ++ xs) ++ more) ≡ kept (strip_last 13 (line ++ (begun ++ take n xs))) ++ lines_of (drop (suc n) xs ++ more)
 joined_from line [] xs more n h e = first_from line xs more n e

@@ -18,7 +18,7 @@ use Rattle.script_run.specs.Lines.{lines_of, has_no_end}
 use Rattle.script_run.specs.Output.{Answer, IsAnswer, AreAnswers, told_by, units_of, text_of, some_refused, RanFront, RanEnd, HasRead, IsOutput, Wrote, IsBegun}
 use Rattle.script_run.specs.declared.run.Script.{Script}
 use Rattle.listing.specs.BytesLaws.{Appends-nothing, Appends-more, WritesBeginning-all, WritesBeginning-longer, WritesBeginning-then}
-use Rattle.script_run.proofs.Cut.{last_line}
+use Rattle.script_run.specs.LineLaws.{last_line}
 use Rattle.script_run.proofs.Runs.{AreAnswers-append}
 
 abbrev pub lines_in : List Answer → List (List ℕ)

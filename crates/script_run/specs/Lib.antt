@@ -1,3 +1,4 @@
 pub mod Lines
 pub mod Output
 pub mod FaultOf
+pub mod LineLaws

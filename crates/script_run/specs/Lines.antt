@@ -1,6 +1,6 @@
 -- The lines of a text. Source: docs/FORMATS.md, "Grammar of lines".
-use Rattle.std.specs.Prelude.{ℕ, Bool, not, List, [], ◌∷◌, ◌++◌, ◌==◌, if◌then◌else◌}
-use Rattle.std.specs.List.{list_all}
+use Rattle.std.specs.Prelude.{◌≡◌, ℕ, Bool, true, not, List, [], ◌∷◌, ◌++◌, ◌==◌, if◌then◌else◌}
+use Rattle.std.specs.List.{list_all, flat_map}
 use Rattle.std.specs.Io.BufRead.{strip_last}
 
 -- an empty line is passed over
@@ -20,3 +20,13 @@ lines_of text = lines_from [] text
 -- no byte 10
 abbrev pub has_no_end : List ℕ → Bool
 has_no_end text = list_all (λ b. not (b == 10)) text
+
+-- a text of lines, each ended by a byte 10, and of what follows the last of them
+abbrev pub text_of_lines : List (List ℕ) → List ℕ → List ℕ
+text_of_lines [] last = last
+text_of_lines (l ∷ ls) last = l ++ 10 ∷ text_of_lines ls last
+
+-- its lines are those, less a byte 13 before an end, and the last, of which the empty ones are passed over
+abbrev pub LinesAreCutAtTheirEnds : Type 0
+LinesAreCutAtTheirEnds =
+    (ls : List (List ℕ)) (last : List ℕ) → list_all has_no_end ls ≡ true → has_no_end last ≡ true → lines_of (text_of_lines ls last) ≡ flat_map (λ l. kept (strip_last 13 l)) ls ++ kept last

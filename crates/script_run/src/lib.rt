@@ -14,7 +14,9 @@
 #![tactic(auto)]
 
 pub use fault::Fault;
+pub use laws::lines_are_cut_at_their_ends;
 pub use run::{Outcome, run_script};
 
 mod fault;
+mod laws;
 mod run;

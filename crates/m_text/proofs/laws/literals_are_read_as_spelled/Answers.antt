@@ -1,5 +1,6 @@
 use Rattle.m_text.specs.LiteralLaws.{literal_found, literal_read}
 use Rattle.m_text.specs.WrittenLaws.{literal_form, literal_again}
+use Rattle.m_text.specs.RunLaws.{runs_are_runs, runs_joined}
 use Rattle.m_text.proofs.laws.literals_are_read_as_spelled.Goals as goal
 
 pub returns-clause-found : goal.returns-clause-found
@@ -13,3 +14,6 @@ returns-clause-written c = literal_form
 
 pub returns-clause-round_trip : goal.returns-clause-round_trip
 returns-clause-round_trip c = literal_again
+
+pub returns-clause-runs : goal.returns-clause-runs
+returns-clause-runs c = λ s. (runs_are_runs s, runs_joined s)
