@@ -7,7 +7,7 @@ use Rattle.std.specs.Prelude.{◌||◌, ◌==◌, cond, pos, neg_ℤ, if◌then�
 use Rattle.std.specs.List.{list_all, position_or_len}
 use Rattle.std.specs.Cmp.{first_so, second_so}
 use Rattle.std.proofs.lemmas.Bool.{not-true, eqb-true}
-use Rattle.std.proofs.Common.{length-drop}
+use Rattle.std.proofs.Common.{length-append, length-drop}
 use Rattle.std.specs.Char.{is_ascii_digit}
 use Rattle.canonic_number.specs.Parts.{AreDigits, is_ended}
 use Rattle.canonic_number.specs.Number.{worth, ends_above_0, is_zero, is_canonic, is_magnitude, magnitude, is_negative, whole_part, fraction_part, is_point, is_whole, is_fraction, value_at}
@@ -18,7 +18,8 @@ pub no_less : (ds : List ℕ) → ends_above_0 ds ≡ true → 0 < length ds
 no_less [] e = cc
 no_less (d ∷ ds) e = omega arith
 
-ended : (ds : List ℕ) → ends_above_0 ds ≡ true → is_ended ds ≡ true
+-- digits that end above 0 have no zero at their end
+pub ended : (ds : List ℕ) → ends_above_0 ds ≡ true → is_ended ds ≡ true
 ended [] e = refl
 ended (d ∷ ds) e = e
 
@@ -94,11 +95,7 @@ resigned [] = refl
 resigned (b ∷ bs) = elim (b == 45) as (λ t. (b == 45) ≡ t → b ∷ bs ≡ signed t (cond t bs (b ∷ bs))) [ true ↦ λ e. ap (λ x. x ∷ bs) (eqb-true b 45 e) | false ↦ λ e. refl ] refl
 
 length-whole : (m : List ℕ) → is_magnitude m ≡ true → length (whole_part m) ≤ length m
-length-whole m e = omega (arith, ap length (split m e), length-append-ge (whole_part m) (with_point (fraction_part m)))
-  where
-    length-append-ge : (xs ys : List ℕ) → length xs ≤ length (xs ++ ys)
-    length-append-ge [] ys = omega arith
-    length-append-ge (x ∷ xs) ys = omega (arith, length-append-ge xs ys)
+length-whole m e = omega (arith, ap length (split m e), length-append (whole_part m) (with_point (fraction_part m)))
 
 -- a canonic number other than zero, by its sign, place and digits
 pub record IsPlaced (k : ℕ) (s : List ℕ) : Type 0 where

@@ -11,7 +11,7 @@ use Rattle.std.specs.Cmp.Lexicographic.{slice_cmp}
 use Rattle.std.specs.FinMap.{slice_cmp-IsAntisymmetric, nat_cmp-IsAntisymmetric}
 use Rattle.canonic_number.specs.Number.{is_canonic, is_zero, is_negative, worth, value_at, magnitude_at, magnitude, fraction_part}
 use Rattle.canonic_number.specs.Place.{place_at, digits_of}
-use Rattle.canonic_number.specs.DigitLaws.{worth-ge, pow_above_0, head_digit}
+use Rattle.canonic_number.specs.DigitLaws.{worth-ge, pow_above_0, head_digit, below_positive, above_negative}
 use Rattle.canonic_number.specs.PlaceLaws.{ArePlaced, placed_cmp}
 use Rattle.canonic_number.specs.CanonicLaws.{IsPlaced, is_placed, is_zero_text, same_text, fraction_short}
 use Rattle.canonic_number.specs.Laws.{EqualValuesAreEqualTexts}
@@ -40,14 +40,6 @@ negative_cmp (suc a) zero h k = absurd (omega arith)
 negative_cmp (suc a) (suc b) h k =
     by_ranked _ _ _ (int_cmp (neg_ℤ (pos (suc a))) (neg_ℤ (pos (suc b)))) (int_ranked (neg_ℤ (pos (suc a))) (neg_ℤ (pos (suc b))) _ refl)
     (λ r l. let m : b < a = less_neg a b l in r ∙ nat_cmp_is (suc b) (suc a) Less (omega arith)) (λ r e. let m : a ≡ b = same_neg a b e in r ∙ nat_cmp_is (suc b) (suc a) Equal (omega arith)) (λ r l. let m : a < b = less_neg b a l in r ∙ nat_cmp_is (suc b) (suc a) Greater (omega arith))
-
-negative_before : (a b : ℕ) → 0 < a → int_cmp (neg_ℤ (pos a)) (pos b) ≡ Less
-negative_before zero b h = absurd (omega arith)
-negative_before (suc a) b h = refl
-
-positive_after : (a b : ℕ) → 0 < b → int_cmp (pos a) (neg_ℤ (pos b)) ≡ Greater
-positive_after a zero h = absurd (omega arith)
-positive_after a (suc b) h = refl
 
 zero_before : (n : ℕ) → 0 < n → int_cmp (pos 0) (pos n) ≡ Less
 zero_before n h = positive_cmp 0 n ∙ sym (nat_cmp_is 0 n Less h)
@@ -105,22 +97,22 @@ pub zero_zero : (k : ℕ) (s t : List ℕ) → s ≡ 48 ∷ [] → t ≡ 48 ∷ 
 zero_zero k s t e f = values_cmp k s t (pos 0) (pos 0) Equal (zero_value k s e) (zero_value k t f) refl
 
 pub zero_below : (k : ℕ) (s t : List ℕ) → s ≡ 48 ∷ [] → IsPlaced k t → is_negative t ≡ true → int_cmp (value_at k s) (value_at k t) ≡ Greater
-zero_below k s t e b n = values_cmp k s t (pos 0) (neg_ℤ (pos (worth (place_at k t) (digits_of t)))) Greater (zero_value k s e) (below_value k t b n) (positive_after 0 _ (worth_some (place_at k t) (digits_of t) b.form))
+zero_below k s t e b n = values_cmp k s t (pos 0) (neg_ℤ (pos (worth (place_at k t) (digits_of t)))) Greater (zero_value k s e) (below_value k t b n) (sym (above_negative 0 _ (worth_some (place_at k t) (digits_of t) b.form)))
 
 pub zero_above : (k : ℕ) (s t : List ℕ) → s ≡ 48 ∷ [] → IsPlaced k t → is_negative t ≡ false → int_cmp (value_at k s) (value_at k t) ≡ Less
 zero_above k s t e b n = values_cmp k s t (pos 0) (pos (worth (place_at k t) (digits_of t))) Less (zero_value k s e) (above_value k t b n) (zero_before _ (worth_some (place_at k t) (digits_of t) b.form))
 
 pub below_zero : (k : ℕ) (s t : List ℕ) → IsPlaced k s → is_negative s ≡ true → t ≡ 48 ∷ [] → int_cmp (value_at k s) (value_at k t) ≡ Less
-below_zero k s t a m f = values_cmp k s t (neg_ℤ (pos (worth (place_at k s) (digits_of s)))) (pos 0) Less (below_value k s a m) (zero_value k t f) (negative_before _ 0 (worth_some (place_at k s) (digits_of s) a.form))
+below_zero k s t a m f = values_cmp k s t (neg_ℤ (pos (worth (place_at k s) (digits_of s)))) (pos 0) Less (below_value k s a m) (zero_value k t f) (sym (below_positive _ 0 (worth_some (place_at k s) (digits_of s) a.form)))
 
 pub above_zero : (k : ℕ) (s t : List ℕ) → IsPlaced k s → is_negative s ≡ false → t ≡ 48 ∷ [] → int_cmp (value_at k s) (value_at k t) ≡ Greater
 above_zero k s t a m f = values_cmp k s t (pos (worth (place_at k s) (digits_of s))) (pos 0) Greater (above_value k s a m) (zero_value k t f) (zero_after _ (worth_some (place_at k s) (digits_of s) a.form))
 
 pub below_above : (k : ℕ) (s t : List ℕ) → IsPlaced k s → is_negative s ≡ true → IsPlaced k t → is_negative t ≡ false → int_cmp (value_at k s) (value_at k t) ≡ Less
-below_above k s t a m b n = values_cmp k s t (neg_ℤ (pos (worth (place_at k s) (digits_of s)))) (pos (worth (place_at k t) (digits_of t))) Less (below_value k s a m) (above_value k t b n) (negative_before _ _ (worth_some (place_at k s) (digits_of s) a.form))
+below_above k s t a m b n = values_cmp k s t (neg_ℤ (pos (worth (place_at k s) (digits_of s)))) (pos (worth (place_at k t) (digits_of t))) Less (below_value k s a m) (above_value k t b n) (sym (below_positive _ _ (worth_some (place_at k s) (digits_of s) a.form)))
 
 pub above_below : (k : ℕ) (s t : List ℕ) → IsPlaced k s → is_negative s ≡ false → IsPlaced k t → is_negative t ≡ true → int_cmp (value_at k s) (value_at k t) ≡ Greater
-above_below k s t a m b n = values_cmp k s t (pos (worth (place_at k s) (digits_of s))) (neg_ℤ (pos (worth (place_at k t) (digits_of t)))) Greater (above_value k s a m) (below_value k t b n) (positive_after _ _ (worth_some (place_at k t) (digits_of t) b.form))
+above_below k s t a m b n = values_cmp k s t (pos (worth (place_at k s) (digits_of s))) (neg_ℤ (pos (worth (place_at k t) (digits_of t)))) Greater (above_value k s a m) (below_value k t b n) (sym (above_negative _ _ (worth_some (place_at k t) (digits_of t) b.form)))
 
 -- two numbers above zero, by place and digits
 pub above_cmp : (k : ℕ) (s t : List ℕ) → IsPlaced k s → IsPlaced k t → is_negative s ≡ false → is_negative t ≡ false →

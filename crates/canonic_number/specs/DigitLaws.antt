@@ -1,7 +1,8 @@
 -- Digits compare as what they are worth.
-use Rattle.std.proofs.Common.{◌≡◌, ℕ, ◌+◌, ◌-◌, ◌*◌, ◌^◌, ◌<◌, ◌≤◌, List, [], ◌∷◌, ◌++◌, length, true, refl, ap, ◌∙◌, arith, zero, suc, length-append}
+use Rattle.std.proofs.Common.{◌≡◌, ℕ, ◌+◌, ◌-◌, ◌*◌, ◌^◌, ◌<◌, ◌≤◌, List, [], ◌∷◌, ◌++◌, length, true, refl, ap, sym, ◌∙◌, arith, zero, suc, length-append}
 use Rattle.std.proofs.Math.Nat.{mul-le-mul_right, one-le-pow, pow-suc, pow-le-pow_right}
 use Rattle.std.proofs.lemmas.Bool.{and_from}
+use Rattle.std.proofs.lemmas.List.Folds.{list_all-append}
 use Rattle.std.proofs.lemmas.Bool.Decides.{nat_tests}
 use Rattle.std.specs.Prelude.{neg_ℤ, pos}
 use Rattle.std.specs.List.{list_all}
@@ -10,6 +11,7 @@ use Rattle.std.specs.declared.cmp.Ordering.{Ordering}
 use Rattle.std.specs.declared.cmp.Ordering.TheVariants.{Less, Equal, Greater}
 use Rattle.std.specs.Ordering.{int_cmp, nat_cmp, ordering_then, MatchOrdering}
 use Rattle.std.specs.Cmp.{ranked, nat_cmp_is, first_so, second_so}
+use Rattle.std.specs.Cmp.Derive.{then_next}
 use Rattle.std.proofs.lemmas.Cmp.{by_ranked}
 use Rattle.std.specs.Cmp.Lexicographic.{slice_cmp}
 use Rattle.canonic_number.specs.Number.{worth, ends_above_0}
@@ -26,8 +28,7 @@ pub tail_digits : (d : ℕ) (ds : List ℕ) → list_all is_ascii_digit (d ∷ d
 tail_digits d ds e = second_so _ _ e
 
 pub digits-append : (xs ys : List ℕ) → list_all is_ascii_digit xs ≡ true → list_all is_ascii_digit ys ≡ true → list_all is_ascii_digit (xs ++ ys) ≡ true
-digits-append [] ys e h = h
-digits-append (x ∷ xs) ys e h = and_from _ _ (first_so _ _ e) (digits-append xs ys (second_so _ _ e) h)
+digits-append xs ys e h = list_all-append is_ascii_digit xs ys ∙ and_from _ _ e h
 
 pub pow_above_0 : (n : ℕ) → 0 < 10 ^ n
 pow_above_0 n = let h : 0 < 10 = omega arith in omega (arith, one-le-pow n 10 h)
@@ -109,14 +110,9 @@ wholes_cmp n [] (v ∷ vs) f g e d d' df dg ef eg h h' = absurd (omega arith)
 wholes_cmp n (w ∷ ws) [] f g e d d' df dg ef eg h h' = absurd (omega arith)
 wholes_cmp n (w ∷ ws) (v ∷ vs) f g e d d' df dg ef eg h h' =
     let rest = wholes_cmp (n - 1) ws vs f g (omega arith) (tail_digits w ws d) (tail_digits v vs d') df dg ef eg (omega arith) (omega arith) in
-    then_assoc (nat_cmp w v) _ _ ∙ first_decides w v (10 ^ (n - 1)) _ _ _ (head_digit w ws d) (head_digit v vs d')
+    sym (then_next (nat_cmp w v) (slice_cmp nat_cmp ws vs) (slice_cmp nat_cmp f g) refl refl) ∙ first_decides w v (10 ^ (n - 1)) _ _ _ (head_digit w ws d) (head_digit v vs d')
     (worth-lt (n - 1) (ws ++ f) (digits-append ws f (tail_digits w ws d) df) (omega (arith, length-append ws f)))
     (worth-lt (n - 1) (vs ++ g) (digits-append vs g (tail_digits v vs d') dg) (omega (arith, length-append vs g))) rest
-  where
-    then_assoc : (a b c : Ordering) → ordering_then (ordering_then a b) c ≡ ordering_then a (ordering_then b c)
-    then_assoc Less b c = refl
-    then_assoc Equal b c = refl
-    then_assoc Greater b c = refl
 
 -- a longer whole part is worth more
 longer : (k : ℕ) (w f v g : List ℕ) → AreDigits w f → AreDigits v g → length f ≤ k → length g ≤ k → length w < length v → worth (length w + k) (w ++ f) < worth (length v + k) (v ++ g)

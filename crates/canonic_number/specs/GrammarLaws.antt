@@ -12,7 +12,7 @@ use Rattle.canonic_number.specs.Grammar.{IsDigit, IsDigitAbove0, IsDigits, nothi
 use Rattle.canonic_number.specs.Parts.{is_ended}
 use Rattle.canonic_number.specs.Place.{with_point, signed}
 use Rattle.canonic_number.specs.DigitLaws.{head_digit, tail_digits}
-use Rattle.canonic_number.specs.CanonicLaws.{HasParts, has_parts, split, is_zero_text, with_point-some}
+use Rattle.canonic_number.specs.CanonicLaws.{HasParts, has_parts, ended, split, is_zero_text, with_point-some}
 
 -- digits, then a point and a fraction where there is one: its parts are these
 pub record IsSplit (m w f : List ℕ) : Type 0 where
@@ -126,16 +126,12 @@ is_magnitude-written w f e digits ends some =
     fraction [] d h = refl
     fraction (x ∷ f) d h = let some : (length (x ∷ f) == 0) ≡ false = grind (arith, nat_tests) in rw some (and_from (list_all is_ascii_digit (x ∷ f)) (ends_above_0 (x ∷ f)) d h)
 
-ends_is_ended : (f : List ℕ) → ends_above_0 f ≡ true → is_ended f ≡ true
-ends_is_ended [] e = cc
-ends_is_ended (d ∷ f) e = e
-
 magnitude_test : {m : List ℕ} → IsMagnitude m → is_magnitude m ≡ true
 magnitude_test (only_whole {w} a) = ap is_magnitude (sym (append-nil w)) ∙ is_magnitude-written w [] (whole_test a) refl refl (omega (arith, whole_some a))
 magnitude_test (only_fraction {f} b) =
-    ap is_magnitude (sym (with_point-some f (fraction_some b))) ∙ is_magnitude-written [] f refl (fraction_digits b) (ends_is_ended f (fraction_ends b)) (omega (arith, fraction_some b))
+    ap is_magnitude (sym (with_point-some f (fraction_some b))) ∙ is_magnitude-written [] f refl (fraction_digits b) (ended f (fraction_ends b)) (omega (arith, fraction_some b))
 magnitude_test (whole_and_fraction {w} {f} a b) =
-    ap (λ t. is_magnitude (w ++ t)) (sym (with_point-some f (fraction_some b))) ∙ is_magnitude-written w f (whole_test a) (fraction_digits b) (ends_is_ended f (fraction_ends b)) (omega (arith, fraction_some b))
+    ap (λ t. is_magnitude (w ++ t)) (sym (with_point-some f (fraction_some b))) ∙ is_magnitude-written w f (whole_test a) (fraction_digits b) (ended f (fraction_ends b)) (omega (arith, fraction_some b))
 
 unsigned_magnitude : {m : List ℕ} → IsMagnitude m → IsUnsigned m
 unsigned_magnitude (only_whole {w} a) = subst IsUnsigned (append-nil w) (unsigned_written w [] (first_so _ _ (whole_test a)))

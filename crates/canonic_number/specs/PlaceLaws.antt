@@ -1,7 +1,7 @@
 -- A number's place and digits say what it is worth, and what its text is.
 use Rattle.std.proofs.Common.{◌≡◌, ℕ, ◌+◌, ◌-◌, ◌*◌, ◌^◌, ◌<◌, ◌≤◌, List, [], ◌∷◌, ◌++◌, length, not, true, false, refl, ap, sym, ◌∙◌, arith, suc, length-append, replicate}
 use Rattle.std.proofs.Math.Nat.{pow-le-pow_right}
-use Rattle.std.proofs.lemmas.Bool.{and_from, eqb-true, lt-ltb, le-ltb}
+use Rattle.std.proofs.lemmas.Bool.{false≢true, and_from, eqb-true, lt-ltb, le-ltb}
 use Rattle.std.proofs.lemmas.Bool.Decides.{nat_tests}
 use Rattle.std.specs.Prelude.{◌==◌}
 use Rattle.std.specs.List.{list_all}
@@ -139,10 +139,7 @@ pointed-before n d (x ∷ es) = refl
 
 pub before_zeros-same : (f : List ℕ) → is_ended f ≡ true → before_zeros f ≡ f
 before_zeros-same [] e = refl
-before_zeros-same (d ∷ []) e = at_zero d (λ t h. absurd (false_true (ap not (sym t) ∙ e))) (λ t. rw t refl)
-  where
-    false_true : false ≡ true → ⊥
-    false_true e = cc
+before_zeros-same (d ∷ []) e = at_zero d (λ t h. absurd (false≢true (ap not (sym t) ∙ e))) (λ t. rw t refl)
 before_zeros-same (d ∷ c ∷ f) e = ap (before d) (before_zeros-same (c ∷ f) e)
 
 pub pointed-whole : (w f : List ℕ) → is_ended f ≡ true → pointed (length w) (before_zeros (w ++ f)) ≡ w ++ with_point f

@@ -1,5 +1,5 @@
 -- What decides between two subscripts, by their classes.
-use Rattle.std.proofs.Common.{◌≡◌, ◌≤◌, ◌+◌, ℕ, ℤ, List, length, true, false, refl, subst, ◌∙◌, arith}
+use Rattle.std.proofs.Common.{◌≡◌, ◌≤◌, ◌+◌, ℕ, ℤ, List, length, true, refl, subst, ◌∙◌, arith}
 use Rattle.std.specs.declared.cmp.Ordering.{Ordering}
 use Rattle.std.specs.declared.cmp.Ordering.TheVariants.{Less, Equal, Greater}
 use Rattle.std.specs.Ordering.{nat_cmp, int_cmp, ordering_then}
@@ -9,22 +9,7 @@ use Rattle.std.specs.FinMap.{int_cmp-IsAntisymmetric}
 use Rattle.canonic_number.specs.ClassLaws.{equal_texts}
 use Rattle.canonic_number.specs.Number.{is_canonic, value_of, limit, scale}
 use Rattle.collation.specs.Order.{subscript_cmp}
-
-pub numbers : (a b : List ℕ) → is_canonic a ≡ true → is_canonic b ≡ true → subscript_cmp a b ≡ ordering_then (int_cmp (value_of a) (value_of b)) (slice_cmp nat_cmp a b)
-unfolding subscript_cmp
-numbers a b p q = rw (p, q) refl
-
-pub number_first : (a b : List ℕ) → is_canonic a ≡ true → is_canonic b ≡ false → subscript_cmp a b ≡ Less
-unfolding subscript_cmp
-number_first a b p q = rw (p, q) refl
-
-pub number_second : (a b : List ℕ) → is_canonic a ≡ false → is_canonic b ≡ true → subscript_cmp a b ≡ Greater
-unfolding subscript_cmp
-number_second a b p q = rw (p, q) refl
-
-pub no_numbers : (a b : List ℕ) → is_canonic a ≡ false → is_canonic b ≡ false → subscript_cmp a b ≡ slice_cmp nat_cmp a b
-unfolding subscript_cmp
-no_numbers a b p q = rw (p, q) refl
+use Rattle.collation.specs.OrderLaws.{numbers}
 
 -- a second order that ties where the first does adds nothing
 adds_nothing : (o p : Ordering) → (o ≡ Equal → p ≡ Equal) → ordering_then o p ≡ o

@@ -6,11 +6,21 @@ use refusal::Refusal;
 use std::alloc::Global;
 use std::test::Fail;
 
-fn reference(alloc: Global, texts: &[&[u8]]) -> Result<Ref, Refusal> {
+fn push_text(alloc: Global, subscripts: &mut Subscripts, text: &[u8]) -> Result<(), Refusal> {
+    subscripts.push(Text::from_slice(alloc, text)?)?;
+    Ok(())
+}
+
+fn subscripts(alloc: Global, texts: &[&[u8]]) -> Result<Subscripts, Refusal> {
     let mut subscripts = Subscripts::new(alloc);
     for text in texts {
-        subscripts.push(Text::from_slice(alloc, text)?)?;
+        push_text(alloc, &mut subscripts, text)?;
     }
+    Ok(subscripts)
+}
+
+fn reference(alloc: Global, texts: &[&[u8]]) -> Result<Ref, Refusal> {
+    let subscripts = subscripts(alloc, texts)?;
     Ref::new(Name::new(Text::from_slice(alloc, b"A")?)?, subscripts)
 }
 
@@ -29,8 +39,19 @@ fn push_set(
     push_step(steps, 1, command)
 }
 
+fn step_of(job: u64, command: Command) -> Result<Step, Refusal> {
+    match Job::new(job) {
+        Ok(job) => Ok(Step::Do(job, command)),
+        Err(refusal) => {
+            drop(command);
+            Err(refusal)
+        }
+    }
+}
+
 fn push_step(steps: &mut Vec<Step>, job: u64, command: Command) -> Result<(), Refusal> {
-    steps.push(Step::Do(Job::new(job)?, command))?;
+    let step = step_of(job, command)?;
+    steps.push(step)?;
     Ok(())
 }
 
@@ -100,11 +121,18 @@ fn a_worked_list_has_its_replies(rt: HostRuntime) -> Result<(), Fail> {
     Ok(())
 }
 
+fn is_value(found: Option<&Text>, value: &[u8]) -> bool {
+    match found {
+        Some(text) => text.as_slice() == value,
+        None => false,
+    }
+}
+
 // Whether the reference has this value in the core's content.
 fn holds(alloc: Global, core: &JobCore, texts: &[&[u8]], value: &[u8]) -> Result<bool, Refusal> {
     let reference = reference(alloc, texts)?;
     let found = globals::get(alloc, core.content(), &reference)?;
-    Ok(found.map(|text| text.as_slice()) == Some(value))
+    Ok(is_value(found, value))
 }
 
 // Every step but the refused one is in the journal, and ^A(12) alone is left.
@@ -122,7 +150,13 @@ fn a_worked_list_leaves_its_content(rt: HostRuntime) -> Result<(), Fail> {
 }
 
 fn answer(core: &mut JobCore, command: Command) -> Result<Reply, Refusal> {
-    Ok(core.step(Job::new(1)?, command))
+    match Job::new(1) {
+        Ok(job) => Ok(core.step(job, command)),
+        Err(refusal) => {
+            drop(command);
+            Err(refusal)
+        }
+    }
 }
 
 fn is_set(alloc: Global, core: &mut JobCore, text: &[u8]) -> Result<bool, Refusal> {

@@ -89,8 +89,9 @@ fn refused_lines_keep_their_place(rt: HostRuntime) -> Result<(), Fail> {
     ];
     for (input, output) in rows {
         let (text, refused) = output_of(rt.alloc(), input.as_bytes())?;
-        assert_eq!(rt; text.as_slice(), output.as_bytes(), "for {input}");
-        assert_eq!(rt; refused, output.contains("error"), "for {input}");
+        let found = (text.as_slice(), refused);
+        let want = (output.as_bytes(), output.contains("error"));
+        assert_eq!(rt; found, want, "for {input}");
     }
     Ok(())
 }

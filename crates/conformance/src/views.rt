@@ -5,7 +5,6 @@ use globals::{Cut, OrderedView, data, get, merge_list, order, query, subtree, wa
 use job_core::Store;
 use key_codec::Key;
 use refusal::Refusal;
-use smallvec::SmallVec;
 use std::alloc::Global;
 use std::test::Fail;
 
@@ -13,36 +12,59 @@ fn name_a(alloc: Global) -> Result<Name, Refusal> {
     Name::new(Text::from_slice(alloc, b"A")?)
 }
 
+fn text(alloc: Global, text: &str) -> Result<Text, Refusal> {
+    let text = Text::from_slice(alloc, text.as_bytes())?;
+    Ok(text)
+}
+
+fn push_text(alloc: Global, texts: &mut Subscripts, subscript: &str) -> Result<(), Refusal> {
+    texts.push(text(alloc, subscript)?)?;
+    Ok(())
+}
+
 fn texts(alloc: Global, subscripts: &[&str]) -> Result<Subscripts, Refusal> {
-    let mut texts = SmallVec::new(alloc);
+    let mut texts = Subscripts::new(alloc);
     for subscript in subscripts {
-        texts.push(Text::from_slice(alloc, subscript.as_bytes())?)?;
+        push_text(alloc, &mut texts, subscript)?;
     }
     Ok(texts)
 }
 
 fn reference(alloc: Global, subscripts: &[&str]) -> Result<Ref, Refusal> {
-    Ref::new(name_a(alloc)?, texts(alloc, subscripts)?)
+    let texts = texts(alloc, subscripts)?;
+    Ref::new(name_a(alloc)?, texts)
 }
 
 fn key(alloc: Global, subscripts: &[&str]) -> Result<Key, Refusal> {
-    Key::of(alloc, &reference(alloc, subscripts)?)
+    let reference = reference(alloc, subscripts)?;
+    Key::of(alloc, &reference)
 }
 
 fn place(alloc: Global, subscripts: &[&str]) -> Result<Place, Refusal> {
-    Place::new(name_a(alloc)?, texts(alloc, subscripts)?)
+    let texts = texts(alloc, subscripts)?;
+    Place::new(name_a(alloc)?, texts)
+}
+
+fn value(alloc: Global, subscripts: &[&str]) -> Result<Text, Refusal> {
+    match subscripts.last() {
+        Some(subscript) => text(alloc, subscript),
+        None => Ok(Text::new(alloc)),
+    }
+}
+
+fn set(alloc: Global, store: &mut Store, subscripts: &[&str]) -> Result<(), Refusal> {
+    store.reserve(1)?;
+    let key = key(alloc, subscripts)?;
+    let value = value(alloc, subscripts)?;
+    store.set_reserved(key, value);
+    Ok(())
 }
 
 // A store in which each of these references has its last subscript as its value.
 fn store_of(alloc: Global, nodes: &[&[&str]]) -> Result<Store, Refusal> {
     let mut store = Store::new(alloc);
     for subscripts in nodes {
-        store.reserve(1)?;
-        let value = match subscripts.last() {
-            Some(subscript) => Text::from_slice(alloc, subscript.as_bytes())?,
-            None => Text::new(alloc),
-        };
-        store.set_reserved(key(alloc, subscripts)?, value);
+        set(alloc, &mut store, subscripts)?;
     }
     Ok(store)
 }
@@ -52,6 +74,18 @@ fn bytes(answer: Option<&Text>) -> &[u8] {
         Some(text) => text.as_slice(),
         None => b"none",
     }
+}
+
+fn data_at(alloc: Global, store: &Store, subscripts: &[&str]) -> Result<u64, Refusal> {
+    let reference = reference(alloc, subscripts)?;
+    data(alloc, store, &reference)
+}
+
+// Whether the node has this value.
+fn has(alloc: Global, store: &Store, subscripts: &[&str], value: &[u8]) -> Result<bool, Refusal> {
+    let reference = reference(alloc, subscripts)?;
+    let found = get(alloc, store, &reference)?;
+    Ok(bytes(found) == value)
 }
 
 #[test]
@@ -66,10 +100,19 @@ fn data_of_parents_and_leaves_is_as_tabled(rt: HostRuntime) -> Result<(), Fail> 
         (&["3"], 11),
     ];
     for (subscripts, want) in rows {
-        let answer = data(alloc, &store, &reference(alloc, subscripts)?)?;
-        assert_eq!(rt; answer, want);
+        assert_eq!(rt; data_at(alloc, &store, subscripts)?, want);
     }
     Ok(())
+}
+
+fn order_from(
+    alloc: Global,
+    store: &Store,
+    subscripts: &[&str],
+    direction: Direction,
+) -> Result<Option<Text>, Refusal> {
+    let start = place(alloc, subscripts)?;
+    order(alloc, store, &start, direction)
 }
 
 #[test]
@@ -84,8 +127,7 @@ fn order_goes_both_ways_from_any_start(rt: HostRuntime) -> Result<(), Fail> {
         (&["3"], Direction::Backward, "1"),
     ];
     for (subscripts, direction, want) in rows {
-        let start = place(alloc, subscripts)?;
-        let answer = order(alloc, &store, &start, direction)?;
+        let answer = order_from(alloc, &store, subscripts, direction)?;
         assert_eq!(rt; bytes(answer.as_ref()), want.as_bytes());
     }
     Ok(())
@@ -101,14 +143,19 @@ fn order_of_a_bare_name_needs_a_subscript(rt: HostRuntime) -> Result<(), Fail> {
     Ok(())
 }
 
+fn kill(alloc: Global, store: &mut Store, subscripts: &[&str]) -> Result<(), Refusal> {
+    let root = key(alloc, subscripts)?;
+    store.kill(&root);
+    Ok(())
+}
+
 #[test]
 fn kill_takes_descendants_and_no_longer_sibling(rt: HostRuntime) -> Result<(), Fail> {
     let alloc = rt.alloc();
     let mut store = store_of(alloc, &[&["12"], &["1", "1"], &["1"]])?;
-    store.kill(&key(alloc, &["1"])?);
-    let left = reference(alloc, &["12"])?;
+    kill(alloc, &mut store, &["1"])?;
     assert_eq!(rt; store.nodes().len(), 1);
-    assert_eq!(rt; bytes(get(alloc, &store, &left)?), b"12".as_slice());
+    assert!(rt; has(alloc, &store, &["12"], b"12")?);
     Ok(())
 }
 
@@ -117,6 +164,28 @@ fn last_of(found: &Option<Ref>) -> Option<&Text> {
         Some(reference) => reference.subscripts().last(),
         None => None,
     }
+}
+
+fn query_from(
+    alloc: Global,
+    store: &Store,
+    subscripts: &[&str],
+    direction: Direction,
+) -> Result<Option<Ref>, Refusal> {
+    let start = place(alloc, subscripts)?;
+    query(alloc, store, &start, direction)
+}
+
+// Whether $QUERY finds a reference with this last subscript, or "none".
+fn finds(
+    alloc: Global,
+    store: &Store,
+    subscripts: &[&str],
+    direction: Direction,
+    want: &str,
+) -> Result<bool, Refusal> {
+    let answer = query_from(alloc, store, subscripts, direction)?;
+    Ok(bytes(last_of(&answer)) == want.as_bytes())
 }
 
 // $QUERY(^A(5,""),-1) answers what is under ^A(5), else ^A(5) itself, else the one before.
@@ -134,9 +203,8 @@ fn query_walks_depth_first_from_any_start(rt: HostRuntime) -> Result<(), Fail> {
         (&["6", ""], Direction::Backward, "1"),
     ];
     for (subscripts, direction, want) in rows {
-        let start = place(alloc, subscripts)?;
-        let answer = query(alloc, &store, &start, direction)?;
-        assert_eq!(rt; bytes(last_of(&answer)), want.as_bytes());
+        let is_found = finds(alloc, &store, subscripts, direction, want)?;
+        assert!(rt; is_found, "from {subscripts:?}");
     }
     Ok(())
 }
@@ -154,8 +222,11 @@ fn next_and_prev_part_the_nodes_at_each_form_of_cut(rt: HostRuntime) -> Result<(
     ];
     for (cut, next, prev) in rows {
         let (first, last) = (store.next(cut), store.prev(cut));
-        assert_eq!(rt; bytes(first.map(|node| node.1)), next.as_bytes());
-        assert_eq!(rt; bytes(last.map(|node| node.1)), prev.as_bytes());
+        let found = (
+            bytes(first.map(|node| node.1)),
+            bytes(last.map(|node| node.1)),
+        );
+        assert_eq!(rt; found, (next.as_bytes(), prev.as_bytes()));
     }
     Ok(())
 }
@@ -185,19 +256,40 @@ fn walk_from_the_start_meets_every_node_in_order(rt: HostRuntime) -> Result<(), 
     Ok(())
 }
 
+fn merge(alloc: Global, store: &mut Store, target: &Ref, source: &Ref) -> Result<(), Refusal> {
+    let copies = merge_list(alloc, store, target, source)?;
+    store.reserve(copies.len())?;
+    store.set_all_reserved(copies);
+    Ok(())
+}
+
+fn merge_nine_from_one(alloc: Global, store: &mut Store) -> Result<(), Refusal> {
+    let target = reference(alloc, &["9"])?;
+    let source = reference(alloc, &["1"])?;
+    merge(alloc, store, &target, &source)
+}
+
 #[test]
 fn merge_copies_the_value_and_the_descendants(rt: HostRuntime) -> Result<(), Fail> {
     let alloc = rt.alloc();
     let mut store = store_of(alloc, &[&["1"], &["1", "2"], &["3"]])?;
-    let (target, source) = (reference(alloc, &["9"])?, reference(alloc, &["1"])?);
-    let copies = merge_list(alloc, &store, &target, &source)?;
-    store.reserve(copies.len())?;
-    store.set_all_reserved(copies);
-    let below = reference(alloc, &["9", "2"])?;
+    merge_nine_from_one(alloc, &mut store)?;
     assert_eq!(rt; store.nodes().len(), 5);
-    assert_eq!(rt; data(alloc, &store, &target)?, 11);
-    assert_eq!(rt; bytes(get(alloc, &store, &below)?), b"2".as_slice());
+    assert_eq!(rt; data_at(alloc, &store, &["9"])?, 11);
+    assert!(rt; has(alloc, &store, &["9", "2"], b"2")?);
     Ok(())
+}
+
+fn merge_refusal(
+    alloc: Global,
+    store: &Store,
+    target: &[&str],
+    source: &[&str],
+) -> Result<Option<Refusal>, Refusal> {
+    let target = reference(alloc, target)?;
+    let source = reference(alloc, source)?;
+    let copies = merge_list(alloc, store, &target, &source);
+    Ok(copies.err())
 }
 
 #[test]
@@ -212,10 +304,8 @@ fn merge_refuses_overlap_before_depth(rt: HostRuntime) -> Result<(), Fail> {
         (&["1"], &["2"], None),
         (&deep, &["1"], Some(Refusal::TooManySubscripts)),
     ];
-    for (a, b, want) in rows {
-        let (target, source) = (reference(alloc, a)?, reference(alloc, b)?);
-        let refusal = merge_list(alloc, &store, &target, &source).err();
-        assert_eq!(rt; refusal, want);
+    for (target, source, want) in rows {
+        assert_eq!(rt; merge_refusal(alloc, &store, target, source)?, want);
     }
     Ok(())
 }

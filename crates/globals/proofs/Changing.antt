@@ -1,9 +1,11 @@
 -- What SET, KILL and MERGE leave, reference by reference.
 use Rattle.std.proofs.Common.{◌≡◌, ℕ, Bool, true, false, List, [], ◌∷◌, ◌++◌, length, drop, refl, sym, ap, subst, ◌∙◌}
-use Rattle.std.specs.Prelude.{T, cond, not, ◌&&◌, map, filter, Option, Some, None}
+use Rattle.std.specs.Prelude.{cond, not, ◌&&◌, map, filter, Option, Some, None}
 use Rattle.std.specs.Option.{option_or}
 use Rattle.std.specs.Ordering.{eq_by_cmp}
-use Rattle.std.specs.Cmp.{both_ways}
+use Rattle.std.proofs.Math.Seq.{drop-append_seam}
+use Rattle.std.proofs.lemmas.Bool.{and_from}
+use Rattle.std.specs.Cmp.{both_ways, first_so, second_so}
 use Rattle.std.specs.Cmp.Lexicographic.{bytes_decides}
 use Rattle.std.specs.FinMap as finmap
 use Rattle.std.specs.FinMap.Entries.{is_sorted, below_all}
@@ -12,21 +14,9 @@ use Rattle.collation.specs.Order.{ref_cmp, ref_eq}
 use Rattle.collation.specs.OrderLaws.{ref_cmp_total, ref_cmp-IsAntisymmetric, ref_ties, ref_eq_decides}
 use Rattle.collation.specs.Database.{Database, is_under, begins_with}
 use Rattle.collation.specs.Answers.{merged, moved, set_all}
-use Rattle.globals.specs.NearestLaws.{not_found_itself}
+use Rattle.globals.specs.NearestLaws.{not_found_itself, true_of}
 use Rattle.globals.specs.ChangeLaws.{SetSetsOne, KillKillsSubtree, MergeCopiesSubtree}
 use Rattle.globals.proofs.Merging.{copied}
-
-and_first : (a b : Bool) → (a && b) ≡ true → a ≡ true
-and_first true b e = refl
-and_first false b e = cc
-
-and_second : (a b : Bool) → (a && b) ≡ true → b ≡ true
-and_second true b e = e
-and_second false b e = cc
-
-both_so : (a b : Bool) → a ≡ true → b ≡ true → (a && b) ≡ true
-both_so true b p q = q
-both_so false b p q = p
 
 -- ---- SET and KILL
 
@@ -49,28 +39,24 @@ kill_subtree m r q =
 
 begins_append : (ys zs : List (List ℕ)) → begins_with (ys ++ zs) ys ≡ true
 begins_append [] zs = refl
-begins_append (y ∷ ys) zs = both_so _ _ ((bytes_decides y y).1 refl) (begins_append ys zs)
+begins_append (y ∷ ys) zs = and_from _ _ ((bytes_decides y y).1 refl) (begins_append ys zs)
 
 begins_back : (xs ys : List (List ℕ)) → begins_with xs ys ≡ true → ys ++ drop (length ys) xs ≡ xs
 begins_back xs [] h = refl
 begins_back [] (y ∷ ys) h = absurd (cc)
 begins_back (x ∷ xs) (y ∷ ys) h =
-    let same : x ≡ y = (bytes_decides x y).0 (and_first _ _ h) in
-    λ i. sym same i ∷ begins_back xs ys (and_second _ _ h) i
-
-drop_append : (xs ys : List (List ℕ)) → drop (length xs) (xs ++ ys) ≡ ys
-drop_append [] ys = refl
-drop_append (x ∷ xs) ys = drop_append xs ys
+    let same : x ≡ y = (bytes_decides x y).0 (first_so _ _ h) in
+    λ i. sym same i ∷ begins_back xs ys (second_so _ _ h) i
 
 under_moved : (a b e : Reference) → is_under a (moved a b e) ≡ true
-under_moved a b e = both_so _ _ ((bytes_decides a.name a.name).1 refl) (begins_append a.subscripts (drop (length b.subscripts) e.subscripts))
+under_moved a b e = and_from _ _ ((bytes_decides a.name a.name).1 refl) (begins_append a.subscripts (drop (length b.subscripts) e.subscripts))
 
 -- moved there and back
 back_moved : (a b e : Reference) → is_under b e ≡ true → moved b a (moved a b e) ≡ e
 back_moved a b e h =
-    let name : b.name ≡ e.name = (bytes_decides b.name e.name).0 (and_first _ _ h) in
+    let name : b.name ≡ e.name = (bytes_decides b.name e.name).0 (first_so _ _ h) in
     let rest : b.subscripts ++ drop (length a.subscripts) (a.subscripts ++ drop (length b.subscripts) e.subscripts) ≡ e.subscripts =
-    ap (λ l. b.subscripts ++ l) (drop_append a.subscripts (drop (length b.subscripts) e.subscripts)) ∙ begins_back e.subscripts b.subscripts (and_second _ _ h) in
+    ap (λ l. b.subscripts ++ l) (drop-append_seam a.subscripts (drop (length b.subscripts) e.subscripts)) ∙ begins_back e.subscripts b.subscripts (second_so _ _ h) in
     λ i. record { name = name i; subscripts = rest i }
 
 -- q is the copy of e where e is what q would be a copy of
@@ -80,12 +66,12 @@ same_copy a b q e h = both_ways _ _ onward back
     onward : ref_eq q (moved a b e) ≡ true → (is_under a q && ref_eq (moved b a q) e) ≡ true
     onward s =
         let q_is : q ≡ moved a b e = (ref_eq_decides q (moved a b e)).0 s in
-        subst (λ z. (is_under a z && ref_eq (moved b a z) e) ≡ true) (sym q_is) (both_so _ _ (under_moved a b e) ((ref_eq_decides (moved b a (moved a b e)) e).1 (back_moved a b e h)))
+        subst (λ z. (is_under a z && ref_eq (moved b a z) e) ≡ true) (sym q_is) (and_from _ _ (under_moved a b e) ((ref_eq_decides (moved b a (moved a b e)) e).1 (back_moved a b e h)))
 
     back : (is_under a q && ref_eq (moved b a q) e) ≡ true → ref_eq q (moved a b e) ≡ true
     back s =
-        let e_is : moved b a q ≡ e = (ref_eq_decides (moved b a q) e).0 (and_second (is_under a q) (ref_eq (moved b a q) e) s) in
-        (ref_eq_decides q (moved a b e)).1 (sym (ap (moved a b) (sym e_is) ∙ back_moved b a q (and_first (is_under a q) (ref_eq (moved b a q) e) s)))
+        let e_is : moved b a q ≡ e = (ref_eq_decides (moved b a q) e).0 (second_so (is_under a q) (ref_eq (moved b a q) e) s) in
+        (ref_eq_decides q (moved a b e)).1 (sym (ap (moved a b) (sym e_is) ∙ back_moved b a q (first_so (is_under a q) (ref_eq (moved b a q) e) s)))
 
 -- ---- MERGE
 
@@ -127,10 +113,10 @@ last_copied : (a b q : Reference) (es : List (Reference × List ℕ)) → is_sor
 unfolding last_of
 last_copied a b q [] h = sym (empty (List ℕ) (is_under a q))
 last_copied a b q (e ∷ es) h =
-    let rest = last_copied a b q es (and_second (below_all ref_cmp e.0 es) _ h) in
+    let rest = last_copied a b q es (second_so (below_all ref_cmp e.0 es) _ h) in
     let tied : eq_by_cmp ref_cmp (moved b a q) e.0 ≡ ref_eq (moved b a q) e.0 = sym (ref_ties (moved b a q) e.0) in
     let once : ref_eq (moved b a q) e.0 ≡ true → finmap.find ref_cmp (moved b a q) es ≡ None =
-    λ s. ap (λ z. finmap.find ref_cmp z es) ((ref_eq_decides (moved b a q) e.0).0 s) ∙ not_found_itself ref_cmp ref_cmp_total ref_cmp-IsAntisymmetric e.0 es (and_first _ _ h) in
+    λ s. ap (λ z. finmap.find ref_cmp z es) ((ref_eq_decides (moved b a q) e.0).0 s) ∙ not_found_itself ref_cmp ref_cmp_total ref_cmp-IsAntisymmetric e.0 es (first_so _ _ h) in
     elim (is_under b e.0) as (λ u. is_under b e.0 ≡ u → last_of q (map (copied a b) (cond u (e ∷ filter (λ e. is_under b e.0) es) (filter (λ e. is_under b e.0) es))) ≡ cond (is_under a q) (cond (eq_by_cmp ref_cmp (moved b a q) e.0) (Some e.1) (finmap.find ref_cmp (moved b a q) es)) None) [
       | true ↦ λ u. rw (tied, rest, same_copy a b q e.0 u) (found_once (is_under a q) (ref_eq (moved b a q) e.0) _ e.1 once)
       | false ↦ λ u. rw tied (rest ∙ not_found (is_under a q) (ref_eq (moved b a q) e.0) _ e.1 (λ s.
@@ -138,10 +124,6 @@ last_copied a b q (e ∷ es) h =
           let t : is_under b e.0 ≡ true = subst (λ z. is_under b z ≡ true) e_is (under_moved b a q) in
           absurd (cc)))
     ] refl
-
-true_of : (b : Bool) → T b → b ≡ true
-true_of true h = refl
-true_of false h = absurd h
 
 chosen : {A : Type 0} (u : Bool) (o g : Option A) → option_or (cond u o None) g ≡ cond u (option_or o g) g
 chosen true o g = refl

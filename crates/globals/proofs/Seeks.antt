@@ -2,15 +2,17 @@
 use Rattle.std.proofs.Common.{◌≡◌, ℕ, Bool, true, false, List, [], ◌∷◌, refl, sym, ap, ◌∙◌, Option, Some, None}
 use Rattle.std.specs.Prelude.{cond, not, ◌&&◌, ◌||◌, is_some, unwrap_or, IfOk, Result, Ok, Err}
 use Rattle.std.specs.Option.{option_map, option_and_then}
-use Rattle.std.specs.declared.cmp.Ordering.{Ordering}
-use Rattle.std.specs.declared.cmp.Ordering.TheVariants.{Less, Equal, Greater}
+use Rattle.std.specs.declared.cmp.Ordering.TheVariants.{Less}
+use Rattle.std.proofs.Math.Bool.{not-not, and-true}
+use Rattle.std.proofs.lemmas.Bool.{and_from}
 use Rattle.std.specs.Ordering.{is_lt}
+use Rattle.std.specs.Cmp.{first_so, second_so}
 use Rattle.std.specs.List.{list_any}
 use Rattle.std.specs.FinMap as finmap
 use Rattle.std.specs.Cmp.Lexicographic.{slice_cmp}
 use Rattle.collation.specs.Reference.{Reference, Spot}
 use Rattle.collation.specs.Order.{subscript_cmp, ref_cmp}
-use Rattle.collation.specs.OrderLaws.{subscript_cmp_total}
+use Rattle.collation.specs.OrderLaws.{subscript_cmp_total, is_less}
 use Rattle.collation.specs.Database.{Database}
 use Rattle.globals.specs.NearestLaws.{keep, nearest_after, nearest_before, nearest_passes, answered, any_nearest}
 use Rattle.globals.specs.SequenceLaws.{sibling, below_after, below_closed, below_before, below_closed_back, sibling_after, sibling_closed, sibling_before, sibling_closed_back, sibling_known, sibling_known_back, head_closed, head_closed_back, head_closed_end}
@@ -19,14 +21,9 @@ use Rattle.refusal.specs.declared.Refusal.{Refusal}
 use Rattle.collation.specs.Levels.{child_of, front, is_below, has_name, is_nil, parent_of, is_after, is_before}
 use Rattle.collation.specs.Answers.{any_of, counts, follows, order_of, query_of}
 use Rattle.globals.specs.declared.cut.Cut.{Cut}
-use Rattle.globals.specs.CutLaws.{not_not, not_before_end}
+use Rattle.globals.specs.CutLaws.{not_before_end}
 use Rattle.globals.specs.Cuts.{stands_before, next_to, order_start, query_start}
 use Rattle.globals.specs.PathLaws.{path, cmp_path, child_path, past_path, before_path, sibling_next, name_path}
-
-is_less : (o : Ordering) → is_lt o ≡ true → o ≡ Less
-is_less Less h = refl
-is_less Equal h = absurd (cc)
-is_less Greater h = absurd (cc)
 
 any_true : {X : Type 0} (o : Option X) → any_of (λ _. true) o ≡ is_some o
 any_true (Some x) = refl
@@ -151,18 +148,6 @@ order_seek forward p m h = by_parts forward p.reference.name p.reference.subscri
 
 -- ---- the same name
 
-both_so : (a b : Bool) → a ≡ true → b ≡ true → (a && b) ≡ true
-both_so true b p q = q
-both_so false b p q = cc
-
-first_so : (a b : Bool) → (a && b) ≡ true → a ≡ true
-first_so true b p = refl
-first_so false b p = cc
-
-second_so : (a b : Bool) → (a && b) ≡ true → b ≡ true
-second_so true b p = p
-second_so false b p = cc
-
 name_closed : (r x y : Reference) → is_after false r x ≡ true → ref_cmp x y ≡ Less → has_name r y ≡ true → has_name r x ≡ true
 name_closed r x y b l h = name_path r x ∙ head_closed subscript_cmp subscript_cmp_total (120 ∷ r.name) (120 ∷ x.name) (120 ∷ y.name) r.subscripts x.subscripts y.subscripts (less_path r x b) (sym (cmp_path x y) ∙ l) (sym (name_path r y) ∙ h)
 
@@ -177,23 +162,19 @@ query_bound false p = is_before p.is_open p.reference
 
 kept_both : {K X : Type 0} (N B : K → Bool) (o : Option (K × X)) → ((e : K × X) → o ≡ Some e → B e.0 ≡ true) → keep (λ x. N x && B x) o ≡ keep N o
 kept_both N B None within = refl
-kept_both N B (Some e) within = rw (within e refl) (ap (λ b. cond b (Some e) None) (and_true (N e.0)))
-  where
-    and_true : (b : Bool) → (b && true) ≡ b
-    and_true true = refl
-    and_true false = refl
+kept_both N B (Some e) within = rw (within e refl) (ap (λ b. cond b (Some e) None) (and-true (N e.0)))
 
 -- what $QUERY answers, by one look-up
 pub query_seek : (forward : Bool) (p : Spot) (m : Database) → query_of forward p m ≡ option_map (λ e. e.0) (keep (has_name p.reference) (nearest forward (query_bound forward p) m))
 query_seek true p m =
     let B = query_bound true p in
     ap (option_map (λ e. e.0)) (nearest_after ref_cmp (follows true p) B (λ x h. second_so (has_name p.reference x) _ h)
-    (λ x y b l h. both_so _ _ (name_closed p.reference x y b l (first_so _ _ h)) b) m
+    (λ x y b l h. and_from _ _ (name_closed p.reference x y b l (first_so _ _ h)) b) m
     ∙ kept_both (has_name p.reference) B (nearest true B m) (nearest_passes ref_cmp true B m))
 query_seek false p m =
     let B = query_bound false p in
     ap (option_map (λ e. e.0)) (nearest_before ref_cmp (follows false p) B (λ x h. second_so (has_name p.reference x) _ h)
-    (λ x y b l h. both_so _ _ (name_closed_back p.is_open p.reference x y b l (first_so _ _ h)) b) m
+    (λ x y b l h. and_from _ _ (name_closed_back p.is_open p.reference x y b l (first_so _ _ h)) b) m
     ∙ kept_both (has_name p.reference) B (nearest false B m) (nearest_passes ref_cmp false B m))
 
 -- ---- the same, of the key that a look-up gives
@@ -211,7 +192,7 @@ kept_key N (Some e) = elim (N e.0) as (λ b. option_map (λ e. e.0) (cond b (Som
 after_order_start : (p : Spot) (x : Reference) → not (order_start true p x) ≡ seek true p x
 after_order_start p x =
     elim p.is_open as (λ b. not (cond b (not (is_lt (ref_cmp p.reference x))) (is_before true p.reference x)) ≡ is_after (not b) p.reference x) [
-      | true ↦ not_not (is_lt (ref_cmp p.reference x))
+      | true ↦ not-not (is_lt (ref_cmp p.reference x))
       | false ↦ not_before_end p.reference x
     ]
 
@@ -251,7 +232,7 @@ starts_at forward cut p q same start x = start x ∙ ap (λ s. query_start forwa
 
 pub query_found : (forward : Bool) (p : Spot) (m : Database) (cut : Cut) (k : Option Reference) → ((x : Reference) → stands_before cut x ≡ query_start forward p x) → k ≡ key_at forward cut m → query_of forward p m ≡ option_and_then (λ k. cond (has_name p.reference k) (Some k) None) k
 query_found true p m cut k start is =
-    let same : key_at true cut m ≡ option_map (λ e. e.0) (nearest true (query_bound true p) m) = λ i. option_map (λ e. e.0) (nearest true (λ x. (ap not (start x) ∙ not_not (is_lt (ref_cmp p.reference x))) i) m) in
+    let same : key_at true cut m ≡ option_map (λ e. e.0) (nearest true (query_bound true p) m) = λ i. option_map (λ e. e.0) (nearest true (λ x. (ap not (start x) ∙ not-not (is_lt (ref_cmp p.reference x))) i) m) in
     query_seek true p m ∙ kept_key (has_name p.reference) (nearest true (query_bound true p) m) ∙ ap (option_and_then (λ k. cond (has_name p.reference k) (Some k) None)) (sym (is ∙ same))
 query_found false p m cut k start is =
     let same : key_at false cut m ≡ option_map (λ e. e.0) (nearest false (query_bound false p) m) = λ i. option_map (λ e. e.0) (nearest false (λ x. start x i) m) in
@@ -263,5 +244,5 @@ any_key r (Some e) = refl
 
 pub data_found : (r : Reference) (m : Database) (k : Option Reference) → k ≡ option_map (λ e. e.0) (nearest true (λ x. not (not (is_lt (ref_cmp r x)))) m) → list_any (is_below r) (finmap.keys m) ≡ any_of (is_below r) k
 data_found r m k is =
-    let same : option_map (λ e. e.0) (nearest true (λ x. not (not (is_lt (ref_cmp r x)))) m) ≡ option_map (λ e. e.0) (nearest true (is_after false r) m) = λ i. option_map (λ e. e.0) (nearest true (λ x. not_not (is_lt (ref_cmp r x)) i) m) in
+    let same : option_map (λ e. e.0) (nearest true (λ x. not (not (is_lt (ref_cmp r x)))) m) ≡ option_map (λ e. e.0) (nearest true (is_after false r) m) = λ i. option_map (λ e. e.0) (nearest true (λ x. not-not (is_lt (ref_cmp r x)) i) m) in
     data_seek r m ∙ any_key r (nearest true (is_after false r) m) ∙ ap (any_of (is_below r)) (sym (is ∙ same))

@@ -3,15 +3,16 @@ use Rattle.std.proofs.Common.{◌≡◌, ℕ, Bool, true, false, List, [], ◌�
 use Rattle.std.specs.Prelude.{◌&&◌, not, cond, nat_eq, Option, Some, None, is_some, unwrap_or, MatchOption}
 use Rattle.std.specs.Option.{option_map, option_and_then}
 use Rattle.std.specs.List.{list_any}
-use Rattle.std.specs.declared.cmp.Ordering.{Ordering}
-use Rattle.std.specs.declared.cmp.Ordering.TheVariants.{Less, Equal, Greater}
+use Rattle.std.specs.declared.cmp.Ordering.TheVariants.{Less}
 use Rattle.std.specs.Ordering.{is_lt}
-use Rattle.std.specs.Cmp.{both_ways}
+use Rattle.std.proofs.lemmas.Bool.{false_from_ne_true, and_from}
+use Rattle.std.proofs.lemmas.Cmp.{nat_list_eq_equiv}
+use Rattle.std.specs.Cmp.{first_so, second_so}
 use Rattle.std.specs.Cmp.Lexicographic.{pointwise, bytes_decides}
 use Rattle.std.specs.FinMap as finmap
 use Rattle.collation.specs.Reference.{Reference, Spot}
 use Rattle.collation.specs.Order.{subscript_cmp, ref_cmp}
-use Rattle.collation.specs.OrderLaws.{subscript_cmp_total, ref_cmp_total, ref_cmp-IsAntisymmetric}
+use Rattle.collation.specs.OrderLaws.{subscript_cmp_total, ref_cmp_total, ref_cmp-IsAntisymmetric, is_less}
 use Rattle.collation.specs.Database.{Database, is_under, begins_with}
 use Rattle.collation.specs.Nearest.{nearest}
 use Rattle.collation.specs.Levels.{child, child_of, is_below, parent_of}
@@ -20,15 +21,6 @@ use Rattle.globals.specs.NearestLaws.{IsNearest, any_nearest, nearest_is, neares
 use Rattle.globals.specs.SequenceLaws.{next_less}
 use Rattle.globals.specs.PathLaws.{path, cmp_path, child_path}
 use Rattle.globals.specs.AnswerLaws.{HasValue, HasDescendant, DescendantsAreUnder, DataTells, below, IsNearestSibling, HasNoSibling, OrderTells, IsNearestNode, QueryTells}
-
-is_less : (o : Ordering) → is_lt o ≡ true → o ≡ Less
-is_less Less e = refl
-is_less Equal e = cc
-is_less Greater e = cc
-
-false_unless : (b : Bool) → ¬ (b ≡ true) → b ≡ false
-false_unless true h = absurd (h refl)
-false_unless false h = refl
 
 -- what the map has nothing at has no value
 no_value : (m : Database) (x : Reference) → finmap.get m x ≡ None → HasValue m x → ⊥
@@ -52,25 +44,13 @@ any_false m r d = any_nearest (is_below r) m ∙ by_found (nearest true (is_belo
 
 pub data_tells : (m : Database) (r : Reference) → DataTells m r
 data_tells m r = record {
-  neither = λ v d. rw (false_unless _ v, any_false m r d) refl;
+  neither = λ v d. rw (false_from_ne_true _ v, any_false m r d) refl;
   value = λ v d. rw (v, any_false m r d) refl;
-  descendants = λ v d. rw (false_unless _ v, any_true m r d) refl;
+  descendants = λ v d. rw (false_from_ne_true _ v, any_true m r d) refl;
   both = λ v d. rw (v, any_true m r d) refl;
 }
 
 -- ---- $ORDER
-
-and_first : (a b : Bool) → (a && b) ≡ true → a ≡ true
-and_first true b e = refl
-and_first false b e = cc
-
-and_second : (a b : Bool) → (a && b) ≡ true → b ≡ true
-and_second true b e = e
-and_second false b e = cc
-
-both_so : (a b : Bool) → a ≡ true → b ≡ true → (a && b) ≡ true
-both_so true b p q = q
-both_so false b p q = p
 
 chosen : (b : Bool) (o : Option (List ℕ)) (s : List ℕ) → cond b o None ≡ Some s → (b ≡ true) × (o ≡ Some s)
 chosen true o s h = (refl, h)
@@ -81,39 +61,39 @@ same_text x y e = (bytes_decides x y).1 e
 
 child_begins : (ps xs : List (List ℕ)) (s : List ℕ) → child ps xs ≡ Some s → begins_with xs (ps ++ s ∷ []) ≡ true
 child_begins [] [] s h = absurd (cc)
-child_begins [] (x ∷ xs) s h = let x_is : x ≡ s = cc in both_so _ _ (same_text x s x_is) refl
+child_begins [] (x ∷ xs) s h = let x_is : x ≡ s = cc in and_from _ _ (same_text x s x_is) refl
 child_begins (p ∷ ps) [] s h = absurd (cc)
 child_begins (p ∷ ps) (x ∷ xs) s h =
     let parts = chosen (pointwise nat_eq p x) (child ps xs) s h in
-    both_so _ _ (same_text x p (sym ((bytes_decides p x).0 parts.0))) (child_begins ps xs s parts.1)
+    and_from _ _ (same_text x p (sym ((bytes_decides p x).0 parts.0))) (child_begins ps xs s parts.1)
 
 begins_child : (ps xs : List (List ℕ)) (s : List ℕ) → begins_with xs (ps ++ s ∷ []) ≡ true → child ps xs ≡ Some s
 begins_child [] [] s h = absurd (cc)
-begins_child [] (x ∷ xs) s h = let x_is : x ≡ s = (bytes_decides x s).0 (and_first _ _ h) in ap Some x_is
+begins_child [] (x ∷ xs) s h = let x_is : x ≡ s = (bytes_decides x s).0 (first_so _ _ h) in ap Some x_is
 begins_child (p ∷ ps) [] s h = absurd (cc)
 begins_child (p ∷ ps) (x ∷ xs) s h =
-    let x_is : x ≡ p = (bytes_decides x p).0 (and_first _ _ h) in
-    rw (same_text p x (sym x_is)) (begins_child ps xs s (and_second _ _ h))
+    let x_is : x ≡ p = (bytes_decides x p).0 (first_so _ _ h) in
+    rw (same_text p x (sym x_is)) (begins_child ps xs s (second_so _ _ h))
 
 -- the subscript on the way to x is s where x stands at or under s, one level below r
 child_under : (r x : Reference) (s : List ℕ) → child_of r x ≡ Some s → is_under (below r s) x ≡ true
-child_under r x s h = let parts = chosen (pointwise nat_eq r.name x.name) (child r.subscripts x.subscripts) s h in both_so _ _ parts.0 (child_begins r.subscripts x.subscripts s parts.1)
+child_under r x s h = let parts = chosen (pointwise nat_eq r.name x.name) (child r.subscripts x.subscripts) s h in and_from _ _ parts.0 (child_begins r.subscripts x.subscripts s parts.1)
 
 under_child : (r x : Reference) (s : List ℕ) → is_under (below r s) x ≡ true → child_of r x ≡ Some s
-under_child r x s h = rw (and_first (pointwise nat_eq r.name x.name) _ h) (begins_child r.subscripts x.subscripts s (and_second (pointwise nat_eq r.name x.name) _ h))
+under_child r x s h = rw (first_so (pointwise nat_eq r.name x.name) _ h) (begins_child r.subscripts x.subscripts s (second_so (pointwise nat_eq r.name x.name) _ h))
 
 siblings_less : (r x y : Reference) (s t : List ℕ) → child_of r x ≡ Some s → child_of r y ≡ Some t → subscript_cmp s t ≡ Less → ref_cmp x y ≡ Less
 siblings_less r x y s t a b l = cmp_path x y ∙ next_less subscript_cmp subscript_cmp_total (path r) (path x) (path y) s t (sym (child_path r x) ∙ a) (sym (child_path r y) ∙ b) l
 
 -- a sibling isn't nearer, where none of its members is
 not_nearer : (forward : Bool) (r x y : Reference) (s t : List ℕ) → child_of r x ≡ Some s → child_of r y ≡ Some t → (cond forward (ref_cmp x y) (ref_cmp y x) ≡ Less → ⊥) → is_lt (cond forward (subscript_cmp s t) (subscript_cmp t s)) ≡ false
-not_nearer true r x y s t a b never = false_unless _ (λ l. never (siblings_less r x y s t a b (is_less _ l)))
-not_nearer false r x y s t a b never = false_unless _ (λ l. never (siblings_less r y x t s b a (is_less _ l)))
+not_nearer true r x y s t a b never = false_from_ne_true _ (λ l. never (siblings_less r x y s t a b (is_less _ l)))
+not_nearer false r x y s t a b never = false_from_ne_true _ (λ l. never (siblings_less r y x t s b a (is_less _ l)))
 
 no_sibling : (forward : Bool) (p : Spot) (m : Database) → nearest forward (counts forward p) m ≡ None → HasNoSibling forward p m
 no_sibling forward p m is s sibling =
     let on_way = ap (any_of (is_beyond forward p)) (under_child (parent_of p) sibling.0 s sibling.1) in
-    false_unless _ (λ b. no_value m sibling.0 (nearest_none ref_cmp ref_cmp_total ref_cmp-IsAntisymmetric forward (counts forward p) m is sibling.0 (on_way ∙ b)) sibling.2)
+    false_from_ne_true _ (λ b. no_value m sibling.0 (nearest_none ref_cmp ref_cmp_total ref_cmp-IsAntisymmetric forward (counts forward p) m is sibling.0 (on_way ∙ b)) sibling.2)
 
 nearest_sibling : (forward : Bool) (p : Spot) (m : Database) (e : Reference × List ℕ) (t : List ℕ) → IsNearest forward (counts forward p) m e → child_of (parent_of p) e.0 ≡ Some t → IsNearestSibling forward p m t
 nearest_sibling forward p m e t found way = record {
@@ -146,12 +126,12 @@ order_tells forward p m = by_found (nearest forward (counts forward p) m) refl
 -- ---- $QUERY
 
 not_before : (forward : Bool) (x y : Reference) → (cond forward (ref_cmp x y) (ref_cmp y x) ≡ Less → ⊥) → is_lt (cond forward (ref_cmp x y) (ref_cmp y x)) ≡ false
-not_before forward x y never = false_unless _ (λ l. never (is_less _ l))
+not_before forward x y never = false_from_ne_true _ (λ l. never (is_less _ l))
 
 pub query_tells : (forward : Bool) (p : Spot) (m : Database) → QueryTells forward p m
 query_tells forward p m =
     elim (nearest forward (follows forward p) m) as (λ o. nearest forward (follows forward p) m ≡ o → MatchOption (option_map (λ (e : Reference × List ℕ). e.0) o) ((x : Reference) → HasValue m x → follows forward p x ≡ false) (IsNearestNode forward p m)) [
-      | None ↦ λ is x v. false_unless _ (λ b. no_value m x (nearest_none ref_cmp ref_cmp_total ref_cmp-IsAntisymmetric forward (follows forward p) m is x b) v)
+      | None ↦ λ is x v. false_from_ne_true _ (λ b. no_value m x (nearest_none ref_cmp ref_cmp_total ref_cmp-IsAntisymmetric forward (follows forward p) m is x b) v)
       | Some e ↦ λ is.
           let found = nearest_is ref_cmp ref_cmp_total ref_cmp-IsAntisymmetric forward (follows forward p) m e is in
           record {
@@ -163,14 +143,11 @@ query_tells forward p m =
 
 -- ---- descendants
 
-turn : (x y : List ℕ) → pointwise nat_eq x y ≡ pointwise nat_eq y x
-turn x y = both_ways _ _ (λ e. same_text y x (sym ((bytes_decides x y).0 e))) (λ e. same_text x y (sym ((bytes_decides y x).0 e)))
-
 child_so : (ps xs : List (List ℕ)) → is_some (child ps xs) ≡ (begins_with xs ps && not (pointwise (pointwise nat_eq) ps xs))
 child_so [] [] = refl
 child_so [] (x ∷ xs) = refl
 child_so (p ∷ ps) [] = refl
-child_so (p ∷ ps) (x ∷ xs) = rw (turn x p) (by_head (pointwise nat_eq p x) (child_so ps xs))
+child_so (p ∷ ps) (x ∷ xs) = rw (nat_list_eq_equiv.symm x p) (by_head (pointwise nat_eq p x) (child_so ps xs))
   where
     by_head : (w : Bool) → is_some (child ps xs) ≡ (begins_with xs ps && not (pointwise (pointwise nat_eq) ps xs)) → is_some (cond w (child ps xs) None) ≡ ((w && begins_with xs ps) && not (w && pointwise (pointwise nat_eq) ps xs))
     by_head true rest = rest

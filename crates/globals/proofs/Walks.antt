@@ -1,39 +1,25 @@
 -- A walk from member to member, as the list of what is left.
 use Rattle.std.proofs.Common.{◌≡◌, ℕ, Bool, true, false, List, [], ◌∷◌, refl, sym, ap, subst, ◌∙◌, Some, None, length, ◌<◌, arith}
-use Rattle.std.specs.Prelude.{T, cond, not, ◌&&◌, filter}
+use Rattle.std.specs.Prelude.{cond, not, ◌&&◌, filter}
 use Rattle.std.specs.declared.cmp.Ordering.{Ordering}
-use Rattle.std.specs.declared.cmp.Ordering.TheVariants.{Less, Equal, Greater}
-use Rattle.std.specs.Ordering.{is_lt, ordering_reverse}
-use Rattle.std.specs.Cmp.{IsTotalOrder, tied_itself}
+use Rattle.std.specs.declared.cmp.Ordering.TheVariants.{Less, Greater}
+use Rattle.std.proofs.lemmas.Bool.{and_right}
+use Rattle.std.specs.Ordering.{is_lt}
+use Rattle.std.specs.Cmp.{IsTotalOrder, tied_itself, first_so, second_so}
 use Rattle.std.specs.List.{find}
 use Rattle.std.specs.FinMap as finmap
 use Rattle.std.specs.FinMap.{is_sorted}
 use Rattle.std.specs.FinMap.Entries.{below_all}
 use Rattle.collation.specs.Reference.{Reference}
 use Rattle.collation.specs.Order.{ref_cmp}
-use Rattle.collation.specs.OrderLaws.{ref_cmp_total}
+use Rattle.collation.specs.OrderLaws.{ref_cmp_total, is_less, turned}
 use Rattle.collation.specs.Database.{Database, is_under}
 use Rattle.collation.specs.Levels.{is_before}
 use Rattle.collation.specs.Answers.{subtree_of}
 use Rattle.globals.specs.declared.cut.Cut.{Cut}
 use Rattle.globals.specs.Cuts.{stands_before, first_from, entries_from, front_under}
+use Rattle.globals.specs.NearestLaws.{later_found, none_pass, still_fails, true_of}
 use Rattle.globals.specs.CutLaws.{stands_before-earlier, before_end-earlier, under_between}
-
-and_first : (a b : Bool) → (a && b) ≡ true → a ≡ true
-and_first true b e = refl
-and_first false b e = cc
-
-and_second : (a b : Bool) → (a && b) ≡ true → b ≡ true
-and_second true b e = e
-and_second false b e = cc
-
-is_less : (o : Ordering) → is_lt o ≡ true → o ≡ Less
-is_less Less e = refl
-is_less Equal e = cc
-is_less Greater e = cc
-
-not_before : {K : Type 0} (R : K → K → Ordering) (B : K → Bool) → ((x y : K) → R x y ≡ Less → B y ≡ true → B x ≡ true) → (x y : K) → B x ≡ false → R x y ≡ Less → not (B y) ≡ true
-not_before R B early x y b l = elim (B y) as (λ c. B y ≡ c → not c ≡ true) [ true ↦ λ c. let t = early x y l c in absurd (cc) | false ↦ λ c. refl ] refl
 
 none_left : {A : Type 0} (p : A → Bool) (es : List A) → find p es ≡ None → filter p es ≡ []
 none_left p [] is = refl
@@ -45,18 +31,7 @@ none_left p (e ∷ es) is = elim (p e) as (λ b. cond b (Some e) (find p es) ≡
 module _ {K X : Type 0} (R : K → K → Ordering) where
   all_left : (p : K → Bool) (x : K) (es : List (K × X)) → ((y : K) → R x y ≡ Less → p y ≡ true) → below_all R x es ≡ true → filter (λ e. p e.0) es ≡ es
   all_left p x [] passes h = refl
-  all_left p x (e ∷ es) passes h = rw (passes e.0 (is_less _ (and_first _ _ h))) (ap (λ l. e ∷ l) (all_left p x es passes (and_second (is_lt (R x e.0)) _ h)))
-
-  none_pass : (p : K → Bool) (x : K) (es : List (K × X)) → ((y : K) → R x y ≡ Less → p y ≡ false) → below_all R x es ≡ true → filter (λ e. p e.0) es ≡ []
-  none_pass p x [] fails h = refl
-  none_pass p x (e ∷ es) fails h = rw (fails e.0 (is_less _ (and_first _ _ h))) (none_pass p x es fails (and_second (is_lt (R x e.0)) _ h))
-
-  found_later : (p : K → Bool) (x : K) (es : List (K × X)) (f : K × X) → below_all R x es ≡ true → find (λ e. p e.0) es ≡ Some f → R x f.0 ≡ Less
-  found_later p x [] f h is = absurd (cc)
-  found_later p x (e ∷ es) f h is = elim (p e.0) as (λ b. cond b (Some e) (find (λ e. p e.0) es) ≡ Some f → R x f.0 ≡ Less) [
-    | true ↦ λ is. let same : e ≡ f = cc in subst (λ z. R x z.0 ≡ Less) same (is_less _ (and_first _ _ h))
-    | false ↦ λ is. found_later p x es f (and_second (is_lt (R x e.0)) _ h) is
-  ] is
+  all_left p x (e ∷ es) passes h = rw (passes e.0 (is_less _ (first_so _ _ h))) (ap (λ l. e ∷ l) (all_left p x es passes (second_so (is_lt (R x e.0)) _ h)))
 
   module _ (o : IsTotalOrder R) (B : K → Bool) (early : (x y : K) → R x y ≡ Less → B y ≡ true → B x ≡ true) where
     -- the first that is left, and those after it
@@ -65,13 +40,13 @@ module _ {K X : Type 0} (R : K → K → Ordering) where
     step (e ∷ es) f h is =
         elim (B e.0) as (λ b. B e.0 ≡ b → cond (not b) (Some e) (find (λ e. not (B e.0)) es) ≡ Some f → cond (not b) (e ∷ filter (λ e. not (B e.0)) es) (filter (λ e. not (B e.0)) es) ≡ f ∷ cond (not (not (is_lt (R f.0 e.0)))) (e ∷ filter (λ e. not (not (is_lt (R f.0 e.0)))) es) (filter (λ e. not (not (is_lt (R f.0 e.0)))) es)) [
           | true ↦ λ b is.
-              let later : R e.0 f.0 ≡ Less = found_later (λ x. not (B x)) e.0 es f (and_first _ _ h) is in
-              let back : R f.0 e.0 ≡ Greater = o.antisymm f.0 e.0 ∙ ap ordering_reverse later in
-              rw back (step es f (and_second (below_all R e.0 es) _ h) is)
+              let later : R e.0 f.0 ≡ Less = later_found R (λ x. not (B x)) e.0 es f (first_so _ _ h) is in
+              let back : R f.0 e.0 ≡ Greater = turned o e.0 f.0 Less later in
+              rw back (step es f (second_so (below_all R e.0 es) _ h) is)
           | false ↦ λ b is.
               let same : e ≡ f = cc in
-              let rest : filter (λ e. not (B e.0)) es ≡ es = all_left (λ x. not (B x)) e.0 es (λ y l. not_before R B early e.0 y b l) (and_first _ _ h) in
-              let after : filter (λ g. not (not (is_lt (R e.0 g.0)))) es ≡ es = all_left (λ x. not (not (is_lt (R e.0 x)))) e.0 es (λ y l. ap (λ r. not (not (is_lt r))) l) (and_first _ _ h) in
+              let rest : filter (λ e. not (B e.0)) es ≡ es = all_left (λ x. not (B x)) e.0 es (λ y l. ap not (still_fails R B early e.0 y b l)) (first_so _ _ h) in
+              let after : filter (λ g. not (not (is_lt (R e.0 g.0)))) es ≡ es = all_left (λ x. not (not (is_lt (R e.0 x)))) e.0 es (λ y l. ap (λ r. not (not (is_lt r))) l) (first_so _ _ h) in
               subst (λ z. e ∷ filter (λ e. not (B e.0)) es ≡ z ∷ cond (not (not (is_lt (R z.0 e.0)))) (e ∷ filter (λ g. not (not (is_lt (R z.0 g.0)))) es) (filter (λ g. not (not (is_lt (R z.0 g.0)))) es)) same
               (rw (tied_itself o e.0, rest, after) refl)
         ] refl is
@@ -84,18 +59,14 @@ module _ {K X : Type 0} (R : K → K → Ordering) where
   block : (U L : K → Bool) → ((x : K) → L x ≡ true → U x ≡ false) → ((x y : K) → L x ≡ false → U x ≡ false → R x y ≡ Less → U y ≡ false) → (es : List (K × X)) → is_sorted R es ≡ true → front_while U (filter (λ e. not (L e.0)) es) ≡ filter (λ e. U e.0) es
   block U L apart later [] h = refl
   block U L apart later (e ∷ es) h =
-      let rest = block U L apart later es (and_second (below_all R e.0 es) _ h) in
+      let rest = block U L apart later es (second_so (below_all R e.0 es) _ h) in
       elim (L e.0) as (λ l. L e.0 ≡ l → front_while U (cond (not l) (e ∷ filter (λ e. not (L e.0)) es) (filter (λ e. not (L e.0)) es)) ≡ cond (U e.0) (e ∷ filter (λ e. U e.0) es) (filter (λ e. U e.0) es)) [
         | true ↦ λ l. rw (apart e.0 l) rest
         | false ↦ λ l. elim (U e.0) as (λ u. U e.0 ≡ u → cond u (e ∷ front_while U (filter (λ e. not (L e.0)) es)) [] ≡ cond u (e ∷ filter (λ e. U e.0) es) (filter (λ e. U e.0) es)) [
           | true ↦ λ u. ap (λ l. e ∷ l) rest
-          | false ↦ λ u. sym (none_pass U e.0 es (λ y s. later e.0 y l u s) (and_first _ _ h))
+          | false ↦ λ u. sym (none_pass R U e.0 es (λ y s. later e.0 y l u s) (first_so _ _ h))
         ] refl
       ] refl
-
-true_of : (b : Bool) → T b → b ≡ true
-true_of true h = refl
-true_of false h = absurd h
 
 pub walk_step : (cut : Cut) (m : Database) (e : Reference × List ℕ) → first_from cut m ≡ Some e → entries_from cut m ≡ e ∷ filter (λ f. not (not (is_lt (ref_cmp e.0 f.0)))) (finmap.entries m)
 walk_step cut m e is = step ref_cmp ref_cmp_total (stands_before cut) (stands_before-earlier cut) (finmap.entries m) e (true_of _ (finmap.entries_sorted m)) is
@@ -109,12 +80,8 @@ apart r x l = under_between r x ∙ ap (λ b. not b && is_before true r x) l
 later : (r x y : Reference) → is_lt (ref_cmp x r) ≡ false → is_under r x ≡ false → ref_cmp x y ≡ Less → is_under r y ≡ false
 later r x y l u s =
     let end : is_before true r x ≡ false = sym (ap (λ b. not b && is_before true r x) l) ∙ sym (under_between r x) ∙ u in
-    let end_y : is_before true r y ≡ false = elim (is_before true r y) as (λ b. is_before true r y ≡ b → b ≡ false) [ true ↦ λ e. let t = before_end-earlier r x y s e in absurd (cc) | false ↦ λ e. refl ] refl in
-    under_between r y ∙ ap (λ b. not (is_lt (ref_cmp y r)) && b) end_y ∙ both_false (not (is_lt (ref_cmp y r)))
-  where
-    both_false : (b : Bool) → (b && false) ≡ false
-    both_false true = refl
-    both_false false = refl
+    let end_y : is_before true r y ≡ false = still_fails ref_cmp (is_before true r) (before_end-earlier r) x y end s in
+    under_between r y ∙ ap (λ b. not (is_lt (ref_cmp y r)) && b) end_y ∙ and_right (not (is_lt (ref_cmp y r))) false refl
 
 same_front : (r : Reference) (es : List (Reference × List ℕ)) → front_under r es ≡ front_while ref_cmp (is_under r) es
 same_front r [] = refl

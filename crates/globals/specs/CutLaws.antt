@@ -1,12 +1,12 @@
 -- Cuts respect the order, and what is under a reference lies between two cuts.
 use Rattle.std.specs.Prelude.{◌≡◌, Bool, true, false, not, ◌&&◌, ◌||◌}
 use Rattle.std.proofs.Common.{refl, sym, ap, ◌∙◌}
-use Rattle.std.specs.declared.cmp.Ordering.{Ordering}
-use Rattle.std.specs.declared.cmp.Ordering.TheVariants.{Less, Equal, Greater}
+use Rattle.std.proofs.Math.Bool.{not-not}
+use Rattle.std.specs.declared.cmp.Ordering.TheVariants.{Less}
 use Rattle.std.specs.Ordering.{is_lt}
 use Rattle.collation.specs.Reference.{Reference}
 use Rattle.collation.specs.Order.{subscript_cmp, ref_cmp}
-use Rattle.collation.specs.OrderLaws.{subscript_cmp_total, ref_cmp_total}
+use Rattle.collation.specs.OrderLaws.{subscript_cmp_total, ref_cmp_total, is_less}
 use Rattle.collation.specs.Database.{is_under}
 use Rattle.collation.specs.Levels.{is_before, is_past}
 use Rattle.globals.specs.declared.cut.Cut.{Cut}
@@ -15,15 +15,6 @@ use Rattle.globals.specs.Cuts.{stands_before}
 use Rattle.globals.specs.SequenceLaws.{not_passed_so, passed_on, begins_not_before}
 use Rattle.globals.specs.PathLaws.{path, cmp_path, under_path, past_path, before_path}
 
-is_less : (o : Ordering) → is_lt o ≡ true → o ≡ Less
-is_less Less h = refl
-is_less Equal h = absurd (cc)
-is_less Greater h = absurd (cc)
-
-pub not_not : (b : Bool) → not (not b) ≡ b
-not_not true = refl
-not_not false = refl
-
 -- a test that is false wherever another is, which is false
 still_false : (a b : Bool) → (b ≡ true → a ≡ true) → not a ≡ true → not b ≡ true
 still_false a true f h = let e = f refl in absurd (cc)
@@ -31,7 +22,7 @@ still_false a false f h = refl
 
 -- what doesn't stand before the end of all under r stands past r
 pub not_before_end : (r x : Reference) → not (is_before true r x) ≡ is_past r x
-not_before_end r x = ap not (before_path r x ∙ not_passed_so subscript_cmp subscript_cmp_total (path r) (path x)) ∙ not_not _ ∙ sym (past_path r x)
+not_before_end r x = ap not (before_path r x ∙ not_passed_so subscript_cmp subscript_cmp_total (path r) (path x)) ∙ not-not _ ∙ sym (past_path r x)
 
 past_on : (r x y : Reference) → ref_cmp x y ≡ Less → is_past r x ≡ true → is_past r y ≡ true
 past_on r x y l h = past_path r y ∙ passed_on subscript_cmp subscript_cmp_total (path r) (path x) (path y) (sym (past_path r x) ∙ h) (sym (cmp_path x y) ∙ l)

@@ -1,6 +1,6 @@
 -- References as lists in lexicographic order.
 use Rattle.canonic_number.specs.Number.{is_canonic}
-use Rattle.std.proofs.Common.{rules, arith, zero, suc, ◌+◌, ◌≤◌, take, length, ◌-◌, ◌≡◌, ℕ, Bool, true, false, List, [], ◌∷◌, refl, sym, ap, ◌∙◌, Option, None}
+use Rattle.std.proofs.Common.{rules, ◌≡◌, ℕ, Bool, true, false, List, [], ◌∷◌, refl, sym, ap, ◌∙◌, Option, None}
 use Rattle.std.specs.Prelude.{nat_eq, cond, not, ◌&&◌, ◌||◌}
 use Rattle.std.specs.declared.cmp.Ordering.{Ordering}
 use Rattle.std.specs.declared.cmp.Ordering.TheVariants.{Less, Equal, Greater}
@@ -75,13 +75,3 @@ pub sibling_next : (test : List ℕ → List ℕ → Bool) (r : List ℕ) (rs xs
 sibling_next test r [] xs = ap (any_of (test r)) (child_next [] xs)
 sibling_next test r (s ∷ rs) [] = refl
 sibling_next test r (s ∷ rs) (x ∷ xs) = any_cond (test (last (s ∷ rs))) (pointwise nat_eq r x) (child (front (s ∷ rs)) xs) ∙ (λ i. cond (ties r x i) (sibling_next test s rs xs i) false)
-
-take_all_but_last : (n : ℕ) (xs : List (List ℕ)) → n + 1 ≡ length xs → take n xs ≡ front xs
-take_all_but_last n [] e = absurd (omega arith)
-take_all_but_last zero (x ∷ []) e = refl
-take_all_but_last (suc n) (x ∷ []) e = absurd (omega arith)
-take_all_but_last zero (x ∷ y ∷ ys) e = absurd (omega arith)
-take_all_but_last (suc n) (x ∷ y ∷ ys) e = ap (λ zs. x ∷ zs) (take_all_but_last n (y ∷ ys) (omega arith))
-
-pub take_front : (xs : List (List ℕ)) → 1 ≤ length xs → take (length xs - 1) xs ≡ front xs
-take_front xs l = take_all_but_last (length xs - 1) xs (omega arith)

@@ -4,8 +4,9 @@ use Rattle.std.proofs.Common.{refl, sym, ap, ◌∙◌}
 use Rattle.std.specs.declared.cmp.Ordering.{Ordering}
 use Rattle.std.specs.declared.cmp.Ordering.TheVariants.{Less, Equal, Greater}
 use Rattle.std.specs.Ordering.{is_lt, is_eq, ordering_then, ordering_reverse}
-use Rattle.std.specs.Cmp.{IsTotalOrder, tied_back, alike_right}
+use Rattle.std.specs.Cmp.{IsTotalOrder, tied_back, alike_right, first_so}
 use Rattle.std.specs.Cmp.Lexicographic.{slice_cmp}
+use Rattle.collation.specs.OrderLaws.{is_less, is_equal, turned}
 use Rattle.collation.specs.Answers.{any_of}
 
 record Squeezed (r a b : Ordering) : Type 0 where
@@ -23,30 +24,16 @@ tied_some Less o h = absurd (cc)
 tied_some Equal o h = refl
 tied_some Greater o h = absurd (cc)
 
-tied_any : {X : Type 0} (test : X → Bool) (r : Ordering) (o : Option X) → any_of test (cond (is_eq r) o None) ≡ true → r ≡ Equal
-tied_any test Less o h = absurd (cc)
-tied_any test Equal o h = refl
-tied_any test Greater o h = absurd (cc)
-
 tied_true : (r : Ordering) (b : Bool) → cond (is_eq r) b false ≡ true → r ≡ Equal
 tied_true Less b h = absurd (cc)
 tied_true Equal b h = refl
 tied_true Greater b h = absurd (cc)
 
-and_tied : (r : Ordering) (b : Bool) → (is_eq r && b) ≡ true → r ≡ Equal
-and_tied Less b h = absurd (cc)
-and_tied Equal b h = refl
-and_tied Greater b h = absurd (cc)
-
-equal_of : (r : Ordering) → is_eq r ≡ true → r ≡ Equal
-equal_of Less h = absurd (cc)
-equal_of Equal h = refl
-equal_of Greater h = absurd (cc)
-
-less_of : (r : Ordering) → is_lt r ≡ true → r ≡ Less
-less_of Less h = refl
-less_of Equal h = absurd (cc)
-less_of Greater h = absurd (cc)
+-- past one element, which ties with none
+past_one : (q c : Ordering) → not (is_eq q && true) && is_lt (ordering_then q c) ≡ true → is_lt q ≡ true
+past_one Less c h = refl
+past_one Equal c h = absurd (cc)
+past_one Greater c h = absurd (cc)
 
 module _ {A : Type 0} (R : A → A → Ordering) where
   -- the first element of xs beyond ps, where xs goes on from ps
@@ -78,8 +65,12 @@ module _ {A : Type 0} (R : A → A → Ordering) where
   sibling test (r ∷ s ∷ rs) (x ∷ xs) = cond (is_eq (R r x)) (sibling test (s ∷ rs) xs) false
 
   module _ (o : IsTotalOrder R) where
-    back : (x y : A) (r : Ordering) → R x y ≡ r → R y x ≡ ordering_reverse r
-    back x y r e = o.antisymm y x ∙ ap ordering_reverse e
+    -- before one element
+    before_one : (q : Ordering) (ys : List A) → ordering_then q (slice_cmp R ys []) ≡ Less → is_lt q ≡ true
+    before_one Less ys h = refl
+    before_one Equal [] h = absurd (cc)
+    before_one Equal (y ∷ ys) h = absurd (cc)
+    before_one Greater ys h = absurd (cc)
 
     -- ---- onward from a list: what goes on from it
 
@@ -96,7 +87,7 @@ module _ {A : Type 0} (R : A → A → Ordering) where
     below_closed (r ∷ rs) (x ∷ xs) [] a b h = absurd (cc)
     below_closed (r ∷ rs) (x ∷ xs) (y ∷ ys) a b h =
         let e = tied_some (R r y) (next_of rs ys) h in
-        let t : R x y ≡ ordering_reverse (R r x) = back y x (R r x) (sym (o.congr r y x e)) in
+        let t : R x y ≡ ordering_reverse (R r x) = turned o y x (R r x) (sym (o.congr r y x e)) in
         let s = squeeze (R r x) (slice_cmp R rs xs) (slice_cmp R xs ys) a (rw t at b) in
         rw s.same (below_closed rs xs ys s.left s.right (rw e at h))
 
@@ -130,24 +121,19 @@ module _ {A : Type 0} (R : A → A → Ordering) where
     pub sibling_after : (rs xs : List A) → sibling (λ r x. is_lt (R r x)) rs xs ≡ true → passed rs xs ≡ true
     sibling_after [] xs h = absurd (cc)
     sibling_after (r ∷ []) [] h = absurd (cc)
-    sibling_after (r ∷ []) (x ∷ xs) h = rw (less_of (R r x) h) refl
+    sibling_after (r ∷ []) (x ∷ xs) h = rw (is_less (R r x) h) refl
     sibling_after (r ∷ s ∷ rs) [] h = absurd (cc)
     sibling_after (r ∷ s ∷ rs) (x ∷ xs) h = let e = tied_true (R r x) _ h in rw e (sibling_after (s ∷ rs) xs (rw e at h))
 
     pub sibling_closed : (rs xs ys : List A) → passed rs xs ≡ true → slice_cmp R xs ys ≡ Less → sibling (λ r x. is_lt (R r x)) rs ys ≡ true → sibling (λ r x. is_lt (R r x)) rs xs ≡ true
     sibling_closed [] xs ys a b h = absurd (cc)
     sibling_closed (r ∷ []) [] ys a b h = absurd (cc)
-    sibling_closed (r ∷ []) (x ∷ xs) ys a b h = by_last (R r x) _ a
-      where
-        by_last : (q : Ordering) (c : Ordering) → not (is_eq q && true) && is_lt (ordering_then q c) ≡ true → is_lt q ≡ true
-        by_last Less c h = refl
-        by_last Equal c h = absurd (cc)
-        by_last Greater c h = absurd (cc)
+    sibling_closed (r ∷ []) (x ∷ xs) ys a b h = past_one (R r x) _ a
     sibling_closed (r ∷ s ∷ rs) [] ys a b h = absurd (cc)
     sibling_closed (r ∷ s ∷ rs) (x ∷ xs) [] a b h = absurd (cc)
     sibling_closed (r ∷ s ∷ rs) (x ∷ xs) (y ∷ ys) a b h =
         let e = tied_true (R r y) _ h in
-        let t : R x y ≡ ordering_reverse (R r x) = back y x (R r x) (sym (o.congr r y x e)) in
+        let t : R x y ≡ ordering_reverse (R r x) = turned o y x (R r x) (sym (o.congr r y x e)) in
         by_head (R r x) a (rw t at b) (λ a b. sibling_closed (s ∷ rs) xs ys a b (rw e at h))
       where
         by_head : (q : Ordering) → not (is_eq q && begins (s ∷ rs) xs) && is_lt (ordering_then q (slice_cmp R (s ∷ rs) xs)) ≡ true → ordering_then (ordering_reverse q) (slice_cmp R xs ys) ≡ Less → (passed (s ∷ rs) xs ≡ true → slice_cmp R xs ys ≡ Less → sibling (λ r x. is_lt (R r x)) (s ∷ rs) xs ≡ true) → cond (is_eq q) (sibling (λ r x. is_lt (R r x)) (s ∷ rs) xs) false ≡ true
@@ -160,7 +146,7 @@ module _ {A : Type 0} (R : A → A → Ordering) where
     pub sibling_before : (rs xs : List A) → sibling (λ r x. is_lt (R x r)) rs xs ≡ true → slice_cmp R xs rs ≡ Less
     sibling_before [] xs h = absurd (cc)
     sibling_before (r ∷ []) [] h = absurd (cc)
-    sibling_before (r ∷ []) (x ∷ xs) h = rw (less_of (R x r) h) refl
+    sibling_before (r ∷ []) (x ∷ xs) h = rw (is_less (R x r) h) refl
     sibling_before (r ∷ s ∷ rs) [] h = absurd (cc)
     sibling_before (r ∷ s ∷ rs) (x ∷ xs) h = let e = tied_true (R r x) _ h in rw (tied_back o r x e) (sibling_before (s ∷ rs) xs (rw e at h))
 
@@ -168,13 +154,7 @@ module _ {A : Type 0} (R : A → A → Ordering) where
     sibling_closed_back [] xs ys b a h = absurd (cc)
     sibling_closed_back (r ∷ []) [] ys b a h = absurd (cc)
     sibling_closed_back (r ∷ []) (x ∷ xs) [] b a h = absurd (cc)
-    sibling_closed_back (r ∷ []) (x ∷ xs) (y ∷ ys) b a h = by_last (R y r) ys b
-      where
-        by_last : (q : Ordering) (ys : List A) → ordering_then q (slice_cmp R ys []) ≡ Less → is_lt q ≡ true
-        by_last Less ys h = refl
-        by_last Equal [] h = absurd (cc)
-        by_last Equal (y ∷ ys) h = absurd (cc)
-        by_last Greater ys h = absurd (cc)
+    sibling_closed_back (r ∷ []) (x ∷ xs) (y ∷ ys) b a h = before_one (R y r) ys b
     sibling_closed_back (r ∷ s ∷ rs) [] ys b a h = absurd (cc)
     sibling_closed_back (r ∷ s ∷ rs) (x ∷ xs) [] b a h = absurd (cc)
     sibling_closed_back (r ∷ s ∷ rs) (x ∷ xs) (y ∷ ys) b a h =
@@ -188,12 +168,7 @@ module _ {A : Type 0} (R : A → A → Ordering) where
     pub sibling_known : (rs xs : List A) → passed rs xs ≡ true → sibling (λ r x. is_lt (R r x)) rs xs ≡ sibling (λ r x. true) rs xs
     sibling_known [] xs h = refl
     sibling_known (r ∷ []) [] h = refl
-    sibling_known (r ∷ []) (x ∷ xs) h = by_last (R r x) _ h
-      where
-        by_last : (q : Ordering) (c : Ordering) → not (is_eq q && true) && is_lt (ordering_then q c) ≡ true → is_lt q ≡ true
-        by_last Less c h = refl
-        by_last Equal c h = absurd (cc)
-        by_last Greater c h = absurd (cc)
+    sibling_known (r ∷ []) (x ∷ xs) h = past_one (R r x) _ h
     sibling_known (r ∷ s ∷ rs) [] h = refl
     sibling_known (r ∷ s ∷ rs) (x ∷ xs) h = by_head (R r x) h (λ h. sibling_known (s ∷ rs) xs h)
       where
@@ -205,13 +180,7 @@ module _ {A : Type 0} (R : A → A → Ordering) where
     pub sibling_known_back : (rs xs : List A) → slice_cmp R xs rs ≡ Less → sibling (λ r x. is_lt (R x r)) rs xs ≡ sibling (λ r x. true) rs xs
     sibling_known_back [] xs h = refl
     sibling_known_back (r ∷ []) [] h = refl
-    sibling_known_back (r ∷ []) (x ∷ xs) h = by_last (R x r) xs h
-      where
-        by_last : (q : Ordering) (xs : List A) → ordering_then q (slice_cmp R xs []) ≡ Less → is_lt q ≡ true
-        by_last Less xs h = refl
-        by_last Equal [] h = absurd (cc)
-        by_last Equal (x ∷ xs) h = absurd (cc)
-        by_last Greater xs h = absurd (cc)
+    sibling_known_back (r ∷ []) (x ∷ xs) h = before_one (R x r) xs h
     sibling_known_back (r ∷ s ∷ rs) [] h = refl
     sibling_known_back (r ∷ s ∷ rs) (x ∷ xs) h = by_head (R x r) (R r x) (o.antisymm x r) h (λ h. sibling_known_back (s ∷ rs) xs h)
       where
@@ -224,14 +193,14 @@ module _ {A : Type 0} (R : A → A → Ordering) where
 
     pub head_closed : (p x y : A) (rs xs ys : List A) → slice_cmp R (p ∷ rs) (x ∷ xs) ≡ Less → slice_cmp R (x ∷ xs) (y ∷ ys) ≡ Less → is_eq (R p y) ≡ true → is_eq (R p x) ≡ true
     head_closed p x y rs xs ys a b h =
-        let e = equal_of (R p y) h in
-        let t : R x y ≡ ordering_reverse (R p x) = back y x (R p x) (sym (o.congr p y x e)) in
+        let e = is_equal (R p y) h in
+        let t : R x y ≡ ordering_reverse (R p x) = turned o y x (R p x) (sym (o.congr p y x e)) in
         let s = squeeze (R p x) (slice_cmp R rs xs) (slice_cmp R xs ys) a (rw t at b) in
         ap is_eq s.same
 
     pub head_closed_back : (p x y : A) (rs xs ys : List A) → slice_cmp R (y ∷ ys) (p ∷ rs) ≡ Less → slice_cmp R (x ∷ xs) (y ∷ ys) ≡ Less → is_eq (R p x) ≡ true → is_eq (R p y) ≡ true
     head_closed_back p x y rs xs ys b a h =
-        let e = equal_of (R p x) h in
+        let e = is_equal (R p x) h in
         let t : R x y ≡ ordering_reverse (R y p) = sym (o.congr p x y e) ∙ o.antisymm p y in
         let s = squeeze (R y p) (slice_cmp R ys rs) (slice_cmp R xs ys) b (rw t at a) in
         ap is_eq (tied_back o y p s.same)
@@ -241,7 +210,7 @@ module _ {A : Type 0} (R : A → A → Ordering) where
       where
         by_head : (q : Bool) → (q && begins rs ys) || is_lt (slice_cmp R (y ∷ ys) (p ∷ rs)) ≡ true → is_eq (R p y) ≡ q → is_eq (R p y) ≡ true
         by_head true b e = e
-        by_head false b e = head_closed_back p x y rs xs ys (less_of _ b) a h
+        by_head false b e = head_closed_back p x y rs xs ys (is_less _ b) a h
 
     -- ---- what comes after all that begins with a list, and what comes before its end, are each the rest
 
@@ -282,7 +251,7 @@ module _ {A : Type 0} (R : A → A → Ordering) where
     begins_not_before [] [] h = refl
     begins_not_before [] (x ∷ xs) h = refl
     begins_not_before (p ∷ ps) [] h = absurd (cc)
-    begins_not_before (p ∷ ps) (x ∷ xs) h = let e = and_tied (R p x) _ h in rw (tied_back o p x e) (begins_not_before ps xs (rw e at h))
+    begins_not_before (p ∷ ps) (x ∷ xs) h = let e = is_equal (R p x) (first_so _ _ h) in rw (tied_back o p x e) (begins_not_before ps xs (rw e at h))
 
     -- lists that go on from ps are in the order of the elements with which they do
     pub next_less : (ps xs ys : List A) (s t : A) → next_of ps xs ≡ Some s → next_of ps ys ≡ Some t → R s t ≡ Less → slice_cmp R xs ys ≡ Less

@@ -1,29 +1,17 @@
 -- What a binary search finds in entries that are in order, and what an edit there does.
-use Rattle.std.proofs.Common.{◌≡◌, ℕ, zero, suc, ◌<◌, ◌≤◌, Bool, true, false, List, [], ◌∷◌, length, get_or, set, refl, sym, ap, subst, ◌∙◌, arith, Ok, Err, MatchResult, Some, None, inl, inr}
+use Rattle.std.proofs.Common.{◌≡◌, ℕ, zero, suc, ◌<◌, ◌≤◌, true, List, [], ◌∷◌, length, get_or, set, refl, sym, ap, subst, ◌∙◌, arith, Ok, Err, MatchResult, Some, None, inl, inr}
 use Rattle.std.proofs.lemmas.Bool.{cases_lt}
-use Rattle.std.specs.Prelude.{◌&&◌, Result}
+use Rattle.std.specs.Prelude.{Result}
 use Rattle.std.specs.declared.cmp.Ordering.{Ordering}
 use Rattle.std.specs.declared.cmp.Ordering.TheVariants.{Less, Equal, Greater}
-use Rattle.std.specs.Ordering.{is_lt, ordering_index, ordering_reverse}
-use Rattle.std.specs.Cmp.{IsTotalOrder, tied_back, alike_right}
+use Rattle.std.specs.Ordering.{is_lt, ordering_index}
+use Rattle.std.specs.Cmp.{IsTotalOrder, tied_back, alike_right, first_so, second_so}
 use Rattle.std.specs.List.{insert}
 use Rattle.std.specs.List.Sorted.{IsBinarySearchResult, IsSearchInRange, IsNonDecreasingBy}
 use Rattle.std.specs.FinMap.{is_sorted, find}
 use Rattle.std.specs.FinMap.Entries.{put, below_all}
+use Rattle.collation.specs.OrderLaws.{is_less, turned}
 use Rattle.job_core.specs.Places.{IsPlaceOf, IsGapFor}
-
-and_first : (a b : Bool) → (a && b) ≡ true → a ≡ true
-and_first true b e = refl
-and_first false b e = cc
-
-and_second : (a b : Bool) → (a && b) ≡ true → b ≡ true
-and_second true b e = e
-and_second false b e = cc
-
-is_less : (o : Ordering) → is_lt o ≡ true → o ≡ Less
-is_less Less e = refl
-is_less Equal e = cc
-is_less Greater e = cc
 
 at_most_2 : (o : Ordering) → ordering_index o ≤ 2
 at_most_2 Less = omega arith
@@ -31,9 +19,6 @@ at_most_2 Equal = omega arith
 at_most_2 Greater = omega arith
 
 module _ {K : Type 0} {R : K → K → Ordering} (o : IsTotalOrder R) where
-  turned : (x y : K) (r : Ordering) → R x y ≡ r → R y x ≡ ordering_reverse r
-  turned x y r e = o.antisymm y x ∙ ap ordering_reverse e
-
   -- against one key the answers rise
   index_rises : (x y k : K) → R x y ≡ Less → ordering_index (R x k) ≤ ordering_index (R y k)
   index_rises x y k l = elim (R y k) as (λ r. R y k ≡ r → ordering_index (R x k) ≤ ordering_index r) [
@@ -46,14 +31,14 @@ module _ {K X : Type 0} {R : K → K → Ordering} (o : IsTotalOrder R) where
   -- the first key is below each later one
   below_each : (k : K) (es : List (K × X)) (j : ℕ) (d : K × X) → below_all R k es ≡ true → j < length es → R k (get_or es j d).0 ≡ Less
   below_each k [] j d h l = absurd (omega arith)
-  below_each k (e ∷ es) zero d h l = is_less _ (and_first _ _ h)
-  below_each k (e ∷ es) (suc j) d h l = below_each k es j d (and_second (is_lt (R k e.0)) _ h) (omega arith)
+  below_each k (e ∷ es) zero d h l = is_less _ (first_so _ _ h)
+  below_each k (e ∷ es) (suc j) d h l = below_each k es j d (second_so (is_lt (R k e.0)) _ h) (omega arith)
 
   pub in_order : (es : List (K × X)) (i j : ℕ) (d : K × X) → is_sorted R es ≡ true → i < j → j < length es → R (get_or es i d).0 (get_or es j d).0 ≡ Less
   in_order [] i j d h l m = absurd (omega arith)
   in_order (e ∷ es) i zero d h l m = absurd (omega arith)
-  in_order (e ∷ es) zero (suc j) d h l m = below_each e.0 es j d (and_first _ _ h) (omega arith)
-  in_order (e ∷ es) (suc i) (suc j) d h l m = in_order es i j d (and_second (below_all R e.0 es) _ h) (omega arith) (omega arith)
+  in_order (e ∷ es) zero (suc j) d h l m = below_each e.0 es j d (first_so _ _ h) (omega arith)
+  in_order (e ∷ es) (suc i) (suc j) d h l m = in_order es i j d (second_so (below_all R e.0 es) _ h) (omega arith) (omega arith)
 
   rises : (es : List (K × X)) (k : K) → is_sorted R es ≡ true → IsNonDecreasingBy (λ e. ordering_index (R e.0 k)) es
   rises es k h i j d l m = elim (cases_lt i j) [
@@ -73,8 +58,8 @@ module _ {K X : Type 0} {R : K → K → Ordering} (o : IsTotalOrder R) where
   find_at (e ∷ es) k zero d h at = rw (tied_back o e.0 k (at.has_key d)) refl
   find_at (e ∷ es) k (suc i) d h at =
       let rest : IsPlaceOf R es k i = record { in_range = omega (arith, at.in_range); has_key = at.has_key } in
-      let less : R e.0 k ≡ Less = sym (alike_right o _ k e.0 (at.has_key d)) ∙ below_each e.0 es i d (and_first _ _ h) (omega (arith, at.in_range)) in
-      rw (turned o e.0 k Less less) (find_at es k i d (and_second (below_all R e.0 es) _ h) rest)
+      let less : R e.0 k ≡ Less = sym (alike_right o _ k e.0 (at.has_key d)) ∙ below_each e.0 es i d (first_so _ _ h) (omega (arith, at.in_range)) in
+      rw (turned o e.0 k Less less) (find_at es k i d (second_so (below_all R e.0 es) _ h) rest)
 
   pub find_in_gap : (es : List (K × X)) (k : K) (i : ℕ) → IsGapFor R es k i → find R k es ≡ None
   find_in_gap [] k i gap = refl
@@ -91,8 +76,8 @@ module _ {K X : Type 0} {R : K → K → Ordering} (o : IsTotalOrder R) where
   put_at (e ∷ es) k v zero d h at = rw (tied_back o e.0 k (at.has_key d)) refl
   put_at (e ∷ es) k v (suc i) d h at =
       let rest : IsPlaceOf R es k i = record { in_range = omega (arith, at.in_range); has_key = at.has_key } in
-      let less : R e.0 k ≡ Less = sym (alike_right o _ k e.0 (at.has_key d)) ∙ below_each e.0 es i d (and_first _ _ h) (omega (arith, at.in_range)) in
-      rw (turned o e.0 k Less less) (ap (λ l. e ∷ l) (put_at es k v i d (and_second (below_all R e.0 es) _ h) rest))
+      let less : R e.0 k ≡ Less = sym (alike_right o _ k e.0 (at.has_key d)) ∙ below_each e.0 es i d (first_so _ _ h) (omega (arith, at.in_range)) in
+      rw (turned o e.0 k Less less) (ap (λ l. e ∷ l) (put_at es k v i d (second_so (below_all R e.0 es) _ h) rest))
 
   pub put_in_gap : (es : List (K × X)) (k : K) (v : X) (i : ℕ) → IsGapFor R es k i → put R k v es ≡ insert es i (k, v)
   put_in_gap [] k v zero gap = refl

@@ -1,11 +1,10 @@
 -- The state of all jobs stays in agreement over one unit.
-use Rattle.std.proofs.Common.{◌≡◌, ℕ, List, [], ◌∷◌, ◌++◌, ◌+◌, ◌≤◌, ◌<◌, length, refl, sym, ap, ◌∙◌, arith, length-append, append_assoc}
+use Rattle.std.proofs.Common.{◌≡◌, ℕ, List, [], ◌∷◌, ◌++◌, ◌+◌, ◌≤◌, ◌<◌, length, sym, ap, ◌∙◌, arith, length-append, append_assoc}
 use Rattle.journal.specs.Story.{told, story_of}
 use Rattle.journal.specs.StoryLaws.{story_of-push}
 use Rattle.std.specs.Prelude.{None}
 use Rattle.std.proofs.lemmas.List.{map-append, length-map}
 use Rattle.job_core.specs.declared.machine.Step.{Step}
-use Rattle.job_core.specs.declared.machine.Step.TheVariants.{Do}
 use Rattle.job_core.specs.Steps.{command_of, commands_of}
 use Rattle.collation.specs.Database.{Database}
 use Rattle.collation.specs.Data.{data_refusal, data_reply, data_after}
@@ -13,7 +12,7 @@ use Rattle.collation.specs.declared.command.Command.{Command}
 use Rattle.collation.specs.declared.command.Reply.{Reply}
 use Rattle.journal.specs.declared.unit.Unit.{Unit as JournalUnit}
 use Rattle.journal.specs.declared.unit.Unit.TheVariants.{Lone}
-use Rattle.journal.specs.History.{State, initial, after, IsLegal}
+use Rattle.journal.specs.History.{initial}
 use Rattle.journal.specs.HistoryLaws.{after-append, IsLegal-append}
 use Rattle.job_core.specs.Agrees.{Agrees}
 

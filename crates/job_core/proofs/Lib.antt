@@ -1,5 +1,4 @@
 pub mod Legality
-pub mod CauseLemmas
 pub mod Found
 pub mod Stored
 pub mod Parts

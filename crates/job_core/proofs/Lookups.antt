@@ -1,19 +1,21 @@
 -- What the places of cuts give in nodes that are in order.
-use Rattle.std.proofs.Common.{◌≡◌, ℕ, ◌-◌, ◌<◌, ◌≤◌, Bool, true, false, List, length, get_or, refl, sym, ap, subst, ◌∙◌, Some, None}
-use Rattle.std.specs.Prelude.{T, cond, not, ◌||◌, filter}
-use Rattle.std.specs.declared.cmp.Ordering.{Ordering}
-use Rattle.std.specs.declared.cmp.Ordering.TheVariants.{Less, Equal, Greater}
+use Rattle.std.proofs.Common.{◌≡◌, ℕ, ◌-◌, ◌<◌, ◌≤◌, Bool, true, List, length, get_or, sym, ap, ◌∙◌, Some, None}
+use Rattle.std.specs.Prelude.{cond, not, filter}
+use Rattle.std.proofs.lemmas.Bool.{or_right}
+use Rattle.std.specs.Bool.{passes}
+use Rattle.std.specs.declared.cmp.Ordering.TheVariants.{Equal}
 use Rattle.std.specs.Ordering.{is_lt}
 use Rattle.std.specs.List.{remove_range}
 use Rattle.std.specs.FinMap as map
 use Rattle.std.specs.FinMap.Entries.{find-where_key, is_sorted-where_key}
 use Rattle.collation.specs.Reference.{Reference}
 use Rattle.collation.specs.Order.{ref_cmp}
-use Rattle.collation.specs.OrderLaws.{ref_cmp_total, ref_cmp-IsAntisymmetric}
+use Rattle.collation.specs.OrderLaws.{ref_cmp_total, ref_cmp-IsAntisymmetric, is_less}
 use Rattle.collation.specs.Database.{Database, is_under}
 use Rattle.collation.specs.Levels.{is_before}
 use Rattle.globals.specs.declared.cut.Cut.{Cut}
 use Rattle.globals.specs.Cuts.{stands_before, first_from, last_before}
+use Rattle.globals.specs.NearestLaws.{true_of}
 use Rattle.globals.specs.CutLaws.{stands_before-earlier, before_end-earlier, under_between}
 use Rattle.job_core.proofs.Parts.{count, first_at, no_first, last_at, no_last, count_within, removed}
 use Rattle.job_core.proofs.Stored.{map_find}
@@ -42,24 +44,8 @@ prev_none es m cut n is c l = rw (← is) (no_last (λ e. stands_before cut e.0)
 abbrev pub before : Reference → Reference → Bool
 before r x = is_lt (ref_cmp x r)
 
-is_less : (o : Ordering) → is_lt o ≡ true → o ≡ Less
-is_less Less e = refl
-is_less Equal e = cc
-is_less Greater e = cc
-
-either : (a b : Bool) → b ≡ true → (a || b) ≡ true
-either true b h = refl
-either false b h = h
-
 before_within : (r x : Reference) → before r x ≡ true → is_before true r x ≡ true
-before_within r x h = either (is_under r x) _ h
-
-true_of : (b : Bool) → T b → b ≡ true
-true_of true h = refl
-true_of false h = absurd h
-
-told : (b : Bool) → b ≡ true → T b
-told b e = subst T (sym e) tt
+before_within r x h = or_right (is_under r x) _ h
 
 pub in_order : (es : Nodes) (r : Reference) (low high : ℕ) → low ≡ count (λ e. before r e.0) es → high ≡ count (λ e. is_before true r e.0) es → low ≤ high
 in_order es r low high l h = rw (l, h) (count_within (λ e. before r e.0) (λ e. is_before true r e.0) (λ e b. before_within r e.0 b) es)
@@ -70,7 +56,7 @@ left_by es r low high h l u =
     ∙ (λ i. filter (λ (e : Reference × List ℕ). not (sym (under_between r e.0) i)) es))
 
 pub still_sorted : (es : Nodes) (r : Reference) (low high : ℕ) → map.is_sorted ref_cmp es ≡ true → low ≡ count (λ e. before r e.0) es → high ≡ count (λ e. is_before true r e.0) es → map.is_sorted ref_cmp (remove_range es low high) ≡ true
-still_sorted es r low high h l u = rw (left_by es r low high h l u) (true_of _ (is_sorted-where_key ref_cmp (λ x. not (is_under r x)) es (told _ h)))
+still_sorted es r low high h l u = rw (left_by es r low high h l u) (true_of _ (is_sorted-where_key ref_cmp (λ x. not (is_under r x)) es (passes _ h)))
 
 -- to remove the range of places is to keep the other keys
 pub killed : (es : Nodes) (r : Reference) (low high : ℕ) → map.is_sorted ref_cmp es ≡ true → low ≡ count (λ e. before r e.0) es → high ≡ count (λ e. is_before true r e.0) es → map.from_sorted {R = ref_cmp} (remove_range es low high) ≡ map.retain_keys (map.from_sorted {R = ref_cmp} es) (λ x. not (is_under r x))

@@ -2,31 +2,18 @@
 use Rattle.std.proofs.Common.{◌≡◌, ℕ, zero, suc, ◌<◌, ◌≤◌, Bool, true, false, List, [], ◌∷◌, length, get_or, refl, ap, subst, arith, Some, None}
 use Rattle.std.specs.Prelude.{cond, not, ◌&&◌, filter, ◌-◌}
 use Rattle.std.specs.declared.cmp.Ordering.{Ordering}
-use Rattle.std.specs.declared.cmp.Ordering.TheVariants.{Less, Equal, Greater}
-use Rattle.std.specs.Ordering.{is_lt}
-use Rattle.std.specs.Cmp.{IsTotalOrder}
+use Rattle.std.specs.declared.cmp.Ordering.TheVariants.{Less}
+use Rattle.std.specs.Cmp.{IsTotalOrder, first_so, second_so}
 use Rattle.std.specs.List.{find, remove_range}
 use Rattle.std.specs.Option.{option_or}
 use Rattle.std.specs.List.Sorted.{IsPartitionPoint, IsPartitionedBy}
 use Rattle.std.specs.FinMap.{is_sorted}
 use Rattle.std.specs.FinMap.Entries.{below_all}
 use Rattle.collation.specs.Nearest.{find_last}
+use Rattle.globals.specs.NearestLaws.{none_pass, still_fails}
 use Rattle.std.proofs.Common.{inl, inr}
 use Rattle.std.proofs.lemmas.Bool.{cases_lt}
 use Rattle.job_core.proofs.Found.{in_order}
-
-and_first : (a b : Bool) → (a && b) ≡ true → a ≡ true
-and_first true b e = refl
-and_first false b e = cc
-
-and_second : (a b : Bool) → (a && b) ≡ true → b ≡ true
-and_second true b e = e
-and_second false b e = cc
-
-is_less : (o : Ordering) → is_lt o ≡ true → o ≡ Less
-is_less Less e = refl
-is_less Equal e = cc
-is_less Greater e = cc
 
 -- how many pass
 abbrev pub count : {A : Type 0} → (A → Bool) → List A → ℕ
@@ -79,26 +66,22 @@ module _ {K X : Type 0} {R : K → K → Ordering} (o : IsTotalOrder R) where
 module _ {K X : Type 0} (R : K → K → Ordering) where
   -- after a key that fails, all fail
   none_after : (B : K → Bool) → ((x y : K) → R x y ≡ Less → B y ≡ true → B x ≡ true) → (x : K) (es : List (K × X)) → B x ≡ false → below_all R x es ≡ true → filter (λ e. B e.0) es ≡ []
-  none_after B early x [] b h = refl
-  none_after B early x (e ∷ es) b h = elim (B e.0) as (λ c. B e.0 ≡ c → cond c (e ∷ filter (λ e. B e.0) es) (filter (λ e. B e.0) es) ≡ []) [
-    | true ↦ λ c. let t = early x e.0 (is_less _ (and_first _ _ h)) c in absurd (cc)
-    | false ↦ λ c. none_after B early x es b (and_second (is_lt (R x e.0)) _ h)
-  ] refl
+  none_after B early x es b h = none_pass R B x es (λ y l. still_fails R B early x y b l) h
 
   -- the first that fails stands at the number of those that pass
   pub first_at : (B : K → Bool) → ((x y : K) → R x y ≡ Less → B y ≡ true → B x ≡ true) → (es : List (K × X)) (d : K × X) → is_sorted R es ≡ true → count (λ e. B e.0) es < length es → find (λ e. not (B e.0)) es ≡ Some (get_or es (count (λ e. B e.0) es) d)
   first_at B early [] d h l = absurd (omega arith)
   first_at B early (e ∷ es) d h l = elim (B e.0) as (λ b. B e.0 ≡ b → length (cond b (e ∷ filter (λ e. B e.0) es) (filter (λ e. B e.0) es)) < length (e ∷ es) → cond (not b) (Some e) (find (λ e. not (B e.0)) es) ≡ Some (get_or (e ∷ es) (length (cond b (e ∷ filter (λ e. B e.0) es) (filter (λ e. B e.0) es))) d)) [
-    | true ↦ λ b l. first_at B early es d (and_second (below_all R e.0 es) _ h) (omega arith)
-    | false ↦ λ b l. rw (none_after B early e.0 es b (and_first _ _ h)) refl
+    | true ↦ λ b l. first_at B early es d (second_so (below_all R e.0 es) _ h) (omega arith)
+    | false ↦ λ b l. rw (none_after B early e.0 es b (first_so _ _ h)) refl
   ] refl l
 
   -- the last that passes stands directly before
   pub last_at : (B : K → Bool) → ((x y : K) → R x y ≡ Less → B y ≡ true → B x ≡ true) → (es : List (K × X)) (d : K × X) → is_sorted R es ≡ true → 0 < count (λ e. B e.0) es → find_last (λ e. B e.0) es ≡ Some (get_or es (count (λ e. B e.0) es - 1) d)
   last_at B early [] d h l = absurd (omega arith)
   last_at B early (e ∷ es) d h l = elim (B e.0) as (λ b. B e.0 ≡ b → 0 < length (cond b (e ∷ filter (λ e. B e.0) es) (filter (λ e. B e.0) es)) → option_or (find_last (λ e. B e.0) es) (cond b (Some e) None) ≡ Some (get_or (e ∷ es) (length (cond b (e ∷ filter (λ e. B e.0) es) (filter (λ e. B e.0) es)) - 1) d)) [
-    | true ↦ λ b l. by_count (count (λ e. B e.0) es) refl (λ m. last_at B early es d (and_second (below_all R e.0 es) _ h) m)
-    | false ↦ λ b l. let none : count (λ e. B e.0) es ≡ 0 = ap length (none_after B early e.0 es b (and_first _ _ h)) in absurd (omega arith)
+    | true ↦ λ b l. by_count (count (λ e. B e.0) es) refl (λ m. last_at B early es d (second_so (below_all R e.0 es) _ h) m)
+    | false ↦ λ b l. let none : count (λ e. B e.0) es ≡ 0 = ap length (none_after B early e.0 es b (first_so _ _ h)) in absurd (omega arith)
   ] refl l
     where
       by_count : (n : ℕ) → count (λ e. B e.0) es ≡ n → (0 < count (λ e. B e.0) es → find_last (λ e. B e.0) es ≡ Some (get_or es (count (λ e. B e.0) es - 1) d)) → option_or (find_last (λ e. B e.0) es) (Some e) ≡ Some (get_or (e ∷ es) (suc n - 1) d)
@@ -112,14 +95,14 @@ module _ {K X : Type 0} (R : K → K → Ordering) where
   pub removed : (B P : K → Bool) → ((x y : K) → R x y ≡ Less → B y ≡ true → B x ≡ true) → ((x y : K) → R x y ≡ Less → P y ≡ true → P x ≡ true) → ((x : K) → B x ≡ true → P x ≡ true) → (es : List (K × X)) → is_sorted R es ≡ true → remove_range es (count (λ e. B e.0) es) (count (λ e. P e.0) es) ≡ filter (λ e. not (not (B e.0) && P e.0)) es
   removed B P early earlier inside [] h = refl
   removed B P early earlier inside (e ∷ es) h =
-      by_tests (B e.0) (P e.0) refl refl (inside e.0) (removed B P early earlier inside es (and_second (below_all R e.0 es) _ h))
+      by_tests (B e.0) (P e.0) refl refl (inside e.0) (removed B P early earlier inside es (second_so (below_all R e.0 es) _ h))
     where
       by_tests : (b p : Bool) → B e.0 ≡ b → P e.0 ≡ p → (B e.0 ≡ true → P e.0 ≡ true) → remove_range es (count (λ e. B e.0) es) (count (λ e. P e.0) es) ≡ filter (λ e. not (not (B e.0) && P e.0)) es
           → remove_range (e ∷ es) (length (cond b (e ∷ filter (λ e. B e.0) es) (filter (λ e. B e.0) es))) (length (cond p (e ∷ filter (λ e. P e.0) es) (filter (λ e. P e.0) es))) ≡ cond (not (not b && p)) (e ∷ filter (λ e. not (not (B e.0) && P e.0)) es) (filter (λ e. not (not (B e.0) && P e.0)) es)
       by_tests true true b p in_p rest = ap (λ l. e ∷ l) rest
       by_tests true false b p in_p rest = let t = in_p b in absurd (cc)
-      by_tests false true b p in_p rest = let none = none_after B early e.0 es b (and_first _ _ h) in rw none (rw none at rest)
+      by_tests false true b p in_p rest = let none = none_after B early e.0 es b (first_so _ _ h) in rw none (rw none at rest)
       by_tests false false b p in_p rest =
-          let none = none_after B early e.0 es b (and_first _ _ h) in
-          let none_p = none_after P earlier e.0 es p (and_first _ _ h) in
+          let none = none_after B early e.0 es b (first_so _ _ h) in
+          let none_p = none_after P earlier e.0 es p (first_so _ _ h) in
           rw (none, none_p) (ap (λ l. e ∷ l) (rw (none, none_p) at rest))

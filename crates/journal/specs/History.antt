@@ -1,8 +1,6 @@
 -- What a list of units leaves, and when its replies are right. Source: docs/THEOREMS.md, "The one-map theorem".
-use Rattle.std.specs.Prelude.{◌≡◌, ℕ, List, [], ◌∷◌, None, ⊤}
+use Rattle.std.specs.Prelude.{◌≡◌, List, [], ◌∷◌, None, ⊤}
 use Rattle.std.specs.FinMap as map
-use Rattle.collation.specs.declared.command.Command.{Command}
-use Rattle.collation.specs.declared.command.Reply.{Reply}
 use Rattle.collation.specs.Database.{Database}
 use Rattle.collation.specs.Data.{data_refusal, data_reply, data_after}
 use Rattle.journal.specs.declared.unit.Unit.{Unit as JournalUnit}

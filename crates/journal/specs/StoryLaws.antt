@@ -2,12 +2,9 @@
 use Rattle.std.specs.Prelude.{◌≡◌, ℕ, List, [], ◌∷◌, ◌++◌, length, Option, Some, None}
 use Rattle.std.proofs.Common.{refl, sym, ap, ◌∙◌, append_assoc, append-nil, arith}
 use Rattle.collation.specs.Reference.{Reference}
-use Rattle.collation.specs.Database.{Database}
-use Rattle.collation.specs.Data.{data_reply, found_reply}
+use Rattle.collation.specs.Data.{found_reply}
 use Rattle.collation.specs.declared.command.Command.{Command}
-use Rattle.collation.specs.declared.command.Command.TheVariants.{Set, Kill, Merge, Data, Get, Order, Query}
 use Rattle.collation.specs.declared.command.Reply.{Reply}
-use Rattle.journal.specs.declared.unit.Unit.{Unit as JournalUnit}
 use Rattle.journal.specs.declared.unit.Unit.TheVariants.{Lone}
 use Rattle.journal.specs.Story.{told, story_of}
 
@@ -30,13 +27,3 @@ story_of-append (s ∷ steps) more (r ∷ replies) others e = ap (λ us. told s.
 found : (job : ℕ) (command : Command) (answer : Option Reference) → told job command (found_reply answer) ≡ Lone job command (found_reply answer) ∷ []
 found job command None = refl
 found job command (Some r) = refl
-
--- the reply of a data command is no refusal, so it adds the command's unit
-pub told-data_reply : (job : ℕ) (command : Command) (m : Database) → told job command (data_reply command m) ≡ Lone job command (data_reply command m) ∷ []
-told-data_reply job (Set r v) m = refl
-told-data_reply job (Kill r) m = refl
-told-data_reply job (Merge a b) m = refl
-told-data_reply job (Data r) m = refl
-told-data_reply job (Get r d) m = refl
-told-data_reply job (Order p d) m = refl
-told-data_reply job (Query p d) m = found job (Query p d) _

@@ -6,7 +6,6 @@ use Rattle.std.proofs.lemmas.Bool.Decides.{nat_tests, Decides-eqb}
 use Rattle.std.proofs.lemmas.Slice.Eq.{strip_prefix_is}
 use Rattle.std.specs.Bool.{Decides, one_answer}
 use Rattle.std.specs.Prelude.{is_some, ◌&&◌, nat_eq, nat_lt, IfSome, IfNone, MatchOption}
-use Rattle.refusal.specs.declared.Refusal.{Refusal}
 use Rattle.collation.specs.Name.{is_name}
 use Rattle.collation.specs.Faults.{reference_fault}
 use Rattle.collation.specs.Order.{ref_eq}
@@ -19,7 +18,7 @@ use Rattle.collation.specs.Levels.{child, child_of, front}
 use Rattle.key_codec.specs.Key.{IsReference, key_of, short_form, subscripts_key}
 use Rattle.key_codec.specs.Form.{short_form_is}
 use Rattle.key_codec.specs.Reading.{BeginsWith, BeginsWithNone}
-use Rattle.key_codec.specs.KeyLaws.{AreSubscripts, are_subscripts, no_fault, not_too_many, fits_short, begins_under, has_tag, key_of-append, one_subscript, under_begins}
+use Rattle.key_codec.specs.KeyLaws.{AreSubscripts, are_subscripts, no_fault, not_over, not_too_many, fits_short, begins_under, has_tag, key_of-append, one_subscript, under_begins}
 use Rattle.key_codec.specs.BoundLaws.{equal_keys}
 use Rattle.key_codec.specs.Back.{reference_of}
 use Rattle.key_codec.specs.BackLaws.{key_again, is_reference_again, reference_of_key}
@@ -184,13 +183,9 @@ front_some [] a = tt
 front_some (x ∷ []) a = tt
 front_some (x ∷ y ∷ ys) a = (a.0, front_some (y ∷ ys) a.1)
 
-pub not_over : (b : Bool) (o : Option Refusal) → cond b (Some Refusal.TooManySubscripts) o ≡ None → b ≡ false
-not_over true o e = cc
-not_over false o e = refl
-
 pub front_faultless : (xs : List (List ℕ)) → reference_fault xs ≡ None → reference_fault (front xs) ≡ None
 front_faultless xs e =
-    let few : nat_lt 31 (length xs) ≡ false = not_over (nat_lt 31 (length xs)) _ e in
+    let few : nat_lt 31 (length xs) ≡ false = (not_over (nat_lt 31 (length xs)) _ e).0 in
     let fewer : nat_lt 31 (length (front xs)) ≡ false = grind (arith, nat_tests, front_shorter xs) in
     rw fewer (no_fault (front xs) (front_some xs (are_subscripts xs (not_too_many xs e))))
 

@@ -1,49 +1,30 @@
 -- What is left where subscripts are counted by their keys.
-use Rattle.std.proofs.Common.{◌≡◌, ℕ, ◌+◌, Bool, List, [], ◌∷◌, ◌++◌, true, false, refl, ap, sym, ◌∙◌, Option, Some, None, Bor, length, map, not, arith, ◌≤◌}
+use Rattle.std.proofs.Common.{◌≡◌, ℕ, ◌+◌, Bool, List, [], ◌∷◌, ◌++◌, true, ap, sym, ◌∙◌, Option, Some, None, Bor, length, map, not, arith, ◌≤◌}
 use Rattle.std.specs.Prelude.{nat_eq, MatchOption}
 use Rattle.std.specs.List.{list_all}
-use Rattle.canonic_number.specs.Number.{is_canonic, scale}
-use Rattle.canonic_number.specs.Place.{place_at, digits_of}
-use Rattle.canonic_number.specs.ClassLaws.{IsNumber, Zero, Below, Above, class_of_text}
-use Rattle.key_codec.specs.Key.{short_form, subscript_key, subscripts_key, below_key, above_key, escaped, text_key, IsSubscript}
-use Rattle.key_codec.specs.SubscriptLaws.{zero_key, key_below, key_above, key_text}
+use Rattle.canonic_number.specs.Place.{digits_of}
+use Rattle.key_codec.specs.Key.{short_form, subscript_key, subscripts_key, escaped, IsSubscript}
 use Rattle.key_codec.specs.KeyLaws.{AreSubscripts}
 use Rattle.key_codec.specs.BackLaws.{no_end, escaped_free}
 use Rattle.key_codec.specs.Reading.{tag_of, digit_byte, end_of}
-use Rattle.key_codec.proofs.Reading.{HasNumber, has_number, HasText, has_text}
+use Rattle.key_codec.proofs.Reading.{HasNumber, has_number, HasText, has_text, tails}
 
 -- what the test of a first end byte says of the bytes behind it
 abbrev pub IsPast : ℕ → List ℕ → Option (Bor (List ℕ)) → Type 0
 IsPast end bytes r = (xs v : List ℕ) → list_all (λ b. not (nat_eq b end)) xs ≡ true → bytes ≡ xs ++ end ∷ v → MatchOption r ⊥ (λ rest. rest.now ≡ v)
-
-one_tail : (a b : ℕ) (xs ys : List ℕ) → a ∷ xs ≡ b ∷ ys → xs ≡ ys
-one_tail a b xs ys e = cc
 
 -- behind a number
 pub past_number : (n : Bool) (byte : ℕ) (bytes behind s u : List ℕ) (r : Option (Bor (List ℕ))) → IsSubscript short_form s → tag_of n ∷ bytes ≡ subscript_key short_form s ++ u → bytes ≡ byte ∷ behind → IsPast (end_of n) behind r → MatchOption r ⊥ (λ rest. rest.now ≡ u)
 past_number n byte bytes behind s u r bounds h e past =
     let has : HasNumber n bytes s u = has_number n bytes s u bounds h in
     let form = has.placed.form in
-    past (map (digit_byte n) (digits_of s)) u (no_end n (digits_of s) form.digits) (one_tail _ _ _ _ (sym e ∙ has.behind))
+    past (map (digit_byte n) (digits_of s)) u (no_end n (digits_of s) form.digits) (tails _ _ _ _ (sym e ∙ has.behind))
 
 -- behind a text
 pub past_text : (bytes behind s u : List ℕ) (r : Option (Bor (List ℕ))) → IsSubscript short_form s → bytes ≡ subscript_key short_form s ++ u → bytes ≡ 5 ∷ behind → IsPast 0 behind r → MatchOption r ⊥ (λ rest. rest.now ≡ u)
 past_text bytes behind s u r bounds h e past =
     let has : HasText behind s u = has_text behind s u bounds (sym e ∙ h) in
     past (escaped s) u (escaped_free s) has.behind
-
--- behind zero
-zero_at : (bytes s u : List ℕ) → is_canonic s ≡ true → IsNumber scale s → 3 ∷ bytes ≡ subscript_key short_form s ++ u → bytes ≡ u
-zero_at bytes s u is (Zero e) h = one_tail _ _ _ _ (h ∙ ap (λ t. t ++ u) (zero_key short_form s e))
-zero_at bytes s u is (Below p z m) h = let f : 3 ∷ bytes ≡ below_key short_form (place_at scale s) (digits_of s) ++ u = h ∙ ap (λ t. t ++ u) (key_below short_form s is z m) in cc
-zero_at bytes s u is (Above p z m) h = let f : 3 ∷ bytes ≡ above_key short_form (place_at scale s) (digits_of s) ++ u = h ∙ ap (λ t. t ++ u) (key_above short_form s is z m) in cc
-
-pub past_zero : (bytes behind s u : List ℕ) → IsSubscript short_form s → bytes ≡ subscript_key short_form s ++ u → bytes ≡ 3 ∷ behind → behind ≡ u
-past_zero bytes behind s u bounds h e =
-    elim (is_canonic s) as (λ t. is_canonic s ≡ t → behind ≡ u) [
-      | true ↦ λ c. zero_at behind s u c (class_of_text scale s c bounds.short) (sym e ∙ h)
-      | false ↦ λ c. let f : 3 ∷ behind ≡ text_key s ++ u = sym e ∙ h ∙ ap (λ t. t ++ u) (key_text short_form s c) in cc
-    ] refl
 
 -- so many of the subscripts have been counted, and the rest is the keys of the others
 pub record IsLeft (count : ℕ) (rest : List ℕ) (ss : List (List ℕ)) : Type 0 where

@@ -10,9 +10,9 @@ use Rattle.collation.specs.Answers.{moved}
 use Rattle.key_codec.specs.Key.{IsReference, key_of, short_form, subscripts_key}
 use Rattle.key_codec.specs.Back.{reference_of}
 use Rattle.key_codec.specs.Kept.{Keeps}
-use Rattle.key_codec.specs.KeyLaws.{AreSubscripts, no_fault, fits_short, key_of-append}
+use Rattle.key_codec.specs.KeyLaws.{AreSubscripts, no_fault, not_over, fits_short, key_of-append}
 use Rattle.key_codec.proofs.Reading.{HasReference, has_reference}
-use Rattle.key_codec.proofs.Children.{Behind, behind, kept, reads_back, not_over}
+use Rattle.key_codec.proofs.Children.{Behind, behind, kept, reads_back}
 
 -- what counting subscripts by their keys says
 abbrev pub IsCount : List ℕ → ℕ → Type 0
@@ -25,7 +25,7 @@ depth_is bytes front rest x n is b free e counted =
     counted x.subscripts has.subscripts has.keys
 
 pub few_subscripts : (x : Reference) → IsReference x → length x.subscripts ≤ 31
-few_subscripts x is = ltb-false _ _ (not_over (nat_lt 31 (length x.subscripts)) _ is.subscripts)
+few_subscripts x is = ltb-false _ _ (not_over (nat_lt 31 (length x.subscripts)) _ is.subscripts).0
 
 -- what stands behind a reference is moved behind another
 left_behind : (b x : Reference) (rest : List ℕ) (is : Behind b x rest) → drop (length b.subscripts) x.subscripts ≡ is.more

@@ -1,5 +1,6 @@
 -- The key of a number, from its parts.
-use Rattle.std.proofs.Common.{◌≡◌, ℕ, ◌<◌, Bool, List, [], ◌∷◌, ◌++◌, length, true, false, refl, ap, sym, ◌∙◌, arith}
+use Rattle.std.proofs.Common.{◌≡◌, ℕ, ◌<◌, List, [], ◌∷◌, ◌++◌, length, true, false, refl, ap, sym, ◌∙◌, arith}
+use Rattle.std.proofs.lemmas.Bool.{and_left}
 use Rattle.std.proofs.lemmas.Bool.Decides.{nat_tests}
 use Rattle.std.specs.Prelude.{◌==◌, ◌&&◌}
 use Rattle.canonic_number.specs.Number.{is_canonic, scale}
@@ -14,11 +15,7 @@ use Rattle.key_codec.specs.SubscriptLaws.{zero_key, key_below, key_above}
 some_digits : (a b : List ℕ) → 0 < length (a ++ b) → ((length a == 0) && (length b == 0)) ≡ false
 some_digits [] [] h = absurd (omega arith)
 some_digits [] (y ∷ b) h = grind (arith, nat_tests)
-some_digits (x ∷ a) b h = none (length (x ∷ a) == 0) (length b == 0) (grind (arith, nat_tests))
-  where
-    none : (s t : Bool) → s ≡ false → (s && t) ≡ false
-    none true t e = cc
-    none false t e = refl
+some_digits (x ∷ a) b h = and_left (length (x ∷ a) == 0) (length b == 0) (grind (arith, nat_tests))
 
 no_digits : (a b : List ℕ) → a ++ b ≡ [] → ((length a == 0) && (length b == 0)) ≡ true
 no_digits [] [] e = refl

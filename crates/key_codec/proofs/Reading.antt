@@ -1,5 +1,5 @@
 -- What stands in front of a key's bytes: one subscript, by its parts.
-use Rattle.std.proofs.Common.{◌≡◌, ◌≢◌, ℕ, ◌+◌, ◌-◌, ◌*◌, ◌<◌, ◌≤◌, Bool, List, [], ◌∷◌, ◌++◌, length, not, true, false, refl, ap, sym, subst, ◌∙◌, arith, zero, suc, append_assoc, append-nil, map, take, drop, get_or, length-append, length-drop, ◌↔◌}
+use Rattle.std.proofs.Common.{◌≡◌, ℕ, ◌+◌, ◌-◌, ◌*◌, ◌<◌, ◌≤◌, Bool, List, [], ◌∷◌, ◌++◌, length, not, true, false, refl, ap, sym, subst, ◌∙◌, arith, zero, suc, append_assoc, append-nil, map, take, drop, get_or, length-append, length-drop, ◌↔◌}
 use Rattle.std.proofs.Math.Seq.{take-append_seam, drop-append_seam}
 use Rattle.std.proofs.lemmas.List.{take_all}
 use Rattle.std.proofs.lemmas.List.Sums.{split_at_first, passes_at_first}
@@ -22,7 +22,7 @@ use Rattle.collation.specs.Name.{is_name}
 use Rattle.collation.specs.OrderLaws.{subscript_cmp-IsAntisymmetric}
 use Rattle.key_codec.specs.Key.{IsReference, key_of, short_form, subscript_key, subscripts_key, below_key, above_key, text_key, escape, escaped, IsSubscript}
 use Rattle.key_codec.specs.Form.{short_form_is}
-use Rattle.key_codec.specs.Reading.{BeginsWith, BeginsWithNone, tag_of, place_byte, digit_byte, digit_of, end_of, IsNumberOf, IsNumberKey, IsOtherText}
+use Rattle.key_codec.specs.Reading.{BeginsWithNone, tag_of, place_byte, digit_byte, digit_of, end_of, IsNumberOf, IsNumberKey, IsOtherText}
 use Rattle.key_codec.specs.ByteLaws.{escape_cmp, by_byte}
 use Rattle.key_codec.specs.SubscriptLaws.{zero_key, key_below, key_above, key_text, tied_lists, tied_same}
 use Rattle.key_codec.specs.BackLaws.{digits_back, no_end, no_zero, escaped_free}
@@ -96,7 +96,7 @@ pub record HasNumber (n : Bool) (bytes s u : List ℕ) : Type 0 where
   pub behind : bytes ≡ place_byte n (place_at scale s) ∷ (map (digit_byte n) (digits_of s) ++ end_of n ∷ u)
 
 -- a list has one first element
-tails : (a b : ℕ) (xs ys : List ℕ) → a ∷ xs ≡ b ∷ ys → xs ≡ ys
+pub tails : (a b : ℕ) (xs ys : List ℕ) → a ∷ xs ≡ b ∷ ys → xs ≡ ys
 tails a b xs ys e = cc
 
 heads : (a b : ℕ) (xs ys : List ℕ) → a ∷ xs ≡ b ∷ ys → a ≡ b
@@ -170,10 +170,6 @@ read_back n byte place front ds text s free is p within d t =
     let own : IsNumberOf s n (place_at scale s) (digits_of s) = number_of_itself n (byte ∷ (front ++ end_of n ∷ [])) s [] is.0 number in
     subst (λ x. IsNumberOf x n place ds) (sym text_same) (subst (λ q. IsNumberOf s n q ds) (sym place_same) (subst (λ x. IsNumberOf s n (place_at scale s) x) (sym digits_same) own))
 
--- what stands in front is the number's key, and the rest stands behind it
-pub begins_number : (n : Bool) (byte : ℕ) (bytes behind front rest s : List ℕ) → bytes ≡ byte ∷ behind → behind ≡ front ++ end_of n ∷ rest → IsNumberKey n byte front s → BeginsWith (tag_of n ∷ bytes) s rest
-begins_number n byte bytes behind front rest s e b is = (is.0, (λ i. tag_of n ∷ (e ∙ (λ j. byte ∷ (b ∙ sym (append_assoc front (end_of n ∷ []) rest)) j)) i) ∙ ap (λ t. t ++ rest) (sym is.1))
-
 pub key_in_front : (n : Bool) (byte : ℕ) (bytes behind front rest s u : List ℕ) → IsSubscript short_form s → tag_of n ∷ bytes ≡ subscript_key short_form s ++ u → bytes ≡ byte ∷ behind → behind ≡ front ++ end_of n ∷ rest → list_all (λ b. not (nat_eq b (end_of n))) front ≡ true → IsNumberKey n byte front s
 key_in_front n byte bytes behind front rest s u bounds h e b free =
     let has : HasNumber n bytes s u = has_number n bytes s u bounds h in
@@ -182,9 +178,6 @@ key_in_front n byte bytes behind front rest s u bounds h e b free =
     let parted : AreSame front (map (digit_byte n) (digits_of s)) rest u = one_split (end_of n) front (map (digit_byte n) (digits_of s)) rest u free (no_end n (digits_of s) form.digits) (tails _ _ _ _ both) in
     let first : byte ≡ place_byte n (place_at scale s) = heads _ _ _ _ both in
     (bounds, number_key_is s n (place_at scale s) (digits_of s) (number_of_itself n bytes s u bounds has) ∙ (λ i. tag_of n ∷ sym first i ∷ (sym parted.front i ++ end_of n ∷ [])))
-
-pub nothing_left : (n : Bool) (bytes s u : List ℕ) → IsSubscript short_form s → tag_of n ∷ bytes ≡ subscript_key short_form s ++ u → bytes ≡ [] → ⊥
-nothing_left n bytes s u bounds h e = let has : HasNumber n bytes s u = has_number n bytes s u bounds h in let f : [] ≡ place_byte n (place_at scale s) ∷ (map (digit_byte n) (digits_of s) ++ end_of n ∷ u) = sym e ∙ has.behind in cc
 
 pub has_end : (n : Bool) (byte : ℕ) (bytes behind s u : List ℕ) → IsSubscript short_form s → tag_of n ∷ bytes ≡ subscript_key short_form s ++ u → bytes ≡ byte ∷ behind → ((xs v : List ℕ) → behind ≡ xs ++ end_of n ∷ v → ⊥) → ⊥
 has_end n byte bytes behind s u bounds h e none =
@@ -369,17 +362,6 @@ is_other bytes front rest text s u bounds h free e t =
     let same : s ≡ text = one_text s text (sym (text_in_front bytes front rest s u bounds h free e) ∙ sym t) in
     let has : HasText bytes s u = has_text bytes s u bounds h in
     subst IsOtherText same (record { bounds = bounds; other = has.other })
-
-pub begins_text : (bytes front rest text : List ℕ) → bytes ≡ front ++ 0 ∷ rest → escaped text ≡ front → IsOtherText text → BeginsWith (5 ∷ bytes) text rest
-begins_text bytes front rest text e t is = (is.bounds, (λ i. 5 ∷ (e ∙ ap (λ x. x ++ 0 ∷ rest) (sym t) ∙ sym (append_assoc (escaped text) (0 ∷ []) rest)) i) ∙ ap (λ x. x ++ rest) (sym (key_text short_form text is.other)))
-
--- no subscript's key begins with another byte
-pub other_tag : (tag : ℕ) (bytes behind s u : List ℕ) → bytes ≡ tag ∷ behind → tag ≢ 2 → tag ≢ 3 → tag ≢ 4 → tag ≢ 5 → bytes ≡ subscript_key short_form s ++ u → ⊥
-other_tag tag bytes behind s u e a b c d h =
-    let key = has_tag short_form s in
-    let f : tag ∷ behind ≡ (key.tag ∷ key.rest) ++ u = sym e ∙ h ∙ ap (λ t. t ++ u) key.is in
-    let same : tag ≡ key.tag = heads _ _ _ _ f in
-    omega (arith, key.low, key.high)
 
 -- a next subscript stands in what is left of the keys
 pub next_key : (found : List (List ℕ)) (rest bytes : List ℕ) (ss : List (List ℕ)) → AreSubscripts short_form found → bytes ≡ subscripts_key short_form found ++ rest → (length rest == 0) ≡ false → BeginsWithNone rest → AreSubscripts short_form ss → bytes ≡ subscripts_key short_form ss → ⊥

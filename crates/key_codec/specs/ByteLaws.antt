@@ -8,17 +8,12 @@ use Rattle.std.specs.Char.{is_ascii_digit}
 use Rattle.std.specs.declared.cmp.Ordering.{Ordering}
 use Rattle.std.specs.declared.cmp.Ordering.TheVariants.{Less, Equal, Greater}
 use Rattle.std.specs.Ordering.{nat_cmp, ordering_then}
-use Rattle.std.specs.Cmp.{ranked, nat_cmp_is}
+use Rattle.std.specs.Cmp.{ranked, nat_cmp_is, first_so, second_so}
+use Rattle.std.specs.Cmp.Derive.{then_next}
 use Rattle.std.specs.Cmp.Lexicographic.{slice_cmp}
-use Rattle.std.specs.Cmp.{first_so, second_so}
 use Rattle.std.proofs.lemmas.Bool.{eqb-true, ltb-true}
 use Rattle.canonic_number.specs.DigitLaws.{head_digit, tail_digits}
 use Rattle.key_codec.specs.Key.{rising, falling, escape, escaped}
-
-pub then_assoc : (a b c : Ordering) → ordering_then (ordering_then a b) c ≡ ordering_then a (ordering_then b c)
-then_assoc Less b c = refl
-then_assoc Equal b c = refl
-then_assoc Greater b c = refl
 
 -- what never decides can go
 pub no_tie : (o s t : Ordering) → (o ≡ Equal → s ≡ Equal) → ordering_then (ordering_then o s) t ≡ ordering_then o t
@@ -39,7 +34,7 @@ above a b o h = ap (λ r. ordering_then r o) (sym (nat_cmp_is a b Greater h))
 
 -- where the first two compare alike and so does the rest, all does
 pub joined : (a b : Ordering) (o p t : Ordering) → a ≡ b → o ≡ ordering_then p t → ordering_then a o ≡ ordering_then (ordering_then b p) t
-joined a b o p t e f = ap (λ r. ordering_then r o) e ∙ ap (ordering_then b) f ∙ sym (then_assoc b p t)
+joined a b o p t e f = ap (λ r. ordering_then r o) e ∙ then_next b p t refl (ap (ordering_then b) f)
 
 pub rising_cmp : (ds es u v : List ℕ) → list_all is_ascii_digit ds ≡ true → list_all is_ascii_digit es ≡ true →
     slice_cmp nat_cmp (rising ds ++ u) (rising es ++ v) ≡ ordering_then (slice_cmp nat_cmp ds es) (slice_cmp nat_cmp u v)

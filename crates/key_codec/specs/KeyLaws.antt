@@ -2,7 +2,7 @@
 use Rattle.std.proofs.Common.{◌≡◌, ℕ, ◌<◌, Bool, List, [], ◌∷◌, ◌++◌, length, true, false, refl, ap, sym, ◌∙◌, arith, zero, suc, append_assoc}
 use Rattle.std.proofs.lemmas.Bool.{and_from}
 use Rattle.std.proofs.lemmas.Bool.Decides.{nat_tests}
-use Rattle.std.specs.Prelude.{◌==◌, ◌&&◌, cond, nat_lt, nat_le, nat_eq, None, Some}
+use Rattle.std.specs.Prelude.{◌==◌, ◌&&◌, cond, nat_lt, nat_le, nat_eq, Option, None, Some}
 use Rattle.std.specs.List.{list_all}
 use Rattle.std.specs.Ordering.{nat_cmp, ordering_then}
 use Rattle.std.specs.Cmp.{first_so, second_so}
@@ -71,12 +71,13 @@ no_fault (s ∷ ss) a =
     let short : nat_lt limit (length s) ≡ false = grind (arith, nat_tests, is.short) in
     rw (some, short) (no_fault ss a.1)
 
+-- where there is no fault the count is none, and neither is what stands behind it
+pub not_over : (b : Bool) (o : Option Refusal) → cond b (Some Refusal.TooManySubscripts) o ≡ None → (b ≡ false) × (o ≡ None)
+not_over true o e = absurd (cc)
+not_over false o e = (refl, e)
+
 pub not_too_many : (ss : List (List ℕ)) → reference_fault ss ≡ None → subscripts_fault ss ≡ None
-not_too_many ss e = at (nat_lt 31 (length ss)) e
-  where
-    at : (t : Bool) → cond t (Some Refusal.TooManySubscripts) (subscripts_fault ss) ≡ None → subscripts_fault ss ≡ None
-    at true e = cc
-    at false e = e
+not_too_many ss e = (not_over (nat_lt 31 (length ss)) _ e).1
 
 -- what a `Ref` keeps lies within the short form's limit
 pub fits_short : (r : Reference) → IsReference r → FitsForm short_form r

@@ -5,16 +5,14 @@ use Rattle.std.specs.Prelude.{◌&&◌}
 use Rattle.std.specs.declared.cmp.Ordering.{Ordering}
 use Rattle.std.specs.declared.cmp.Ordering.TheVariants.{Less, Equal, Greater}
 use Rattle.std.specs.Ordering.{nat_cmp, is_lt, ordering_reverse}
-use Rattle.std.specs.Cmp.{IsTotalOrder, first_so, second_so}
+use Rattle.std.specs.Cmp.{first_so, second_so}
 use Rattle.std.specs.Cmp.Lexicographic.{slice_cmp, nat_list_cmp_total}
 use Rattle.collation.specs.Reference.{Reference}
+use Rattle.collation.specs.OrderLaws.{is_less, turned}
 use Rattle.collation.specs.Database.{IsUnder}
 use Rattle.key_codec.specs.Key.{key_of, IsReference}
 use Rattle.key_codec.specs.Bounds.{AreBounds, IsUpTo, IsBefore}
 use Rattle.key_codec.specs.Range.{Range, is_within, is_before}
-
-turned : (a k : List ℕ) → slice_cmp nat_cmp k a ≡ ordering_reverse (slice_cmp nat_cmp a k)
-turned a k = let total : IsTotalOrder (slice_cmp nat_cmp) = nat_list_cmp_total in total.antisymm k a
 
 not_below : (o : Ordering) → o ≢ Greater → not (is_lt (ordering_reverse o)) ≡ true
 not_below Less h = refl
@@ -26,17 +24,12 @@ up_to Less e = λ g. cc
 up_to Equal e = λ g. cc
 up_to Greater e = λ g. cc
 
-less : (o : Ordering) → is_lt o ≡ true → o ≡ Less
-less Less e = refl
-less Equal e = cc
-less Greater e = cc
-
 within : (range : Range) (low high k : List ℕ) → range.low ≡ low → range.high ≡ Some high → (is_within range k ≡ true) ↔ (IsUpTo low k × IsBefore k high)
 within range low high k l h =
     let same : is_within range k ≡ (not (is_lt (ordering_reverse (slice_cmp nat_cmp low k))) && is_lt (slice_cmp nat_cmp k high)) =
     ap (λ b. not (is_lt (slice_cmp nat_cmp k b)) && is_before k range.high) l ∙ ap (λ b. not (is_lt (slice_cmp nat_cmp k low)) && is_before k b) h
-    ∙ ap (λ o. not (is_lt o) && is_lt (slice_cmp nat_cmp k high)) (turned low k) in (
-      λ e. let both = sym same ∙ e in (up_to _ (first_so _ _ both), less _ (second_so (not (is_lt (ordering_reverse (slice_cmp nat_cmp low k)))) _ both)),
+    ∙ ap (λ o. not (is_lt o) && is_lt (slice_cmp nat_cmp k high)) (turned nat_list_cmp_total low k _ refl) in (
+      λ e. let both = sym same ∙ e in (up_to _ (first_so _ _ both), is_less _ (second_so (not (is_lt (ordering_reverse (slice_cmp nat_cmp low k)))) _ both)),
       λ w. same ∙ and_from _ (is_lt (slice_cmp nat_cmp k high)) (not_below (slice_cmp nat_cmp low k) w.0) (ap is_lt w.1),
     )
 

@@ -6,11 +6,12 @@ use Rattle.std.specs.Ordering.{nat_cmp, int_cmp, ordering_then}
 use Rattle.std.specs.Cmp.{tied_itself}
 use Rattle.std.specs.Cmp.Lexicographic.{slice_cmp, nat_list_cmp_total}
 use Rattle.std.specs.FinMap.{slice_cmp-IsAntisymmetric, nat_cmp-IsAntisymmetric}
-use Rattle.canonic_number.specs.Number.{is_canonic, is_zero, is_negative, value_at, value_of}
+use Rattle.canonic_number.specs.Number.{is_canonic, is_zero, is_negative, value_at}
 use Rattle.canonic_number.specs.Place.{place_at, digits_of}
 use Rattle.canonic_number.specs.CanonicLaws.{IsPlaced}
 use Rattle.canonic_number.specs.ClassLaws.{IsNumber, Zero, Below, Above, class_of_text, zero_zero, zero_below, zero_above, below_zero, above_zero, below_above, above_below, above_cmp, below_cmp, tied_text}
 use Rattle.collation.specs.Order.{subscript_cmp}
+use Rattle.collation.specs.OrderLaws.{numbers, number_first, number_second, no_numbers}
 use Rattle.key_codec.specs.Key.{KeyForm, subscript_key, below_key, above_key, text_key, rising, falling}
 use Rattle.key_codec.specs.Form.{IsKeyForm}
 use Rattle.key_codec.specs.ByteLaws.{joined, no_tie, same_cmp, rising_cmp, falling_cmp, escaped_cmp}
@@ -21,23 +22,6 @@ tied_lists a b e = slice_cmp-IsAntisymmetric nat_cmp-IsAntisymmetric a b e
 
 pub tied_same : (a b : List ℕ) → a ≡ b → slice_cmp nat_cmp a b ≡ Equal
 tied_same a b e = ap (slice_cmp nat_cmp a) (sym e) ∙ tied_itself nat_list_cmp_total a
-
--- how subscripts compare, by their classes
-numbers : (a b : List ℕ) → is_canonic a ≡ true → is_canonic b ≡ true → subscript_cmp a b ≡ ordering_then (int_cmp (value_of a) (value_of b)) (slice_cmp nat_cmp a b)
-unfolding subscript_cmp
-numbers a b p q = rw (p, q) refl
-
-number_first : (a b : List ℕ) → is_canonic a ≡ true → is_canonic b ≡ false → subscript_cmp a b ≡ Less
-unfolding subscript_cmp
-number_first a b p q = rw (p, q) refl
-
-number_second : (a b : List ℕ) → is_canonic a ≡ false → is_canonic b ≡ true → subscript_cmp a b ≡ Greater
-unfolding subscript_cmp
-number_second a b p q = rw (p, q) refl
-
-no_numbers : (a b : List ℕ) → is_canonic a ≡ false → is_canonic b ≡ false → subscript_cmp a b ≡ slice_cmp nat_cmp a b
-unfolding subscript_cmp
-no_numbers a b p q = rw (p, q) refl
 
 -- the key of each class
 pub zero_key : (form : KeyForm) (s : List ℕ) → s ≡ 48 ∷ [] → subscript_key form s ≡ 3 ∷ []

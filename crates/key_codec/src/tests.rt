@@ -3,82 +3,122 @@ use crate::{
     Key, KeyRange, decode, encode, keys_are_as_references, sibling_after, sibling_before,
     subtree_prefix,
 };
-use collation::{Name, Ref, Text};
+use collation::{Name, Ref, Subscripts, Text};
 use refusal::Refusal;
-use smallvec::SmallVec;
 use std::alloc::Global;
 use std::process::Abort;
 use std::test::Fail;
 
-fn make_ref(alloc: Global, name: &[u8], subscripts: &[&[u8]]) -> Result<Ref, Fail> {
-    let name = Name::new(Text::from_slice(alloc, name)?)?;
-    let mut texts = SmallVec::new(alloc);
-    for subscript in subscripts {
-        texts.push(Text::from_slice(alloc, subscript)?)?;
-    }
-    let reference = Ref::new(name, texts)?;
-    Ok(reference)
+fn push_text(alloc: Global, texts: &mut Subscripts, bytes: &[u8]) -> Result<(), Refusal> {
+    texts.push(Text::from_slice(alloc, bytes)?)?;
+    Ok(())
 }
 
-fn check_key(
-    rt: &impl Abort,
+fn make_texts(alloc: Global, subscripts: &[&[u8]]) -> Result<Subscripts, Refusal> {
+    let mut texts = Subscripts::new(alloc);
+    for subscript in subscripts {
+        push_text(alloc, &mut texts, subscript)?;
+    }
+    Ok(texts)
+}
+
+fn make_ref(alloc: Global, name: &[u8], subscripts: &[&[u8]]) -> Result<Ref, Refusal> {
+    let texts = make_texts(alloc, subscripts)?;
+    Ref::new(Name::new(Text::from_slice(alloc, name)?)?, texts)
+}
+
+fn make_key(alloc: Global, name: &[u8], subscripts: &[&[u8]]) -> Result<Key, Refusal> {
+    let reference = make_ref(alloc, name, subscripts)?;
+    let key = Key::of(alloc, &reference);
+    drop(reference);
+    key
+}
+
+// Name, subscripts and key bytes, in the order of references.
+const TABLE: [(&[u8], &[&[u8]], &[u8]); 15] = [
+    (b"A", &[], b"\x41\x00"),
+    (b"A", &[b"-1.5"], b"\x41\x00\x02\x7E\x09\x05\xFF"),
+    (b"A", &[b"-1"], b"\x41\x00\x02\x7E\x09\xFF"),
+    (b"A", &[b"-.5"], b"\x41\x00\x02\x7F\x05\xFF"),
+    (b"A", &[b"0"], b"\x41\x00\x03"),
+    (b"A", &[b".5"], b"\x41\x00\x04\x80\x06\x00"),
+    (b"A", &[b"7"], b"\x41\x00\x04\x81\x08\x00"),
+    (b"A", &[b"9"], b"\x41\x00\x04\x81\x0A\x00"),
+    (b"A", &[b"10"], b"\x41\x00\x04\x82\x02\x00"),
+    (b"A", &[b"10", b"0"], b"\x41\x00\x04\x82\x02\x00\x03"),
+    (b"A", &[b"12"], b"\x41\x00\x04\x82\x02\x03\x00"),
+    (b"A", &[b"\0\x01b"], b"\x41\x00\x05\x01\x01\x01\x02\x62\x00"),
+    (b"A", &[b"007"], b"\x41\x00\x05\x30\x30\x37\x00"),
+    (b"A", &[b"x"], b"\x41\x00\x05\x78\x00"),
+    (b"AB", &[b"1"], b"\x41\x42\x00\x04\x81\x02\x00"),
+];
+
+fn is_written_as(alloc: Global, reference: &Ref, key: &[u8]) -> Result<bool, Refusal> {
+    let written = encode(alloc, reference)?;
+    Ok(written.as_slice() == key)
+}
+
+fn is_read_as(alloc: Global, key: &[u8], reference: &Ref) -> Result<bool, Refusal> {
+    let read = decode(alloc, key)?;
+    Ok(read.as_ref() == Some(reference))
+}
+
+fn is_written_and_read_as(alloc: Global, reference: &Ref, key: &[u8]) -> Result<bool, Refusal> {
+    Ok(is_written_as(alloc, reference, key)? && is_read_as(alloc, key, reference)?)
+}
+
+fn is_key_of(
     alloc: Global,
+    key: &[u8],
     name: &[u8],
     subscripts: &[&[u8]],
-    key: &[u8],
-) -> Result<(), Fail> {
+) -> Result<bool, Refusal> {
     let reference = make_ref(alloc, name, subscripts)?;
-    let written = encode(alloc, &reference)?;
-    assert_eq!(rt; written.as_slice(), key, "{subscripts:?}");
-    let read = decode(alloc, key)?;
-    let read = read.ok_or("a key was taken for none")?;
-    assert!(rt; read == reference, "{subscripts:?}");
-    Ok(())
+    is_written_and_read_as(alloc, &reference, key)
 }
 
 #[test]
-fn keys_of_numbers_are_those_of_the_table(rt: HostRuntime) -> Result<(), Fail> {
-    let alloc = rt.alloc();
-    check_key(&rt, alloc, b"A", &[], b"\x41\x00")?;
-    check_key(
-        &rt,
-        alloc,
-        b"A",
-        &[b"-1.5"],
-        b"\x41\x00\x02\x7E\x09\x05\xFF",
-    )?;
-    check_key(&rt, alloc, b"A", &[b"-1"], b"\x41\x00\x02\x7E\x09\xFF")?;
-    check_key(&rt, alloc, b"A", &[b"-.5"], b"\x41\x00\x02\x7F\x05\xFF")?;
-    check_key(&rt, alloc, b"A", &[b"0"], b"\x41\x00\x03")?;
-    check_key(&rt, alloc, b"A", &[b".5"], b"\x41\x00\x04\x80\x06\x00")?;
-    check_key(&rt, alloc, b"A", &[b"7"], b"\x41\x00\x04\x81\x08\x00")?;
-    check_key(&rt, alloc, b"A", &[b"9"], b"\x41\x00\x04\x81\x0A\x00")?;
-    check_key(&rt, alloc, b"A", &[b"10"], b"\x41\x00\x04\x82\x02\x00")?;
+fn keys_are_those_of_the_table(rt: HostRuntime) -> Result<(), Fail> {
+    for (name, subscripts, key) in TABLE {
+        let holds = is_key_of(rt.alloc(), key, name, subscripts)?;
+        assert!(rt; holds, "{subscripts:?}");
+    }
     Ok(())
 }
 
-#[test]
-fn keys_of_texts_and_lists_are_those_of_the_table(rt: HostRuntime) -> Result<(), Fail> {
-    let alloc = rt.alloc();
-    check_key(
-        &rt,
-        alloc,
-        b"A",
-        &[b"10", b"0"],
-        b"\x41\x00\x04\x82\x02\x00\x03",
-    )?;
-    check_key(&rt, alloc, b"A", &[b"12"], b"\x41\x00\x04\x82\x02\x03\x00")?;
-    check_key(
-        &rt,
-        alloc,
-        b"A",
-        &[b"\x00\x01b"],
-        b"\x41\x00\x05\x01\x01\x01\x02\x62\x00",
-    )?;
-    check_key(&rt, alloc, b"A", &[b"007"], b"\x41\x00\x05\x30\x30\x37\x00")?;
-    check_key(&rt, alloc, b"A", &[b"x"], b"\x41\x00\x05\x78\x00")?;
-    check_key(&rt, alloc, b"AB", &[b"1"], b"\x41\x42\x00\x04\x81\x02\x00")?;
+fn push_key(
+    alloc: Global,
+    keys: &mut Vec<Key>,
+    name: &[u8],
+    subscripts: &[&[u8]],
+) -> Result<(), Refusal> {
+    keys.push(make_key(alloc, name, subscripts)?)?;
     Ok(())
+}
+
+fn keys_of_the_table(alloc: Global) -> Result<Vec<Key>, Refusal> {
+    let mut keys = Vec::new(alloc);
+    for (name, subscripts, _) in TABLE {
+        push_key(alloc, &mut keys, name, subscripts)?;
+    }
+    Ok(keys)
+}
+
+#[test]
+fn keys_stand_in_the_order_of_the_table(rt: HostRuntime) -> Result<(), Fail> {
+    let keys = keys_of_the_table(rt.alloc())?;
+    for (i, here) in keys.iter().enumerate() {
+        for (j, there) in keys.iter().enumerate() {
+            let found = (here.cmp(there), here == there);
+            assert_eq!(rt; found, (i.cmp(&j), i == j), "{i} and {j}");
+        }
+    }
+    Ok(())
+}
+
+fn is_no_key(alloc: Global, bytes: &[u8]) -> Result<bool, Refusal> {
+    let read = decode(alloc, bytes)?;
+    Ok(read.is_none())
 }
 
 #[test]
@@ -105,10 +145,15 @@ fn decode_of_bytes_that_are_no_key_is_none(rt: HostRuntime) -> Result<(), Fail> 
         b"\x41\x00\x03\x03\x03\x03\x03\x03\x03\x03\x03\x03\x03\x03\x03\x03\x03\x03\x03\x03\x03\x03\x03\x03\x03\x03\x03\x03\x03\x03\x03\x03\x03\x03",
     ];
     for bytes in no_keys {
-        let read = decode(rt.alloc(), bytes)?;
-        assert!(rt; read.is_none(), "{bytes:?}");
+        assert!(rt; is_no_key(rt.alloc(), bytes)?, "{bytes:?}");
     }
     Ok(())
+}
+
+// Whether the reference's key has this length and is read back.
+fn has_key_of_length(alloc: Global, reference: &Ref, length: usize) -> Result<bool, Refusal> {
+    let key = encode(alloc, reference)?;
+    Ok(key.len() == length && is_read_as(alloc, key.as_slice(), reference)?)
 }
 
 // 31 bytes of name, 00, and 31 strings of 127 escaped bytes, each 1 + 254 + 1.
@@ -118,54 +163,63 @@ fn longest_key_has_7968_bytes(rt: HostRuntime) -> Result<(), Fail> {
     let subscript = [0_u8; 127];
     let subscripts: [&[u8]; 31] = [&subscript; 31];
     let reference = make_ref(rt.alloc(), &name, &subscripts)?;
-    let key = encode(rt.alloc(), &reference)?;
-    assert_eq!(rt; key.len(), 7968);
-    let read = decode(rt.alloc(), key.as_slice())?;
-    let read = read.ok_or("the longest key was taken for none")?;
-    assert!(rt; read == reference);
+    assert!(rt; has_key_of_length(rt.alloc(), &reference, 7968)?);
     Ok(())
 }
 
-fn check_bytes(rt: &impl Abort, written: &Vec<u8>, expected: &[u8]) {
-    assert_eq!(rt; written.as_slice(), expected);
+fn check_bytes(
+    rt: &impl Abort,
+    written: Result<Vec<u8>, Refusal>,
+    expected: &[u8],
+) -> Result<(), Refusal> {
+    assert_eq!(rt; written?.as_slice(), expected);
+    Ok(())
 }
 
 #[test]
 fn bounds_are_the_key_and_the_key_with_06(rt: HostRuntime) -> Result<(), Fail> {
-    let reference = make_ref(rt.alloc(), b"A", &[b"7"])?;
-    let prefix = subtree_prefix(rt.alloc(), &reference)?;
-    let low = sibling_before(rt.alloc(), &reference)?;
-    let high = sibling_after(rt.alloc(), &reference)?;
-    check_bytes(&rt, &prefix, b"\x41\x00\x04\x81\x08\x00");
-    check_bytes(&rt, &low, b"\x41\x00\x04\x81\x08\x00");
-    check_bytes(&rt, &high, b"\x41\x00\x04\x81\x08\x00\x06");
+    let alloc = rt.alloc();
+    let reference = make_ref(alloc, b"A", &[b"7"])?;
+    let key = b"\x41\x00\x04\x81\x08\x00";
+    check_bytes(&rt, subtree_prefix(alloc, &reference), key)?;
+    check_bytes(&rt, sibling_before(alloc, &reference), key)?;
+    check_bytes(
+        &rt,
+        sibling_after(alloc, &reference),
+        b"\x41\x00\x04\x81\x08\x00\x06",
+    )?;
     keys_are_as_references();
     Ok(())
 }
 
-fn check_contains(
-    rt: &impl Abort,
-    alloc: Global,
-    range: &KeyRange,
-    subscripts: &[&[u8]],
-    inside: bool,
-) -> Result<(), Fail> {
-    let reference = make_ref(alloc, b"A", subscripts)?;
-    let key = encode(alloc, &reference)?;
-    assert_eq!(rt; range.contains(key.as_slice()), inside, "{subscripts:?}");
-    Ok(())
+fn range_under(alloc: Global, subscripts: &[&[u8]]) -> Result<KeyRange, Refusal> {
+    KeyRange::under(alloc, &make_ref(alloc, b"A", subscripts)?)
+}
+
+fn encoded(alloc: Global, subscripts: &[&[u8]]) -> Result<Vec<u8>, Refusal> {
+    encode(alloc, &make_ref(alloc, b"A", subscripts)?)
+}
+
+fn is_inside(alloc: Global, range: &KeyRange, subscripts: &[&[u8]]) -> Result<bool, Refusal> {
+    let key = encoded(alloc, subscripts)?;
+    Ok(range.contains(key.as_slice()))
 }
 
 #[test]
 fn range_under_a_reference_contains_its_descendants_alone(rt: HostRuntime) -> Result<(), Fail> {
-    let alloc = rt.alloc();
-    let range = KeyRange::under(alloc, &make_ref(alloc, b"A", &[b"1"])?)?;
-    check_contains(&rt, alloc, &range, &[b"1"], true)?;
-    check_contains(&rt, alloc, &range, &[b"1", b"x"], true)?;
-    check_contains(&rt, alloc, &range, &[], false)?;
-    check_contains(&rt, alloc, &range, &[b".5"], false)?;
-    check_contains(&rt, alloc, &range, &[b"12"], false)?;
-    check_contains(&rt, alloc, &range, &[b"2"], false)?;
+    let range = range_under(rt.alloc(), &[b"1"])?;
+    let rows: [(&[&[u8]], bool); 6] = [
+        (&[b"1"], true),
+        (&[b"1", b"x"], true),
+        (&[], false),
+        (&[b".5"], false),
+        (&[b"12"], false),
+        (&[b"2"], false),
+    ];
+    for (subscripts, inside) in rows {
+        let found = is_inside(rt.alloc(), &range, subscripts)?;
+        assert_eq!(rt; found, inside, "{subscripts:?}");
+    }
     Ok(())
 }
 
@@ -175,64 +229,42 @@ fn range_without_end_contains_all_from_its_least_key_on(rt: HostRuntime) -> Resu
     let range = KeyRange::new(low, None);
     assert_eq!(rt; range.low(), b"B".as_slice());
     assert!(rt; range.high().is_none());
-    assert!(rt; range.contains(b"B"));
-    assert!(rt; range.contains(b"\xFF\xFF"));
-    assert!(rt; !range.contains(b"A\xFF"));
-    Ok(())
-}
-
-fn make_key(alloc: Global, name: &[u8], subscripts: &[&[u8]]) -> Result<Key, Fail> {
-    let reference = make_ref(alloc, name, subscripts)?;
-    let key = Key::of(alloc, &reference)?;
-    Ok(key)
-}
-
-#[test]
-fn keys_stand_in_the_order_of_the_table(rt: HostRuntime) -> Result<(), Fail> {
-    let table: [(&[u8], &[&[u8]]); 15] = [
-        (b"A", &[]),
-        (b"A", &[b"-1.5"]),
-        (b"A", &[b"-1"]),
-        (b"A", &[b"-.5"]),
-        (b"A", &[b"0"]),
-        (b"A", &[b".5"]),
-        (b"A", &[b"7"]),
-        (b"A", &[b"9"]),
-        (b"A", &[b"10"]),
-        (b"A", &[b"10", b"0"]),
-        (b"A", &[b"12"]),
-        (b"A", &[b"\0\x01b"]),
-        (b"A", &[b"007"]),
-        (b"A", &[b"x"]),
-        (b"AB", &[b"1"]),
-    ];
-    for (i, (name, subscripts)) in table.iter().enumerate() {
-        let here = make_key(rt.alloc(), name, subscripts)?;
-        for (j, (other_name, other_subscripts)) in table.iter().enumerate() {
-            let there = make_key(rt.alloc(), other_name, other_subscripts)?;
-            assert_eq!(rt; here.cmp(&there), i.cmp(&j), "{i} and {j}");
-            assert_eq!(rt; here == there, i == j, "{i} and {j}");
-        }
+    let rows: [(&[u8], bool); 3] = [(b"B", true), (b"\xFF\xFF", true), (b"A\xFF", false)];
+    for (key, inside) in rows {
+        assert_eq!(rt; range.contains(key), inside, "{key:?}");
     }
     Ok(())
 }
 
-fn key_above(rt: &impl Abort, alloc: Global, reference: &Ref) -> Result<Key, Refusal> {
-    assert!(rt; !reference.subscripts().is_empty());
-    Key::above(alloc, reference)
+fn stands_for(alloc: Global, key: &Key, reference: &Ref) -> Result<bool, Refusal> {
+    let shown = key.reference(alloc)?;
+    let is_same = shown == *reference;
+    drop(shown);
+    Ok(is_same)
 }
 
 #[test]
-fn key_shows_its_reference_and_the_one_above(rt: HostRuntime) -> Result<(), Fail> {
+fn key_shows_its_reference(rt: HostRuntime) -> Result<(), Fail> {
     let reference = make_ref(rt.alloc(), b"AB", &[b"12", b"0"])?;
     let key = Key::of(rt.alloc(), &reference)?;
-    let above = key_above(&rt, rt.alloc(), &reference)?;
-    assert!(rt; key.reference(rt.alloc())? == reference);
+    assert!(rt; stands_for(rt.alloc(), &key, &reference)?);
     assert_eq!(rt; key.name(), b"AB".as_slice());
     assert_eq!(rt;
         key.as_slice(),
         b"\x41\x42\x00\x04\x82\x02\x03\x00\x03".as_slice()
     );
+    Ok(())
+}
+
+fn key_above(rt: &impl Abort, alloc: Global, subscripts: &[&[u8]]) -> Result<Key, Refusal> {
+    let reference = make_ref(alloc, b"AB", subscripts)?;
+    assert!(rt; !reference.subscripts().is_empty());
+    Key::above(alloc, &reference)
+}
+
+#[test]
+fn key_above_leaves_out_the_last_subscript(rt: HostRuntime) -> Result<(), Fail> {
+    let above = key_above(&rt, rt.alloc(), &[b"12", b"0"])?;
     assert_eq!(rt;
         above.as_slice(),
         b"\x41\x42\x00\x04\x82\x02\x03\x00".as_slice()
@@ -240,71 +272,78 @@ fn key_shows_its_reference_and_the_one_above(rt: HostRuntime) -> Result<(), Fail
     Ok(())
 }
 
-fn check_child(
-    rt: &impl Abort,
-    alloc: Global,
-    key: &Key,
-    parent: &[&[u8]],
-    child: Option<&[u8]>,
-) -> Result<(), Fail> {
-    let parent = make_key(alloc, b"A", parent)?;
-    let found = key.child_under(alloc, &parent)?;
-    assert_eq!(rt; found.as_ref().map(|text| text.as_slice()), child);
-    Ok(())
+fn lies_under(alloc: Global, key: &Key, root: &[&[u8]]) -> Result<bool, Refusal> {
+    let root = make_key(alloc, b"A", root)?;
+    Ok(key.is_under(&root))
 }
 
 #[test]
-fn key_lies_under_its_ancestors_alone(rt: HostRuntime) -> Result<(), Fail> {
-    let alloc = rt.alloc();
-    let key = make_key(alloc, b"A", &[b"12", b"x", b"0"])?;
-    assert!(rt; key.is_under(&make_key(alloc, b"A", &[b"12"])?));
+fn key_lies_under_itself_and_its_ancestors_alone(rt: HostRuntime) -> Result<(), Fail> {
+    let key = make_key(rt.alloc(), b"A", &[b"12", b"x", b"0"])?;
     assert!(rt; key.is_under(&key));
-    assert!(rt; !key.is_under(&make_key(alloc, b"A", &[b"1"])?));
-    check_child(&rt, alloc, &key, &[], Some(b"12"))?;
-    check_child(&rt, alloc, &key, &[b"12"], Some(b"x"))?;
-    check_child(&rt, alloc, &key, &[b"12", b"x", b"0"], None)?;
-    check_child(&rt, alloc, &key, &[b"1"], None)?;
+    assert!(rt; lies_under(rt.alloc(), &key, &[b"12"])?);
+    assert!(rt; !lies_under(rt.alloc(), &key, &[b"1"])?);
     Ok(())
 }
 
+fn child_under(alloc: Global, key: &Key, parent: &[&[u8]]) -> Result<Option<Text>, Refusal> {
+    key.child_under(alloc, &make_key(alloc, b"A", parent)?)
+}
+
+#[test]
+fn child_is_the_subscript_on_the_way_to_the_key(rt: HostRuntime) -> Result<(), Fail> {
+    let key = make_key(rt.alloc(), b"A", &[b"12", b"x", b"0"])?;
+    let rows: [(&[&[u8]], Option<&[u8]>); 4] = [
+        (&[], Some(b"12")),
+        (&[b"12"], Some(b"x")),
+        (&[b"12", b"x", b"0"], None),
+        (&[b"1"], None),
+    ];
+    for (parent, child) in rows {
+        let found = child_under(rt.alloc(), &key, parent)?;
+        assert_eq!(rt; found.as_ref().map(|text| text.as_slice()), child);
+    }
+    Ok(())
+}
+
+// The key of a reference in ^A, moved from one root to another.
 fn move_key(
     rt: &impl Abort,
     alloc: Global,
-    key: &Key,
-    from: &Key,
+    subscripts: &[&[u8]],
+    from: &[&[u8]],
     to: &Key,
 ) -> Result<Key, Refusal> {
-    assert!(rt; key.is_under(from));
-    key.moved(alloc, from, to)
+    let key = make_key(alloc, b"A", subscripts)?;
+    let from = make_key(alloc, b"A", from)?;
+    assert!(rt; key.is_under(&from));
+    key.moved(alloc, &from, to)
 }
 
 // What stands behind the root holds each kind of subscript, and bytes that end one inside a text.
 #[test]
 fn moved_key_keeps_what_stands_behind_the_root(rt: HostRuntime) -> Result<(), Fail> {
-    let from = make_key(rt.alloc(), b"A", &[b"12"])?;
+    let subscripts: [&[u8]; 5] = [b"12", b"\0\xFF", b"-1.5", b"0", b".5"];
+    let wanted: [&[u8]; 6] = [b"-1.5", b"7", b"\0\xFF", b"-1.5", b"0", b".5"];
     let to = make_key(rt.alloc(), b"BC", &[b"-1.5", b"7"])?;
-    let key = make_key(rt.alloc(), b"A", &[b"12", b"\0\xFF", b"-1.5", b"0", b".5"])?;
-    let moved = move_key(&rt, rt.alloc(), &key, &from, &to)?;
-    let expected = make_key(
-        rt.alloc(),
-        b"BC",
-        &[b"-1.5", b"7", b"\0\xFF", b"-1.5", b"0", b".5"],
-    )?;
-    assert!(rt; moved == expected);
+    let moved = move_key(&rt, rt.alloc(), &subscripts, &[b"12"], &to)?;
+    let wanted = make_key(rt.alloc(), b"BC", &wanted)?;
+    assert!(rt; moved == wanted);
     Ok(())
+}
+
+// ^A(0,x) moved from ^A to this reference in ^B.
+fn move_two_subscripts(rt: &impl Abort, alloc: Global, to: &[&[u8]]) -> Result<Key, Refusal> {
+    let to = make_key(alloc, b"B", to)?;
+    move_key(rt, alloc, &[b"0", b"x"], &[], &to)
 }
 
 #[test]
 fn moved_key_has_at_most_31_subscripts(rt: HostRuntime) -> Result<(), Fail> {
-    let alloc = rt.alloc();
     let subscripts: [&[u8]; 31] = [b"-1"; 31];
-    let root = make_key(alloc, b"A", &[])?;
-    let key = make_key(alloc, b"A", &[b"0", b"x"])?;
-    let to = make_key(alloc, b"B", &subscripts[..29])?;
-    let deepest = move_key(&rt, alloc, &key, &root, &to)?;
+    let deepest = move_two_subscripts(&rt, rt.alloc(), &subscripts[..29])?;
     assert_eq!(rt; deepest.as_slice().len(), 2 + 29 * 4 + 4);
-    let to = make_key(alloc, b"B", &subscripts[..30])?;
-    let refused = move_key(&rt, alloc, &key, &root, &to);
+    let refused = move_two_subscripts(&rt, rt.alloc(), &subscripts[..30]);
     assert_eq!(rt; refused.err(), Some(Refusal::TooManySubscripts));
     Ok(())
 }

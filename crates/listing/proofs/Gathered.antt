@@ -1,7 +1,7 @@
 -- How far a listing has come.
 use Rattle.std.proofs.Common.{◌≡◌, ℕ, List, [], ◌∷◌, ◌++◌, Option, refl, sym, ap, subst, ◌∙◌, append_assoc, append-nil}
 use Rattle.std.proofs.lemmas.Grind.{flat_map-append}
-use Rattle.std.specs.Prelude.{filter, not, Result, Ok, Err, OnErr}
+use Rattle.std.specs.Prelude.{filter, not}
 use Rattle.std.specs.List.{flat_map}
 use Rattle.globals.specs.Cuts.{stands_before}
 use Rattle.globals.specs.declared.cut.Cut.TheVariants.{Start}
@@ -76,7 +76,3 @@ wrote_all old now last all done left out h none w =
 pub from_start : (es : List Entry) → filter (λ e. not (stands_before Start e.0)) es ≡ es
 from_start [] = refl
 from_start (e ∷ es) = ap (λ (l : List Entry). e ∷ l) (from_start es)
-
-pub on_err : {T E : Type 0} (r : Result T E) (P : Type 0) → P → OnErr r P
-on_err (Ok x) P p = tt
-on_err (Err e) P p = p

@@ -1,5 +1,5 @@
 -- What was written, piece after piece.
-use Rattle.std.proofs.Common.{◌≡◌, ℕ, ◌+◌, ◌-◌, ◌≤◌, List, [], ◌++◌, length, take, drop, sym, ap, subst, ◌∙◌, arith, append_assoc, append-nil, length-drop, length-append, Option, Some, None}
+use Rattle.std.proofs.Common.{◌≡◌, ℕ, ◌+◌, ◌-◌, ◌≤◌, List, [], ◌++◌, length, take, drop, sym, ap, subst, ◌∙◌, arith, append_assoc, append-nil, length-drop, length-append, Option, Some, None, Result, Ok, Err, OnErr}
 use Rattle.std.proofs.Math.Seq.{take-add, take-append-add}
 use Rattle.std.proofs.lemmas.List.{take_all, take-append-le}
 use Rattle.std.specs.Io.KnownBytes.{Appends}
@@ -17,12 +17,16 @@ Appends-more (Some xs) None c x y h k = absurd h
 Appends-more (Some xs) (Some bs) None x y h k = absurd k
 Appends-more (Some xs) (Some bs) (Some cs) x y h k = k ∙ ap (λ l. l ++ y) h ∙ append_assoc xs x y
 
+-- what is left of a text from place n on
+pub rest_of : (text : List ℕ) (n : ℕ) → take (length text - n) (drop n text) ≡ drop n text
+rest_of text n = take_all (length text - n) (drop n text) (omega (arith, length-drop n text))
+
 -- a piece more of a text was written
 pub written_more : (a b c : Option (List ℕ)) (text piece : List ℕ) (i n : ℕ) → Appends a b (take i text) → Appends b c (take n piece) → piece ≡ take (length text - i) (drop i text) → n ≤ length piece → Appends a c (take (i + n) text)
 written_more a b c text piece i n h k e l = subst (Appends a c) (joined text piece i n e l) (Appends-more a b c _ _ h k)
   where
     joined : (text piece : List ℕ) (i n : ℕ) → piece ≡ take (length text - i) (drop i text) → n ≤ length piece → take i text ++ take n piece ≡ take (i + n) text
-    joined text piece i n e l = ap (λ p. take i text ++ take n p) (e ∙ take_all (length text - i) (drop i text) (omega (arith, length-drop i text))) ∙ sym (take-add i n text)
+    joined text piece i n e l = ap (λ p. take i text ++ take n p) (e ∙ rest_of text i) ∙ sym (take-add i n text)
 
 -- a text is a beginning of itself
 pub WritesBeginning-all : (a c : Option (List ℕ)) (x : List ℕ) → Appends a c x → WritesBeginning a c x
@@ -39,3 +43,8 @@ WritesBeginning-then a b c x y h k = record {
   in_range = omega (arith, k.in_range, length-append x y);
   bytes = subst (Appends a c) (sym (take-append-add x y k.count)) (Appends-more a b c x (take k.count y) h k.bytes);
 }
+
+-- what holds anyhow holds at an error
+pub on_err : {T E : Type 0} (r : Result T E) (P : Type 0) → P → OnErr r P
+on_err (Ok x) P p = tt
+on_err (Err e) P p = p

@@ -1,56 +1,29 @@
 -- Which refusal is due.
 use Rattle.std.proofs.Common.{◌≡◌, ℕ, ◌+◌, ◌<◌, Bool, true, false, cond, suc, List, [], ◌∷◌, length, Option, Some, None, Result, Ok, Err, refl, sym, ap, ◌∙◌, arith}
 use Rattle.std.specs.Prelude.{nat_lt, ◌==◌, MatchResult}
-use Rattle.std.specs.Option.{option_or, option_map}
+use Rattle.std.specs.Option.{option_or}
 use Rattle.std.proofs.lemmas.Bool.{lt-leb, and_right}
 use Rattle.refusal.specs.declared.Refusal.{Refusal}
-use Rattle.refusal.specs.declared.Refusal.TheVariants.{BadLine, OutOfMemory, TooManySubscripts}
+use Rattle.refusal.specs.declared.Refusal.TheVariants.{OutOfMemory, TooManySubscripts}
 use Rattle.collation.specs.Reference.{Reference, Spot}
 use Rattle.collation.specs.Faults.{reference_fault, place_fault, ends_open, closed_part}
 use Rattle.collation.specs.Name.{is_name}
-use Rattle.m_text.specs.Reading.{IsRefused, IsDue, Answers}
-use Rattle.m_text.specs.Place.{name_fault, ref_fault, spot_fault, spot_of, unless, without_fault}
+use Rattle.m_text.specs.Reading.{IsDue, Answers}
+use Rattle.m_text.specs.FaultLaws.{due_too, unless_err, unless_ok}
+use Rattle.m_text.specs.Place.{name_fault, ref_fault, spot_fault, spot_of, unless}
 
 pub due_from : {Y : Type 0} → (refusal : Refusal) (read : Result Y Refusal) → read ≡ Err refusal → IsDue refusal read
 due_from OutOfMemory read h = tt
 due_from refusal read h = h
 
-pub due_too : {Y Z : Type 0} → (refusal : Refusal) (a : Result Y Refusal) (b : Result Z Refusal) → (a ≡ Err refusal → b ≡ Err refusal) → IsDue refusal a → IsDue refusal b
-due_too OutOfMemory a b f h = tt
-due_too refusal a b f h = f h
-
--- what isn't of the grammar
-pub due_bad_line : {A B : Type 0} → (refusal : Refusal) (fault : A → Option Refusal) (made : B × List ℕ → A × List ℕ) (place : Option (B × List ℕ)) → IsRefused refusal place → IsDue refusal (without_fault fault (option_map made place))
-due_bad_line BadLine fault made place h = ap (λ p. without_fault fault (option_map made p)) h
-due_bad_line OutOfMemory fault made place h = tt
-due_bad_line refusal fault made place h = absurd h
-
-pub due_bad_place : {A : Type 0} → (refusal : Refusal) (fault : A → Option Refusal) (place : Option (A × List ℕ)) → IsRefused refusal place → IsDue refusal (without_fault fault place)
-due_bad_place BadLine fault place h = ap (without_fault fault) h
-due_bad_place OutOfMemory fault place h = tt
-due_bad_place refusal fault place h = absurd h
-
-unless_err : {A : Type 0} → (fault : Option Refusal) (x : A) (refusal : Refusal) → unless fault x ≡ Err refusal → fault ≡ Some refusal
-unless_err None x refusal e = absurd cc
-unless_err (Some f) x refusal e = cc
-
-unless_ok : {A : Type 0} → (fault : Option Refusal) (x y : A) → unless fault x ≡ Ok y → fault ≡ None
-unless_ok None x y e = refl
-unless_ok (Some f) x y e = absurd cc
-
--- a bad name comes first
-pub due_bad_name : {A : Type 0} → (refusal : Refusal) (name : List ℕ) (more : Option Refusal) (x : A) → IsDue refusal (unless (name_fault name) name) → IsDue refusal (unless (option_or (name_fault name) more) x)
-due_bad_name {A} refusal name more x h =
-    due_too refusal (unless (name_fault name) name) (unless (option_or (name_fault name) more) x) (λ e. ap (λ (f : Option Refusal). unless (option_or f more) x) (unless_err (name_fault name) name refusal e)) h
-
 -- and then another fault
 pub due_fault : {A : Type 0} → (refusal : Refusal) (name made : List ℕ) (more : Option Refusal) (x : A) → unless (name_fault name) name ≡ Ok made → more ≡ Some refusal → IsDue refusal (unless (option_or (name_fault name) more) x)
 due_fault {A} refusal name made more x good h =
-    due_from refusal (unless (option_or (name_fault name) more) x) (ap (λ (f : Option Refusal). unless (option_or f more) x) (unless_ok (name_fault name) name made good) ∙ ap (λ (f : Option Refusal). unless f x) h)
+    due_from refusal (unless (option_or (name_fault name) more) x) (ap (λ (f : Option Refusal). unless (option_or f more) x) (unless_ok (name_fault name) name made good).0 ∙ ap (λ (f : Option Refusal). unless f x) h)
 
 -- no fault
 pub no_fault : {A : Type 0} → (name made : List ℕ) (more : Option Refusal) (x : A) → unless (name_fault name) name ≡ Ok made → more ≡ None → unless (option_or (name_fault name) more) x ≡ Ok x
-no_fault {A} name made more x good h = ap (λ (f : Option Refusal). unless (option_or f more) x) (unless_ok (name_fault name) name made good) ∙ ap (λ (f : Option Refusal). unless f x) h
+no_fault {A} name made more x good h = ap (λ (f : Option Refusal). unless (option_or f more) x) (unless_ok (name_fault name) name made good).0 ∙ ap (λ (f : Option Refusal). unless f x) h
 
 -- a name of more than 31 bytes
 pub too_long : (name : List ℕ) → 31 < length name → is_name name ≡ false
@@ -85,17 +58,13 @@ due_of {A} refusal fault x rest h =
     let all : Result (A × List ℕ) Refusal = unless fault (x, rest) in
     due_too refusal (unless fault x) all (λ e. ap (λ (f : Option Refusal). unless {A = A × List ℕ} f (x, rest)) (unless_err fault x refusal e)) h
 
-unless_is : {A : Type 0} → (fault : Option Refusal) (x y : A) → unless fault x ≡ Ok y → x ≡ y
-unless_is None x y e = cc
-unless_is (Some f) x y e = absurd cc
-
 -- a reference of a good name
 pub made_ref : (r : Result Reference Refusal) (word name : List ℕ) (ss : List (List ℕ)) → unless (name_fault word) word ≡ Ok name →
     MatchResult r (λ x. (reference_fault ss ≡ None) × (x.name ≡ name) × (x.subscripts ≡ ss)) (λ refusal. reference_fault ss ≡ Some refusal) →
     Answers (λ x. x) r (unless (ref_fault (record { name = word; subscripts = ss })) (record { name = word; subscripts = ss }))
 made_ref (Ok x) word name ss good h =
     let all : Reference = record { name = word; subscripts = ss } in
-    let same : word ≡ x.name = unless_is (name_fault word) word name good ∙ sym h.1 in
+    let same : word ≡ x.name = (unless_ok (name_fault word) word name good).1 ∙ sym h.1 in
     no_fault word name (reference_fault ss) all good h.0 ∙ ap (λ (n : List ℕ). Ok (record { name = n; subscripts = ss })) same ∙ ap (λ (s : List (List ℕ)). Ok (record { name = x.name; subscripts = s })) (sym h.2)
 made_ref (Err refusal) word name ss good h =
     let all : Reference = record { name = word; subscripts = ss } in
@@ -107,7 +76,7 @@ pub made_place : (r : Result Spot Refusal) (word name : List ℕ) (ss : List (Li
     Answers (λ x. x) r (unless (spot_fault (spot_of (record { name = word; subscripts = ss }))) (spot_of (record { name = word; subscripts = ss })))
 made_place (Ok p) word name ss good h =
     let all : Spot = spot_of (record { name = word; subscripts = ss }) in
-    no_fault word name _ all good (sym (place_fault_is ss) ∙ h.0) ∙ ap (λ (n : List ℕ). Ok (spot_of (record { name = n; subscripts = ss }))) (unless_is (name_fault word) word name good) ∙ ap (λ (q : Spot). Ok q) (sym h.1)
+    no_fault word name _ all good (sym (place_fault_is ss) ∙ h.0) ∙ ap (λ (n : List ℕ). Ok (spot_of (record { name = n; subscripts = ss }))) (unless_ok (name_fault word) word name good).1 ∙ ap (λ (q : Spot). Ok q) (sym h.1)
 made_place (Err refusal) word name ss good h =
     let all : Spot = spot_of (record { name = word; subscripts = ss }) in
     due_fault refusal word name _ all good (sym (place_fault_is ss) ∙ h)

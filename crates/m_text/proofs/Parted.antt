@@ -1,9 +1,10 @@
 -- Reading one after the other, as loops do.
 use Rattle.std.proofs.Common.{◌≡◌, ℕ, suc, Bool, true, false, cond, List, ◌++◌, drop, Option, Some, None, refl, sym, ap, ◌∙◌}
 use Rattle.std.specs.Option.{option_and_then}
-use Rattle.std.proofs.lemmas.Option.{same_Some, some_pair_parts}
+use Rattle.std.proofs.lemmas.Option.{same_Some}
 use Rattle.m_text.specs.Reading.{with_front, rest_of, begins_with, some_at, IsRefused, IsRefusedAlways}
 use Rattle.refusal.specs.declared.Refusal.{Refusal}
+use Rattle.m_text.specs.PartedLaws.{front_some}
 use Rattle.m_text.proofs.Fronts.{with_front-append, rest_of-front, refused_too, refused_always_too}
 
 abbrev Read : Type 0 → Type 0
@@ -16,12 +17,6 @@ next_of read b n x = cond (begins_with b x.1) (with_front x.0 (some_at read b n 
 some_step : {A : Type 0} → (read : List ℕ → Read A) (b n k : ℕ) (text : List ℕ) → k ≡ suc n → some_at read b k text ≡ option_and_then (next_of read b n) (read text)
 unfolding some_at
 some_step read b n k text e = rw e refl
-
-front_some : {A : Type 0} → (front : List A) (read : Read A) (out : List A) (rest : List ℕ) → with_front front read ≡ Some (out, rest) → (x : List A) × (read ≡ Some (x, rest)) × (out ≡ front ++ x)
-front_some front None out rest e = absurd cc
-front_some {A} front (Some x) out rest e =
-    let p = some_pair_parts (front ++ x.0) out x.1 rest e in
-    (x.0, ap (λ (r : List ℕ). Some (x.0, r)) p.1, sym p.0)
 
 front_none : {A : Type 0} → (front : List A) (read : Read A) → with_front front read ≡ None → read ≡ None
 front_none front None e = refl

@@ -7,21 +7,18 @@ use Rattle.std.specs.List.{flat_map, position, position_or_len}
 use Rattle.m_text.specs.Reading.{with_front}
 use Rattle.m_text.specs.Literal.{is_quote, quoted_at}
 use Rattle.m_text.specs.Written.{doubled}
+use Rattle.m_text.specs.PartLaws.{plain_step}
 use Rattle.m_text.proofs.Ends.{ends_at, ends_nowhere}
 use Rattle.m_text.proofs.Fronts.{with_front-nil, with_front-append, rest_of-front}
 
 abbrev at_quote_of : List ℕ → ℕ → Option (List ℕ × List ℕ)
 at_quote_of bs n = with_front (take n bs) (quoted_at (34 ∷ drop (n + 1) bs))
 
-plain_step : (b c : ℕ) (bs : List ℕ) → (b == 34) ≡ false → quoted_at (b ∷ c ∷ bs) ≡ with_front (b ∷ []) (quoted_at (c ∷ bs))
-unfolding quoted_at
-plain_step b c bs q = rw q refl
-
 run_step : (b c : ℕ) (bs : List ℕ) (n k m : ℕ) → k ≡ suc n → m ≡ n + 1 → (b == 34) ≡ false → quoted_at (c ∷ bs) ≡ at_quote_of (c ∷ bs) n → quoted_at (b ∷ c ∷ bs) ≡ at_quote_of (b ∷ c ∷ bs) k
 run_step b c bs n k m e f q ih =
     let past : drop (k + 1) (b ∷ c ∷ bs) ≡ drop (n + 1) (c ∷ bs) = rw (e, add-one, add-one) refl in
     let front : take k (b ∷ c ∷ bs) ≡ b ∷ take n (c ∷ bs) = rw e refl in
-    rw (past, front) (plain_step b c bs q ∙ ap (with_front (b ∷ [])) ih ∙ with_front-append (b ∷ []) (take n (c ∷ bs)) (quoted_at (34 ∷ drop (n + 1) (c ∷ bs))))
+    rw (past, front) (plain_step b (c ∷ bs) (omega arith) q ∙ ap (with_front (b ∷ [])) ih ∙ with_front-append (b ∷ []) (take n (c ∷ bs)) (quoted_at (34 ∷ drop (n + 1) (c ∷ bs))))
 
 abbrev doubled_at : List ℕ → ℕ → List ℕ
 doubled_at bs n = take n bs ++ (34 ∷ 34 ∷ flat_map doubled (drop (n + 1) bs))

@@ -1,10 +1,19 @@
 -- Runs of bytes at the front of a text.
-use Rattle.std.proofs.Common.{◌≡◌, ℕ, ◌+◌, Bool, true, false, cond, List, [], ◌∷◌, ◌++◌, take, drop, refl, sym, ap, ◌∙◌}
+use Rattle.std.proofs.Common.{◌≡◌, ℕ, ◌+◌, ◌<◌, Bool, true, false, cond, List, [], ◌∷◌, ◌++◌, length, take, drop, refl, sym, ap, ◌∙◌, arith}
 use Rattle.std.proofs.Math.Numerals.{one-add}
 use Rattle.std.proofs.lemmas.List.{take-append-drop}
-use Rattle.std.proofs.lemmas.Bool.{and_parts}
-use Rattle.std.specs.Prelude.{⊤, not}
+use Rattle.std.proofs.lemmas.Bool.{and_parts, ne_eqb}
+use Rattle.std.specs.Prelude.{⊤, not, ◌==◌}
 use Rattle.std.specs.List.{list_all, position_or_len}
+
+-- a list that isn't empty has a length above 0
+pub some_length : (xs : List ℕ) → (length xs == 0) ≡ false → 0 < length xs
+some_length [] e = absurd cc
+some_length (x ∷ xs) e = omega arith
+
+-- what has a length above 0 isn't empty
+pub some_test : (xs : List ℕ) → 0 < length xs → (length xs == 0) ≡ false
+some_test xs h = ne_eqb (length xs) 0 (λ e. omega (arith, h, e))
 
 -- the first byte, where there is one, ends a run
 abbrev pub Ends : (ℕ → Bool) → List ℕ → Type 0

@@ -5,6 +5,7 @@ pub mod Written
 pub mod Forms
 pub mod Laws
 pub mod FrontLaws
+pub mod FaultLaws
 pub mod PartedLaws
 pub mod PartLaws
 pub mod LiteralLaws

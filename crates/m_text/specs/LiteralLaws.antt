@@ -4,6 +4,7 @@ use Rattle.std.proofs.Math.Numerals.{add-one}
 use Rattle.std.proofs.lemmas.Bool.{and_parts, and_from, le-leb, or_parts, or_left, or_from}
 use Rattle.std.proofs.lemmas.Bool.Decides.{nat_tests}
 use Rattle.std.proofs.lemmas.List.{take-append-drop}
+use Rattle.std.proofs.lemmas.List.Folds.{list_all-append}
 use Rattle.std.proofs.lemmas.Option.{some_pair_parts, cond_some}
 use Rattle.std.specs.Prelude.{not, ◌||◌, ◌==◌}
 use Rattle.std.specs.List.{list_all}
@@ -45,8 +46,7 @@ some_more : {ds : List ℕ} → IsSomeDigits ds → 0 < length ds
 some_more (first_digit h hs) = omega arith
 
 all_append : (p : ℕ → Bool) (xs ys : List ℕ) → list_all p xs ≡ true → list_all p ys ≡ true → list_all p (xs ++ ys) ≡ true
-all_append p [] ys e f = f
-all_append p (x ∷ xs) ys e f = let h = and_parts (p x) (list_all p xs) e in and_from _ _ h.0 (all_append p xs ys h.1 f)
+all_append p xs ys e f = list_all-append p xs ys ∙ and_from _ _ e f
 
 unsigned_bytes : {m : List ℕ} → IsUnsignedLiteral m → list_all number_byte m ≡ true
 unsigned_bytes (only_digits h) = some_bytes h

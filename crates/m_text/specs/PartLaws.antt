@@ -11,15 +11,9 @@ use Rattle.m_text.specs.Literal.{quoted_at, ends_digits, front_digits, past_digi
 use Rattle.m_text.specs.Written.{doubled, quoted}
 use Rattle.m_text.specs.Forms.{IsParted, IsCode, IsChars, IsPart}
 use Rattle.m_text.specs.FrontLaws.{Ends, run_passes, run_parts, run_is}
-use Rattle.m_text.specs.PartedLaws.{Found, begins, parted_found, parted_read}
+use Rattle.m_text.specs.PartedLaws.{Found, front_some, begins, parted_found, parted_read}
 
 -- quoted texts
-
-front_found : (b : ℕ) (r : Option (List ℕ × List ℕ)) (s rest : List ℕ) → with_front (b ∷ []) r ≡ Some (s, rest) → (t : List ℕ) × (r ≡ Some (t, rest)) × (s ≡ b ∷ t)
-front_found b None s rest e = absurd cc
-front_found b (Some x) s rest e =
-    let p = some_pair_parts (b ∷ x.0) s x.1 rest e in
-    (x.0, ap (λ (r : List ℕ). Some (x.0, r)) p.1, sym p.0)
 
 ended : (b : ℕ) (bs s rest : List ℕ) → b ≡ 34 → ◌≡◌ {A = Option (List ℕ × List ℕ)} (Some ([], bs)) (Some (s, rest)) → b ∷ bs ≡ flat_map doubled s ++ 34 ∷ rest
 ended b bs s rest h e = let p = some_pair_parts [] s bs rest e in rw (h, p.1, ← p.0) refl
@@ -36,11 +30,11 @@ IfTaken bs = (s rest : List ℕ) → quoted_at bs ≡ Some (s, rest) → bs ≡ 
 by_cases : (b c : ℕ) (bs s rest : List ℕ) (quote double : Bool) → eqb b 34 ≡ quote → eqb c 34 ≡ double → IfTaken bs → IfTaken (c ∷ bs)
     → cond quote (cond double (with_front (34 ∷ []) (quoted_at bs)) (Some ([], c ∷ bs))) (with_front (b ∷ []) (quoted_at (c ∷ bs))) ≡ Some (s, rest) → b ∷ c ∷ bs ≡ flat_map doubled s ++ 34 ∷ rest
 by_cases b c bs s rest true true q d ih ih' e =
-    let f = front_found 34 (quoted_at bs) s rest e in
+    let f = front_some (34 ∷ []) (quoted_at bs) s rest e in
     went_on 34 (b ∷ c ∷ bs) f.0 s rest (heads b c bs (flat_map doubled f.0 ++ 34 ∷ rest) (eqb-true _ _ q) (eqb-true _ _ d) (ih f.0 rest f.1)) f.2
 by_cases b c bs s rest true false q d ih ih' e = ended b (c ∷ bs) s rest (eqb-true _ _ q) e
 by_cases b c bs s rest false double q d ih ih' e =
-    let f = front_found b (quoted_at (c ∷ bs)) s rest e in
+    let f = front_some (b ∷ []) (quoted_at (c ∷ bs)) s rest e in
     went_on b (b ∷ c ∷ bs) f.0 s rest (rw q (ap (λ (u : List ℕ). b ∷ u) (ih' f.0 rest f.1))) f.2
 
 last_case : (b : ℕ) (s rest : List ℕ) (quote : Bool) → eqb b 34 ≡ quote → ◌≡◌ {A = Option (List ℕ × List ℕ)} (cond quote (Some ([], [])) None) (Some (s, rest)) → b ∷ [] ≡ flat_map doubled s ++ 34 ∷ rest
@@ -57,7 +51,8 @@ quoted_takes (b ∷ c ∷ bs) s rest e = by_cases b c bs s rest (eqb b 34) (eqb 
 abbrev pub NoQuote : List ℕ → Type 0
 NoQuote rest = begins_with 34 rest ≡ false
 
-plain_step : (b : ℕ) (bs : List ℕ) → 0 < length bs → eqb b 34 ≡ false → quoted_at (b ∷ bs) ≡ with_front (b ∷ []) (quoted_at bs)
+-- a byte that is no quote stands for itself
+pub plain_step : (b : ℕ) (bs : List ℕ) → 0 < length bs → eqb b 34 ≡ false → quoted_at (b ∷ bs) ≡ with_front (b ∷ []) (quoted_at bs)
 unfolding quoted_at
 plain_step b [] h q = absurd (omega (arith, h))
 plain_step b (c ∷ bs) h q = rw q refl
@@ -84,7 +79,8 @@ quoted_again (b ∷ s) rest h =
 
 -- codes
 
-digits_kind : (b : ℕ) → ends_digits b ≡ not (is_ascii_digit b)
+-- what ends digits is no digit
+pub digits_kind : (b : ℕ) → ends_digits b ≡ not (is_ascii_digit b)
 digits_kind b = refl
 
 code_found : (bytes x rest : List ℕ) → code_at bytes ≡ Some (x, rest) → Found IsCode bytes x rest
@@ -141,7 +137,8 @@ word_letters (w ∷ ws) (b ∷ bs) caps e =
 char_letters : (word : List ℕ) → is_char_word word ≡ true → list_all is_ascii_alphabetic word ≡ true
 char_letters word e = elim (or_cases _ _ e) [ inl p ↦ word_letters (codes "C") word refl p | inr p ↦ word_letters (codes "CHAR") word refl p ]
 
-letters_kind : (b : ℕ) → ends_letters b ≡ not (is_ascii_alphabetic b)
+-- what ends letters is no letter
+pub letters_kind : (b : ℕ) → ends_letters b ≡ not (is_ascii_alphabetic b)
 letters_kind b = refl
 
 regroup : (word list rest : List ℕ) → (word ++ (40 ∷ (list ++ 41 ∷ []))) ++ rest ≡ word ++ (40 ∷ (list ++ 41 ∷ rest))

@@ -13,6 +13,13 @@ pub record Found {A : Type 0} (Form : List ℕ → List A → Type 0) (bytes : L
   pub form : Form text x
   pub parts : bytes ≡ text ++ rest
 
+-- what was read with more before it
+pub front_some : {A : Type 0} → (front : List A) (read : Option (List A × List ℕ)) (out : List A) (rest : List ℕ) → with_front front read ≡ Some (out, rest) → (x : List A) × (read ≡ Some (x, rest)) × (out ≡ front ++ x)
+front_some front None out rest e = absurd cc
+front_some {A} front (Some x) out rest e =
+    let p = some_pair_parts (front ++ x.0) out x.1 rest e in
+    (x.0, ap (λ (r : List ℕ). Some (x.0, r)) p.1, sym p.0)
+
 pub begins : (b : ℕ) (bytes : List ℕ) → begins_with b bytes ≡ true → bytes ≡ b ∷ drop 1 bytes
 begins b [] e = absurd cc
 begins b (c ∷ bs) e = ap (λ x. x ∷ bs) (eqb-true c b e)

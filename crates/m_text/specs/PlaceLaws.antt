@@ -1,6 +1,6 @@
 -- References: what is read of them is spelled so, and what is spelled so is read.
-use Rattle.std.proofs.Common.{◌≡◌, ℕ, suc, ◌<◌, Bool, true, false, cond, List, [], ◌∷◌, ◌++◌, length, drop, Option, Some, None, refl, sym, ap, ◌∙◌, append_assoc, arith}
-use Rattle.std.proofs.lemmas.Bool.{or_parts, ne_eqb}
+use Rattle.std.proofs.Common.{◌≡◌, ℕ, ◌<◌, Bool, true, false, cond, List, [], ◌∷◌, ◌++◌, length, drop, Option, Some, None, refl, sym, ap, ◌∙◌, append_assoc}
+use Rattle.std.proofs.lemmas.Bool.{or_parts}
 use Rattle.std.proofs.lemmas.Option.{some_pair_parts}
 use Rattle.std.specs.Prelude.{not, ◌==◌}
 use Rattle.std.specs.Option.{option_map}
@@ -10,7 +10,7 @@ use Rattle.m_text.specs.Literal.{literal_at}
 use Rattle.m_text.specs.Place.{ends_word, front_word, past_word, subscript_at, subscripts_at, named_at, place_at}
 use Rattle.m_text.specs.Forms.{IsSubscript, AreSubscripts, is_word_byte, IsNamed, IsReference, IsBreak, IsReferenceBreak}
 use Rattle.m_text.specs.Forms.AreSubscripts.{none, listed}
-use Rattle.m_text.specs.FrontLaws.{Ends, run_passes, run_parts, run_is}
+use Rattle.m_text.specs.FrontLaws.{Ends, some_length, some_test, run_passes, run_parts, run_is}
 use Rattle.m_text.specs.PartedLaws.{Found, begins, parted_found, parted_read}
 use Rattle.m_text.specs.PartLaws.{closed_found}
 use Rattle.m_text.specs.LiteralLaws.{literal_found, literal_read, literal_some}
@@ -63,14 +63,6 @@ subscripts_read rest (listed {texts} {ss} forms) ends =
 
 word_kind : (b : ℕ) → ends_word b ≡ not (is_word_byte b)
 word_kind b = refl
-
-some_length : (xs : List ℕ) → (length xs == 0) ≡ false → 0 < length xs
-some_length [] e = absurd cc
-some_length (x ∷ xs) e = omega arith
-
-some_test : (xs : List ℕ) → 0 < length xs → (length xs == 0) ≡ false
-some_test [] e = absurd (omega arith)
-some_test (x ∷ xs) e = ne_eqb (suc (length xs)) 0 (λ h. omega (arith, h))
 
 pub named_found : (bytes : List ℕ) (r : Reference) (rest : List ℕ) → named_at bytes ≡ Some (r, rest) → FoundOf IsNamed bytes r rest
 unfolding named_at

@@ -1,15 +1,16 @@
 -- From the sentence of a line to what the line asks.
 use Rattle.std.proofs.Common.{◌≡◌, ℕ, Bool, true, false, cond, List, length, Option, Some, None, Ok, Err, refl, sym, ap, ◌∙◌}
-use Rattle.std.specs.Prelude.{◌&&◌, ◌||◌, ◌==◌}
+use Rattle.std.proofs.lemmas.Bool.{or_right}
+use Rattle.std.specs.Prelude.{◌&&◌, ◌==◌}
 use Rattle.refusal.specs.declared.Refusal.{Refusal}
 use Rattle.refusal.specs.declared.Refusal.TheVariants.{BadLine, BadJob, OutOfMemory}
 use Rattle.collation.specs.declared.command.Command.{Command}
 use Rattle.m_text.specs.Reading.{◌>>=◌, IsRefused, IsDue}
 use Rattle.m_text.specs.Literal.{front_digits, past_digits, number_from}
 use Rattle.m_text.specs.Place.{unless}
+use Rattle.m_text.specs.FaultLaws.{unless_err, unless_ok}
 use Rattle.script.specs.Commands.{begins_blank, past_blank, command_at, fault_of}
 use Rattle.script.specs.Line.{is_job, end_of, spelled_by, judged, reading_of, job_of, IsRefusalOf}
-use Rattle.script.proofs.Due.{unless_err, unless_ok}
 
 -- a line that isn't of the grammar
 pub bad_line : (line : List ℕ) (refusal : Refusal) → IsRefused refusal (spelled_by line) → IsRefusalOf line refusal
@@ -17,10 +18,6 @@ unfolding reading_of
 bad_line line BadLine h = ap (judged (number_from 0 (front_digits line))) h
 bad_line line OutOfMemory h = tt
 bad_line line refusal h = absurd h
-
-or_right : (a b : Bool) → b ≡ true → (a || b) ≡ true
-or_right true b e = refl
-or_right false b e = e
 
 abbrev job_number : List ℕ → ℕ
 job_number line = number_from 0 (front_digits line)

@@ -1,7 +1,7 @@
 -- Lines: what is read of them is spelled so, and what is spelled so is read.
-use Rattle.std.proofs.Common.{◌≡◌, inl, inr, ℕ, suc, ◌<◌, Bool, true, false, cond, List, [], ◌∷◌, ◌++◌, length, take, drop, Option, Some, None, Result, Ok, Err, refl, sym, ap, ◌∙◌, append_assoc, arith}
+use Rattle.std.proofs.Common.{◌≡◌, inl, inr, ℕ, ◌<◌, Bool, true, false, cond, List, [], ◌∷◌, ◌++◌, length, take, drop, Option, Some, None, Result, Ok, Err, refl, sym, ap, ◌∙◌, append_assoc, arith}
 use Rattle.std.proofs.Math.Numerals.{one-add}
-use Rattle.std.proofs.lemmas.Bool.{eqb-true, and_parts, or_cases, ne_eqb}
+use Rattle.std.proofs.lemmas.Bool.{eqb-true, and_parts, or_cases}
 use Rattle.std.proofs.lemmas.Bool.Decides.{nat_tests}
 use Rattle.std.proofs.lemmas.List.{nil_from_length, append-nil}
 use Rattle.std.proofs.lemmas.Option.{some_pair_parts, cond_some}
@@ -19,8 +19,9 @@ use Rattle.collation.specs.declared.command.Command.TheVariants.{Set, Kill, Merg
 use Rattle.m_text.specs.Reading.{◌>>=◌, begins_with, after}
 use Rattle.m_text.specs.Literal.{ends_letters, front_letters, past_letters, ends_digits as digits_end, front_digits, past_digits, number_from}
 use Rattle.m_text.specs.Place.{name_fault, ref_fault, spot_fault, subscript_count, unless}
-use Rattle.m_text.specs.FrontLaws.{Ends, run_passes, run_parts, run_is}
+use Rattle.m_text.specs.FrontLaws.{Ends, some_length, some_test, run_passes, run_parts, run_is}
 use Rattle.m_text.specs.PartedLaws.{begins}
+use Rattle.m_text.specs.PartLaws.{letters_kind, digits_kind}
 use Rattle.m_text.specs.PlaceLaws.{FoundOf}
 use Rattle.script.specs.declared.word.Act.{Act}
 use Rattle.script.specs.Commands.{is_blank, ends_blank, past_blank, begins_blank, blank_at, act_of, function_of, act_at, function_at, acts_at, functions_at, command_at, value_fault, fault_of}
@@ -76,9 +77,6 @@ blank_stops (b ∷ bs) e = elim (or_cases (b == 32) (b == 9) (and_parts (is_blan
 ]
 
 -- commands
-
-letters_kind : (b : ℕ) → ends_letters b ≡ not (is_ascii_alphabetic b)
-letters_kind b = refl
 
 acts_found : (bytes : List ℕ) (c : Command) (rest : List ℕ) → acts_at bytes ≡ Some (c, rest) → FoundOf IsCommand bytes c rest
 unfolding acts_at
@@ -160,17 +158,6 @@ command_read _ c rest (act {short} {long} {word} {blank} {text} named parted for
 command_read _ c rest (function {short} {long} {word} {text} named form) stops = functions_read short long word text c rest named form
 
 -- lines
-
-digits_kind : (b : ℕ) → digits_end b ≡ not (is_ascii_digit b)
-digits_kind b = refl
-
-some_length : (xs : List ℕ) → (length xs == 0) ≡ false → 0 < length xs
-some_length [] e = absurd cc
-some_length (x ∷ xs) e = omega arith
-
-some_test : (xs : List ℕ) → 0 < length xs → (length xs == 0) ≡ false
-some_test [] e = absurd (omega arith)
-some_test (x ∷ xs) e = ne_eqb (suc (length xs)) 0 (λ h. omega (arith, h))
 
 blank_tail : (tail : List ℕ) → length (past_blank tail) ≡ 0 → list_all is_blank tail ≡ true
 blank_tail tail e =

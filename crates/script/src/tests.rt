@@ -17,27 +17,16 @@ fn printed(job: Option<Job>) -> u16 {
 // The job that is printed, and the refusal.
 fn outcome(alloc: Global, line: &[u8]) -> (u16, Option<Refusal>) {
     match read_line(alloc, line) {
-        Ok((job, _command)) => (job.number(), None),
+        Ok((job, command)) => {
+            drop(command);
+            (job.number(), None)
+        }
         Err(fault) => (printed(fault.job), Some(fault.refusal)),
-    }
-}
-
-fn check(rt: &impl Abort, alloc: Global, line: &[u8], job: u16, refusal: Option<Refusal>) {
-    let (number, found) = outcome(alloc, line);
-    assert_eq!(rt; found, refusal, "{line:?}");
-    assert_eq!(rt; number, job, "{line:?}");
-}
-
-fn command_of(alloc: Global, line: &[u8]) -> Result<Command, Refusal> {
-    match read_line(alloc, line) {
-        Ok((_, command)) => Ok(command),
-        Err(fault) => Err(fault.refusal),
     }
 }
 
 #[test]
 fn read_line_of_doubtful_lines_refuses_as_the_table_says(rt: HostRuntime) {
-    let alloc = rt.alloc();
     let rows: [(&[u8], u16, Refusal); 32] = [
         (b"1", 1, Refusal::BadLine),
         (b" ", 0, Refusal::BadLine),
@@ -81,13 +70,12 @@ fn read_line_of_doubtful_lines_refuses_as_the_table_says(rt: HostRuntime) {
         ),
     ];
     for (line, job, refusal) in rows {
-        check(&rt, alloc, line, job, Some(refusal));
+        assert_eq!(rt; outcome(rt.alloc(), line), (job, Some(refusal)), "{line:?}");
     }
 }
 
 #[test]
 fn read_line_of_each_command_in_any_case_reads_it(rt: HostRuntime) {
-    let alloc = rt.alloc();
     let rows: [(&[u8], u16); 17] = [
         (b"00001 KILL ^A", 1),
         (b"4096 SET ^A=1  ", 4096),
@@ -108,39 +96,50 @@ fn read_line_of_each_command_in_any_case_reads_it(rt: HostRuntime) {
         (b"1 $q(^A(\"\"),-1)", 1),
     ];
     for (line, job) in rows {
-        check(&rt, alloc, line, job, None);
+        assert_eq!(rt; outcome(rt.alloc(), line), (job, None), "{line:?}");
     }
     lines_are_read_as_spelled();
 }
 
-fn check_command(
-    rt: &impl Abort,
-    alloc: Global,
-    line: &[u8],
-    command: &Command,
-) -> Result<(), Fail> {
-    let read = command_of(alloc, line)?;
-    assert!(rt; read.eq(command), "{line:?}");
-    Ok(())
+fn command_of(alloc: Global, line: &[u8]) -> Result<Command, Refusal> {
+    match read_line(alloc, line) {
+        Ok((_, command)) => Ok(command),
+        Err(fault) => Err(fault.refusal),
+    }
 }
 
-fn set_of(alloc: Global) -> Result<Command, Fail> {
-    let (reference, _) = read_ref(alloc, b"^A(1)")?;
+// Whether the line is read as this command, which is let go of.
+fn is_read_as(alloc: Global, line: &[u8], command: Command) -> bool {
+    let read = command_of(alloc, line);
+    let is_same = read.as_ref() == Ok(&command);
+    drop(command);
+    drop(read);
+    is_same
+}
+
+fn set_of(alloc: Global) -> Result<Command, Refusal> {
     let value = Text::from_slice(alloc, b"x")?;
+    let (reference, _) = read_ref(alloc, b"^A(1)")?;
     Ok(Command::Set(reference, value))
 }
 
 #[test]
 fn read_line_of_set_gives_its_reference_and_value(rt: HostRuntime) -> Result<(), Fail> {
     let set = set_of(rt.alloc())?;
-    check_command(&rt, rt.alloc(), b"3 SET ^A(01.0)=\"x\"", &set)
+    assert!(rt; is_read_as(rt.alloc(), b"3 SET ^A(01.0)=\"x\"", set));
+    Ok(())
+}
+
+fn order_of(alloc: Global) -> Result<Command, Refusal> {
+    let (place, _) = read_place(alloc, b"^A(\"\")")?;
+    Ok(Command::Order(place, Direction::Backward))
 }
 
 #[test]
 fn read_line_of_order_gives_its_place_and_direction(rt: HostRuntime) -> Result<(), Fail> {
-    let (place, _) = read_place(rt.alloc(), b"^A(\"\")")?;
-    let order = Command::Order(place, Direction::Backward);
-    check_command(&rt, rt.alloc(), b"3 $ORDER(^A(\"\"),-1)", &order)
+    let order = order_of(rt.alloc())?;
+    assert!(rt; is_read_as(rt.alloc(), b"3 $ORDER(^A(\"\"),-1)", order));
+    Ok(())
 }
 
 // A line with a stretch of one byte in its midst.
@@ -150,7 +149,7 @@ fn stretched(
     byte: u8,
     count: usize,
     back: &[u8],
-) -> Result<Vec<u8>, Fail> {
+) -> Result<Vec<u8>, Refusal> {
     let mut line = Vec::from_slice(alloc, front)?;
     for _ in 0..count {
         line.push(byte)?;
@@ -161,7 +160,6 @@ fn stretched(
 
 #[test]
 fn limits_measure_the_string_that_a_literal_stands_for(rt: HostRuntime) -> Result<(), Fail> {
-    let alloc = rt.alloc();
     let rows: [(&[u8], u8, usize, &[u8], Option<Refusal>); 8] = [
         (b"1 SET ^A=\"", b'x', 32767, b"\"", None),
         (
@@ -197,36 +195,64 @@ fn limits_measure_the_string_that_a_literal_stands_for(rt: HostRuntime) -> Resul
         ),
     ];
     for (front, byte, count, back, refusal) in rows {
-        let line = stretched(alloc, front, byte, count, back)?;
-        check(&rt, alloc, &line, 1, refusal);
+        let line = stretched(rt.alloc(), front, byte, count, back)?;
+        assert_eq!(rt;
+            outcome(rt.alloc(), &line),
+            (1, refusal),
+            "{front:?} and {count}"
+        );
     }
     Ok(())
+}
+
+// What is written for the reply, which is let go of.
+fn written(alloc: Global, job: Option<Job>, reply: Reply) -> Result<Vec<u8>, Refusal> {
+    let mut out = Vec::new(alloc);
+    let outcome = write_reply(job, &reply, &mut out);
+    drop(reply);
+    outcome?;
+    Ok(out)
 }
 
 fn check_reply(
     rt: &impl Abort,
     alloc: Global,
     job: Option<Job>,
-    reply: &Reply,
+    reply: Reply,
     text: &[u8],
-) -> Result<(), Fail> {
-    let mut out = Vec::new(alloc);
-    write_reply(job, reply, &mut out)?;
+) -> Result<(), Refusal> {
+    let out = written(alloc, job, reply)?;
     assert_eq!(rt; out.as_slice(), text);
     Ok(())
 }
 
 #[test]
-fn replies_are_written_as_the_table_says(rt: HostRuntime) -> Result<(), Fail> {
+fn replies_without_data_are_written_as_the_table_says(rt: HostRuntime) -> Result<(), Fail> {
     let alloc = rt.alloc();
     let job = Some(Job::new(4096)?);
-    let value = Reply::Value(Text::from_slice(alloc, b"007")?);
-    let (reference, _) = read_ref(alloc, b"^A(\"a\"\"b\",2)")?;
-    let found = Reply::Found(reference);
     let refused = Reply::Refused(Refusal::BadJob);
-    check_reply(&rt, alloc, job, &Reply::Done, b"4096 ok\n")?;
-    check_reply(&rt, alloc, job, &Reply::Number(11), b"4096 11\n")?;
-    check_reply(&rt, alloc, job, &value, b"4096 \"007\"\n")?;
-    check_reply(&rt, alloc, job, &found, b"4096 ^A(\"a\"\"b\",2)\n")?;
-    check_reply(&rt, alloc, None, &refused, b"0 error 12 BadJob\n")
+    check_reply(&rt, alloc, job, Reply::Done, b"4096 ok\n")?;
+    check_reply(&rt, alloc, job, Reply::Number(11), b"4096 11\n")?;
+    check_reply(&rt, alloc, None, refused, b"0 error 12 BadJob\n")?;
+    Ok(())
+}
+
+fn value_of(alloc: Global, bytes: &[u8]) -> Result<Reply, Refusal> {
+    Ok(Reply::Value(Text::from_slice(alloc, bytes)?))
+}
+
+fn found_of(alloc: Global, bytes: &[u8]) -> Result<Reply, Refusal> {
+    let (reference, _) = read_ref(alloc, bytes)?;
+    Ok(Reply::Found(reference))
+}
+
+#[test]
+fn replies_of_a_value_and_a_reference_are_written_as_literals(rt: HostRuntime) -> Result<(), Fail> {
+    let alloc = rt.alloc();
+    let job = Some(Job::new(4096)?);
+    let value = value_of(alloc, b"007")?;
+    check_reply(&rt, alloc, job, value, b"4096 \"007\"\n")?;
+    let found = found_of(alloc, b"^A(\"a\"\"b\",2)")?;
+    check_reply(&rt, alloc, job, found, b"4096 ^A(\"a\"\"b\",2)\n")?;
+    Ok(())
 }

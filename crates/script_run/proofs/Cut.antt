@@ -1,5 +1,6 @@
 -- Cutting a text into lines.
-use Rattle.std.proofs.Common.{◌≡◌, ℕ, zero, suc, ◌+◌, ◌≤◌, ◌<◌, Bool, true, false, eqb, List, [], ◌∷◌, ◌++◌, length, take, drop, get_or, refl, sym, ap, ◌∙◌, append_assoc, arith}
+use Rattle.std.proofs.Common.{◌≡◌, ℕ, zero, suc, ◌≤◌, ◌<◌, true, false, eqb, List, [], ◌∷◌, ◌++◌, length, take, drop, get_or, refl, sym, ap, ◌∙◌, append_assoc, arith}
+use Rattle.std.proofs.lemmas.Bool.{false_from_ne_true}
 use Rattle.std.proofs.lemmas.List.{append-nil}
 use Rattle.std.specs.Prelude.{Some}
 use Rattle.bstr.specs.Find.{IsFirstByte, is_byte}
@@ -13,14 +14,10 @@ EndsAt [] n = ⊥
 EndsAt (b ∷ bs) zero = eqb b 10 ≡ true
 EndsAt (b ∷ bs) (suc n) = (eqb b 10 ≡ false) × EndsAt bs n
 
-is_false : (b : Bool) → (b ≡ true → ⊥) → b ≡ false
-is_false true h = absurd (h refl)
-is_false false h = refl
-
 pub ends_at : (xs : List ℕ) (n : ℕ) → n < length xs → ((k : ℕ) → 0 ≤ k → k < n → eqb (get_or xs k 0) 10 ≡ true → ⊥) → eqb (get_or xs n 0) 10 ≡ true → EndsAt xs n
 ends_at [] n lt before at = absurd (omega arith)
 ends_at (b ∷ bs) zero lt before at = at
-ends_at (b ∷ bs) (suc n) lt before at = (is_false _ (before 0 (omega arith) (omega arith)), ends_at bs n (omega arith) (λ k low high. before (suc k) (omega arith) (omega arith)) at)
+ends_at (b ∷ bs) (suc n) lt before at = (false_from_ne_true _ (before 0 (omega arith) (omega arith)), ends_at bs n (omega arith) (λ k low high. before (suc k) (omega arith) (omega arith)) at)
 
 first_from : (line xs more : List ℕ) (n : ℕ) → EndsAt xs n → lines_from line (xs ++ more) ≡ kept (strip_last 13 (line ++ take n xs)) ++ lines_of (drop (suc n) xs ++ more)
 first_from line [] more n h = absurd h
@@ -34,7 +31,7 @@ first_line xs more n h = first_from [] xs more n h
 -- where no byte 10 stands
 pub no_end : (xs : List ℕ) → ((k : ℕ) → 0 ≤ k → k < length xs → eqb (get_or xs k 0) 10 ≡ true → ⊥) → has_no_end xs ≡ true
 no_end [] h = refl
-no_end (b ∷ bs) h = rw (is_false _ (h 0 (omega arith) (omega arith))) (no_end bs (λ k low high. h (suc k) (omega arith) (omega arith)))
+no_end (b ∷ bs) h = rw (false_from_ne_true _ (h 0 (omega arith) (omega arith))) (no_end bs (λ k low high. h (suc k) (omega arith) (omega arith)))
 
 joined_from : (line begun xs more : List ℕ) (n : ℕ) → has_no_end begun ≡ true → EndsAt xs n → lines_from line ((begun ++ xs) ++ more) ≡ kept (strip_last 13 (line ++ (begun ++ take n xs))) ++ lines_of (drop (suc n) xs ++ more)
 joined_from line [] xs more n h e = first_from line xs more n e
@@ -53,13 +50,3 @@ has_no_end-append (x ∷ xs) ys h k = let p = goes_on x xs h in rw p.0 (has_no_e
 
 pub end_of : (xs : List ℕ) (n : ℕ) → IsFirstByte (is_byte 10) xs (Some n) → EndsAt xs n
 end_of xs n h = ends_at xs n h.0.high (λ k low high p. h.0.before k low high p) h.1
-
-drop-nothing : (m : ℕ) → drop {A = ℕ} m [] ≡ []
-drop-nothing zero = refl
-drop-nothing (suc m) = refl
-
-pub drop_more : (n m k : ℕ) (xs : List ℕ) → k ≡ n + m → drop m (drop n xs) ≡ drop k xs
-drop_more zero m k xs e = let same : m ≡ k = omega (arith, e) in ap (λ (j : ℕ). drop j xs) same
-drop_more (suc n) m k [] e = drop-nothing m ∙ sym (drop-nothing k)
-drop_more (suc n) m zero (x ∷ xs) e = absurd (omega (arith, e))
-drop_more (suc n) m (suc k) (x ∷ xs) e = drop_more n m k xs (omega (arith, e))

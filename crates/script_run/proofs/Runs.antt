@@ -1,5 +1,5 @@
 -- Lines that were answered, one after the other.
-use Rattle.std.proofs.Common.{◌≡◌, ℕ, suc, ◌+◌, ◌-◌, ◌≤◌, take, Bool, true, false, ◌||◌, List, [], ◌∷◌, ◌++◌, map, length, drop, Option, refl, sym, ap, subst, ◌∙◌, append_assoc, arith, length-drop}
+use Rattle.std.proofs.Common.{◌≡◌, ℕ, suc, ◌+◌, ◌-◌, ◌≤◌, take, Bool, true, ◌||◌, List, [], ◌∷◌, ◌++◌, map, length, drop, Option, refl, sym, ap, subst, ◌∙◌, append_assoc, arith, length-drop, drop-drop}
 use Rattle.std.proofs.lemmas.List.{append-nil, map-append}
 use Rattle.std.proofs.lemmas.Grind.{flat_map-append}
 use Rattle.std.proofs.lemmas.List.Folds.{list_any-append}
@@ -10,23 +10,13 @@ use Rattle.script.specs.Line.{reading_of, job_of}
 use Rattle.script.specs.Text.{reply_text}
 use Rattle.std.specs.Prelude.{Some, None}
 use Rattle.std.specs.Io.BufRead.{strip_last}
-use Rattle.std.proofs.lemmas.List.{take_all}
+use Rattle.std.proofs.Math.Bool.{or-false, or_assoc}
+use Rattle.listing.specs.BytesLaws.{rest_of}
 use Rattle.bstr.specs.Find.{IsFirstByte, is_byte}
 use Rattle.script_run.specs.Lines.{kept, lines_of, has_no_end}
-use Rattle.script_run.proofs.Cut.{end_of, first_line, no_end, joined_line, has_no_end-append, drop_more}
+use Rattle.script_run.proofs.Cut.{end_of, first_line, no_end, joined_line, has_no_end-append}
 use Rattle.script_run.specs.Output.{Answer, IsAnswer, AreAnswers, told_by, units_of, text_of, is_refused, some_refused, Ran, RanFront}
 use Rattle.script_run.specs.declared.run.Script.{Script}
-
-or-false : (b : Bool) → b ≡ (b || false)
-or-false true = refl
-or-false false = refl
-
-or-assoc : (a b c : Bool) → ((a || b) || c) ≡ (a || (b || c))
-or-assoc true b c = refl
-or-assoc false b c = refl
-
-pub Ran-none : (s : Script) → Ran [] s s
-Ran-none s = record { answers = []; of_lines = refl; each = tt; units = sym (append-nil s.core); text = sym (append-nil s.out.items); refused = or-false s.refused; legal = λ h. h }
 
 pub Ran-one : (line : List ℕ) (reply : Reply) (job : Option ℕ) (old new : Script) → job ≡ job_of line → IsAnswer old.core (reading_of line) reply → new.core ≡ old.core ++ told_by (reading_of line) reply
     → new.out.items ≡ old.out.items ++ reply_text job reply → new.refused ≡ (old.refused || is_refused reply) → (IsLegal old.core initial → IsLegal new.core initial) → Ran (line ∷ []) old new
@@ -36,7 +26,7 @@ Ran-one line reply job old new j a u t r l = record {
   each = (a, tt);
   units = u ∙ ap (λ (us : List JournalUnit). old.core ++ us) (sym (append-nil _));
   text = t ∙ ap (λ (k : Option ℕ). old.out.items ++ reply_text k reply) j ∙ ap (λ (ts : List ℕ). old.out.items ++ ts) (sym (append-nil _));
-  refused = r ∙ ap (λ (b : Bool). old.refused || b) (or-false _);
+  refused = r ∙ ap (λ (b : Bool). old.refused || b) (sym (or-false _));
   legal = l;
 }
 
@@ -56,13 +46,10 @@ Ran-then ls ms a b c h k = record {
       ∙ ap (λ (us : List JournalUnit). a.core ++ us) (sym (flat_map-append _ h.answers k.answers));
   text = k.text ∙ ap (λ (ts : List ℕ). ts ++ text_of k.answers) h.text ∙ append_assoc a.out.items (text_of h.answers) (text_of k.answers)
       ∙ ap (λ (ts : List ℕ). a.out.items ++ ts) (sym (flat_map-append _ h.answers k.answers));
-  refused = k.refused ∙ ap (λ (r : Bool). r || some_refused k.answers) h.refused ∙ or-assoc a.refused (some_refused h.answers) (some_refused k.answers)
+  refused = k.refused ∙ ap (λ (r : Bool). r || some_refused k.answers) h.refused ∙ or_assoc a.refused (some_refused h.answers) (some_refused k.answers)
       ∙ ap (λ (r : Bool). a.refused || r) (sym (list_any-append _ h.answers k.answers));
   legal = λ l. k.legal (h.legal l);
 }
-
-pub RanFront-none : (text : List ℕ) (s : Script) → RanFront text text s s
-RanFront-none text s = record { lines = []; ran = Ran-none s; split = λ more. refl }
 
 pub RanFront-more : (text rest after : List ℕ) (ls : List (List ℕ)) (a b c : Script) → RanFront text rest a b → Ran ls b c → ((more : List ℕ) → lines_of (rest ++ more) ≡ ls ++ lines_of (after ++ more)) → RanFront text after a c
 RanFront-more text rest after ls a b c h k e = record {
@@ -74,24 +61,20 @@ RanFront-more text rest after ls a b c h k e = record {
 pub more_lines : (text line : List ℕ) (at end : ℕ) (old mid new : Script) → at ≤ length text → RanFront text (drop at text) old mid → IsFirstByte (is_byte 10) (take (length text - at) (drop at text)) (Some end)
     → line ≡ strip_last 13 (take end (take (length text - at) (drop at text))) → Ran (kept line) mid new → (at + (end + 1) ≤ length text) × RanFront text (drop (at + (end + 1)) text) old new
 more_lines text line at end old mid new le so_far first e ran =
-    let whole : take (length text - at) (drop at text) ≡ drop at text = take_all (length text - at) (drop at text) (omega (arith, length-drop at text)) in
+    let whole : take (length text - at) (drop at text) ≡ drop at text = rest_of text at in
     let found = rw whole at first in
     let ends = end_of (drop at text) end found in
     let line-is : line ≡ strip_last 13 (take end (drop at text)) = e ∙ ap (λ (t : List ℕ). strip_last 13 (take end t)) whole in
-    let rest-is : drop (suc end) (drop at text) ≡ drop (at + (end + 1)) text = drop_more at (suc end) (at + (end + 1)) text (omega arith) in
+    let rest-is : drop (suc end) (drop at text) ≡ drop (at + (end + 1)) text = let same : at + suc end ≡ at + (end + 1) = omega arith in drop-drop (suc end) at text ∙ ap (λ (n : ℕ). drop n text) same in
     let split : (more : List ℕ) → lines_of (drop at text ++ more) ≡ kept line ++ lines_of (drop (at + (end + 1)) text ++ more) =
     λ more. first_line (drop at text) more end ends ∙ ap (λ (l : List ℕ). kept l ++ lines_of (drop (suc end) (drop at text) ++ more)) (sym line-is) ∙ ap (λ (r : List ℕ). kept line ++ lines_of (r ++ more)) rest-is in
     (omega (arith, length-drop at text, found.0.high), RanFront-more text (drop at text) (drop (at + (end + 1)) text) (kept line) old mid new so_far ran split)
 
 pub no_more_lines : (text : List ℕ) (at : ℕ) → at ≤ length text → IsFirstByte (is_byte 10) (take (length text - at) (drop at text)) None → has_no_end (drop at text) ≡ true
 no_more_lines text at le none =
-    let whole : take (length text - at) (drop at text) ≡ drop at text = take_all (length text - at) (drop at text) (omega (arith, length-drop at text)) in
+    let whole : take (length text - at) (drop at text) ≡ drop at text = rest_of text at in
     let found = rw whole at none in
     no_end (drop at text) (λ k low high p. found k low high p)
-
--- no line ends in the piece
-pub no_line : (begun piece after : List ℕ) (s : Script) → after ≡ begun ++ piece → RanFront (begun ++ piece) after s s
-no_line begun piece after s e = record { lines = []; ran = Ran-none s; split = λ more. ap (λ (t : List ℕ). lines_of (t ++ more)) (sym e) }
 
 pub no_end_piece : (begun piece after : List ℕ) → has_no_end begun ≡ true → IsFirstByte (is_byte 10) piece None → after ≡ begun ++ piece → has_no_end after ≡ true
 no_end_piece begun piece after h none e = ap has_no_end e ∙ has_no_end-append begun piece h (no_end piece (λ k low high p. none k low high p))
@@ -106,7 +89,3 @@ joined_lines begun piece line rest after end a b c none found line-is rest-is ra
       split = λ more. joined_line begun piece more end none (end_of piece end found) ∙ ap (λ (l : List ℕ). kept l ++ lines_of (drop (suc end) piece ++ more)) (sym line-is) ∙ ap (λ (r : List ℕ). kept line ++ lines_of (r ++ more)) (sym rest-is);
     } in
     RanFront-more (begun ++ piece) rest after front.lines a b c first front.ran front.split
-
--- what is left of a text from place n on
-pub rest_of : (text : List ℕ) (n : ℕ) → take (length text - n) (drop n text) ≡ drop n text
-rest_of text n = take_all (length text - n) (drop n text) (omega (arith, length-drop n text))

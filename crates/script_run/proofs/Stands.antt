@@ -1,9 +1,9 @@
 -- How far a script has come.
-use Rattle.std.proofs.Common.{◌≡◌, ℕ, Bool, true, false, ◌||◌, List, [], ◌∷◌, ◌++◌, map, length, Option, Some, None, Result, Ok, Err, IfSome, refl, sym, ap, subst, ◌∙◌, append_assoc, arith, inl, inr}
-use Rattle.std.proofs.lemmas.List.{append-nil, map-append}
+use Rattle.std.proofs.Common.{◌≡◌, ℕ, Bool, true, false, ◌||◌, List, [], ◌∷◌, ◌++◌, map, length, Option, Some, None, Result, Ok, Err, IfSome, refl, sym, ap, subst, ◌∙◌, append_assoc, inl, inr}
+use Rattle.std.proofs.lemmas.List.{append-nil, map-append, nil_from_length}
 use Rattle.std.proofs.lemmas.Grind.{flat_map-append}
 use Rattle.std.proofs.lemmas.List.Folds.{list_any-append}
-use Rattle.std.specs.Prelude.{codes, ⊤, OnErr}
+use Rattle.std.specs.Prelude.{codes, ⊤}
 use Rattle.std.specs.Io.KnownBytes.{Appends, Consumes, IsAtEnd}
 use Rattle.refusal.specs.declared.Refusal.{Refusal}
 use Rattle.refusal.specs.declared.Refusal.TheVariants.{OutOfMemory}
@@ -190,10 +190,6 @@ at_end bytes (Some more) (Some more') ls begun piece h k p e =
     let none : more ≡ [] = k ∙ ap (λ (x : List ℕ). x ++ more') p ∙ e in
     h ∙ ap (λ (m : List ℕ). ls ++ lines_of (begun ++ m)) none ∙ ap (λ (t : List ℕ). ls ++ lines_of t) (append-nil begun)
 
-nothing_read : (piece : List ℕ) → length piece ≡ 0 → piece ≡ []
-nothing_read [] e = refl
-nothing_read (b ∷ bs) e = absurd (omega (arith, e))
-
 -- the listing of what the script's core holds
 abbrev pub listing_of : Script → List ℕ
 listing_of s = listing_text (after s.core initial).map
@@ -210,7 +206,7 @@ whole_output bytes left left' old new begun piece a b h r none e =
     let front-is : text_of h.answers ++ b.out.items ≡ text_of whole ++ dashes = ap (λ (t : List ℕ). text_of h.answers ++ t) out-is ∙ sym (append_assoc (text_of h.answers) (text_of f.answers) dashes) ∙ ap (λ (t : List ℕ). t ++ dashes) (sym (flat_map-append _ h.answers f.answers)) in
     record {
       answers = whole;
-      of_lines = lines-append h.answers f.answers ∙ ap (λ (l : List (List ℕ)). lines_in h.answers ++ l) (f.of_lines ∙ sym (last_line begun h.whole)) ∙ sym (at_end bytes left left' (lines_in h.answers) begun piece h.split r.consumed (nothing_read piece none) (r.ended none));
+      of_lines = lines-append h.answers f.answers ∙ ap (λ (l : List (List ℕ)). lines_in h.answers ++ l) (f.of_lines ∙ sym (last_line begun h.whole)) ∙ sym (at_end bytes left left' (lines_in h.answers) begun piece h.split r.consumed (nil_from_length piece none) (r.ended none));
       each = AreAnswers-append [] a.core h.answers f.answers h.each h.units f.each;
       legal = subst (λ (us : List JournalUnit). IsLegal us initial) (sym e.core ∙ units-is) (f.legal h.legal);
       written = ap (λ (t : List ℕ). t ++ listing_of b) front-is ∙ ap (λ (us : List JournalUnit). (text_of whole ++ dashes) ++ listing_text (after us initial).map) units-is;
@@ -247,7 +243,3 @@ begun_listing (Some bytes) left left' old new new' last begun piece a b h r none
   output = whole_output bytes left left' old new begun piece a b h r none e;
   written = WritesBeginning-then old new' last (text_of h.answers ++ b.out.items) (listing_of b) (Appends-more old new new' (text_of h.answers) b.out.items h.written w) l;
 }
-
-pub on_err : {T E : Type 0} (r : Result T E) (P : Type 0) → P → OnErr r P
-on_err (Ok x) P p = tt
-on_err (Err e) P p = p

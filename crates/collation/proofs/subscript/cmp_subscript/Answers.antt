@@ -1,6 +1,7 @@
 use Rattle.std.proofs.Common.{sym, ◌∙◌, arith}
 use Rattle.canonic_number.specs.Number.{scale}
-use Rattle.collation.proofs.Subscripts.{numbers_as, number_first, number_second, no_numbers}
+use Rattle.collation.specs.OrderLaws.{number_first, number_second, no_numbers}
+use Rattle.collation.proofs.Subscripts.{numbers_as}
 use Rattle.collation.proofs.subscript.cmp_subscript.Goals as goal
 
 pub returns-in-Some-Some : goal.returns-in-Some-Some

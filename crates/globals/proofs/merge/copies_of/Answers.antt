@@ -1,9 +1,8 @@
-use Rattle.std.proofs.Common.{◌≡◌, true, false, sym, ap, ◌∙◌, inl, inr, List, ℕ, [], ◌∷◌, ◌++◌, refl}
+use Rattle.std.proofs.Common.{◌≡◌, sym, ap, ◌∙◌, inl, inr, List, ℕ, [], ◌∷◌, ◌++◌, refl}
 use Rattle.std.specs.Prelude.{map}
 use Rattle.std.specs.List.{list_any, list_all}
 use Rattle.collation.specs.Reference.{Reference}
 use Rattle.collation.specs.Database.{is_under}
-use Rattle.collation.specs.Data.{is_too_deep}
 use Rattle.globals.proofs.Merging.{copied, is_deep, all_under, more_copied, no_more_copied, deep_found, still_shallow, first_under}
 use Rattle.globals.proofs.merge.copies_of.Goals as goal
 

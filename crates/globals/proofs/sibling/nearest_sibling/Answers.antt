@@ -1,5 +1,5 @@
 use Rattle.std.proofs.Common.{◌≡◌, true, false, sym, ap, ◌∙◌}
-use Rattle.collation.specs.Reference.{Reference, Spot}
+use Rattle.collation.specs.Reference.{Reference}
 use Rattle.collation.specs.Levels.{front}
 use Rattle.collation.specs.Data.{is_forward}
 use Rattle.globals.proofs.Seeks.{spot_is, parent_open, parent_closed, sibling_answer}

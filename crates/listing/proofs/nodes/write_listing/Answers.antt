@@ -1,7 +1,8 @@
 use Rattle.std.proofs.Common.{List, ◌∷◌, [], sym, subst, refl, ◌∙◌}
 use Rattle.std.proofs.lemmas.List.{map-append}
 use Rattle.std.specs.FinMap as finmap
-use Rattle.listing.proofs.Gathered.{Entry, Stands, stands_first, stands_next, begun, begun_more, begun_out, wrote_all, from_start, on_err}
+use Rattle.listing.proofs.Gathered.{Entry, Stands, stands_first, stands_next, begun, begun_more, begun_out, wrote_all, from_start}
+use Rattle.listing.specs.BytesLaws.{on_err}
 use Rattle.listing.proofs.nodes.write_listing.Goals as goal
 
 pub nodes-init : goal.nodes-init

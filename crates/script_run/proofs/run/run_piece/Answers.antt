@@ -1,7 +1,8 @@
 use Rattle.std.proofs.Common.{◌≡◌, ◌+◌, ◌-◌, ◌++◌, suc, List, ℕ, length, take, drop, sym, ap, subst, ◌∙◌, add-one}
 use Rattle.std.specs.Io.BufRead.{strip_last}
 use Rattle.script_run.specs.Output.{RanFront}
-use Rattle.script_run.proofs.Runs.{no_end_piece, joined_lines, rest_of}
+use Rattle.script_run.proofs.Runs.{no_end_piece, joined_lines}
+use Rattle.listing.specs.BytesLaws.{rest_of}
 use Rattle.script_run.proofs.run.run_piece.Goals as goal
 
 pub returns-in_default-clause-begun : goal.returns-in_default-clause-begun

@@ -1,6 +1,7 @@
 use Rattle.std.proofs.Common.{◌≡◌, length, refl, ◌∙◌, arith}
 use Rattle.std.proofs.lemmas.Bool.Decides.{nat_tests}
-use Rattle.script_run.proofs.Stands.{begun_at, begun_piece, begun_end, begun_listing, wrote_all, on_err, stands_next}
+use Rattle.script_run.proofs.Stands.{begun_at, begun_piece, begun_end, begun_listing, wrote_all, stands_next}
+use Rattle.listing.specs.BytesLaws.{on_err}
 use Rattle.script_run.proofs.run.run_script.Goals as goal
 
 pub returns-in_err-piece-clause-begun : goal.returns-in_err-piece-clause-begun
