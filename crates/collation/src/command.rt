@@ -3,7 +3,7 @@ use crate::{Direction, Place, Ref, Text};
 use refusal::Refusal;
 
 /// What a job asks. What each means: `data_refusal`, `data_reply` and `data_after` of `specs/Data.antt`.
-#[derive(Clone, Debug, Drop, PartialEq, Eq)]
+#[derive(Debug, Drop, PartialEq, Eq)]
 pub enum Command {
     /// SET: the reference has the value.
     Set(Ref, Text),

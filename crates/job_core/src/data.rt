@@ -1,5 +1,6 @@
 //! A data command outside a transaction: one function a kind, each lent store and journal alone.
-ghost use Rattle.std.specs.Prelude.{◌≡◌, true, [], ◌∷◌, ◌++◌, None, length, IfOk, OnOk, OnErr, IfErr};
+ghost use Rattle.std.specs.Prelude.{◌≡◌, ◌≤◌, ◌<◌, true, [], ◌∷◌, ◌++◌, None, length, vec_len, IfOk, OnOk, OnErr, IfErr};
+ghost use Rattle.collation.specs.Answers.{merged};
 ghost use Rattle.collation.specs.Data.{data_refusal, data_reply, data_after};
 ghost use Rattle.journal.specs.declared.unit.Unit.TheVariants.{Lone};
 ghost use Rattle.journal.specs.Kept.{HasNoRoom};
@@ -69,7 +70,10 @@ fn look(
 {
     match answer(alloc, store, &command) {
         Ok(reply) => record(journal, job, command, reply),
-        Err(refusal) => Err(refusal),
+        Err(refusal) => {
+            drop(command);
+            Err(refusal)
+        }
     }
 }
 
@@ -86,10 +90,29 @@ fn record(
     ensures refused { OnErr result (journal.new.units ≡ journal.old.units) }
     ensures cause { IfErr result (λ refusal. HasNoRoom refusal 1 (length journal.old.units)) }
 {
-    let told = reply.clone()?;
+    match told_with_room(journal, &reply) {
+        Ok(told) => {
+            let receipt = journal.push_reserved(Unit::Lone(job, command, told));
+            Ok((reply, receipt))
+        }
+        Err(refusal) => {
+            drop(command);
+            drop(reply);
+            Err(refusal)
+        }
+    }
+}
+
+// The reply as a unit tells it, and room for the unit.
+fn told_with_room(journal: &mut Journal, reply: &Reply) -> Result<Reply, Refusal>
+    ensures told { IfOk result (λ told. told ≡ reply.now) }
+    ensures room { OnOk result (0 < journal.new.spare) }
+    ensures units { journal.new.units ≡ journal.old.units }
+    ensures cause { IfErr result (λ refusal. HasNoRoom refusal 1 (length journal.old.units)) }
+{
     journal.reserve(1)?;
-    let receipt = journal.push_reserved(Unit::Lone(job, command, told));
-    Ok((reply, receipt))
+    let told = reply.clone()?;
+    Ok(told)
 }
 
 fn set(
@@ -107,14 +130,40 @@ fn set(
     ensures refused { OnErr result ((journal.new.units ≡ journal.old.units) × (store.new.map ≡ store.old.map)) }
     ensures cause { IfErr result (λ refusal. HasNoRoom refusal 1 (length journal.old.units)) }
 {
-    let key = Key::of(alloc, &reference)?;
-    let kept = value.clone()?;
-    store.reserve(1)?;
+    match node_with_room(alloc, store, journal, &reference, &value) {
+        Ok((key, kept)) => {
+            store.set_reserved(key, kept);
+            let unit = Unit::Lone(job, Command::Set(reference, value), Reply::Done);
+            let receipt = journal.push_reserved(unit);
+            Ok((Reply::Done, receipt))
+        }
+        Err(refusal) => {
+            drop(reference);
+            drop(value);
+            Err(refusal)
+        }
+    }
+}
+
+// The node that the store is to keep, and room for it and for its unit.
+fn node_with_room(
+    alloc: Global,
+    store: &mut Store,
+    journal: &mut Journal,
+    reference: &Ref,
+    value: &Text,
+) -> Result<(Key, Text), Refusal>
+    ensures node { IfOk result (λ node. (node.0 ≡ reference.now) × (node.1 ≡ value.now)) }
+    ensures room { OnOk result ((0 < store.new.spare) × (0 < journal.new.spare)) }
+    ensures map { store.new.map ≡ store.old.map }
+    ensures units { journal.new.units ≡ journal.old.units }
+    ensures cause { IfErr result (λ refusal. HasNoRoom refusal 1 (length journal.old.units)) }
+{
     journal.reserve(1)?;
-    store.set_reserved(key, kept);
-    let unit = Unit::Lone(job, Command::Set(reference, value), Reply::Done);
-    let receipt = journal.push_reserved(unit);
-    Ok((Reply::Done, receipt))
+    store.reserve(1)?;
+    let key = Key::of(alloc, reference)?;
+    let kept = value.clone()?;
+    Ok((key, kept))
 }
 
 fn kill(
@@ -131,12 +180,33 @@ fn kill(
     ensures refused { OnErr result ((journal.new.units ≡ journal.old.units) × (store.new.map ≡ store.old.map)) }
     ensures cause { IfErr result (λ refusal. HasNoRoom refusal 1 (length journal.old.units)) }
 {
-    let key = Key::of(alloc, &reference)?;
+    match key_with_room(alloc, journal, &reference) {
+        Ok(key) => {
+            store.kill(&key);
+            let unit = Unit::Lone(job, Command::Kill(reference), Reply::Done);
+            let receipt = journal.push_reserved(unit);
+            Ok((Reply::Done, receipt))
+        }
+        Err(refusal) => {
+            drop(reference);
+            Err(refusal)
+        }
+    }
+}
+
+// The key of what is to be killed, and room for the unit.
+fn key_with_room(
+    alloc: Global,
+    journal: &mut Journal,
+    reference: &Ref,
+) -> Result<Key, Refusal>
+    ensures key { IfOk result (λ key. key ≡ reference.now) }
+    ensures room { OnOk result (0 < journal.new.spare) }
+    ensures units { journal.new.units ≡ journal.old.units }
+    ensures cause { IfErr result (λ refusal. HasNoRoom refusal 1 (length journal.old.units)) }
+{
     journal.reserve(1)?;
-    store.kill(&key);
-    let unit = Unit::Lone(job, Command::Kill(reference), Reply::Done);
-    let receipt = journal.push_reserved(unit);
-    Ok((Reply::Done, receipt))
+    Key::of(alloc, reference)
 }
 
 fn merge(
@@ -155,14 +225,42 @@ fn merge(
     ensures refused { OnErr result ((journal.new.units ≡ journal.old.units) × (store.new.map ≡ store.old.map)) }
     ensures cause { IfErr result (λ refusal. IsCause refusal (Command.Merge target source) store.old.map (length journal.old.units)) }
 {
-    let copies = match globals::merge_list(alloc, store, &target, &source) {
-        Ok(copies) => copies,
-        Err(refusal) => return Err(refusal),
-    };
-    store.reserve(copies.len())?;
-    journal.reserve(1)?;
-    store.set_all_reserved(copies);
-    let unit = Unit::Lone(job, Command::Merge(target, source), Reply::Done);
-    let receipt = journal.push_reserved(unit);
-    Ok((Reply::Done, receipt))
+    match copies_with_room(alloc, store, journal, &target, &source) {
+        Ok(copies) => {
+            store.set_all_reserved(copies);
+            let unit = Unit::Lone(job, Command::Merge(target, source), Reply::Done);
+            let receipt = journal.push_reserved(unit);
+            Ok((Reply::Done, receipt))
+        }
+        Err(refusal) => {
+            drop(target);
+            drop(source);
+            Err(refusal)
+        }
+    }
+}
+
+// What MERGE is to set, and room for it and for its unit.
+fn copies_with_room(
+    alloc: Global,
+    store: &mut Store,
+    journal: &mut Journal,
+    target: &Ref,
+    source: &Ref,
+) -> Result<Vec<(Key, Text)>, Refusal>
+    ensures copies { IfOk result (λ copies. copies.items ≡ merged target.now source.now store.old.map) }
+    ensures accepted { OnOk result (data_refusal (Command.Merge target.now source.now) store.old.map ≡ None) }
+    ensures room { IfOk result (λ copies. (vec_len copies ≤ store.new.spare) × (0 < journal.new.spare)) }
+    ensures map { store.new.map ≡ store.old.map }
+    ensures units { journal.new.units ≡ journal.old.units }
+    ensures cause { IfErr result (λ refusal. IsCause refusal (Command.Merge target.now source.now) store.old.map (length journal.old.units)) }
+{
+    match globals::merge_list(alloc, store, target, source) {
+        Ok(copies) => {
+            store.reserve(copies.len())?;
+            journal.reserve(1)?;
+            Ok(copies)
+        }
+        Err(refusal) => Err(refusal),
+    }
 }
