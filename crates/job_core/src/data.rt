@@ -195,11 +195,7 @@ fn kill(
 }
 
 // The key of what is to be killed, and room for the unit.
-fn key_with_room(
-    alloc: Global,
-    journal: &mut Journal,
-    reference: &Ref,
-) -> Result<Key, Refusal>
+fn key_with_room(alloc: Global, journal: &mut Journal, reference: &Ref) -> Result<Key, Refusal>
     ensures key { IfOk result (λ key. key ≡ reference.now) }
     ensures room { OnOk result (0 < journal.new.spare) }
     ensures units { journal.new.units ≡ journal.old.units }

@@ -30,4 +30,4 @@ cut_at_ends [] last all h = last_line last h
 cut_at_ends (l ∷ ls) last all h =
     let p = and_parts (has_no_end l) _ all in
     ended_from [] l (text_of_lines ls last) p.0 ∙ ap (λ (rest : List (List ℕ)). kept (strip_last 13 l) ++ rest) (cut_at_ends ls last p.1 h)
-        ∙ sym (append_assoc (kept (strip_last 13 l)) (flat_map (λ (l : List ℕ). kept (strip_last 13 l)) ls) (kept last))
+    ∙ sym (append_assoc (kept (strip_last 13 l)) (flat_map (λ (l : List ℕ). kept (strip_last 13 l)) ls) (kept last))
