@@ -29,8 +29,6 @@ mod laws;
 mod literal;
 mod place;
 mod read;
-#[cfg(test)]
-mod tests;
 
 /// The most bytes that a subscript may have: `limit` of `specs/Number.antt`.
 pub const LONGEST_SUBSCRIPT: usize = 127;

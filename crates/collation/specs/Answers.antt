@@ -1,9 +1,11 @@
 -- What $DATA, $ORDER and $QUERY answer, and what MERGE copies. Source: docs/RULES.md, "Data commands".
-use Rattle.std.specs.Prelude.{ℕ, ◌+◌, Bool, true, false, ◌&&◌, List, [], ◌++◌, map, filter, fold, drop, length, Option, None, Some, unwrap_or, if◌then◌else◌}
+use Rattle.std.specs.Prelude.{ℕ, ◌+◌, Bool, true, false, ◌&&◌, nat_lt, List, [], ◌++◌, map, filter, fold, drop, length, Option, None, Some, unwrap_or, if◌then◌else◌}
 use Rattle.std.specs.Ordering.{is_lt}
 use Rattle.std.specs.Option.{option_map, option_and_then}
 use Rattle.std.specs.List.{list_any}
 use Rattle.std.specs.FinMap as finmap
+use Rattle.collation.specs.declared.direction.Direction.{Direction}
+use Rattle.collation.specs.declared.direction.Direction.TheVariants.{Forward, Backward}
 use Rattle.collation.specs.Reference.{Reference, Spot}
 use Rattle.collation.specs.Order.{subscript_cmp}
 use Rattle.collation.specs.Database.{Database, is_under}
@@ -56,3 +58,11 @@ merged a b m = map (λ e. (moved a b e.0, e.1)) (subtree_of b m)
 -- the database with these values set, in turn
 abbrev pub set_all : List (Reference × List ℕ) → Database → Database
 set_all es m = fold (λ (n : Database) (e : Reference × List ℕ). finmap.insert n e.0 e.1) m es
+
+-- some copy would have more than 31 subscripts
+abbrev pub is_too_deep : Reference → Reference → Database → Bool
+is_too_deep a b m = list_any (λ e. nat_lt 31 (length e.0.subscripts)) (merged a b m)
+
+abbrev pub is_forward : Direction → Bool
+is_forward Forward = true
+is_forward Backward = false

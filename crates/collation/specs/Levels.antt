@@ -1,5 +1,5 @@
 -- Which references stand below one, and which stand before a cut.
-use Rattle.std.specs.Prelude.{ℕ, Bool, true, false, not, ◌&&◌, ◌||◌, nat_eq, List, [], ◌∷◌, Option, None, Some, is_some, if◌then◌else◌}
+use Rattle.std.specs.Prelude.{ℕ, Bool, true, false, not, ◌&&◌, ◌||◌, nat_eq, List, [], ◌∷◌, ◌++◌, Option, None, Some, is_some, if◌then◌else◌}
 use Rattle.std.specs.Cmp.Lexicographic.{pointwise}
 use Rattle.std.specs.Ordering.{is_lt}
 use Rattle.collation.specs.Reference.{Reference, Spot}
@@ -54,3 +54,15 @@ is_after whole r x = if whole then is_past r x else is_lt (ref_cmp r x)
 -- x stands before r, or (whole) before the end of all that is under r
 abbrev pub is_before : Bool → Reference → Reference → Bool
 is_before whole r x = if whole then (is_under r x || is_lt (ref_cmp x r)) else is_lt (ref_cmp x r)
+
+-- one of two references is a proper descendant of the other
+abbrev pub overlap : Reference → Reference → Bool
+overlap a b = is_below a b || is_below b a
+
+-- a place that names a level: it has a subscript, if an empty one
+abbrev pub has_level : Spot → Bool
+has_level p = p.is_open || not (is_nil p.reference.subscripts)
+
+-- the reference one level below r
+abbrev pub below : Reference → List ℕ → Reference
+below r s = record { name = r.name; subscripts = r.subscripts ++ s ∷ [] }

@@ -7,4 +7,10 @@ pub mod Database
 pub mod Nearest
 pub mod Levels
 pub mod Answers
-pub mod Data
+pub mod Locks
+pub mod LockLaws
+pub mod EntryLaws
+pub mod CountingLaws
+pub mod BlockingLaws
+pub mod ResourceLaws
+pub mod ZeroLaws

@@ -10,3 +10,8 @@ pub record Reference : Type 0 where
 pub record Spot : Type 0 where
   pub reference : Reference
   pub is_open : Bool
+
+-- what a lock name stands for: named like a reference, with the caret or without
+pub record Resource : Type 0 where
+  pub has_caret : Bool
+  pub reference : Reference

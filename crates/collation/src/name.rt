@@ -37,7 +37,8 @@ fn are_letters_or_digits(bytes: &[u8]) -> bool
     bytes.iter().all(is_letter_or_digit)
 }
 
-fn is_name(bytes: &[u8]) -> bool
+/// Whether these bytes are a name. Takes any bytes.
+pub fn is_name(bytes: &[u8]) -> bool
     ensures { result ≡ name_ok bytes.now }
 {
     match bytes {

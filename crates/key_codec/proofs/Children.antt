@@ -1,5 +1,5 @@
 -- Where one key goes on from another, and with which subscript.
-use Rattle.std.proofs.Common.{◌≡◌, ◌≢◌, ℕ, ◌+◌, ◌-◌, ◌≤◌, Bool, List, [], ◌∷◌, ◌++◌, true, false, refl, ap, sym, subst, ◌∙◌, Option, Some, None, cond, Bor, length, take, drop, arith, zero, suc}
+use Rattle.std.proofs.Common.{◌≡◌, ◌≢◌, ℕ, append-nil, ◌+◌, ◌-◌, ◌≤◌, Bool, List, [], ◌∷◌, ◌++◌, true, false, refl, ap, sym, subst, ◌∙◌, Option, Some, None, cond, Bor, length, take, drop, arith, zero, suc}
 use Rattle.std.proofs.lemmas.List.{append_cancel_left}
 use Rattle.std.proofs.lemmas.Bool.{and_from}
 use Rattle.std.proofs.lemmas.Bool.Decides.{nat_tests, Decides-eqb}
@@ -15,7 +15,7 @@ use Rattle.std.specs.Cmp.Lexicographic.{pointwise, bytes_decides}
 use Rattle.collation.specs.Reference.{Reference}
 use Rattle.collation.specs.Database.{begins_with, is_under}
 use Rattle.collation.specs.Levels.{child, child_of, front}
-use Rattle.key_codec.specs.Key.{IsReference, key_of, short_form, subscripts_key}
+use Rattle.key_codec.specs.Key.{IsReference, IsSubscript, key_of, short_form, subscript_key, subscripts_key}
 use Rattle.key_codec.specs.Form.{short_form_is}
 use Rattle.key_codec.specs.Reading.{BeginsWith, BeginsWithNone}
 use Rattle.key_codec.specs.KeyLaws.{AreSubscripts, are_subscripts, no_fault, not_over, not_too_many, fits_short, begins_under, has_tag, key_of-append, one_subscript, under_begins}
@@ -23,11 +23,7 @@ use Rattle.key_codec.specs.BoundLaws.{equal_keys}
 use Rattle.key_codec.specs.Back.{reference_of}
 use Rattle.key_codec.specs.BackLaws.{key_again, is_reference_again, reference_of_key}
 use Rattle.key_codec.specs.Kept.{Keeps}
-
--- the first of these
-abbrev pub first : List (List ℕ) → Option (List ℕ)
-first [] = None
-first (s ∷ ss) = Some s
+use Rattle.key_codec.specs.Shown.{first}
 
 -- the second list is the first and more behind it
 pub record HasMore (rs xs : List (List ℕ)) : Type 0 where
@@ -54,6 +50,7 @@ behind_some (r ∷ rs) more a = behind_some rs more a.1
 
 -- the bytes behind a key that begins another
 pub record Behind (r x : Reference) (rest : List ℕ) : Type 0 where
+  pub name : r.name ≡ x.name
   pub more : List (List ℕ)
   pub bounds : AreSubscripts short_form more
   pub bytes : rest ≡ subscripts_key short_form more
@@ -69,6 +66,7 @@ behind r x rest a b e =
     let fits = fits_short x b in
     let whole : key_of x ≡ key_of r ++ subscripts_key short_form on.more = (λ i. key_of (record { name = names i; subscripts = on.all i })) ∙ key_of-append r on.more in
     record {
+      name = sym names;
       more = on.more;
       bounds = behind_some r.subscripts on.more (subst (AreSubscripts short_form) on.all fits.subscripts);
       bytes = append_cancel_left (key_of r) rest (subscripts_key short_form on.more) (sym e ∙ whole);
@@ -199,3 +197,19 @@ above_is r name subscripts n is s f = record {
   same = λ i. record { name = n i; subscripts = s i };
   form = record { name = is; subscripts = ap reference_fault (sym s) ∙ f };
 }
+
+-- ---- one level below
+
+last_is : (xs : List (List ℕ)) (t : List ℕ) → AreSubscripts short_form (xs ++ t ∷ []) → IsSubscript short_form t
+last_is [] t a = a.0
+last_is (x ∷ xs) t a = last_is xs t a.1
+
+pub last_fits : (r : Reference) (t : List ℕ) → IsReference (record { name = r.name; subscripts = r.subscripts ++ t ∷ [] }) → IsSubscript short_form t
+last_fits r t is = let fits = fits_short (record { name = r.name; subscripts = r.subscripts ++ t ∷ [] }) is in last_is r.subscripts t fits.subscripts
+
+pub below_key_is : (r : Reference) (t level bytes : List ℕ) → level ≡ key_of r → bytes ≡ level ++ subscript_key short_form t → bytes ≡ key_of (record { name = r.name; subscripts = r.subscripts ++ t ∷ [] })
+below_key_is r t level bytes l e =
+    e ∙ (λ i. l i ++ sym (append-nil (subscript_key short_form t)) i) ∙ sym (key_of-append r (t ∷ []))
+
+pub root_is : (r : Reference) → is_name r.name ≡ true → IsReference (record { name = r.name; subscripts = [] })
+root_is r is = record { name = is; subscripts = refl }

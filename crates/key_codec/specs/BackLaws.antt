@@ -20,14 +20,14 @@ use Rattle.key_codec.specs.KeyLaws.{has_tag, AreSubscripts, fits_short, name_abo
 use Rattle.key_codec.specs.Back.{before_end, behind_end, unescaped, place_from, number_from, first_number, first_of, subscripts_up_to, reference_of}
 
 -- the first end byte parts the bytes
-front_back : (end : ℕ) (xs u : List ℕ) → list_all (λ b. not (nat_eq b end)) xs ≡ true → before_end end (xs ++ end ∷ u) ≡ xs
+pub front_back : (end : ℕ) (xs u : List ℕ) → list_all (λ b. not (nat_eq b end)) xs ≡ true → before_end end (xs ++ end ∷ u) ≡ xs
 front_back end [] u e = let same : (end == end) ≡ true = grind (arith, nat_tests) in rw same refl
 front_back end (x ∷ xs) u e =
     let no : not (nat_eq x end) ≡ true = first_so (not (nat_eq x end)) _ e in
     let other : (x == end) ≡ false = grind (arith, nat_tests) in
     rw other (ap (λ t. x ∷ t) (front_back end xs u (second_so (not (nat_eq x end)) _ e)))
 
-rest_back : (end : ℕ) (xs u : List ℕ) → list_all (λ b. not (nat_eq b end)) xs ≡ true → behind_end end (xs ++ end ∷ u) ≡ u
+pub rest_back : (end : ℕ) (xs u : List ℕ) → list_all (λ b. not (nat_eq b end)) xs ≡ true → behind_end end (xs ++ end ∷ u) ≡ u
 rest_back end [] u e = let same : (end == end) ≡ true = grind (arith, nat_tests) in rw same refl
 rest_back end (x ∷ xs) u e =
     let no : not (nat_eq x end) ≡ true = first_so (not (nat_eq x end)) _ e in

@@ -12,3 +12,7 @@ pub mod Reading
 pub mod Back
 pub mod BackLaws
 pub mod Kept
+pub mod Held
+pub mod Shown
+pub mod Draft
+pub mod DraftLaws

@@ -1,31 +1,34 @@
 //! Keys: references that are kept as their key bytes.
-ghost use Rattle.std.specs.Prelude.{◌≡◌, None, ◌++◌, ◌≢◌, ◌≤◌, ◌⊎◌, List, ℕ, IfErr, IfNone, IfOk, IfSome, OnOk, MatchResult, false, true, length, nat_lt};
+ghost use Rattle.std.specs.Prelude.{◌≡◌, None, [], ◌∷◌, ◌++◌, ◌≢◌, ◌≤◌, ◌⊎◌, List, ℕ, IfErr, IfNone, IfOk, IfSome, OnOk, MatchResult, false, true, length, nat_lt};
 ghost use Rattle.collation.specs.Reference.{Reference};
 ghost use Rattle.collation.specs.Faults.{reference_fault};
+ghost use Rattle.collation.specs.Name.{is_name};
 ghost use Rattle.collation.specs.Database.{is_under as is_under_spec};
 ghost use Rattle.collation.specs.Answers.{moved as moved_spec};
 ghost use Rattle.collation.specs.Levels.{child_of, front as front_spec};
+ghost use Rattle.key_codec.specs.Back.{reference_of};
+ghost use Rattle.key_codec.specs.Kept.{Keeps};
 ghost use Rattle.key_codec.specs.Key as spec;
 ghost use Rattle.key_codec.specs.Key.{IsReference};
 
 use crate::END;
+use crate::bytes::KeyBytes;
 use crate::count::count_subscripts;
-use crate::read::{decode, split_at_end};
-use crate::read_subscript::read_subscript;
-use crate::write::{write_key, write_parts};
+use crate::read::{read_reference, split_at_end};
+use crate::shown::{KeySubscripts, first_child, subscripts_of};
+use crate::write::{push_subscript, write_key};
 use collation::{MOST_SUBSCRIPTS, Ref, Text};
 use refusal::Refusal;
 use std::alloc::{AllocError, Global};
 use std::cmp::Ordering;
 use std::marker::Model;
 
-/// A reference that is kept as its key bytes, in one allocation. Its size is reckoned from the texts of the
-/// subscripts, so it may be some bytes larger than the key.
+/// A reference that is kept as its key bytes. A `Key` takes 40 bytes, and memory only where its bytes are over 38.
 ///
 /// Contracts see the reference. Keys compare by their bytes alone, and that is the order of references.
 #[derive(Debug, Drop)]
 pub struct Key {
-    bytes: Vec<u8>,
+    bytes: KeyBytes,
 }
 
 impl Model for Key {
@@ -35,53 +38,50 @@ impl Model for Key {
 
     ghost Value = { Reference };
 
-    ghost view = { λ k. reference_of k.bytes.items };
+    ghost view = { λ k. reference_of k.bytes };
 
-    ghost invariant = { λ k. Keeps k.bytes.items (reference_of k.bytes.items) };
-}
-
-// All but the last.
-fn front(subscripts: &[Text]) -> &[Text]
-    requires some { 1 ≤ length subscripts.now }
-    requires form { reference_fault subscripts.now ≡ None }
-    ensures front { result.now ≡ front_spec subscripts.now }
-    ensures form { reference_fault result.now ≡ None }
-{
-    &subscripts[..subscripts.len() - 1]
-}
-
-// The one, and the other behind it, in one allocation of their size.
-fn joined(alloc: Global, first: &[u8], second: &[u8]) -> Result<Vec<u8>, AllocError>
-    ensures { IfOk result (λ bytes. bytes.items ≡ first.now ++ second.now) }
-{
-    let mut bytes = Vec::with_capacity(alloc, first.len().saturating_add(second.len()))?;
-    bytes.extend_from_slice(first)?;
-    bytes.extend_from_slice(second)?;
-    Ok(bytes)
+    ghost invariant = { λ k. Keeps k.bytes (reference_of k.bytes) };
 }
 
 impl Key {
-    /// The key of a reference. Takes memory once.
-    ///
-    /// Refusals: `OutOfMemory`.
-    pub fn of(alloc: Global, reference: &Ref) -> Result<Key, Refusal>
-        ensures key { IfOk result (λ key. key ≡ reference.now) }
-        ensures refused { IfErr result (λ refusal. refusal ≡ Refusal.OutOfMemory) }
+    /// The key of a reference.
+    pub fn of(alloc: Global, reference: &Ref) -> Result<Key, AllocError>
+        ensures { IfOk result (λ key. key ≡ reference.now) }
     {
         let bytes = write_key(alloc, reference, 0)?;
+        Ok(Key {
+            bytes: KeyBytes::from_vec(bytes),
+        })
+    }
+
+    /// The key with these bytes, which are known to be a reference's. Takes memory only past 38 bytes.
+    pub fn from_slice(alloc: Global, bytes: &[u8]) -> Result<Key, AllocError>
+        requires { Keeps bytes.now (reference_of bytes.now) }
+        ensures { IfOk result (λ key. key ≡ reference_of bytes.now) }
+    {
+        let bytes = KeyBytes::joined(alloc, bytes, &[])?;
         Ok(Key { bytes })
     }
 
-    /// The key of a reference without its last subscript: one level up. Takes memory once.
-    ///
-    /// Refusals: `OutOfMemory`.
-    pub fn above(alloc: Global, reference: &Ref) -> Result<Key, Refusal>
-        requires { 1 ≤ length reference.now.subscripts }
-        ensures key { IfOk result (λ key. key ≡ record { name = reference.now.name; subscripts = front_spec reference.now.subscripts }) }
-        ensures refused { IfErr result (λ refusal. refusal ≡ Refusal.OutOfMemory) }
+    /// The key of the name alone, without subscripts.
+    pub fn root(&self, alloc: Global) -> Result<Key, AllocError>
+        ensures { IfOk result (λ key. key ≡ record { name = self.now.name; subscripts = [] }) }
     {
-        let bytes = write_parts(alloc, reference.name(), front(reference.subscripts()), 0)?;
+        let bytes = KeyBytes::joined(alloc, self.name(), &[END])?;
         Ok(Key { bytes })
+    }
+
+    /// The key one level below this one, by this subscript.
+    pub fn below(&self, alloc: Global, subscript: &Text) -> Result<Key, AllocError>
+        requires { IsReference (record { name = self.now.name; subscripts = self.now.subscripts ++ subscript.now ∷ [] }) }
+        ensures { IfOk result (λ key. key ≡ record { name = self.now.name; subscripts = self.now.subscripts ++ subscript.now ∷ [] }) }
+    {
+        let mut bytes = Vec::new(alloc);
+        bytes.extend_from_slice(self.as_slice())?;
+        push_subscript(&mut bytes, subscript.as_slice())?;
+        Ok(Key {
+            bytes: KeyBytes::from_vec(bytes),
+        })
     }
 
     /// Its bytes: the key of the reference, as `encode` writes it.
@@ -93,13 +93,10 @@ impl Key {
     }
 
     /// The reference, written out.
-    ///
-    /// Refusals: `OutOfMemory`.
-    pub fn reference(&self, alloc: Global) -> Result<Ref, Refusal>
-        ensures reference { IfOk result (λ reference. reference ≡ self.now) }
-        ensures refused { IfErr result (λ refusal. refusal ≡ Refusal.OutOfMemory) }
+    pub fn reference(&self, alloc: Global) -> Result<Ref, AllocError>
+        ensures { IfOk result (λ reference. reference ≡ self.now) }
     {
-        match decode(alloc, self.as_slice())? {
+        match read_reference(alloc, self.as_slice())? {
             Some(reference) => Ok(reference),
             None => unreachable!(),
         }
@@ -107,10 +104,21 @@ impl Key {
 
     /// The bytes of the reference's name.
     pub fn name(&self) -> &[u8]
-        ensures { result.now ≡ self.now.name }
+        ensures value { result.now ≡ self.now.name }
+        ensures form { is_name self.now.name ≡ true }
     {
         match split_at_end(self.as_slice(), END) {
             Some((name, _)) => name,
+            None => unreachable!(),
+        }
+    }
+
+    /// The subscripts, which are lent from the key. Takes no memory.
+    pub fn subscripts(&self) -> KeySubscripts<'_>
+        ensures { result ≡ self.now.subscripts }
+    {
+        match split_at_end(self.as_slice(), END) {
+            Some((_, keys)) => subscripts_of(keys),
             None => unreachable!(),
         }
     }
@@ -144,22 +152,16 @@ impl Key {
     }
 
     /// The subscript under the other reference on the way to this one; none where this isn't a descendant of it.
-    ///
-    /// Refusals: `OutOfMemory`.
-    pub fn child_under(&self, alloc: Global, parent: &Key) -> Result<Option<Text>, Refusal>
-        ensures child { IfOk result (λ child. child ≡ child_of parent.now self.now) }
-        ensures refused { IfErr result (λ refusal. refusal ≡ Refusal.OutOfMemory) }
+    pub fn child_under(&self, alloc: Global, parent: &Key) -> Result<Option<Text>, AllocError>
+        ensures { IfOk result (λ child. child ≡ child_of parent.now self.now) }
     {
         let Some(rest) = self.behind(parent) else {
             return Ok(None);
         };
-        match read_subscript(alloc, rest)? {
-            Some((text, _)) => Ok(Some(text)),
-            None => Ok(None),
-        }
+        first_child(alloc, rest)
     }
 
-    /// The reference that stands to `to` as this one, at or under `from`, stands to `from`. Takes memory once.
+    /// The reference that stands to `to` as this one, at or under `from`, stands to `from`.
     ///
     /// Refusals: `TooManySubscripts` where it would have over 31; `OutOfMemory`.
     pub fn moved(&self, alloc: Global, from: &Key, to: &Key) -> Result<Key, Refusal>
@@ -175,7 +177,18 @@ impl Key {
         if subscripts > MOST_SUBSCRIPTS {
             return Err(Refusal::TooManySubscripts);
         }
-        let bytes = joined(alloc, to.as_slice(), rest)?;
+        let bytes = KeyBytes::joined(alloc, to.as_slice(), rest)?;
+        Ok(Key { bytes })
+    }
+}
+
+impl Clone for Key {
+    ghost use Rattle.std.specs.Prelude.{◌≡◌};
+
+    ghost is_clone = { λ a b. a ≡ b };
+
+    fn clone(&self) -> Result<Key, AllocError> {
+        let bytes = self.bytes.clone()?;
         Ok(Key { bytes })
     }
 }

@@ -3,7 +3,8 @@
 //! Callers see a key as a list of bytes: `key_of` of its reference (`specs/Key.antt`). The name, 00, then each
 //! subscript behind a byte that tells its kind, and each with an end, so that no subscript's bytes begin another's.
 //!
-//! `Key` is a reference that is kept as these bytes; callers see it as the reference.
+//! `Key` is a reference that is kept as these bytes; callers see it as the reference. A `Place` is a key and whether an empty
+//! subscript follows it. A `KeyDraft` is what is read of either so far, whatever faults it has.
 //!
 //! (1) Keys compare as references, a beginning first, and no two references have one key.
 //! (2) A key begins with another exactly where its reference is the other or lies under it.
@@ -20,21 +21,28 @@
 #![tactic(auto)]
 
 pub use bounds::{sibling_after, sibling_before, subtree_prefix};
+pub use draft::KeyDraft;
 pub use key::Key;
 pub use laws::keys_are_as_references;
+pub use place::Place;
 pub use range::KeyRange;
 pub use read::decode;
+pub use shown::{KeySubscript, KeySubscripts};
 pub use write::encode;
 
 mod bounds;
+mod bytes;
 mod count;
+mod draft;
 mod key;
 mod laws;
+mod place;
 mod range;
 mod read;
 mod read_number;
 mod read_subscript;
 mod read_text;
+mod shown;
 mod write;
 
 // The first byte of the key of a number below zero.
@@ -63,6 +71,3 @@ const FRACTION: usize = 126;
 
 // Greater than the first byte of each subscript's key.
 const ABOVE_TAGS: u8 = 6;
-
-#[cfg(test)]
-mod tests;

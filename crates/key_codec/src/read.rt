@@ -11,7 +11,7 @@ use crate::read_subscript::read_subscript;
 use collation::{Name, Ref, Subscripts, Text};
 use refusal::Refusal;
 use smallvec::SmallVec;
-use std::alloc::Global;
+use std::alloc::{AllocError, Global};
 
 /// The reference with these key bytes; none exactly where no reference has them.
 ///
@@ -22,6 +22,16 @@ pub fn decode(alloc: Global, bytes: &[u8]) -> Result<Option<Ref>, Refusal>
     ensures form { IfOk result (λ found. IfSome found IsReference) }
     ensures none { IfOk result (λ found. IfNone found ((x : Reference) → IsReference x → bytes.now ≡ spec.key_of x → ⊥)) }
     ensures refused { IfErr result (λ refusal. refusal ≡ Refusal.OutOfMemory) }
+{
+    let found = read_reference(alloc, bytes)?;
+    Ok(found)
+}
+
+// The reference with these key bytes, where there is one.
+pub(crate) fn read_reference(alloc: Global, bytes: &[u8]) -> Result<Option<Ref>, AllocError>
+    ensures some { IfOk result (λ found. IfSome found (λ r. spec.key_of r ≡ bytes.now)) }
+    ensures form { IfOk result (λ found. IfSome found IsReference) }
+    ensures none { IfOk result (λ found. IfNone found ((x : Reference) → IsReference x → bytes.now ≡ spec.key_of x → ⊥)) }
 {
     let Some((front, rest)) = split_at_end(bytes, END) else {
         return Ok(None);
@@ -56,10 +66,9 @@ pub(crate) fn split_at_end(bytes: &[u8], end: u8) -> Option<(&[u8], &[u8])>
     }
 }
 
-fn read_subscripts(alloc: Global, bytes: &[u8]) -> Result<Option<Subscripts>, Refusal>
+fn read_subscripts(alloc: Global, bytes: &[u8]) -> Result<Option<Subscripts>, AllocError>
     ensures some { IfOk result (λ found. IfSome found (λ ss. AreSubscripts short_form ss.items × (bytes.now ≡ spec.subscripts_key short_form ss.items))) }
     ensures none { IfOk result (λ found. IfNone found ((ss : List (List ℕ)) → AreSubscripts short_form ss → bytes.now ≡ spec.subscripts_key short_form ss → ⊥)) }
-    ensures refused { IfErr result (λ refusal. refusal ≡ Refusal.OutOfMemory) }
 {
     let mut found = SmallVec::new(alloc);
     let mut rest = bytes;

@@ -3,16 +3,13 @@ ghost use Rattle.std.specs.Prelude.{◌≡◌, ◌<◌, ◌≤◌, ◌↔◌, �
 ghost use Rattle.std.specs.List.{list_all};
 ghost use Rattle.canonic_number.specs.Number.{scale};
 ghost use Rattle.canonic_number.specs.Place.{pointed, signed, written_at};
+ghost use Rattle.key_codec.specs.Back as back;
 ghost use Rattle.key_codec.specs.Reading as reading;
 ghost use Rattle.key_codec.specs.Reading.{IsNumberOf};
 
 use crate::FRACTION;
 use canonic_number::{LONGEST_SUBSCRIPT, parts};
-use smallvec::SmallVec;
-use std::alloc::{AllocError, Global};
-
-// A text while it is read: the longest subscript lies in the value itself.
-pub(crate) type Draft = SmallVec<u8, 128>;
+use std::alloc::AllocError;
 
 // The place with this byte.
 pub(crate) fn place_of(negative: bool, byte: u8) -> Option<usize>
@@ -27,6 +24,18 @@ pub(crate) fn place_of(negative: bool, byte: u8) -> Option<usize>
     }
 }
 
+// The same, where a number has this byte.
+pub(crate) fn place_from(negative: bool, byte: u8) -> usize
+    ensures { result ≡ back.place_from negative byte }
+{
+    let byte = byte as usize;
+    if negative {
+        (2 * FRACTION + 1).saturating_sub(byte)
+    } else {
+        byte.saturating_sub(2)
+    }
+}
+
 // The bytes of digits go up to 10.
 pub(crate) fn are_digit_bytes(bytes: &[u8]) -> bool
     ensures { result ≡ list_all (λ b. nat_le b 10) bytes.now }
@@ -34,15 +43,14 @@ pub(crate) fn are_digit_bytes(bytes: &[u8]) -> bool
     bytes.iter().all(|byte| *byte <= 10)
 }
 
-// The digits of these bytes.
-pub(crate) fn read_digits(alloc: Global, negative: bool, bytes: &[u8]) -> Result<Draft, AllocError>
-    ensures { IfOk result (λ digits. digits.items ≡ map (reading.digit_of negative) bytes.now) }
+// Writes the digits of these bytes at the end of `out`.
+pub(crate) fn push_digits(out: &mut Vec<u8>, negative: bool, bytes: &[u8]) -> Result<(), AllocError>
+    ensures { OnOk result (out.new.items ≡ out.old.items ++ map (reading.digit_of negative) bytes.now) }
 {
-    let mut digits = SmallVec::new(alloc);
     for byte in bytes {
-        digits.push(digit_of(negative, *byte))?;
+        out.push(digit_of(negative, *byte))?;
     }
-    Ok(digits)
+    Ok(())
 }
 
 fn digit_of(negative: bool, byte: u8) -> u8
@@ -55,49 +63,66 @@ fn digit_of(negative: bool, byte: u8) -> u8
     }
 }
 
-// The text of the number with this sign, place and digits.
-pub(crate) fn write_number(
-    alloc: Global,
+// Writes the number with this sign, this place and these bytes of its digits at the end of `out`.
+pub(crate) fn push_number(
+    out: &mut Vec<u8>,
     negative: bool,
     place: usize,
-    digits: &[u8],
-) -> Result<Draft, AllocError>
-    ensures { IfOk result (λ text. text.items ≡ signed negative (written_at scale place digits.now)) }
+    bytes: &[u8],
+) -> Result<(), AllocError>
+    ensures { OnOk result (out.new.items ≡ out.old.items ++ signed negative (written_at scale place (map (reading.digit_of negative) bytes.now))) }
 {
-    let mut text = SmallVec::new(alloc);
     if negative {
-        text.push(b'-')?;
-    }
-    if place > FRACTION {
-        push_pointed(&mut text, place - FRACTION, digits)?;
+        out.push(b'-')?;
+        push_magnitude(out, negative, place, bytes)
     } else {
-        text.push(b'.')?;
-        push_zeros(&mut text, FRACTION - place)?;
-        text.extend_from_slice(digits)?;
+        push_magnitude(out, negative, place, bytes)
     }
-    Ok(text)
+}
+
+// The same without a sign.
+fn push_magnitude(
+    out: &mut Vec<u8>,
+    negative: bool,
+    place: usize,
+    bytes: &[u8],
+) -> Result<(), AllocError>
+    ensures { OnOk result (out.new.items ≡ out.old.items ++ written_at scale place (map (reading.digit_of negative) bytes.now)) }
+{
+    if place > FRACTION {
+        push_pointed(out, negative, place - FRACTION, bytes)
+    } else {
+        out.push(b'.')?;
+        push_zeros(out, FRACTION - place)?;
+        push_digits(out, negative, bytes)
+    }
 }
 
 // As many digits before the point, zeros where there are no more, and the rest behind it.
-fn push_pointed(text: &mut Draft, whole: usize, digits: &[u8]) -> Result<(), AllocError>
-    ensures { OnOk result (text.new.items ≡ text.old.items ++ pointed whole digits.now) }
+fn push_pointed(
+    out: &mut Vec<u8>,
+    negative: bool,
+    whole: usize,
+    bytes: &[u8],
+) -> Result<(), AllocError>
+    ensures { OnOk result (out.new.items ≡ out.old.items ++ pointed whole (map (reading.digit_of negative) bytes.now)) }
 {
-    if digits.len() <= whole {
-        text.extend_from_slice(digits)?;
-        push_zeros(text, whole - digits.len())
+    if bytes.len() <= whole {
+        push_digits(out, negative, bytes)?;
+        push_zeros(out, whole - bytes.len())
     } else {
-        let (before, after) = digits.split_at(whole);
-        text.extend_from_slice(before)?;
-        text.push(b'.')?;
-        text.extend_from_slice(after)
+        let (before, after) = bytes.split_at(whole);
+        push_digits(out, negative, before)?;
+        out.push(b'.')?;
+        push_digits(out, negative, after)
     }
 }
 
-fn push_zeros(text: &mut Draft, count: usize) -> Result<(), AllocError>
-    ensures { OnOk result (text.new.items ≡ text.old.items ++ replicate count 48) }
+fn push_zeros(out: &mut Vec<u8>, count: usize) -> Result<(), AllocError>
+    ensures { OnOk result (out.new.items ≡ out.old.items ++ replicate count 48) }
 {
     for _ in 0..count {
-        text.push(b'0')?;
+        out.push(b'0')?;
     }
     Ok(())
 }

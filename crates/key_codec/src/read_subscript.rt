@@ -1,23 +1,26 @@
 //! One subscript of a key: its text, and the bytes behind it.
-ghost use Rattle.std.specs.Prelude.{◌≡◌, ◌↔◌, [], ◌∷◌, List, ℕ, not, nat_eq, true, IfErr, IfOk, IfNone, IfSome, IsTrue};
+ghost use Rattle.std.specs.Prelude.{◌≡◌, ◌↔◌, [], ◌∷◌, List, ℕ, map, not, nat_eq, true, IfOk, IfNone, IfSome, IsTrue};
 ghost use Rattle.std.specs.List.{list_all};
+ghost use Rattle.canonic_number.specs.Number.{scale};
+ghost use Rattle.canonic_number.specs.Place.{signed, written_at};
 ghost use Rattle.key_codec.specs.Reading as reading;
 ghost use Rattle.key_codec.specs.Reading.{BeginsWith, BeginsWithNone, IsNumberKey, IsOtherText};
 
 use crate::read::split_at_end;
-use crate::read_number::{are_digit_bytes, is_number_of, place_of, read_digits, write_number};
+use crate::read_number::{are_digit_bytes, is_number_of, place_of, push_digits, push_number};
 use crate::read_text::unescape;
 use crate::{ABOVE_ZERO, BELOW_ZERO, END, END_ABOVE_ZERO, END_BELOW_ZERO, TEXT, ZERO};
 use canonic_number::{LONGEST_SUBSCRIPT, is_canonic};
 use collation::Text;
-use refusal::Refusal;
-use std::alloc::Global;
+use std::alloc::{AllocError, Global};
 
 // The subscript whose key stands in front, and what follows it.
-pub(crate) fn read_subscript(alloc: Global, bytes: &[u8]) -> Result<Option<(Text, &[u8])>, Refusal>
+pub(crate) fn read_subscript(
+    alloc: Global,
+    bytes: &[u8],
+) -> Result<Option<(Text, &[u8])>, AllocError>
     ensures some { IfOk result (λ found. IfSome found (λ p. BeginsWith bytes.now p.0 p.1.now)) }
     ensures none { IfOk result (λ found. IfNone found (BeginsWithNone bytes.now)) }
-    ensures refused { IfErr result (λ refusal. refusal ≡ Refusal.OutOfMemory) }
 {
     let [tag, behind @ ..] = bytes else {
         return Ok(None);
@@ -59,10 +62,9 @@ fn read_number(
     alloc: Global,
     negative: bool,
     bytes: &[u8],
-) -> Result<Option<(Text, &[u8])>, Refusal>
+) -> Result<Option<(Text, &[u8])>, AllocError>
     ensures some { IfOk result (λ found. IfSome found (λ p. BeginsWith (reading.tag_of negative ∷ bytes.now) p.0 p.1.now)) }
     ensures none { IfOk result (λ found. IfNone found (BeginsWithNone (reading.tag_of negative ∷ bytes.now))) }
-    ensures refused { IfErr result (λ refusal. refusal ≡ Refusal.OutOfMemory) }
 {
     let Some((byte, behind)) = take_byte(bytes) else {
         return Ok(None);
@@ -76,12 +78,37 @@ fn read_number(
     Ok(Some((text, rest)))
 }
 
+fn digits_of(alloc: Global, negative: bool, bytes: &[u8]) -> Result<Vec<u8>, AllocError>
+    ensures { IfOk result (λ digits. digits.items ≡ map (reading.digit_of negative) bytes.now) }
+{
+    let mut digits = Vec::new(alloc);
+    push_digits(&mut digits, negative, bytes)?;
+    Ok(digits)
+}
+
+fn number_text(
+    alloc: Global,
+    negative: bool,
+    place: usize,
+    bytes: &[u8],
+) -> Result<Vec<u8>, AllocError>
+    ensures { IfOk result (λ text. text.items ≡ signed negative (written_at scale place (map (reading.digit_of negative) bytes.now))) }
+{
+    let mut text = Vec::new(alloc);
+    push_number(&mut text, negative, place, bytes)?;
+    Ok(text)
+}
+
 // The number with this byte of its place and these bytes of its digits.
-fn number_of(alloc: Global, negative: bool, byte: u8, front: &[u8]) -> Result<Option<Text>, Refusal>
+fn number_of(
+    alloc: Global,
+    negative: bool,
+    byte: u8,
+    front: &[u8],
+) -> Result<Option<Text>, AllocError>
     requires { list_all (λ b. not (nat_eq b (reading.end_of negative))) front.now ≡ true }
     ensures some { IfOk result (λ found. IfSome found (IsNumberKey negative byte front.now)) }
     ensures none { IfOk result (λ found. IfNone found ((s : List ℕ) → IsNumberKey negative byte front.now s → ⊥)) }
-    ensures refused { IfErr result (λ refusal. refusal ≡ Refusal.OutOfMemory) }
 {
     let Some(place) = place_of(negative, byte) else {
         return Ok(None);
@@ -89,8 +116,8 @@ fn number_of(alloc: Global, negative: bool, byte: u8, front: &[u8]) -> Result<Op
     if !are_digit_bytes(front) {
         return Ok(None);
     }
-    let digits = read_digits(alloc, negative, front)?;
-    let draft = write_number(alloc, negative, place, digits.as_slice())?;
+    let digits = digits_of(alloc, negative, front)?;
+    let draft = number_text(alloc, negative, place, front)?;
     if !is_number_of(draft.as_slice(), negative, place, digits.as_slice()) {
         return Ok(None);
     }
@@ -99,10 +126,9 @@ fn number_of(alloc: Global, negative: bool, byte: u8, front: &[u8]) -> Result<Op
 }
 
 // The text whose key stands in front, less its first byte.
-fn read_text(alloc: Global, bytes: &[u8]) -> Result<Option<(Text, &[u8])>, Refusal>
+fn read_text(alloc: Global, bytes: &[u8]) -> Result<Option<(Text, &[u8])>, AllocError>
     ensures some { IfOk result (λ found. IfSome found (λ p. BeginsWith (5 ∷ bytes.now) p.0 p.1.now)) }
     ensures none { IfOk result (λ found. IfNone found (BeginsWithNone (5 ∷ bytes.now))) }
-    ensures refused { IfErr result (λ refusal. refusal ≡ Refusal.OutOfMemory) }
 {
     let Some((front, rest)) = split_at_end(bytes, END) else {
         return Ok(None);

@@ -16,7 +16,7 @@ use std::alloc::{AllocError, Global};
 /// The key of a reference, by which references compare as by themselves.
 ///
 /// It begins with another reference's key exactly where this one is that reference or lies under it.
-/// Refusals: `OutOfMemory`. Takes memory once, for the key.
+/// Refusals: `OutOfMemory`.
 pub fn encode(alloc: Global, reference: &Ref) -> Result<Vec<u8>, Refusal>
     ensures key { IfOk result (λ key. key.items ≡ spec.key_of reference.now) }
     ensures order { IfOk result (λ key. KeepsOrder reference.now key.items) }
@@ -28,24 +28,22 @@ pub fn encode(alloc: Global, reference: &Ref) -> Result<Vec<u8>, Refusal>
 }
 
 // The key, with room for as many bytes more.
-pub(crate) fn write_key(alloc: Global, reference: &Ref, more: usize) -> Result<Vec<u8>, Refusal>
+pub(crate) fn write_key(alloc: Global, reference: &Ref, more: usize) -> Result<Vec<u8>, AllocError>
     ensures key { IfOk result (λ key. key.items ≡ spec.key_of reference.now) }
     ensures form { OnOk result (IsReference reference.now) }
-    ensures refused { IfErr result (λ refusal. refusal ≡ Refusal.OutOfMemory) }
 {
     write_parts(alloc, reference.name(), reference.subscripts(), more)
 }
 
 // The key of this name and these subscripts, with room for as many bytes more.
-pub(crate) fn write_parts(
+fn write_parts(
     alloc: Global,
     name: &[u8],
     subscripts: &[Text],
     more: usize,
-) -> Result<Vec<u8>, Refusal>
+) -> Result<Vec<u8>, AllocError>
     requires { reference_fault subscripts.now ≡ None }
     ensures key { IfOk result (λ key. key.items ≡ spec.key_of (record { name = name.now; subscripts = subscripts.now })) }
-    ensures refused { IfErr result (λ refusal. refusal ≡ Refusal.OutOfMemory) }
 {
     let size = most_key_bytes(name, subscripts).saturating_add(more);
     let mut key = Vec::with_capacity(alloc, size)?;
@@ -80,7 +78,7 @@ fn push_subscripts(key: &mut Vec<u8>, subscripts: &[Text]) -> Result<(), AllocEr
     Ok(())
 }
 
-fn push_subscript(key: &mut Vec<u8>, subscript: &[u8]) -> Result<(), AllocError>
+pub(crate) fn push_subscript(key: &mut Vec<u8>, subscript: &[u8]) -> Result<(), AllocError>
     requires { IsSubscript short_form subscript.now }
     ensures { OnOk result (key.new.items ≡ key.old.items ++ spec.subscript_key short_form subscript.now) }
 {

@@ -124,6 +124,3 @@ impl<T: Drop> From<AllocFailed<T>> for Refusal {
         Refusal::OutOfMemory
     }
 }
-
-#[cfg(test)]
-mod tests;

@@ -3,4 +3,4 @@ use Rattle.key_codec.proofs.read_number.push_zeros.Given as goal
 
 -- with the zeros that are left it will be the text
 abbrev pub invariant-loop : goal.invariant-loop
-invariant-loop l = l.text.items ++ replicate (l.count - l.counter) 48 ≡ l.initial.text.items ++ replicate l.count 48
+invariant-loop l = l.out.items ++ replicate (l.count - l.counter) 48 ≡ l.initial.out.items ++ replicate l.count 48

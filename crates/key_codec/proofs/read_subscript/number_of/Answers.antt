@@ -21,20 +21,19 @@ returns-then-not-are_digit_bytes-clause-none c = λ s is.
 
 pub returns-then-not-is_number_of-clause-none : goal.returns-then-not-is_number_of-clause-none
 returns-then-not-is_number_of-clause-none c = λ s is.
-    let same : c.as_slice.result.now ≡ c.as_slice-3.result.now = c.as_slice.ensures ∙ sym c.as_slice-3.ensures in
-    let digits : c.as_slice-3.result.now ≡ map (digit_of c.args.negative) c.args.front.now = c.as_slice-3.ensures ∙ c.in_ok-digits.ensures in
-    let text : c.as_slice-2.result.now ≡ signed c.args.negative (written_at scale c.in-Some.place c.as_slice-3.result.now) =
-    c.as_slice-2.ensures ∙ c.in_ok-draft.ensures ∙ ap (λ ds. signed c.args.negative (written_at scale c.in-Some.place ds)) same in
-    let number : IsNumberOf c.as_slice-2.result.now c.args.negative c.in-Some.place c.as_slice-3.result.now =
-    read_back c.args.negative c.args.byte c.in-Some.place c.args.front.now c.as_slice-3.result.now c.as_slice-2.result.now s c.requires is c.in-Some.ensures.some.0 c.in-Some.ensures.some.1 digits text in
+    let digits : c.as_slice-2.result.now ≡ map (digit_of c.args.negative) c.args.front.now = c.as_slice-2.ensures.value ∙ c.in_ok-digits.ensures in
+    let text : c.as_slice.result.now ≡ signed c.args.negative (written_at scale c.in-Some.place c.as_slice-2.result.now) =
+    c.as_slice.ensures.value ∙ c.in_ok-draft.ensures ∙ ap (λ ds. signed c.args.negative (written_at scale c.in-Some.place ds)) (sym digits) in
+    let number : IsNumberOf c.as_slice.result.now c.args.negative c.in-Some.place c.as_slice-2.result.now =
+    read_back c.args.negative c.args.byte c.in-Some.place c.args.front.now c.as_slice-2.result.now c.as_slice.result.now s c.requires is c.in-Some.ensures.some.0 c.in-Some.ensures.some.1 digits text in
     let clash : true ≡ false = sym (c.is_number_of.ensures.1 number) ∙ c.if-not-is_number_of.true in
     cc
 
 pub returns-clause-some : goal.returns-clause-some
 returns-clause-some c =
-    let digits : c.as_slice-3.result.now ≡ map (digit_of c.args.negative) c.args.front.now = c.as_slice-3.ensures ∙ c.in_ok-digits.ensures in
+    let digits : c.as_slice-2.result.now ≡ map (digit_of c.args.negative) c.args.front.now = c.as_slice-2.ensures.value ∙ c.in_ok-digits.ensures in
     let low : list_all (λ b. nat_le b 10) c.args.front.now ≡ true = sym c.are_digit_bytes.ensures ∙ c.if-not-are_digit_bytes.false in
-    let number : IsNumberOf c.as_slice-2.result.now c.args.negative c.in-Some.place c.as_slice-3.result.now = c.is_number_of.ensures.0 c.if-not-is_number_of.false in
-    let same : c.as_slice-2.result.now ≡ c.in_ok-text.text = c.as_slice-2.ensures ∙ sym c.as_slice-4.ensures ∙ sym c.in_ok-text.ensures.ok in
+    let number : IsNumberOf c.as_slice.result.now c.args.negative c.in-Some.place c.as_slice-2.result.now = c.is_number_of.ensures.0 c.if-not-is_number_of.false in
+    let same : c.as_slice.result.now ≡ c.in_ok-text.text = c.as_slice.ensures.value ∙ sym c.as_slice-3.ensures.value ∙ sym c.in_ok-text.ensures.ok in
     subst (IsNumberKey c.args.negative c.args.byte c.args.front.now) same
-    (found_number c.args.negative c.args.byte c.in-Some.place c.args.front.now c.as_slice-3.result.now c.as_slice-2.result.now number c.in-Some.ensures.some.0 low digits)
+    (found_number c.args.negative c.args.byte c.in-Some.place c.args.front.now c.as_slice-2.result.now c.as_slice.result.now number c.in-Some.ensures.some.0 low digits)

@@ -19,7 +19,7 @@ pub returns-then-not-is_text-clause-none : goal.returns-then-not-is_text-clause-
 returns-then-not-is_text-clause-none c = λ s u bounds h.
     let parted = c.in-Some.ensures.some in
     let found = rw c.in-Some-2.is at c.in_ok-draft.ensures.some in
-    let text : escaped c.as_slice.result.now ≡ c.in-Some.front.now = ap escaped c.as_slice.ensures ∙ found in
+    let text : escaped c.as_slice.result.now ≡ c.in-Some.front.now = ap escaped c.as_slice.ensures.value ∙ found in
     let other : IsOtherText c.as_slice.result.now = is_other c.args.bytes.now c.in-Some.front.now c.in-Some.rest.now c.as_slice.result.now s u bounds h parted.0 parted.1 text in
     let clash : true ≡ false = sym (c.is_text.ensures.1 other) ∙ c.if-not-is_text.true in
     cc

@@ -15,10 +15,10 @@ returns-then-subscripts-gt-MOST_SUBSCRIPTS c =
 
 pub invariant_of-result : goal.invariant_of-result
 invariant_of-result c =
-    let is : IsMoved c.args.to.now c.args.from.now c.args.self.now c.in_ok-bytes.bytes.items = is_moved c.args.to.now c.args.from.now c.args.self.now c.as_slice.result.now c.in-Some.rest.now c.in_ok-bytes.bytes.items c.depth.result c.count_subscripts.result c.as_slice.ensures.form c.behind.ensures.root_form c.behind.ensures.form c.in-Some.ensures.some c.as_slice.ensures.value c.in_ok-bytes.ensures c.depth.ensures.depth c.count_subscripts.ensures.count c.if-subscripts-gt-MOST_SUBSCRIPTS.false in
+    let is : IsMoved c.args.to.now c.args.from.now c.args.self.now c.in_ok-bytes.bytes = is_moved c.args.to.now c.args.from.now c.args.self.now c.as_slice.result.now c.in-Some.rest.now c.in_ok-bytes.bytes c.depth.result c.count_subscripts.result c.as_slice.ensures.form c.behind.ensures.root_form c.behind.ensures.form c.in-Some.ensures.some c.as_slice.ensures.value c.in_ok-bytes.ensures.bytes c.depth.ensures.depth c.count_subscripts.ensures.count c.if-subscripts-gt-MOST_SUBSCRIPTS.false in
     is.keeps
 
 pub returns : goal.returns
 returns c =
-    let is : IsMoved c.args.to.now c.args.from.now c.args.self.now c.in_ok-bytes.bytes.items = is_moved c.args.to.now c.args.from.now c.args.self.now c.as_slice.result.now c.in-Some.rest.now c.in_ok-bytes.bytes.items c.depth.result c.count_subscripts.result c.as_slice.ensures.form c.behind.ensures.root_form c.behind.ensures.form c.in-Some.ensures.some c.as_slice.ensures.value c.in_ok-bytes.ensures c.depth.ensures.depth c.count_subscripts.ensures.count c.if-subscripts-gt-MOST_SUBSCRIPTS.false in
+    let is : IsMoved c.args.to.now c.args.from.now c.args.self.now c.in_ok-bytes.bytes = is_moved c.args.to.now c.args.from.now c.args.self.now c.as_slice.result.now c.in-Some.rest.now c.in_ok-bytes.bytes c.depth.result c.count_subscripts.result c.as_slice.ensures.form c.behind.ensures.root_form c.behind.ensures.form c.in-Some.ensures.some c.as_slice.ensures.value c.in_ok-bytes.ensures.bytes c.depth.ensures.depth c.count_subscripts.ensures.count c.if-subscripts-gt-MOST_SUBSCRIPTS.false in
     (is.same, is.few)

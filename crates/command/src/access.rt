@@ -1,0 +1,42 @@
+//! Data commands, and what they are answered.
+use collation::{Direction, Text};
+use key_codec::{Key, Place};
+
+/// A data command. What each means: `data_refusal`, `data_reply` and `data_after` of `specs/Data.antt`.
+#[derive(Debug, Drop, PartialEq, Eq)]
+pub enum DataCommand {
+    /// SET: the reference has the value.
+    Set(Key, Text),
+    /// KILL: the reference and its descendants have no value.
+    Kill(Key),
+    /// MERGE: what is at and under the second is at and under the first too.
+    Merge(Key, Key),
+    /// A command that only looks.
+    Look(Look),
+}
+
+/// A data command that only looks: it leaves the database as it is.
+#[derive(Debug, Drop, PartialEq, Eq)]
+pub enum Look {
+    /// $DATA: whether the reference has a value, and whether descendants have.
+    Data(Key),
+    /// $GET: the value, else the default, else the empty string.
+    Get(Key, Option<Text>),
+    /// $ORDER: the nearest subscript at the level of the place's last one.
+    Order(Place, Direction),
+    /// $QUERY: the nearest node of the same name with a value.
+    Query(Place, Direction),
+}
+
+/// What a data command is answered.
+#[derive(Clone, Debug, Drop, PartialEq, Eq)]
+pub enum Answer {
+    /// It is done.
+    Done,
+    /// A value or a subscript, or the empty string where there is none.
+    Value(Text),
+    /// What $DATA answers.
+    Number(u64),
+    /// A reference that $QUERY found.
+    Found(Key),
+}

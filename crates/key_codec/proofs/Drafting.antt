@@ -1,0 +1,197 @@
+-- A draft with one subscript more.
+use Rattle.std.proofs.Common.{◌≡◌, ℕ, ◌+◌, ◌<◌, ◌≤◌, Bool, true, false, cond, List, [], ◌∷◌, ◌++◌, length, Option, Some, None, Result, Ok, Err, OnOk, IfOk, IfErr, inl, inr, refl, ap, sym, ◌∙◌, arith, length-append, append_assoc}
+use Rattle.std.proofs.lemmas.Bool.Decides.{nat_tests}
+use Rattle.std.specs.Prelude.{◌==◌, nat_lt, MatchResult}
+use Rattle.std.specs.Option.{option_or}
+use Rattle.canonic_number.specs.Number.{limit}
+use Rattle.refusal.specs.declared.Refusal.{Refusal}
+use Rattle.refusal.specs.declared.Refusal.TheVariants.{EmptySubscript, SubscriptTooLong, TooManySubscripts, BadName}
+use Rattle.collation.specs.Reference.{Reference, Spot}
+use Rattle.collation.specs.Name.{is_name}
+use Rattle.collation.specs.Faults.{subscripts_fault, reference_fault, ends_open, closed_part}
+use Rattle.key_codec.specs.Key.{short_form, subscript_key, subscripts_key, key_of, IsReference}
+use Rattle.key_codec.specs.Draft.{IsDraft, longer, place_due, reference_due, place_of, IsDueOrMemory}
+use Rattle.key_codec.specs.DraftLaws.{open_fault, ends_open-more, closed_part-more, closed_part-whole, fault-closed, fault-pushed, fault-opened, AreFaultless, faultless}
+use Rattle.key_codec.specs.declared.draft.KeyDraft.{KeyDraft}
+use Rattle.key_codec.proofs.Reading.{keys-push}
+
+-- what going on leaves
+pub record GoesOn (d e : KeyDraft) : Type 0 where
+  pub few : d.count ≤ 31 → e.count ≡ d.count + 1
+  pub many : 31 < d.count → e.count ≡ d.count
+  pub name : e.is_name ≡ d.is_name
+
+few_more : (d e : KeyDraft) (r : Reference) (s : List ℕ) → IsDraft d r → GoesOn d e → length (r.subscripts ++ s ∷ []) ≤ 31 → e.count ≡ length (r.subscripts ++ s ∷ [])
+few_more d e r s is on h =
+    let all = length-append r.subscripts (s ∷ []) in
+    let before : d.count ≡ length r.subscripts = is.few (omega (arith, h, all)) in
+    on.few (omega (arith, before, h, all)) ∙ omega (arith, before, all)
+
+many_more : (d e : KeyDraft) (r : Reference) (s : List ℕ) → IsDraft d r → GoesOn d e → 31 < length (r.subscripts ++ s ∷ []) → 31 < e.count
+many_more d e r s is on h = at (nat_lt 31 (length r.subscripts)) refl
+  where
+    at : (t : Bool) → nat_lt 31 (length r.subscripts) ≡ t → 31 < e.count
+    at true p =
+        let over : 31 < length r.subscripts = grind (arith, nat_tests) in
+        let before : 31 < d.count = is.many over in
+        omega (arith, before, on.many before)
+    at false p =
+        let under : length r.subscripts ≤ 31 = grind (arith, nat_tests) in
+        let before : d.count ≡ length r.subscripts = is.few under in
+        omega (arith, before, on.few (omega (arith, before, under)), h, length-append r.subscripts (s ∷ []))
+
+-- the bytes, where nothing is at fault so far
+before : (d : KeyDraft) (r : Reference) (s : List ℕ) → IsDraft d r → is_name r.name ≡ true → length (r.subscripts ++ s ∷ []) ≤ 31 → option_or (subscripts_fault (closed_part r.subscripts)) (open_fault (ends_open r.subscripts)) ≡ None →
+    d.bytes.items ≡ r.name ++ 0 ∷ subscripts_key short_form r.subscripts
+before d r s is n h f =
+    let none : AreFaultless (subscripts_fault (closed_part r.subscripts)) (ends_open r.subscripts) = faultless _ _ f in
+    is.bytes n (omega (arith, h, length-append r.subscripts (s ∷ []))) none.fault
+    ∙ ap (λ ss. r.name ++ 0 ∷ subscripts_key short_form ss) (closed_part-whole r.subscripts none.closed)
+
+fault_before : (d : KeyDraft) (r : Reference) → IsDraft d r → option_or d.fault (open_fault d.ends_open) ≡ option_or (subscripts_fault (closed_part r.subscripts)) (open_fault (ends_open r.subscripts))
+fault_before d r is = λ i. option_or (is.fault i) (open_fault (is.open_end i))
+
+or_none : (a : Option Refusal) → option_or a None ≡ a
+or_none None = refl
+or_none (Some x) = refl
+
+-- an empty one
+pub drafted_empty : (d e : KeyDraft) (r : Reference) (s : List ℕ) → (length s == 0) ≡ true → IsDraft d r → GoesOn d e → e.fault ≡ option_or d.fault (open_fault d.ends_open) → e.bytes.items ≡ d.bytes.items → e.ends_open ≡ (length s == 0) → IsDraft e (longer r s)
+drafted_empty d e r s empty is on f b o = record {
+  name = on.name ∙ is.name;
+  few = few_more d e r s is on;
+  many = many_more d e r s is on;
+  open_end = o ∙ sym (ends_open-more r.subscripts s);
+  fault = f ∙ fault_before d r is ∙ sym (fault-opened r.subscripts s empty);
+  bytes = λ n h none. b ∙ before d r s is n h (sym (fault-opened r.subscripts s empty) ∙ none)
+      ∙ ap (λ ss. r.name ++ 0 ∷ subscripts_key short_form ss) (sym (closed_part-more r.subscripts s ∙ ap (λ t. cond t r.subscripts (r.subscripts ++ s ∷ [])) empty));
+}
+
+-- one that is too long
+long_fault : (s : List ℕ) → (length s == 0) ≡ false → limit < length s → subscripts_fault (s ∷ []) ≡ Some SubscriptTooLong
+long_fault s some h = let over : nat_lt limit (length s) ≡ true = grind (arith, nat_tests) in rw (some, over) refl
+
+or_some : (a : Option Refusal) (x : Refusal) → option_or a (Some x) ≡ None → ⊥
+or_some None x e = cc
+or_some (Some y) x e = cc
+
+pub drafted_long : (d e : KeyDraft) (r : Reference) (s : List ℕ) → (length s == 0) ≡ false → limit < length s → IsDraft d r → GoesOn d e → e.fault ≡ option_or (option_or d.fault (open_fault d.ends_open)) (Some SubscriptTooLong) → e.ends_open ≡ (length s == 0) → IsDraft e (longer r s)
+drafted_long d e r s some long is on f o =
+    let due : subscripts_fault (closed_part (r.subscripts ++ s ∷ [])) ≡ option_or (option_or (subscripts_fault (closed_part r.subscripts)) (open_fault (ends_open r.subscripts))) (Some SubscriptTooLong) =
+    fault-pushed r.subscripts s some ∙ ap (option_or (option_or (subscripts_fault (closed_part r.subscripts)) (open_fault (ends_open r.subscripts)))) (long_fault s some long) in
+    record {
+      name = on.name ∙ is.name;
+      few = few_more d e r s is on;
+      many = many_more d e r s is on;
+      open_end = o ∙ sym (ends_open-more r.subscripts s);
+      fault = f ∙ ap (λ t. option_or t (Some SubscriptTooLong)) (fault_before d r is) ∙ sym due;
+      bytes = λ n h none. absurd (or_some _ _ (sym due ∙ none));
+    }
+
+-- any other
+good_fault : (s : List ℕ) → (length s == 0) ≡ false → length s ≤ limit → subscripts_fault (s ∷ []) ≡ None
+good_fault s some h = let within : nat_lt limit (length s) ≡ false = grind (arith, nat_tests) in rw (some, within) refl
+
+pub drafted_good : (d e : KeyDraft) (r : Reference) (s : List ℕ) → (length s == 0) ≡ false → length s ≤ limit → IsDraft d r → GoesOn d e → e.fault ≡ option_or d.fault (open_fault d.ends_open) → e.ends_open ≡ (length s == 0)
+    → (e.is_name ≡ true → e.count ≤ 31 → e.fault ≡ None → e.bytes.items ≡ d.bytes.items ++ subscript_key short_form s) → IsDraft e (longer r s)
+drafted_good d e r s some short is on f o b =
+    let due : subscripts_fault (closed_part (r.subscripts ++ s ∷ [])) ≡ option_or (subscripts_fault (closed_part r.subscripts)) (open_fault (ends_open r.subscripts)) =
+    fault-pushed r.subscripts s some ∙ ap (option_or (option_or (subscripts_fault (closed_part r.subscripts)) (open_fault (ends_open r.subscripts)))) (good_fault s some short) ∙ or_none _ in
+    let whole : closed_part (r.subscripts ++ s ∷ []) ≡ r.subscripts ++ s ∷ [] = closed_part-more r.subscripts s ∙ ap (λ t. cond t r.subscripts (r.subscripts ++ s ∷ [])) some in
+    record {
+      name = on.name ∙ is.name;
+      few = few_more d e r s is on;
+      many = many_more d e r s is on;
+      open_end = o ∙ sym (ends_open-more r.subscripts s);
+      fault = f ∙ fault_before d r is ∙ sym due;
+      bytes = λ n h none.
+          let count : e.count ≡ length (r.subscripts ++ s ∷ []) = few_more d e r s is on h in
+          b (on.name ∙ is.name ∙ n) (omega (arith, count, h)) (f ∙ fault_before d r is ∙ sym due ∙ none)
+          ∙ ap (λ t. t ++ subscript_key short_form s) (before d r s is n h (sym due ∙ none))
+          ∙ append_assoc r.name (0 ∷ subscripts_key short_form r.subscripts) (subscript_key short_form s)
+          ∙ ap (λ t. r.name ++ 0 ∷ t) (sym (keys-push r.subscripts s) ∙ ap (subscripts_key short_form) (sym whole));
+    }
+
+pub on_ok : {T E : Type 0} (r : Result T E) (P Q : Type 0) → (P → Q) → OnOk r P → OnOk r Q
+on_ok (Ok x) P Q f p = f p
+on_ok (Err x) P Q f p = tt
+
+-- what a whole draft is due
+shorter_closed : (ss : List (List ℕ)) → length (closed_part ss) ≤ length ss
+shorter_closed [] = omega arith
+shorter_closed (s ∷ []) = at (length s == 0)
+  where
+    at : (t : Bool) → length (cond t [] (s ∷ [])) ≤ 1
+    at true = omega arith
+    at false = omega arith
+shorter_closed (s ∷ t ∷ ss) = omega (arith, shorter_closed (t ∷ ss))
+
+few_so : (ss : List (List ℕ)) → nat_lt 31 (length ss) ≡ false → nat_lt 31 (length (closed_part ss)) ≡ false
+few_so ss e = let less = shorter_closed ss in let few : length ss ≤ 31 = grind (arith, nat_tests) in let both : length (closed_part ss) ≤ 31 = omega (arith, less, few) in grind (arith, nat_tests)
+
+not_many : (d : KeyDraft) (r : Reference) → IsDraft d r → d.count ≤ 31 → nat_lt 31 (length r.subscripts) ≡ false
+not_many d r is h = at (nat_lt 31 (length r.subscripts)) refl
+  where
+    at : (t : Bool) → nat_lt 31 (length r.subscripts) ≡ t → t ≡ false
+    at true e = let over : 31 < length r.subscripts = grind (arith, nat_tests) in absurd (omega (arith, is.many over))
+    at false e = refl
+
+pub last_due : (d : KeyDraft) (r : Reference) → IsDraft d r → d.is_name ≡ true → d.count ≤ 31 → d.fault ≡ place_due r
+last_due d r is n h =
+    let name : is_name r.name ≡ true = sym is.name ∙ n in
+    let few : nat_lt 31 (length r.subscripts) ≡ false = not_many d r is h in
+    is.fault ∙ sym (rw (name, few, few_so r.subscripts few) refl)
+
+-- a place that isn't refused
+pub record IsGood (r : Reference) : Type 0 where
+  pub name : is_name r.name ≡ true
+  pub few : nat_lt 31 (length r.subscripts) ≡ false
+  pub form : reference_fault (closed_part r.subscripts) ≡ None
+  pub fault : subscripts_fault (closed_part r.subscripts) ≡ None
+
+pub good : (r : Reference) → place_due r ≡ None → IsGood r
+good r e = at (is_name r.name) (nat_lt 31 (length r.subscripts)) refl refl e
+  where
+    at : (n m : Bool) → is_name r.name ≡ n → nat_lt 31 (length r.subscripts) ≡ m → cond n (cond m (Some TooManySubscripts) (reference_fault (closed_part r.subscripts))) (Some BadName) ≡ None → IsGood r
+    at false m p q e = cc
+    at true true p q e = cc
+    at true false p q e = record { name = p; few = q; form = e; fault = sym (ap (λ t. cond t (Some TooManySubscripts) (subscripts_fault (closed_part r.subscripts))) (few_so r.subscripts q)) ∙ e }
+
+pub good_form : (r : Reference) → IsGood r → IsReference (place_of r).reference
+good_form r is = record { name = is.name; subscripts = is.form }
+
+pub good_bytes : (d : KeyDraft) (r : Reference) → IsDraft d r → IsGood r → d.bytes.items ≡ key_of (place_of r).reference
+good_bytes d r is fine = is.bytes fine.name (grind (arith, nat_tests, fine.few)) fine.fault
+
+-- a reference is due what the place is, or has an empty end
+pub reference_too : (r : Reference) (refusal : Refusal) → place_due r ≡ Some refusal → reference_due r ≡ Some refusal
+reference_too r refusal e = at (is_name r.name) (nat_lt 31 (length r.subscripts)) refl e
+  where
+    at : (n m : Bool) → nat_lt 31 (length r.subscripts) ≡ m → cond n (cond m (Some TooManySubscripts) (reference_fault (closed_part r.subscripts))) (Some BadName) ≡ Some refusal → cond n (cond m (Some TooManySubscripts) (subscripts_fault r.subscripts)) (Some BadName) ≡ Some refusal
+    at false m q e = e
+    at true true q e = e
+    at true false q e =
+        let first : subscripts_fault (closed_part r.subscripts) ≡ Some refusal = sym (ap (λ t. cond t (Some TooManySubscripts) (subscripts_fault (closed_part r.subscripts))) (few_so r.subscripts q)) ∙ e in
+        fault-closed r.subscripts ∙ ap (λ f. option_or f (open_fault (ends_open r.subscripts))) first
+
+pub reference_good : (r : Reference) (is_open : Bool) → IsGood r → is_open ≡ ends_open r.subscripts → reference_due r ≡ open_fault is_open
+reference_good r is_open is o =
+    rw (is.name, is.few) (fault-closed r.subscripts ∙ ap (λ f. option_or f (open_fault (ends_open r.subscripts))) is.fault ∙ ap open_fault (sym o))
+
+pub closed_reference : (r : Reference) → ends_open r.subscripts ≡ false → (place_of r).reference ≡ r
+closed_reference r e = λ i. record { name = r.name; subscripts = closed_part-whole r.subscripts e i }
+
+-- a reference of a place
+pub closed_ok : (res : Result Reference Refusal) (p : Spot) (r : Reference) → IsGood r → p ≡ place_of r → MatchResult res (λ key. (p.is_open ≡ false) × (key ≡ p.reference)) (λ refusal. (p.is_open ≡ true) × (refusal ≡ EmptySubscript)) → IfOk res (λ key. (reference_due r ≡ None) × (key ≡ r))
+closed_ok (Ok key) p r is e h =
+    let shut : false ≡ ends_open r.subscripts = sym h.0 ∙ ap (λ (q : Spot). q.is_open) e in
+    (reference_good r false is shut, h.1 ∙ ap (λ (q : Spot). q.reference) e ∙ closed_reference r (sym shut))
+closed_ok (Err refusal) p r is e h = tt
+
+pub closed_err : (res : Result Reference Refusal) (p : Spot) (r : Reference) → IsGood r → p ≡ place_of r → MatchResult res (λ key. (p.is_open ≡ false) × (key ≡ p.reference)) (λ refusal. (p.is_open ≡ true) × (refusal ≡ EmptySubscript)) → IfErr res (λ refusal. IsDueOrMemory refusal (reference_due r))
+closed_err (Ok key) p r is e h = tt
+closed_err (Err refusal) p r is e h = inr (reference_good r true is (sym h.0 ∙ ap (λ (q : Spot). q.is_open) e) ∙ ap Some (sym h.1))
+
+pub due_too : (r : Reference) (refusal : Refusal) → IsDueOrMemory refusal (place_due r) → IsDueOrMemory refusal (reference_due r)
+due_too r refusal (inl m) = inl m
+due_too r refusal (inr e) = inr (reference_too r refusal e)

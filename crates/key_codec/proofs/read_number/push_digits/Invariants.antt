@@ -1,0 +1,7 @@
+use Rattle.std.proofs.Common.{◌≡◌, ◌++◌, drop, map}
+use Rattle.key_codec.specs.Reading.{digit_of}
+use Rattle.key_codec.proofs.read_number.push_digits.Given as goal
+
+-- with the digits of the bytes that are left these will be all
+abbrev pub invariant-loop-byte : goal.invariant-loop-byte
+invariant-loop-byte l = l.out.items ++ map (digit_of l.negative) (drop l.byte-index l.bytes) ≡ l.initial.out.items ++ map (digit_of l.negative) l.bytes

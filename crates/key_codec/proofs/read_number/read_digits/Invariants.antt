@@ -1,7 +1,0 @@
-use Rattle.std.proofs.Common.{◌≡◌, ◌++◌, drop, map}
-use Rattle.key_codec.specs.Reading.{digit_of}
-use Rattle.key_codec.proofs.read_number.read_digits.Given as goal
-
--- with the digits of the bytes that are left these will be all
-abbrev pub invariant-loop-byte : goal.invariant-loop-byte
-invariant-loop-byte l = l.digits.items ++ map (digit_of l.negative) (drop l.byte-index l.bytes) ≡ map (digit_of l.negative) l.bytes

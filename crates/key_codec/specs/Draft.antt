@@ -1,0 +1,43 @@
+-- What a draft of a key keeps of the reference or place that is read.
+use Rattle.std.specs.Prelude.{◌≡◌, ◌⊎◌, ℕ, ◌<◌, ◌≤◌, true, if◌then◌else◌, Option, None, Some, List, [], ◌∷◌, ◌++◌, length}
+use Rattle.refusal.specs.declared.Refusal.{Refusal}
+use Rattle.refusal.specs.declared.Refusal.TheVariants.{BadName, OutOfMemory}
+use Rattle.collation.specs.Reference.{Reference, Spot}
+use Rattle.collation.specs.Name.{is_name}
+use Rattle.collation.specs.Faults.{subscripts_fault, reference_fault, place_fault, ends_open, closed_part}
+use Rattle.key_codec.specs.Key.{short_form, subscripts_key}
+use Rattle.key_codec.specs.declared.draft.KeyDraft.{KeyDraft}
+
+-- the reference with one subscript more
+abbrev pub longer : Reference → List ℕ → Reference
+longer r s = record { name = r.name; subscripts = r.subscripts ++ s ∷ [] }
+
+-- the draft of what is spelled so: an empty last subscript is told apart, and the bytes are there where nothing is at fault
+pub record IsDraft (d : KeyDraft) (r : Reference) : Type 0 where
+  pub name : d.is_name ≡ is_name r.name
+  pub few : length r.subscripts ≤ 31 → d.count ≡ length r.subscripts
+  pub many : 31 < length r.subscripts → 31 < d.count
+  pub open_end : d.ends_open ≡ ends_open r.subscripts
+  pub fault : d.fault ≡ subscripts_fault (closed_part r.subscripts)
+  pub bytes : is_name r.name ≡ true → length r.subscripts ≤ 31 → subscripts_fault (closed_part r.subscripts) ≡ None → d.bytes.items ≡ r.name ++ 0 ∷ subscripts_key short_form (closed_part r.subscripts)
+
+-- why a place is refused, where it is: its name first
+abbrev pub place_due : Reference → Option Refusal
+place_due r = if is_name r.name then place_fault r.subscripts else Some BadName
+
+-- the same of a reference
+abbrev pub reference_due : Reference → Option Refusal
+reference_due r = if is_name r.name then reference_fault r.subscripts else Some BadName
+
+-- the place that is spelled so
+abbrev pub place_of : Reference → Spot
+place_of r = record { reference = record { name = r.name; subscripts = closed_part r.subscripts }; is_open = ends_open r.subscripts }
+
+-- something is spelled
+pub record IsSpelled (d : KeyDraft) : Type 0 where
+  pub reference : Reference
+  pub draft : IsDraft d reference
+
+-- the refusal is due, or memory ran out
+abbrev pub IsDueOrMemory : Refusal → Option Refusal → Type 0
+IsDueOrMemory refusal due = (refusal ≡ OutOfMemory) ⊎ (due ≡ Some refusal)

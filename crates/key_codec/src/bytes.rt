@@ -1,0 +1,111 @@
+//! Strings of bytes, of which the short ones lie in the value itself.
+ghost use Rattle.std.specs.Prelude.{◌≡◌, ◌+◌, ◌≤◌, ◌++◌, length, IfOk, IsOk};
+
+use std::alloc::{AllocError, Global};
+use std::marker::Model;
+
+// How many bytes lie in the value: with them it is as large as with 24, and keys of a name and two or three usual
+// subscripts fit.
+const MOST_SHORT: usize = 38;
+
+#[derive(Debug, Drop)]
+enum Held {
+    Short(u8, [u8; 38]),
+    Long(Vec<u8>),
+}
+
+/// A string of bytes that takes 40 bytes, and memory only where it has over 38.
+#[derive(Debug, Drop)]
+pub(crate) struct KeyBytes {
+    held: Held,
+}
+
+impl Model for KeyBytes {
+    ghost use Rattle.std.specs.Prelude.{List, ℕ};
+    ghost use Rattle.key_codec.specs.Held.{bytes_of, IsHeld};
+
+    ghost Value = { List ℕ };
+
+    ghost view = { λ k. bytes_of k.held };
+
+    ghost invariant = { λ k. IsHeld k.held };
+}
+
+// The one, and the other behind it, in the value.
+fn short(first: &[u8], second: &[u8]) -> KeyBytes
+    requires { length first.now + length second.now ≤ 38 }
+    ensures { result ≡ first.now ++ second.now }
+{
+    let len = first.len() + second.len();
+    let mut room = [0; 38];
+    room[..first.len()].copy_from_slice(first);
+    room[first.len()..len].copy_from_slice(second);
+    KeyBytes {
+        held: Held::Short(len as u8, room),
+    }
+}
+
+// The one, and the other behind it, in an allocation of their size.
+fn long(alloc: Global, first: &[u8], second: &[u8]) -> Result<Vec<u8>, AllocError>
+    ensures { IfOk result (λ bytes. bytes.items ≡ first.now ++ second.now) }
+{
+    let mut bytes = Vec::with_capacity(alloc, first.len().saturating_add(second.len()))?;
+    bytes.extend_from_slice(first)?;
+    bytes.extend_from_slice(second)?;
+    Ok(bytes)
+}
+
+impl KeyBytes {
+    /// The one, and the other behind it. Takes memory only past 38 bytes.
+    pub(crate) fn joined(alloc: Global, first: &[u8], second: &[u8]) -> Result<KeyBytes, AllocError>
+        ensures bytes { IfOk result (λ bytes. bytes ≡ first.now ++ second.now) }
+        ensures short { length first.now + length second.now ≤ 38 → IsOk result }
+    {
+        if first.len().saturating_add(second.len()) <= MOST_SHORT {
+            return Ok(short(first, second));
+        }
+        let held = Held::Long(long(alloc, first, second)?);
+        Ok(KeyBytes { held })
+    }
+
+    /// The bytes of a list, whose allocation is let go of where they are short.
+    pub(crate) fn from_vec(bytes: Vec<u8>) -> KeyBytes
+        ensures { result ≡ bytes.items }
+    {
+        if bytes.len() <= MOST_SHORT {
+            return short(bytes.as_slice(), &[]);
+        }
+        KeyBytes {
+            held: Held::Long(bytes),
+        }
+    }
+
+    pub(crate) fn as_slice(&self) -> &[u8]
+        ensures { result.now ≡ self.now }
+    {
+        match &self.held {
+            Held::Short(len, room) => &room[..*len as usize],
+            Held::Long(bytes) => bytes.as_slice(),
+        }
+    }
+}
+
+impl Clone for KeyBytes {
+    ghost use Rattle.std.specs.Prelude.{◌≡◌};
+
+    ghost is_clone = { λ a b. a ≡ b };
+
+    fn clone(&self) -> Result<KeyBytes, AllocError> {
+        match &self.held {
+            Held::Short(len, room) => Ok(KeyBytes {
+                held: Held::Short(*len, *room),
+            }),
+            Held::Long(bytes) => {
+                let bytes = bytes.clone()?;
+                Ok(KeyBytes {
+                    held: Held::Long(bytes),
+                })
+            }
+        }
+    }
+}
