@@ -1,5 +1,10 @@
+pub mod Exchanges
+pub mod Format
 pub mod History
-pub mod HistoryLaws
-pub mod Story
-pub mod StoryLaws
 pub mod Kept
+pub mod laws
+pub mod Log
+pub mod Reading
+pub mod Stored
+pub mod Story
+pub mod Touching

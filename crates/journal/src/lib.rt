@@ -1,24 +1,40 @@
-//! The journal: what was done, unit by unit.
+//! The journal: what was done, unit by unit, kept as bytes.
 //!
-//! Callers see a journal as its list of units and a number of reserved places (`specs/Kept.antt`), and a
-//! receipt as the claim that a unit stands at a number. What units mean stands in `specs/History.antt`:
-//! the state that they leave (`after`), and when each of their replies is right (`IsLegal`). Which units one
-//! reads off steps and replies, without any map, stands in `specs/Story.antt` (`story_of`).
+//! Callers see a journal as its list of units and the one that is prepared (`specs/Kept.antt`), and a receipt as the
+//! claim that a unit stands at a number. What units mean stands in `specs/History.antt`: the state that they leave
+//! (`after`), and when each of their replies is right (`IsLegal`). What a unit touches and a transaction has read stands
+//! in `specs/Touching.antt`; which units one reads off steps and replies, without any map, in `specs/Story.antt`.
 //!
 //! (1) Units are numbered from 1, and unit n keeps number n;
 //! (2) a unit, once in the journal, never changes, and none is taken out;
 //! (3) a unit's number is the stamp of its writes;
-//! (4) a receipt is made only by the push of its unit, and can't be copied.
+//! (4) a receipt is made only by the push of its unit, and can't be copied;
+//! (5) the bytes are `unit_bytes` of each unit in turn (`specs/Format.antt`), and read back as these units.
 //!
-//! Read `specs/History.antt`, then `specs/Story.antt`, then `list.rt`.
+//! A unit is written and its room made by a `prepare_..`, which may be refused; `push_prepared` then can't be. A unit
+//! that is prepared and not pushed leaves no trace.
+//! SET ^A(12345)=12345 of job 1 has 19 bytes: 01 00, 0A 41 00 04 85 02 03 04 05 06 00, 05 31 32 33 34 35.
+//!
+//! Read `specs/History.antt`, `specs/Touching.antt`, `specs/Story.antt`; then `specs/Format.antt` and
+//! `specs/Reading.antt`; then `list.rt`, `log.rt`, `draft.rt`.
+//! Not promised: the time of a unit's reading back.
 #![tactic(auto)]
 
-pub use laws::{joined_histories, joined_stories};
+pub use exchanges::ExchangeLog;
+pub use laws::{
+    joined_histories, joined_stories, locks_are_right_and_act, logs_read_back,
+    lone_commands_are_right_and_act, transactions_are_right_and_act,
+};
 pub use list::{Journal, Receipt};
-pub use unit::Unit;
+pub use unit::{Exchange, Exchanges, Unit};
+pub use units::Units;
 
+mod draft;
+mod exchanges;
 mod laws;
 mod list;
-#[cfg(test)]
-mod tests;
+mod log;
+mod read;
 mod unit;
+mod units;
+mod write;

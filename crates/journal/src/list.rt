@@ -1,29 +1,40 @@
-//! The list of units, and the receipts for them.
-ghost use Rattle.std.specs.Prelude.{◌≡◌, List, ◌+◌, ◌≤◌, ◌<◌, ◌^◌, ◌-◌, [], ◌∷◌, ◌++◌, length, OnOk, OnErr, IfErr, IsErrOf, MatchOption};
+//! The journal, and the receipts for its units.
+ghost use Rattle.std.specs.Prelude.{◌≡◌, List, ◌+◌, ◌<◌, ◌^◌, ◌-◌, [], ◌∷◌, ◌++◌, length, None, Some, IsSome, IfSome, OnOk, OnErr, IfOk, IfErr, IsErrOf, MatchOption};
+ghost use Rattle.std.specs.List.{flat_map};
 ghost use Rattle.journal.specs.declared.unit.Unit.{Unit as JournalUnit};
+ghost use Rattle.journal.specs.declared.unit.Unit.TheVariants.{Lone, Whole, Lock, Back, End};
+ghost use Rattle.journal.specs.Format.{unit_bytes};
 ghost use Rattle.journal.specs.Kept.{job_of, HasNoRoom};
-ghost use Rattle.std.specs.List.{IsLastAndRest};
+ghost use Rattle.journal.specs.Log.{HasRoom};
+ghost use Rattle.journal.specs.Stored.{Each, FitsUnit};
 
-use crate::Unit;
-use collation::Job;
+use crate::draft::Draft;
+use crate::exchanges::ExchangeLog;
+use crate::log::Log;
+use crate::{Unit, Units};
+use collation::{Job, LockCommand};
+use command::{Answer, DataCommand};
 use refusal::Refusal;
-use std::alloc::Global;
+use std::alloc::{AllocError, Global};
 use std::marker::Model;
 use std::snapshot::Snapshot;
 
-/// The units so far. It only grows.
+/// The units so far, as bytes, and one that is prepared or none. It only grows.
 #[derive(Debug, Drop)]
 pub struct Journal {
-    units: Vec<Unit>,
+    log: Log,
+    draft: Draft,
 }
 
 impl Model for Journal {
-    ghost use Rattle.std.specs.Prelude.{◌-◌, vec_len, vec_capacity};
     ghost use Rattle.journal.specs.Kept.{Kept};
+    ghost use Rattle.journal.specs.Log.{HasRoom};
 
     ghost Value = { Kept };
 
-    ghost view = { λ j. record { units = j.units.items; spare = vec_capacity j.units - vec_len j.units } };
+    ghost view = { λ j. record { units = j.log.units; prepared = j.draft } };
+
+    ghost invariant = { λ j. HasRoom j.draft j.log };
 }
 
 /// Says that a unit stands in the journal. It can't be copied.
@@ -31,15 +42,17 @@ impl Model for Journal {
 pub struct Receipt {
     job: Job,
     number: u64,
-    unit: Snapshot<Unit>,
+    unit: Snapshot<Draft>,
 }
 
 impl Model for Receipt {
+    ghost use Rattle.std.specs.Prelude.{unwrap_or};
+    ghost use Rattle.journal.specs.declared.unit.Unit.TheVariants.{End};
     ghost use Rattle.journal.specs.Kept.{Claim};
 
     ghost Value = { Claim };
 
-    ghost view = { λ r. record { job = r.job; number = r.number; unit = r.unit.value } };
+    ghost view = { λ r. record { job = r.job; number = r.number; unit = unwrap_or r.unit.value (End r.job) } };
 }
 
 impl Receipt {
@@ -58,13 +71,32 @@ impl Receipt {
     }
 }
 
+// Makes room in the log for what the draft has. Where memory is refused there is no draft.
+fn reserve(log: &mut Log, draft: &mut Draft) -> Result<(), AllocError>
+    requires { length log.old.units + 1 < 2 ^ 64 }
+    ensures units { log.new.units ≡ log.old.units }
+    ensures ok { OnOk result (draft.new ≡ draft.old) }
+    ensures room { HasRoom draft.new log.new }
+    ensures err { OnErr result (draft.new ≡ None) }
+{
+    match log.make_room(draft.as_slice().len()) {
+        Ok(()) => Ok(()),
+        Err(error) => {
+            draft.clear();
+            Err(error)
+        }
+    }
+}
+
 impl Journal {
     /// A journal without units. Takes no memory.
     pub fn new(alloc: Global) -> Journal
-        ensures { result.units ≡ [] }
+        ensures units { result.units ≡ [] }
+        ensures prepared { result.prepared ≡ None }
     {
         Journal {
-            units: Vec::new(alloc),
+            log: Log::new(alloc),
+            draft: Draft::new(alloc),
         }
     }
 
@@ -72,63 +104,156 @@ impl Journal {
     pub fn len(&self) -> u64
         ensures { result ≡ length self.now.units }
     {
-        self.units().len() as u64
+        self.log.len()
     }
 
-    /// The units, the first with number 1.
-    pub fn units(&self) -> &[Unit]
-        ensures { result.now ≡ self.now.units }
+    /// How many bytes they take.
+    pub fn size(&self) -> usize
+        ensures { result ≡ length (flat_map unit_bytes self.now.units) }
     {
-        &self.units
+        self.log.as_slice().len()
     }
 
-    /// The unit that was pushed last.
-    pub fn newest(&self) -> Option<&Unit>
-        ensures { MatchOption result (self.now.units ≡ [])
-            (λ unit. (before : List JournalUnit) × (self.now.units ≡ before ++ unit.now ∷ [])) }
+    /// The bytes of the units, one behind the other, in the format of docs/FORMATS.md, "Units".
+    pub fn as_slice(&self) -> &[u8]
+        ensures bytes { result.now ≡ flat_map unit_bytes self.now.units }
+        ensures fit { Each FitsUnit self.now.units }
     {
-        self.units.last()
+        self.log.as_slice()
     }
 
-    /// For how many more units there is room.
-    pub fn spare(&self) -> usize
-        ensures { result ≡ self.now.spare }
+    /// The units, the first with number 1, read back one by one.
+    pub fn units(&self) -> Units<'_>
+        ensures { result ≡ self.now.units }
     {
-        self.units.capacity() - self.units.len()
+        self.log.units()
     }
 
-    /// Makes room for `more` units, and keeps what room there is. Where that is enough it isn't refused. A refusal
-    /// leaves the units as they were: `StampsUsedUp` exactly where the journal would pass 2^64 - 1 units, else
-    /// `OutOfMemory`.
-    pub fn reserve(&mut self, more: usize) -> Result<(), Refusal>
+    /// The unit that was pushed last, read back. Fails only for want of memory.
+    pub fn newest(&self) -> Result<Option<Unit>, AllocError>
+        ensures { IfOk result (λ found. MatchOption found (self.now.units ≡ [])
+            (λ unit. (before : List JournalUnit) × (self.now.units ≡ before ++ unit ∷ []))) }
+    {
+        self.log.newest()
+    }
+
+    /// Writes the unit of a data command outside a transaction, and makes room for it.
+    ///
+    /// Refusals: `StampsUsedUp` exactly where the journal would pass 2^64 - 1 units, else `OutOfMemory`. After either
+    /// the units are as they were, and none is prepared. What was prepared and not pushed before is gone.
+    pub fn prepare_lone(
+        &mut self,
+        job: Job,
+        command: &DataCommand,
+        answer: &Answer,
+    ) -> Result<(), Refusal>
         ensures units { self.new.units ≡ self.old.units }
-        ensures room { self.old.spare ≤ self.new.spare }
-        ensures ok { OnOk result (more ≤ self.new.spare) }
-        ensures full { OnErr result (self.old.spare < more) }
-        ensures used_up { 2 ^ 64 - 1 < length self.old.units + more → IsErrOf result Refusal.StampsUsedUp }
-        ensures cause { IfErr result (λ refusal. HasNoRoom refusal more (length self.old.units)) }
+        ensures prepared { OnOk result (self.new.prepared ≡ Some (Lone job command.now answer.now)) }
+        ensures refused { OnErr result (self.new.prepared ≡ None) }
+        ensures used_up { 2 ^ 64 - 1 < length self.old.units + 1 → IsErrOf result Refusal.StampsUsedUp }
+        ensures cause { IfErr result (λ refusal. HasNoRoom refusal 1 (length self.old.units)) }
     {
-        if more > usize::MAX - self.units.len() {
+        self.draft.clear();
+        if self.log.len() == u64::MAX {
             return Err(Refusal::StampsUsedUp);
         }
-        self.units.reserve(more)?;
+        self.draft.write_lone(job, command, answer)?;
+        reserve(&mut self.log, &mut self.draft)?;
         Ok(())
     }
 
-    /// Adds a unit with the next number, for which room was reserved. Takes no memory.
-    pub fn push_reserved(&mut self, unit: Unit) -> Receipt
-        requires { 0 < self.old.spare }
-        ensures units { self.new.units ≡ self.old.units ++ unit ∷ [] }
-        ensures spare { self.new.spare + 1 ≡ self.old.spare }
-        ensures receipt { result ≡ record { job = job_of unit; number = length self.new.units; unit = unit } }
+    /// Writes the unit of a transaction with these exchanges, and makes room for it, all at once; refused as
+    /// `prepare_lone`.
+    pub fn prepare_whole(&mut self, job: Job, exchanges: &ExchangeLog) -> Result<(), Refusal>
+        ensures units { self.new.units ≡ self.old.units }
+        ensures prepared { OnOk result (self.new.prepared ≡ Some (Whole job exchanges.now)) }
+        ensures refused { OnErr result (self.new.prepared ≡ None) }
+        ensures used_up { 2 ^ 64 - 1 < length self.old.units + 1 → IsErrOf result Refusal.StampsUsedUp }
+        ensures cause { IfErr result (λ refusal. HasNoRoom refusal 1 (length self.old.units)) }
     {
-        let job = unit.job();
-        let snapshot = Snapshot::of(&unit);
-        self.units.push_reserved(unit);
+        self.draft.clear();
+        if self.log.len() == u64::MAX {
+            return Err(Refusal::StampsUsedUp);
+        }
+        self.draft.write_whole(job, exchanges)?;
+        reserve(&mut self.log, &mut self.draft)?;
+        Ok(())
+    }
+
+    /// Writes the unit of a LOCK, and makes room for it; refused as `prepare_lone`.
+    pub fn prepare_lock(
+        &mut self,
+        job: Job,
+        inside: bool,
+        command: &LockCommand,
+        had: bool,
+    ) -> Result<(), Refusal>
+        ensures units { self.new.units ≡ self.old.units }
+        ensures prepared { OnOk result (self.new.prepared ≡ Some (Lock job inside command.now had)) }
+        ensures refused { OnErr result (self.new.prepared ≡ None) }
+        ensures used_up { 2 ^ 64 - 1 < length self.old.units + 1 → IsErrOf result Refusal.StampsUsedUp }
+        ensures cause { IfErr result (λ refusal. HasNoRoom refusal 1 (length self.old.units)) }
+    {
+        self.draft.clear();
+        if self.log.len() == u64::MAX {
+            return Err(Refusal::StampsUsedUp);
+        }
+        self.draft.write_lock(job, inside, command, had)?;
+        reserve(&mut self.log, &mut self.draft)?;
+        Ok(())
+    }
+
+    /// Writes the unit of a rollback or restart, and makes room for it; refused as `prepare_lone`.
+    pub fn prepare_back(&mut self, job: Job) -> Result<(), Refusal>
+        ensures units { self.new.units ≡ self.old.units }
+        ensures prepared { OnOk result (self.new.prepared ≡ Some (Back job)) }
+        ensures refused { OnErr result (self.new.prepared ≡ None) }
+        ensures used_up { 2 ^ 64 - 1 < length self.old.units + 1 → IsErrOf result Refusal.StampsUsedUp }
+        ensures cause { IfErr result (λ refusal. HasNoRoom refusal 1 (length self.old.units)) }
+    {
+        self.draft.clear();
+        if self.log.len() == u64::MAX {
+            return Err(Refusal::StampsUsedUp);
+        }
+        self.draft.write_back(job)?;
+        reserve(&mut self.log, &mut self.draft)?;
+        Ok(())
+    }
+
+    /// Writes the unit of a session's end, and makes room for it; refused as `prepare_lone`.
+    pub fn prepare_end(&mut self, job: Job) -> Result<(), Refusal>
+        ensures units { self.new.units ≡ self.old.units }
+        ensures prepared { OnOk result (self.new.prepared ≡ Some (End job)) }
+        ensures refused { OnErr result (self.new.prepared ≡ None) }
+        ensures used_up { 2 ^ 64 - 1 < length self.old.units + 1 → IsErrOf result Refusal.StampsUsedUp }
+        ensures cause { IfErr result (λ refusal. HasNoRoom refusal 1 (length self.old.units)) }
+    {
+        self.draft.clear();
+        if self.log.len() == u64::MAX {
+            return Err(Refusal::StampsUsedUp);
+        }
+        self.draft.write_end(job)?;
+        reserve(&mut self.log, &mut self.draft)?;
+        Ok(())
+    }
+
+    /// Adds the prepared unit with the next number. Takes no memory.
+    pub fn push_prepared(&mut self) -> Receipt
+        requires { IsSome self.old.prepared }
+        ensures units { IfSome self.old.prepared (λ unit. self.new.units ≡ self.old.units ++ unit ∷ []) }
+        ensures none_left { self.new.prepared ≡ None }
+        ensures receipt { IfSome self.old.prepared (λ unit. result ≡ record { job = job_of unit; number = length self.new.units; unit = unit }) }
+    {
+        let Some(job) = self.draft.job() else {
+            unreachable!()
+        };
+        let unit = Snapshot::of(&self.draft);
+        self.log.push(&self.draft);
+        self.draft.clear();
         Receipt {
             job,
-            number: self.units.len() as u64,
-            unit: snapshot,
+            number: self.log.len(),
+            unit,
         }
     }
 }

@@ -1,0 +1,5 @@
+pub mod Exchanges
+pub mod History
+pub mod Log
+pub mod Reading
+pub mod Story

@@ -1,0 +1,51 @@
+-- The bytes of an open transaction, exchange by exchange.
+use Rattle.std.specs.Prelude.{◌≡◌, ℕ, ◌+◌, ◌<◌, ◌^◌, List, [], ◌∷◌, ◌++◌, length, Some}
+use Rattle.std.specs.List.{flat_map}
+use Rattle.std.proofs.Common.{ap, sym, ◌∙◌, append-nil, refl, arith, length-append, subst}
+use Rattle.std.proofs.lemmas.List.{flat_map_more}
+use Rattle.journal.specs.declared.unit.Exchange.{Exchange}
+use Rattle.journal.specs.Exchanges.{exchanges_in, Tells}
+use Rattle.journal.specs.Format.{exchange_bytes}
+use Rattle.journal.specs.Reading.{list_at, exchange_at}
+use Rattle.journal.specs.Stored.{Each, FitsExchange, FitExchanges}
+use Rattle.journal.specs.laws.Reading.{list_back, exchange_back}
+
+pub exchanges_again : (bytes : List ℕ) (count : ℕ) (es : List Exchange) → Tells bytes count es → exchanges_in count bytes ≡ es
+unfolding exchanges_in
+exchanges_again bytes count es h =
+    let back : list_at exchange_at (length es) (flat_map exchange_bytes es ++ []) ≡ Some (es, []) = list_back exchange_at exchange_bytes FitsExchange exchange_back es [] h.fit in
+    let all : list_at exchange_at count bytes ≡ Some (es, []) = ap (λ n. list_at exchange_at n bytes) h.number ∙ ap (list_at exchange_at (length es)) (h.written ∙ sym (append-nil (flat_map exchange_bytes es))) ∙ back in
+    rw all refl
+
+Each-more : (es : List Exchange) (e : Exchange) → Each FitsExchange es → FitsExchange e → Each FitsExchange (es ++ e ∷ [])
+Each-more [] e h k = (k, tt)
+Each-more (d ∷ es) e h k = (h.0, Each-more es e h.1 k)
+
+pub no_exchanges : (bytes : List ℕ) → exchanges_in 0 bytes ≡ []
+unfolding exchanges_in
+no_exchanges bytes = refl
+
+pub tells_none : (bytes : List ℕ) → bytes ≡ [] → Tells bytes 0 (exchanges_in 0 bytes)
+tells_none bytes e = subst (Tells bytes 0) (sym (no_exchanges bytes)) (record { written = e; number = refl; few = omega arith; fit = tt })
+
+-- one more behind them
+pub tells_more : (old roomy draft blank new : List ℕ) (count : ℕ) (e : Exchange) → Tells old count (exchanges_in count old) → roomy ≡ old → blank ≡ [] → draft ≡ blank ++ exchange_bytes e → FitsExchange e → new ≡ roomy ++ draft → count + 1 < 2 ^ 64 →
+    Tells new (count + 1) (exchanges_in count old ++ e ∷ [])
+tells_more old roomy draft blank new count e h same b d fits n few =
+    let es = exchanges_in count old in
+    record {
+      written = n ∙ ap (λ t. t ++ draft) (same ∙ h.written) ∙ ap (λ t. flat_map exchange_bytes es ++ t) (d ∙ ap (λ t. t ++ exchange_bytes e) b) ∙ flat_map_more exchange_bytes [] es e;
+      number = omega (arith, h.number, length-append es (e ∷ []));
+      few = few;
+      fit = Each-more es e h.fit fits;
+    }
+
+-- the same log with more room
+pub tells_same : (old new : List ℕ) (count : ℕ) → Tells old count (exchanges_in count old) → new ≡ old → Tells new count (exchanges_in count new)
+tells_same old new count h e = subst (λ t. Tells t count (exchanges_in count t)) (sym e) h
+
+pub tells_itself : (new : List ℕ) (count : ℕ) (es : List Exchange) → Tells new count es → Tells new count (exchanges_in count new)
+tells_itself new count es h = subst (Tells new count) (sym (exchanges_again new count es h)) h
+
+pub they_fit : (bytes : List ℕ) (count : ℕ) (es : List Exchange) → Tells bytes count es → FitExchanges es
+they_fit bytes count es h = let n : count ≡ length es = h.number in let few : count < 2 ^ 64 = h.few in record { count = omega arith; each = h.fit }

@@ -1,0 +1,351 @@
+-- What was written reads back, whatever follows it.
+use Rattle.std.proofs.Common.{◌≡◌, ℕ, ◌+◌, ◌*◌, ◌/◌, ◌%◌, ◌≤◌, ◌<◌, ◌^◌, Bool, List, [], ◌∷◌, ◌++◌, length, drop, true, false, refl, ap, sym, ◌∙◌, arith, append_assoc, length-append, Option, Some, None}
+use Rattle.std.proofs.lemmas.Bool.Decides.{nat_tests}
+use Rattle.std.proofs.lemmas.List.{take_at, drop_at}
+use Rattle.std.proofs.lemmas.Nat.{from_be_bytes-to_be_bytes_2, from_be_bytes-to_be_bytes_8}
+use Rattle.std.specs.Prelude.{◌==◌, nat_eq, nat_lt, nat_le, ◌&&◌, is_none}
+use Rattle.std.specs.List.{flat_map}
+use Rattle.std.specs.Int.{w16, w64, to_be_bytes}
+use Rattle.collation.specs.Reference.{Reference, Resource}
+use Rattle.key_codec.specs.Key.{key_of, IsReference}
+use Rattle.key_codec.specs.Back.{reference_of}
+use Rattle.key_codec.specs.BackLaws.{reference_of_key}
+use Rattle.key_codec.specs.Kept.{Keeps}
+use Rattle.std.specs.Cmp.Lexicographic.{pointwise, bytes_decides}
+use Rattle.std.specs.Cmp.{first_so, second_so}
+use Rattle.std.proofs.lemmas.Bool.{and_from}
+use Rattle.collation.specs.Name.{is_name}
+use Rattle.collation.specs.Faults.{reference_fault}
+use Rattle.refusal.specs.declared.Refusal.{Refusal}
+use Rattle.collation.specs.declared.direction.Direction.{Direction}
+use Rattle.collation.specs.declared.direction.Direction.TheVariants.{Forward, Backward}
+use Rattle.command.specs.declared.access.DataCommand.{DataCommand}
+use Rattle.command.specs.declared.access.DataCommand.TheVariants.{Set, Kill, Merge, Look}
+use Rattle.command.specs.declared.access.Look.{Look as LookCommand}
+use Rattle.command.specs.declared.access.Look.TheVariants.{Data, Get, Order, Query}
+use Rattle.command.specs.declared.access.Answer.{Answer}
+use Rattle.command.specs.declared.access.Answer.TheVariants.{Done, Value, Number, Found}
+use Rattle.collation.specs.declared.lock.LockCommand.{LockCommand}
+use Rattle.collation.specs.declared.lock.LockCommand.TheVariants.{Release, Only, More, Fewer}
+use Rattle.journal.specs.declared.unit.Exchange.{Exchange}
+use Rattle.journal.specs.declared.unit.Unit.{Unit as JournalUnit}
+use Rattle.journal.specs.declared.unit.Unit.TheVariants.{Lone, Whole, Lock, Back, End}
+use Rattle.journal.specs.Format.{number_bytes, string_bytes, reference_bytes, caret_byte, name_bytes, names_bytes, order_kind, query_kind, look_kind, look_bytes, command_kind, command_bytes, answer_kind, answer_bytes, exchange_bytes, lock_flags, lock_kind, lock_bytes, deed_bytes, unit_bytes}
+use Rattle.journal.specs.Reading.{number_at, wide_at, part_at, string_at, is_key, key_at, reference_at, name_at, list_at, names_at, looks_at, command_at, answer_at, answered_at, exchange_at, lock_at, exchanges_at, deed_at, deed_of, unit_at, is_inside, has_had, is_job}
+use Rattle.journal.specs.Kept.{job_of}
+use Rattle.journal.specs.Stored.{FitsNumber, FitsString, FitsReference, FitsName, Each, FitNames, FitsLook, FitsCommand, FitsAnswer, FitsExchange, FitExchanges, FitsLock, FitsDeed, FitsUnit}
+
+-- a number in so many bytes
+wide_back : (bs t : List ℕ) (k : ℕ) → length bs ≡ k → nat_le k (length (bs ++ t)) ≡ true
+wide_back bs t k e = let l = length-append bs t in grind (arith, nat_tests)
+
+two_back : (n : ℕ) (t : List ℕ) → n < 65536 → wide_at w16 (to_be_bytes w16 n ++ t) ≡ Some (n, t)
+two_back n t h =
+    let room : nat_le 2 (length (to_be_bytes w16 n ++ t)) ≡ true = wide_back (to_be_bytes w16 n) t 2 refl in
+    rw room (ap (λ m. Some (m, t)) (from_be_bytes-to_be_bytes_2 n h))
+
+eight_back : (n : ℕ) (t : List ℕ) → n < 2 ^ 64 → wide_at w64 (to_be_bytes w64 n ++ t) ≡ Some (n, t)
+eight_back n t h =
+    let room : nat_le 8 (length (to_be_bytes w64 n ++ t)) ≡ true = wide_back (to_be_bytes w64 n) t 8 refl in
+    rw room (ap (λ m. Some (m, t)) (from_be_bytes-to_be_bytes_8 n h))
+
+number_back_by : (n : ℕ) (t : List ℕ) → n < 2 ^ 64 → (b c : Bool) → nat_lt n 254 ≡ b → nat_lt n 65536 ≡ c → number_at (number_bytes n ++ t) ≡ Some (n, t)
+unfolding number_at number_bytes
+number_back_by n t h true c e f = simp e
+number_back_by n t h false true e f = simp (e, f) (two_back n t (grind (arith, nat_tests)))
+number_back_by n t h false false e f = simp (e, f) (eight_back n t h)
+
+pub number_back : (n : ℕ) (t : List ℕ) → FitsNumber n → number_at (number_bytes n ++ t) ≡ Some (n, t)
+number_back n t h = number_back_by n t h.fits (nat_lt n 254) (nat_lt n 65536) refl refl
+
+-- so many bytes
+pub part_back : (s t : List ℕ) → part_at (length s) (s ++ t) ≡ Some (s, t)
+part_back s t =
+    let room : nat_le (length s) (length (s ++ t)) ≡ true = wide_back s t (length s) refl in
+    rw room (ap (λ x. Some (x, drop (length s) (s ++ t))) (take_at s t (length s) refl) ∙ ap (λ x. Some (s, x)) (drop_at s t (length s) refl))
+
+pub string_back : (s t : List ℕ) → FitsString s → string_at (string_bytes s ++ t) ≡ Some (s, t)
+unfolding string_at
+string_back s t h =
+    let number : number_at (number_bytes (length s) ++ (s ++ t)) ≡ Some (length s, s ++ t) = number_back (length s) (s ++ t) (record { fits = h.fits }) in
+    rw append_assoc (rw number (part_back s t))
+
+-- ---- references
+
+is_none_from : (o : Option Refusal) → o ≡ None → is_none o ≡ true
+is_none_from o e = rw e refl
+
+none_from : (o : Option Refusal) → is_none o ≡ true → o ≡ None
+none_from None e = refl
+none_from (Some r) e = cc
+
+-- a key is known as one
+pub key_back : (r : Reference) → IsReference r → key_at (key_of r) ≡ Some r
+unfolding key_at is_key
+key_back r is =
+    let same : pointwise nat_eq (key_of r) (key_of r) ≡ true = (bytes_decides (key_of r) (key_of r)).1 refl in
+    simp (reference_of_key r is, is.name, is_none_from _ is.subscripts, same)
+
+pub key_known : (bytes : List ℕ) (r : Reference) → IsReference r → key_of r ≡ bytes → key_at bytes ≡ Some r
+key_known bytes r is e = ap key_at (sym e) ∙ key_back r is
+
+-- what a known key says
+key_means : (bytes : List ℕ) → is_key bytes ≡ true → IsReference (reference_of bytes) × (bytes ≡ key_of (reference_of bytes))
+unfolding is_key
+key_means bytes e =
+    let both : (is_name (reference_of bytes).name && is_none (reference_fault (reference_of bytes).subscripts)) ≡ true = first_so _ _ e in (
+      record { name = first_so _ _ both; subscripts = none_from _ (second_so (is_name (reference_of bytes).name) _ both) },
+      sym ((bytes_decides (key_of (reference_of bytes)) bytes).0 (second_so (is_name (reference_of bytes).name && is_none (reference_fault (reference_of bytes).subscripts)) _ e)),
+    )
+
+key_unknown_by : (bytes : List ℕ) (b : Bool) → is_key bytes ≡ b → ((x : Reference) → IsReference x → bytes ≡ key_of x → ⊥) → key_at bytes ≡ None
+unfolding key_at
+key_unknown_by bytes true e none = absurd (none (reference_of bytes) (key_means bytes e).0 (key_means bytes e).1)
+key_unknown_by bytes false e none = rw e refl
+
+pub key_unknown : (bytes : List ℕ) → ((x : Reference) → IsReference x → bytes ≡ key_of x → ⊥) → key_at bytes ≡ None
+key_unknown bytes none = key_unknown_by bytes (is_key bytes) refl none
+
+key_keeps_by : (bytes : List ℕ) (r : Reference) (b : Bool) → is_key bytes ≡ b → key_at bytes ≡ Some r → Keeps bytes (reference_of bytes) × (key_at bytes ≡ Some (reference_of bytes))
+unfolding key_at
+key_keeps_by bytes r true e known = (record { key = (key_means bytes e).1; form = (key_means bytes e).0 }, rw e refl)
+key_keeps_by bytes r false e known = let unknown : key_at bytes ≡ None = rw e refl in cc
+
+-- bytes that are known to be a key
+pub key_keeps : (bytes : List ℕ) (r : Reference) → key_at bytes ≡ Some r → Keeps bytes (reference_of bytes)
+key_keeps bytes r known = (key_keeps_by bytes r (is_key bytes) refl known).0
+
+-- read as what they keep
+pub key_again : (bytes : List ℕ) (r x : Reference) → key_at bytes ≡ Some r → x ≡ reference_of bytes → key_at bytes ≡ Some x
+key_again bytes r x known e = (key_keeps_by bytes r (is_key bytes) refl known).1 ∙ ap (λ y. Some y) (sym e)
+
+pub reference_back : (r : Reference) (t : List ℕ) → FitsReference r → reference_at (reference_bytes r ++ t) ≡ Some (r, t)
+unfolding reference_at
+reference_back r t h =
+    let string : string_at (string_bytes (key_of r) ++ t) ≡ Some (key_of r, t) = string_back (key_of r) t (record { fits = h.fits }) in
+    rw string (rw (key_back r h.form) refl)
+
+-- ---- lists
+
+pub list_back : {A : Type 0} (f : List ℕ → Option (A × List ℕ)) (g : A → List ℕ) (P : A → Type 0) → ((x : A) (t : List ℕ) → P x → f (g x ++ t) ≡ Some (x, t)) →
+    (xs : List A) (t : List ℕ) → Each P xs → list_at f (length xs) (flat_map g xs ++ t) ≡ Some (xs, t)
+list_back f g P back [] t h = refl
+list_back f g P back (x ∷ xs) t h =
+    let first : f (g x ++ (flat_map g xs ++ t)) ≡ Some (x, flat_map g xs ++ t) = back x (flat_map g xs ++ t) h.0 in
+    let rest : list_at f (length xs) (flat_map g xs ++ t) ≡ Some (xs, t) = list_back f g P back xs t h.1 in
+    rw append_assoc (rw first (rw rest refl))
+
+-- ---- lock names
+
+caret_back : (b : Bool) → (caret_byte b == 1) ≡ b
+caret_back true = refl
+caret_back false = refl
+
+pub name_back : (n : Resource) (t : List ℕ) → FitsName n → name_at (name_bytes n ++ t) ≡ Some (n, t)
+unfolding name_at
+name_back n t h =
+    let r : reference_at (reference_bytes n.reference ++ t) ≡ Some (n.reference, t) = reference_back n.reference t h.reference in
+    rw r (ap (λ b. Some (record { has_caret = b; reference = n.reference }, t)) (caret_back n.has_caret))
+
+pub names_back : (ns : List Resource) (t : List ℕ) → FitNames ns → names_at (names_bytes ns ++ t) ≡ Some (ns, t)
+unfolding names_at
+names_back ns t h =
+    let number : number_at (number_bytes (length ns) ++ (flat_map name_bytes ns ++ t)) ≡ Some (length ns, flat_map name_bytes ns ++ t) = number_back _ _ (record { fits = h.count }) in
+    rw append_assoc (rw number (list_back name_at name_bytes FitsName name_back ns t h.each))
+
+-- ---- data commands and answers
+
+order_back : (b : Bool) (d : Direction) (r : Reference) (t : List ℕ) → FitsReference r → looks_at (order_kind b d) (reference_bytes r ++ t) ≡ Some (Order (record { reference = r; is_open = b }) d, t)
+unfolding looks_at
+order_back false Forward r t h = rw (reference_back r t h) refl
+order_back false Backward r t h = rw (reference_back r t h) refl
+order_back true Forward r t h = rw (reference_back r t h) refl
+order_back true Backward r t h = rw (reference_back r t h) refl
+
+query_back : (b : Bool) (d : Direction) (r : Reference) (t : List ℕ) → FitsReference r → looks_at (query_kind b d) (reference_bytes r ++ t) ≡ Some (Query (record { reference = r; is_open = b }) d, t)
+unfolding looks_at
+query_back false Forward r t h = rw (reference_back r t h) refl
+query_back false Backward r t h = rw (reference_back r t h) refl
+query_back true Forward r t h = rw (reference_back r t h) refl
+query_back true Backward r t h = rw (reference_back r t h) refl
+
+look_back : (l : LookCommand) (t : List ℕ) → FitsLook l → looks_at (look_kind l) (look_bytes l ++ t) ≡ Some (l, t)
+unfolding looks_at
+look_back (Data r) t h = rw (reference_back r t h) refl
+look_back (Get r None) t h = rw (reference_back r t h) refl
+look_back (Get r (Some d)) t h = rw (append_assoc (reference_bytes r) (string_bytes d) t, reference_back r (string_bytes d ++ t) h.0) (rw (string_back d t h.1) refl)
+look_back (Order p d) t h = order_back p.is_open d p.reference t h
+look_back (Query p d) t h = query_back p.is_open d p.reference t h
+
+order_high : (b : Bool) (d : Direction) → 3 ≤ order_kind b d
+order_high false Forward = omega arith
+order_high false Backward = omega arith
+order_high true Forward = omega arith
+order_high true Backward = omega arith
+
+query_high : (b : Bool) (d : Direction) → 3 ≤ query_kind b d
+query_high false Forward = omega arith
+query_high false Backward = omega arith
+query_high true Forward = omega arith
+query_high true Backward = omega arith
+
+look_high : (l : LookCommand) → 3 ≤ look_kind l
+look_high (Data r) = omega arith
+look_high (Get r None) = omega arith
+look_high (Get r (Some d)) = omega arith
+look_high (Order p d) = order_high p.is_open d
+look_high (Query p d) = query_high p.is_open d
+
+looking_back : (l : LookCommand) (t : List ℕ) → FitsLook l → command_at (look_kind l) (look_bytes l ++ t) ≡ Some (Look l, t)
+unfolding command_at
+looking_back l t h =
+    let above : 3 ≤ look_kind l = look_high l in
+    let not_set : (look_kind l == 0) ≡ false = grind (arith, nat_tests) in
+    let not_kill : (look_kind l == 1) ≡ false = grind (arith, nat_tests) in
+    let not_merge : (look_kind l == 2) ≡ false = grind (arith, nat_tests) in
+    rw (not_set, not_kill, not_merge, look_back l t h) refl
+
+pub command_back : (c : DataCommand) (t : List ℕ) → FitsCommand c → command_at (command_kind c) (command_bytes c ++ t) ≡ Some (c, t)
+unfolding command_at
+command_back (Set r v) t h = rw (append_assoc (reference_bytes r) (string_bytes v) t, reference_back r (string_bytes v ++ t) h.0) (rw (string_back v t h.1) refl)
+command_back (Kill r) t h = rw (reference_back r t h) refl
+command_back (Merge a b) t h = rw (append_assoc (reference_bytes a) (reference_bytes b) t, reference_back a (reference_bytes b ++ t) h.0) (rw (reference_back b t h.1) refl)
+command_back (Look l) t h = looking_back l t h
+
+pub answer_back : (a : Answer) (t : List ℕ) → FitsAnswer a → answer_at (answer_kind a) (answer_bytes a ++ t) ≡ Some (a, t)
+unfolding answer_at
+answer_back Done t h = refl
+answer_back (Value s) t h = rw (string_back s t h) refl
+answer_back (Number n) t h = rw (number_back n t h) refl
+answer_back (Found r) t h = rw (reference_back r t h) refl
+
+order_low : (b : Bool) (d : Direction) → order_kind b d ≤ 13
+order_low false Forward = omega arith
+order_low false Backward = omega arith
+order_low true Forward = omega arith
+order_low true Backward = omega arith
+
+query_low : (b : Bool) (d : Direction) → query_kind b d ≤ 13
+query_low false Forward = omega arith
+query_low false Backward = omega arith
+query_low true Forward = omega arith
+query_low true Backward = omega arith
+
+pub look_low : (l : LookCommand) → look_kind l ≤ 13
+look_low (Data r) = omega arith
+look_low (Get r None) = omega arith
+look_low (Get r (Some d)) = omega arith
+look_low (Order p d) = order_low p.is_open d
+look_low (Query p d) = query_low p.is_open d
+
+pub kind_low : (c : DataCommand) → command_kind c ≤ 13
+kind_low (Set r v) = omega arith
+kind_low (Kill r) = omega arith
+kind_low (Merge a b) = omega arith
+kind_low (Look l) = look_low l
+
+pub answer_low : (a : Answer) → answer_kind a ≤ 3
+answer_low Done = omega arith
+answer_low (Value s) = omega arith
+answer_low (Number n) = omega arith
+answer_low (Found r) = omega arith
+
+-- a tag's two parts
+pub tag_high : (k a : ℕ) → a ≤ 3 → (4 * k + a) / 4 ≡ k
+tag_high k a h = omega arith
+
+pub tag_low : (k a : ℕ) → a ≤ 3 → (4 * k + a) % 4 ≡ a
+tag_low k a h = omega arith
+
+pub answered_back : (c : DataCommand) (a : Answer) (t : List ℕ) → FitsCommand c → FitsAnswer a →
+    answered_at (4 * command_kind c + answer_kind a) ((command_bytes c ++ answer_bytes a) ++ t) ≡ Some (record { command = c; answer = a }, t)
+unfolding answered_at
+answered_back c a t h k =
+    let high : (4 * command_kind c + answer_kind a) / 4 ≡ command_kind c = tag_high _ _ (answer_low a) in
+    let low : (4 * command_kind c + answer_kind a) % 4 ≡ answer_kind a = tag_low _ _ (answer_low a) in
+    let first : command_at (command_kind c) (command_bytes c ++ (answer_bytes a ++ t)) ≡ Some (c, answer_bytes a ++ t) = command_back c (answer_bytes a ++ t) h in
+    rw (high, low, append_assoc (command_bytes c) (answer_bytes a) t, first) (rw (answer_back a t k) refl)
+
+pub exchange_back : (e : Exchange) (t : List ℕ) → FitsExchange e → exchange_at (exchange_bytes e ++ t) ≡ Some (e, t)
+unfolding exchange_at
+exchange_back e t h = answered_back e.command e.answer t h.command h.answer
+
+pub exchanges_back : (es : List Exchange) (t : List ℕ) → FitExchanges es → exchanges_at ((number_bytes (length es) ++ flat_map exchange_bytes es) ++ t) ≡ Some (es, t)
+unfolding exchanges_at
+exchanges_back es t h =
+    let number : number_at (number_bytes (length es) ++ (flat_map exchange_bytes es ++ t)) ≡ Some (length es, flat_map exchange_bytes es ++ t) = number_back _ _ (record { fits = h.count }) in
+    rw append_assoc (rw number (list_back exchange_at exchange_bytes FitsExchange exchange_back es t h.each))
+
+-- ---- locks
+
+pub lock_back : (l : LockCommand) (t : List ℕ) → FitsLock l → lock_at (lock_kind l) (lock_bytes l ++ t) ≡ Some (l, t)
+unfolding lock_at
+lock_back Release t h = refl
+lock_back (Only ns) t h = rw (names_back ns t h) refl
+lock_back (More ns) t h = rw (names_back ns t h) refl
+lock_back (Fewer ns) t h = rw (names_back ns t h) refl
+
+flags_low : (inside had : Bool) → lock_flags inside had ≤ 3
+flags_low false false = omega arith
+flags_low false true = omega arith
+flags_low true false = omega arith
+flags_low true true = omega arith
+
+inside_back : (inside had : Bool) → is_inside (lock_flags inside had) ≡ inside
+inside_back false false = refl
+inside_back false true = refl
+inside_back true false = refl
+inside_back true true = refl
+
+had_back : (inside had : Bool) → has_had (lock_flags inside had) ≡ had
+had_back false false = refl
+had_back false true = refl
+had_back true false = refl
+had_back true true = refl
+
+lock_high : (l : LockCommand) → 15 ≤ lock_kind l
+lock_high Release = omega arith
+lock_high (Only ns) = omega arith
+lock_high (More ns) = omega arith
+lock_high (Fewer ns) = omega arith
+
+-- ---- units
+
+locked_back : (job : ℕ) (inside had : Bool) (l : LockCommand) (t : List ℕ) → FitsLock l → deed_at job (4 * lock_kind l + lock_flags inside had) (lock_bytes l ++ t) ≡ Some (Lock job inside l had, t)
+unfolding deed_at
+locked_back job inside had l t h =
+    let flags = lock_flags inside had in
+    let few : flags ≤ 3 = flags_low inside had in
+    let above : 15 ≤ lock_kind l = lock_high l in
+    let not_lone : nat_lt (4 * lock_kind l + flags) 56 ≡ false = grind (arith, nat_tests) in
+    let not_whole : ((4 * lock_kind l + flags) == 56) ≡ false = grind (arith, nat_tests) in
+    let not_back : ((4 * lock_kind l + flags) == 57) ≡ false = grind (arith, nat_tests) in
+    let not_end : ((4 * lock_kind l + flags) == 58) ≡ false = grind (arith, nat_tests) in
+    let high : (4 * lock_kind l + flags) / 4 ≡ lock_kind l = tag_high _ _ few in
+    let low : (4 * lock_kind l + flags) % 4 ≡ flags = tag_low _ _ few in
+    simp (not_lone, not_whole, not_back, not_end, high, low, lock_back l t h, inside_back inside had, had_back inside had)
+
+lone_back : (job : ℕ) (c : DataCommand) (a : Answer) (t : List ℕ) → FitsCommand c → FitsAnswer a → deed_at job (4 * command_kind c + answer_kind a) ((command_bytes c ++ answer_bytes a) ++ t) ≡ Some (Lone job c a, t)
+unfolding deed_at
+lone_back job c a t h k =
+    let some : command_kind c ≤ 13 = kind_low c in
+    let few : answer_kind a ≤ 3 = answer_low a in
+    let lone : nat_lt (4 * command_kind c + answer_kind a) 56 ≡ true = grind (arith, nat_tests) in
+    rw lone (rw (answered_back c a t h k) refl)
+
+deed_back : (u : JournalUnit) (t : List ℕ) → FitsDeed u → deed_of (job_of u) (deed_bytes u ++ t) ≡ Some (u, t)
+unfolding deed_of deed_at
+deed_back (Lone job c a) t h = lone_back job c a t h.0 h.1
+deed_back (Whole job es) t h = rw (exchanges_back es t h) refl
+deed_back (Lock job inside l had) t h = locked_back job inside had l t h
+deed_back (Back job) t h = refl
+deed_back (End job) t h = refl
+
+pub unit_back : (u : JournalUnit) (t : List ℕ) → FitsUnit u → unit_at (unit_bytes u ++ t) ≡ Some (u, t)
+unfolding unit_at
+unit_back u t h =
+    let low : 1 ≤ job_of u = h.low in
+    let high : job_of u ≤ 4096 = h.high in
+    let number : number_at (number_bytes (job_of u) ++ (deed_bytes u ++ t)) ≡ Some (job_of u, deed_bytes u ++ t) = number_back _ _ (record { fits = omega arith }) in
+    let job : is_job (job_of u) ≡ true = and_from (nat_le 1 (job_of u)) _ (grind (arith, nat_tests)) (grind (arith, nat_tests)) in
+    rw append_assoc (rw number (rw job (deed_back u t h.deed)))

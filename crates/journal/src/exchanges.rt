@@ -1,0 +1,74 @@
+//! The exchanges of an open transaction.
+ghost use Rattle.std.specs.Prelude.{◌≡◌, [], ◌∷◌, ◌++◌, length, OnOk, OnErr};
+ghost use Rattle.std.specs.List.{flat_map};
+ghost use Rattle.journal.specs.Format as format;
+ghost use Rattle.journal.specs.Stored.{FitExchanges};
+
+use crate::write::{make_room, push_answered};
+use command::{Answer, DataCommand};
+use std::alloc::{AllocError, Global};
+use std::marker::Model;
+
+/// The data commands of an open transaction with their answers, as bytes. It is seen as their list.
+#[derive(Debug, Drop)]
+pub struct ExchangeLog {
+    bytes: Vec<u8>,
+    count: u64,
+    draft: Vec<u8>,
+}
+
+impl Model for ExchangeLog {
+    ghost use Rattle.std.specs.Prelude.{List};
+    ghost use Rattle.journal.specs.declared.unit.Exchange.{Exchange};
+    ghost use Rattle.journal.specs.Exchanges.{exchanges_in, Tells};
+
+    ghost Value = { List Exchange };
+
+    ghost view = { λ l. exchanges_in l.count l.bytes.items };
+
+    ghost invariant = { λ l. Tells l.bytes.items l.count (exchanges_in l.count l.bytes.items) };
+}
+
+impl ExchangeLog {
+    /// No exchange. Takes no memory.
+    pub fn new(alloc: Global) -> ExchangeLog
+        ensures { result ≡ [] }
+    {
+        ExchangeLog {
+            bytes: Vec::new(alloc),
+            count: 0,
+            draft: Vec::new(alloc),
+        }
+    }
+
+    /// How many there are.
+    pub fn len(&self) -> u64
+        ensures { result ≡ length self.now }
+    {
+        self.count
+    }
+
+    // Their bytes.
+    pub(crate) fn as_slice(&self) -> &[u8]
+        ensures bytes { result.now ≡ flat_map format.exchange_bytes self.now }
+        ensures fit { FitExchanges self.now }
+    {
+        self.bytes.as_slice()
+    }
+
+    /// Adds a command that was done, with its answer. Where memory is refused nothing has changed.
+    pub fn push(&mut self, command: &DataCommand, answer: &Answer) -> Result<(), AllocError>
+        ensures ok { OnOk result (self.new ≡ self.old ++ (record { command = command.now; answer = answer.now }) ∷ []) }
+        ensures err { OnErr result (self.new ≡ self.old) }
+    {
+        if self.count == u64::MAX {
+            return Err(AllocError);
+        }
+        self.draft.clear();
+        push_answered(&mut self.draft, command, answer)?;
+        make_room(&mut self.bytes, self.draft.len())?;
+        self.bytes.extend_from_slice(&self.draft)?;
+        self.count += 1;
+        Ok(())
+    }
+}

@@ -1,0 +1,515 @@
+//! Units read back from bytes. Each reader answers what it read and the bytes behind it.
+ghost use Rattle.std.specs.Prelude.{◌≡◌, None, Some, IfErr, IfOk};
+ghost use Rattle.std.specs.Int.{w16, w64};
+ghost use Rattle.journal.specs.Reading as reading;
+
+use crate::unit::{Exchange, Exchanges, Unit};
+use collation::{Direction, Job, LockCommand, LockName, LockNames, Ref, Text};
+use command::{Answer, DataCommand, Look};
+use key_codec::{Key, Place, decode};
+use std::alloc::{AllocError, Global};
+
+// Why nothing was read: memory was refused, or the bytes are no such thing.
+pub(crate) enum Unread {
+    Memory,
+    Form,
+}
+
+impl From<AllocError> for Unread {
+    ghost use Rattle.journal.specs.declared.read.Unread.{Unread};
+
+    ghost from_gives = { λ _ e. e ≡ Unread.Memory };
+
+    fn from(_: AllocError) -> Unread {
+        Unread::Memory
+    }
+}
+
+fn read_two(bytes: &[u8]) -> Result<(u64, &[u8]), Unread>
+    ensures some { IfOk result (λ p. reading.wide_at w16 bytes.now ≡ Some (p.0, p.1.now)) }
+    ensures none { IfErr result (λ e. reading.wide_at w16 bytes.now ≡ None) }
+{
+    match bytes.split_first_chunk::<2>() {
+        Some((head, rest)) => Ok((u64::from(u16::from_be_bytes(*head)), rest)),
+        None => Err(Unread::Form),
+    }
+}
+
+fn read_eight(bytes: &[u8]) -> Result<(u64, &[u8]), Unread>
+    ensures some { IfOk result (λ p. reading.wide_at w64 bytes.now ≡ Some (p.0, p.1.now)) }
+    ensures none { IfErr result (λ e. reading.wide_at w64 bytes.now ≡ None) }
+{
+    match bytes.split_first_chunk::<8>() {
+        Some((head, rest)) => Ok((u64::from_be_bytes(*head), rest)),
+        None => Err(Unread::Form),
+    }
+}
+
+#[tactic(auto, unfolding(crate::specs::Reading::number_at))]
+fn read_number(bytes: &[u8]) -> Result<(u64, &[u8]), Unread>
+    ensures some { IfOk result (λ p. reading.number_at bytes.now ≡ Some (p.0, p.1.now)) }
+    ensures none { IfErr result (λ e. reading.number_at bytes.now ≡ None) }
+{
+    let [first, rest @ ..] = bytes else {
+        return Err(Unread::Form);
+    };
+    if *first < 254 {
+        return Ok((u64::from(*first), rest));
+    }
+    if *first == 254 {
+        read_two(rest)
+    } else {
+        read_eight(rest)
+    }
+}
+
+fn read_part(count: u64, bytes: &[u8]) -> Result<(&[u8], &[u8]), Unread>
+    ensures some { IfOk result (λ p. reading.part_at count bytes.now ≡ Some (p.0.now, p.1.now)) }
+    ensures none { IfErr result (λ e. reading.part_at count bytes.now ≡ None) }
+{
+    if count <= bytes.len() as u64 {
+        Ok(bytes.split_at(count as usize))
+    } else {
+        Err(Unread::Form)
+    }
+}
+
+#[tactic(auto, unfolding(crate::specs::Reading::string_at))]
+fn read_string(bytes: &[u8]) -> Result<(&[u8], &[u8]), Unread>
+    ensures some { IfOk result (λ p. reading.string_at bytes.now ≡ Some (p.0.now, p.1.now)) }
+    ensures none { IfErr result (λ e. reading.string_at bytes.now ≡ None) }
+{
+    let (count, rest) = read_number(bytes)?;
+    read_part(count, rest)
+}
+
+fn read_text(alloc: Global, bytes: &[u8]) -> Result<(Text, &[u8]), Unread>
+    ensures some { IfOk result (λ p. reading.string_at bytes.now ≡ Some (p.0, p.1.now)) }
+    ensures none { IfErr result (λ e. e ≡ Unread.Form → reading.string_at bytes.now ≡ None) }
+{
+    let (string, rest) = read_string(bytes)?;
+    let text = Text::from_slice(alloc, string)?;
+    Ok((text, rest))
+}
+
+// The reference of a whole key.
+#[tactic(auto, using(crate::specs::laws::Reading::key_known, crate::specs::laws::Reading::key_unknown))]
+fn decoded(alloc: Global, bytes: &[u8]) -> Result<Ref, Unread>
+    ensures some { IfOk result (λ r. reading.key_at bytes.now ≡ Some r) }
+    ensures none { IfErr result (λ e. e ≡ Unread.Form → reading.key_at bytes.now ≡ None) }
+{
+    match decode(alloc, bytes) {
+        Ok(Some(reference)) => Ok(reference),
+        Ok(None) => Err(Unread::Form),
+        Err(_) => Err(Unread::Memory),
+    }
+}
+
+#[tactic(auto, using(crate::specs::laws::Reading::key_keeps, crate::specs::laws::Reading::key_again))]
+fn whole_key(alloc: Global, bytes: &[u8]) -> Result<Key, Unread>
+    ensures some { IfOk result (λ key. reading.key_at bytes.now ≡ Some key) }
+    ensures none { IfErr result (λ e. e ≡ Unread.Form → reading.key_at bytes.now ≡ None) }
+{
+    let reference = decoded(alloc, bytes)?;
+    drop(reference);
+    let key = Key::from_slice(alloc, bytes)?;
+    Ok(key)
+}
+
+#[tactic(auto, unfolding(crate::specs::Reading::reference_at))]
+fn read_key(alloc: Global, bytes: &[u8]) -> Result<(Key, &[u8]), Unread>
+    ensures some { IfOk result (λ p. reading.reference_at bytes.now ≡ Some (p.0, p.1.now)) }
+    ensures none { IfErr result (λ e. e ≡ Unread.Form → reading.reference_at bytes.now ≡ None) }
+{
+    let (string, rest) = read_string(bytes)?;
+    let key = whole_key(alloc, string)?;
+    Ok((key, rest))
+}
+
+#[tactic(auto, unfolding(crate::specs::Reading::reference_at))]
+fn read_reference(alloc: Global, bytes: &[u8]) -> Result<(Ref, &[u8]), Unread>
+    ensures some { IfOk result (λ p. reading.reference_at bytes.now ≡ Some (p.0, p.1.now)) }
+    ensures none { IfErr result (λ e. e ≡ Unread.Form → reading.reference_at bytes.now ≡ None) }
+{
+    let (string, rest) = read_string(bytes)?;
+    let reference = decoded(alloc, string)?;
+    Ok((reference, rest))
+}
+
+#[tactic(auto, unfolding(crate::specs::Reading::name_at))]
+fn read_name(alloc: Global, bytes: &[u8]) -> Result<(LockName, &[u8]), Unread>
+    ensures some { IfOk result (λ p. reading.name_at bytes.now ≡ Some (p.0, p.1.now)) }
+    ensures none { IfErr result (λ e. e ≡ Unread.Form → reading.name_at bytes.now ≡ None) }
+{
+    let [caret, behind @ ..] = bytes else {
+        return Err(Unread::Form);
+    };
+    let (reference, rest) = read_reference(alloc, behind)?;
+    Ok((LockName::new(*caret == 1, reference), rest))
+}
+
+// So many names, put behind those that stand there.
+fn read_each_name(alloc: Global, count: u64, bytes: &[u8]) -> Result<(Vec<LockName>, &[u8]), Unread>
+    ensures some { IfOk result (λ p. reading.list_at reading.name_at count bytes.now ≡ Some (p.0.items, p.1.now)) }
+    ensures none { IfErr result (λ e. e ≡ Unread.Form → reading.list_at reading.name_at count bytes.now ≡ None) }
+{
+    let mut names = Vec::new(alloc);
+    let mut rest = bytes;
+    for _ in 0..count {
+        names.reserve(1)?;
+        match read_name(alloc, rest) {
+            Ok((name, behind)) => {
+                names.push_reserved(name);
+                rest = behind;
+            }
+            Err(unread) => return Err(unread),
+        }
+    }
+    Ok((names, rest))
+}
+
+#[tactic(auto, unfolding(crate::specs::Reading::names_at))]
+fn read_names(alloc: Global, bytes: &[u8]) -> Result<(LockNames, &[u8]), Unread>
+    ensures some { IfOk result (λ p. reading.names_at bytes.now ≡ Some (p.0, p.1.now)) }
+    ensures none { IfErr result (λ e. e ≡ Unread.Form → reading.names_at bytes.now ≡ None) }
+{
+    let (count, behind) = read_number(bytes)?;
+    let (names, rest) = read_each_name(alloc, count, behind)?;
+    Ok((LockNames::new(names), rest))
+}
+
+fn read_set(alloc: Global, bytes: &[u8]) -> Result<(DataCommand, &[u8]), Unread>
+    ensures some { IfOk result (λ p. reading.set_at bytes.now ≡ Some (p.0, p.1.now)) }
+    ensures none { IfErr result (λ e. e ≡ Unread.Form → reading.set_at bytes.now ≡ None) }
+{
+    let (key, behind) = read_key(alloc, bytes)?;
+    match read_text(alloc, behind) {
+        Ok((value, rest)) => Ok((DataCommand::Set(key, value), rest)),
+        Err(unread) => {
+            drop(key);
+            Err(unread)
+        }
+    }
+}
+
+fn read_kill(alloc: Global, bytes: &[u8]) -> Result<(DataCommand, &[u8]), Unread>
+    ensures some { IfOk result (λ p. reading.kill_at bytes.now ≡ Some (p.0, p.1.now)) }
+    ensures none { IfErr result (λ e. e ≡ Unread.Form → reading.kill_at bytes.now ≡ None) }
+{
+    let (key, rest) = read_key(alloc, bytes)?;
+    Ok((DataCommand::Kill(key), rest))
+}
+
+fn read_merge(alloc: Global, bytes: &[u8]) -> Result<(DataCommand, &[u8]), Unread>
+    ensures some { IfOk result (λ p. reading.merge_at bytes.now ≡ Some (p.0, p.1.now)) }
+    ensures none { IfErr result (λ e. e ≡ Unread.Form → reading.merge_at bytes.now ≡ None) }
+{
+    let (target, behind) = read_key(alloc, bytes)?;
+    match read_key(alloc, behind) {
+        Ok((source, rest)) => Ok((DataCommand::Merge(target, source), rest)),
+        Err(unread) => {
+            drop(target);
+            Err(unread)
+        }
+    }
+}
+
+fn read_data(alloc: Global, bytes: &[u8]) -> Result<(Look, &[u8]), Unread>
+    ensures some { IfOk result (λ p. reading.data_at bytes.now ≡ Some (p.0, p.1.now)) }
+    ensures none { IfErr result (λ e. e ≡ Unread.Form → reading.data_at bytes.now ≡ None) }
+{
+    let (key, rest) = read_key(alloc, bytes)?;
+    Ok((Look::Data(key), rest))
+}
+
+fn read_bare_get(alloc: Global, bytes: &[u8]) -> Result<(Look, &[u8]), Unread>
+    ensures some { IfOk result (λ p. reading.get_at bytes.now ≡ Some (p.0, p.1.now)) }
+    ensures none { IfErr result (λ e. e ≡ Unread.Form → reading.get_at bytes.now ≡ None) }
+{
+    let (key, rest) = read_key(alloc, bytes)?;
+    Ok((Look::Get(key, None), rest))
+}
+
+fn read_get(alloc: Global, bytes: &[u8]) -> Result<(Look, &[u8]), Unread>
+    ensures some { IfOk result (λ p. reading.get_else_at bytes.now ≡ Some (p.0, p.1.now)) }
+    ensures none { IfErr result (λ e. e ≡ Unread.Form → reading.get_else_at bytes.now ≡ None) }
+{
+    let (key, behind) = read_key(alloc, bytes)?;
+    match read_text(alloc, behind) {
+        Ok((default, rest)) => Ok((Look::Get(key, Some(default)), rest)),
+        Err(unread) => {
+            drop(key);
+            Err(unread)
+        }
+    }
+}
+
+fn read_order(
+    alloc: Global,
+    is_open: bool,
+    direction: Direction,
+    bytes: &[u8],
+) -> Result<(Look, &[u8]), Unread>
+    ensures some { IfOk result (λ p. reading.order_at is_open direction bytes.now ≡ Some (p.0, p.1.now)) }
+    ensures none { IfErr result (λ e. e ≡ Unread.Form → reading.order_at is_open direction bytes.now ≡ None) }
+{
+    let (key, rest) = read_key(alloc, bytes)?;
+    let place = Place::new(key, is_open);
+    Ok((Look::Order(place, direction), rest))
+}
+
+fn read_query(
+    alloc: Global,
+    is_open: bool,
+    direction: Direction,
+    bytes: &[u8],
+) -> Result<(Look, &[u8]), Unread>
+    ensures some { IfOk result (λ p. reading.query_at is_open direction bytes.now ≡ Some (p.0, p.1.now)) }
+    ensures none { IfErr result (λ e. e ≡ Unread.Form → reading.query_at is_open direction bytes.now ≡ None) }
+{
+    let (key, rest) = read_key(alloc, bytes)?;
+    let place = Place::new(key, is_open);
+    Ok((Look::Query(place, direction), rest))
+}
+
+fn read_traversal(alloc: Global, kind: u8, bytes: &[u8]) -> Result<(Look, &[u8]), Unread>
+    ensures some { IfOk result (λ p. reading.traversal_at kind bytes.now ≡ Some (p.0, p.1.now)) }
+    ensures none { IfErr result (λ e. e ≡ Unread.Form → reading.traversal_at kind bytes.now ≡ None) }
+{
+    match kind {
+        6 => read_order(alloc, false, Direction::Forward, bytes),
+        7 => read_order(alloc, false, Direction::Backward, bytes),
+        8 => read_order(alloc, true, Direction::Forward, bytes),
+        9 => read_order(alloc, true, Direction::Backward, bytes),
+        10 => read_query(alloc, false, Direction::Forward, bytes),
+        11 => read_query(alloc, false, Direction::Backward, bytes),
+        12 => read_query(alloc, true, Direction::Forward, bytes),
+        _ => read_query(alloc, true, Direction::Backward, bytes),
+    }
+}
+
+#[tactic(auto, unfolding(crate::specs::Reading::looks_at))]
+fn read_look(alloc: Global, kind: u8, bytes: &[u8]) -> Result<(Look, &[u8]), Unread>
+    ensures some { IfOk result (λ p. reading.looks_at kind bytes.now ≡ Some (p.0, p.1.now)) }
+    ensures none { IfErr result (λ e. e ≡ Unread.Form → reading.looks_at kind bytes.now ≡ None) }
+{
+    match kind {
+        3 => read_data(alloc, bytes),
+        4 => read_bare_get(alloc, bytes),
+        5 => read_get(alloc, bytes),
+        _ => read_traversal(alloc, kind, bytes),
+    }
+}
+
+fn read_looking(alloc: Global, kind: u8, bytes: &[u8]) -> Result<(DataCommand, &[u8]), Unread>
+    ensures some { IfOk result (λ p. reading.looking_at kind bytes.now ≡ Some (p.0, p.1.now)) }
+    ensures none { IfErr result (λ e. e ≡ Unread.Form → reading.looking_at kind bytes.now ≡ None) }
+{
+    let (look, rest) = read_look(alloc, kind, bytes)?;
+    Ok((DataCommand::Look(look), rest))
+}
+
+#[tactic(auto, unfolding(crate::specs::Reading::command_at))]
+fn read_command(alloc: Global, kind: u8, bytes: &[u8]) -> Result<(DataCommand, &[u8]), Unread>
+    ensures some { IfOk result (λ p. reading.command_at kind bytes.now ≡ Some (p.0, p.1.now)) }
+    ensures none { IfErr result (λ e. e ≡ Unread.Form → reading.command_at kind bytes.now ≡ None) }
+{
+    match kind {
+        0 => read_set(alloc, bytes),
+        1 => read_kill(alloc, bytes),
+        2 => read_merge(alloc, bytes),
+        _ => read_looking(alloc, kind, bytes),
+    }
+}
+
+fn read_value(alloc: Global, bytes: &[u8]) -> Result<(Answer, &[u8]), Unread>
+    ensures some { IfOk result (λ p. reading.value_at bytes.now ≡ Some (p.0, p.1.now)) }
+    ensures none { IfErr result (λ e. e ≡ Unread.Form → reading.value_at bytes.now ≡ None) }
+{
+    let (text, rest) = read_text(alloc, bytes)?;
+    Ok((Answer::Value(text), rest))
+}
+
+fn read_count(bytes: &[u8]) -> Result<(Answer, &[u8]), Unread>
+    ensures some { IfOk result (λ p. reading.count_at bytes.now ≡ Some (p.0, p.1.now)) }
+    ensures none { IfErr result (λ e. e ≡ Unread.Form → reading.count_at bytes.now ≡ None) }
+{
+    let (number, rest) = read_number(bytes)?;
+    Ok((Answer::Number(number), rest))
+}
+
+fn read_found(alloc: Global, bytes: &[u8]) -> Result<(Answer, &[u8]), Unread>
+    ensures some { IfOk result (λ p. reading.found_at bytes.now ≡ Some (p.0, p.1.now)) }
+    ensures none { IfErr result (λ e. e ≡ Unread.Form → reading.found_at bytes.now ≡ None) }
+{
+    let (key, rest) = read_key(alloc, bytes)?;
+    Ok((Answer::Found(key), rest))
+}
+
+#[tactic(auto, unfolding(crate::specs::Reading::answer_at))]
+fn read_answer(alloc: Global, kind: u8, bytes: &[u8]) -> Result<(Answer, &[u8]), Unread>
+    ensures some { IfOk result (λ p. reading.answer_at kind bytes.now ≡ Some (p.0, p.1.now)) }
+    ensures none { IfErr result (λ e. e ≡ Unread.Form → reading.answer_at kind bytes.now ≡ None) }
+{
+    match kind {
+        0 => Ok((Answer::Done, bytes)),
+        1 => read_value(alloc, bytes),
+        2 => read_count(bytes),
+        _ => read_found(alloc, bytes),
+    }
+}
+
+#[tactic(auto, unfolding(crate::specs::Reading::answered_at))]
+fn read_answered(alloc: Global, tag: u8, bytes: &[u8]) -> Result<(Exchange, &[u8]), Unread>
+    ensures some { IfOk result (λ p. reading.answered_at tag bytes.now ≡ Some (p.0, p.1.now)) }
+    ensures none { IfErr result (λ e. e ≡ Unread.Form → reading.answered_at tag bytes.now ≡ None) }
+{
+    let (command, behind) = read_command(alloc, tag / 4, bytes)?;
+    match read_answer(alloc, tag % 4, behind) {
+        Ok((answer, rest)) => Ok((Exchange { command, answer }, rest)),
+        Err(unread) => {
+            drop(command);
+            Err(unread)
+        }
+    }
+}
+
+#[tactic(auto, unfolding(crate::specs::Reading::exchange_at))]
+fn read_exchange(alloc: Global, bytes: &[u8]) -> Result<(Exchange, &[u8]), Unread>
+    ensures some { IfOk result (λ p. reading.exchange_at bytes.now ≡ Some (p.0, p.1.now)) }
+    ensures none { IfErr result (λ e. e ≡ Unread.Form → reading.exchange_at bytes.now ≡ None) }
+{
+    match bytes {
+        [] => Err(Unread::Form),
+        [tag, rest @ ..] => read_answered(alloc, *tag, rest),
+    }
+}
+
+// So many exchanges.
+fn read_each_exchange(
+    alloc: Global,
+    count: u64,
+    bytes: &[u8],
+) -> Result<(Vec<Exchange>, &[u8]), Unread>
+    ensures some { IfOk result (λ p. reading.list_at reading.exchange_at count bytes.now ≡ Some (p.0.items, p.1.now)) }
+    ensures none { IfErr result (λ e. e ≡ Unread.Form → reading.list_at reading.exchange_at count bytes.now ≡ None) }
+{
+    let mut exchanges = Vec::new(alloc);
+    let mut rest = bytes;
+    for _ in 0..count {
+        exchanges.reserve(1)?;
+        match read_exchange(alloc, rest) {
+            Ok((exchange, behind)) => {
+                exchanges.push_reserved(exchange);
+                rest = behind;
+            }
+            Err(unread) => return Err(unread),
+        }
+    }
+    Ok((exchanges, rest))
+}
+
+#[tactic(auto, unfolding(crate::specs::Reading::exchanges_at))]
+fn read_exchanges(alloc: Global, bytes: &[u8]) -> Result<(Exchanges, &[u8]), Unread>
+    ensures some { IfOk result (λ p. reading.exchanges_at bytes.now ≡ Some (p.0, p.1.now)) }
+    ensures none { IfErr result (λ e. e ≡ Unread.Form → reading.exchanges_at bytes.now ≡ None) }
+{
+    let (count, behind) = read_number(bytes)?;
+    let (exchanges, rest) = read_each_exchange(alloc, count, behind)?;
+    Ok((Exchanges::new(exchanges), rest))
+}
+
+fn named(kind: u8, names: LockNames) -> LockCommand
+    ensures { result ≡ reading.named kind names }
+{
+    match kind {
+        16 => LockCommand::Only(names),
+        17 => LockCommand::More(names),
+        _ => LockCommand::Fewer(names),
+    }
+}
+
+fn read_named(alloc: Global, kind: u8, bytes: &[u8]) -> Result<(LockCommand, &[u8]), Unread>
+    ensures some { IfOk result (λ p. reading.named_at kind bytes.now ≡ Some (p.0, p.1.now)) }
+    ensures none { IfErr result (λ e. e ≡ Unread.Form → reading.named_at kind bytes.now ≡ None) }
+{
+    let (names, rest) = read_names(alloc, bytes)?;
+    Ok((named(kind, names), rest))
+}
+
+#[tactic(auto, unfolding(crate::specs::Reading::lock_at))]
+fn read_lock(alloc: Global, kind: u8, bytes: &[u8]) -> Result<(LockCommand, &[u8]), Unread>
+    ensures some { IfOk result (λ p. reading.lock_at kind bytes.now ≡ Some (p.0, p.1.now)) }
+    ensures none { IfErr result (λ e. e ≡ Unread.Form → reading.lock_at kind bytes.now ≡ None) }
+{
+    match kind {
+        15 => Ok((LockCommand::Release, bytes)),
+        _ => read_named(alloc, kind, bytes),
+    }
+}
+
+fn read_lone(alloc: Global, job: Job, tag: u8, bytes: &[u8]) -> Result<(Unit, &[u8]), Unread>
+    ensures some { IfOk result (λ p. reading.lone_at job tag bytes.now ≡ Some (p.0, p.1.now)) }
+    ensures none { IfErr result (λ e. e ≡ Unread.Form → reading.lone_at job tag bytes.now ≡ None) }
+{
+    let (exchange, rest) = read_answered(alloc, tag, bytes)?;
+    Ok((Unit::Lone(job, exchange.command, exchange.answer), rest))
+}
+
+fn read_whole(alloc: Global, job: Job, bytes: &[u8]) -> Result<(Unit, &[u8]), Unread>
+    ensures some { IfOk result (λ p. reading.whole_at job bytes.now ≡ Some (p.0, p.1.now)) }
+    ensures none { IfErr result (λ e. e ≡ Unread.Form → reading.whole_at job bytes.now ≡ None) }
+{
+    let (exchanges, rest) = read_exchanges(alloc, bytes)?;
+    Ok((Unit::Whole(job, exchanges), rest))
+}
+
+fn read_locked(alloc: Global, job: Job, tag: u8, bytes: &[u8]) -> Result<(Unit, &[u8]), Unread>
+    ensures some { IfOk result (λ p. reading.locked_at job tag bytes.now ≡ Some (p.0, p.1.now)) }
+    ensures none { IfErr result (λ e. e ≡ Unread.Form → reading.locked_at job tag bytes.now ≡ None) }
+{
+    let (command, rest) = read_lock(alloc, tag / 4, bytes)?;
+    let inside = tag % 4 >= 2;
+    let had = tag % 4 % 2 == 1;
+    Ok((Unit::Lock(job, inside, command, had), rest))
+}
+
+#[tactic(auto, unfolding(crate::specs::Reading::deed_at))]
+fn read_deed(alloc: Global, job: Job, tag: u8, bytes: &[u8]) -> Result<(Unit, &[u8]), Unread>
+    ensures some { IfOk result (λ p. reading.deed_at job tag bytes.now ≡ Some (p.0, p.1.now)) }
+    ensures none { IfErr result (λ e. e ≡ Unread.Form → reading.deed_at job tag bytes.now ≡ None) }
+{
+    if tag < 56 {
+        return read_lone(alloc, job, tag, bytes);
+    }
+    match tag {
+        56 => read_whole(alloc, job, bytes),
+        57 => Ok((Unit::Back(job), bytes)),
+        58 => Ok((Unit::End(job), bytes)),
+        _ => read_locked(alloc, job, tag, bytes),
+    }
+}
+
+#[tactic(auto, unfolding(crate::specs::Reading::deed_of))]
+fn read_tagged(alloc: Global, job: Job, bytes: &[u8]) -> Result<(Unit, &[u8]), Unread>
+    ensures some { IfOk result (λ p. reading.deed_of job bytes.now ≡ Some (p.0, p.1.now)) }
+    ensures none { IfErr result (λ e. e ≡ Unread.Form → reading.deed_of job bytes.now ≡ None) }
+{
+    match bytes {
+        [] => Err(Unread::Form),
+        [tag, rest @ ..] => read_deed(alloc, job, *tag, rest),
+    }
+}
+
+/// The unit that stands in front.
+#[tactic(auto, unfolding(crate::specs::Reading::unit_at))]
+pub(crate) fn read_unit(alloc: Global, bytes: &[u8]) -> Result<(Unit, &[u8]), Unread>
+    ensures some { IfOk result (λ p. reading.unit_at bytes.now ≡ Some (p.0, p.1.now)) }
+    ensures none { IfErr result (λ e. e ≡ Unread.Form → reading.unit_at bytes.now ≡ None) }
+{
+    let (number, rest) = read_number(bytes)?;
+    match Job::new(number) {
+        Ok(job) => read_tagged(alloc, job, rest),
+        Err(_) => Err(Unread::Form),
+    }
+}

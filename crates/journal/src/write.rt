@@ -1,0 +1,336 @@
+//! Units written as bytes, behind what stands there. A refusal may leave a part of them.
+ghost use Rattle.std.specs.Prelude.{◌≡◌, ◌≤◌, ◌+◌, ◌*◌, ◌++◌, [], ◌∷◌, OnOk, length, vec_len, vec_capacity};
+ghost use Rattle.std.specs.List.{flat_map};
+ghost use Rattle.journal.specs.Format as format;
+ghost use Rattle.journal.specs.declared.unit.Unit.TheVariants.{Lone, Whole, Lock, Back, End};
+ghost use Rattle.journal.specs.Stored.{FitsUnit, FitsString, FitsReference, FitsName, FitNames, FitsLook, FitsCommand, FitsAnswer, FitsLock, Each};
+
+use crate::exchanges::ExchangeLog;
+use collation::{Direction, Job, LockCommand, LockName, LockNames};
+use command::{Answer, DataCommand, Look};
+use key_codec::{Key, Place};
+use std::alloc::AllocError;
+
+// Room for so many bytes more; where twice the memory is refused, as much as is needed.
+pub(crate) fn make_room(bytes: &mut Vec<u8>, more: usize) -> Result<(), AllocError>
+    ensures items { bytes.new.items ≡ bytes.old.items }
+    ensures len { vec_len bytes.new ≡ vec_len bytes.old }
+    ensures capacity { vec_capacity bytes.old ≤ vec_capacity bytes.new }
+    ensures room { OnOk result (vec_len bytes.new + more ≤ vec_capacity bytes.new) }
+{
+    match bytes.reserve(more) {
+        Ok(()) => Ok(()),
+        Err(_) => bytes.reserve_exact(more),
+    }
+}
+
+fn push_bytes(bytes: &mut Vec<u8>, more: &[u8]) -> Result<(), AllocError>
+    ensures { OnOk result (bytes.new.items ≡ bytes.old.items ++ more.now) }
+{
+    make_room(bytes, more.len())?;
+    bytes.extend_from_slice(more)
+}
+
+fn push_byte(bytes: &mut Vec<u8>, byte: u8) -> Result<(), AllocError>
+    ensures { OnOk result (bytes.new.items ≡ bytes.old.items ++ byte ∷ []) }
+{
+    make_room(bytes, 1)?;
+    bytes.push_reserved(byte);
+    Ok(())
+}
+
+#[tactic(auto, unfolding(crate::specs::Format::number_bytes))]
+fn push_number(bytes: &mut Vec<u8>, number: u64) -> Result<(), AllocError>
+    ensures { OnOk result (bytes.new.items ≡ bytes.old.items ++ format.number_bytes number) }
+{
+    if number < 254 {
+        push_byte(bytes, number as u8)
+    } else if number < 65536 {
+        push_byte(bytes, 254)?;
+        push_bytes(bytes, &(number as u16).to_be_bytes())
+    } else {
+        push_byte(bytes, 255)?;
+        push_bytes(bytes, &number.to_be_bytes())
+    }
+}
+
+fn push_string(bytes: &mut Vec<u8>, string: &[u8]) -> Result<(), AllocError>
+    ensures bytes { OnOk result (bytes.new.items ≡ bytes.old.items ++ format.string_bytes string.now) }
+    ensures fits { FitsString string.now }
+{
+    push_number(bytes, string.len() as u64)?;
+    push_bytes(bytes, string)
+}
+
+fn push_key(bytes: &mut Vec<u8>, key: &Key) -> Result<(), AllocError>
+    ensures bytes { OnOk result (bytes.new.items ≡ bytes.old.items ++ format.reference_bytes key.now) }
+    ensures fits { OnOk result (FitsReference key.now) }
+{
+    push_string(bytes, key.as_slice())
+}
+
+fn push_name(bytes: &mut Vec<u8>, name: &LockName) -> Result<(), AllocError>
+    ensures bytes { OnOk result (bytes.new.items ≡ bytes.old.items ++ format.name_bytes name.now) }
+    ensures fits { OnOk result (FitsName name.now) }
+{
+    push_byte(bytes, u8::from(name.has_caret()))?;
+    let key = Key::of(*bytes.allocator(), name.reference())?;
+    push_key(bytes, &key)
+}
+
+fn push_each(bytes: &mut Vec<u8>, names: &[LockName]) -> Result<(), AllocError>
+    ensures bytes { OnOk result (bytes.new.items ≡ bytes.old.items ++ flat_map format.name_bytes names.now) }
+    ensures fits { OnOk result (Each FitsName names.now) }
+{
+    for name in names {
+        push_name(bytes, name)?;
+    }
+    Ok(())
+}
+
+fn push_names(bytes: &mut Vec<u8>, names: &LockNames) -> Result<(), AllocError>
+    ensures bytes { OnOk result (bytes.new.items ≡ bytes.old.items ++ format.names_bytes names.now) }
+    ensures fits { OnOk result (FitNames names.now) }
+{
+    let names = names.as_slice();
+    push_number(bytes, names.len() as u64)?;
+    push_each(bytes, names)
+}
+
+fn order_kind(place: &Place, direction: Direction) -> u8
+    ensures { result ≡ format.order_kind place.now.is_open direction }
+{
+    match direction {
+        Direction::Forward => { if place.is_open() { 8 } else { 6 } }
+        Direction::Backward => { if place.is_open() { 9 } else { 7 } }
+    }
+}
+
+fn query_kind(place: &Place, direction: Direction) -> u8
+    ensures { result ≡ format.query_kind place.now.is_open direction }
+{
+    match direction {
+        Direction::Forward => { if place.is_open() { 12 } else { 10 } }
+        Direction::Backward => { if place.is_open() { 13 } else { 11 } }
+    }
+}
+
+#[tactic(auto, using(crate::specs::laws::Reading::look_low))]
+fn look_kind(look: &Look) -> u8
+    ensures kind { result ≡ format.look_kind look.now }
+    ensures low { result ≤ 13 }
+{
+    match look {
+        Look::Data(_) => 3,
+        Look::Get(_, None) => 4,
+        Look::Get(_, Some(_)) => 5,
+        Look::Order(place, direction) => order_kind(place, *direction),
+        Look::Query(place, direction) => query_kind(place, *direction),
+    }
+}
+
+fn push_look(bytes: &mut Vec<u8>, look: &Look) -> Result<(), AllocError>
+    ensures bytes { OnOk result (bytes.new.items ≡ bytes.old.items ++ format.look_bytes look.now) }
+    ensures fits { OnOk result (FitsLook look.now) }
+{
+    match look {
+        Look::Data(key) => push_key(bytes, key),
+        Look::Get(key, None) => push_key(bytes, key),
+        Look::Get(key, Some(default)) => {
+            push_key(bytes, key)?;
+            push_string(bytes, default.as_slice())
+        }
+        Look::Order(place, _) => push_key(bytes, place.key()),
+        Look::Query(place, _) => push_key(bytes, place.key()),
+    }
+}
+
+fn command_kind(command: &DataCommand) -> u8
+    ensures kind { result ≡ format.command_kind command.now }
+    ensures low { result ≤ 13 }
+{
+    match command {
+        DataCommand::Set(_, _) => 0,
+        DataCommand::Kill(_) => 1,
+        DataCommand::Merge(_, _) => 2,
+        DataCommand::Look(look) => look_kind(look),
+    }
+}
+
+fn push_command(bytes: &mut Vec<u8>, command: &DataCommand) -> Result<(), AllocError>
+    ensures bytes { OnOk result (bytes.new.items ≡ bytes.old.items ++ format.command_bytes command.now) }
+    ensures fits { OnOk result (FitsCommand command.now) }
+{
+    match command {
+        DataCommand::Set(key, value) => {
+            push_key(bytes, key)?;
+            push_string(bytes, value.as_slice())
+        }
+        DataCommand::Kill(key) => push_key(bytes, key),
+        DataCommand::Merge(target, source) => {
+            push_key(bytes, target)?;
+            push_key(bytes, source)
+        }
+        DataCommand::Look(look) => push_look(bytes, look),
+    }
+}
+
+fn answer_kind(answer: &Answer) -> u8
+    ensures kind { result ≡ format.answer_kind answer.now }
+    ensures low { result ≤ 3 }
+{
+    match answer {
+        Answer::Done => 0,
+        Answer::Value(_) => 1,
+        Answer::Number(_) => 2,
+        Answer::Found(_) => 3,
+    }
+}
+
+fn push_answer(bytes: &mut Vec<u8>, answer: &Answer) -> Result<(), AllocError>
+    ensures bytes { OnOk result (bytes.new.items ≡ bytes.old.items ++ format.answer_bytes answer.now) }
+    ensures fits { OnOk result (FitsAnswer answer.now) }
+{
+    match answer {
+        Answer::Done => Ok(()),
+        Answer::Value(text) => push_string(bytes, text.as_slice()),
+        Answer::Number(number) => push_number(bytes, *number),
+        Answer::Found(key) => push_key(bytes, key),
+    }
+}
+
+// A command with its answer, behind one tag for both kinds.
+pub(crate) fn push_answered(
+    bytes: &mut Vec<u8>,
+    command: &DataCommand,
+    answer: &Answer,
+) -> Result<(), AllocError>
+    ensures bytes { OnOk result (bytes.new.items ≡ bytes.old.items ++ format.answered_bytes command.now answer.now) }
+    ensures command_fits { OnOk result (FitsCommand command.now) }
+    ensures answer_fits { OnOk result (FitsAnswer answer.now) }
+{
+    push_byte(bytes, 4 * command_kind(command) + answer_kind(answer))?;
+    push_command(bytes, command)?;
+    push_answer(bytes, answer)
+}
+
+fn lock_kind(command: &LockCommand) -> u8
+    ensures kind { result ≡ format.lock_kind command.now }
+    ensures low { result ≤ 18 }
+{
+    match command {
+        LockCommand::Release => 15,
+        LockCommand::Only(_) => 16,
+        LockCommand::More(_) => 17,
+        LockCommand::Fewer(_) => 18,
+    }
+}
+
+fn lock_flags(inside: bool, had: bool) -> u8
+    ensures flags { result ≡ format.lock_flags inside had }
+    ensures low { result ≤ 3 }
+{
+    match (inside, had) {
+        (false, false) => 0,
+        (false, true) => 1,
+        (true, false) => 2,
+        (true, true) => 3,
+    }
+}
+
+fn push_lock_names(bytes: &mut Vec<u8>, command: &LockCommand) -> Result<(), AllocError>
+    ensures bytes { OnOk result (bytes.new.items ≡ bytes.old.items ++ format.lock_bytes command.now) }
+    ensures fits { OnOk result (FitsLock command.now) }
+{
+    match command {
+        LockCommand::Release => Ok(()),
+        LockCommand::Only(names) => push_names(bytes, names),
+        LockCommand::More(names) => push_names(bytes, names),
+        LockCommand::Fewer(names) => push_names(bytes, names),
+    }
+}
+
+// A LOCK behind its tag.
+pub(crate) fn push_lock(
+    bytes: &mut Vec<u8>,
+    inside: bool,
+    command: &LockCommand,
+    had: bool,
+) -> Result<(), AllocError>
+    ensures bytes { OnOk result (bytes.new.items ≡ bytes.old.items ++ (4 * format.lock_kind command.now + format.lock_flags inside had) ∷ format.lock_bytes command.now) }
+    ensures fits { OnOk result (FitsLock command.now) }
+{
+    push_byte(bytes, 4 * lock_kind(command) + lock_flags(inside, had))?;
+    push_lock_names(bytes, command)
+}
+
+fn push_job(bytes: &mut Vec<u8>, job: Job) -> Result<(), AllocError>
+    ensures bytes { OnOk result (bytes.new.items ≡ bytes.old.items ++ format.number_bytes job) }
+    ensures low { 1 ≤ job }
+    ensures high { job ≤ 4096 }
+{
+    push_number(bytes, u64::from(job.number()))
+}
+
+// The unit of a data command outside a transaction.
+pub(crate) fn push_lone(
+    bytes: &mut Vec<u8>,
+    job: Job,
+    command: &DataCommand,
+    answer: &Answer,
+) -> Result<(), AllocError>
+    ensures bytes { OnOk result (bytes.new.items ≡ bytes.old.items ++ format.unit_bytes (Lone job command.now answer.now)) }
+    ensures fits { OnOk result (FitsUnit (Lone job command.now answer.now)) }
+{
+    push_job(bytes, job)?;
+    push_answered(bytes, command, answer)
+}
+
+// The unit of a LOCK.
+pub(crate) fn push_locked(
+    bytes: &mut Vec<u8>,
+    job: Job,
+    inside: bool,
+    command: &LockCommand,
+    had: bool,
+) -> Result<(), AllocError>
+    ensures bytes { OnOk result (bytes.new.items ≡ bytes.old.items ++ format.unit_bytes (Lock job inside command.now had)) }
+    ensures fits { OnOk result (FitsUnit (Lock job inside command.now had)) }
+{
+    push_job(bytes, job)?;
+    push_lock(bytes, inside, command, had)
+}
+
+// The unit of a rollback or restart.
+pub(crate) fn push_back(bytes: &mut Vec<u8>, job: Job) -> Result<(), AllocError>
+    ensures bytes { OnOk result (bytes.new.items ≡ bytes.old.items ++ format.unit_bytes (Back job)) }
+    ensures fits { OnOk result (FitsUnit (Back job)) }
+{
+    push_job(bytes, job)?;
+    push_byte(bytes, 57)
+}
+
+// The unit of a session's end.
+pub(crate) fn push_end(bytes: &mut Vec<u8>, job: Job) -> Result<(), AllocError>
+    ensures bytes { OnOk result (bytes.new.items ≡ bytes.old.items ++ format.unit_bytes (End job)) }
+    ensures fits { OnOk result (FitsUnit (End job)) }
+{
+    push_job(bytes, job)?;
+    push_byte(bytes, 58)
+}
+
+// The unit of a transaction, from its exchanges' bytes.
+pub(crate) fn push_whole(
+    bytes: &mut Vec<u8>,
+    job: Job,
+    exchanges: &ExchangeLog,
+) -> Result<(), AllocError>
+    ensures bytes { OnOk result (bytes.new.items ≡ bytes.old.items ++ format.unit_bytes (Whole job exchanges.now)) }
+    ensures fits { OnOk result (FitsUnit (Whole job exchanges.now)) }
+{
+    make_room(bytes, exchanges.as_slice().len().saturating_add(32))?;
+    push_job(bytes, job)?;
+    push_byte(bytes, 56)?;
+    push_number(bytes, exchanges.len())?;
+    push_bytes(bytes, exchanges.as_slice())
+}
