@@ -1,5 +1,1 @@
-pub mod Seeks
 pub mod Walks
-pub mod Merging
-pub mod Telling
-pub mod Changing

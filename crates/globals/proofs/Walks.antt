@@ -1,6 +1,7 @@
 -- A walk from member to member, as the list of what is left.
-use Rattle.std.proofs.Common.{◌≡◌, ℕ, Bool, true, false, List, [], ◌∷◌, refl, sym, ap, subst, ◌∙◌, Some, None, length, ◌<◌, arith}
+use Rattle.std.proofs.Common.{◌≡◌, ℕ, Bool, true, false, List, [], ◌∷◌, ◌++◌, Bor, refl, sym, ap, subst, ◌∙◌, Some, None, length, ◌<◌, arith}
 use Rattle.std.specs.Prelude.{cond, not, ◌&&◌, filter}
+use Rattle.globals.specs.declared.cut.Cut.TheVariants.{After}
 use Rattle.std.specs.declared.cmp.Ordering.{Ordering}
 use Rattle.std.specs.declared.cmp.Ordering.TheVariants.{Less, Greater}
 use Rattle.std.proofs.lemmas.Bool.{and_right}
@@ -17,7 +18,7 @@ use Rattle.collation.specs.Database.{Database, is_under}
 use Rattle.collation.specs.Levels.{is_before}
 use Rattle.collation.specs.Answers.{subtree_of}
 use Rattle.globals.specs.declared.cut.Cut.{Cut}
-use Rattle.globals.specs.Cuts.{stands_before, first_from, entries_from, front_under}
+use Rattle.globals.specs.Cuts.{stands_before, first_from, entries_from, front_under, IsFront}
 use Rattle.globals.specs.NearestLaws.{later_found, none_pass, still_fails, true_of}
 use Rattle.globals.specs.CutLaws.{stands_before-earlier, before_end-earlier, under_between}
 
@@ -102,3 +103,23 @@ descent_end r cut m is = ap (front_under r) (walk_end cut m is)
 -- the first of a list is one less left
 pub shorter : {A : Type 0} (xs ys : List A) (x : A) → xs ≡ x ∷ ys → length ys < length xs
 shorter xs ys x e = let n : length xs ≡ length (x ∷ ys) = ap length e in omega (arith, n)
+
+-- ---- runs of neighbours
+
+module _ {A : Type 0} (p : A → Bool) where
+  head_found : (es t : List A) (e : A) → filter p es ≡ e ∷ t → find p es ≡ Some e
+  head_found [] t e is = absurd (cc)
+  head_found (x ∷ es) t e is = elim (p x) as (λ b. cond b (x ∷ filter p es) (filter p es) ≡ e ∷ t → cond b (Some x) (find p es) ≡ Some e) [
+    | true ↦ λ is. let same : x ≡ e = cc in ap Some same
+    | false ↦ λ is. head_found es t e is
+  ] is
+
+tails : {A : Type 0} (a b : A) (xs ys : List A) → a ∷ xs ≡ b ∷ ys → xs ≡ ys
+tails a b xs ys e = cc
+
+-- the first of a run is the first from the cut on, and the others are a run after it
+pub taken : (cut : Cut) (m : Database) (run rest : List (Reference × List ℕ)) (e : Bor Reference × Bor (List ℕ)) → IsFront run (entries_from cut m) → run ≡ (e.0.now, e.1.now) ∷ rest → (first_from cut m ≡ Some (e.0.now, e.1.now)) × IsFront rest (entries_from (After e.0) m)
+taken cut m run rest x front h =
+    let all : entries_from cut m ≡ (x.0.now, x.1.now) ∷ (rest ++ front.rest) = front.parts ∙ ap (λ (l : List (Reference × List ℕ)). l ++ front.rest) h in
+    let first : first_from cut m ≡ Some (x.0.now, x.1.now) = head_found (λ e. not (stands_before cut e.0)) (finmap.entries m) (rest ++ front.rest) (x.0.now, x.1.now) all in
+    (first, record { rest = front.rest; parts = tails _ _ _ _ (sym (walk_step cut m (x.0.now, x.1.now) first) ∙ all) })

@@ -1,11 +1,11 @@
 -- What the answers of $DATA, $ORDER and $QUERY say of a database. The law functions of `laws.rt` prove each.
-use Rattle.std.specs.Prelude.{◌≡◌, ℕ, Bool, true, false, not, ◌&&◌, ◌⊎◌, List, [], ◌∷◌, ◌++◌, if◌then◌else◌, MatchOption}
+use Rattle.std.specs.Prelude.{◌≡◌, ℕ, Bool, true, false, not, ◌&&◌, ◌⊎◌, List, [], if◌then◌else◌, MatchOption}
 use Rattle.std.specs.Ordering.{is_lt}
 use Rattle.std.specs.FinMap as finmap
 use Rattle.collation.specs.Reference.{Reference, Spot}
 use Rattle.collation.specs.Order.{subscript_cmp, ref_cmp, ref_eq}
 use Rattle.collation.specs.Database.{Database, is_under}
-use Rattle.collation.specs.Levels.{is_below, parent_of}
+use Rattle.collation.specs.Levels.{is_below, parent_of, below}
 use Rattle.collation.specs.Answers.{data_of, is_beyond, order_of, follows, query_of}
 
 -- r has a value
@@ -26,10 +26,6 @@ pub record DataTells (m : Database) (r : Reference) : Type 0 where
   pub value : HasValue m r → ¬ (HasDescendant m r) → data_of r m ≡ 1
   pub descendants : ¬ (HasValue m r) → HasDescendant m r → data_of r m ≡ 10
   pub both : HasValue m r → HasDescendant m r → data_of r m ≡ 11
-
--- the reference one level below r
-abbrev pub below : Reference → List ℕ → Reference
-below r s = record { name = r.name; subscripts = r.subscripts ++ s ∷ [] }
 
 -- at the place's level, a member stands at or under the subscript s
 abbrev pub HasSibling : Spot → Database → List ℕ → Type 0

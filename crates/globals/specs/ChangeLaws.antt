@@ -2,12 +2,12 @@
 use Rattle.std.specs.Prelude.{◌≡◌, ℕ, List, None, Some, if◌then◌else◌}
 use Rattle.std.specs.Option.{option_or}
 use Rattle.std.specs.FinMap as finmap
-use Rattle.collation.specs.declared.command.Command.TheVariants.{Set, Kill, Merge}
+use Rattle.command.specs.declared.access.DataCommand.TheVariants.{Set, Kill, Merge}
 use Rattle.collation.specs.Reference.{Reference}
 use Rattle.collation.specs.Order.{ref_eq}
 use Rattle.collation.specs.Database.{Database, is_under}
 use Rattle.collation.specs.Answers.{moved}
-use Rattle.collation.specs.Data.{data_after}
+use Rattle.command.specs.Data.{data_after}
 
 -- after SET r has the value v, and each other reference what it had
 abbrev pub SetSetsOne : Type 0

@@ -1,5 +1,5 @@
 -- Which references stand before a cut, and which members of a database stand next to it.
-use Rattle.std.specs.Prelude.{ℕ, Bool, true, false, not, List, Option, [], ◌∷◌, filter, if◌then◌else◌}
+use Rattle.std.specs.Prelude.{◌++◌, ◌≡◌, ℕ, Bool, true, false, not, List, Option, [], ◌∷◌, filter, if◌then◌else◌}
 use Rattle.std.specs.Ordering.{is_lt}
 use Rattle.std.specs.FinMap as finmap
 use Rattle.collation.specs.Reference.{Reference, Spot}
@@ -48,3 +48,8 @@ entries_from cut m = filter (λ e. not (stands_before cut e.0)) (finmap.entries 
 abbrev pub front_under : Reference → List (Reference × List ℕ) → List (Reference × List ℕ)
 front_under r [] = []
 front_under r (e ∷ es) = if is_under r e.0 then e ∷ front_under r es else []
+
+-- the list begins with these
+pub record IsFront (front all : List (Reference × List ℕ)) : Type 0 where
+  pub rest : List (Reference × List ℕ)
+  pub parts : all ≡ front ++ rest

@@ -5,3 +5,7 @@ pub mod SequenceLaws
 pub mod PathLaws
 pub mod AnswerLaws
 pub mod ChangeLaws
+pub mod MergingLaws
+pub mod TellingLaws
+pub mod ChangingLaws
+pub mod SeekLaws

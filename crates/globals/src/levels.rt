@@ -1,16 +1,14 @@
 //! Where one reference stands to another, level by level.
 ghost use Rattle.std.specs.Prelude.{◌≡◌};
-ghost use Rattle.collation.specs.Levels.{has_name as has_name_spec, is_below as is_below_spec};
-ghost use Rattle.collation.specs.Data.{has_level as has_level_spec};
+ghost use Rattle.collation.specs.Levels.{has_level as has_level_spec, has_name as has_name_spec, is_below as is_below_spec};
 
-use collation::{Place, Ref};
-use key_codec::Key;
+use key_codec::{Key, Place};
 
 // Whether both have one name.
-pub(crate) fn has_name(reference: &Ref, key: &Key) -> bool
-    ensures { result ≡ has_name_spec reference.now key.now }
+pub(crate) fn has_name(a: &Key, b: &Key) -> bool
+    ensures { result ≡ has_name_spec a.now b.now }
 {
-    reference.name() == key.name()
+    a.name() == b.name()
 }
 
 // Whether the second is a descendant of the first.
@@ -24,5 +22,5 @@ pub(crate) fn is_below(root: &Key, key: &Key) -> bool
 pub(crate) fn has_level(place: &Place) -> bool
     ensures { result ≡ has_level_spec place.now }
 {
-    place.is_open() || !place.reference().subscripts().is_empty()
+    place.is_open() || place.key().subscripts().next().is_some()
 }

@@ -1,20 +1,19 @@
-//! $GET, $DATA, $ORDER, $QUERY and MERGE's list over any ordered view of a database, and walks over it.
+//! $DATA, $ORDER, $QUERY and MERGE's list over any ordered view of a database, and walks over it.
 //!
 //! A view is whatever implements `OrderedView`: it shows a finite map from references to values, and answers three
 //! look-ups: the value at a reference, the first member from a cut on, the last member before a cut. A cut parts the
-//! references in two: `specs/Cuts.antt`. What each function answers stands in `specs/Answers.antt` and
-//! `specs/Data.antt` of `collation`, so that callers see one meaning whatever the view is. A walk is seen as the list
-//! of members that it has left, in order.
+//! references in two: `specs/Cuts.antt`. What each function answers stands in `specs/Answers.antt` of `collation` and
+//! `specs/Data.antt` of `command`, so that callers see one meaning whatever the view is. $GET is the view's own `get`. A
+//! walk is seen as the list of members that it has left, in order.
 //!
-//! Nothing here scans siblings. $DATA takes two look-ups, $ORDER and $QUERY one, a walk one for each member. Over
-//! ^A(1,5), ^A(3), ^B the place ^A(1) forward starts past ^A(1) and finds ^A(3): $ORDER answers 3. Backward ^A("")
-//! starts past ^A and finds ^A(3).
+//! Over ^A(1,5), ^A(3), ^B the place ^A(1) forward starts past ^A(1) and finds ^A(3): $ORDER answers 3. Backward
+//! ^A("") starts past ^A and finds ^A(3).
 //!
 //! What the answers and changes say in the words of references and values: `laws.rt`, with `specs/AnswerLaws.antt`
 //! and `specs/ChangeLaws.antt`.
 //!
 //! Read `specs/Cuts.antt`, then `view.rt`, `sibling.rt`, `walk.rt`. The proofs go by lists in lexicographic order:
-//! `specs/SequenceLaws.antt`, `proofs/Seeks.antt`.
+//! `specs/SequenceLaws.antt`, `specs/SeekLaws.antt`.
 //! Not promised: how long a view takes for a look-up.
 #![tactic(auto)]
 
@@ -25,7 +24,7 @@ pub use laws::{
     set_sets_one,
 };
 pub use merge::merge_list;
-pub use node::{data, get};
+pub use node::data;
 pub use sibling::order;
 pub use traversal::query;
 pub use view::OrderedView;

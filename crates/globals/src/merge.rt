@@ -1,13 +1,15 @@
 //! What MERGE copies.
-ghost use Rattle.std.specs.Prelude.{◌≡◌, ◌⊎◌, Some, None, true, false, IfOk, MatchResult};
+ghost use Rattle.std.specs.Prelude.{◌≡◌, ◌⊎◌, Some, None, true, false, IfOk, IsErrOf, MatchResult};
 ghost use Rattle.collation.specs.Answers.{merged};
-ghost use Rattle.collation.specs.Data.{data_refusal, overlap, is_too_deep};
-ghost use Rattle.collation.specs.declared.command.Command.TheVariants.{Merge as merge_command};
+ghost use Rattle.command.specs.Data.{data_refusal};
+ghost use Rattle.collation.specs.Levels.{overlap};
+ghost use Rattle.collation.specs.Answers.{is_too_deep};
+ghost use Rattle.command.specs.declared.access.DataCommand.TheVariants.{Merge as merge_command};
 
 use crate::OrderedView;
 use crate::levels::is_below;
 use crate::walk::subtree;
-use collation::{Ref, Text};
+use collation::Text;
 use key_codec::Key;
 use refusal::Refusal;
 use std::alloc::Global;
@@ -40,7 +42,7 @@ fn copies_of<V: OrderedView>(
     Ok(copies)
 }
 
-/// What MERGE sets: each member at or under `b`, moved to `a`, with its value, in order.
+/// What MERGE sets: each member at or under `source`, moved to `target`, with its value, in order.
 ///
 /// Refusals: `MergeOverlap` where one of the references is a proper descendant of the other, before
 /// `TooManySubscripts` where a copy would have over 31; `OutOfMemory`.
@@ -49,20 +51,16 @@ fn copies_of<V: OrderedView>(
 pub fn merge_list<V: OrderedView>(
     alloc: Global,
     view: &V,
-    a: &Ref,
-    b: &Ref,
+    target: &Key,
+    source: &Key,
 ) -> Result<Vec<(Key, Text)>, Refusal>
-    ensures copies { IfOk result (λ copies. copies.items ≡ merged a.now b.now (V.content view.now)) }
-    ensures refused { MatchResult result (λ _. data_refusal (merge_command a.now b.now) (V.content view.now) ≡ None)
-        (λ refusal. (refusal ≡ Refusal.OutOfMemory) ⊎ (data_refusal (merge_command a.now b.now) (V.content view.now) ≡ Some refusal)) }
+    ensures copies { IfOk result (λ copies. copies.items ≡ merged target.now source.now (V.content view.now)) }
+    ensures overlaps { overlap target.now source.now ≡ true → IsErrOf result Refusal.MergeOverlap }
+    ensures refused { MatchResult result (λ _. data_refusal (merge_command target.now source.now) (V.content view.now) ≡ None)
+        (λ refusal. (refusal ≡ Refusal.OutOfMemory) ⊎ (data_refusal (merge_command target.now source.now) (V.content view.now) ≡ Some refusal)) }
 {
-    let target = Key::of(alloc, a)?;
-    let source = Key::of(alloc, b)?;
-    if is_overlap(&target, &source) {
+    if is_overlap(target, source) {
         return Err(Refusal::MergeOverlap);
     }
-    match copies_of(alloc, view, &target, &source) {
-        Ok(copies) => Ok(copies),
-        Err(refusal) => Err(refusal),
-    }
+    copies_of(alloc, view, target, source)
 }

@@ -1,87 +1,66 @@
 //! `$ORDER`.
-ghost use Rattle.std.specs.Prelude.{◌≡◌, ◌⊎◌, true, Some, None, [], unwrap_or, IfErr, IfOk, MatchResult};
-ghost use Rattle.std.specs.Option.{option_and_then, option_map};
+ghost use Rattle.std.specs.Prelude.{◌≡◌, ◌⊎◌, true, false, Some, None, [], unwrap_or, IfOk, IfSome, IsErrOf, MatchResult};
 ghost use Rattle.collation.specs.Reference.{Reference};
-ghost use Rattle.collation.specs.Levels.{child_of};
-ghost use Rattle.collation.specs.Answers.{order_of};
-ghost use Rattle.collation.specs.Data.{is_forward, data_refusal, has_level as has_level_spec};
-ghost use Rattle.collation.specs.declared.command.Command.TheVariants.{Order as order_command};
-ghost use Rattle.globals.specs.Cuts.{stands_before, order_start, next_to};
+ghost use Rattle.collation.specs.Levels.{below, has_level as has_level_spec, parent_of};
+ghost use Rattle.collation.specs.Answers.{is_forward, order_of};
+ghost use Rattle.key_codec.specs.Key.{IsReference};
+ghost use Rattle.command.specs.Data.{look_refusal};
+ghost use Rattle.command.specs.declared.access.Look.TheVariants.{Order as order_command};
+ghost use Rattle.globals.specs.Cuts.{stands_before, order_start};
 
 use crate::levels::has_level;
 use crate::view::key_at;
 use crate::{Cut, OrderedView};
-use collation::{Direction, Place, Text};
-use key_codec::Key;
+use collation::{Direction, Text};
+use key_codec::Place;
 use refusal::Refusal;
-use std::alloc::Global;
+use std::alloc::{AllocError, Global};
 
 // Where the search starts: an open place's descendants are its level, a closed one's are passed over.
-fn cut_of(start: &Key, is_open: bool, direction: Direction) -> Cut<'_>
-    ensures { (x : Reference) → stands_before result x ≡ order_start (is_forward direction) (record { reference = start.now; is_open = is_open }) x }
+fn cut_of(place: &Place, direction: Direction) -> Cut<'_>
+    ensures { (x : Reference) → stands_before result x ≡ order_start (is_forward direction) place.now x }
 {
     match direction {
         Direction::Forward => {
-            if is_open {
-                Cut::After(start)
+            if place.is_open() {
+                Cut::After(place.key())
             } else {
-                Cut::Past(start)
+                Cut::Past(place.key())
             }
         }
         Direction::Backward => {
-            if is_open {
-                Cut::Past(start)
+            if place.is_open() {
+                Cut::Past(place.key())
             } else {
-                Cut::Before(start)
+                Cut::Before(place.key())
             }
         }
     }
 }
 
-// The subscript under the level on the way to the first key from the cut on, or backward the last before it.
-fn nearest_child<V: OrderedView>(
-    alloc: Global,
-    view: &V,
-    level: &Key,
-    cut: Cut<'_>,
-    direction: Direction,
-) -> Result<Option<Text>, Refusal>
-    ensures child { IfOk result (λ child. child ≡ option_and_then (child_of level.now) (option_map (λ e. e.0) (next_to (is_forward direction) cut.entry (V.content view.now)))) }
-    ensures refused { IfErr result (λ refusal. refusal ≡ Refusal.OutOfMemory) }
-{
-    match key_at(view, cut, direction) {
-        Some(key) => key.child_under(alloc, level),
-        None => Ok(None),
-    }
-}
-
-// The same at the level of the place's last subscript, from the place on.
+// The nearest subscript at the level of the place's last one, from the place on.
 fn nearest_sibling<V: OrderedView>(
     alloc: Global,
     view: &V,
     place: &Place,
     direction: Direction,
-) -> Result<Option<Text>, Refusal>
+) -> Result<Option<Text>, AllocError>
     requires { has_level_spec place.now ≡ true }
     ensures answer { IfOk result (λ answer. unwrap_or answer [] ≡ order_of (is_forward direction) place.now (V.content view.now)) }
-    ensures refused { IfErr result (λ refusal. refusal ≡ Refusal.OutOfMemory) }
+    ensures fits { IfOk result (λ answer. IfSome answer (λ s. IsReference (below (parent_of place.now) s))) }
 {
-    let start = Key::of(alloc, place.reference())?;
-    let cut = cut_of(&start, place.is_open(), direction);
-    if place.is_open() {
-        nearest_child(alloc, view, &start, cut, direction)
-    } else {
-        let level = Key::above(alloc, place.reference())?;
-        nearest_child(alloc, view, &level, cut, direction)
+    match key_at(view, cut_of(place, direction), direction) {
+        Some(key) => place.child_toward(alloc, key),
+        None => Ok(None),
     }
 }
 
 /// The nearest subscript at the level of the place's last one that stands beyond it and has a value or
 /// descendants. None where there is no such subscript.
 ///
-/// An empty last subscript starts before the first, and backward after the last. Takes one look-up, and memory for
-/// the place's key and, where its last subscript isn't empty, for its level's.
-/// Refusals: `NeedSubscript` where the place has no subscript; `OutOfMemory`.
+/// An empty last subscript starts before the first, and backward after the last. Takes memory only for an answer of
+/// over 16 bytes.
+/// Refusals: `NeedSubscript` where the place has no subscript; `OutOfMemory`, which no such place gets.
 ///
 /// Source: ISO/IEC 11756:1999, $ORDER. That a bare name is refused: docs/RULES.md, "Profile".
 pub fn order<V: OrderedView>(
@@ -91,11 +70,14 @@ pub fn order<V: OrderedView>(
     direction: Direction,
 ) -> Result<Option<Text>, Refusal>
     ensures answer { IfOk result (λ answer. unwrap_or answer [] ≡ order_of (is_forward direction) place.now (V.content view.now)) }
-    ensures refused { MatchResult result (λ _. data_refusal (order_command place.now direction) (V.content view.now) ≡ None)
-        (λ refusal. (refusal ≡ Refusal.OutOfMemory) ⊎ (data_refusal (order_command place.now direction) (V.content view.now) ≡ Some refusal)) }
+    ensures fits { IfOk result (λ answer. IfSome answer (λ s. IsReference (below (parent_of place.now) s))) }
+    ensures bare { has_level_spec place.now ≡ false → IsErrOf result Refusal.NeedSubscript }
+    ensures refused { MatchResult result (λ _. look_refusal (order_command place.now direction) ≡ None)
+        (λ refusal. (refusal ≡ Refusal.OutOfMemory) ⊎ (look_refusal (order_command place.now direction) ≡ Some refusal)) }
 {
     if !has_level(place) {
         return Err(Refusal::NeedSubscript);
     }
-    nearest_sibling(alloc, view, place, direction)
+    let answer = nearest_sibling(alloc, view, place, direction)?;
+    Ok(answer)
 }

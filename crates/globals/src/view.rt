@@ -3,8 +3,8 @@ ghost use Rattle.std.specs.Prelude.{◌≡◌, Some, None, MatchOption};
 ghost use Rattle.std.specs.Option.{option_copied, option_map};
 ghost use Rattle.std.specs.FinMap as map;
 ghost use Rattle.collation.specs.Database.{Database};
-ghost use Rattle.collation.specs.Data.{is_forward};
-ghost use Rattle.globals.specs.Cuts.{first_from, last_before, next_to};
+ghost use Rattle.collation.specs.Answers.{is_forward};
+ghost use Rattle.globals.specs.Cuts.{entries_from, first_from, last_before, next_to, IsFront};
 
 use crate::Cut;
 use collation::{Direction, Text};
@@ -12,7 +12,7 @@ use key_codec::Key;
 
 /// A database that can be looked up and walked in order, however it is kept.
 ///
-/// An implementor says what it contains, and owes three answers about just that; there are no further laws. What
+/// An implementor says what it contains, and owes four answers about just that; there are no further laws. What
 /// stands before a cut is always a beginning of the members in order (`stands_before-earlier` of
 /// `specs/CutLaws.antt`), so a partition point serves `next` and `prev` both. Members are held and looked up by their
 /// keys, whose bytes compare as the references do, and contracts see the references. Keys and values are lent for as
@@ -29,6 +29,11 @@ pub trait OrderedView {
     fn next(&self, cut: Cut<'_>) -> Option<(&Key, &Text)>
         ensures { MatchOption result (first_from cut.entry (content self.now) ≡ None)
             (λ e. first_from cut.entry (content self.now) ≡ Some (e.0.now, e.1.now)) };
+
+    /// Neighbours from the cut on, with their values: a beginning of what doesn't stand before it. How many is up to the
+    /// view, which lends what lies together, and nothing where it would have to gather.
+    fn run(&self, cut: Cut<'_>) -> &[(Key, Text)]
+        ensures { IsFront result.now (entries_from cut.entry (content self.now)) };
 
     /// The last reference with a value that stands before the cut, with its value.
     fn prev(&self, cut: Cut<'_>) -> Option<(&Key, &Text)>

@@ -1,5 +1,6 @@
 -- What the places of cuts give in nodes that are in order.
-use Rattle.std.proofs.Common.{◌≡◌, ℕ, ◌-◌, ◌<◌, ◌≤◌, Bool, true, List, length, get_or, sym, ap, ◌∙◌, Some, None}
+use Rattle.std.proofs.Common.{◌≡◌, ℕ, ◌-◌, ◌<◌, ◌≤◌, Bool, true, List, length, take, drop, get_or, arith, length-drop, sym, ap, ◌∙◌, Some, None}
+use Rattle.std.proofs.lemmas.List.{take_all}
 use Rattle.std.specs.Prelude.{cond, not, filter}
 use Rattle.std.proofs.lemmas.Bool.{or_right}
 use Rattle.std.specs.Bool.{passes}
@@ -14,10 +15,10 @@ use Rattle.collation.specs.OrderLaws.{ref_cmp_total, ref_cmp-IsAntisymmetric, is
 use Rattle.collation.specs.Database.{Database, is_under}
 use Rattle.collation.specs.Levels.{is_before}
 use Rattle.globals.specs.declared.cut.Cut.{Cut}
-use Rattle.globals.specs.Cuts.{stands_before, first_from, last_before}
+use Rattle.globals.specs.Cuts.{stands_before, first_from, last_before, entries_from}
 use Rattle.globals.specs.NearestLaws.{true_of}
 use Rattle.globals.specs.CutLaws.{stands_before-earlier, before_end-earlier, under_between}
-use Rattle.job_core.proofs.Parts.{count, first_at, no_first, last_at, no_last, count_within, removed}
+use Rattle.job_core.proofs.Parts.{count, left_at, first_at, no_first, last_at, no_last, count_within, removed}
 use Rattle.job_core.proofs.Stored.{map_find}
 
 abbrev Nodes : Type 0
@@ -30,6 +31,13 @@ next_found es m cut n e h is c l at =
 
 pub next_none : (es : Nodes) (m : Database) (cut : Cut) (n : ℕ) → es ≡ map.entries m → n ≡ count (λ e. stands_before cut e.0) es → length es ≤ n → first_from cut m ≡ None
 next_none es m cut n is c l = rw (← is) (no_first (λ e. stands_before cut e.0) es (rw c at l))
+
+-- what a run lends
+pub lent : (d es : Nodes) (n : ℕ) → d ≡ es → take (length d - n) (drop n d) ≡ drop n es
+lent d es n e = take_all (length d - n) (drop n d) (omega (arith, length-drop n d)) ∙ ap (drop n) e
+
+pub run_is : (es : Nodes) (m : Database) (cut : Cut) (n : ℕ) (run : Nodes) → map.is_sorted ref_cmp es ≡ true → es ≡ map.entries m → n ≡ count (λ e. stands_before cut e.0) es → run ≡ drop n es → entries_from cut m ≡ run
+run_is es m cut n run h is c l = ap (filter (λ e. not (stands_before cut e.0))) (sym is) ∙ left_at ref_cmp (stands_before cut) (stands_before-earlier cut) es h ∙ ap (λ k. drop k es) (sym c) ∙ sym l
 
 pub prev_found : (es : Nodes) (m : Database) (cut : Cut) (n : ℕ) (e : Reference × List ℕ) → map.is_sorted ref_cmp es ≡ true → es ≡ map.entries m → n ≡ count (λ e. stands_before cut e.0) es → 0 < n → e ≡ get_or es (n - 1) e → last_before cut m ≡ Some e
 prev_found es m cut n e h is c l at =

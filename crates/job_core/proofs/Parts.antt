@@ -1,9 +1,11 @@
 -- What a test that holds of a beginning alone finds, counts and keeps.
-use Rattle.std.proofs.Common.{◌≡◌, ℕ, zero, suc, ◌<◌, ◌≤◌, Bool, true, false, List, [], ◌∷◌, length, get_or, refl, ap, subst, arith, Some, None}
+use Rattle.std.proofs.Common.{◌≡◌, ℕ, zero, suc, ◌<◌, ◌≤◌, Bool, true, false, List, [], ◌∷◌, length, drop, get_or, refl, ap, subst, arith, Some, None}
 use Rattle.std.specs.Prelude.{cond, not, ◌&&◌, filter, ◌-◌}
 use Rattle.std.specs.declared.cmp.Ordering.{Ordering}
 use Rattle.std.specs.declared.cmp.Ordering.TheVariants.{Less}
 use Rattle.std.specs.Cmp.{IsTotalOrder, first_so, second_so}
+use Rattle.std.specs.Ordering.{is_lt}
+use Rattle.collation.specs.OrderLaws.{is_less}
 use Rattle.std.specs.List.{find, remove_range}
 use Rattle.std.specs.Option.{option_or}
 use Rattle.std.specs.List.Sorted.{IsPartitionPoint, IsPartitionedBy}
@@ -68,6 +70,10 @@ module _ {K X : Type 0} (R : K → K → Ordering) where
   none_after : (B : K → Bool) → ((x y : K) → R x y ≡ Less → B y ≡ true → B x ≡ true) → (x : K) (es : List (K × X)) → B x ≡ false → below_all R x es ≡ true → filter (λ e. B e.0) es ≡ []
   none_after B early x es b h = none_pass R B x es (λ y l. still_fails R B early x y b l) h
 
+  all_fail : (B : K → Bool) → ((x y : K) → R x y ≡ Less → B y ≡ true → B x ≡ true) → (x : K) (es : List (K × X)) → B x ≡ false → below_all R x es ≡ true → filter (λ e. not (B e.0)) es ≡ es
+  all_fail B early x [] b h = refl
+  all_fail B early x (e ∷ es) b h = rw (still_fails R B early x e.0 b (is_less _ (first_so _ _ h))) (ap (λ l. e ∷ l) (all_fail B early x es b (second_so (is_lt (R x e.0)) _ h)))
+
   -- the first that fails stands at the number of those that pass
   pub first_at : (B : K → Bool) → ((x y : K) → R x y ≡ Less → B y ≡ true → B x ≡ true) → (es : List (K × X)) (d : K × X) → is_sorted R es ≡ true → count (λ e. B e.0) es < length es → find (λ e. not (B e.0)) es ≡ Some (get_or es (count (λ e. B e.0) es) d)
   first_at B early [] d h l = absurd (omega arith)
@@ -75,6 +81,14 @@ module _ {K X : Type 0} (R : K → K → Ordering) where
     | true ↦ λ b l. first_at B early es d (second_so (below_all R e.0 es) _ h) (omega arith)
     | false ↦ λ b l. rw (none_after B early e.0 es b (first_so _ _ h)) refl
   ] refl l
+
+  -- those that fail stand behind those that pass
+  pub left_at : (B : K → Bool) → ((x y : K) → R x y ≡ Less → B y ≡ true → B x ≡ true) → (es : List (K × X)) → is_sorted R es ≡ true → filter (λ e. not (B e.0)) es ≡ drop (count (λ e. B e.0) es) es
+  left_at B early [] h = refl
+  left_at B early (e ∷ es) h = elim (B e.0) as (λ b. B e.0 ≡ b → cond (not b) (e ∷ filter (λ e. not (B e.0)) es) (filter (λ e. not (B e.0)) es) ≡ drop (length (cond b (e ∷ filter (λ e. B e.0) es) (filter (λ e. B e.0) es))) (e ∷ es)) [
+    | true ↦ λ b. left_at B early es (second_so (below_all R e.0 es) _ h)
+    | false ↦ λ b. rw (none_after B early e.0 es b (first_so _ _ h)) (ap (λ l. e ∷ l) (all_fail B early e.0 es b (first_so _ _ h)))
+  ] refl
 
   -- the last that passes stands directly before
   pub last_at : (B : K → Bool) → ((x y : K) → R x y ≡ Less → B y ≡ true → B x ≡ true) → (es : List (K × X)) (d : K × X) → is_sorted R es ≡ true → 0 < count (λ e. B e.0) es → find_last (λ e. B e.0) es ≡ Some (get_or es (count (λ e. B e.0) es - 1) d)

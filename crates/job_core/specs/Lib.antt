@@ -1,6 +1,8 @@
+pub mod Machine
 pub mod Agrees
 pub mod Steps
 pub mod Causes
-pub mod Looks
+pub mod Copies
+pub mod Codes
 pub mod Held
 pub mod Places

@@ -1,12 +1,16 @@
 //! The state machine of all jobs: one step, and the run of a list.
-ghost use Rattle.std.specs.Prelude.{◌≡◌, [], ◌++◌, length, IfOk, OnErr, IsErrOf};
+ghost use Rattle.std.specs.Prelude.{◌≡◌, Some, IfOk, OnErr, IsErrOf, length};
+ghost use Rattle.refusal.specs.declared.Refusal.{Refusal};
+ghost use Rattle.command.specs.declared.request.Command.TheVariants.{Access};
 ghost use Rattle.journal.specs.History.{initial, after, IsLegal};
-ghost use Rattle.journal.specs.Story.{told, story_of};
-ghost use Rattle.job_core.specs.Causes.{IsCaused};
+ghost use Rattle.journal.specs.Story.{nothing_done, told, story_of};
+ghost use Rattle.job_core.specs.Causes.{early_refusal};
+ghost use Rattle.job_core.specs.Machine.{IsReply, AreReplies};
 
-use crate::data::lone;
+use crate::commands::lone;
 use crate::store::Store;
-use collation::{Command, Job, Reply};
+use collation::Job;
+use command::{DataCommand, Reply};
 use journal::Journal;
 use refusal::Refusal;
 use std::alloc::Global;
@@ -16,12 +20,13 @@ use std::marker::Model;
 #[derive(Debug, Drop)]
 pub enum Step {
     /// A job's command.
-    Do(Job, Command),
+    Do(Job, DataCommand),
 }
 
 /// The database, and the journal of what was done to it.
 ///
-/// Contracts see its journal: a list of units, each right at its place, of which the database is what they leave.
+/// Contracts see the machine: its units, each right at its place, of which the database is what they leave, and the
+/// open transactions, of which there are none yet.
 #[derive(Debug, Drop)]
 pub struct JobCore {
     alloc: Global,
@@ -30,13 +35,16 @@ pub struct JobCore {
 }
 
 impl Model for JobCore {
-    ghost use Rattle.std.specs.Prelude.{List};
-    ghost use Rattle.journal.specs.declared.unit.Unit.{Unit as JournalUnit};
+    ghost use Rattle.std.specs.FinMap as map;
+    ghost use Rattle.journal.specs.Story.{Machine};
     ghost use Rattle.job_core.specs.Agrees.{Agrees};
+    ghost use Rattle.job_core.specs.Codes.{machine_code};
 
-    ghost Value = { List JournalUnit };
+    ghost Value = { Machine };
 
-    ghost view = { λ c. c.journal.units };
+    ghost coded = { machine_code };
+
+    ghost view = { λ c. record { units = c.journal.units; transactions = map.empty } };
 
     ghost invariant = { λ c. Agrees c.journal.units c.store.map };
 }
@@ -46,7 +54,7 @@ impl JobCore {
 
     /// A core without units, whose database is empty. Takes no memory.
     pub fn new(alloc: Global) -> JobCore
-        ensures { result ≡ [] }
+        ensures { result ≡ nothing_done }
     {
         JobCore {
             alloc,
@@ -57,49 +65,54 @@ impl JobCore {
 
     /// What was done so far.
     pub fn journal(&self) -> &Journal
-        ensures units { result.now.units ≡ self.now }
-        ensures legal { IsLegal self.now initial }
+        ensures units { result.now.units ≡ self.now.units }
+        ensures legal { IsLegal self.now.units initial }
     {
         &self.journal
     }
 
     /// The database: what the journal's units leave.
     pub fn content(&self) -> &Store
-        ensures { result.now.map ≡ (after self.now initial).map }
+        ensures { result.now.map ≡ (after self.now.units initial).map }
     {
         &self.store
     }
 
-    /// One step of a job. Its reply is told in the journal, or it is a refusal that changed nothing.
+    /// One step of a job. Either the journal gains a unit with the reply, or the reply is a refusal and nothing has
+    /// changed.
     ///
     /// Refusals: by the command's own rule `NeedSubscript`, `MergeOverlap`, `TooManySubscripts`; then
-    /// `StampsUsedUp` where the journal is full; `OutOfMemory`.
-    pub fn step(&mut self, job: Job, command: Command) -> Reply
-        ensures journal { self.new ≡ self.old ++ told job command result }
-        ensures legal { IsLegal self.new initial }
-        ensures caused { IsCaused result command (after self.old initial).map (length self.old) }
+    /// `StampsUsedUp` where the journal is full; `OutOfMemory`, which never hides a rule that is looked at before
+    /// memory is asked for.
+    pub fn step(&mut self, job: Job, command: DataCommand) -> Reply
+        ensures machine { self.new ≡ told job (Access command) result self.old }
+        ensures exact { IsReply job (Access command) result self.old }
+        ensures early { (refusal : Refusal) → early_refusal command ≡ Some refusal → result ≡ Reply.Refused refusal }
+        ensures legal { IsLegal self.new.units initial }
     {
         match lone(self.alloc, &mut self.store, &mut self.journal, job, command) {
-            Ok((reply, _receipt)) => reply,
+            Ok((answer, _receipt)) => Reply::Answered(answer),
             Err(refusal) => Reply::Refused(refusal),
         }
     }
 
     fn take_step(&mut self, step: Step) -> Reply
-        ensures journal { self.new ≡ self.old ++ told (command_of step).0 (command_of step).1 result }
-        ensures legal { IsLegal self.new initial }
+        ensures machine { self.new ≡ told (command_of step).0 (command_of step).1 result self.old }
+        ensures exact { IsReply (command_of step).0 (command_of step).1 result self.old }
+        ensures legal { IsLegal self.new.units initial }
     {
         match step {
             Step::Do(job, command) => self.step(job, command),
         }
     }
 
-    /// Steps in turn, with a reply for each. Room for the replies is made first, so that a refusal of the
-    /// whole, `OutOfMemory`, did nothing.
+    /// Steps in turn, with a reply for each. The list of replies is allocated first; if that is refused,
+    /// `OutOfMemory`, no step was done.
     pub fn run(&mut self, steps: Vec<Step>) -> Result<Vec<Reply>, Refusal>
-        ensures journal { IfOk result (λ replies. self.new ≡ self.old ++ story_of (commands_of steps.items) replies.items) }
+        ensures machine { IfOk result (λ replies. self.new ≡ story_of (commands_of steps.items) replies.items self.old) }
+        ensures exact { IfOk result (λ replies. AreReplies (commands_of steps.items) replies.items self.old) }
         ensures each { IfOk result (λ replies. length replies.items ≡ length steps.items) }
-        ensures legal { IsLegal self.new initial }
+        ensures legal { IsLegal self.new.units initial }
         ensures refused { OnErr result (self.new ≡ self.old) }
         ensures memory { OnErr result (IsErrOf result Refusal.OutOfMemory) }
     {
@@ -119,11 +132,13 @@ ghost use Rattle.job_core.specs.Steps.{commands_of};
 /// After any list of atomic steps of any number of jobs, every reply of a committed transaction or lone
 /// command, and the whole database, are those of one map from names and subscripts to values: with J the new
 /// core's journal, J is the story of the steps and their replies, each reply in J is the one map's at its
-/// place, and the content is the map that J leaves. (`content` ensures the last of any core.)
+/// place, and the content is the map that J leaves. (`content` ensures the last of any core.) And each reply is the
+/// machine's at its place, or that memory was wanting, which leaves all as it was.
 pub fn run_from_nothing(alloc: Global, steps: Vec<Step>) -> Result<(JobCore, Vec<Reply>), Refusal>
-    ensures story { IfOk result (λ r. r.0 ≡ story_of (commands_of steps.items) r.1.items) }
+    ensures story { IfOk result (λ r. r.0 ≡ story_of (commands_of steps.items) r.1.items nothing_done) }
+    ensures exact { IfOk result (λ r. AreReplies (commands_of steps.items) r.1.items nothing_done) }
     ensures each { IfOk result (λ r. length r.1.items ≡ length steps.items) }
-    ensures legal { IfOk result (λ r. IsLegal r.0 initial) }
+    ensures legal { IfOk result (λ r. IsLegal r.0.units initial) }
     ensures memory { OnErr result (IsErrOf result Refusal.OutOfMemory) }
 {
     let mut core = JobCore::new(alloc);

@@ -1,20 +1,18 @@
 //! The store, its look-ups and its changes.
-ghost use Rattle.std.specs.Prelude.{◌≡◌, true, ◌+◌, ◌≤◌, ◌<◌, OnOk, OnErr, IsErrOf, vec_len, vec_capacity};
+ghost use Rattle.std.specs.Prelude.{◌≡◌, not, true, ◌+◌, ◌≤◌, ◌<◌, OnOk, OnErr, vec_len, vec_capacity};
 ghost use Rattle.std.specs.Option.{option_copied};
 ghost use Rattle.std.specs.FinMap as map;
 ghost use Rattle.std.specs.FinMap.Entries.{put};
 ghost use Rattle.std.specs.List.{insert, remove_range};
 ghost use Rattle.collation.specs.Order.{ref_cmp};
 ghost use Rattle.collation.specs.Answers.{set_all};
-ghost use Rattle.collation.specs.Data.{data_after};
-ghost use Rattle.collation.specs.declared.command.Command.TheVariants.{Set as set_command, Kill as kill_command};
+ghost use Rattle.collation.specs.Database.{is_under};
 
 use crate::search::{count_before, place_of};
 use collation::Text;
 use globals::{Cut, OrderedView};
 use key_codec::Key;
-use refusal::Refusal;
-use std::alloc::Global;
+use std::alloc::{AllocError, Global};
 use std::marker::Model;
 
 /// The references that have a value, by their keys, with their values, in order.
@@ -108,22 +106,23 @@ impl Store {
     }
 
     /// Makes room for `more` further references, and keeps what room there is. Where that is enough it isn't refused.
-    /// Where memory is refused nothing has changed.
-    pub fn reserve(&mut self, more: usize) -> Result<(), Refusal>
+    /// Where room for twice as many is refused, just what is needed is asked for. Where that is refused nothing has changed.
+    pub fn reserve(&mut self, more: usize) -> Result<(), AllocError>
         ensures map { self.new.map ≡ self.old.map }
         ensures room { self.old.spare ≤ self.new.spare }
         ensures ok { OnOk result (more ≤ self.new.spare) }
         ensures full { OnErr result (self.old.spare < more) }
-        ensures memory { OnErr result (IsErrOf result Refusal.OutOfMemory) }
     {
-        self.nodes.reserve(more)?;
-        Ok(())
+        if self.nodes.reserve(more).is_ok() {
+            return Ok(());
+        }
+        self.nodes.reserve_exact(more)
     }
 
     /// Sets the value of a reference, for which there is room. Takes no memory.
     pub fn set_reserved(&mut self, key: Key, value: Text)
         requires { 0 < self.old.spare }
-        ensures map { self.new.map ≡ data_after (set_command key value) self.old.map }
+        ensures map { self.new.map ≡ map.insert self.old.map key value }
         ensures spare { self.old.spare ≤ self.new.spare + 1 }
     {
         put_node(&mut self.nodes, key, value);
@@ -141,7 +140,7 @@ impl Store {
 
     /// Removes the reference and all its descendants. Takes no memory.
     pub fn kill(&mut self, key: &Key)
-        ensures map { self.new.map ≡ data_after (kill_command key.now) self.old.map }
+        ensures map { self.new.map ≡ map.retain_keys self.old.map (λ x. not (is_under key.now x)) }
         ensures spare { self.old.spare ≤ self.new.spare }
     {
         let low = count_before(&self.nodes, Cut::Before(key));
@@ -165,6 +164,11 @@ impl OrderedView for Store {
         } else {
             None
         }
+    }
+
+    fn run(&self, cut: Cut<'_>) -> &[(Key, Text)] {
+        let place = count_before(&self.nodes, cut);
+        &self.nodes[place..]
     }
 
     fn prev(&self, cut: Cut<'_>) -> Option<(&Key, &Text)> {

@@ -3,7 +3,7 @@ use Rattle.std.specs.Prelude.{map}
 use Rattle.std.specs.List.{list_any, list_all}
 use Rattle.collation.specs.Database.{is_under}
 use Rattle.collation.specs.Answers.{merged}
-use Rattle.globals.proofs.Merging.{copied, is_deep}
+use Rattle.globals.specs.MergingLaws.{copied, is_deep}
 use Rattle.globals.proofs.merge.copies_of.Given as goal
 
 abbrev pub invariant-loop-key : goal.invariant-loop-key

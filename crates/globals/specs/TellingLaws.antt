@@ -15,15 +15,15 @@ use Rattle.collation.specs.Order.{subscript_cmp, ref_cmp}
 use Rattle.collation.specs.OrderLaws.{subscript_cmp_total, ref_cmp_total, ref_cmp-IsAntisymmetric, is_less}
 use Rattle.collation.specs.Database.{Database, is_under, begins_with}
 use Rattle.collation.specs.Nearest.{nearest}
-use Rattle.collation.specs.Levels.{child, child_of, is_below, parent_of}
+use Rattle.collation.specs.Levels.{child, child_of, is_below, parent_of, below}
 use Rattle.collation.specs.Answers.{any_of, is_beyond, counts, order_of, follows}
 use Rattle.globals.specs.NearestLaws.{IsNearest, any_nearest, nearest_is, nearest_none}
 use Rattle.globals.specs.SequenceLaws.{next_less}
 use Rattle.globals.specs.PathLaws.{path, cmp_path, child_path}
-use Rattle.globals.specs.AnswerLaws.{HasValue, HasDescendant, DescendantsAreUnder, DataTells, below, IsNearestSibling, HasNoSibling, OrderTells, IsNearestNode, QueryTells}
+use Rattle.globals.specs.AnswerLaws.{HasValue, HasDescendant, DescendantsAreUnder, DataTells, IsNearestSibling, HasNoSibling, OrderTells, IsNearestNode, QueryTells}
 
 -- what the map has nothing at has no value
-no_value : (m : Database) (x : Reference) → finmap.get m x ≡ None → HasValue m x → ⊥
+pub no_value : (m : Database) (x : Reference) → finmap.get m x ≡ None → HasValue m x → ⊥
 no_value m x none v = let e : false ≡ true = sym (ap is_some none) ∙ v in absurd (cc)
 
 -- ---- $DATA
@@ -76,13 +76,13 @@ begins_child (p ∷ ps) (x ∷ xs) s h =
     rw (same_text p x (sym x_is)) (begins_child ps xs s (second_so _ _ h))
 
 -- the subscript on the way to x is s where x stands at or under s, one level below r
-child_under : (r x : Reference) (s : List ℕ) → child_of r x ≡ Some s → is_under (below r s) x ≡ true
+pub child_under : (r x : Reference) (s : List ℕ) → child_of r x ≡ Some s → is_under (below r s) x ≡ true
 child_under r x s h = let parts = chosen (pointwise nat_eq r.name x.name) (child r.subscripts x.subscripts) s h in and_from _ _ parts.0 (child_begins r.subscripts x.subscripts s parts.1)
 
-under_child : (r x : Reference) (s : List ℕ) → is_under (below r s) x ≡ true → child_of r x ≡ Some s
+pub under_child : (r x : Reference) (s : List ℕ) → is_under (below r s) x ≡ true → child_of r x ≡ Some s
 under_child r x s h = rw (first_so (pointwise nat_eq r.name x.name) _ h) (begins_child r.subscripts x.subscripts s (second_so (pointwise nat_eq r.name x.name) _ h))
 
-siblings_less : (r x y : Reference) (s t : List ℕ) → child_of r x ≡ Some s → child_of r y ≡ Some t → subscript_cmp s t ≡ Less → ref_cmp x y ≡ Less
+pub siblings_less : (r x y : Reference) (s t : List ℕ) → child_of r x ≡ Some s → child_of r y ≡ Some t → subscript_cmp s t ≡ Less → ref_cmp x y ≡ Less
 siblings_less r x y s t a b l = cmp_path x y ∙ next_less subscript_cmp subscript_cmp_total (path r) (path x) (path y) s t (sym (child_path r x) ∙ a) (sym (child_path r y) ∙ b) l
 
 -- a sibling isn't nearer, where none of its members is

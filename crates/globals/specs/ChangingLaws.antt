@@ -1,6 +1,6 @@
 -- What SET, KILL and MERGE leave, reference by reference.
 use Rattle.std.proofs.Common.{◌≡◌, ℕ, Bool, true, false, List, [], ◌∷◌, ◌++◌, length, drop, refl, sym, ap, subst, ◌∙◌}
-use Rattle.std.specs.Prelude.{cond, not, ◌&&◌, map, filter, Option, Some, None}
+use Rattle.std.specs.Prelude.{cond, not, ◌&&◌, ◌||◌, map, filter, is_some, Option, Some, None}
 use Rattle.std.specs.Option.{option_or}
 use Rattle.std.specs.Ordering.{eq_by_cmp}
 use Rattle.std.proofs.Math.Seq.{drop-append_seam}
@@ -16,11 +16,11 @@ use Rattle.collation.specs.Database.{Database, is_under, begins_with}
 use Rattle.collation.specs.Answers.{merged, moved, set_all}
 use Rattle.globals.specs.NearestLaws.{not_found_itself, true_of}
 use Rattle.globals.specs.ChangeLaws.{SetSetsOne, KillKillsSubtree, MergeCopiesSubtree}
-use Rattle.globals.proofs.Merging.{copied}
+use Rattle.globals.specs.MergingLaws.{copied}
 
 -- ---- SET and KILL
 
-get_set : (m : Database) (r : Reference) (v : List ℕ) (q : Reference) → finmap.get (finmap.insert m r v) q ≡ cond (ref_eq q r) (Some v) (finmap.get m q)
+pub get_set : (m : Database) (r : Reference) (v : List ℕ) (q : Reference) → finmap.get (finmap.insert m r v) q ≡ cond (ref_eq q r) (Some v) (finmap.get m q)
 get_set m r v q = finmap.get-insert ref_cmp_total m r v q ∙ ap (λ b. cond b (Some v) (finmap.get m q)) (sym (ref_ties q r))
 
 pub set_one : SetSetsOne
@@ -41,18 +41,18 @@ begins_append : (ys zs : List (List ℕ)) → begins_with (ys ++ zs) ys ≡ true
 begins_append [] zs = refl
 begins_append (y ∷ ys) zs = and_from _ _ ((bytes_decides y y).1 refl) (begins_append ys zs)
 
-begins_back : (xs ys : List (List ℕ)) → begins_with xs ys ≡ true → ys ++ drop (length ys) xs ≡ xs
+pub begins_back : (xs ys : List (List ℕ)) → begins_with xs ys ≡ true → ys ++ drop (length ys) xs ≡ xs
 begins_back xs [] h = refl
 begins_back [] (y ∷ ys) h = absurd (cc)
 begins_back (x ∷ xs) (y ∷ ys) h =
     let same : x ≡ y = (bytes_decides x y).0 (first_so _ _ h) in
     λ i. sym same i ∷ begins_back xs ys (second_so _ _ h) i
 
-under_moved : (a b e : Reference) → is_under a (moved a b e) ≡ true
+pub under_moved : (a b e : Reference) → is_under a (moved a b e) ≡ true
 under_moved a b e = and_from _ _ ((bytes_decides a.name a.name).1 refl) (begins_append a.subscripts (drop (length b.subscripts) e.subscripts))
 
 -- moved there and back
-back_moved : (a b e : Reference) → is_under b e ≡ true → moved b a (moved a b e) ≡ e
+pub back_moved : (a b e : Reference) → is_under b e ≡ true → moved b a (moved a b e) ≡ e
 back_moved a b e h =
     let name : b.name ≡ e.name = (bytes_decides b.name e.name).0 (first_so _ _ h) in
     let rest : b.subscripts ++ drop (length a.subscripts) (a.subscripts ++ drop (length b.subscripts) e.subscripts) ≡ e.subscripts =
@@ -134,3 +134,14 @@ merge_subtree m a b q =
     get_set_all (merged a b m) m q
     ∙ ap (λ o. option_or o (finmap.get m q)) (last_copied a b q (finmap.entries m) (true_of _ (finmap.entries_sorted m)) ∙ ap (λ o. cond (is_under a q) o None) (sym (finmap.get-entries m (moved b a q))))
     ∙ chosen (is_under a q) (finmap.get m (moved b a q)) (finmap.get m q)
+
+-- copies that are set in any database w: a reference has a value where it is a copy, or had one in w
+some_or : {A : Type 0} (u : Bool) (o g : Option A) → is_some (option_or (cond u o None) g) ≡ ((u && is_some o) || is_some g)
+some_or true (Some x) g = refl
+some_or true None g = refl
+some_or false o g = refl
+
+pub contains_merged : (a b x : Reference) (m w : Database) → finmap.contains_key (set_all (merged a b m) w) x ≡ ((is_under a x && finmap.contains_key m (moved b a x)) || finmap.contains_key w x)
+contains_merged a b x m w =
+    ap is_some (get_set_all (merged a b m) w x ∙ ap (λ o. option_or o (finmap.get w x)) (last_copied a b x (finmap.entries m) (true_of _ (finmap.entries_sorted m)) ∙ ap (λ o. cond (is_under a x) o None) (sym (finmap.get-entries m (moved b a x)))))
+    ∙ some_or (is_under a x) (finmap.get m (moved b a x)) (finmap.get w x)

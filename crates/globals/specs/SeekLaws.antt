@@ -17,8 +17,7 @@ use Rattle.collation.specs.Database.{Database}
 use Rattle.globals.specs.NearestLaws.{keep, nearest_after, nearest_before, nearest_passes, answered, any_nearest}
 use Rattle.globals.specs.SequenceLaws.{sibling, below_after, below_closed, below_before, below_closed_back, sibling_after, sibling_closed, sibling_before, sibling_closed_back, sibling_known, sibling_known_back, head_closed, head_closed_back, head_closed_end}
 use Rattle.collation.specs.Nearest.{nearest}
-use Rattle.refusal.specs.declared.Refusal.{Refusal}
-use Rattle.collation.specs.Levels.{child_of, front, is_below, has_name, is_nil, parent_of, is_after, is_before}
+use Rattle.collation.specs.Levels.{child_of, is_below, has_name, is_nil, parent_of, is_after, is_before}
 use Rattle.collation.specs.Answers.{any_of, counts, follows, order_of, query_of}
 use Rattle.globals.specs.declared.cut.Cut.{Cut}
 use Rattle.globals.specs.CutLaws.{not_before_end}
@@ -29,18 +28,18 @@ any_true : {X : Type 0} (o : Option X) → any_of (λ _. true) o ≡ is_some o
 any_true (Some x) = refl
 any_true None = refl
 
-less_path : (r x : Reference) → is_lt (ref_cmp r x) ≡ true → slice_cmp subscript_cmp (path r) (path x) ≡ Less
+pub less_path : (r x : Reference) → is_lt (ref_cmp r x) ≡ true → slice_cmp subscript_cmp (path r) (path x) ≡ Less
 less_path r x h = sym (cmp_path r x) ∙ is_less _ h
 
 -- ---- below a reference
 
-below_is_after : (r x : Reference) → is_below r x ≡ true → is_after false r x ≡ true
+pub below_is_after : (r x : Reference) → is_below r x ≡ true → is_after false r x ≡ true
 below_is_after r x h = ap is_lt (cmp_path r x ∙ below_after subscript_cmp subscript_cmp_total (path r) (path x) (sym (ap is_some (child_path r x)) ∙ h))
 
 below_is_closed : (r x y : Reference) → is_after false r x ≡ true → ref_cmp x y ≡ Less → is_below r y ≡ true → is_below r x ≡ true
 below_is_closed r x y b l h = ap is_some (child_path r x) ∙ below_closed subscript_cmp subscript_cmp_total (path r) (path x) (path y) (less_path r x b) (sym (cmp_path x y) ∙ l) (sym (ap is_some (child_path r y)) ∙ h)
 
-below_is_before : (r x : Reference) → is_below r x ≡ true → is_before true r x ≡ true
+pub below_is_before : (r x : Reference) → is_below r x ≡ true → is_before true r x ≡ true
 below_is_before r x h = before_path r x ∙ below_before subscript_cmp subscript_cmp_total (path r) (path x) (sym (ap is_some (child_path r x)) ∙ h)
 
 below_is_closed_back : (r x y : Reference) → is_before true r y ≡ true → ref_cmp x y ≡ Less → is_below r x ≡ true → is_below r y ≡ true
@@ -70,7 +69,7 @@ seek false p = is_before p.is_open p.reference
 abbrev answer_of : Bool → Spot → Database → List ℕ
 answer_of forward p m = unwrap_or (option_and_then (λ e. child_of (parent_of p) e.0) (nearest forward (seek forward p) m)) []
 
-counts_opened : (forward : Bool) (r x : Reference) → counts forward (opened r) x ≡ is_below r x
+pub counts_opened : (forward : Bool) (r x : Reference) → counts forward (opened r) x ≡ is_below r x
 counts_opened forward r x = any_true (child_of r x)
 
 open_after : (r : Reference) (m : Database) → order_of true (opened r) m ≡ answer_of true (opened r) m
@@ -100,13 +99,13 @@ deeper n s ss = record { name = n; subscripts = s ∷ ss }
 later : List ℕ → List ℕ → Bool
 later r x = is_lt (subscript_cmp r x)
 
-counts_after : (n s : List ℕ) (ss : List (List ℕ)) (x : Reference) → counts true (closed (deeper n s ss)) x ≡ sibling subscript_cmp (λ r x. is_lt (subscript_cmp r x)) (path (deeper n s ss)) (path x)
+pub counts_after : (n s : List ℕ) (ss : List (List ℕ)) (x : Reference) → counts true (closed (deeper n s ss)) x ≡ sibling subscript_cmp (λ r x. is_lt (subscript_cmp r x)) (path (deeper n s ss)) (path x)
 counts_after n s ss x = sibling_next (λ r x. is_lt (subscript_cmp r x)) (120 ∷ n) (s ∷ ss) (path x)
 
-counts_before : (n s : List ℕ) (ss : List (List ℕ)) (x : Reference) → counts false (closed (deeper n s ss)) x ≡ sibling subscript_cmp (λ r x. is_lt (subscript_cmp x r)) (path (deeper n s ss)) (path x)
+pub counts_before : (n s : List ℕ) (ss : List (List ℕ)) (x : Reference) → counts false (closed (deeper n s ss)) x ≡ sibling subscript_cmp (λ r x. is_lt (subscript_cmp x r)) (path (deeper n s ss)) (path x)
 counts_before n s ss x = sibling_next (λ r x. is_lt (subscript_cmp x r)) (120 ∷ n) (s ∷ ss) (path x)
 
-counts_some : (n s : List ℕ) (ss : List (List ℕ)) (x : Reference) → is_some (child_of (parent_of (closed (deeper n s ss))) x) ≡ sibling subscript_cmp (λ r x. true) (path (deeper n s ss)) (path x)
+pub counts_some : (n s : List ℕ) (ss : List (List ℕ)) (x : Reference) → is_some (child_of (parent_of (closed (deeper n s ss))) x) ≡ sibling subscript_cmp (λ r x. true) (path (deeper n s ss)) (path x)
 counts_some n s ss x = sym (any_true _) ∙ sibling_next (λ r x. true) (120 ∷ n) (s ∷ ss) (path x)
 
 closed_after : (n s : List ℕ) (ss : List (List ℕ)) (m : Database) → order_of true (closed (deeper n s ss)) m ≡ answer_of true (closed (deeper n s ss)) m
@@ -148,10 +147,10 @@ order_seek forward p m h = by_parts forward p.reference.name p.reference.subscri
 
 -- ---- the same name
 
-name_closed : (r x y : Reference) → is_after false r x ≡ true → ref_cmp x y ≡ Less → has_name r y ≡ true → has_name r x ≡ true
+pub name_closed : (r x y : Reference) → is_after false r x ≡ true → ref_cmp x y ≡ Less → has_name r y ≡ true → has_name r x ≡ true
 name_closed r x y b l h = name_path r x ∙ head_closed subscript_cmp subscript_cmp_total (120 ∷ r.name) (120 ∷ x.name) (120 ∷ y.name) r.subscripts x.subscripts y.subscripts (less_path r x b) (sym (cmp_path x y) ∙ l) (sym (name_path r y) ∙ h)
 
-name_closed_back : (whole : Bool) (r x y : Reference) → is_before whole r y ≡ true → ref_cmp x y ≡ Less → has_name r x ≡ true → has_name r y ≡ true
+pub name_closed_back : (whole : Bool) (r x y : Reference) → is_before whole r y ≡ true → ref_cmp x y ≡ Less → has_name r x ≡ true → has_name r y ≡ true
 name_closed_back false r x y b l h = name_path r y ∙ head_closed_back subscript_cmp subscript_cmp_total (120 ∷ r.name) (120 ∷ x.name) (120 ∷ y.name) r.subscripts x.subscripts y.subscripts (less_path y r b) (sym (cmp_path x y) ∙ l) (sym (name_path r x) ∙ h)
 name_closed_back true r x y b l h = name_path r y ∙ head_closed_end subscript_cmp subscript_cmp_total (120 ∷ r.name) (120 ∷ x.name) (120 ∷ y.name) r.subscripts x.subscripts y.subscripts (sym (before_path r y) ∙ b) (sym (cmp_path x y) ∙ l) (sym (name_path r x) ∙ h)
 
@@ -208,27 +207,11 @@ order_found false p m cut k h start is =
     let same : key_at false cut m ≡ option_map (λ e. e.0) (nearest false (seek false p) m) = λ i. option_map (λ e. e.0) (nearest false (λ x. start x i) m) in
     order_seek false p m h ∙ ap (λ o. unwrap_or o []) (next_key (child_of (parent_of p)) (nearest false (seek false p) m) ∙ ap (option_and_then (child_of (parent_of p))) (sym (is ∙ same)))
 
--- a place by its parts
-pub spot_is : (p : Spot) (r : Reference) (b : Bool) → r ≡ p.reference → b ≡ p.is_open → record { reference = r; is_open = b } ≡ p
-spot_is p r b e f = λ i. record { reference = e i; is_open = f i }
-
-pub parent_open : (p : Spot) → p.is_open ≡ true → parent_of p ≡ p.reference
-parent_open p e = ap (λ b. cond b p.reference (record { name = p.reference.name; subscripts = front p.reference.subscripts })) e
-
-pub parent_closed : (p : Spot) → p.is_open ≡ false → parent_of p ≡ record { name = p.reference.name; subscripts = front p.reference.subscripts }
-parent_closed p e = ap (λ b. cond b p.reference (record { name = p.reference.name; subscripts = front p.reference.subscripts })) e
-
 -- the child of the place's level on the way to what a look-up gives is what $ORDER answers
-pub sibling_answer : (forward : Bool) (p q : Spot) (m : Database) (cut : Cut) (level : Reference) (r : Result (Option (List ℕ)) Refusal) → (p.is_open || not (is_nil p.reference.subscripts)) ≡ true → q ≡ p
-    → ((x : Reference) → stands_before cut x ≡ order_start forward q x) → level ≡ parent_of p → IfOk r (λ child. child ≡ option_and_then (child_of level) (key_at forward cut m)) → IfOk r (λ answer. unwrap_or answer [] ≡ order_of forward p m)
-sibling_answer forward p q m cut level (Ok child) h same start up is =
-    let found = order_found forward p m cut (key_at forward cut m) h (λ x. start x ∙ ap (λ s. order_start forward s x) same) refl in
-    ap (λ o. unwrap_or o []) (is ∙ ap (λ l. option_and_then (child_of l) (key_at forward cut m)) up) ∙ sym found
-sibling_answer forward p q m cut level (Err refusal) h same start up is = tt
-
--- $QUERY starts at a place by its parts as at the place
-pub starts_at : (forward : Bool) (cut : Cut) (p q : Spot) → q ≡ p → ((x : Reference) → stands_before cut x ≡ query_start forward q x) → (x : Reference) → stands_before cut x ≡ query_start forward p x
-starts_at forward cut p q same start x = start x ∙ ap (λ s. query_start forward s x) same
+pub sibling_found : {E : Type 0} (forward : Bool) (p : Spot) (m : Database) (cut : Cut) (k : Reference) (r : Result (Option (List ℕ)) E) → (p.is_open || not (is_nil p.reference.subscripts)) ≡ true
+    → ((x : Reference) → stands_before cut x ≡ order_start forward p x) → Some k ≡ key_at forward cut m → IfOk r (λ child. child ≡ child_of (parent_of p) k) → IfOk r (λ answer. unwrap_or answer [] ≡ order_of forward p m)
+sibling_found forward p m cut k (Ok child) h start is child_is = ap (λ o. unwrap_or o []) child_is ∙ sym (order_found forward p m cut (Some k) h start is)
+sibling_found forward p m cut k (Err e) h start is child_is = tt
 
 pub query_found : (forward : Bool) (p : Spot) (m : Database) (cut : Cut) (k : Option Reference) → ((x : Reference) → stands_before cut x ≡ query_start forward p x) → k ≡ key_at forward cut m → query_of forward p m ≡ option_and_then (λ k. cond (has_name p.reference k) (Some k) None) k
 query_found true p m cut k start is =

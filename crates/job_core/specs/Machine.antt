@@ -1,0 +1,132 @@
+-- The machine: what each step of a job is replied, and what it leaves. Source: docs/RULES.md, "Transactions", "Locks", "Refusals".
+use Rattle.std.specs.Prelude.{◌≡◌, ◌⊎◌, ⊤, ◌≤◌, ℕ, ◌+◌, ◌-◌, ◌^◌, min, nat_lt, Bool, true, false, List, [], ◌∷◌, length, take, drop, Option, None, Some, if◌then◌else◌}
+use Rattle.refusal.specs.declared.Refusal.{Refusal}
+use Rattle.refusal.specs.declared.Refusal.TheVariants.{NoTransaction, LevelTooDeep, TransactionTooLong, StampsUsedUp, OutOfMemory}
+use Rattle.collation.specs.declared.lock.LockCommand.{LockCommand}
+use Rattle.collation.specs.declared.lock.LockCommand.TheVariants.{Release, Only, More, Fewer}
+use Rattle.collation.specs.Database.{Database}
+use Rattle.command.specs.declared.access.DataCommand.{DataCommand}
+use Rattle.command.specs.declared.request.Command.{Command}
+use Rattle.command.specs.declared.request.Command.TheVariants.{Access, Lock, Start, Commit, Rollback, Restart, Level, Restarts, Halt}
+use Rattle.command.specs.declared.request.Reply.{Reply}
+use Rattle.command.specs.declared.request.Reply.TheVariants.{Answered, Finished, Had, Count, AtLevel, Committed, Restarted, Refused}
+use Rattle.command.specs.Data.{data_refusal, data_reply}
+use Rattle.collation.specs.Locks.{LockState, lock_refusal, lock_reply}
+use Rattle.journal.specs.declared.unit.Unit.{Unit as JournalUnit}
+use Rattle.journal.specs.History.{State, initial, after, all_after}
+use Rattle.journal.specs.Touching.{has_read, any_touched}
+use Rattle.journal.specs.Story.{Transaction, Machine, transaction_of, told}
+
+-- ---- what a transaction sees
+
+-- the state that the first n units leave
+abbrev pub state_at : ℕ → List JournalUnit → State
+state_at n units = after (take n units) initial
+
+-- the database that a transaction sees: that of its start, followed by its own commands
+abbrev pub seen_by : Transaction → List JournalUnit → Database
+seen_by t units = all_after t.exchanges (state_at t.start units).map
+
+-- a unit after the transaction's start touched a reference that it has read
+abbrev pub is_overtaken : Transaction → List JournalUnit → Bool
+is_overtaken t units = any_touched (has_read t.exchanges (state_at t.start units).map) (drop t.start units) (state_at t.start units)
+
+-- ---- replies
+
+abbrev pub refused_or : Option Refusal → Reply → Reply
+refused_or (Some refusal) reply = Refused refusal
+refused_or None reply = reply
+
+-- a data command on a database
+abbrev pub reply_on : DataCommand → Database → Reply
+reply_on command m = refused_or (data_refusal command m) (Answered (data_reply command m))
+
+-- outside a transaction it sees what all units leave; a transaction holds at most 65,535 data commands
+abbrev pub reply_to_data : DataCommand → Option Transaction → List JournalUnit → Reply
+reply_to_data command None units = reply_on command (after units initial).map
+reply_to_data command (Some t) units = if nat_lt (length t.exchanges) 65535 then reply_on command (seen_by t units) else Refused TransactionTooLong
+
+-- whether the names were had, where a LOCK has names
+abbrev pub told_had : LockCommand → Bool → Reply
+told_had Release had = Finished
+told_had (Only names) had = Had had
+told_had (More names) had = Had had
+told_had (Fewer names) had = Had had
+
+abbrev pub reply_to_lock : ℕ → LockCommand → LockState → Reply
+reply_to_lock job command s = refused_or (lock_refusal job command s) (told_had command (lock_reply job command s))
+
+-- levels are at most 127
+abbrev pub reply_to_start : Option Transaction → Reply
+reply_to_start None = AtLevel 1
+reply_to_start (Some t) = if nat_lt t.level 127 then AtLevel (t.level + 1) else Refused LevelTooDeep
+
+-- restarts are counted up to 2^64 - 1
+abbrev pub restarted : Transaction → Reply
+restarted t = Restarted (min (t.restarts + 1) (2 ^ 64 - 1))
+
+-- an inner commit lowers the level; the outermost restarts the transaction exactly where it is overtaken
+abbrev pub reply_to_commit : Option Transaction → List JournalUnit → Reply
+reply_to_commit None units = Refused NoTransaction
+reply_to_commit (Some t) units = if nat_lt 1 t.level then AtLevel (t.level - 1) else (if is_overtaken t units then restarted t else Committed)
+
+abbrev pub reply_to_rollback : Option Transaction → Reply
+reply_to_rollback None = Refused NoTransaction
+reply_to_rollback (Some t) = Finished
+
+abbrev pub reply_to_restart : Option Transaction → Reply
+reply_to_restart None = Refused NoTransaction
+reply_to_restart (Some t) = restarted t
+
+abbrev pub level_of : Option Transaction → ℕ
+level_of None = 0
+level_of (Some t) = t.level
+
+abbrev pub restarts_of : Option Transaction → ℕ
+restarts_of None = 0
+restarts_of (Some t) = t.restarts
+
+-- the reply to a command, were there room for any number of units
+abbrev pub reply_with_room : ℕ → Command → Machine → Reply
+reply_with_room job (Access command) s = reply_to_data command (transaction_of job s) s.units
+reply_with_room job (Lock command) s = reply_to_lock job command (after s.units initial).locks
+reply_with_room job Start s = reply_to_start (transaction_of job s)
+reply_with_room job Commit s = reply_to_commit (transaction_of job s) s.units
+reply_with_room job Rollback s = reply_to_rollback (transaction_of job s)
+reply_with_room job Restart s = reply_to_restart (transaction_of job s)
+reply_with_room job Level s = Count (level_of (transaction_of job s))
+reply_with_room job Restarts s = Count (restarts_of (transaction_of job s))
+reply_with_room job Halt s = Finished
+
+-- ---- steps and runs
+
+-- what a job is replied: it is refused where the units would pass 2^64 - 1
+abbrev pub reply_of : ℕ → Command → Machine → Reply
+reply_of job command s = if nat_lt (2 ^ 64 - 1) (length (told job command (reply_with_room job command s) s).units) then Refused StampsUsedUp else reply_with_room job command s
+
+-- what a step leaves: what its reply tells
+abbrev pub step_of : ℕ → Command → Machine → Machine
+step_of job command s = told job command (reply_of job command s) s
+
+-- what steps leave, each in its turn
+abbrev pub run_of : List (ℕ × Command) → Machine → Machine
+run_of [] s = s
+run_of (step ∷ steps) s = run_of steps (step_of step.0 step.1 s)
+
+-- the reply to each, in order
+abbrev pub replies_of : List (ℕ × Command) → Machine → List Reply
+replies_of [] s = []
+replies_of (step ∷ steps) s = reply_of step.0 step.1 s ∷ replies_of steps (step_of step.0 step.1 s)
+
+-- ---- replies where memory may be refused
+
+-- the step has the machine's reply, or the reply that memory was wanting, which leaves all as it was
+abbrev pub IsReply : ℕ → Command → Reply → Machine → Type 0
+IsReply job command reply s = (reply ≡ reply_of job command s) ⊎ (reply ≡ Refused OutOfMemory)
+
+-- each step has such a reply at its place
+abbrev pub AreReplies : List (ℕ × Command) → List Reply → Machine → Type 0
+AreReplies [] [] s = ⊤
+AreReplies [] (reply ∷ replies) s = ⊥
+AreReplies (step ∷ steps) [] s = ⊥
+AreReplies (step ∷ steps) (reply ∷ replies) s = IsReply step.0 step.1 reply s × AreReplies steps replies (told step.0 step.1 reply s)
