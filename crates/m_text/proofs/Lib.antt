@@ -4,5 +4,6 @@ pub mod Parted
 pub mod Digits
 pub mod Ends
 pub mod Numbers
-pub mod Faults
 pub mod Runs
+pub mod Drafted
+pub mod Lent

@@ -12,3 +12,4 @@ pub mod LiteralLaws
 pub mod PlaceLaws
 pub mod RunLaws
 pub mod WrittenLaws
+pub mod Drafts

@@ -18,8 +18,8 @@
 pub use front::{after, is_word, number_up_to, split_digits, split_letters};
 pub use laws::{literals_are_read_as_spelled, references_are_read_as_spelled};
 pub use literal::{read_literal, skip_literal};
-pub use place::{Spelled, read_place, read_ref, read_spelled, skip_place};
-pub use write::{write_literal, write_ref};
+pub use place::{read_draft, read_place, read_reference, skip_place};
+pub use write::{write_key, write_literal};
 
 mod chars;
 mod front;
@@ -28,6 +28,4 @@ mod literal;
 mod numeral;
 mod place;
 mod quoted;
-#[cfg(test)]
-mod tests;
 mod write;

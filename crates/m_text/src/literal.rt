@@ -1,12 +1,13 @@
 //! Literals.
-ghost use Rattle.std.specs.Prelude.{◌≡◌, ◌||◌};
+ghost use Rattle.std.specs.Prelude.{◌≡◌, ◌||◌, IfSome, Some, false};
 ghost use Rattle.m_text.specs.Reading.{Gives, Skips, begins_with, rest_of, with_front, parted_at};
 ghost use Rattle.m_text.specs.Literal.{part_at, literal_at};
 
 use crate::chars::{read_chars, skip_chars};
 use crate::front::after;
-use crate::numeral::{read_number, skip_number};
-use crate::quoted::{read_quoted, skip_quoted};
+use crate::numeral::{read_number, skip_number, split_number};
+use crate::quoted::{lend_quoted, read_quoted, skip_quoted};
+use canonic_number::is_canonic;
 use collation::Text;
 use refusal::Refusal;
 use std::alloc::Global;
@@ -71,12 +72,35 @@ fn begins_part(text: &[u8]) -> bool
     }
 }
 
-/// The literal at the front of a text: the string that it stands for, and what follows it.
-///
-/// A string has no limit here. Refusals: `BadLine` where no literal stands there; `OutOfMemory`.
+// The canonic number at the front of a text, where a numeric literal is spelled as one, and what follows it.
+#[tactic(auto, using(crate::proofs::Numbers::canonic_texts), unfolding(crate::specs::Literal::literal_at, crate::specs::Literal::numeric_at))]
+fn lend_number(text: &[u8]) -> Option<(&[u8], &[u8])>
+    requires { (begins_with 34 text.now || begins_with 36 text.now) ≡ false }
+    ensures { IfSome result (λ x. literal_at text.now ≡ Some (x.0.now, x.1.now)) }
+{
+    let (number, rest) = split_number(text);
+    if is_canonic(number) {
+        Some((number, rest))
+    } else {
+        None
+    }
+}
+
+// The string of a literal that stands in the text as it is, and what follows it. It is lent from the text.
+pub(crate) fn lend_literal(text: &[u8]) -> Option<(&[u8], &[u8])>
+    ensures { IfSome result (λ x. literal_at text.now ≡ Some (x.0.now, x.1.now)) }
+{
+    if begins_part(text) {
+        lend_quoted(text)
+    } else {
+        lend_number(text)
+    }
+}
+
+// A literal whose string has to be made.
 #[tactic(auto, using(crate::proofs::Fronts::from_nothing), unfolding(crate::specs::Literal::literal_at))]
-pub fn read_literal(alloc: Global, text: &[u8]) -> Result<(Text, &[u8]), Refusal>
-    ensures exact { Gives (λ x. (x.0, x.1.now)) result (literal_at text.now) }
+pub(crate) fn make_literal(alloc: Global, text: &[u8]) -> Result<(Text, &[u8]), Refusal>
+    ensures { Gives (λ x. (x.0, x.1.now)) result (literal_at text.now) }
 {
     if !begins_part(text) {
         return read_number(alloc, text);
@@ -84,6 +108,21 @@ pub fn read_literal(alloc: Global, text: &[u8]) -> Result<(Text, &[u8]), Refusal
     let mut string = Text::new(alloc);
     let rest = read_parts(text, &mut string)?;
     Ok((string, rest))
+}
+
+/// The literal at the front of a text: the string that it stands for, and what follows it.
+///
+/// A string has no limit here. Refusals: `BadLine` where no literal stands there; `OutOfMemory`.
+pub fn read_literal(alloc: Global, text: &[u8]) -> Result<(Text, &[u8]), Refusal>
+    ensures exact { Gives (λ x. (x.0, x.1.now)) result (literal_at text.now) }
+{
+    match lend_literal(text) {
+        Some((string, rest)) => {
+            let string = Text::from_slice(alloc, string)?;
+            Ok((string, rest))
+        }
+        None => make_literal(alloc, text),
+    }
 }
 
 /// What follows the literal at the front of a text. Takes no memory.

@@ -5,7 +5,7 @@ ghost use Rattle.canonic_number.specs.Number as number;
 ghost use Rattle.m_text.specs.Reading.{Gives, Skips, rest_of};
 ghost use Rattle.m_text.specs.Literal as literal;
 
-use canonic_number::{canonic_of, is_canonic, is_numeric};
+use canonic_number::{canonic_of, is_numeric};
 use collation::Text;
 use refusal::Refusal;
 use std::alloc::Global;
@@ -59,14 +59,11 @@ pub(crate) fn split_number(text: &[u8]) -> (&[u8], &[u8])
 }
 
 // A numeric literal at the front of a text: its canonic number, and what follows it.
-#[tactic(auto, using(crate::proofs::Numbers::canonic_texts), unfolding(crate::specs::Literal::numeric_at))]
+#[tactic(auto, unfolding(crate::specs::Literal::numeric_at))]
 pub(crate) fn read_number(alloc: Global, text: &[u8]) -> Result<(Text, &[u8]), Refusal>
     ensures { Gives (λ x. (x.0, x.1.now)) result (literal.numeric_at text.now) }
 {
     let (number, rest) = split_number(text);
-    if is_canonic(number) {
-        return Ok((Text::from_slice(alloc, number)?, rest));
-    }
     match canonic_of(alloc, number)? {
         Some(canonic) => Ok((Text::from(canonic), rest)),
         None => Err(Refusal::BadLine),

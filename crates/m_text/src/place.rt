@@ -1,155 +1,148 @@
-//! References and places.
-ghost use Rattle.std.specs.Prelude.{◌≡◌};
-ghost use Rattle.m_text.specs.Reading.{Gives, Skips, Answers, rest_of, with_front, parted_at};
-ghost use Rattle.m_text.specs.Place.{subscript_at, subscripts_at, named_at, place_at, name_fault, ref_fault, spot_fault, spot_of, unless, ref_at, spot_at};
+//! References and places, read straight into key bytes.
+ghost use Rattle.std.specs.Prelude.{◌≡◌, []};
+ghost use Rattle.collation.specs.Reference.{Reference};
+ghost use Rattle.key_codec.specs.Draft.{IsDraft};
+ghost use Rattle.m_text.specs.Drafts.{Drafts, DraftsSpelled};
+ghost use Rattle.m_text.specs.Reading.{Answers, Skips, rest_of, with_front, parted_at};
+ghost use Rattle.m_text.specs.Place.{subscript_at, subscripts_at, named_at, place_at, ref_at, spot_at};
 
 use crate::front::{after, split_word};
-use crate::literal::{read_literal, skip_literal};
-use collation::{Name, Place, Ref, Subscripts, Text};
+use crate::literal::{lend_literal, make_literal, skip_literal};
+use key_codec::{Key, KeyDraft, Place};
 use refusal::Refusal;
 use std::alloc::Global;
-use std::marker::Model;
+
+// Reads a literal that isn't in the text as it stands.
+fn read_made<'a>(alloc: Global, text: &'a [u8], draft: &mut KeyDraft) -> Result<&'a [u8], Refusal>
+    ensures { (r : Reference) → IsDraft draft.old r → Drafts draft.new r.name result (with_front r.subscripts (subscript_at text.now)) }
+{
+    match make_literal(alloc, text) {
+        Ok((subscript, rest)) => {
+            draft.push(subscript.as_slice())?;
+            Ok(rest)
+        }
+        Err(refusal) => Err(refusal),
+    }
+}
 
 fn read_subscript<'a>(
     alloc: Global,
     text: &'a [u8],
-    out: &mut Subscripts,
+    draft: &mut KeyDraft,
 ) -> Result<&'a [u8], Refusal>
-    ensures { Gives (λ rest. (out.new.items, rest.now)) result (with_front out.old.items (subscript_at text.now)) }
+    ensures { (r : Reference) → IsDraft draft.old r → Drafts draft.new r.name result (with_front r.subscripts (subscript_at text.now)) }
 {
-    let (subscript, rest) = read_literal(alloc, text)?;
-    out.push(subscript)?;
-    Ok(rest)
+    match lend_literal(text) {
+        Some((string, rest)) => {
+            draft.push(string)?;
+            Ok(rest)
+        }
+        None => read_made(alloc, text, draft),
+    }
 }
 
-fn read_list<'a>(alloc: Global, text: &'a [u8], out: &mut Subscripts) -> Result<&'a [u8], Refusal>
-    ensures { Gives (λ rest. (out.new.items, rest.now)) result (with_front out.old.items (parted_at subscript_at 44 text.now)) }
+fn read_list<'a>(alloc: Global, text: &'a [u8], draft: &mut KeyDraft) -> Result<&'a [u8], Refusal>
+    ensures { (r : Reference) → IsDraft draft.old r → Drafts draft.new r.name result (with_front r.subscripts (parted_at subscript_at 44 text.now)) }
 {
     let mut rest = text;
     'subscripts: for _ in 0..text.len() {
-        let behind = read_subscript(alloc, rest, out)?;
-        match after(b',', behind) {
-            Some(more) => rest = more,
-            None => return Ok(behind),
+        match read_subscript(alloc, rest, draft) {
+            Ok(behind) => match after(b',', behind) {
+                Some(more) => rest = more,
+                None => return Ok(behind),
+            },
+            Err(refusal) => return Err(refusal),
         }
     }
     Err(Refusal::BadLine)
 }
 
-#[tactic(auto, using(crate::proofs::Fronts::from_nothing), unfolding(crate::specs::Place::subscripts_at))]
-fn read_subscripts(alloc: Global, text: &[u8]) -> Result<(Subscripts, &[u8]), Refusal>
-    ensures { Gives (λ x. (x.0.items, x.1.now)) result (subscripts_at text.now) }
+fn read_subscripts<'a>(
+    alloc: Global,
+    text: &'a [u8],
+    draft: &mut KeyDraft,
+) -> Result<&'a [u8], Refusal>
+    ensures { (r : Reference) → IsDraft draft.old r → r.subscripts ≡ [] → Drafts draft.new r.name result (subscripts_at text.now) }
 {
-    let mut subscripts = Subscripts::new(alloc);
     match after(b'(', text) {
-        Some(list) => {
-            let rest = read_list(alloc, list, &mut subscripts)?;
-            match after(b')', rest) {
-                Some(rest) => Ok((subscripts, rest)),
+        Some(list) => match read_list(alloc, list, draft) {
+            Ok(rest) => match after(b')', rest) {
+                Some(rest) => Ok(rest),
                 None => Err(Refusal::BadLine),
-            }
-        }
-        None => Ok((subscripts, text)),
-    }
-}
-
-/// A reference or place as it is spelled, whatever faults its name and its subscripts have.
-#[derive(Debug, Drop)]
-pub struct Spelled<'a> {
-    word: &'a [u8],
-    subscripts: Subscripts,
-}
-
-impl<'a> Model for Spelled<'a> {
-    ghost use Rattle.collation.specs.Reference.{Reference};
-
-    ghost Value = { Reference };
-
-    ghost view = { λ s. record { name = s.word.now; subscripts = s.subscripts.items } };
-}
-
-// A longer word is no name, and not worth its memory.
-#[tactic(auto, using(crate::proofs::Faults::long_names))]
-fn name_of(alloc: Global, word: &[u8]) -> Result<Name, Refusal>
-    ensures { Answers (λ name. name) result (unless (name_fault word.now) word.now) }
-{
-    if word.len() > 31 {
-        return Err(Refusal::BadName);
-    }
-    let bytes = Text::from_slice(alloc, word)?;
-    Name::new(bytes)
-}
-
-impl Spelled<'_> {
-    /// The reference that is spelled.
-    ///
-    /// Refusals, in this order: `BadName`; `TooManySubscripts` over 31; then the first subscript that is at
-    /// fault, `EmptySubscript`, or `SubscriptTooLong` over 127 bytes. And `OutOfMemory`.
-    pub fn into_ref(self, alloc: Global) -> Result<Ref, Refusal>
-        ensures { Answers (λ r. r) result (unless (ref_fault self.entry) self.entry) }
-    {
-        let name = name_of(alloc, self.word)?;
-        Ref::new(name, self.subscripts)
-    }
-
-    /// The place that is spelled, open where its last subscript is empty.
-    ///
-    /// Refusals as those of `into_ref`; an empty last subscript counts among the 31.
-    pub fn into_place(self, alloc: Global) -> Result<Place, Refusal>
-        ensures { Answers (λ p. p) result (unless (spot_fault (spot_of self.entry)) (spot_of self.entry)) }
-    {
-        let name = name_of(alloc, self.word)?;
-        Place::new(name, self.subscripts)
+            },
+            Err(refusal) => Err(refusal),
+        },
+        None => Ok(text),
     }
 }
 
 // A name word and subscripts.
-#[tactic(auto, unfolding(crate::specs::Place::named_at))]
-fn read_named(alloc: Global, text: &[u8]) -> Result<(Spelled<'_>, &[u8]), Refusal>
-    ensures { Gives (λ x. (x.0, x.1.now)) result (named_at text.now) }
+fn read_named<'a>(alloc: Global, text: &'a [u8], draft: &mut KeyDraft) -> Result<&'a [u8], Refusal>
+    ensures { DraftsSpelled draft.new result (named_at text.now) }
 {
     let (word, rest) = split_word(text);
     if word.is_empty() {
         return Err(Refusal::BadLine);
     }
-    let (subscripts, rest) = read_subscripts(alloc, rest)?;
-    Ok((Spelled { word, subscripts }, rest))
+    draft.begin(word)?;
+    read_subscripts(alloc, rest, draft)
 }
 
-/// What is spelled as a reference or place at the front of a text, and what follows it.
+/// Reads what is spelled as a reference or place at the front of a text into a draft, and answers what follows it.
 ///
-/// Refusals: `BadLine` where none is spelled there; `OutOfMemory`.
-#[tactic(auto, unfolding(crate::specs::Place::place_at))]
-pub fn read_spelled(alloc: Global, text: &[u8]) -> Result<(Spelled<'_>, &[u8]), Refusal>
-    ensures exact { Gives (λ x. (x.0, x.1.now)) result (place_at text.now) }
+/// Whatever faults it has: `KeyDraft::key` and `KeyDraft::place` tell them. Refusals: `BadLine` where none is spelled
+/// there; `OutOfMemory`.
+pub fn read_draft<'a>(
+    alloc: Global,
+    text: &'a [u8],
+    draft: &mut KeyDraft,
+) -> Result<&'a [u8], Refusal>
+    ensures { DraftsSpelled draft.new result (place_at text.now) }
 {
     match after(b'^', text) {
-        Some(named) => read_named(alloc, named),
+        Some(named) => read_named(alloc, named, draft),
         None => Err(Refusal::BadLine),
     }
 }
 
-/// The reference at the front of a text, and what follows it.
+/// The key of the reference at the front of a text, and what follows it, by way of a draft that serves again.
 ///
-/// Refusals, in this order: `BadLine` where none is spelled there; then those of `Spelled::into_ref`. The limits
-/// measure the strings that the literals stand for.
-pub fn read_ref(alloc: Global, text: &[u8]) -> Result<(Ref, &[u8]), Refusal>
+/// Takes memory only for a draft longer than any before, and for a key of over 38 bytes. Refusals, in this order:
+/// `BadLine` where no reference is spelled there; then those of `KeyDraft::key`. The limits measure the strings that
+/// the literals stand for.
+pub fn read_reference<'a>(
+    alloc: Global,
+    text: &'a [u8],
+    draft: &mut KeyDraft,
+) -> Result<(Key, &'a [u8]), Refusal>
     ensures exact { Answers (λ x. (x.0, x.1.now)) result (ref_at text.now) }
 {
-    let (spelled, rest) = read_spelled(alloc, text)?;
-    let reference = spelled.into_ref(alloc)?;
-    Ok((reference, rest))
+    match read_draft(alloc, text, draft) {
+        Ok(rest) => match draft.key(alloc) {
+            Ok(key) => Ok((key, rest)),
+            Err(refusal) => Err(refusal),
+        },
+        Err(refusal) => Err(refusal),
+    }
 }
 
 /// The place at the front of a text, and what follows it. Its last subscript may be empty.
 ///
-/// Refusals as those of `read_ref`; an empty last subscript counts among the 31.
-pub fn read_place(alloc: Global, text: &[u8]) -> Result<(Place, &[u8]), Refusal>
+/// Memory and refusals as those of `read_reference`; an empty last subscript counts among the 31.
+pub fn read_place<'a>(
+    alloc: Global,
+    text: &'a [u8],
+    draft: &mut KeyDraft,
+) -> Result<(Place, &'a [u8]), Refusal>
     ensures exact { Answers (λ x. (x.0, x.1.now)) result (spot_at text.now) }
 {
-    let (spelled, rest) = read_spelled(alloc, text)?;
-    let place = spelled.into_place(alloc)?;
-    Ok((place, rest))
+    match read_draft(alloc, text, draft) {
+        Ok(rest) => match draft.place(alloc) {
+            Ok(place) => Ok((place, rest)),
+            Err(refusal) => Err(refusal),
+        },
+        Err(refusal) => Err(refusal),
+    }
 }
 
 fn skip_subscript(text: &[u8]) -> Result<&[u8], Refusal>

@@ -1,10 +1,11 @@
 //! Quoted texts.
-ghost use Rattle.std.specs.Prelude.{◌≡◌, ◌<◌, ◌∷◌, ◌++◌, ◌+◌, length, take, drop, None, MatchOption, OnOk};
+ghost use Rattle.std.specs.Prelude.{◌≡◌, ◌||◌, ◌<◌, ◌∷◌, ◌++◌, ◌+◌, length, take, drop, None, Some, IfSome, MatchOption, OnOk};
 ghost use Rattle.std.specs.List.{flat_map, position};
-ghost use Rattle.m_text.specs.Reading.{Gives, Skips, rest_of, with_front};
-ghost use Rattle.m_text.specs.Literal.{quoted_at, is_quote};
+ghost use Rattle.m_text.specs.Reading.{Gives, Skips, begins_with, rest_of, with_front};
+ghost use Rattle.m_text.specs.Literal.{quoted_at, is_quote, literal_at};
 ghost use Rattle.m_text.specs.Written.{doubled, quoted};
 
+use crate::front::after;
 use collation::Text;
 use refusal::Refusal;
 use std::alloc::AllocError;
@@ -31,6 +32,30 @@ fn split_quote(text: &[u8]) -> Option<(&[u8], &[u8])>
 {
     let at = quote_in(text)?;
     Some(split_around(text, at))
+}
+
+// Whether a quote that stands before this is doubled, or more is joined to it.
+fn goes_on(rest: &[u8]) -> bool
+    ensures { result ≡ (begins_with 34 rest.now || begins_with 95 rest.now) }
+{
+    match rest {
+        [] => false,
+        [first, ..] => *first == b'"' || *first == b'_',
+    }
+}
+
+// The string of a quoted text at the front, where no quote is doubled in it and nothing is joined to it, and what follows
+// it. It is lent from the text.
+pub(crate) fn lend_quoted(text: &[u8]) -> Option<(&[u8], &[u8])>
+    ensures { IfSome result (λ x. literal_at text.now ≡ Some (x.0.now, x.1.now)) }
+{
+    let quoted = after(b'"', text)?;
+    let (run, rest) = split_quote(quoted)?;
+    if goes_on(rest) {
+        None
+    } else {
+        Some((run, rest))
+    }
 }
 
 // Reads what follows an opening quote to the end of `out`, and answers what follows the closing quote.

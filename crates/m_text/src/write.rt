@@ -1,4 +1,4 @@
-//! Strings and references as text.
+//! Strings, references and keys as text.
 ghost use Rattle.std.specs.Prelude.{◌≡◌, ◌<◌, ◌++◌, ◌∷◌, length, decimal, OnOk};
 ghost use Rattle.std.specs.Bool.{beq};
 ghost use Rattle.std.specs.List.{flat_map, position};
@@ -6,9 +6,9 @@ ghost use Rattle.m_text.specs.Written as written;
 
 use crate::quoted::write_quoted;
 use canonic_number::is_canonic;
-use collation::{Ref, Text};
 use itoa::Buffer;
-use std::alloc::AllocError;
+use key_codec::{Key, KeySubscript, KeySubscripts};
+use std::alloc::{AllocError, Global};
 
 fn is_plain(byte: u8) -> bool
     ensures { result ≡ written.is_plain byte }
@@ -124,38 +124,64 @@ pub fn write_literal(string: &[u8], out: &mut Vec<u8>) -> Result<(), AllocError>
     }
 }
 
-fn write_more(subscripts: &[Text], out: &mut Vec<u8>) -> Result<(), AllocError>
-    ensures { OnOk result (out.new.items ≡ out.old.items ++ flat_map (λ s. 44 ∷ written.literal_text s) subscripts.now) }
+// Writes a subscript that stands in its key with escapes.
+fn write_escaped(
+    alloc: Global,
+    subscript: &KeySubscript<'_>,
+    out: &mut Vec<u8>,
+) -> Result<(), AllocError>
+    ensures { OnOk result (out.new.items ≡ out.old.items ++ written.literal_text subscript.now) }
+{
+    let mut draft = Vec::new(alloc);
+    subscript.push_to(&mut draft)?;
+    write_literal(draft.as_slice(), out)
+}
+
+// Writes a subscript of a key as a literal.
+fn write_subscript(subscript: &KeySubscript<'_>, out: &mut Vec<u8>) -> Result<(), AllocError>
+    ensures { OnOk result (out.new.items ≡ out.old.items ++ written.literal_text subscript.now) }
+{
+    if subscript.is_number() {
+        return subscript.push_to(out);
+    }
+    match subscript.as_slice() {
+        Some(text) => write_literal(text, out),
+        None => write_escaped(*out.allocator(), subscript, out),
+    }
+}
+
+fn write_more_subscripts(subscripts: KeySubscripts<'_>, out: &mut Vec<u8>) -> Result<(), AllocError>
+    ensures { OnOk result (out.new.items ≡ out.old.items ++ flat_map (λ s. 44 ∷ written.literal_text s) subscripts.entry) }
 {
     'subscripts: for subscript in subscripts {
         out.push(b',')?;
-        write_literal(subscript.as_slice(), out)?;
+        write_subscript(&subscript, out)?;
     }
     Ok(())
 }
 
-fn write_subscripts(subscripts: &[Text], out: &mut Vec<u8>) -> Result<(), AllocError>
-    ensures { OnOk result (out.new.items ≡ out.old.items ++ written.subscripts_text subscripts.now) }
+fn write_subscripts(mut subscripts: KeySubscripts<'_>, out: &mut Vec<u8>) -> Result<(), AllocError>
+    ensures { OnOk result (out.new.items ≡ out.old.items ++ written.subscripts_text subscripts.entry) }
 {
-    match subscripts {
-        [] => Ok(()),
-        [first, rest @ ..] => {
+    match subscripts.next() {
+        Some(first) => {
             out.push(b'(')?;
-            write_literal(first.as_slice(), out)?;
-            write_more(rest, out)?;
+            write_subscript(&first, out)?;
+            write_more_subscripts(subscripts, out)?;
             out.push(b')')?;
             Ok(())
         }
+        None => Ok(()),
     }
 }
 
-/// Writes a reference at the end of `out`: a caret, the name, and the subscripts as literals.
+/// Writes the reference of a key at the end of `out`: a caret, the name, and the subscripts as literals.
 ///
 /// Where memory is refused a part may be written.
-pub fn write_ref(reference: &Ref, out: &mut Vec<u8>) -> Result<(), AllocError>
-    ensures { OnOk result (out.new.items ≡ out.old.items ++ written.reference_text reference.now) }
+pub fn write_key(key: &Key, out: &mut Vec<u8>) -> Result<(), AllocError>
+    ensures { OnOk result (out.new.items ≡ out.old.items ++ written.reference_text key.now) }
 {
     out.push(b'^')?;
-    out.extend_from_slice(reference.name())?;
-    write_subscripts(reference.subscripts(), out)
+    out.extend_from_slice(key.name())?;
+    write_subscripts(key.subscripts(), out)
 }

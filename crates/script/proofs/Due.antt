@@ -6,6 +6,16 @@ use Rattle.m_text.specs.Reading.{IsDue}
 use Rattle.m_text.specs.Place.{unless}
 use Rattle.m_text.specs.FaultLaws.{due_too, unless_err, unless_ok}
 
+-- the same fault in place of something else
+pub due_other : {A B : Type 0} → (refusal : Refusal) (fault : Option Refusal) (x : A) (w : B) → IsDue refusal (unless fault x) → IsDue refusal (unless fault w)
+due_other {A} {B} refusal fault x w h = due_too refusal (unless fault x) (unless fault w) (λ e. ap (λ (f : Option Refusal). unless {A = B} f w) (unless_err fault x refusal e)) h
+
+-- the first thing has a fault
+pub due_first : {A B : Type 0} → (refusal : Refusal) (first second : Option Refusal) (x : A) (w : B) → IsDue refusal (unless first x) → IsDue refusal (unless (option_or first second) w)
+due_first {A} {B} refusal first second x w h =
+    due_too refusal (unless first x) (unless (option_or first second) w)
+    (λ e. ap (λ (f : Option Refusal). unless {A = B} (option_or f second) w) (unless_err first x refusal e)) h
+
 -- the first thing has no fault, and the second has one
 pub due_second : {A B C : Type 0} → (refusal : Refusal) (first second : Option Refusal) (x y : A) (z : B) (w : C) → unless first x ≡ Ok y → IsDue refusal (unless second z) → IsDue refusal (unless (option_or first second) w)
 due_second {A} {B} {C} refusal first second x y z w good h =

@@ -1,9 +1,10 @@
 pub mod Line
+pub mod Words
 pub mod Commands
+pub mod Sentence
 pub mod Text
 pub mod Grammar
 pub mod Laws
 pub mod WordLaws
 pub mod CommandLaws
-pub mod FunctionLaws
 pub mod LineLaws

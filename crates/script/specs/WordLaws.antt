@@ -1,16 +1,15 @@
--- The words of commands: which word names which command.
-use Rattle.std.proofs.Common.{◌≡◌, ◌⊎◌, inl, inr, ℕ, Bool, true, false, cond, List, [], ◌∷◌, map, Option, Some, None, refl, ap, ◌∙◌}
+-- Which word letters name: no two rows of the table share a word.
+use Rattle.std.proofs.Common.{◌≡◌, ◌⊎◌, inl, inr, ℕ, Bool, true, false, cond, List, [], ◌∷◌, map, Some, refl, sym, ap, ◌∙◌}
 use Rattle.std.proofs.lemmas.Bool.{eqb-true, and_parts, or_cases}
-use Rattle.std.specs.Prelude.{◌&&◌, ◌||◌, ◌==◌, codes}
-use Rattle.std.specs.List.{list_all}
+use Rattle.std.proofs.lemmas.Option.{same_Some}
+use Rattle.std.specs.Prelude.{not, ◌&&◌, ◌||◌, ◌==◌, nat_le}
+use Rattle.std.specs.List.{find, list_all}
 use Rattle.std.specs.Char.{is_ascii_alphabetic, to_ascii_uppercase}
 use Rattle.m_text.specs.Literal.{is_word}
 use Rattle.m_text.specs.PartLaws.{word_letters}
-use Rattle.script.specs.declared.word.Act.{Act}
-use Rattle.script.specs.declared.word.Act.TheVariants as acts
-use Rattle.script.specs.declared.word.Function.{Function}
-use Rattle.script.specs.declared.word.Function.TheVariants as functions
-use Rattle.script.specs.Commands.{is_either, act_of, function_of}
+use Rattle.script.specs.declared.word.Word.{Word}
+use Rattle.script.specs.declared.word.Word.TheVariants as words
+use Rattle.script.specs.Words.{words_of, acts, functions, is_either, is_named, is_function, act_of, function_of}
 
 abbrev capitals : List ℕ → List ℕ
 capitals letters = map to_ascii_uppercase letters
@@ -37,109 +36,80 @@ is_word_of (w ∷ ws) (b ∷ bs) e =
 either_by : (short long bs : List ℕ) → is_either short long bs ≡ (same short (capitals bs) || same long (capitals bs))
 either_by short long bs = rw (is_word_by short bs, is_word_by long bs) refl
 
-abbrev among : List ℕ → List ℕ → List ℕ → Bool
-among short long upper = same short upper || same long upper
-
-abbrev act_by : List ℕ → Option Act
-act_by u =
-    cond (among (codes "S") (codes "SET") u) (Some acts.Set) (cond (among (codes "K") (codes "KILL") u) (Some acts.Kill) (cond (among (codes "M") (codes "MERGE") u) (Some acts.Merge) None))
-
-act_is : (bs : List ℕ) → act_of bs ≡ act_by (capitals bs)
-act_is bs = rw (either_by (codes "S") (codes "SET") bs, either_by (codes "K") (codes "KILL") bs, either_by (codes "M") (codes "MERGE") bs) refl
-
-abbrev function_by : List ℕ → Option Function
-function_by u =
-    cond (among (codes "D") (codes "DATA") u) (Some functions.Data) (cond (among (codes "G") (codes "GET") u) (Some functions.Get) (cond (among (codes "O") (codes "ORDER") u) (Some functions.Order) (cond (among (codes "Q") (codes "QUERY") u) (Some functions.Query) None)))
-
-function_is : (bs : List ℕ) → function_of bs ≡ function_by (capitals bs)
-function_is bs = rw (either_by (codes "D") (codes "DATA") bs, either_by (codes "G") (codes "GET") bs, either_by (codes "O") (codes "ORDER") bs, either_by (codes "Q") (codes "QUERY") bs) refl
+abbrev is_spelled : List ℕ → Word → Bool
+is_spelled upper word = same (words_of word).0 upper || same (words_of word).1 upper
 
 either_is : (short long bs : List ℕ) → is_either short long bs ≡ true → (capitals bs ≡ short) ⊎ (capitals bs ≡ long)
 either_is short long bs e = elim (or_cases _ _ e) [ inl p ↦ inl (is_word_of short bs p) | inr p ↦ inr (is_word_of long bs p) ]
 
-act_at_either : (short long bs : List ℕ) (act : Act) → act_by short ≡ Some act → act_by long ≡ Some act → is_either short long bs ≡ true → act_of bs ≡ Some act
-act_at_either short long bs act p q e = elim (either_is short long bs e) [ inl f ↦ act_is bs ∙ ap act_by f ∙ p | inr f ↦ act_is bs ∙ ap act_by f ∙ q ]
+-- a table is searched by capitals
+by_capitals : (table : List Word) (bs : List ℕ) → find (λ w. is_named w bs) table ≡ find (is_spelled (capitals bs)) table
+by_capitals table bs = λ i. find (λ w. either_by (words_of w).0 (words_of w).1 bs i) table
 
-function_at_either : (short long bs : List ℕ) (function : Function) → function_by short ≡ Some function → function_by long ≡ Some function → is_either short long bs ≡ true → function_of bs ≡ Some function
-function_at_either short long bs function p q e = elim (either_is short long bs e) [ inl f ↦ function_is bs ∙ ap function_by f ∙ p | inr f ↦ function_is bs ∙ ap function_by f ∙ q ]
-
--- each act and function has its words
-abbrev pub short_of : Act → List ℕ
-short_of acts.Set = codes "S"
-short_of acts.Kill = codes "K"
-short_of acts.Merge = codes "M"
-
-abbrev pub long_of : Act → List ℕ
-long_of acts.Set = codes "SET"
-long_of acts.Kill = codes "KILL"
-long_of acts.Merge = codes "MERGE"
-
-abbrev pub short_name : Function → List ℕ
-short_name functions.Data = codes "D"
-short_name functions.Get = codes "G"
-short_name functions.Order = codes "O"
-short_name functions.Query = codes "Q"
-
-abbrev pub long_name : Function → List ℕ
-long_name functions.Data = codes "DATA"
-long_name functions.Get = codes "GET"
-long_name functions.Order = codes "ORDER"
-long_name functions.Query = codes "QUERY"
-
-pub act_named : (act : Act) (bs : List ℕ) → is_either (short_of act) (long_of act) bs ≡ true → act_of bs ≡ Some act
-act_named acts.Set bs e = act_at_either (codes "S") (codes "SET") bs acts.Set refl refl e
-act_named acts.Kill bs e = act_at_either (codes "K") (codes "KILL") bs acts.Kill refl refl e
-act_named acts.Merge bs e = act_at_either (codes "M") (codes "MERGE") bs acts.Merge refl refl e
-
-pub function_named : (function : Function) (bs : List ℕ) → is_either (short_name function) (long_name function) bs ≡ true → function_of bs ≡ Some function
-function_named functions.Data bs e = function_at_either (codes "D") (codes "DATA") bs functions.Data refl refl e
-function_named functions.Get bs e = function_at_either (codes "G") (codes "GET") bs functions.Get refl refl e
-function_named functions.Order bs e = function_at_either (codes "O") (codes "ORDER") bs functions.Order refl refl e
-function_named functions.Query bs e = function_at_either (codes "Q") (codes "QUERY") bs functions.Query refl refl e
-
-chosen : {A : Type 0} → (t : Bool) (x : A) (y : Option A) (z : A) → cond t (Some x) y ≡ Some z → ((t ≡ true) × (x ≡ z)) ⊎ (y ≡ Some z)
-chosen true x y z e = inl (refl, cc)
-chosen false x y z e = inr e
-
-pub act_word : (bs : List ℕ) (act : Act) → act_of bs ≡ Some act → is_either (short_of act) (long_of act) bs ≡ true
-act_word bs act e = elim (chosen (is_either (codes "S") (codes "SET") bs) acts.Set _ act e) [
-  | inl p ↦ rw (← p.1) p.0
-  | inr q ↦ elim (chosen (is_either (codes "K") (codes "KILL") bs) acts.Kill _ act q) [
-    | inl p ↦ rw (← p.1) p.0
-    | inr r ↦ elim (chosen (is_either (codes "M") (codes "MERGE") bs) acts.Merge None act r) [
-      | inl p ↦ rw (← p.1) p.0
-      | inr s ↦ absurd cc
-    ]
-  ]
+found_by : (table : List Word) (word : Word) (bs : List ℕ) → find (is_spelled (words_of word).0) table ≡ Some word → find (is_spelled (words_of word).1) table ≡ Some word → is_named word bs ≡ true → find (λ w. is_named w bs) table ≡ Some word
+found_by table word bs p q e = elim (either_is (words_of word).0 (words_of word).1 bs e) [
+  | inl f ↦ by_capitals table bs ∙ ap (λ u. find (is_spelled u) table) f ∙ p
+  | inr f ↦ by_capitals table bs ∙ ap (λ u. find (is_spelled u) table) f ∙ q
 ]
 
-pub function_word : (bs : List ℕ) (function : Function) → function_of bs ≡ Some function → is_either (short_name function) (long_name function) bs ≡ true
-function_word bs function e = elim (chosen (is_either (codes "D") (codes "DATA") bs) functions.Data _ function e) [
-  | inl p ↦ rw (← p.1) p.0
-  | inr q ↦ elim (chosen (is_either (codes "G") (codes "GET") bs) functions.Get _ function q) [
-    | inl p ↦ rw (← p.1) p.0
-    | inr r ↦ elim (chosen (is_either (codes "O") (codes "ORDER") bs) functions.Order _ function r) [
-      | inl p ↦ rw (← p.1) p.0
-      | inr s ↦ elim (chosen (is_either (codes "Q") (codes "QUERY") bs) functions.Query None function s) [
-        | inl p ↦ rw (← p.1) p.0
-        | inr t ↦ absurd cc
-      ]
-    ]
-  ]
-]
+-- letters that name an act are read as it
+pub act_named : (word : Word) (bs : List ℕ) → is_function word ≡ false → is_named word bs ≡ true → act_of bs ≡ Some word
+act_named words.Set bs k e = found_by acts words.Set bs refl refl e
+act_named words.Kill bs k e = found_by acts words.Kill bs refl refl e
+act_named words.Merge bs k e = found_by acts words.Merge bs refl refl e
+act_named words.Data bs k e = absurd cc
+act_named words.Get bs k e = absurd cc
+act_named words.Order bs k e = absurd cc
+act_named words.Query bs k e = absurd cc
+
+-- the same of a function
+pub function_named : (word : Word) (bs : List ℕ) → is_function word ≡ true → is_named word bs ≡ true → function_of bs ≡ Some word
+function_named words.Set bs k e = absurd cc
+function_named words.Kill bs k e = absurd cc
+function_named words.Merge bs k e = absurd cc
+function_named words.Data bs k e = found_by functions words.Data bs refl refl e
+function_named words.Get bs k e = found_by functions words.Get bs refl refl e
+function_named words.Order bs k e = found_by functions words.Order bs refl refl e
+function_named words.Query bs k e = found_by functions words.Query bs refl refl e
+
+-- what is found passes the test, and what all pass
+find_passes : (p q : Word → Bool) (table : List Word) (word : Word) → list_all q table ≡ true → find p table ≡ Some word → (p word ≡ true) × (q word ≡ true)
+find_passes p q [] word all e = absurd cc
+find_passes p q (w ∷ ws) word all e = let parts = and_parts (q w) (list_all q ws) all in at (p w) refl parts.0 (λ g. find_passes p q ws word parts.1 g) e
+  where
+    at : (t : Bool) → p w ≡ t → q w ≡ true → (find p ws ≡ Some word → (p word ≡ true) × (q word ≡ true)) → cond t (Some w) (find p ws) ≡ Some word → (p word ≡ true) × (q word ≡ true)
+    at true f all ih g = let same : w ≡ word = same_Some w word g in rw (← same) (f, all)
+    at false f all ih g = ih g
+
+pub act_word : (bs : List ℕ) (word : Word) → act_of bs ≡ Some word → (is_named word bs ≡ true) × (not (is_function word) ≡ true)
+act_word bs word e = find_passes (λ w. is_named w bs) (λ w. not (is_function w)) acts word refl e
+
+pub function_word : (bs : List ℕ) (word : Word) → function_of bs ≡ Some word → (is_named word bs ≡ true) × (is_function word ≡ true)
+function_word bs word e = find_passes (λ w. is_named w bs) is_function functions word refl e
 
 -- the letters of a word
-either_letters : (short long bs : List ℕ) → ((ls : List ℕ) → is_word short ls ≡ true → list_all is_ascii_alphabetic ls ≡ true) → ((ls : List ℕ) → is_word long ls ≡ true → list_all is_ascii_alphabetic ls ≡ true) →
-    is_either short long bs ≡ true → list_all is_ascii_alphabetic bs ≡ true
-either_letters short long bs p q e = elim (or_cases _ _ e) [ inl f ↦ p bs f | inr f ↦ q bs f ]
+abbrev are_capitals : List ℕ → Bool
+are_capitals ws = list_all (λ w. nat_le 65 w && nat_le w 90) ws
 
-pub act_letters : (act : Act) (bs : List ℕ) → is_either (short_of act) (long_of act) bs ≡ true → list_all is_ascii_alphabetic bs ≡ true
-act_letters acts.Set bs e = either_letters (codes "S") (codes "SET") bs (λ ls f. word_letters (codes "S") ls refl f) (λ ls f. word_letters (codes "SET") ls refl f) e
-act_letters acts.Kill bs e = either_letters (codes "K") (codes "KILL") bs (λ ls f. word_letters (codes "K") ls refl f) (λ ls f. word_letters (codes "KILL") ls refl f) e
-act_letters acts.Merge bs e = either_letters (codes "M") (codes "MERGE") bs (λ ls f. word_letters (codes "M") ls refl f) (λ ls f. word_letters (codes "MERGE") ls refl f) e
+table_capitals : (word : Word) → (are_capitals (words_of word).0 ≡ true) × (are_capitals (words_of word).1 ≡ true)
+table_capitals words.Set = (refl, refl)
+table_capitals words.Kill = (refl, refl)
+table_capitals words.Merge = (refl, refl)
+table_capitals words.Data = (refl, refl)
+table_capitals words.Get = (refl, refl)
+table_capitals words.Order = (refl, refl)
+table_capitals words.Query = (refl, refl)
 
-pub function_letters : (function : Function) (bs : List ℕ) → is_either (short_name function) (long_name function) bs ≡ true → list_all is_ascii_alphabetic bs ≡ true
-function_letters functions.Data bs e = either_letters (codes "D") (codes "DATA") bs (λ ls f. word_letters (codes "D") ls refl f) (λ ls f. word_letters (codes "DATA") ls refl f) e
-function_letters functions.Get bs e = either_letters (codes "G") (codes "GET") bs (λ ls f. word_letters (codes "G") ls refl f) (λ ls f. word_letters (codes "GET") ls refl f) e
-function_letters functions.Order bs e = either_letters (codes "O") (codes "ORDER") bs (λ ls f. word_letters (codes "O") ls refl f) (λ ls f. word_letters (codes "ORDER") ls refl f) e
-function_letters functions.Query bs e = either_letters (codes "Q") (codes "QUERY") bs (λ ls f. word_letters (codes "Q") ls refl f) (λ ls f. word_letters (codes "QUERY") ls refl f) e
+pub named_letters : (word : Word) (bs : List ℕ) → is_named word bs ≡ true → list_all is_ascii_alphabetic bs ≡ true
+named_letters word bs e = elim (or_cases _ _ e) [
+  | inl f ↦ word_letters (words_of word).0 bs (table_capitals word).0 f
+  | inr f ↦ word_letters (words_of word).1 bs (table_capitals word).1 f
+]
+
+-- two acts, or two functions, that letters name are one
+pub one_word : (v w : Word) (bs : List ℕ) → is_function v ≡ is_function w → is_named v bs ≡ true → is_named w bs ≡ true → v ≡ w
+one_word v w bs kind e f = at (is_function v) refl
+  where
+    at : (t : Bool) → is_function v ≡ t → v ≡ w
+    at true k = same_Some v w (sym (function_named v bs k e) ∙ function_named w bs (sym kind ∙ k) f)
+    at false k = same_Some v w (sym (act_named v bs k e) ∙ act_named w bs (sym kind ∙ k) f)

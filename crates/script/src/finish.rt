@@ -1,18 +1,37 @@
 //! Commands of sentences, or the first fault of one.
-ghost use Rattle.std.specs.Prelude.{◌≡◌, None, Some, MatchResult};
-ghost use Rattle.std.specs.Option.{option_or, option_and_then};
+ghost use Rattle.std.specs.Prelude.{◌≡◌};
+ghost use Rattle.std.specs.Option.{option_and_then};
+ghost use Rattle.collation.specs.Reference.{Reference};
+ghost use Rattle.key_codec.specs.Draft.{IsDraft, IsSpelled};
+ghost use Rattle.command.specs.declared.access.DataCommand.{DataCommand as CommandView};
 ghost use Rattle.m_text.specs.Reading.{Answers};
 ghost use Rattle.m_text.specs.Place.{ref_fault, spot_fault, spot_of, unless};
-ghost use Rattle.script.specs.Commands.{command_of, fault_of, value_fault};
+ghost use Rattle.script.specs.Commands.{value_fault, fault_of};
+ghost use Rattle.script.specs.Sentence.{Spells, SpellsSome};
 
-use crate::sentence::Sentence;
-use collation::{Command, Direction, Text};
-use m_text::Spelled;
+use crate::sentence::{Drafts, Sentence};
+use collation::{Direction, Text};
+use command::{DataCommand, Look};
+use key_codec::{Key, KeyDraft, Place};
 use refusal::Refusal;
 use std::alloc::Global;
 
 /// The most bytes that a value or a default may have.
 const LONGEST_VALUE: usize = 32767;
+
+fn key_of(alloc: Global, draft: &KeyDraft) -> Result<Key, Refusal>
+    requires { IsSpelled draft.now }
+    ensures { (r : Reference) → IsDraft draft.now r → Answers (λ key. key) result (unless (ref_fault r) r) }
+{
+    draft.key(alloc)
+}
+
+fn place_of(alloc: Global, draft: &KeyDraft) -> Result<Place, Refusal>
+    requires { IsSpelled draft.now }
+    ensures { (r : Reference) → IsDraft draft.now r → Answers (λ place. place) result (unless (spot_fault (spot_of r)) (spot_of r)) }
+{
+    draft.place(alloc)
+}
 
 fn checked(value: Text) -> Result<Text, Refusal>
     ensures { Answers (λ v. v) result (unless (value_fault value) value) }
@@ -36,69 +55,86 @@ fn checked_default(default: Option<Text>) -> Result<Option<Text>, Refusal>
     }
 }
 
-fn set(alloc: Global, place: Spelled<'_>, value: Text) -> Result<Command, Refusal>
-    ensures { Answers (λ c. c) result (unless (fault_of (Command.Set place.entry value)) (Command.Set place.entry value)) }
+fn set(alloc: Global, draft: &KeyDraft, value: Text) -> Result<DataCommand, Refusal>
+    requires { IsSpelled draft.now }
+    ensures { (r : Reference) → IsDraft draft.now r → Answers (λ c. c) result (unless (fault_of (DataCommand.Set r value)) (DataCommand.Set r value)) }
 {
-    let reference = place.into_ref(alloc)?;
+    let key = key_of(alloc, draft)?;
     let value = checked(value)?;
-    Ok(Command::Set(reference, value))
+    Ok(DataCommand::Set(key, value))
 }
 
-fn kill(alloc: Global, place: Spelled<'_>) -> Result<Command, Refusal>
-    ensures { Answers (λ c. c) result (unless (fault_of (Command.Kill place.entry)) (Command.Kill place.entry)) }
+fn kill(alloc: Global, draft: &KeyDraft) -> Result<DataCommand, Refusal>
+    requires { IsSpelled draft.now }
+    ensures { (r : Reference) → IsDraft draft.now r → Answers (λ c. c) result (unless (fault_of (DataCommand.Kill r)) (DataCommand.Kill r)) }
 {
-    let reference = place.into_ref(alloc)?;
-    Ok(Command::Kill(reference))
+    let key = key_of(alloc, draft)?;
+    Ok(DataCommand::Kill(key))
 }
 
-fn merge(alloc: Global, target: Spelled<'_>, source: Spelled<'_>) -> Result<Command, Refusal>
-    ensures { Answers (λ c. c) result (unless (fault_of (Command.Merge target.entry source.entry)) (Command.Merge target.entry source.entry)) }
+fn merge(alloc: Global, target: &KeyDraft, source: &KeyDraft) -> Result<DataCommand, Refusal>
+    requires target { IsSpelled target.now }
+    requires source { IsSpelled source.now }
+    ensures { (r s : Reference) → IsDraft target.now r → IsDraft source.now s → Answers (λ c. c) result (unless (fault_of (DataCommand.Merge r s)) (DataCommand.Merge r s)) }
 {
-    let target = target.into_ref(alloc)?;
-    let source = source.into_ref(alloc)?;
-    Ok(Command::Merge(target, source))
+    let target = key_of(alloc, target)?;
+    let source = key_of(alloc, source)?;
+    Ok(DataCommand::Merge(target, source))
 }
 
-fn data(alloc: Global, place: Spelled<'_>) -> Result<Command, Refusal>
-    ensures { Answers (λ c. c) result (unless (fault_of (Command.Data place.entry)) (Command.Data place.entry)) }
+fn data(alloc: Global, draft: &KeyDraft) -> Result<DataCommand, Refusal>
+    requires { IsSpelled draft.now }
+    ensures { (r : Reference) → IsDraft draft.now r → Answers (λ c. c) result (unless (fault_of (DataCommand.Look (Look.Data r))) (DataCommand.Look (Look.Data r))) }
 {
-    let reference = place.into_ref(alloc)?;
-    Ok(Command::Data(reference))
+    let key = key_of(alloc, draft)?;
+    Ok(DataCommand::Look(Look::Data(key)))
 }
 
-fn get(alloc: Global, place: Spelled<'_>, default: Option<Text>) -> Result<Command, Refusal>
-    ensures { Answers (λ c. c) result (unless (fault_of (Command.Get place.entry default)) (Command.Get place.entry default)) }
+fn get(alloc: Global, draft: &KeyDraft, default: Option<Text>) -> Result<DataCommand, Refusal>
+    requires { IsSpelled draft.now }
+    ensures { (r : Reference) → IsDraft draft.now r → Answers (λ c. c) result (unless (fault_of (DataCommand.Look (Look.Get r default))) (DataCommand.Look (Look.Get r default))) }
 {
-    let reference = place.into_ref(alloc)?;
+    let key = key_of(alloc, draft)?;
     let default = checked_default(default)?;
-    Ok(Command::Get(reference, default))
+    Ok(DataCommand::Look(Look::Get(key, default)))
 }
 
-fn order(alloc: Global, place: Spelled<'_>, direction: Direction) -> Result<Command, Refusal>
-    ensures { Answers (λ c. c) result (unless (fault_of (Command.Order (spot_of place.entry) direction)) (Command.Order (spot_of place.entry) direction)) }
+fn order(alloc: Global, draft: &KeyDraft, direction: Direction) -> Result<DataCommand, Refusal>
+    requires { IsSpelled draft.now }
+    ensures { (r : Reference) → IsDraft draft.now r → Answers (λ c. c) result (unless (fault_of (DataCommand.Look (Look.Order (spot_of r) direction))) (DataCommand.Look (Look.Order (spot_of r) direction))) }
 {
-    let place = place.into_place(alloc)?;
-    Ok(Command::Order(place, direction))
+    match place_of(alloc, draft) {
+        Ok(place) => Ok(DataCommand::Look(Look::Order(place, direction))),
+        Err(refusal) => Err(refusal),
+    }
 }
 
-fn query(alloc: Global, place: Spelled<'_>, direction: Direction) -> Result<Command, Refusal>
-    ensures { Answers (λ c. c) result (unless (fault_of (Command.Query (spot_of place.entry) direction)) (Command.Query (spot_of place.entry) direction)) }
+fn query(alloc: Global, draft: &KeyDraft, direction: Direction) -> Result<DataCommand, Refusal>
+    requires { IsSpelled draft.now }
+    ensures { (r : Reference) → IsDraft draft.now r → Answers (λ c. c) result (unless (fault_of (DataCommand.Look (Look.Query (spot_of r) direction))) (DataCommand.Look (Look.Query (spot_of r) direction))) }
 {
-    let place = place.into_place(alloc)?;
-    Ok(Command::Query(place, direction))
+    match place_of(alloc, draft) {
+        Ok(place) => Ok(DataCommand::Look(Look::Query(place, direction))),
+        Err(refusal) => Err(refusal),
+    }
 }
 
 // The command, or its first fault from left to right.
-pub(crate) fn finish(alloc: Global, sentence: Sentence<'_>) -> Result<Command, Refusal>
-    ensures { Answers (λ c. c) result (unless (fault_of (command_of sentence.entry)) (command_of sentence.entry)) }
+pub(crate) fn finish(
+    alloc: Global,
+    sentence: Sentence,
+    drafts: &Drafts,
+) -> Result<DataCommand, Refusal>
+    requires { SpellsSome drafts.now sentence }
+    ensures { (c : CommandView) → Spells drafts.now sentence c → Answers (λ x. x) result (unless (fault_of c) c) }
 {
     match sentence {
-        Sentence::Set(place, value) => set(alloc, place, value),
-        Sentence::Kill(place) => kill(alloc, place),
-        Sentence::Merge(target, source) => merge(alloc, target, source),
-        Sentence::Data(place) => data(alloc, place),
-        Sentence::Get(place, default) => get(alloc, place, default),
-        Sentence::Order(place, direction) => order(alloc, place, direction),
-        Sentence::Query(place, direction) => query(alloc, place, direction),
+        Sentence::Set(value) => set(alloc, &drafts.first, value),
+        Sentence::Kill => kill(alloc, &drafts.first),
+        Sentence::Merge => merge(alloc, &drafts.first, &drafts.second),
+        Sentence::Data => data(alloc, &drafts.first),
+        Sentence::Get(default) => get(alloc, &drafts.first, default),
+        Sentence::Order(direction) => order(alloc, &drafts.first, direction),
+        Sentence::Query(direction) => query(alloc, &drafts.first, direction),
     }
 }

@@ -1,10 +1,12 @@
 //! Laws of lines, stated in `specs/Laws.antt`. Calling them does nothing.
-ghost use Rattle.script.specs.Laws.{ReadLinesAreSpelled, SpelledLinesAreJudged, BadLinesAreNotSpelled};
+ghost use Rattle.script.specs.Laws.{ReadLinesAreSpelled, SpelledLinesAreJudged, BadLinesAreNotSpelled, OtherLinesAreBad, NoTwoShareAWord};
 
-/// A line is read as the job and the command that it spells and as nothing else, and only a line that spells none
-/// gets BadLine.
+/// A line is read as the job and the command that it spells and as nothing else, and just those lines that spell none
+/// get BadLine. No two words of commands are spelled alike.
 pub fn lines_are_read_as_spelled()
     ensures found { ReadLinesAreSpelled }
     ensures again { SpelledLinesAreJudged }
     ensures bad_line { BadLinesAreNotSpelled }
+    ensures other { OtherLinesAreBad }
+    ensures words { NoTwoShareAWord }
 {}

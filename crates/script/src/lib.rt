@@ -12,21 +12,22 @@
 //!
 //! The grammar stands apart as a relation, `IsLine` in `specs/Grammar.antt`; `specs/Laws.antt` ties both together.
 //!
-//! A line is read once: first as a sentence, whose references are as they are spelled, then as the command.
+//! A line is read once: its references into the key bytes of drafts that serve for the next line too, the rest of it
+//! into a sentence; where line and job are good, both make the command.
 //!
-//! Read `specs/Line.antt`, `specs/Grammar.antt`, `specs/Laws.antt`, `specs/Text.antt`, then `line.rt`, `sentence.rt`, `finish.rt`,
-//! `reply.rt`. Not here: LOCK, transactions and HALT, whose words get BadLine.
+//! Read `specs/Line.antt`, `specs/Grammar.antt`, `specs/Laws.antt`, `specs/Text.antt`, then `line.rt`,
+//! `sentence.rt`, `finish.rt`, `reply.rt`. Not here: lines of LOCK, transactions and HALT, whose words get BadLine.
 #![tactic(auto)]
 
 pub use laws::lines_are_read_as_spelled;
 pub use line::{LineFault, read_line};
 pub use reply::write_reply;
+pub use sentence::Drafts;
 
+mod blank;
 mod finish;
 mod laws;
 mod line;
 mod reply;
 mod sentence;
-#[cfg(test)]
-mod tests;
 mod word;

@@ -1,13 +1,14 @@
 //! Lines.
 ghost use Rattle.std.specs.Prelude.{◌≡◌, ◌&&◌, Some, None, if◌then◌else◌};
-ghost use Rattle.m_text.specs.Reading.{Gives};
 ghost use Rattle.m_text.specs.Literal.{number_from};
-ghost use Rattle.script.specs.Commands.{command_of};
+ghost use Rattle.script.specs.Sentence.{FindsAll};
 ghost use Rattle.script.specs.Line.{IsReading, IsRefusalOf, is_job, ends_digits as ends_digits_spec, spelled_by, reading_of, job_of};
 
+use crate::blank::{begins_blank, past_blank, skip_blank};
 use crate::finish::finish;
-use crate::sentence::{Sentence, begins_blank, past_blank, read_sentence, skip_blank};
-use collation::{Command, Job};
+use crate::sentence::{Drafts, Sentence, read_sentence};
+use collation::Job;
+use command::DataCommand;
 use m_text::{number_up_to, split_digits};
 use refusal::Refusal;
 use std::alloc::Global;
@@ -50,15 +51,15 @@ fn printed_job(line: &[u8]) -> Option<Job>
 }
 
 #[tactic(auto, unfolding(crate::specs::Line::spelled_by))]
-fn read_spelled_line(alloc: Global, line: &[u8]) -> Result<Sentence<'_>, Refusal>
-    ensures { Gives (λ s. command_of s) result (spelled_by line.now) }
+fn read_spelled_line(alloc: Global, line: &[u8], drafts: &mut Drafts) -> Result<Sentence, Refusal>
+    ensures { FindsAll drafts.new result (spelled_by line.now) }
 {
     let (digits, rest) = split_digits(line);
     if digits.is_empty() {
         return Err(Refusal::BadLine);
     }
     let rest = skip_blank(rest)?;
-    let (sentence, rest) = read_sentence(alloc, rest)?;
+    let (sentence, rest) = read_sentence(alloc, rest, drafts)?;
     if past_blank(rest).is_empty() {
         Ok(sentence)
     } else {
@@ -68,16 +69,20 @@ fn read_spelled_line(alloc: Global, line: &[u8]) -> Result<Sentence<'_>, Refusal
 
 /// The job and the command of a line, which comes without its end.
 ///
-/// Refusals, in this order: `BadLine` where the line isn't of the grammar; `BadJob` where its job isn't 1 to 4,096;
-/// then the command's first fault from left to right: `BadName`, `TooManySubscripts`, `EmptySubscript`,
-/// `SubscriptTooLong`, `ValueTooLong`. And `OutOfMemory`, which may hide another. The job that is printed stands in
-/// the fault.
+/// The drafts may be those of other lines: what a line leaves in them serves none. Refusals, in this order: `BadLine`
+/// where the line isn't of the grammar; `BadJob` where its job isn't 1 to 4,096; then the command's first fault from
+/// left to right: `BadName`, `TooManySubscripts`, `EmptySubscript`, `SubscriptTooLong`, `ValueTooLong`. And
+/// `OutOfMemory`, which may hide another. The job that is printed stands in the fault.
 #[tactic(auto, using(crate::proofs::Judging::of_lines))]
-pub fn read_line(alloc: Global, line: &[u8]) -> Result<(Job, Command), LineFault>
+pub fn read_line(
+    alloc: Global,
+    line: &[u8],
+    drafts: &mut Drafts,
+) -> Result<(Job, DataCommand), LineFault>
     ensures { IsReading line.now result }
 {
     let job = printed_job(line);
-    let sentence = match read_spelled_line(alloc, line) {
+    let sentence = match read_spelled_line(alloc, line, drafts) {
         Ok(sentence) => sentence,
         Err(refusal) => return Err(LineFault { refusal, job }),
     };
@@ -88,7 +93,7 @@ pub fn read_line(alloc: Global, line: &[u8]) -> Result<(Job, Command), LineFault
             job,
         });
     };
-    match finish(alloc, sentence) {
+    match finish(alloc, sentence, drafts) {
         Ok(command) => Ok((number, command)),
         Err(refusal) => Err(LineFault { refusal, job }),
     }

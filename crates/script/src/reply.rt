@@ -1,10 +1,11 @@
 //! Replies.
-ghost use Rattle.std.specs.Prelude.{◌≡◌, ◌++◌, OnOk, decimal, unwrap_or};
+ghost use Rattle.std.specs.Prelude.{◌≡◌, ◌++◌, ◌∷◌, OnOk, decimal, unwrap_or};
 ghost use Rattle.script.specs.Text as text;
 
-use collation::{Job, Reply};
+use collation::Job;
+use command::{Answer, Reply};
 use itoa::Buffer;
-use m_text::{write_literal, write_ref};
+use m_text::{write_key, write_literal};
 use refusal::Refusal;
 use std::alloc::AllocError;
 
@@ -24,14 +25,38 @@ fn write_refusal(refusal: Refusal, out: &mut Vec<u8>) -> Result<(), AllocError>
     out.extend_from_slice(refusal.name().as_bytes())
 }
 
+// A word, a space and a number.
+fn write_counted(word: &[u8], n: u64, out: &mut Vec<u8>) -> Result<(), AllocError>
+    ensures { OnOk result (out.new.items ≡ out.old.items ++ (word.now ++ 32 ∷ decimal n)) }
+{
+    out.extend_from_slice(word)?;
+    out.push(b' ')?;
+    write_number(n, out)
+}
+
+fn write_answer(answer: &Answer, out: &mut Vec<u8>) -> Result<(), AllocError>
+    ensures { OnOk result (out.new.items ≡ out.old.items ++ text.answer_words answer.now) }
+{
+    match answer {
+        Answer::Done => out.extend_from_slice(b"ok"),
+        Answer::Value(value) => write_literal(value.as_slice(), out),
+        Answer::Number(n) => write_number(*n, out),
+        Answer::Found(key) => write_key(key, out),
+    }
+}
+
 fn write_words(reply: &Reply, out: &mut Vec<u8>) -> Result<(), AllocError>
     ensures { OnOk result (out.new.items ≡ out.old.items ++ text.reply_words reply.now) }
 {
     match reply {
-        Reply::Done => out.extend_from_slice(b"ok"),
-        Reply::Value(value) => write_literal(value.as_slice(), out),
-        Reply::Number(n) => write_number(*n, out),
-        Reply::Found(reference) => write_ref(reference, out),
+        Reply::Answered(answer) => write_answer(answer, out),
+        Reply::Finished => out.extend_from_slice(b"ok"),
+        Reply::Had(true) => out.extend_from_slice(b"1"),
+        Reply::Had(false) => out.extend_from_slice(b"0"),
+        Reply::Count(n) => write_number(*n, out),
+        Reply::AtLevel(n) => write_counted(b"level", *n, out),
+        Reply::Committed => out.extend_from_slice(b"committed"),
+        Reply::Restarted(n) => write_counted(b"restart", *n, out),
         Reply::Refused(refusal) => write_refusal(*refusal, out),
     }
 }

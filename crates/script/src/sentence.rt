@@ -1,26 +1,72 @@
 //! Commands as they are spelled, whatever faults their references and values have.
-ghost use Rattle.std.specs.Prelude.{◌≡◌, ◌≤◌, length, drop};
-ghost use Rattle.std.specs.List.{position};
+ghost use Rattle.std.specs.Prelude.{◌≡◌};
+ghost use Rattle.collation.specs.Reference.{Reference};
+ghost use Rattle.m_text.specs.Drafts.{DraftsSpelled};
 ghost use Rattle.m_text.specs.Reading.{Gives, Skips, after as after_of};
 ghost use Rattle.script.specs.Commands as commands;
-ghost use Rattle.script.specs.Commands.{command_of};
+ghost use Rattle.script.specs.Sentence.{Finds, Tells};
 
-use crate::word::{Act, Function, act_of, function_of};
+use crate::blank::skip_blank;
+use crate::word::{Word, act_of, function_of};
 use collation::{Direction, Text};
-use m_text::{Spelled, after, read_literal, read_spelled, split_letters};
+use key_codec::KeyDraft;
+use m_text::{after, read_draft, read_literal, split_letters};
 use refusal::Refusal;
 use std::alloc::Global;
 
-// A command with its references as they are spelled.
+/// The references of a line while it is read, in buffers that serve for the next line too.
 #[derive(Debug, Drop)]
-pub(crate) enum Sentence<'a> {
-    Set(Spelled<'a>, Text),
-    Kill(Spelled<'a>),
-    Merge(Spelled<'a>, Spelled<'a>),
-    Data(Spelled<'a>),
-    Get(Spelled<'a>, Option<Text>),
-    Order(Spelled<'a>, Direction),
-    Query(Spelled<'a>, Direction),
+pub struct Drafts {
+    pub(crate) first: KeyDraft,
+    pub(crate) second: KeyDraft,
+}
+
+impl Drafts {
+    /// Empty buffers. Takes no memory.
+    pub fn new(alloc: Global) -> Drafts {
+        Drafts {
+            first: KeyDraft::new(alloc),
+            second: KeyDraft::new(alloc),
+        }
+    }
+}
+
+// A command without its references: the first draft has one, and that of MERGE's source is in the second.
+#[derive(Debug, Drop)]
+pub(crate) enum Sentence {
+    Set(Text),
+    Kill,
+    Merge,
+    Data,
+    Get(Option<Text>),
+    Order(Direction),
+    Query(Direction),
+}
+
+// What follows the byte.
+fn past(byte: u8, text: &[u8]) -> Result<&[u8], Refusal>
+    ensures { Skips (λ rest. rest.now) result (after_of byte text.now) }
+{
+    match after(byte, text) {
+        Some(rest) => Ok(rest),
+        None => Err(Refusal::BadLine),
+    }
+}
+
+#[tactic(auto, unfolding(crate::specs::Commands::value_at))]
+fn read_value(alloc: Global, text: &[u8]) -> Result<(Text, &[u8]), Refusal>
+    ensures { Gives (λ x. (x.0, x.1.now)) result (commands.value_at text.now) }
+{
+    let rest = past(b'=', text)?;
+    read_literal(alloc, rest)
+}
+
+#[tactic(auto, unfolding(crate::specs::Commands::source_at))]
+fn read_source<'a>(alloc: Global, text: &'a [u8], draft: &mut KeyDraft) -> Result<&'a [u8], Refusal>
+    ensures { DraftsSpelled draft.new result (commands.source_at text.now) }
+{
+    let rest = past(b'=', text)?;
+    read_draft(alloc, rest, draft)
 }
 
 #[tactic(auto, unfolding(crate::specs::Commands::default_at))]
@@ -64,193 +110,105 @@ fn read_direction(alloc: Global, text: &[u8]) -> Result<(Direction, &[u8]), Refu
     }
 }
 
-// What follows the byte.
-fn past(byte: u8, text: &[u8]) -> Result<&[u8], Refusal>
-    ensures { Skips (λ rest. rest.now) result (after_of byte text.now) }
-{
-    match after(byte, text) {
-        Some(rest) => Ok(rest),
-        None => Err(Refusal::BadLine),
-    }
-}
-
-#[tactic(auto, unfolding(crate::specs::Commands::set_at))]
-fn read_set(alloc: Global, text: &[u8]) -> Result<(Sentence<'_>, &[u8]), Refusal>
-    ensures { Gives (λ x. (command_of x.0, x.1.now)) result (commands.set_at text.now) }
-{
-    let (place, rest) = read_spelled(alloc, text)?;
-    let rest = past(b'=', rest)?;
-    let (value, rest) = read_literal(alloc, rest)?;
-    Ok((Sentence::Set(place, value), rest))
-}
-
-#[tactic(auto, unfolding(crate::specs::Commands::kill_at))]
-fn read_kill(alloc: Global, text: &[u8]) -> Result<(Sentence<'_>, &[u8]), Refusal>
-    ensures { Gives (λ x. (command_of x.0, x.1.now)) result (commands.kill_at text.now) }
-{
-    let (place, rest) = read_spelled(alloc, text)?;
-    Ok((Sentence::Kill(place), rest))
-}
-
-#[tactic(auto, unfolding(crate::specs::Commands::merge_at))]
-fn read_merge(alloc: Global, text: &[u8]) -> Result<(Sentence<'_>, &[u8]), Refusal>
-    ensures { Gives (λ x. (command_of x.0, x.1.now)) result (commands.merge_at text.now) }
-{
-    let (target, rest) = read_spelled(alloc, text)?;
-    let rest = past(b'=', rest)?;
-    let (source, rest) = read_spelled(alloc, rest)?;
-    Ok((Sentence::Merge(target, source), rest))
-}
-
-#[tactic(auto, unfolding(crate::specs::Commands::data_at))]
-fn read_data(alloc: Global, text: &[u8]) -> Result<(Sentence<'_>, &[u8]), Refusal>
-    ensures { Gives (λ x. (command_of x.0, x.1.now)) result (commands.data_at text.now) }
-{
-    let (place, rest) = read_spelled(alloc, text)?;
-    let rest = past(b')', rest)?;
-    Ok((Sentence::Data(place), rest))
-}
-
-#[tactic(auto, unfolding(crate::specs::Commands::get_at))]
-fn read_get(alloc: Global, text: &[u8]) -> Result<(Sentence<'_>, &[u8]), Refusal>
-    ensures { Gives (λ x. (command_of x.0, x.1.now)) result (commands.get_at text.now) }
-{
-    let (place, rest) = read_spelled(alloc, text)?;
-    let (default, rest) = read_default(alloc, rest)?;
-    let rest = past(b')', rest)?;
-    Ok((Sentence::Get(place, default), rest))
-}
-
-#[tactic(auto, unfolding(crate::specs::Commands::order_at))]
-fn read_order(alloc: Global, text: &[u8]) -> Result<(Sentence<'_>, &[u8]), Refusal>
-    ensures { Gives (λ x. (command_of x.0, x.1.now)) result (commands.order_at text.now) }
-{
-    let (place, rest) = read_spelled(alloc, text)?;
-    let (direction, rest) = read_direction(alloc, rest)?;
-    let rest = past(b')', rest)?;
-    Ok((Sentence::Order(place, direction), rest))
-}
-
-#[tactic(auto, unfolding(crate::specs::Commands::query_at))]
-fn read_query(alloc: Global, text: &[u8]) -> Result<(Sentence<'_>, &[u8]), Refusal>
-    ensures { Gives (λ x. (command_of x.0, x.1.now)) result (commands.query_at text.now) }
-{
-    let (place, rest) = read_spelled(alloc, text)?;
-    let (direction, rest) = read_direction(alloc, rest)?;
-    let rest = past(b')', rest)?;
-    Ok((Sentence::Query(place, direction), rest))
-}
-
-fn is_blank(byte: u8) -> bool
-    ensures { result ≡ commands.is_blank byte }
-{
-    byte == b' ' || byte == b'\t'
-}
-
-fn blank_end(text: &[u8]) -> Option<usize>
-    ensures { result ≡ position commands.ends_blank text.now }
-{
-    text.iter().position(|byte| !is_blank(*byte))
-}
-
-// What follows the bytes 32 and 9 at the front.
-pub(crate) fn past_blank(text: &[u8]) -> &[u8]
-    ensures { result.now ≡ commands.past_blank text.now }
-{
-    match blank_end(text) {
-        Some(n) => split_back(text, n),
-        None => split_back(text, text.len()),
-    }
-}
-
-fn split_back(text: &[u8], n: usize) -> &[u8]
-    requires { n ≤ length text.now }
-    ensures { result.now ≡ drop n text.now }
-{
-    let (_, rest) = text.split_at(n);
-    rest
-}
-
-pub(crate) fn begins_blank(text: &[u8]) -> bool
-    ensures { result ≡ commands.begins_blank text.now }
-{
-    match text {
-        [] => false,
-        [first, ..] => is_blank(*first),
-    }
-}
-
-// What follows a blank.
-pub(crate) fn skip_blank(text: &[u8]) -> Result<&[u8], Refusal>
-    ensures { Skips (λ rest. rest.now) result (commands.blank_at text.now) }
-{
-    if begins_blank(text) {
-        Ok(past_blank(text))
-    } else {
-        Err(Refusal::BadLine)
-    }
-}
-
-fn read_act(alloc: Global, act: Act, text: &[u8]) -> Result<(Sentence<'_>, &[u8]), Refusal>
-    ensures { Gives (λ x. (command_of x.0, x.1.now)) result (commands.act_at act text.now) }
-{
-    match act {
-        Act::Set => read_set(alloc, text),
-        Act::Kill => read_kill(alloc, text),
-        Act::Merge => read_merge(alloc, text),
-    }
-}
-
-fn read_function(
+// What a word wants behind its reference.
+fn read_tail<'a>(
     alloc: Global,
-    function: Function,
-    text: &[u8],
-) -> Result<(Sentence<'_>, &[u8]), Refusal>
-    ensures { Gives (λ x. (command_of x.0, x.1.now)) result (commands.function_at function text.now) }
+    word: Word,
+    text: &'a [u8],
+    source: &mut KeyDraft,
+) -> Result<(Sentence, &'a [u8]), Refusal>
+    ensures { (r : Reference) → Tells source.new r result (commands.tail_at word r text.now) }
 {
-    match function {
-        Function::Data => read_data(alloc, text),
-        Function::Get => read_get(alloc, text),
-        Function::Order => read_order(alloc, text),
-        Function::Query => read_query(alloc, text),
+    match word {
+        Word::Set => match read_value(alloc, text) {
+            Ok((value, rest)) => Ok((Sentence::Set(value), rest)),
+            Err(refusal) => Err(refusal),
+        },
+        Word::Kill => Ok((Sentence::Kill, text)),
+        Word::Merge => match read_source(alloc, text, source) {
+            Ok(rest) => Ok((Sentence::Merge, rest)),
+            Err(refusal) => Err(refusal),
+        },
+        Word::Data => Ok((Sentence::Data, text)),
+        Word::Get => match read_default(alloc, text) {
+            Ok((default, rest)) => Ok((Sentence::Get(default), rest)),
+            Err(refusal) => Err(refusal),
+        },
+        Word::Order => match read_direction(alloc, text) {
+            Ok((direction, rest)) => Ok((Sentence::Order(direction), rest)),
+            Err(refusal) => Err(refusal),
+        },
+        Word::Query => match read_direction(alloc, text) {
+            Ok((direction, rest)) => Ok((Sentence::Query(direction), rest)),
+            Err(refusal) => Err(refusal),
+        },
+    }
+}
+
+// A reference, and what a word wants behind it.
+fn read_operands<'a>(
+    alloc: Global,
+    word: Word,
+    text: &'a [u8],
+    drafts: &mut Drafts,
+) -> Result<(Sentence, &'a [u8]), Refusal>
+    ensures { Finds drafts.new result (commands.operands_at word text.now) }
+{
+    match read_draft(alloc, text, &mut drafts.first) {
+        Ok(rest) => read_tail(alloc, word, rest, &mut drafts.second),
+        Err(refusal) => Err(refusal),
     }
 }
 
 #[tactic(auto, unfolding(crate::specs::Commands::acts_at))]
-fn read_acts(alloc: Global, text: &[u8]) -> Result<(Sentence<'_>, &[u8]), Refusal>
-    ensures { Gives (λ x. (command_of x.0, x.1.now)) result (commands.acts_at text.now) }
+fn read_acts<'a>(
+    alloc: Global,
+    text: &'a [u8],
+    drafts: &mut Drafts,
+) -> Result<(Sentence, &'a [u8]), Refusal>
+    ensures { Finds drafts.new result (commands.acts_at text.now) }
 {
     let (letters, rest) = split_letters(text);
     match act_of(letters) {
         Some(act) => {
             let rest = skip_blank(rest)?;
-            read_act(alloc, act, rest)
+            read_operands(alloc, act, rest, drafts)
         }
         None => Err(Refusal::BadLine),
     }
 }
 
 #[tactic(auto, unfolding(crate::specs::Commands::functions_at))]
-fn read_functions(alloc: Global, text: &[u8]) -> Result<(Sentence<'_>, &[u8]), Refusal>
-    ensures { Gives (λ x. (command_of x.0, x.1.now)) result (commands.functions_at text.now) }
+fn read_functions<'a>(
+    alloc: Global,
+    text: &'a [u8],
+    drafts: &mut Drafts,
+) -> Result<(Sentence, &'a [u8]), Refusal>
+    ensures { Finds drafts.new result (commands.functions_at text.now) }
 {
     let (letters, rest) = split_letters(text);
     match function_of(letters) {
         Some(function) => {
             let rest = past(b'(', rest)?;
-            read_function(alloc, function, rest)
+            let (sentence, rest) = read_operands(alloc, function, rest, drafts)?;
+            let rest = past(b')', rest)?;
+            Ok((sentence, rest))
         }
         None => Err(Refusal::BadLine),
     }
 }
 
-// The command at the front of a text, and what follows it.
+// The sentence of the command at the front of a text, and what follows it.
 #[tactic(auto, unfolding(crate::specs::Commands::command_at))]
-pub(crate) fn read_sentence(alloc: Global, text: &[u8]) -> Result<(Sentence<'_>, &[u8]), Refusal>
-    ensures { Gives (λ x. (command_of x.0, x.1.now)) result (commands.command_at text.now) }
+pub(crate) fn read_sentence<'a>(
+    alloc: Global,
+    text: &'a [u8],
+    drafts: &mut Drafts,
+) -> Result<(Sentence, &'a [u8]), Refusal>
+    ensures { Finds drafts.new result (commands.command_at text.now) }
 {
     match after(b'$', text) {
-        Some(function) => read_functions(alloc, function),
-        None => read_acts(alloc, text),
+        Some(function) => read_functions(alloc, function, drafts),
+        None => read_acts(alloc, text, drafts),
     }
 }

@@ -1,20 +1,16 @@
 //! The words of commands.
-ghost use Rattle.std.specs.Prelude.{◌≡◌};
-ghost use Rattle.script.specs.Commands as commands;
+ghost use Rattle.std.specs.Prelude.{◌≡◌, [], ◌∷◌};
+ghost use Rattle.std.specs.List.{find};
+ghost use Rattle.script.specs.Words as words;
 
 use m_text::is_word;
 
-// A command that begins with its word.
+// What a word names: an act by itself, or a function after a `$`.
 #[derive(Clone, Copy, Debug)]
-pub(crate) enum Act {
+pub(crate) enum Word {
     Set,
     Kill,
     Merge,
-}
-
-// A command that begins with a `$`.
-#[derive(Clone, Copy, Debug)]
-pub(crate) enum Function {
     Data,
     Get,
     Order,
@@ -22,37 +18,42 @@ pub(crate) enum Function {
 }
 
 fn is_either(short: &[u8], long: &[u8], letters: &[u8]) -> bool
-    ensures { result ≡ commands.is_either short.now long.now letters.now }
+    ensures { result ≡ words.is_either short.now long.now letters.now }
 {
     is_word(short, letters) || is_word(long, letters)
 }
 
-pub(crate) fn act_of(letters: &[u8]) -> Option<Act>
-    ensures { result ≡ commands.act_of letters.now }
+// Whether letters are one of the two words, in any case.
+fn is_named(word: Word, letters: &[u8]) -> bool
+    ensures { result ≡ words.is_named word letters.now }
 {
-    if is_either(b"S", b"SET", letters) {
-        Some(Act::Set)
-    } else if is_either(b"K", b"KILL", letters) {
-        Some(Act::Kill)
-    } else if is_either(b"M", b"MERGE", letters) {
-        Some(Act::Merge)
-    } else {
-        None
+    match word {
+        Word::Set => is_either(b"S", b"SET", letters),
+        Word::Kill => is_either(b"K", b"KILL", letters),
+        Word::Merge => is_either(b"M", b"MERGE", letters),
+        Word::Data => is_either(b"D", b"DATA", letters),
+        Word::Get => is_either(b"G", b"GET", letters),
+        Word::Order => is_either(b"O", b"ORDER", letters),
+        Word::Query => is_either(b"Q", b"QUERY", letters),
     }
 }
 
-pub(crate) fn function_of(letters: &[u8]) -> Option<Function>
-    ensures { result ≡ commands.function_of letters.now }
+fn named_by(letters: &[u8], table: &[Word]) -> Option<Word>
+    ensures { result ≡ find (λ w. words.is_named w letters.now) table.now }
 {
-    if is_either(b"D", b"DATA", letters) {
-        Some(Function::Data)
-    } else if is_either(b"G", b"GET", letters) {
-        Some(Function::Get)
-    } else if is_either(b"O", b"ORDER", letters) {
-        Some(Function::Order)
-    } else if is_either(b"Q", b"QUERY", letters) {
-        Some(Function::Query)
-    } else {
-        None
-    }
+    table.iter().copied().find(|word| is_named(*word, letters))
+}
+
+// The act that letters name.
+pub(crate) fn act_of(letters: &[u8]) -> Option<Word>
+    ensures { result ≡ words.act_of letters.now }
+{
+    named_by(letters, &[Word::Set, Word::Kill, Word::Merge])
+}
+
+// The function that letters name, after its `$`.
+pub(crate) fn function_of(letters: &[u8]) -> Option<Word>
+    ensures { result ≡ words.function_of letters.now }
+{
+    named_by(letters, &[Word::Data, Word::Get, Word::Order, Word::Query])
 }

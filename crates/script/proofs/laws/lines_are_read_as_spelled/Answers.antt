@@ -1,4 +1,5 @@
-use Rattle.script.specs.LineLaws.{line_spelled, line_judged, line_not_spelled}
+use Rattle.script.specs.WordLaws.{one_word}
+use Rattle.script.specs.LineLaws.{line_spelled, line_judged, line_not_spelled, line_unspelled}
 use Rattle.script.proofs.laws.lines_are_read_as_spelled.Goals as goal
 
 pub returns-clause-found : goal.returns-clause-found
@@ -9,3 +10,9 @@ returns-clause-again c = line_judged
 
 pub returns-clause-bad_line : goal.returns-clause-bad_line
 returns-clause-bad_line c = line_not_spelled
+
+pub returns-clause-other : goal.returns-clause-other
+returns-clause-other c = line_unspelled
+
+pub returns-clause-words : goal.returns-clause-words
+returns-clause-words c = one_word

@@ -1,5 +1,0 @@
-use Rattle.m_text.proofs.Faults.{made_place}
-use Rattle.m_text.proofs.place.Spelled.into_place.Goals as goal
-
-pub returns : goal.returns
-returns c = rw (← c.self.view_is) (made_place c.new.result c.self.inside.word.now c.in_ok-name.name c.self.inside.subscripts.items c.in_ok-name.ensures c.new.ensures)
