@@ -1,9 +1,9 @@
 -- What was written, piece after piece.
-use Rattle.std.proofs.Common.{◌≡◌, ℕ, ◌+◌, ◌-◌, ◌≤◌, List, [], ◌++◌, length, take, drop, sym, ap, subst, ◌∙◌, arith, append_assoc, append-nil, length-drop, length-append, Option, Some, None, Result, Ok, Err, OnErr}
+use Rattle.std.proofs.Common.{◌≡◌, ℕ, ◌+◌, ◌-◌, ◌≤◌, List, [], ◌++◌, length, take, drop, refl, sym, ap, subst, ◌∙◌, arith, append_assoc, append-nil, length-drop, length-append, Option, Some, None, Result, Ok, Err, OnErr}
 use Rattle.std.proofs.Math.Seq.{take-add, take-append-add}
 use Rattle.std.proofs.lemmas.List.{take_all, take-append-le}
 use Rattle.std.specs.Io.KnownBytes.{Appends}
-use Rattle.listing.specs.Bytes.{WritesBeginning}
+use Rattle.listing.specs.Bytes.{WritesBeginning, Passes}
 
 -- nothing more was written
 pub Appends-nothing : (a : Option (List ℕ)) → Appends a a []
@@ -48,3 +48,39 @@ WritesBeginning-then a b c x y h k = record {
 pub on_err : {T E : Type 0} (r : Result T E) (P : Type 0) → P → OnErr r P
 on_err (Ok x) P p = tt
 on_err (Err e) P p = p
+
+-- nothing was written, and all is gathered still
+pub Passes-none : (a : Option (List ℕ)) (x : List ℕ) → Passes a a x x
+Passes-none a x = record { written = []; appended = Appends-nothing a; rest = refl }
+
+-- all was written
+pub Passes-all : (a b : Option (List ℕ)) (x y : List ℕ) → Appends a b x → y ≡ [] → Passes a b x y
+Passes-all a b x y h e = record { written = x; appended = h; rest = sym (append-nil x) ∙ ap (λ (l : List ℕ). x ++ l) (sym e) }
+
+-- more was gathered
+pub Passes-more : (a b : Option (List ℕ)) (x y more : List ℕ) → Passes a b x y → Passes a b (x ++ more) (y ++ more)
+Passes-more a b x y more h = record {
+  written = h.written;
+  appended = h.appended;
+  rest = ap (λ (l : List ℕ). l ++ more) h.rest ∙ append_assoc h.written y more;
+}
+
+-- and of what is gathered more was written
+pub Passes-then : (a b c : Option (List ℕ)) (x y z : List ℕ) → Passes a b x y → Passes b c y z → Passes a c x z
+Passes-then a b c x y z h k = record {
+  written = h.written ++ k.written;
+  appended = Appends-more a b c h.written k.written h.appended k.appended;
+  rest = h.rest ∙ ap (λ (l : List ℕ). h.written ++ l) k.rest ∙ sym (append_assoc h.written k.written z);
+}
+
+-- all was written in the end
+pub Passes-Appends : (a b c : Option (List ℕ)) (x y : List ℕ) → Passes a b x y → Appends b c y → Appends a c x
+Passes-Appends a b c x y h k = subst (Appends a c) (sym h.rest) (Appends-more a b c h.written y h.appended k)
+
+-- a beginning of what was gathered was written
+pub Passes-begun : (a b c : Option (List ℕ)) (x y : List ℕ) → Passes a b x y → WritesBeginning b c y → WritesBeginning a c x
+Passes-begun a b c x y h k = subst (WritesBeginning a c) (sym h.rest) (WritesBeginning-then a b c h.written y h.appended k)
+
+-- what was written of it is a beginning
+pub Passes-beginning : (a b : Option (List ℕ)) (x y : List ℕ) → Passes a b x y → WritesBeginning a b x
+Passes-beginning a b x y h = subst (WritesBeginning a b) (sym h.rest) (WritesBeginning-longer a b h.written y (WritesBeginning-all a b h.written h.appended))

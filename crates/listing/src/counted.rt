@@ -1,12 +1,15 @@
 //! A reader or writer whose failed calls are counted.
-ghost use Rattle.std.specs.Prelude.{◌≡◌, ◌+◌, ◌≤◌, ◌<◌, ◌^◌, ◌-◌, length, take, IfOk, OnOk, OnErr};
+ghost use Rattle.std.specs.Prelude.{◌≡◌, ◌+◌, ◌≤◌, ◌<◌, ◌^◌, ◌-◌, [], length, take, IfOk, OnOk, OnErr};
 ghost use Rattle.std.specs.Io.KnownBytes.{Appends, Consumes, IsAtEnd, Keeps};
-ghost use Rattle.listing.specs.Bytes.{WritesBeginning, Counts};
+ghost use Rattle.listing.specs.Bytes.{WritesBeginning, Passes, Counts};
 
 use std::io::{Read, Write};
 use thiserror::Error;
 
-/// A reader or writer, and how many of its calls failed. Nothing is tried again.
+/// How many bytes are gathered before they are written.
+pub const GATHERED_BYTES: usize = 16384;
+
+/// A reader or writer, and how many of its calls failed.
 #[derive(Drop)]
 pub struct Counted<T> {
     inner: T,
@@ -39,7 +42,7 @@ impl<T> Counted<T> {
         &self.inner
     }
 
-    /// How many calls failed. The count stays at 2^64 - 1 once there.
+    /// How many calls failed. The count saturates at 2^64 - 1.
     pub fn failures(&self) -> u64
         ensures { result ≡ self.now.failures }
     {
@@ -84,6 +87,40 @@ impl<W: Write> Counted<W> {
         while done < text.len() {
             done += self.write_some(&text[done..])?;
         }
+        Ok(())
+    }
+
+    /// Writes all that was gathered in `out`, and empties it.
+    ///
+    /// After a fault a beginning of it was written, one more failure is counted, and `out` is as it was.
+    pub fn write_gathered(&mut self, out: &mut Vec<u8>) -> Result<(), WriteFault>
+        ensures ok { OnOk result (Appends (W.contents self.old.inner) (W.contents self.new.inner) out.old.items) }
+        ensures empty { OnOk result (out.new.items ≡ []) }
+        ensures err { OnErr result (WritesBeginning (W.contents self.old.inner) (W.contents self.new.inner) out.old.items) }
+        ensures left { OnErr result (out.new.items ≡ out.old.items) }
+        ensures kept { OnOk result (self.new.failures ≡ self.old.failures) }
+        ensures counted { OnErr result (Counts self.old.failures self.new.failures) }
+    {
+        self.write_text(out)?;
+        out.clear();
+        Ok(())
+    }
+
+    /// Writes what was gathered in `out` where that is at least `GATHERED_BYTES`, and else nothing.
+    ///
+    /// After a fault a beginning of it was written, one more failure is counted, and `out` is as it was.
+    pub fn write_full(&mut self, out: &mut Vec<u8>) -> Result<(), WriteFault>
+        ensures ok { OnOk result (Passes (W.contents self.old.inner) (W.contents self.new.inner) out.old.items out.new.items) }
+        ensures bounded { OnOk result (length out.new.items < GATHERED_BYTES) }
+        ensures err { OnErr result (WritesBeginning (W.contents self.old.inner) (W.contents self.new.inner) out.old.items) }
+        ensures left { OnErr result (out.new.items ≡ out.old.items) }
+        ensures kept { OnOk result (self.new.failures ≡ self.old.failures) }
+        ensures counted { OnErr result (Counts self.old.failures self.new.failures) }
+    {
+        if out.len() < GATHERED_BYTES {
+            return Ok(());
+        }
+        self.write_gathered(out)?;
         Ok(())
     }
 }

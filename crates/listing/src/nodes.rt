@@ -1,14 +1,14 @@
 //! The listing of a view.
-ghost use Rattle.std.specs.Prelude.{◌≡◌, ◌++◌, IfErr, OnOk, OnErr, IsErrOf};
+ghost use Rattle.std.specs.Prelude.{◌≡◌, ◌++◌, [], OnOk, OnErr, IsErrOf};
 ghost use Rattle.std.specs.Io.KnownBytes.{Appends};
-ghost use Rattle.listing.specs.Bytes.{WritesBeginning, Passes, Counts};
+ghost use Rattle.listing.specs.Bytes.{WritesBeginning, Counts};
 ghost use Rattle.listing.specs.Listing.{node_text, listing_text};
 
 use crate::{Counted, WriteFault};
-use collation::{Ref, Text};
+use collation::Text;
 use globals::{Cut, OrderedView, walk_from};
 use key_codec::Key;
-use m_text::{write_literal, write_ref};
+use m_text::{write_key, write_literal};
 use std::alloc::{AllocError, Global};
 use std::io::Write;
 use thiserror::Error;
@@ -24,50 +24,45 @@ pub enum ListingFault {
     Memory,
 }
 
-// How many bytes are gathered before they are written.
-const GATHERED: usize = 16384;
-
 // A node's line at the end of `out`.
-fn push_line(reference: &Ref, value: &Text, out: &mut Vec<u8>) -> Result<(), AllocError>
-    ensures { OnOk result (out.new.items ≡ out.old.items ++ node_text (reference.now, value.now)) }
+fn push_node(key: &Key, value: &Text, out: &mut Vec<u8>) -> Result<(), AllocError>
+    ensures { OnOk result (out.new.items ≡ out.old.items ++ node_text (key.now, value.now)) }
 {
-    write_ref(reference, out)?;
+    write_key(key, out)?;
     out.push(b'=')?;
     write_literal(value.as_slice(), out)?;
     out.push(b'\n')?;
     Ok(())
 }
 
-// The same of a key.
-fn push_node(alloc: Global, key: &Key, value: &Text, out: &mut Vec<u8>) -> Result<(), ListingFault>
-    ensures line { OnOk result (out.new.items ≡ out.old.items ++ node_text (key.now, value.now)) }
-    ensures memory { IfErr result (λ fault. fault ≡ ListingFault.Memory) }
-{
-    let Ok(reference) = key.reference(alloc) else {
-        return Err(ListingFault::Memory);
-    };
-    push_line(&reference, value, out)?;
-    Ok(())
-}
-
-// Writes what was gathered, once it is enough.
-fn write_gathered<W: Write>(writer: &mut Counted<W>, out: &mut Vec<u8>) -> Result<(), WriteFault>
-    ensures ok { OnOk result (Passes (W.contents writer.old.inner) (W.contents writer.new.inner) out.old.items out.new.items) }
-    ensures err { OnErr result (WritesBeginning (W.contents writer.old.inner) (W.contents writer.new.inner) out.old.items) }
+/// Writes what stands in `out` and then the listing of a view: a line for each reference with a value, in order.
+/// Lines are gathered in `out`, which is empty at the end.
+///
+/// After a fault a beginning of both was written: `Write` only where a call of the writer failed, else `Memory`,
+/// where memory was refused.
+pub fn write_listing_after<V: OrderedView, W: Write>(
+    view: &V,
+    out: &mut Vec<u8>,
+    writer: &mut Counted<W>,
+) -> Result<(), ListingFault>
+    ensures ok { OnOk result (Appends (W.contents writer.old.inner) (W.contents writer.new.inner) (out.old.items ++ listing_text (V.content view.now))) }
+    ensures empty { OnOk result (out.new.items ≡ []) }
+    ensures err { OnErr result (WritesBeginning (W.contents writer.old.inner) (W.contents writer.new.inner) (out.old.items ++ listing_text (V.content view.now))) }
+    ensures counted { IsErrOf result ListingFault.Write → Counts writer.old.failures writer.new.failures }
     ensures kept { OnOk result (writer.new.failures ≡ writer.old.failures) }
-    ensures counted { OnErr result (Counts writer.old.failures writer.new.failures) }
+    ensures memory { IsErrOf result ListingFault.Memory → writer.new.failures ≡ writer.old.failures }
 {
-    if out.len() < GATHERED {
-        return Ok(());
+    'nodes: for (key, value) in walk_from(view, Cut::Start) {
+        push_node(key, value, out)?;
+        writer.write_full(out)?;
     }
-    writer.write_text(out)?;
-    out.clear();
+    writer.write_gathered(out)?;
     Ok(())
 }
 
 /// Writes the listing of a view: a line for each reference with a value, in order.
 ///
-/// After a fault a beginning of it was written: `Write` exactly where a call of the writer failed, else `Memory`,
+/// After a fault a beginning of it was written: `Write` only where a call of the writer failed, else `Memory`,
 /// where memory was refused.
 pub fn write_listing<V: OrderedView, W: Write>(
     alloc: Global,
@@ -81,12 +76,7 @@ pub fn write_listing<V: OrderedView, W: Write>(
     ensures memory { IsErrOf result ListingFault.Memory → writer.new.failures ≡ writer.old.failures }
 {
     let mut out = Vec::new(alloc);
-    'nodes: for (key, value) in walk_from(view, Cut::Start) {
-        push_node(alloc, key, value, &mut out)?;
-        write_gathered(writer, &mut out)?;
-    }
-    writer.write_text(&out)?;
-    Ok(())
+    write_listing_after(view, &mut out, writer)
 }
 
 impl From<AllocError> for ListingFault {

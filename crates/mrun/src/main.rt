@@ -1,70 +1,137 @@
 //! `mrun`: runs a script of numbered jobs' commands, from a file or standard input.
 //!
 //! It prints a line `job reply` for each line that isn't empty, then `--` and the listing of the database.
-//! What is printed is what `script_run::run_script` promises; this file only reads the command line, opens
-//! the file and turns faults into exit statuses:
+//! What is printed is what `script_run::run_with` promises, the exit status is `script_run::status_of` of its outcome
+//! and the text of a fault is `script_run::Fault::text`; this file only collects the words, opens the file and prints
+//! what went wrong:
 //!
-//! 0, all replies are accepted; 1, a reply is an `error`; 2, a fault, told on standard error.
+//! 0, all replies are accepted; 1, a reply is an `error`; 2, a fault, or wrong words, told on standard error.
 #![tactic(auto)]
 
-use clap::{Arg, ArgAction, Command};
+mod file;
+
+use clap::error::ErrorKind;
+use file::open_file;
 use listing::Counted;
-use script_run::{Fault, Outcome, run_script};
-use std::alloc::Global;
-use std::io::{Read, Write};
+use mrun_args::{Args, args_of};
+use refusal::Refusal;
+use script_run::{Fault, Outcome, RefusalLog, run_with, status_of};
+use std::alloc::AllocError;
+use std::env::FillError;
+use std::io;
+use std::io::Read;
 use std::process::ExitCode;
-use std::rt::Files;
-use std::{env, fs, io};
+use std::rt::Env;
 
-// The file that the words ask for, or none for standard input.
-fn file_of<'a>(alloc: Global, words: &'a [String]) -> Result<Option<&'a str>, clap::Error> {
-    let file = Arg::new(alloc, "FILE")
-        .action(ArgAction::Set)
-        .help("The script; without it standard input is read");
-    let command = Command::new(alloc, "mrun")
-        .version("0.1.0")
-        .about(
-            "Runs a script of numbered jobs' commands on M globals, and prints replies and a listing",
-        )
-        .arg(file)?;
-    let matches = command.try_get_matches_from(words)?;
-    Ok(matches.get_str("FILE"))
+// Tells refused lines on standard error, where that is asked for. What can't be printed there is left out.
+struct ErrorLog<'a, P> {
+    rt: &'a P,
+    told: bool,
 }
 
-fn run_from<R: Read + Drop>(rt: &(impl Print + AllocGlobal), input: R) -> Result<Outcome, Fault> {
-    let mut reader = Counted::new(input);
-    let mut writer = Counted::new(io::writer(rt));
-    run_script(rt.alloc(), &mut reader, &mut writer)
-}
-
-fn run_file(
-    rt: &(impl Files + Print + Input + AllocGlobal),
-    file: Option<&str>,
-) -> Result<Outcome, Fault> {
-    match file {
-        Some(path) => match fs::open(rt, path) {
-            Ok(file) => run_from(rt, file),
-            Err(_) => Err(Fault::Read),
-        },
-        None => run_from(rt, rt.reader()),
+impl<'a, P> Drop for ErrorLog<'a, P> {
+    fn drop(self) {
+        let ErrorLog { rt: _, told: _ } = self;
     }
 }
 
-fn main(rt: HostRuntime) -> io::Result<ExitCode> {
-    let words: Vec<String> = env::args(&rt)?.collect(rt.alloc())?;
-    let file = match file_of(rt.alloc(), &words) {
-        Ok(file) => file,
-        Err(error) => {
-            error.print(&rt)?;
-            let status = if error.use_stderr() { 2 } else { 0 };
-            return Ok(ExitCode::from(status));
+impl<'a, P: Eprint> RefusalLog for ErrorLog<'a, P> {
+    fn refused(&mut self, line: u64, refusal: Refusal) {
+        if self.told {
+            let _ = eprintln!(self.rt; "mrun: line {line}: error {refusal}");
         }
+    }
+}
+
+// Word `i` of the command line, or none after the last.
+fn word_at(rt: &(impl Env + AllocGlobal), i: usize) -> Result<Option<Vec<u8>>, AllocError> {
+    let mut size = 256usize;
+    for _ in 0..usize::BITS {
+        let mut word = Vec::from_elem(rt.alloc(), 0u8, size)?;
+        match rt.arg(i, word.as_mut_slice()) {
+            Ok(n) => {
+                word.truncate(n);
+                return Ok(Some(word));
+            }
+            Err(FillError::NotPresent) => return Ok(None),
+            Err(FillError::TooLong) => size = size.saturating_mul(2),
+        }
+    }
+    Err(AllocError)
+}
+
+// The words as bytes. The first is the program's name.
+fn words_of(rt: &(impl Env + AllocGlobal)) -> Result<Vec<Vec<u8>>, AllocError> {
+    let mut words = Vec::new(rt.alloc());
+    for i in 0..usize::MAX {
+        match word_at(rt, i)? {
+            Some(word) => words.push(word)?,
+            None => break,
+        }
+    }
+    Ok(words)
+}
+
+// Prints a fault's line, and answers its exit status.
+fn told(rt: &impl Eprint, fault: Fault) -> u8 {
+    let _ = eprintln!(rt; "mrun: {fault}");
+    status_of(&Err(fault))
+}
+
+// Prints that a file can't be opened, and why, and answers the exit status.
+fn told_of_file(rt: &(impl Eprint + AllocGlobal), name: &[u8], why: io::Error) -> u8 {
+    let fault = Fault::Read;
+    match String::from_utf8_lossy(rt.alloc(), name) {
+        Ok(name) => {
+            let _ = eprintln!(rt; "mrun: {fault}: {name}: {why}");
+            status_of(&Err(fault))
+        }
+        Err(_) => told(rt, fault),
+    }
+}
+
+// Prints help, the version or what is wrong with the words, and answers the exit status.
+fn told_of_words(rt: &(impl Print + Eprint), error: clap::Error) -> u8 {
+    if error.kind() == ErrorKind::OutOfMemory {
+        return told(rt, Fault::Memory);
+    }
+    if error.print(rt).is_err() {
+        return told(rt, Fault::Write);
+    }
+    if error.use_stderr() { 2 } else { 0 }
+}
+
+fn run_from<R: Read + Drop>(rt: &(impl Print + Eprint + AllocGlobal), args: Args, input: R) -> u8 {
+    let mut reader = Counted::new(input);
+    let mut writer = Counted::new(io::writer(rt));
+    let mut log = ErrorLog {
+        rt,
+        told: args.errors,
     };
-    match run_file(&rt, file) {
-        Ok(outcome) => Ok(ExitCode::from(if outcome.refused { 1 } else { 0 })),
-        Err(fault) => {
-            let _ = eprintln!(rt; "mrun: {fault}");
-            Ok(ExitCode::from(2))
-        }
+    let outcome = run_with(rt.alloc(), args.listed, &mut reader, &mut writer, &mut log);
+    if let Err(fault) = outcome {
+        let _ = eprintln!(rt; "mrun: {fault}");
+    }
+    status_of(&outcome)
+}
+
+fn run_words(rt: &(impl Print + Eprint + Input + AllocGlobal), words: &[Vec<u8>]) -> u8 {
+    let args = match args_of(rt.alloc(), words) {
+        Ok(args) => args,
+        Err(error) => return told_of_words(rt, error),
+    };
+    let Some(name) = args.file.and_then(|place| words.get(place)) else {
+        return run_from(rt, args, rt.reader());
+    };
+    match open_file(name) {
+        Ok(file) => run_from(rt, args, file),
+        Err(why) => told_of_file(rt, name, why),
+    }
+}
+
+fn main(rt: HostRuntime) -> ExitCode {
+    match words_of(&rt) {
+        Ok(words) => ExitCode::from(run_words(&rt, &words)),
+        Err(AllocError) => ExitCode::from(told(&rt, Fault::Memory)),
     }
 }

@@ -1,74 +1,232 @@
 -- Lines that were answered, one after the other.
-use Rattle.std.proofs.Common.{◌≡◌, ℕ, suc, ◌+◌, ◌-◌, ◌≤◌, take, Bool, true, ◌||◌, List, [], ◌∷◌, ◌++◌, map, length, drop, Option, refl, sym, ap, subst, ◌∙◌, append_assoc, arith, length-drop, drop-drop}
+use Rattle.std.proofs.Common.{◌≡◌, ℕ, suc, ◌+◌, ◌-◌, ◌≤◌, take, Bool, true, ◌||◌, List, [], ◌∷◌, ◌++◌, map, length, drop, Option, Result, Ok, Err, inl, inr, refl, sym, ap, subst, ◌∙◌, append_assoc, arith, length-drop, drop-drop}
 use Rattle.std.proofs.lemmas.List.{append-nil, map-append}
 use Rattle.std.proofs.lemmas.Grind.{flat_map-append}
 use Rattle.std.proofs.lemmas.List.Folds.{list_any-append}
-use Rattle.collation.specs.declared.command.Reply.{Reply}
-use Rattle.journal.specs.declared.unit.Unit.{Unit as JournalUnit}
-use Rattle.journal.specs.History.{initial, IsLegal}
+use Rattle.command.specs.declared.access.DataCommand.{DataCommand}
+use Rattle.command.specs.declared.request.Reply.{Reply}
+use Rattle.command.specs.declared.request.Reply.TheVariants.{Refused}
+use Rattle.journal.specs.History.{initial, IsLegal, after as after_units}
+use Rattle.journal.specs.Story.{Machine}
+use Rattle.refusal.specs.declared.Refusal.{Refusal}
+use Rattle.refusal.specs.declared.Refusal.TheVariants.{OutOfMemory}
 use Rattle.script.specs.Line.{reading_of, job_of}
 use Rattle.script.specs.Text.{reply_text}
 use Rattle.std.specs.Prelude.{Some, None}
 use Rattle.std.specs.Io.BufRead.{strip_last}
 use Rattle.std.proofs.Math.Bool.{or-false, or_assoc}
-use Rattle.listing.specs.BytesLaws.{rest_of}
+use Rattle.listing.specs.Bytes.{WritesBeginning, Passes}
+use Rattle.listing.specs.BytesLaws.{rest_of, Appends-nothing, WritesBeginning-all, WritesBeginning-longer, Passes-none, Passes-all, Passes-more, Passes-then, Passes-begun, Passes-Appends, Passes-beginning}
+use Rattle.std.specs.Io.KnownBytes.{Appends}
 use Rattle.bstr.specs.Find.{IsFirstByte, is_byte}
 use Rattle.script_run.specs.Lines.{kept, lines_of, has_no_end}
 use Rattle.script_run.proofs.Cut.{end_of, first_line, no_end, joined_line, has_no_end-append}
-use Rattle.script_run.specs.Output.{Answer, IsAnswer, AreAnswers, told_by, units_of, text_of, is_refused, some_refused, Ran, RanFront}
-use Rattle.script_run.specs.declared.run.Script.{Script}
+use Rattle.script_run.specs.Output.{Answer, IsAnswer, AreAnswers, told_by, left_by, text_of, is_refused, some_refused, ending}
+use Rattle.script_run.specs.Runs.{Ran, Broke, RanFront, BrokeFront, RanEnd, BrokeEnd}
+use Rattle.script_run.specs.declared.answers.Script.{Script}
 
-pub Ran-one : (line : List ℕ) (reply : Reply) (job : Option ℕ) (old new : Script) → job ≡ job_of line → IsAnswer old.core (reading_of line) reply → new.core ≡ old.core ++ told_by (reading_of line) reply
-    → new.out.items ≡ old.out.items ++ reply_text job reply → new.refused ≡ (old.refused || is_refused reply) → (IsLegal old.core initial → IsLegal new.core initial) → Ran (line ∷ []) old new
-Ran-one line reply job old new j a u t r l = record {
+one-text : (line : List ℕ) (reply : Reply) (job : Option ℕ) (old : Script) (out : List ℕ) → job ≡ job_of line → out ≡ old.out.items ++ reply_text job reply → out ≡ old.out.items ++ text_of ((line, reply) ∷ [])
+one-text line reply job old out j t = t ∙ ap (λ (k : Option ℕ). old.out.items ++ reply_text k reply) j ∙ ap (λ (ts : List ℕ). old.out.items ++ ts) (sym (append-nil _))
+
+-- one line was answered, and its reply gathered
+pub Ran-one : (line : List ℕ) (reply : Reply) (job : Option ℕ) (old new : Script) (before now : Option (List ℕ)) (out : List ℕ) → job ≡ job_of line → IsAnswer old.core (reading_of line) reply → new.core ≡ told_by (reading_of line) reply old.core
+    → out ≡ old.out.items ++ reply_text job reply → Passes before now out new.out.items → new.refused ≡ (old.refused || is_refused reply) → (IsLegal old.core.units initial → IsLegal new.core.units initial) → Ran (line ∷ []) old new before now
+Ran-one line reply job old new before now out j a u t p r l = record {
   answers = (line, reply) ∷ [];
   of_lines = refl;
   each = (a, tt);
-  units = u ∙ ap (λ (us : List JournalUnit). old.core ++ us) (sym (append-nil _));
-  text = t ∙ ap (λ (k : Option ℕ). old.out.items ++ reply_text k reply) j ∙ ap (λ (ts : List ℕ). old.out.items ++ ts) (sym (append-nil _));
+  machine = u;
+  passes = subst (λ (ts : List ℕ). Passes before now ts new.out.items) (one-text line reply job old out j t) p;
   refused = r ∙ ap (λ (b : Bool). old.refused || b) (sym (or-false _));
   legal = l;
 }
 
--- answers after some units, and then answers after theirs
-pub AreAnswers-append : (us vs : List JournalUnit) (xs ys : List Answer) → AreAnswers us xs → vs ≡ us ++ units_of xs → AreAnswers vs ys → AreAnswers us (xs ++ ys)
-AreAnswers-append us vs [] ys h e k = subst (λ (ws : List JournalUnit). AreAnswers ws ys) (e ∙ append-nil us) k
-AreAnswers-append us vs (x ∷ xs) ys h e k =
-    let told : List JournalUnit = told_by (reading_of x.0) x.1 in
-    (h.0, AreAnswers-append (us ++ told) vs xs ys h.1 (e ∙ sym (append_assoc us told (units_of xs))) k)
+-- a line was answered, and of its reply's text a beginning was written
+pub Broke-one : (line : List ℕ) (reply : Reply) (job : Option ℕ) (old : Script) (core : Machine) (before now : Option (List ℕ)) (out : List ℕ) → job ≡ job_of line → IsAnswer old.core (reading_of line) reply
+    → core ≡ told_by (reading_of line) reply old.core → out ≡ old.out.items ++ reply_text job reply → WritesBeginning before now out → (IsLegal old.core.units initial → IsLegal core.units initial) → Broke (line ∷ []) old before now
+Broke-one line reply job old core before now out j a u t w l = record {
+  answers = (line, reply) ∷ [];
+  of_lines = refl;
+  each = (a, tt);
+  legal = λ h. subst (λ (s : Machine). IsLegal s.units initial) u (l h);
+  begun = subst (WritesBeginning before now) (one-text line reply job old out j t) w;
+}
 
-pub Ran-then : (ls ms : List (List ℕ)) (a b c : Script) → Ran ls a b → Ran ms b c → Ran (ls ++ ms) a c
-Ran-then ls ms a b c h k = record {
+-- nothing was written
+pub nothing_begun : (a : Option (List ℕ)) (x : List ℕ) → WritesBeginning a a x
+nothing_begun a x = WritesBeginning-longer a a [] x (WritesBeginning-all a a [] (Appends-nothing a))
+
+-- an empty line has no answer
+pub Ran-none : (old new : Script) (a : Option (List ℕ)) → new.core ≡ old.core → new.out.items ≡ old.out.items → new.refused ≡ old.refused → Ran [] old new a a
+Ran-none old new a u o r = record {
+  answers = [];
+  of_lines = refl;
+  each = tt;
+  machine = u;
+  passes = subst (λ (ts : List ℕ). Passes a a ts new.out.items) (o ∙ sym (append-nil old.out.items)) (Passes-none a new.out.items);
+  refused = r ∙ sym (or-false old.refused);
+  legal = λ h. subst (λ (s : Machine). IsLegal s.units initial) (sym u) h;
+}
+
+-- answers at their places, and then answers after them
+pub AreAnswers-append : (s t : Machine) (xs ys : List Answer) → AreAnswers s xs → t ≡ left_by xs s → AreAnswers t ys → AreAnswers s (xs ++ ys)
+AreAnswers-append s t [] ys h e k = subst (λ (m : Machine). AreAnswers m ys) e k
+AreAnswers-append s t (x ∷ xs) ys h e k = (h.0, AreAnswers-append (told_by (reading_of x.0) x.1 s) t xs ys h.1 e k)
+
+-- the text of answers and of those after them
+text-then : (out : List ℕ) (xs ys : List Answer) → (out ++ text_of xs) ++ text_of ys ≡ out ++ text_of (xs ++ ys)
+text-then out xs ys = append_assoc out (text_of xs) (text_of ys) ∙ ap (λ (ts : List ℕ). out ++ ts) (sym (flat_map-append _ xs ys))
+
+-- what answers leave, and then those after them
+pub left-append : (xs ys : List Answer) (s : Machine) → left_by (xs ++ ys) s ≡ left_by ys (left_by xs s)
+left-append [] ys s = refl
+left-append (x ∷ xs) ys s = left-append xs ys (told_by (reading_of x.0) x.1 s)
+
+pub left-then : (s t : Machine) (xs ys : List Answer) → t ≡ left_by xs s → left_by ys t ≡ left_by (xs ++ ys) s
+left-then s t xs ys e = ap (left_by ys) e ∙ sym (left-append xs ys s)
+
+lines-then : (xs ys : List Answer) (ls ms : List (List ℕ)) → map (λ (x : Answer). x.0) xs ≡ ls → map (λ (x : Answer). x.0) ys ≡ ms → map (λ (x : Answer). x.0) (xs ++ ys) ≡ ls ++ ms
+lines-then xs ys ls ms h k = map-append (λ (x : Answer). x.0) xs ys ∙ ap (λ (l : List (List ℕ)). l ++ map (λ (x : Answer). x.0) ys) h ∙ ap (λ (l : List (List ℕ)). ls ++ l) k
+
+pub Ran-then : (ls ms : List (List ℕ)) (a b c : Script) (p q r : Option (List ℕ)) → Ran ls a b p q → Ran ms b c q r → Ran (ls ++ ms) a c p r
+Ran-then ls ms a b c p q r h k = record {
   answers = h.answers ++ k.answers;
-  of_lines = map-append (λ (x : Answer). x.0) h.answers k.answers ∙ ap (λ (l : List (List ℕ)). l ++ map (λ (x : Answer). x.0) k.answers) h.of_lines ∙ ap (λ (l : List (List ℕ)). ls ++ l) k.of_lines;
-  each = AreAnswers-append a.core b.core h.answers k.answers h.each h.units k.each;
-  units = k.units ∙ ap (λ (us : List JournalUnit). us ++ units_of k.answers) h.units ∙ append_assoc a.core (units_of h.answers) (units_of k.answers)
-      ∙ ap (λ (us : List JournalUnit). a.core ++ us) (sym (flat_map-append _ h.answers k.answers));
-  text = k.text ∙ ap (λ (ts : List ℕ). ts ++ text_of k.answers) h.text ∙ append_assoc a.out.items (text_of h.answers) (text_of k.answers)
-      ∙ ap (λ (ts : List ℕ). a.out.items ++ ts) (sym (flat_map-append _ h.answers k.answers));
-  refused = k.refused ∙ ap (λ (r : Bool). r || some_refused k.answers) h.refused ∙ or_assoc a.refused (some_refused h.answers) (some_refused k.answers)
-      ∙ ap (λ (r : Bool). a.refused || r) (sym (list_any-append _ h.answers k.answers));
+  of_lines = lines-then h.answers k.answers ls ms h.of_lines k.of_lines;
+  each = AreAnswers-append a.core b.core h.answers k.answers h.each h.machine k.each;
+  machine = k.machine ∙ left-then a.core b.core h.answers k.answers h.machine;
+  passes = subst (λ (ts : List ℕ). Passes p r ts c.out.items) (text-then a.out.items h.answers k.answers)
+      (Passes-then p q r ((a.out.items ++ text_of h.answers) ++ text_of k.answers) (b.out.items ++ text_of k.answers) c.out.items (Passes-more p q (a.out.items ++ text_of h.answers) b.out.items (text_of k.answers) h.passes) k.passes);
+  refused = k.refused ∙ ap (λ (x : Bool). x || some_refused k.answers) h.refused ∙ or_assoc a.refused (some_refused h.answers) (some_refused k.answers)
+      ∙ ap (λ (x : Bool). a.refused || x) (sym (list_any-append _ h.answers k.answers));
   legal = λ l. k.legal (h.legal l);
 }
 
-pub RanFront-more : (text rest after : List ℕ) (ls : List (List ℕ)) (a b c : Script) → RanFront text rest a b → Ran ls b c → ((more : List ℕ) → lines_of (rest ++ more) ≡ ls ++ lines_of (after ++ more)) → RanFront text after a c
-RanFront-more text rest after ls a b c h k e = record {
+-- lines were answered, and the run broke off in the next
+pub Broke-then : (ls ms : List (List ℕ)) (a b : Script) (p q r : Option (List ℕ)) → Ran ls a b p q → Broke ms b q r → Broke (ls ++ ms) a p r
+Broke-then ls ms a b p q r h k = record {
+  answers = h.answers ++ k.answers;
+  of_lines = lines-then h.answers k.answers ls ms h.of_lines k.of_lines;
+  each = AreAnswers-append a.core b.core h.answers k.answers h.each h.machine k.each;
+  legal = λ l. subst (λ (s : Machine). IsLegal s.units initial) (left-then a.core b.core h.answers k.answers h.machine) (k.legal (h.legal l));
+  begun = subst (WritesBeginning p r) (text-then a.out.items h.answers k.answers)
+      (Passes-begun p q r ((a.out.items ++ text_of h.answers) ++ text_of k.answers) (b.out.items ++ text_of k.answers) (Passes-more p q (a.out.items ++ text_of h.answers) b.out.items (text_of k.answers) h.passes) k.begun);
+}
+
+-- lines were answered, and then the run broke off
+pub Broke-after : (ls : List (List ℕ)) (a b : Script) (p q r : Option (List ℕ)) → Ran ls a b p q → WritesBeginning q r b.out.items → Broke ls a p r
+Broke-after ls a b p q r h w = record {
+  answers = h.answers;
+  of_lines = h.of_lines;
+  each = h.each;
+  legal = λ l. subst (λ (s : Machine). IsLegal s.units initial) h.machine (h.legal l);
+  begun = Passes-begun p q r (a.out.items ++ text_of h.answers) b.out.items h.passes w;
+}
+
+-- what the lines have is refused for memory
+abbrev pub silent : List (List ℕ) → List Answer
+silent [] = []
+silent (l ∷ ls) = (l, Refused OutOfMemory) ∷ silent ls
+
+pub silent-lines : (ls : List (List ℕ)) → map (λ (x : Answer). x.0) (silent ls) ≡ ls
+silent-lines [] = refl
+silent-lines (l ∷ ls) = ap (λ (m : List (List ℕ)). l ∷ m) (silent-lines ls)
+
+no_memory : (s : Machine) (r : Result (ℕ × DataCommand) Refusal) → IsAnswer s r (Refused OutOfMemory)
+no_memory s (Ok step) = inr refl
+no_memory s (Err e) = inr refl
+
+pub silent-each : (s : Machine) (ls : List (List ℕ)) → AreAnswers s (silent ls)
+silent-each s [] = tt
+silent-each s (l ∷ ls) = (no_memory s (reading_of l), silent-each (told_by (reading_of l) (Refused OutOfMemory) s) ls)
+
+told-nothing : (r : Result (ℕ × DataCommand) Refusal) (s : Machine) → told_by r (Refused OutOfMemory) s ≡ s
+told-nothing (Ok step) s = refl
+told-nothing (Err e) s = refl
+
+pub silent-left : (ls : List (List ℕ)) (s : Machine) → left_by (silent ls) s ≡ s
+silent-left [] s = refl
+silent-left (l ∷ ls) s = ap (left_by (silent ls)) (told-nothing (reading_of l) s) ∙ silent-left ls s
+
+-- the run broke off before these lines
+pub Broke-before : (ls : List (List ℕ)) (a : Script) (p : Option (List ℕ)) → Broke ls a p p
+Broke-before ls a p = record {
+  answers = silent ls;
+  of_lines = silent-lines ls;
+  each = silent-each a.core ls;
+  legal = λ l. subst (λ (s : Machine). IsLegal s.units initial) (sym (silent-left ls a.core)) l;
+  begun = nothing_begun p (a.out.items ++ text_of (silent ls));
+}
+
+-- the run broke off before the text
+pub BrokeFront-before : (text : List ℕ) (a : Script) (p : Option (List ℕ)) → BrokeFront text a p p
+BrokeFront-before text a p = record { lines = []; rest = text; broke = Broke-before [] a p; split = λ more. refl }
+
+pub BrokeFront-after : (text rest : List ℕ) (a b : Script) (p q r : Option (List ℕ)) → RanFront text rest a b p q → WritesBeginning q r b.out.items → BrokeFront text a p r
+BrokeFront-after text rest a b p q r h w = record { lines = h.lines; rest = rest; broke = Broke-after h.lines a b p q r h.ran w; split = h.split }
+
+-- all that was gathered was written then
+pub RanFront-written : (text rest : List ℕ) (a b c : Script) (p q r : Option (List ℕ)) → RanFront text rest a b p q → Appends q r b.out.items → c.core ≡ b.core → c.refused ≡ b.refused → c.out.items ≡ [] → RanFront text rest a c p r
+RanFront-written text rest a b c p q r h w u d o = record {
+  lines = h.lines;
+  ran = record {
+    answers = h.ran.answers;
+    of_lines = h.ran.of_lines;
+    each = h.ran.each;
+    machine = u ∙ h.ran.machine;
+    passes = Passes-then p q r (a.out.items ++ text_of h.ran.answers) b.out.items c.out.items h.ran.passes (Passes-all q r b.out.items c.out.items w o);
+    refused = d ∙ h.ran.refused;
+    legal = λ l. subst (λ (s : Machine). IsLegal s.units initial) (sym u) (h.ran.legal l);
+  };
+  split = h.split;
+}
+
+-- the rest by another name
+pub RanFront-is : (text rest same : List ℕ) (a b : Script) (p q : Option (List ℕ)) → same ≡ rest → RanFront text rest a b p q → RanFront text same a b p q
+RanFront-is text rest same a b p q e h = subst (λ (t : List ℕ). RanFront text t a b p q) (sym e) h
+
+-- nothing of the text is answered yet
+pub RanFront-none : (text : List ℕ) (a b : Script) (p : Option (List ℕ)) → b.core ≡ a.core → b.out.items ≡ a.out.items → b.refused ≡ a.refused → RanFront text text a b p p
+RanFront-none text a b p u o r = record { lines = []; ran = Ran-none a b p u o r; split = λ more. refl }
+
+pub RanFront-more : (text rest after : List ℕ) (ls : List (List ℕ)) (a b c : Script) (p q r : Option (List ℕ)) → RanFront text rest a b p q → Ran ls b c q r
+    → ((more : List ℕ) → lines_of (rest ++ more) ≡ ls ++ lines_of (after ++ more)) → RanFront text after a c p r
+RanFront-more text rest after ls a b c p q r h k e = record {
   lines = h.lines ++ ls;
-  ran = Ran-then h.lines ls a b c h.ran k;
+  ran = Ran-then h.lines ls a b c p q r h.ran k;
   split = λ more. h.split more ∙ ap (λ (l : List (List ℕ)). h.lines ++ l) (e more) ∙ sym (append_assoc h.lines ls (lines_of (after ++ more)));
 }
 
-pub more_lines : (text line : List ℕ) (at end : ℕ) (old mid new : Script) → at ≤ length text → RanFront text (drop at text) old mid → IsFirstByte (is_byte 10) (take (length text - at) (drop at text)) (Some end)
-    → line ≡ strip_last 13 (take end (take (length text - at) (drop at text))) → Ran (kept line) mid new → (at + (end + 1) ≤ length text) × RanFront text (drop (at + (end + 1)) text) old new
-more_lines text line at end old mid new le so_far first e ran =
+pub BrokeFront-more : (text rest after : List ℕ) (ls : List (List ℕ)) (a b : Script) (p q r : Option (List ℕ)) → RanFront text rest a b p q → Broke ls b q r
+    → ((more : List ℕ) → lines_of (rest ++ more) ≡ ls ++ lines_of (after ++ more)) → BrokeFront text a p r
+BrokeFront-more text rest after ls a b p q r h k e = record {
+  lines = h.lines ++ ls;
+  rest = after;
+  broke = Broke-then h.lines ls a b p q r h.ran k;
+  split = λ more. h.split more ∙ ap (λ (l : List (List ℕ)). h.lines ++ l) (e more) ∙ sym (append_assoc h.lines ls (lines_of (after ++ more)));
+}
+
+-- the next line of a text from place `at` on
+next-line : (text line : List ℕ) (at end : ℕ) → at ≤ length text → IsFirstByte (is_byte 10) (take (length text - at) (drop at text)) (Some end) → line ≡ strip_last 13 (take end (take (length text - at) (drop at text)))
+    → (more : List ℕ) → lines_of (drop at text ++ more) ≡ kept line ++ lines_of (drop (at + (end + 1)) text ++ more)
+next-line text line at end le first e more =
     let whole : take (length text - at) (drop at text) ≡ drop at text = rest_of text at in
     let found = rw whole at first in
     let ends = end_of (drop at text) end found in
     let line-is : line ≡ strip_last 13 (take end (drop at text)) = e ∙ ap (λ (t : List ℕ). strip_last 13 (take end t)) whole in
     let rest-is : drop (suc end) (drop at text) ≡ drop (at + (end + 1)) text = let same : at + suc end ≡ at + (end + 1) = omega arith in drop-drop (suc end) at text ∙ ap (λ (n : ℕ). drop n text) same in
-    let split : (more : List ℕ) → lines_of (drop at text ++ more) ≡ kept line ++ lines_of (drop (at + (end + 1)) text ++ more) =
-    λ more. first_line (drop at text) more end ends ∙ ap (λ (l : List ℕ). kept l ++ lines_of (drop (suc end) (drop at text) ++ more)) (sym line-is) ∙ ap (λ (r : List ℕ). kept line ++ lines_of (r ++ more)) rest-is in
-    (omega (arith, length-drop at text, found.0.high), RanFront-more text (drop at text) (drop (at + (end + 1)) text) (kept line) old mid new so_far ran split)
+    first_line (drop at text) more end ends ∙ ap (λ (l : List ℕ). kept l ++ lines_of (drop (suc end) (drop at text) ++ more)) (sym line-is) ∙ ap (λ (r : List ℕ). kept line ++ lines_of (r ++ more)) rest-is
+
+pub more_lines : (text line : List ℕ) (at end : ℕ) (old mid new : Script) (p q r : Option (List ℕ)) → at ≤ length text → RanFront text (drop at text) old mid p q → IsFirstByte (is_byte 10) (take (length text - at) (drop at text)) (Some end)
+    → line ≡ strip_last 13 (take end (take (length text - at) (drop at text))) → Ran (kept line) mid new q r → (at + (end + 1) ≤ length text) × RanFront text (drop (at + (end + 1)) text) old new p r
+more_lines text line at end old mid new p q r le so_far first e ran =
+    let whole : take (length text - at) (drop at text) ≡ drop at text = rest_of text at in
+    let found = rw whole at first in
+    (omega (arith, length-drop at text, found.0.high), RanFront-more text (drop at text) (drop (at + (end + 1)) text) (kept line) old mid new p q r so_far ran (next-line text line at end le first e))
+
+pub broke_lines : (text line : List ℕ) (at end : ℕ) (old mid : Script) (p q r : Option (List ℕ)) → at ≤ length text → RanFront text (drop at text) old mid p q → IsFirstByte (is_byte 10) (take (length text - at) (drop at text)) (Some end)
+    → line ≡ strip_last 13 (take end (take (length text - at) (drop at text))) → Broke (kept line) mid q r → BrokeFront text old p r
+broke_lines text line at end old mid p q r le so_far first e broke =
+    BrokeFront-more text (drop at text) (drop (at + (end + 1)) text) (kept line) old mid p q r so_far broke (next-line text line at end le first e)
 
 pub no_more_lines : (text : List ℕ) (at : ℕ) → at ≤ length text → IsFirstByte (is_byte 10) (take (length text - at) (drop at text)) None → has_no_end (drop at text) ≡ true
 no_more_lines text at le none =
@@ -79,13 +237,71 @@ no_more_lines text at le none =
 pub no_end_piece : (begun piece after : List ℕ) → has_no_end begun ≡ true → IsFirstByte (is_byte 10) piece None → after ≡ begun ++ piece → has_no_end after ≡ true
 no_end_piece begun piece after h none e = ap has_no_end e ∙ has_no_end-append begun piece h (no_end piece (λ k low high p. none k low high p))
 
--- the line that had begun ends in the piece, and whole lines follow it
-pub joined_lines : (begun piece line rest after : List ℕ) (end : ℕ) (a b c : Script) → has_no_end begun ≡ true → IsFirstByte (is_byte 10) piece (Some end) → line ≡ strip_last 13 (begun ++ take end piece)
-    → rest ≡ drop (suc end) piece → Ran (kept line) a b → RanFront rest after b c → RanFront (begun ++ piece) after a c
-joined_lines begun piece line rest after end a b c none found line-is rest-is ran front =
-    let first : RanFront (begun ++ piece) rest a b = record {
-      lines = kept line;
-      ran = ran;
-      split = λ more. joined_line begun piece more end none (end_of piece end found) ∙ ap (λ (l : List ℕ). kept l ++ lines_of (drop (suc end) piece ++ more)) (sym line-is) ∙ ap (λ (r : List ℕ). kept line ++ lines_of (r ++ more)) (sym rest-is);
-    } in
-    RanFront-more (begun ++ piece) rest after front.lines a b c first front.ran front.split
+-- the line that had begun ends in the piece
+joined-split : (begun piece line rest : List ℕ) (end : ℕ) → has_no_end begun ≡ true → IsFirstByte (is_byte 10) piece (Some end) → line ≡ strip_last 13 (begun ++ take end piece) → rest ≡ drop (suc end) piece
+    → (more : List ℕ) → lines_of ((begun ++ piece) ++ more) ≡ kept line ++ lines_of (rest ++ more)
+joined-split begun piece line rest end none found line-is rest-is more =
+    joined_line begun piece more end none (end_of piece end found) ∙ ap (λ (l : List ℕ). kept l ++ lines_of (drop (suc end) piece ++ more)) (sym line-is) ∙ ap (λ (r : List ℕ). kept line ++ lines_of (r ++ more)) (sym rest-is)
+
+joined_first : (begun piece line rest : List ℕ) (end : ℕ) (a b : Script) (p q : Option (List ℕ)) → has_no_end begun ≡ true → IsFirstByte (is_byte 10) piece (Some end) → line ≡ strip_last 13 (begun ++ take end piece)
+    → rest ≡ drop (suc end) piece → Ran (kept line) a b p q → RanFront (begun ++ piece) rest a b p q
+joined_first begun piece line rest end a b p q none found line-is rest-is ran = record {
+  lines = kept line;
+  ran = ran;
+  split = joined-split begun piece line rest end none found line-is rest-is;
+}
+
+-- and whole lines follow it
+pub joined_lines : (begun piece line rest after : List ℕ) (end : ℕ) (a b c : Script) (p q r : Option (List ℕ)) → has_no_end begun ≡ true → IsFirstByte (is_byte 10) piece (Some end) → line ≡ strip_last 13 (begun ++ take end piece)
+    → rest ≡ drop (suc end) piece → Ran (kept line) a b p q → RanFront rest after b c q r → RanFront (begun ++ piece) after a c p r
+joined_lines begun piece line rest after end a b c p q r none found line-is rest-is ran front =
+    RanFront-more (begun ++ piece) rest after front.lines a b c p q r (joined_first begun piece line rest end a b p q none found line-is rest-is ran) front.ran front.split
+
+-- or the run broke off in them
+pub joined_broke : (begun piece line rest : List ℕ) (end : ℕ) (a b : Script) (p q r : Option (List ℕ)) → has_no_end begun ≡ true → IsFirstByte (is_byte 10) piece (Some end) → line ≡ strip_last 13 (begun ++ take end piece)
+    → rest ≡ drop (suc end) piece → Ran (kept line) a b p q → BrokeFront rest b q r → BrokeFront (begun ++ piece) a p r
+joined_broke begun piece line rest end a b p q r none found line-is rest-is ran front =
+    BrokeFront-more (begun ++ piece) rest front.rest front.lines a b p q r (joined_first begun piece line rest end a b p q none found line-is rest-is ran) front.broke front.split
+
+-- or it broke off in the first
+pub joined_broke_first : (begun piece line : List ℕ) (end : ℕ) (a : Script) (p q : Option (List ℕ)) → has_no_end begun ≡ true → IsFirstByte (is_byte 10) piece (Some end) → line ≡ strip_last 13 (begun ++ take end piece)
+    → Broke (kept line) a p q → BrokeFront (begun ++ piece) a p q
+joined_broke_first begun piece line end a p q none found line-is broke = record {
+  lines = kept line;
+  rest = drop (suc end) piece;
+  broke = broke;
+  split = joined-split begun piece line (drop (suc end) piece) end none found line-is refl;
+}
+
+-- the last line was answered, and the ending written
+pub ended : (listed : Bool) (begun : List ℕ) (a b c : Script) (p q r : Option (List ℕ)) → Ran (kept begun) a b p q → Appends q r (b.out.items ++ ending listed (after_units b.core.units initial).map) → c.refused ≡ b.refused → RanEnd listed begun a c p r
+ended listed begun a b c p q r h w e = record {
+  answers = h.answers;
+  of_lines = h.of_lines;
+  each = h.each;
+  legal = λ l. subst (λ (s : Machine). IsLegal s.units initial) h.machine (h.legal l);
+  refused = e ∙ h.refused;
+  written = subst (λ (s : Machine). Appends p r ((a.out.items ++ text_of h.answers) ++ ending listed (after_units s.units initial).map)) h.machine
+      (Passes-Appends p q r _ _ (Passes-more p q (a.out.items ++ text_of h.answers) b.out.items (ending listed (after_units b.core.units initial).map) h.passes) w);
+}
+
+-- or a beginning of it
+pub broke_ending : (listed : Bool) (begun : List ℕ) (a b : Script) (p q r : Option (List ℕ)) → Ran (kept begun) a b p q → WritesBeginning q r (b.out.items ++ ending listed (after_units b.core.units initial).map) → BrokeEnd listed begun a p r
+broke_ending listed begun a b p q r h w = record {
+  answers = h.answers;
+  of_lines = h.of_lines;
+  each = h.each;
+  legal = λ l. subst (λ (s : Machine). IsLegal s.units initial) h.machine (h.legal l);
+  begun = subst (λ (s : Machine). WritesBeginning p r ((a.out.items ++ text_of h.answers) ++ ending listed (after_units s.units initial).map)) h.machine
+      (Passes-begun p q r _ _ (Passes-more p q (a.out.items ++ text_of h.answers) b.out.items (ending listed (after_units b.core.units initial).map) h.passes) w);
+}
+
+-- the run broke off in the last line
+pub broke_last : (listed : Bool) (begun : List ℕ) (a : Script) (p r : Option (List ℕ)) → Broke (kept begun) a p r → BrokeEnd listed begun a p r
+broke_last listed begun a p r h = record {
+  answers = h.answers;
+  of_lines = h.of_lines;
+  each = h.each;
+  legal = h.legal;
+  begun = WritesBeginning-longer p r (a.out.items ++ text_of h.answers) _ h.begun;
+}

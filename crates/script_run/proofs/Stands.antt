@@ -1,25 +1,20 @@
 -- How far a script has come.
-use Rattle.std.proofs.Common.{◌≡◌, ℕ, Bool, true, false, ◌||◌, List, [], ◌∷◌, ◌++◌, map, length, Option, Some, None, Result, Ok, Err, IfSome, refl, sym, ap, subst, ◌∙◌, append_assoc, inl, inr}
+use Rattle.std.proofs.Common.{◌≡◌, ℕ, Bool, true, false, ◌||◌, List, [], ◌∷◌, ◌++◌, map, length, Option, Some, None, IfSome, refl, sym, ap, subst, ◌∙◌, append_assoc}
 use Rattle.std.proofs.lemmas.List.{append-nil, map-append, nil_from_length}
 use Rattle.std.proofs.lemmas.Grind.{flat_map-append}
 use Rattle.std.proofs.lemmas.List.Folds.{list_any-append}
-use Rattle.std.specs.Prelude.{codes, ⊤}
-use Rattle.std.specs.Io.KnownBytes.{Appends, Consumes, IsAtEnd}
-use Rattle.refusal.specs.declared.Refusal.{Refusal}
-use Rattle.refusal.specs.declared.Refusal.TheVariants.{OutOfMemory}
-use Rattle.collation.specs.declared.command.Command.{Command}
-use Rattle.collation.specs.declared.command.Reply.TheVariants.{Refused}
-use Rattle.journal.specs.declared.unit.Unit.{Unit as JournalUnit}
+use Rattle.std.specs.Prelude.{⊤}
+use Rattle.std.specs.Io.KnownBytes.{Appends, Consumes, IsAtEnd, Keeps}
+use Rattle.journal.specs.Story.{Machine, nothing_done}
 use Rattle.journal.specs.History.{initial, after, IsLegal}
-use Rattle.script.specs.Line.{reading_of}
-use Rattle.listing.specs.Listing.{listing_text}
-use Rattle.listing.specs.Bytes.{WritesBeginning}
-use Rattle.script_run.specs.Lines.{lines_of, has_no_end}
-use Rattle.script_run.specs.Output.{Answer, IsAnswer, AreAnswers, told_by, units_of, text_of, some_refused, RanFront, RanEnd, HasRead, IsOutput, Wrote, IsBegun}
-use Rattle.script_run.specs.declared.run.Script.{Script}
-use Rattle.listing.specs.BytesLaws.{Appends-nothing, Appends-more, WritesBeginning-all, WritesBeginning-longer, WritesBeginning-then}
+use Rattle.listing.specs.Bytes.{WritesBeginning, Passes}
+use Rattle.script_run.specs.Lines.{kept, lines_of, has_no_end}
+use Rattle.script_run.specs.Output.{Answer, AreAnswers, left_by, text_of, some_refused, ending, IsOutput, Wrote, IsBegun, HasAnswered}
+use Rattle.script_run.specs.Runs.{RanFront, BrokeFront, RanEnd, BrokeEnd, HasRead}
+use Rattle.script_run.specs.declared.answers.Script.{Script}
+use Rattle.listing.specs.BytesLaws.{Appends-nothing, Appends-more, WritesBeginning-all, WritesBeginning-longer, WritesBeginning-then, Passes-Appends}
 use Rattle.script_run.specs.LineLaws.{last_line}
-use Rattle.script_run.proofs.Runs.{AreAnswers-append}
+use Rattle.script_run.proofs.Runs.{AreAnswers-append, silent, silent-lines, silent-each, silent-left, left-append, left-then, nothing_begun}
 
 abbrev pub lines_in : List Answer → List (List ℕ)
 lines_in answers = map (λ a. a.0) answers
@@ -33,9 +28,9 @@ Follows (Some all) (Some more) lines begun = lines_of all ≡ lines ++ lines_of 
 -- lines were answered and the answers written, and a line has begun
 pub record Stands (all left : Option (List ℕ)) (begun : List ℕ) (old new : Option (List ℕ)) (script : Script) : Type 0 where
   pub answers : List Answer
-  pub each : AreAnswers [] answers
-  pub units : script.core ≡ units_of answers
-  pub legal : IsLegal script.core initial
+  pub each : AreAnswers nothing_done answers
+  pub machine : script.core ≡ left_by answers nothing_done
+  pub legal : IsLegal script.core.units initial
   pub out : script.out.items ≡ []
   pub refused : script.refused ≡ some_refused answers
   pub written : Appends old new (text_of answers)
@@ -46,12 +41,12 @@ Follows-start : (all : Option (List ℕ)) → Follows all all [] []
 Follows-start None = tt
 Follows-start (Some xs) = refl
 
-pub stands_first : (all old : Option (List ℕ)) (begun : List ℕ) (script : Script) → script.core ≡ [] → script.out.items ≡ [] → script.refused ≡ false → begun ≡ [] → Stands all all begun old old script
+pub stands_first : (all old : Option (List ℕ)) (begun : List ℕ) (script : Script) → script.core ≡ nothing_done → script.out.items ≡ [] → script.refused ≡ false → begun ≡ [] → Stands all all begun old old script
 stands_first all old begun script u o r b = record {
   answers = [];
   each = tt;
-  units = u;
-  legal = subst (λ (us : List JournalUnit). IsLegal us initial) (sym u) tt;
+  machine = u;
+  legal = subst (λ (s : Machine). IsLegal s.units initial) (sym u) tt;
   out = o;
   refused = r;
   written = Appends-nothing old;
@@ -70,118 +65,90 @@ Follows-lines None left ls ms begun rest h k = tt
 Follows-lines (Some all) None ls ms begun rest h k = absurd h
 Follows-lines (Some all) (Some more) ls ms begun rest h k = h ∙ ap (λ (l : List (List ℕ)). ls ++ l) (k more) ∙ sym (append_assoc ls ms (lines_of (rest ++ more)))
 
--- what was answered when a block was run, before it is written
-pub record Moved (all left : Option (List ℕ)) (begun : List ℕ) (before : List Answer) (script : Script) : Type 0 where
-  pub more : List Answer
-  pub each : AreAnswers [] (before ++ more)
-  pub units : script.core ≡ units_of (before ++ more)
-  pub legal : IsLegal script.core initial
-  pub out : script.out.items ≡ text_of more
-  pub refused : script.refused ≡ some_refused (before ++ more)
-  pub split : Follows all left (lines_in (before ++ more)) begun
-
 lines-append : (xs ys : List Answer) → lines_in (xs ++ ys) ≡ lines_in xs ++ lines_in ys
 lines-append xs ys = map-append (λ (x : Answer). x.0) xs ys
 
-pub moved : (all left left' old new : Option (List ℕ)) (begun piece rest : List ℕ) (a b : Script) (h : Stands all left begun old new a) → HasRead left left' piece → RanFront (begun ++ piece) rest a b → Moved all left' rest h.answers b
-moved all left left' old new begun piece rest a b h r f = record {
-  more = f.ran.answers;
-  each = AreAnswers-append [] a.core h.answers f.ran.answers h.each h.units f.ran.each;
-  units = f.ran.units ∙ ap (λ (us : List JournalUnit). us ++ units_of f.ran.answers) h.units ∙ sym (flat_map-append _ h.answers f.ran.answers);
+-- the lines of a piece, after those before it
+Follows-piece : (all left left' : Option (List ℕ)) (begun piece rest : List ℕ) (before more : List Answer) (ls : List (List ℕ)) → Follows all left (lines_in before) begun → Consumes left left' piece → lines_in more ≡ ls
+    → ((text : List ℕ) → lines_of ((begun ++ piece) ++ text) ≡ ls ++ lines_of (rest ++ text)) → Follows all left' (lines_in (before ++ more)) rest
+Follows-piece all left left' begun piece rest before more ls h k e f =
+    subst (λ (l : List (List ℕ)). Follows all left' l rest) (ap (λ (l : List (List ℕ)). lines_in before ++ l) (sym e) ∙ sym (lines-append before more))
+    (Follows-lines all left' (lines_in before) ls (begun ++ piece) rest (Follows-more all left left' (lines_in before) begun piece h k) f)
+
+-- the text of the answers before a piece and of those in it
+written-next : (old new new' : Option (List ℕ)) (before more : List Answer) (a b : Script) → Appends old new (text_of before) → a.out.items ≡ [] → Passes new new' (a.out.items ++ text_of more) b.out.items → b.out.items ≡ []
+    → Appends old new' (text_of (before ++ more))
+written-next old new new' before more a b w o p e =
+    subst (Appends old new') (ap (λ (t : List ℕ). text_of before ++ (t ++ text_of more)) o ∙ sym (flat_map-append _ before more))
+    (Appends-more old new new' (text_of before) (a.out.items ++ text_of more) w
+    (Passes-Appends new new' new' (a.out.items ++ text_of more) [] (subst (λ (t : List ℕ). Passes new new' (a.out.items ++ text_of more) t) e p) (Appends-nothing new')))
+
+pub stands_next : (all left left' old new new' : Option (List ℕ)) (begun piece rest : List ℕ) (a b : Script) → Stands all left begun old new a → HasRead left left' piece → RanFront (begun ++ piece) rest a b new new'
+    → has_no_end rest ≡ true → b.out.items ≡ [] → Stands all left' rest old new' b
+stands_next all left left' old new new' begun piece rest a b h r f w o = record {
+  answers = h.answers ++ f.ran.answers;
+  each = AreAnswers-append nothing_done a.core h.answers f.ran.answers h.each h.machine f.ran.each;
+  machine = f.ran.machine ∙ left-then nothing_done a.core h.answers f.ran.answers h.machine;
   legal = f.ran.legal h.legal;
-  out = f.ran.text ∙ ap (λ (t : List ℕ). t ++ text_of f.ran.answers) h.out;
+  out = o;
   refused = f.ran.refused ∙ ap (λ (x : Bool). x || some_refused f.ran.answers) h.refused ∙ sym (list_any-append _ h.answers f.ran.answers);
-  split = subst (λ (l : List (List ℕ)). Follows all left' l rest) (ap (λ (l : List (List ℕ)). lines_in h.answers ++ l) (sym f.ran.of_lines) ∙ sym (lines-append h.answers f.ran.answers))
-      (Follows-lines all left' (lines_in h.answers) f.lines (begun ++ piece) rest (Follows-more all left left' (lines_in h.answers) begun piece h.split r.consumed) f.split);
+  written = written-next old new new' h.answers f.ran.answers a b h.written h.out f.ran.passes o;
+  split = Follows-piece all left left' begun piece rest h.answers f.ran.answers f.lines h.split r.consumed f.ran.of_lines f.split;
+  whole = w;
 }
 
-pub stands_next : (all left left' old new new' : Option (List ℕ)) (begun piece rest : List ℕ) (a b c : Script) → Stands all left begun old new a → HasRead left left' piece → RanFront (begun ++ piece) rest a b
-    → has_no_end rest ≡ true → Appends new new' b.out.items → c.core ≡ b.core → c.refused ≡ b.refused → c.out.items ≡ [] → Stands all left' rest old new' c
-stands_next all left left' old new new' begun piece rest a b c h r f w p u d o =
-    let m = moved all left left' old new begun piece rest a b h r f in
-    record {
-      answers = h.answers ++ m.more;
-      each = m.each;
-      units = u ∙ m.units;
-      legal = subst (λ (us : List JournalUnit). IsLegal us initial) (sym u) m.legal;
-      out = o;
-      refused = d ∙ m.refused;
-      written = subst (Appends old new') (ap (λ (t : List ℕ). text_of h.answers ++ t) m.out ∙ sym (flat_map-append _ h.answers m.more)) (Appends-more old new new' (text_of h.answers) b.out.items h.written p);
-      split = m.split;
-      whole = w;
-    }
-
--- ---- the rest answered by want of memory
-
-abbrev silent : List (List ℕ) → List Answer
-silent [] = []
-silent (l ∷ ls) = (l, Refused OutOfMemory) ∷ silent ls
-
-silent-lines : (ls : List (List ℕ)) → lines_in (silent ls) ≡ ls
-silent-lines [] = refl
-silent-lines (l ∷ ls) = ap (λ (m : List (List ℕ)). l ∷ m) (silent-lines ls)
-
-no_memory : (us : List JournalUnit) (r : Result (ℕ × Command) Refusal) → IsAnswer us r (Refused OutOfMemory)
-no_memory us (Ok step) = inl (inr refl)
-no_memory us (Err e) = inr refl
-
-silent-each : (us : List JournalUnit) (ls : List (List ℕ)) → AreAnswers us (silent ls)
-silent-each us [] = tt
-silent-each us (l ∷ ls) = (no_memory us (reading_of l), silent-each (us ++ told_by (reading_of l) (Refused OutOfMemory)) ls)
-
-told-nothing : (r : Result (ℕ × Command) Refusal) → told_by r (Refused OutOfMemory) ≡ []
-told-nothing (Ok step) = refl
-told-nothing (Err e) = refl
-
-silent-units : (ls : List (List ℕ)) → units_of (silent ls) ≡ []
-silent-units [] = refl
-silent-units (l ∷ ls) = rw (told-nothing (reading_of l)) (silent-units ls)
-
-pub record Goes (bytes text : List ℕ) : Type 0 where
+pub record Goes (listed : Bool) (bytes text : List ℕ) : Type 0 where
   pub more : List ℕ
   pub refused : Bool
-  pub output : IsOutput bytes (text ++ more) refused
+  pub output : IsOutput listed bytes (text ++ more) refused
 
 -- a text of answers goes on to a whole output
-pub goes_on : (bytes : List ℕ) (answers : List Answer) (rest : List (List ℕ)) → lines_of bytes ≡ lines_in answers ++ rest → AreAnswers [] answers → IsLegal (units_of answers) initial → Goes bytes (text_of answers)
-goes_on bytes answers rest e each legal =
+pub goes_on : (listed : Bool) (bytes : List ℕ) (answers : List Answer) (rest : List (List ℕ)) → lines_of bytes ≡ lines_in answers ++ rest → AreAnswers nothing_done answers → IsLegal (left_by answers nothing_done).units initial → Goes listed bytes (text_of answers)
+goes_on listed bytes answers rest e each legal =
     let whole : List Answer = answers ++ silent rest in
-    let same : units_of whole ≡ units_of answers = flat_map-append _ answers (silent rest) ∙ ap (λ (us : List JournalUnit). units_of answers ++ us) (silent-units rest) ∙ append-nil (units_of answers) in
-    let tail : List ℕ = codes "--\n" ++ listing_text (after (units_of whole) initial).map in
+    let same : left_by whole nothing_done ≡ left_by answers nothing_done = left-append answers (silent rest) nothing_done ∙ silent-left rest (left_by answers nothing_done) in
+    let tail : List ℕ = ending listed (after (left_by whole nothing_done).units initial).map in
     record {
       more = text_of (silent rest) ++ tail;
       refused = some_refused whole;
       output = record {
         answers = whole;
         of_lines = lines-append answers (silent rest) ∙ ap (λ (l : List (List ℕ)). lines_in answers ++ l) (silent-lines rest) ∙ sym e;
-        each = AreAnswers-append [] (units_of answers) answers (silent rest) each refl (silent-each (units_of answers) rest);
-        legal = subst (λ (us : List JournalUnit). IsLegal us initial) (sym same) legal;
-        written = sym (append_assoc (text_of answers) (text_of (silent rest)) tail) ∙ ap (λ (t : List ℕ). t ++ tail) (sym (flat_map-append _ answers (silent rest))) ∙ sym (append_assoc (text_of whole) (codes "--\n") (listing_text (after (units_of whole) initial).map));
+        each = AreAnswers-append nothing_done (left_by answers nothing_done) answers (silent rest) each refl (silent-each (left_by answers nothing_done) rest);
+        legal = subst (λ (s : Machine). IsLegal s.units initial) (sym same) legal;
+        written = sym (append_assoc (text_of answers) (text_of (silent rest)) tail) ∙ ap (λ (t : List ℕ). t ++ tail) (sym (flat_map-append _ answers (silent rest)));
         told = refl;
       };
     }
 
 -- ---- what was written
 
-begun_of : (all left old new : Option (List ℕ)) (answers : List Answer) (begun : List ℕ) → Follows all left (lines_in answers) begun → AreAnswers [] answers → IsLegal (units_of answers) initial
-    → WritesBeginning old new (text_of answers) → IfSome all (λ bytes. IsBegun bytes old new)
-begun_of None left old new answers begun f each legal w = tt
-begun_of (Some bytes) None old new answers begun f each legal w = absurd f
-begun_of (Some bytes) (Some more) old new answers begun f each legal w =
-    let g = goes_on bytes answers (lines_of (begun ++ more)) f each legal in
+begun_of : (listed : Bool) (all left old new : Option (List ℕ)) (answers : List Answer) (begun : List ℕ) → Follows all left (lines_in answers) begun → AreAnswers nothing_done answers → IsLegal (left_by answers nothing_done).units initial
+    → WritesBeginning old new (text_of answers) → IfSome all (λ bytes. IsBegun listed bytes old new)
+begun_of listed None left old new answers begun f each legal w = tt
+begun_of listed (Some bytes) None old new answers begun f each legal w = absurd f
+begun_of listed (Some bytes) (Some more) old new answers begun f each legal w =
+    let g = goes_on listed bytes answers (lines_of (begun ++ more)) f each legal in
     record { text = text_of answers ++ g.more; refused = g.refused; output = g.output; written = WritesBeginning-longer old new (text_of answers) g.more w }
 
--- nothing was written since
-pub begun_at : (all left old new : Option (List ℕ)) (begun : List ℕ) (s : Script) → Stands all left begun old new s → IfSome all (λ bytes. IsBegun bytes old new)
-begun_at all left old new begun s h = begun_of all left old new h.answers begun h.split h.each (subst (λ (us : List JournalUnit). IsLegal us initial) h.units h.legal) (WritesBeginning-all old new (text_of h.answers) h.written)
+-- nothing was done yet
+pub begun_first : (listed : Bool) (all old : Option (List ℕ)) → IfSome all (λ bytes. IsBegun listed bytes old old)
+begun_first listed all old = begun_of listed all all old old [] [] (Follows-start all) tt tt (nothing_begun old [])
 
--- a beginning of the piece's answers was written
-pub begun_piece : (all left left' old new new' : Option (List ℕ)) (begun piece rest : List ℕ) (a b : Script) → Stands all left begun old new a → HasRead left left' piece → RanFront (begun ++ piece) rest a b
-    → WritesBeginning new new' b.out.items → IfSome all (λ bytes. IsBegun bytes old new')
-begun_piece all left left' old new new' begun piece rest a b h r f w =
-    let m = moved all left left' old new begun piece rest a b h r f in
-    begun_of all left' old new' (h.answers ++ m.more) rest m.split m.each (subst (λ (us : List JournalUnit). IsLegal us initial) m.units m.legal)
-    (subst (WritesBeginning old new') (ap (λ (t : List ℕ). text_of h.answers ++ t) m.out ∙ sym (flat_map-append _ h.answers m.more)) (WritesBeginning-then old new new' (text_of h.answers) b.out.items h.written w))
+-- nothing was written since
+pub begun_at : (listed : Bool) (all left old new : Option (List ℕ)) (begun : List ℕ) (s : Script) → Stands all left begun old new s → IfSome all (λ bytes. IsBegun listed bytes old new)
+begun_at listed all left old new begun s h = begun_of listed all left old new h.answers begun h.split h.each (subst (λ (s : Machine). IsLegal s.units initial) h.machine h.legal) (WritesBeginning-all old new (text_of h.answers) h.written)
+
+-- the run broke off in a piece
+pub begun_piece : (listed : Bool) (all left left' old new new' : Option (List ℕ)) (begun piece : List ℕ) (a : Script) → Stands all left begun old new a → HasRead left left' piece → BrokeFront (begun ++ piece) a new new'
+    → IfSome all (λ bytes. IsBegun listed bytes old new')
+begun_piece listed all left left' old new new' begun piece a h r f =
+    let k = f.broke in
+    begun_of listed all left' old new' (h.answers ++ k.answers) f.rest (Follows-piece all left left' begun piece f.rest h.answers k.answers f.lines h.split r.consumed k.of_lines f.split)
+    (AreAnswers-append nothing_done a.core h.answers k.answers h.each h.machine k.each)
+    (subst (λ (s : Machine). IsLegal s.units initial) (left-then nothing_done a.core h.answers k.answers h.machine) (k.legal h.legal))
+    (subst (WritesBeginning old new') (ap (λ (t : List ℕ). text_of h.answers ++ (t ++ text_of k.answers)) h.out ∙ sym (flat_map-append _ h.answers k.answers))
+    (WritesBeginning-then old new new' (text_of h.answers) (a.out.items ++ text_of k.answers) h.written k.begun))
 
 at_end : (bytes : List ℕ) (left left' : Option (List ℕ)) (ls : List (List ℕ)) (begun piece : List ℕ) → Follows (Some bytes) left ls begun → Consumes left left' piece → piece ≡ [] → IsAtEnd left' → lines_of bytes ≡ ls ++ lines_of begun
 at_end bytes None left' ls begun piece h k p e = absurd h
@@ -190,56 +157,58 @@ at_end bytes (Some more) (Some more') ls begun piece h k p e =
     let none : more ≡ [] = k ∙ ap (λ (x : List ℕ). x ++ more') p ∙ e in
     h ∙ ap (λ (m : List ℕ). ls ++ lines_of (begun ++ m)) none ∙ ap (λ (t : List ℕ). ls ++ lines_of t) (append-nil begun)
 
--- the listing of what the script's core holds
-abbrev pub listing_of : Script → List ℕ
-listing_of s = listing_text (after s.core initial).map
-
--- the whole output
-pub whole_output : (bytes : List ℕ) (left left' old new : Option (List ℕ)) (begun piece : List ℕ) (a b : Script) (h : Stands (Some bytes) left begun old new a) → HasRead left left' piece → length piece ≡ 0 → RanEnd begun a b
-    → IsOutput bytes ((text_of h.answers ++ b.out.items) ++ listing_of b) b.refused
-whole_output bytes left left' old new begun piece a b h r none e =
-    let f = e.ran in
-    let whole : List Answer = h.answers ++ f.answers in
-    let units-is : b.core ≡ units_of whole = e.core ∙ f.units ∙ ap (λ (us : List JournalUnit). us ++ units_of f.answers) h.units ∙ sym (flat_map-append _ h.answers f.answers) in
-    let dashes : List ℕ = codes "--\n" in
-    let out-is : b.out.items ≡ text_of f.answers ++ dashes = e.dashes ∙ ap (λ (t : List ℕ). t ++ dashes) (f.text ∙ ap (λ (t : List ℕ). t ++ text_of f.answers) h.out) in
-    let front-is : text_of h.answers ++ b.out.items ≡ text_of whole ++ dashes = ap (λ (t : List ℕ). text_of h.answers ++ t) out-is ∙ sym (append_assoc (text_of h.answers) (text_of f.answers) dashes) ∙ ap (λ (t : List ℕ). t ++ dashes) (sym (flat_map-append _ h.answers f.answers)) in
+-- the whole output, of the answers before the end of input and of that to the last line
+whole_output : (listed : Bool) (bytes : List ℕ) (left left' old new : Option (List ℕ)) (begun piece : List ℕ) (a : Script) (last : List Answer) (h : Stands (Some bytes) left begun old new a) → HasRead left left' piece → length piece ≡ 0
+    → lines_in last ≡ kept begun → AreAnswers a.core last → (IsLegal a.core.units initial → IsLegal (left_by last a.core).units initial)
+    → IsOutput listed bytes (text_of h.answers ++ ((a.out.items ++ text_of last) ++ ending listed (after (left_by last a.core).units initial).map)) (a.refused || some_refused last)
+whole_output listed bytes left left' old new begun piece a last h r none of_lines each legal =
+    let whole : List Answer = h.answers ++ last in
+    let left-is : left_by last a.core ≡ left_by whole nothing_done = left-then nothing_done a.core h.answers last h.machine in
+    let tail : List ℕ = ending listed (after (left_by last a.core).units initial).map in
     record {
       answers = whole;
-      of_lines = lines-append h.answers f.answers ∙ ap (λ (l : List (List ℕ)). lines_in h.answers ++ l) (f.of_lines ∙ sym (last_line begun h.whole)) ∙ sym (at_end bytes left left' (lines_in h.answers) begun piece h.split r.consumed (nil_from_length piece none) (r.ended none));
-      each = AreAnswers-append [] a.core h.answers f.answers h.each h.units f.each;
-      legal = subst (λ (us : List JournalUnit). IsLegal us initial) (sym e.core ∙ units-is) (f.legal h.legal);
-      written = ap (λ (t : List ℕ). t ++ listing_of b) front-is ∙ ap (λ (us : List JournalUnit). (text_of whole ++ dashes) ++ listing_text (after us initial).map) units-is;
-      told = e.refused ∙ f.refused ∙ ap (λ (x : Bool). x || some_refused f.answers) h.refused ∙ sym (list_any-append _ h.answers f.answers);
+      of_lines = lines-append h.answers last ∙ ap (λ (l : List (List ℕ)). lines_in h.answers ++ l) (of_lines ∙ sym (last_line begun h.whole)) ∙ sym (at_end bytes left left' (lines_in h.answers) begun piece h.split r.consumed (nil_from_length piece none) (r.ended none));
+      each = AreAnswers-append nothing_done a.core h.answers last h.each h.machine each;
+      legal = subst (λ (s : Machine). IsLegal s.units initial) left-is (legal h.legal);
+      written = ap (λ (t : List ℕ). text_of h.answers ++ ((t ++ text_of last) ++ tail)) h.out ∙ sym (append_assoc (text_of h.answers) (text_of last) tail) ∙ ap (λ (t : List ℕ). t ++ tail) (sym (flat_map-append _ h.answers last))
+          ∙ ap (λ (s : Machine). text_of whole ++ ending listed (after s.units initial).map) left-is;
+      told = ap (λ (x : Bool). x || some_refused last) h.refused ∙ sym (list_any-append _ h.answers last);
     }
 
-pub wrote_all : (all left left' old new new' last : Option (List ℕ)) (begun piece : List ℕ) (a b : Script) → Stands all left begun old new a → HasRead left left' piece → length piece ≡ 0 → RanEnd begun a b
-    → Appends new new' b.out.items → Appends new' last (listing_of b) → IfSome all (λ bytes. Wrote bytes b.refused old last)
-wrote_all None left left' old new new' last begun piece a b h r none e w l = tt
-wrote_all (Some bytes) left left' old new new' last begun piece a b h r none e w l = record {
-  text = (text_of h.answers ++ b.out.items) ++ listing_of b;
-  output = whole_output bytes left left' old new begun piece a b h r none e;
-  written = Appends-more old new' last (text_of h.answers ++ b.out.items) (listing_of b) (Appends-more old new new' (text_of h.answers) b.out.items h.written w) l;
-}
+pub wrote_all : (listed : Bool) (all left left' old new last : Option (List ℕ)) (begun piece : List ℕ) (a b : Script) → Stands all left begun old new a → HasRead left left' piece → length piece ≡ 0 → RanEnd listed begun a b new last
+    → IfSome all (λ bytes. Wrote listed bytes b.refused old last)
+wrote_all listed None left left' old new last begun piece a b h r none e = tt
+wrote_all listed (Some bytes) left left' old new last begun piece a b h r none e =
+    let end : List ℕ = (a.out.items ++ text_of e.answers) ++ ending listed (after (left_by e.answers a.core).units initial).map in
+    record {
+      text = text_of h.answers ++ end;
+      output = subst (IsOutput listed bytes (text_of h.answers ++ end)) (sym e.refused) (whole_output listed bytes left left' old new begun piece a e.answers h r none e.of_lines e.each e.legal);
+      written = Appends-more old new last (text_of h.answers) end h.written e.written;
+    }
 
--- a beginning of the last answers was written
-pub begun_end : (all left left' old new new' : Option (List ℕ)) (begun piece : List ℕ) (a b : Script) → Stands all left begun old new a → HasRead left left' piece → length piece ≡ 0 → RanEnd begun a b
-    → WritesBeginning new new' b.out.items → IfSome all (λ bytes. IsBegun bytes old new')
-begun_end None left left' old new new' begun piece a b h r none e w = tt
-begun_end (Some bytes) left left' old new new' begun piece a b h r none e w = record {
-  text = (text_of h.answers ++ b.out.items) ++ listing_of b;
-  refused = b.refused;
-  output = whole_output bytes left left' old new begun piece a b h r none e;
-  written = WritesBeginning-longer old new' (text_of h.answers ++ b.out.items) (listing_of b) (WritesBeginning-then old new new' (text_of h.answers) b.out.items h.written w);
-}
+-- a beginning of the last answer and of the ending was written
+pub begun_end : (listed : Bool) (all left left' old new last : Option (List ℕ)) (begun piece : List ℕ) (a : Script) → Stands all left begun old new a → HasRead left left' piece → length piece ≡ 0 → BrokeEnd listed begun a new last
+    → IfSome all (λ bytes. IsBegun listed bytes old last)
+begun_end listed None left left' old new last begun piece a h r none e = tt
+begun_end listed (Some bytes) left left' old new last begun piece a h r none e =
+    let end : List ℕ = (a.out.items ++ text_of e.answers) ++ ending listed (after (left_by e.answers a.core).units initial).map in
+    record {
+      text = text_of h.answers ++ end;
+      refused = a.refused || some_refused e.answers;
+      output = whole_output listed bytes left left' old new begun piece a e.answers h r none e.of_lines e.each e.legal;
+      written = WritesBeginning-then old new last (text_of h.answers) end h.written e.begun;
+    }
 
--- a beginning of the listing was written
-pub begun_listing : (all left left' old new new' last : Option (List ℕ)) (begun piece : List ℕ) (a b : Script) → Stands all left begun old new a → HasRead left left' piece → length piece ≡ 0 → RanEnd begun a b
-    → Appends new new' b.out.items → WritesBeginning new' last (listing_of b) → IfSome all (λ bytes. IsBegun bytes old last)
-begun_listing None left left' old new new' last begun piece a b h r none e w l = tt
-begun_listing (Some bytes) left left' old new new' last begun piece a b h r none e w l = record {
-  text = (text_of h.answers ++ b.out.items) ++ listing_of b;
-  refused = b.refused;
-  output = whole_output bytes left left' old new begun piece a b h r none e;
-  written = WritesBeginning-then old new' last (text_of h.answers ++ b.out.items) (listing_of b) (Appends-more old new new' (text_of h.answers) b.out.items h.written w) l;
+-- where a read fails, the lines that ended were answered
+pub answered : (all left left' old new : Option (List ℕ)) (begun : List ℕ) (script : Script) → Stands all left begun old new script → Keeps left left' → IfSome all (λ bytes. IfSome left' (λ more. HasAnswered bytes more old new))
+answered None left left' old new begun script h k = tt
+answered (Some bytes) None left' old new begun script h k = absurd h.split
+answered (Some bytes) (Some more) None old new begun script h k = absurd k
+answered (Some bytes) (Some more) (Some more') old new begun script h k = record {
+  answers = h.answers;
+  begun = begun;
+  each = h.each;
+  split = h.split ∙ ap (λ (m : List ℕ). lines_in h.answers ++ lines_of (begun ++ m)) (sym k);
+  whole = h.whole;
+  written = h.written;
 }

@@ -1,4 +1,5 @@
 pub mod Lines
 pub mod Output
-pub mod FaultOf
+pub mod Runs
+pub mod Faults
 pub mod LineLaws

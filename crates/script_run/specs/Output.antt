@@ -1,105 +1,96 @@
 -- What a script writes.
-use Rattle.std.specs.Prelude.{◌≡◌, ◌⊎◌, ⊤, ℕ, Bool, true, false, ◌||◌, List, [], ◌∷◌, ◌++◌, map, Option, Result, Ok, Err, length, codes}
+-- Read IsOutput, Wrote, IsBegun and HasAnswered; the contract of run_script cites these.
+use Rattle.std.specs.Prelude.{◌≡◌, ◌⊎◌, ⊤, ℕ, Bool, true, false, List, [], ◌∷◌, ◌++◌, map, Option, Result, Ok, Err, codes}
 use Rattle.std.specs.List.{flat_map, list_any}
-use Rattle.std.specs.Io.KnownBytes.{Appends, Consumes, IsAtEnd}
+use Rattle.std.specs.Io.KnownBytes.{Appends}
 use Rattle.refusal.specs.declared.Refusal.{Refusal}
 use Rattle.refusal.specs.declared.Refusal.TheVariants.{OutOfMemory}
-use Rattle.collation.specs.declared.command.Command.{Command}
-use Rattle.collation.specs.declared.command.Reply.{Reply}
-use Rattle.collation.specs.declared.command.Reply.TheVariants.{Done, Value, Number, Found, Refused}
-use Rattle.journal.specs.declared.unit.Unit.{Unit as JournalUnit}
+use Rattle.collation.specs.Database.{Database}
+use Rattle.command.specs.declared.access.DataCommand.{DataCommand}
+use Rattle.command.specs.declared.request.Command.TheVariants.{Access}
+use Rattle.command.specs.declared.request.Reply.{Reply}
+use Rattle.command.specs.declared.request.Reply.TheVariants.{Answered, Finished, Had, Count, AtLevel, Committed, Restarted, Refused}
 use Rattle.journal.specs.History.{initial, after, IsLegal}
-use Rattle.journal.specs.Story.{told}
-use Rattle.job_core.specs.Causes.{IsCaused}
+use Rattle.journal.specs.Story.{Machine, nothing_done, told}
+use Rattle.job_core.specs.Machine.{IsReply}
 use Rattle.script.specs.Line.{reading_of, job_of}
 use Rattle.script.specs.Text.{reply_text}
 use Rattle.listing.specs.Listing.{listing_text}
 use Rattle.listing.specs.Bytes.{WritesBeginning}
-use Rattle.script_run.specs.Lines.{lines_of, kept}
-use Rattle.script_run.specs.declared.run.Script.{Script}
+use Rattle.script_run.specs.Lines.{lines_of, has_no_end}
 
 -- a line and its reply
 abbrev pub Answer : Type 0
 Answer = List ℕ × Reply
 
--- a line that asks nothing gets its refusal, or that of memory; another is refused after these units only with a cause
-abbrev pub IsAnswer : List JournalUnit → Result (ℕ × Command) Refusal → Reply → Type 0
-IsAnswer units (Ok step) reply = IsCaused reply step.1 (after units initial).map (length units)
-IsAnswer units (Err refusal) reply = (reply ≡ Refused refusal) ⊎ (reply ≡ Refused OutOfMemory)
+-- a line that asks nothing gets its refusal, or that of memory; another gets the machine's reply, or that of memory
+abbrev pub IsAnswer : Machine → Result (ℕ × DataCommand) Refusal → Reply → Type 0
+IsAnswer s (Ok step) reply = IsReply step.0 (Access step.1) reply s
+IsAnswer s (Err refusal) reply = (reply ≡ Refused refusal) ⊎ (reply ≡ Refused OutOfMemory)
 
--- the units that one reads off a line and its reply
-abbrev pub told_by : Result (ℕ × Command) Refusal → Reply → List JournalUnit
-told_by (Ok step) reply = told step.0 step.1 reply
-told_by (Err refusal) reply = []
+-- what a line and its reply change
+abbrev pub told_by : Result (ℕ × DataCommand) Refusal → Reply → Machine → Machine
+told_by (Ok step) reply s = told step.0 (Access step.1) reply s
+told_by (Err refusal) reply s = s
 
-abbrev pub units_of : List Answer → List JournalUnit
-units_of answers = flat_map (λ a. told_by (reading_of a.0) a.1) answers
+-- what lines and their replies leave, each in its turn
+abbrev pub left_by : List Answer → Machine → Machine
+left_by [] s = s
+left_by (a ∷ answers) s = left_by answers (told_by (reading_of a.0) a.1 s)
 
--- each line has its answer after these units and those of the lines before it
-abbrev pub AreAnswers : List JournalUnit → List Answer → Type 0
-AreAnswers units [] = ⊤
-AreAnswers units (a ∷ answers) = IsAnswer units (reading_of a.0) a.1 × AreAnswers (units ++ told_by (reading_of a.0) a.1) answers
+-- each line has its answer at its place
+abbrev pub AreAnswers : Machine → List Answer → Type 0
+AreAnswers s [] = ⊤
+AreAnswers s (a ∷ answers) = IsAnswer s (reading_of a.0) a.1 × AreAnswers (told_by (reading_of a.0) a.1 s) answers
 
 abbrev pub text_of : List Answer → List ℕ
 text_of answers = flat_map (λ a. reply_text (job_of a.0) a.1) answers
 
 abbrev pub is_refused : Reply → Bool
-is_refused Done = false
-is_refused (Value v) = false
-is_refused (Number n) = false
-is_refused (Found r) = false
+is_refused (Answered answer) = false
+is_refused Finished = false
+is_refused (Had had) = false
+is_refused (Count n) = false
+is_refused (AtLevel n) = false
+is_refused Committed = false
+is_refused (Restarted n) = false
 is_refused (Refused refusal) = true
 
 abbrev pub some_refused : List Answer → Bool
 some_refused answers = list_any (λ a. is_refused a.1) answers
 
--- the lines were answered, one after the other
-pub record Ran (lines : List (List ℕ)) (old new : Script) : Type 0 where
-  pub answers : List Answer
-  pub of_lines : map (λ a. a.0) answers ≡ lines
-  pub each : AreAnswers old.core answers
-  pub units : new.core ≡ old.core ++ units_of answers
-  pub text : new.out.items ≡ old.out.items ++ text_of answers
-  pub refused : new.refused ≡ (old.refused || some_refused answers)
-  pub legal : IsLegal old.core initial → IsLegal new.core initial
+-- what follows the replies: "--" and the listing, or nothing where no listing is asked for
+abbrev pub ending : Bool → Database → List ℕ
+ending true m = codes "--\n" ++ listing_text m
+ending false m = []
 
--- lines at the front of the text were answered, up to the rest
-pub record RanFront (text rest : List ℕ) (old new : Script) : Type 0 where
-  pub lines : List (List ℕ)
-  pub ran : Ran lines old new
-  pub split : (more : List ℕ) → lines_of (text ++ more) ≡ lines ++ lines_of (rest ++ more)
-
--- the last line was answered, and the line before the listing added
-pub record RanEnd (begun : List ℕ) (old new : Script) : Type 0 where
-  pub middle : Script
-  pub ran : Ran (kept begun) old middle
-  pub core : new.core ≡ middle.core
-  pub dashes : new.out.items ≡ middle.out.items ++ codes "--\n"
-  pub refused : new.refused ≡ middle.refused
-
--- the piece was read, or there was none left
-pub record HasRead (old new : Option (List ℕ)) (piece : List ℕ) : Type 0 where
-  pub consumed : Consumes old new piece
-  pub ended : length piece ≡ 0 → IsAtEnd new
-
--- the text of a script's output, and whether a reply in it is a refusal
-pub record IsOutput (bytes text : List ℕ) (refused : Bool) : Type 0 where
+-- the text of a script's output, with or without the listing, and whether a reply in it is a refusal
+pub record IsOutput (listed : Bool) (bytes text : List ℕ) (refused : Bool) : Type 0 where
   pub answers : List Answer
   pub of_lines : map (λ a. a.0) answers ≡ lines_of bytes
-  pub each : AreAnswers [] answers
-  pub legal : IsLegal (units_of answers) initial
-  pub written : text ≡ text_of answers ++ codes "--\n" ++ listing_text (after (units_of answers) initial).map
+  pub each : AreAnswers nothing_done answers
+  pub legal : IsLegal (left_by answers nothing_done).units initial
+  pub written : text ≡ text_of answers ++ ending listed (after (left_by answers nothing_done).units initial).map
   pub told : refused ≡ some_refused answers
 
 -- such a text was written
-pub record Wrote (bytes : List ℕ) (refused : Bool) (old new : Option (List ℕ)) : Type 0 where
+pub record Wrote (listed : Bool) (bytes : List ℕ) (refused : Bool) (old new : Option (List ℕ)) : Type 0 where
   pub text : List ℕ
-  pub output : IsOutput bytes text refused
+  pub output : IsOutput listed bytes text refused
   pub written : Appends old new text
 
 -- a beginning of such a text was written
-pub record IsBegun (bytes : List ℕ) (old new : Option (List ℕ)) : Type 0 where
+pub record IsBegun (listed : Bool) (bytes : List ℕ) (old new : Option (List ℕ)) : Type 0 where
   pub text : List ℕ
   pub refused : Bool
-  pub output : IsOutput bytes text refused
+  pub output : IsOutput listed bytes text refused
   pub written : WritesBeginning old new text
+
+-- the lines that ended before what is left were answered, and just their replies were written
+pub record HasAnswered (bytes more : List ℕ) (old new : Option (List ℕ)) : Type 0 where
+  pub answers : List Answer
+  pub begun : List ℕ
+  pub each : AreAnswers nothing_done answers
+  pub split : lines_of bytes ≡ map (λ a. a.0) answers ++ lines_of (begun ++ more)
+  pub whole : has_no_end begun ≡ true
+  pub written : Appends old new (text_of answers)

@@ -6,17 +6,23 @@
 //! and the listing of the map that the journal leaves. After a fault what was written is a beginning of such a text.
 //!
 //! Input is read in pieces. The whole lines of a piece are run and their replies written before the next read,
-//! so that a person or a program at the other end of a pipe gets its replies at once. A line is copied only
-//! where it goes on from one piece to the next.
+//! so that a person or a program at the other end of a pipe gets its replies at once; where a read fails, just the
+//! lines that had ended are answered. Replies are gathered in one buffer, which is taken before the first line and
+//! written whenever it holds 16,384 bytes, and the listing is gathered in it too. A line is copied only where it goes
+//! on from one piece to the next.
 //!
-//! Read `specs/Lines.antt`, `specs/Output.antt`, then `run.rt`.
-//! Not promised: that memory is there; how the text is cut into writes.
+//! Read `specs/Lines.antt`, `specs/Output.antt`, then `answers.rt`, `lines.rt`, `run.rt`.
+//! Not promised: that memory is there; how the text is cut into writes; what a log is told.
 #![tactic(auto)]
 
-pub use fault::Fault;
+pub use fault::{Fault, status_of};
 pub use laws::lines_are_cut_at_their_ends;
-pub use run::{Outcome, run_script};
+pub use log::{NoLog, RefusalLog};
+pub use run::{Outcome, run_script, run_with};
 
+mod answers;
 mod fault;
 mod laws;
+mod lines;
+mod log;
 mod run;

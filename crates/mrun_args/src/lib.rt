@@ -1,0 +1,89 @@
+//! The command line of `mrun`: what its words ask for.
+//!
+//! Words are bytes, since a file may have any name. The parser reads a word that isn't UTF-8 with each bad sequence
+//! replaced; the file is told by its place among the words, so that its own bytes are kept.
+//!
+//! No contract says what the words ask for: tests run the parser on them.
+#![tactic(auto)]
+
+use clap::{Arg, ArgAction, Command, Error};
+use std::alloc::Global;
+
+// What `--help` prints under the options.
+const LINES: &str = "Each line is a job, 1 to 4096, a blank, and a command or a function:
+
+  1 SET ^Fruit(\"apple\",\"price\")=1.2
+  1 $GET(^Fruit(\"apple\",\"price\"))
+  2 $ORDER(^Fruit(\"\"))
+
+A reply is printed for each line that isn't empty: its job, and `ok`, a value or `error` with a number and a name.
+At the end of input follow `--` and the listing of the database, which starts empty and is kept in memory.
+Lines can be typed: each gets its reply at once, and Ctrl-D on an empty line ends the input.
+
+--errors tells a refused line's number and refusal; it can't tell the column, nor what was expected there.
+
+Exit status: 0, all replies are accepted; 1, a reply is an `error`; 2, input can't be read, output can't be
+written, memory ran out, or the words above are wrong.";
+
+/// What the words ask for.
+#[derive(Clone, Copy, Debug, PartialEq, Eq)]
+pub struct Args {
+    /// Which of the words is the file, or none for standard input.
+    pub file: Option<usize>,
+    /// Whether `--` and the listing are printed.
+    pub listed: bool,
+    /// Whether each refused line is told on standard error.
+    pub errors: bool,
+}
+
+fn command<'a>(alloc: Global) -> Result<Command<'a>, Error> {
+    let file = Arg::new(alloc, "FILE").action(ArgAction::Set).help(
+        "The script; without it, or with -, standard input is read",
+    );
+    let no_listing = Arg::new(alloc, "no-listing")
+        .long("no-listing")
+        .action(ArgAction::SetTrue)
+        .help("Print replies only, without -- and the listing");
+    let errors = Arg::new(alloc, "errors")
+        .long("errors")
+        .action(ArgAction::SetTrue)
+        .help("Tell each refused line's number and refusal on standard error");
+    let command = Command::new(alloc, "mrun")
+        .version("0.1.0")
+        .about(
+            "Runs a script of numbered jobs' commands on M globals, and prints replies and a listing",
+        )
+        .after_help(LINES)
+        .arg(file)?
+        .arg(no_listing)?
+        .arg(errors)?;
+    Ok(command)
+}
+
+// The first word of this text. The program's name comes before it, and only options can have the same text.
+fn place_of(words: &[String], text: &str) -> Option<usize> {
+    for i in 1..words.len() {
+        if words[i].as_str() == text {
+            return Some(i);
+        }
+    }
+    None
+}
+
+/// What the words ask for; the first is the program's name. An error's text is for the user: help and the version too.
+pub fn args_of(alloc: Global, words: &[Vec<u8>]) -> Result<Args, Error> {
+    let mut texts = Vec::new(alloc);
+    for word in words {
+        texts.push(String::from_utf8_lossy(alloc, word)?)?;
+    }
+    let matches = command(alloc)?.try_get_matches_from(&texts)?;
+    let file = match matches.get_str("FILE") {
+        Some("-") | None => None,
+        Some(text) => place_of(&texts, text),
+    };
+    Ok(Args {
+        file,
+        listed: !matches.get_flag("no-listing"),
+        errors: matches.get_flag("errors"),
+    })
+}

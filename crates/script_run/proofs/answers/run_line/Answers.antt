@@ -1,0 +1,22 @@
+use Rattle.std.proofs.Common.{Bool, ap, ◌∙◌, ◌||◌, refl}
+use Rattle.listing.specs.BytesLaws.{on_err}
+use Rattle.script_run.proofs.Runs.{Ran-one, Broke-one, nothing_begun}
+use Rattle.script_run.proofs.answers.run_line.Goals as goal
+
+-- nothing was written
+pub returns-in_err-write_reply-clause-err : goal.returns-in_err-write_reply-clause-err
+returns-in_err-write_reply-clause-err g c =
+    let said = c.answer_line-job.ensures in
+    on_err _ _ (Broke-one c.args.line.now c.answer_line-job.result.1 c.answer_line-job.result.0 c.args.script.now _ _ _ _ said.job said.answer said.machine refl (nothing_begun _ _) said.legal)
+
+-- a beginning of what is gathered was written
+pub returns-in_err-write_full-clause-err : goal.returns-in_err-write_full-clause-err
+returns-in_err-write_full-clause-err g c =
+    let said = c.answer_line-job.ensures in
+    on_err _ _ (Broke-one c.args.line.now c.answer_line-job.result.1 c.answer_line-job.result.0 c.args.script.now _ _ _ _ said.job said.answer said.machine c.in_ok-write_reply.ensures c.in_err-write_full.ensures.err said.legal)
+
+pub returns-clause-ran : goal.returns-clause-ran
+returns-clause-ran g c =
+    let said = c.answer_line-job.ensures in
+    let refused = c.either-script.ensures ∙ ap (λ (b : Bool). c.args.script.now.refused || b) c.log_reply-refused.ensures in
+    Ran-one c.args.line.now c.answer_line-job.result.1 c.answer_line-job.result.0 c.args.script.now _ _ _ _ said.job said.answer said.machine c.in_ok-write_reply.ensures c.in_ok-write_full.ensures.ok refused said.legal

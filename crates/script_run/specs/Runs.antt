@@ -1,0 +1,61 @@
+-- What the private functions of a run do to its state and to the writer.
+use Rattle.std.specs.Prelude.{◌≡◌, ℕ, Bool, ◌||◌, List, ◌++◌, map, Option, length}
+use Rattle.std.specs.Io.KnownBytes.{Appends, Consumes, IsAtEnd}
+use Rattle.journal.specs.History.{initial, after, IsLegal}
+use Rattle.listing.specs.Bytes.{WritesBeginning, Passes}
+use Rattle.script_run.specs.Lines.{kept, lines_of}
+use Rattle.script_run.specs.Output.{Answer, AreAnswers, left_by, text_of, some_refused, ending}
+use Rattle.script_run.specs.declared.answers.Script.{Script}
+
+-- the lines were answered, one after the other, and each reply was written or is gathered
+pub record Ran (lines : List (List ℕ)) (old new : Script) (before now : Option (List ℕ)) : Type 0 where
+  pub answers : List Answer
+  pub of_lines : map (λ a. a.0) answers ≡ lines
+  pub each : AreAnswers old.core answers
+  pub machine : new.core ≡ left_by answers old.core
+  pub passes : Passes before now (old.out.items ++ text_of answers) new.out.items
+  pub refused : new.refused ≡ (old.refused || some_refused answers)
+  pub legal : IsLegal old.core.units initial → IsLegal new.core.units initial
+
+-- the run broke off: the lines have answers of whose text a beginning was written
+pub record Broke (lines : List (List ℕ)) (old : Script) (before now : Option (List ℕ)) : Type 0 where
+  pub answers : List Answer
+  pub of_lines : map (λ a. a.0) answers ≡ lines
+  pub each : AreAnswers old.core answers
+  pub legal : IsLegal old.core.units initial → IsLegal (left_by answers old.core).units initial
+  pub begun : WritesBeginning before now (old.out.items ++ text_of answers)
+
+-- lines at the front of the text were answered, up to the rest
+pub record RanFront (text rest : List ℕ) (old new : Script) (before now : Option (List ℕ)) : Type 0 where
+  pub lines : List (List ℕ)
+  pub ran : Ran lines old new before now
+  pub split : (more : List ℕ) → lines_of (text ++ more) ≡ lines ++ lines_of (rest ++ more)
+
+-- the run broke off at the front of the text
+pub record BrokeFront (text : List ℕ) (old : Script) (before now : Option (List ℕ)) : Type 0 where
+  pub lines : List (List ℕ)
+  pub rest : List ℕ
+  pub broke : Broke lines old before now
+  pub split : (more : List ℕ) → lines_of (text ++ more) ≡ lines ++ lines_of (rest ++ more)
+
+-- the last line was answered, and all that was gathered and the ending were written
+pub record RanEnd (listed : Bool) (line : List ℕ) (old new : Script) (before now : Option (List ℕ)) : Type 0 where
+  pub answers : List Answer
+  pub of_lines : map (λ a. a.0) answers ≡ kept line
+  pub each : AreAnswers old.core answers
+  pub legal : IsLegal old.core.units initial → IsLegal (left_by answers old.core).units initial
+  pub refused : new.refused ≡ (old.refused || some_refused answers)
+  pub written : Appends before now ((old.out.items ++ text_of answers) ++ ending listed (after (left_by answers old.core).units initial).map)
+
+-- a beginning of that was written
+pub record BrokeEnd (listed : Bool) (line : List ℕ) (old : Script) (before now : Option (List ℕ)) : Type 0 where
+  pub answers : List Answer
+  pub of_lines : map (λ a. a.0) answers ≡ kept line
+  pub each : AreAnswers old.core answers
+  pub legal : IsLegal old.core.units initial → IsLegal (left_by answers old.core).units initial
+  pub begun : WritesBeginning before now ((old.out.items ++ text_of answers) ++ ending listed (after (left_by answers old.core).units initial).map)
+
+-- the piece was read, or there was none left
+pub record HasRead (old new : Option (List ℕ)) (piece : List ℕ) : Type 0 where
+  pub consumed : Consumes old new piece
+  pub ended : length piece ≡ 0 → IsAtEnd new

@@ -1,0 +1,120 @@
+//! Lines cut out of the pieces that are read.
+ghost use Rattle.std.specs.Prelude.{◌≡◌, ◌++◌, [], true, length, drop, ◌≤◌, if◌then◌else◌, is_ok, IfOk, OnOk, OnErr, IsErrOf};
+ghost use Rattle.std.specs.Io.BufRead.{strip_last};
+ghost use Rattle.bstr.specs.Find.{IsFirstByte, is_byte};
+ghost use Rattle.listing.specs.Bytes.{Counts};
+ghost use Rattle.script_run.specs.Lines.{kept, has_no_end};
+ghost use Rattle.script_run.specs.Runs.{Ran, Broke, RanFront, BrokeFront};
+
+use crate::RefusalLog;
+use crate::answers::{Script, run_kept};
+use bstr::ByteSlice;
+use listing::{Counted, ListingFault};
+use std::alloc::{AllocError, Global};
+use std::io::Write;
+
+fn strip_return(line: &[u8]) -> &[u8]
+    ensures { result.now ≡ strip_last 13 line.now }
+{
+    if !line.is_empty() && line[line.len() - 1] == 13 {
+        return &line[..line.len() - 1];
+    }
+    line
+}
+
+fn line_end(text: &[u8]) -> Option<usize>
+    ensures { IsFirstByte (is_byte 10) text.now result }
+{
+    text.find_byte(b'\n')
+}
+
+// Runs the whole lines at the front, and answers where what follows them begins.
+fn run_lines<W: Write>(
+    alloc: Global,
+    script: &mut Script,
+    text: &[u8],
+    writer: &mut Counted<W>,
+    log: &mut impl RefusalLog,
+) -> Result<usize, ListingFault>
+    ensures in_range { IfOk result (λ at. at ≤ length text.now) }
+    ensures ran { IfOk result (λ at. RanFront text.now (drop at text.now) script.old script.new (W.contents writer.old.inner) (W.contents writer.new.inner)) }
+    ensures begun { IfOk result (λ at. has_no_end (drop at text.now) ≡ true) }
+    ensures err { OnErr result (BrokeFront text.now script.old (W.contents writer.old.inner) (W.contents writer.new.inner)) }
+    ensures counts { OnOk result (writer.new.failures ≡ writer.old.failures) }
+    ensures counted { IsErrOf result ListingFault.Write → Counts writer.old.failures writer.new.failures }
+    ensures memory { IsErrOf result ListingFault.Memory → writer.new.failures ≡ writer.old.failures }
+{
+    let mut at = 0;
+    'lines: while let Some(end) = line_end(&text[at..]) {
+        let rest = &text[at..];
+        let (line, _) = rest.split_at(end);
+        run_kept(alloc, script, strip_return(line), writer, log)?;
+        at += end + 1;
+    }
+    Ok(at)
+}
+
+// More of a line. Where room for twice as much is refused, just what is needed is asked for.
+fn extend_line(begun: &mut Vec<u8>, text: &[u8]) -> Result<(), AllocError>
+    ensures { begun.new.items ≡ (if is_ok result then begun.old.items ++ text.now else begun.old.items) }
+{
+    if begun.extend_from_slice(text).is_ok() {
+        return Ok(());
+    }
+    begun.reserve_exact(text.len())?;
+    begun.extend_from_slice(text)
+}
+
+// The line that had begun ends here: its rest is `front`.
+fn end_line<W: Write>(
+    alloc: Global,
+    script: &mut Script,
+    begun: &mut Vec<u8>,
+    front: &[u8],
+    writer: &mut Counted<W>,
+    log: &mut impl RefusalLog,
+) -> Result<(), ListingFault>
+    ensures ran { OnOk result (Ran (kept (strip_last 13 (begun.old.items ++ front.now))) script.old script.new (W.contents writer.old.inner) (W.contents writer.new.inner)) }
+    ensures begun { OnOk result (begun.new.items ≡ []) }
+    ensures err { OnErr result (Broke (kept (strip_last 13 (begun.old.items ++ front.now))) script.old (W.contents writer.old.inner) (W.contents writer.new.inner)) }
+    ensures counts { OnOk result (writer.new.failures ≡ writer.old.failures) }
+    ensures counted { IsErrOf result ListingFault.Write → Counts writer.old.failures writer.new.failures }
+    ensures memory { IsErrOf result ListingFault.Memory → writer.new.failures ≡ writer.old.failures }
+{
+    if begun.is_empty() {
+        return run_kept(alloc, script, strip_return(front), writer, log);
+    }
+    extend_line(begun, front)?;
+    run_kept(alloc, script, strip_return(begun), writer, log)?;
+    begun.clear();
+    Ok(())
+}
+
+// Runs the lines that end in the piece, and keeps the one that has begun.
+pub(crate) fn run_piece<W: Write>(
+    alloc: Global,
+    script: &mut Script,
+    begun: &mut Vec<u8>,
+    piece: &[u8],
+    writer: &mut Counted<W>,
+    log: &mut impl RefusalLog,
+) -> Result<(), ListingFault>
+    requires { has_no_end begun.old.items ≡ true }
+    ensures ran { OnOk result (RanFront (begun.old.items ++ piece.now) begun.new.items script.old script.new (W.contents writer.old.inner) (W.contents writer.new.inner)) }
+    ensures begun { OnOk result (has_no_end begun.new.items ≡ true) }
+    ensures err { OnErr result (BrokeFront (begun.old.items ++ piece.now) script.old (W.contents writer.old.inner) (W.contents writer.new.inner)) }
+    ensures counts { OnOk result (writer.new.failures ≡ writer.old.failures) }
+    ensures counted { IsErrOf result ListingFault.Write → Counts writer.old.failures writer.new.failures }
+    ensures memory { IsErrOf result ListingFault.Memory → writer.new.failures ≡ writer.old.failures }
+{
+    let Some(end) = line_end(piece) else {
+        extend_line(begun, piece)?;
+        return Ok(());
+    };
+    let (front, _) = piece.split_at(end);
+    end_line(alloc, script, begun, front, writer, log)?;
+    let rest = &piece[end + 1..];
+    let at = run_lines(alloc, script, rest, writer, log)?;
+    extend_line(begun, &rest[at..])?;
+    Ok(())
+}
