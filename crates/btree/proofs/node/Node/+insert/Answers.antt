@@ -1,0 +1,95 @@
+use Rattle.std.proofs.Common.{◌≡◌, ◌≤◌, ◌<◌, ◌+◌, length, Some, ap, subst, sym, ◌∙◌, arith, rules, suc}
+use Rattle.std.proofs.lemmas.List.{length-set}
+use Rattle.std.specs.Vec.{vec_len}
+use Rattle.std.specs.List.{insert}
+use borrow.Author.Tests.{eqb-true, eqb-false}
+use Rattle.btree.specs.Order.{Ascends}
+use Rattle.btree.specs.Rows.{branch_of, HasBecome}
+use Rattle.btree.specs.Branch.{Branch}
+use Rattle.std.specs.FinMap.Entries.{find, put}
+use Rattle.btree.proofs.Places.{entries_ascend, kid_at}
+use Rattle.btree.proofs.Growth.{node_fits, found_here, grown_here, missed_leaf, grown_leaf, found_below, grown_below, node_below, kid_sorted, no_kids, one_longer, below_kids, spare_for}
+use Rattle.btree.proofs.node.Node.+insert.Goals as goal
+
+pub place-requires : goal.place-requires
+place-requires g t c = rw c.deref.ensures.value (entries_ascend g.K.Ord.cmp c.self.inside.entries.items c.self.inside.kids.items (subst (λ b. Ascends g.K.Ord.cmp b.pairs) (sym c.self.view_is) c.requires.sorted))
+
+pub invariant_of-self : goal.invariant_of-self
+invariant_of-self g t c =
+    let size = ap length (c.replace_value.ensures.new (c.args.key, c.args.value)) ∙ length-set c.self.inside.entries.items c.in-Ok.at _ in
+    (node_fits c.self.inside.entries.items c.replace_value.new.row.items c.self.inside.kids.items c.self.invariant.0 size, (λ p. let q = c.self.invariant.1.0 (omega (arith, size, p)) in omega arith, λ p. let q = c.self.invariant.1.1 p in omega arith, c.self.invariant.1.2))
+
+pub returns-in-Ok-clause-before : goal.returns-in-Ok-clause-before
+returns-in-Ok-clause-before g t c =
+    let found = rw c.deref.ensures.value at c.in-Ok.ensures.found in
+    ap Some (c.replace_value.ensures.old (c.args.key, c.args.value)) ∙ sym (found_here g.K.Ord.cmp g.met.K.Ord.total c.args.self.now c.self.inside.entries.items c.self.inside.kids.items c.self.view_is c.self.invariant.0 c.requires.sorted c.args.key c.in-Ok.at (c.args.key, c.args.value) found.0 (found.1 (c.args.key, c.args.value)))
+
+pub returns-in-Ok-clause-grown : goal.returns-in-Ok-clause-grown
+returns-in-Ok-clause-grown g t c =
+    let found = rw c.deref.ensures.value at c.in-Ok.ensures.found in
+    grown_here g.K.Ord.cmp g.met.K.Ord.total c.args.self.now c.self.inside.entries.items c.self.inside.kids.items c.self.view_is c.self.invariant.0 c.requires.sorted c.args.key c.args.value c.in-Ok.at (c.args.key, c.args.value) c.replace_value.new.row.items c.requires.fits (c.replace_value.ensures.new (c.args.key, c.args.value)) found.0 (found.1 (c.args.key, c.args.value))
+
+pub returns-then-is_empty-clause-before : goal.returns-then-is_empty-clause-before
+returns-then-is_empty-clause-before g t c =
+    let gap = rw c.deref.ensures.value at c.in-Err.ensures.gap in
+    let none : vec_len c.self.inside.kids ≡ 0 = eqb-true (vec_len c.self.inside.kids) 0 (sym c.is_empty.ensures ∙ c.if-is_empty.true) in
+    let leaf = no_kids c.self.inside.kids.items (omega (arith, none, c.self.inside.kids.ok.0)) in
+    sym (missed_leaf g.K.Ord.cmp g.met.K.Ord.total c.args.self.now c.self.inside.entries.items c.self.inside.kids.items c.self.view_is c.self.invariant.0 c.requires.sorted c.args.key c.in-Err.at leaf gap.0 gap.1 gap.2)
+
+pub returns-then-is_empty-clause-grown : goal.returns-then-is_empty-clause-grown
+returns-then-is_empty-clause-grown g t c =
+    let gap = rw c.deref.ensures.value at c.in-Err.ensures.gap in
+    let none : vec_len c.self.inside.kids ≡ 0 = eqb-true (vec_len c.self.inside.kids) 0 (sym c.is_empty.ensures ∙ c.if-is_empty.true) in
+    let leaf = no_kids c.self.inside.kids.items (omega (arith, none, c.self.inside.kids.ok.0)) in
+    grown_leaf g.K.Ord.cmp g.met.K.Ord.total c.args.self.now c.self.inside.entries.items c.self.inside.kids.items c.self.view_is c.self.invariant.0 c.requires.sorted c.args.key c.args.value c.in-Err.at c.insert_reserved.new.row.items (branch_of c.split_long-beside.new.entries.items c.split_long-beside.new.kids.items) c.split_long-beside.result leaf (c.insert_reserved.ensures.items ∙ ap (λ zs. insert zs c.in-Err.at (c.args.key, c.args.value)) c.make_room.ensures.items) gap.0 gap.1 gap.2 c.split_long-beside.ensures.split
+
+pub insert-requires : goal.insert-requires
+insert-requires g t c κs within =
+    let gap = rw c.deref.ensures.value at c.in-Err.ensures.gap in
+    let some : vec_len c.self.inside.kids ≡ 0 → ⊥ = eqb-false (vec_len c.self.inside.kids) 0 (sym c.is_empty.ensures ∙ c.if-is_empty.false) in
+    let low : c.in-Err.at < length c.self.inside.kids.items = below_kids c.in-Err.at c.self.inside.entries.items c.self.inside.kids.items c.self.invariant.0 (λ e. some (c.self.inside.kids.ok.0 ∙ e)) gap.0 in
+    let kid = kid_at c.in-Err.at c.self.inside.entries.items c.self.inside.kids.items c.index_mut.result.now c.self.invariant.0 low in
+    let sorted : Ascends g.K.Ord.cmp c.index_mut.result.now.pairs = subst (λ b. Ascends g.K.Ord.cmp b.pairs) (sym c.index_mut.ensures.value) (kid_sorted g.K.Ord.cmp g.met.K.Ord.total c.args.self.now c.self.inside.entries.items c.self.inside.kids.items c.self.view_is c.self.invariant.0 c.requires.sorted c.in-Err.at c.index_mut.result.now gap.0 low) in
+    let most : c.index_mut.result.now.count ≤ 32 = subst (λ b. b.count ≤ 32) (sym c.index_mut.ensures.value) kid.1.most in
+    let level : suc c.index_mut.result.now.height ≡ c.args.self.now.height = ap (λ b. suc b.height) c.index_mut.ensures.value ∙ kid.0 ∙ ap (λ b. b.height) c.self.view_is in
+    search rules
+
+pub split_long-beside-requires-2-clause-node : goal.split_long-beside-requires-2-clause-node
+split_long-beside-requires-2-clause-node g t c =
+    let gap = rw c.deref.ensures.value at c.in-Err.ensures.gap in
+    let some : vec_len c.self.inside.kids ≡ 0 → ⊥ = eqb-false (vec_len c.self.inside.kids) 0 (sym c.is_empty.ensures ∙ c.if-is_empty.false) in
+    let low : c.in-Err.at < length c.self.inside.kids.items = below_kids c.in-Err.at c.self.inside.entries.items c.self.inside.kids.items c.self.invariant.0 (λ e. some (c.self.inside.kids.ok.0 ∙ e)) gap.0 in
+    let grown = subst (λ (k : Branch g.row.K.Denot g.row.V.Denot). HasBecome k.count k.height (put g.K.Ord.cmp c.args.key c.args.value k.pairs) c.insert.new.self c.in_ok-before.beside) c.index_mut.ensures.value c.in_ok-before.ensures.grown in
+    node_below g.K.Ord.cmp g.met.K.Ord.total c.args.self.now c.self.inside.entries.items c.self.inside.kids.items c.self.view_is c.self.invariant.0 c.requires.sorted c.args.key c.args.value c.in-Err.at c.index_mut.result.now c.insert.new.self c.in_ok-before.beside c.put_beside.new.entries.items c.put_beside.new.kids.items gap.0 low grown c.put_beside.ensures.pairs c.put_beside.ensures.kids
+
+pub split_long-beside-requires-2-clause-long : goal.split_long-beside-requires-2-clause-long
+split_long-beside-requires-2-clause-long g t c =
+    let gap = rw c.deref.ensures.value at c.in-Err.ensures.gap in
+    let size = one_longer c.in-Err.at c.self.inside.entries.items c.in_ok-before.beside gap.0 in
+    omega (arith, size, ap length c.put_beside.ensures.pairs, ap (λ b. b.count) c.self.view_is, c.requires.fits)
+
+pub split_long-beside-requires-2-clause-spare : goal.split_long-beside-requires-2-clause-spare
+split_long-beside-requires-2-clause-spare g t c =
+    let gap = rw c.deref.ensures.value at c.in-Err.ensures.gap in
+    let some : vec_len c.self.inside.kids ≡ 0 → ⊥ = eqb-false (vec_len c.self.inside.kids) 0 (sym c.is_empty.ensures ∙ c.if-is_empty.false) in
+    let low : c.in-Err.at < length c.self.inside.kids.items = below_kids c.in-Err.at c.self.inside.entries.items c.self.inside.kids.items c.self.invariant.0 (λ e. some (c.self.inside.kids.ok.0 ∙ e)) gap.0 in
+    let size = one_longer c.in-Err.at c.self.inside.entries.items c.in_ok-before.beside gap.0 in
+    let longest : length c.put_beside.new.entries.items ≤ length c.deref-2.result.now + 1 = rw c.deref-2.ensures.value (omega (arith, size, ap length c.put_beside.ensures.pairs)) in
+    let kids : 0 < length c.deref-3.result.now = rw c.deref-3.ensures.value (omega (arith, low)) in
+    spare_for (length c.deref-2.result.now) (length c.deref-3.result.now) (length c.put_beside.new.entries.items) (length c.put_beside.new.kids.items) c.in-Ok-spare_rows.spare c.in-Ok-spare_rows.spare_kids c.in-Ok-spare_rows.ensures longest kids
+
+pub returns-clause-before : goal.returns-clause-before
+returns-clause-before g t c =
+    let gap = rw c.deref.ensures.value at c.in-Err.ensures.gap in
+    let some : vec_len c.self.inside.kids ≡ 0 → ⊥ = eqb-false (vec_len c.self.inside.kids) 0 (sym c.is_empty.ensures ∙ c.if-is_empty.false) in
+    let low : c.in-Err.at < length c.self.inside.kids.items = below_kids c.in-Err.at c.self.inside.entries.items c.self.inside.kids.items c.self.invariant.0 (λ e. some (c.self.inside.kids.ok.0 ∙ e)) gap.0 in
+    c.in_ok-before.ensures.before ∙ ap (λ b. find g.K.Ord.cmp c.args.key b.pairs) c.index_mut.ensures.value
+    ∙ sym (found_below g.K.Ord.cmp g.met.K.Ord.total c.args.self.now c.self.inside.entries.items c.self.inside.kids.items c.self.view_is c.self.invariant.0 c.requires.sorted c.args.key c.in-Err.at c.index_mut.result.now gap.0 low gap.1 gap.2)
+
+pub returns-clause-grown : goal.returns-clause-grown
+returns-clause-grown g t c =
+    let gap = rw c.deref.ensures.value at c.in-Err.ensures.gap in
+    let some : vec_len c.self.inside.kids ≡ 0 → ⊥ = eqb-false (vec_len c.self.inside.kids) 0 (sym c.is_empty.ensures ∙ c.if-is_empty.false) in
+    let low : c.in-Err.at < length c.self.inside.kids.items = below_kids c.in-Err.at c.self.inside.entries.items c.self.inside.kids.items c.self.invariant.0 (λ e. some (c.self.inside.kids.ok.0 ∙ e)) gap.0 in
+    let grown = subst (λ (k : Branch g.row.K.Denot g.row.V.Denot). HasBecome k.count k.height (put g.K.Ord.cmp c.args.key c.args.value k.pairs) c.insert.new.self c.in_ok-before.beside) c.index_mut.ensures.value c.in_ok-before.ensures.grown in
+    grown_below g.K.Ord.cmp g.met.K.Ord.total c.args.self.now c.self.inside.entries.items c.self.inside.kids.items c.self.view_is c.self.invariant.0 c.requires.sorted c.args.key c.args.value c.in-Err.at c.index_mut.result.now c.insert.new.self c.in_ok-before.beside c.split_long-beside-2.result c.put_beside.new.entries.items c.put_beside.new.kids.items (branch_of c.split_long-beside-2.new.entries.items c.split_long-beside-2.new.kids.items) gap.0 low gap.1 gap.2 grown c.put_beside.ensures.pairs c.put_beside.ensures.kids c.split_long-beside-2.ensures.split

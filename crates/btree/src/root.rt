@@ -1,0 +1,188 @@
+//! The tree: its root, and how many pairs there are.
+ghost use Rattle.std.specs.Prelude.{◌≡◌, ◌+◌, ◌*◌, ◌-◌, ◌^◌, ◌<◌, ◌≤◌, ◌==◌, [], length, reverse, not, true, cond, is_some, IfOk, IfErr, OnErr};
+ghost use Rattle.std.specs.Option.{option_map};
+ghost use Rattle.std.specs.List.{filter, find};
+ghost use Rattle.std.specs.FinMap.Entries as entries;
+ghost use Rattle.btree.specs.Order.{Ascends, Each, find_last, without};
+ghost use Rattle.btree.specs.Rows.{IsSize};
+
+use crate::backward::WalkBack;
+use crate::forward::Walk;
+use crate::node::Node;
+use crate::seek::Point;
+use std::alloc::{AllocFailed, Global};
+use std::marker::Model;
+
+/// A map whose keys are in order.
+#[derive(Drop)]
+pub struct Tree<K: Ord, V> {
+    root: Node<K, V>,
+    len: usize,
+}
+
+impl<K: Ord, V> Model for Tree<K, V> {
+    ghost use Rattle.std.specs.Prelude.{◌≡◌, ◌<◌, ◌^◌, length};
+    ghost use Rattle.btree.specs.Tree.{Content, content_code, content_of, IsRoot};
+
+    ghost Value = { Content K V };
+
+    ghost coded = { content_code K.code V.code };
+
+    ghost view = { λ t. content_of t.root };
+
+    ghost invariant = { λ t. IsRoot K.cmp t.root × (t.len ≡ length t.root.pairs) × (t.root.height < 16) };
+}
+
+impl<K: Ord, V> Tree<K, V> {
+    /// A tree with no pairs. It takes no memory.
+    pub fn new(alloc: Global) -> Tree<K, V>
+        ensures empty { result.pairs ≡ [] }
+        ensures depth { result.depth ≡ 1 }
+    {
+        Tree {
+            root: Node::empty(alloc),
+            len: 0,
+        }
+    }
+
+    /// How many pairs there are.
+    ///
+    /// Its clauses say what holds of every tree: keys rise, each node but the root has 16 to 32 pairs, and a tree of some
+    /// depth has at least so many.
+    pub fn len(&self) -> usize
+        ensures len { result ≡ length self.now.pairs }
+        ensures ascends { Ascends K.cmp self.now.pairs }
+        ensures sorted { entries.is_sorted K.cmp self.now.pairs ≡ true }
+        ensures sizes { Each IsSize self.now.sizes }
+        ensures wide { 1 < self.now.depth → 2 * 16 ^ (self.now.depth - 1) ≤ length self.now.pairs }
+    {
+        let _root = &self.root;
+        self.len
+    }
+
+    /// Whether there are no pairs.
+    pub fn is_empty(&self) -> bool
+        ensures { result ≡ (length self.now.pairs == 0) }
+    {
+        self.len() == 0
+    }
+
+    /// The value of a key, and how many nodes were visited.
+    pub fn get(&self, key: &K) -> (Option<&V>, usize)
+        ensures found { option_map (λ v. v.now) result.0 ≡ entries.find K.cmp key.now self.now.pairs }
+        ensures visited { result.1 ≤ self.now.depth }
+    {
+        let mut visits = 0;
+        let value = self.root.get(key, &mut visits);
+        (value, visits)
+    }
+
+    /// The first pair whose key does not stand before a point, and how many nodes were visited.
+    pub fn first_from<P: Point<K>>(&self, point: &P) -> (Option<(&K, &V)>, usize)
+        ensures found { option_map (λ p. (p.0.now, p.1.now)) result.0 ≡ find (λ e. not (P.before point.now e.0)) self.now.pairs }
+        ensures visited { result.1 ≤ self.now.depth }
+    {
+        let mut visits = 0;
+        let found = self.root.first_from(point, &mut visits);
+        (found, visits)
+    }
+
+    /// The last pair whose key stands before a point, and how many nodes were visited.
+    pub fn last_before<P: Point<K>>(&self, point: &P) -> (Option<(&K, &V)>, usize)
+        ensures found { option_map (λ p. (p.0.now, p.1.now)) result.0 ≡ find_last (λ e. P.before point.now e.0) self.now.pairs }
+        ensures visited { result.1 ≤ self.now.depth }
+    {
+        let mut visits = 0;
+        let found = self.root.last_before(point, &mut visits);
+        (found, visits)
+    }
+}
+
+impl<K: Ord, V> Tree<K, V> {
+    /// How many levels of nodes there are, 1 to 16. A tree whose root is a leaf has 1.
+    pub fn depth(&self) -> usize
+        ensures depth { result ≡ self.now.depth }
+        ensures most { self.now.depth ≤ 16 }
+    {
+        self.root.height() + 1
+    }
+
+    /// A walk over all pairs in order. It takes no memory.
+    pub fn iter(&self) -> Walk<'_, K, V>
+        ensures { result ≡ self.now.pairs }
+    {
+        Walk::over(&self.root)
+    }
+
+    /// A walk in order over the pairs that do not stand before a point. It takes no memory.
+    pub fn from<P: Point<K>>(&self, point: &P) -> Walk<'_, K, V>
+        ensures { result ≡ filter (λ e. not (P.before point.now e.0)) self.now.pairs }
+    {
+        Walk::from(&self.root, point)
+    }
+
+    /// A walk over the pairs that stand before a point, the last one first. It takes no memory.
+    pub fn back_from<P: Point<K>>(&self, point: &P) -> WalkBack<'_, K, V>
+        ensures { result ≡ reverse (filter (λ e. P.before point.now e.0) self.now.pairs) }
+    {
+        WalkBack::from(&self.root, point)
+    }
+}
+
+impl<K: Ord + Drop, V: Drop> Tree<K, V> {
+    /// Sets the value of a key, and gives the one before. A key that ties with a stored one leaves that one in its place.
+    ///
+    /// Refused where there is no memory, or no number for one pair more: then nothing has changed, and both come back.
+    /// Memory is taken on the way down, before the first change, and only where a node on the way is full.
+    pub fn insert(
+        &mut self,
+        alloc: Global,
+        key: K,
+        value: V,
+    ) -> Result<Option<V>, AllocFailed<(K, V)>>
+        ensures before { IfOk result (λ before. before ≡ entries.find K.cmp key self.old.pairs) }
+        ensures put { IfOk result (λ _. self.new.pairs ≡ entries.put K.cmp key value self.old.pairs) }
+        ensures depth { IfOk result (λ _. (self.old.depth ≤ self.new.depth) × (self.new.depth ≤ self.old.depth + 1)) }
+        ensures handed_back { IfErr result (λ refused. refused.value ≡ (key, value)) }
+        ensures refused { OnErr result (self.new ≡ self.old) }
+    {
+        if self.len == usize::MAX {
+            return Err(AllocFailed {
+                value: (key, value),
+            });
+        }
+        let Ok((entries, kids)) = self.root.rows_above(alloc) else {
+            return Err(AllocFailed {
+                value: (key, value),
+            });
+        };
+        let (before, beside) = self.root.insert(alloc, key, value)?;
+        self.len += 1 - count(&before);
+        if let Some(beside) = beside {
+            self.root.rise(entries, kids, beside);
+        }
+        Ok(before)
+    }
+
+    /// Takes out the pair of a key, and gives its value. It takes no memory.
+    pub fn remove(&mut self, key: &K) -> Option<V>
+        ensures value { result ≡ entries.find K.cmp key.now self.old.pairs }
+        ensures pairs { self.new.pairs ≡ without K.cmp key.now self.old.pairs }
+        ensures depth { (self.new.depth ≤ self.old.depth) × (self.old.depth ≤ self.new.depth + 1) }
+    {
+        let value = self.root.remove(key);
+        self.root.fall();
+        self.len -= count(&value);
+        value
+    }
+}
+
+// How many values there are.
+fn count<V>(value: &Option<V>) -> usize
+    ensures { result ≡ cond (is_some value.now) 1 0 }
+{
+    match value {
+        None => 0,
+        Some(_) => 1,
+    }
+}

@@ -1,0 +1,73 @@
+//! Searches in one node's own pairs.
+ghost use Rattle.std.specs.Prelude.{◌-◌, ◌≡◌, ◌<◌, ◌≤◌, length, take, drop, true, false, IfOk, IfErr, slice_index_or};
+ghost use Rattle.std.specs.declared.cmp.Ordering.TheVariants.{Equal};
+ghost use Rattle.std.specs.Option.{option_map};
+ghost use Rattle.std.specs.List.{slice_get};
+ghost use Rattle.btree.specs.Order.{Ascends, Each, IsBefore, IsAfter, last_of};
+
+use crate::seek::Point;
+use std::cmp::Ordering;
+
+/// Where a key is, or where it would go.
+pub fn place<K: Ord, V>(row: &[(K, V)], key: &K) -> Result<usize, usize>
+    requires { Ascends K.cmp row.now }
+    ensures found { IfOk result (λ i. (i < length row.now) × ((d : K × V) → K.cmp key.now (slice_index_or row.now i d).0 ≡ Equal)) }
+    ensures gap { IfErr result (λ i. (i ≤ length row.now) × Each (IsBefore K.cmp key.now) (take i row.now) × Each (IsAfter K.cmp key.now) (drop i row.now)) }
+{
+    let mut low = 0;
+    let mut high = row.len();
+    while low < high {
+        let middle = low + (high - low) / 2;
+        match key.cmp(&row[middle].0) {
+            Ordering::Less => high = middle,
+            Ordering::Equal => return Ok(middle),
+            Ordering::Greater => low = middle + 1,
+        }
+    }
+    Err(low)
+}
+
+/// How many keys stand before a point.
+pub fn count_before<K: Ord, V, P: Point<K>>(row: &[(K, V)], point: &P) -> usize
+    requires { Ascends K.cmp row.now }
+    ensures in_range { result ≤ length row.now }
+    ensures before { Each (λ (e : K × V). P.before point.now e.0 ≡ true) (take result row.now) }
+    ensures after { Each (λ (e : K × V). P.before point.now e.0 ≡ false) (drop result row.now) }
+{
+    let mut low = 0;
+    let mut high = row.len();
+    while low < high {
+        let middle = low + (high - low) / 2;
+        if point.is_after(&row[middle].0) {
+            low = middle + 1;
+        } else {
+            high = middle;
+        }
+    }
+    low
+}
+
+/// The entry at a place.
+pub fn entry_at<K, V>(row: &[(K, V)], at: usize) -> Option<(&K, &V)>
+    ensures { option_map (λ p. (p.0.now, p.1.now)) result ≡ slice_get row.now at }
+{
+    if at < row.len() {
+        let entry = &row[at];
+        Some((&entry.0, &entry.1))
+    } else {
+        None
+    }
+}
+
+/// The entry before a place.
+pub fn entry_before<K, V>(row: &[(K, V)], at: usize) -> Option<(&K, &V)>
+    requires { at ≤ length row.now }
+    ensures { option_map (λ p. (p.0.now, p.1.now)) result ≡ last_of (take at row.now) }
+{
+    if at == 0 {
+        None
+    } else {
+        let entry = &row[at - 1];
+        Some((&entry.0, &entry.1))
+    }
+}
