@@ -1,0 +1,6 @@
+pub mod Chains
+pub mod Cut
+pub mod laws
+pub mod Links
+pub mod Slots
+pub mod Versions

@@ -1,0 +1,63 @@
+-- Laws of a change under one id, for callers that keep ids. Read open_count_updated, chains_stay and versions_left.
+use Rattle.std.proofs.Common.{◌≡◌, ◌≢◌, ℕ, zero, suc, ◌+◌, List, [], ◌∷◌, map, Option, Some, is_some, count_by, cond, refl, ap, ◌∙◌, arith, Contains}
+use Rattle.std.proofs.lemmas.List.Sums.{sum_by-cons}
+use Rattle.version_chain.specs.Slots.{slot_at}
+use Rattle.version_chain.specs.Versions.{Entry}
+use Rattle.version_chain.specs.Chains.{ChainsState, chain_at, versions_at, listed, Updates, open_count}
+
+first_apart : (i : ℕ) → zero ≢ suc i
+first_apart i e = absurd (omega (arith, e))
+
+module _ {A : Type 0} where
+  -- one for a slot that is held
+  abbrev pub held_count : Option A → ℕ
+  held_count slot = cond (is_some slot) 1 0
+
+  count_cons : (x : Option A) (xs : List (Option A)) → count_by is_some (x ∷ xs) ≡ held_count x + count_by is_some xs
+  count_cons x xs = sum_by-cons held_count x xs
+
+  same_count : (xs ys : List (Option A)) → ((j : ℕ) → slot_at ys j ≡ slot_at xs j) → count_by is_some ys ≡ count_by is_some xs
+  same_count [] [] same = refl
+  same_count [] (y ∷ ys) same = let head = ap held_count (same 0) in let rest = same_count [] ys (λ j. same (suc j)) in omega (arith, count_cons y ys, head, rest)
+  same_count (x ∷ xs) [] same = let head = ap held_count (same 0) in let rest = same_count xs [] (λ j. same (suc j)) in omega (arith, count_cons x xs, head, rest)
+  same_count (x ∷ xs) (y ∷ ys) same = let head = ap held_count (same 0) in let rest = same_count xs ys (λ j. same (suc j)) in omega (arith, count_cons x xs, count_cons y ys, head, rest)
+
+  -- slots that are the same but at one number
+  count_but_one : (xs ys : List (Option A)) (i : ℕ) → ((j : ℕ) → j ≢ i → slot_at ys j ≡ slot_at xs j)
+      → count_by is_some ys + held_count (slot_at xs i) ≡ count_by is_some xs + held_count (slot_at ys i)
+  count_but_one [] [] i same = refl
+  count_but_one [] (y ∷ ys) zero same = let rest = same_count [] ys (λ j. same (suc j) (λ e. omega (arith, e))) in omega (arith, count_cons y ys, rest)
+  count_but_one [] (y ∷ ys) (suc i) same =
+      let head = ap held_count (same 0 (first_apart i)) in
+      let rest = count_but_one [] ys i (λ j off. same (suc j) (λ e. off (omega (arith, e)))) in
+      omega (arith, count_cons y ys, head, rest)
+  count_but_one (x ∷ xs) [] zero same = let rest = same_count xs [] (λ j. same (suc j) (λ e. omega (arith, e))) in omega (arith, count_cons x xs, rest)
+  count_but_one (x ∷ xs) [] (suc i) same =
+      let head = ap held_count (same 0 (first_apart i)) in
+      let rest = count_but_one xs [] i (λ j off. same (suc j) (λ e. off (omega (arith, e)))) in
+      omega (arith, count_cons x xs, head, rest)
+  count_but_one (x ∷ xs) (y ∷ ys) zero same = let rest = same_count xs ys (λ j. same (suc j) (λ e. omega (arith, e))) in omega (arith, count_cons x xs, count_cons y ys, rest)
+  count_but_one (x ∷ xs) (y ∷ ys) (suc i) same =
+      let head = ap held_count (same 0 (first_apart i)) in
+      let rest = count_but_one xs ys i (λ j off. same (suc j) (λ e. off (omega (arith, e)))) in
+      omega (arith, count_cons x xs, count_cons y ys, head, rest)
+
+module _ {V : Type 0} where
+  -- ids that the changed one is not among keep their chains
+  pub chains_stay : (old new : ChainsState V) (id : ℕ) (chain : Option (List (Entry V))) (ids : List ℕ) → Updates old new id chain → (Contains ids id → ⊥)
+      → map (chain_at new) ids ≡ map (chain_at old) ids
+  chains_stay old new id chain [] updates off = refl
+  chains_stay old new id chain (i ∷ ids) updates off =
+      let here = updates.others i (λ same. off (0, omega arith, same)) in
+      let rest = chains_stay old new id chain ids updates (λ at. off (suc at.0, omega (arith, at.1), at.2)) in
+      ap (λ c. c ∷ map (chain_at new) ids) here ∙ ap (λ cs. chain_at old i ∷ cs) rest
+
+  -- what a change left under its id
+  pub versions_left : (old new : ChainsState V) (id : ℕ) (vs : List (Entry V)) → Updates old new id (Some vs) → versions_at new id ≡ vs
+  versions_left old new id vs updates = ap listed updates.changed
+
+  -- how many ids are open, once one has another chain
+  pub open_count_updated : (old new : ChainsState V) (id : ℕ) (chain : Option (List (Entry V))) → Updates old new id chain
+      → open_count new + held_count (chain_at old id) ≡ open_count old + held_count chain
+  open_count_updated old new id chain updates =
+      count_but_one old.chains new.chains id updates.others ∙ ap (λ c. open_count old + held_count c) updates.changed

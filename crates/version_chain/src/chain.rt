@@ -1,0 +1,96 @@
+//! One chain: its newest version, and the cells of those before it.
+ghost use Rattle.std.specs.Prelude.{◌≡◌, ◌+◌, ◌^◌, ◌<◌, [], ◌∷◌, length, option_copied};
+ghost use Rattle.version_chain.specs.Links.{from_version, versions, pages, line_versions, line_pages, AllOf};
+ghost use Rattle.version_chain.specs.Versions.{newest_of, at_of, cells_of};
+
+use crate::version::{Link, Version};
+use cell_pool::Pool;
+
+/// A chain: its newest version, or none.
+pub(crate) type Line<V> = Option<Version<V>>;
+
+pub(crate) fn newest<V>(line: Option<&Version<V>>) -> Option<u64>
+    ensures { result ≡ newest_of (line_versions (option_copied line.entry)) }
+{
+    match line {
+        None => None,
+        Some(version) => Some(version.as_parts().0),
+    }
+}
+
+/// The value of the newest version that is not after the stamp.
+pub(crate) fn at<V>(line: Option<&Version<V>>, stamp: u64) -> Option<&V>
+    ensures { option_copied result ≡ at_of stamp (line_versions (option_copied line.entry)) }
+{
+    match line {
+        None => None,
+        Some(version) => at_version(version, stamp),
+    }
+}
+
+// The same from a version on.
+fn at_version<V>(newest: &Version<V>, stamp: u64) -> Option<&V>
+    ensures { option_copied result ≡ at_of stamp (from_version newest.now) }
+{
+    let mut here = newest;
+    loop {
+        let (since, value, older) = here.as_parts();
+        if since <= stamp {
+            return value;
+        }
+        match older {
+            Some(cell) => here = cell.get(),
+            None => return None,
+        }
+    }
+}
+
+/// Puts a version in front. Where there is one already, that moves into a cell that was reserved.
+pub(crate) fn push<V>(
+    pool: &mut Pool<Version<V>>,
+    line: Line<V>,
+    stamp: u64,
+    value: Option<V>,
+) -> Line<V>
+    requires { ¬ (line_versions line ≡ []) → 0 < pool.old.spare }
+    ensures entry { line_versions result ≡ (stamp, value) ∷ line_versions line }
+    ensures theirs { AllOf pool.old.pages (line_pages line) → AllOf pool.new.pages (line_pages result) }
+    ensures counts { (pool.new.pages ≡ pool.old.pages) × (pool.new.out + cells_of (line_versions line) ≡ pool.old.out + cells_of (line_versions result)) × (pool.new.spare + pool.new.out ≡ pool.old.spare + pool.old.out) }
+{
+    match line {
+        None => Some(Version::new(stamp, value, None)),
+        Some(newest) => match pool.take(newest) {
+            Ok(cell) => Some(Version::new(stamp, value, Some(cell))),
+            Err(_back) => unreachable!(),
+        },
+    }
+}
+
+/// Gives all cells back, and counts them.
+pub(crate) fn clear<V: Drop>(pool: &mut Pool<Version<V>>, link: Link<V>) -> usize
+    requires { AllOf pool.old.pages (pages link) }
+    ensures few { result < 2 ^ 56 }
+    ensures counts { (result ≡ length (versions link)) × (pool.new.pages ≡ pool.old.pages) × (pool.new.out + result ≡ pool.old.out) × (pool.new.spare ≡ pool.old.spare + result) }
+{
+    let before = pool.out();
+    let mut here = link;
+    while let Some(cell) = here {
+        let (_, _, older) = pool.give(cell).parts();
+        here = older;
+    }
+    before - pool.out()
+}
+
+/// Ends a chain.
+pub(crate) fn end<V: Drop>(pool: &mut Pool<Version<V>>, line: Line<V>)
+    requires { AllOf pool.old.pages (line_pages line) }
+    ensures { (pool.new.pages ≡ pool.old.pages) × (pool.new.out + cells_of (line_versions line) ≡ pool.old.out) × (pool.new.spare + pool.new.out ≡ pool.old.spare + pool.old.out) }
+{
+    match line {
+        None => {}
+        Some(version) => {
+            let (_, _, older) = version.parts();
+            clear(pool, older);
+        }
+    }
+}

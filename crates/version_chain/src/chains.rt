@@ -1,0 +1,200 @@
+//! Chains by id, in one pool.
+ghost use Rattle.std.specs.Prelude.{◌≡◌, ℕ, ◌+◌, ◌<◌, ◌≤◌, [], ◌∷◌, Some, None, IsTrue, ◌↔◌, length, option_copied, slice_set, IfOk, OnErr};
+ghost use Rattle.version_chain.specs.Slots.{slot_at, value_of};
+ghost use Rattle.version_chain.specs.Links.{line_versions};
+
+use crate::chain::{Line, at, end, newest, push};
+use crate::cut::cut;
+use crate::slots::Slots;
+use crate::version::Version;
+use cell_pool::Pool;
+use std::alloc::{AllocError, Global};
+use std::marker::Model;
+
+/// Names a chain from `open` to `close`. A chain that is opened later may get the same id.
+#[derive(Clone, Copy, Debug, PartialEq, Eq)]
+pub struct ChainId {
+    number: usize,
+}
+
+impl Model for ChainId {
+    ghost use Rattle.std.specs.Prelude.{ℕ};
+
+    ghost Value = { ℕ };
+
+    ghost view = { λ id. id.number };
+
+    ghost inverse = { λ n. record { number = n } };
+}
+
+/// Chains by id, and the pool that their cells are of. Its drop gives all cells back and ends the pool.
+pub struct Chains<V: Drop> {
+    pool: Pool<Version<V>>,
+    lines: Slots<Version<V>>,
+}
+
+impl<V: Drop> Model for Chains<V> {
+    ghost use Rattle.version_chain.specs.Chains.{ChainsState, IsChains, seen};
+
+    ghost Value = { ChainsState V };
+
+    ghost view = { λ a. record { chains = seen a.lines; spare = a.pool.spare } };
+
+    ghost invariant = { λ a. IsChains a.pool.pages a.pool.out a.lines };
+}
+
+// Puts a line back where it was taken out.
+fn put<V>(lines: &mut Slots<Version<V>>, number: usize, line: Line<V>)
+    requires { slot_at lines.old number ≡ Some None }
+    ensures { lines.new ≡ slice_set lines.old number (Some line) }
+{
+    match lines.replace(number, line) {
+        None => {}
+        Some(_version) => unreachable!(),
+    }
+}
+
+impl<V: Drop> Chains<V> {
+    ghost use Rattle.version_chain.specs.Versions.{newest_of, at_of, IsAbove, IsFalling};
+    ghost use Rattle.version_chain.specs.Cut.{left_after};
+    ghost use Rattle.version_chain.specs.Chains.{chain_at, versions_at, cells_at, IsOpen, HasCell, Updates, open_count, number_count};
+
+    /// No chains. Takes no memory.
+    pub fn new(alloc: Global) -> Chains<V>
+        ensures { result ≡ record { chains = []; spare = 0 } }
+    {
+        Chains {
+            pool: Pool::new(alloc),
+            lines: Slots::new(alloc),
+        }
+    }
+
+    /// How many cells are reserved.
+    pub fn spare(&self) -> usize
+        ensures { result ≡ self.now.spare }
+    {
+        self.pool.spare()
+    }
+
+    /// Reserves cells, so that there are at least `cells`, and keeps those there are.
+    ///
+    /// Refusals: `AllocError` where fewer were reserved and memory is wanting. No chain changes.
+    pub fn reserve(&mut self, cells: usize) -> Result<(), AllocError>
+        ensures chains { self.new.chains ≡ self.old.chains }
+        ensures spare { self.old.spare ≤ self.new.spare }
+        ensures room { IfOk result (λ _. cells ≤ self.new.spare) }
+        ensures full { OnErr result (self.old.spare < cells) }
+    {
+        self.pool.reserve(cells)
+    }
+
+    /// Opens a chain without versions. Ids that were closed are used again before there is a new one.
+    ///
+    /// Refusals: `AllocError`. After it nothing has changed.
+    pub fn open(&mut self) -> Result<ChainId, AllocError>
+        ensures vacant { IfOk result (λ id. chain_at self.old id ≡ None) }
+        ensures chains { IfOk result (λ id. Updates self.old self.new id (Some [])) }
+        ensures reused { IfOk result (λ id. open_count self.old < number_count self.old → id < number_count self.old) }
+        ensures small { IfOk result (λ id. id ≤ number_count self.old) }
+        ensures spare { self.new.spare ≡ self.old.spare }
+        ensures err { OnErr result (self.new ≡ self.old) }
+    {
+        match self.lines.insert() {
+            Ok(number) => Ok(ChainId { number }),
+            Err(error) => Err(error),
+        }
+    }
+
+    /// Whether the id is open.
+    pub fn is_open(&self, id: ChainId) -> bool
+        ensures { IsTrue result ↔ IsOpen self.now id }
+    {
+        self.lines.contains(id.number)
+    }
+
+    // The newest version of an open chain.
+    fn line(&self, id: ChainId) -> Option<&Version<V>>
+        requires { IsOpen self.now id }
+        ensures there { chain_at self.now id ≡ Some (line_versions (option_copied result)) }
+        ensures falls { IsFalling (line_versions (option_copied result)) }
+    {
+        self.lines.get(id.number)
+    }
+
+    /// The stamp of the newest version, or none where there is no version.
+    pub fn newest(&self, id: ChainId) -> Option<u64>
+        requires { IsOpen self.now id }
+        ensures newest { result ≡ newest_of (versions_at self.now id) }
+        ensures falls { IsFalling (versions_at self.now id) }
+    {
+        newest(self.line(id))
+    }
+
+    /// The value of the newest version that isn't after the stamp; none where there is no such version, or it is an absence.
+    pub fn at(&self, id: ChainId, stamp: u64) -> Option<&V>
+        requires { IsOpen self.now id }
+        ensures { option_copied result ≡ at_of stamp (versions_at self.now id) }
+    {
+        at(self.line(id), stamp)
+    }
+
+    /// Adds the newest version of a chain; `None` is absence. What is seen before the stamp stays. Takes no memory: a first
+    /// version takes no cell, each further one a cell that was reserved.
+    pub fn push_reserved(&mut self, id: ChainId, stamp: u64, value: Option<V>)
+        requires open { IsOpen self.old id }
+        requires reserved { HasCell self.old id }
+        requires newest { IsAbove stamp (versions_at self.old id) }
+        ensures chains { Updates self.old self.new id (Some ((stamp, value) ∷ versions_at self.old id)) }
+        ensures content { (before : ℕ) → before < stamp → at_of before (versions_at self.new id) ≡ at_of before (versions_at self.old id) }
+        ensures spare { self.new.spare + cells_at self.new id ≡ self.old.spare + cells_at self.old id }
+        ensures least { self.old.spare ≤ self.new.spare + 1 }
+    {
+        let line = self.lines.replace(id.number, None);
+        let line = push(&mut self.pool, line, stamp, value);
+        put(&mut self.lines, id.number, line);
+    }
+
+    /// Drops each version that a newer one not after the horizon hides, and an absence not after the horizon where it is the
+    /// oldest left. Answers how many it dropped. Takes no memory, and what is seen from the horizon on stays.
+    pub fn cut(&mut self, id: ChainId, horizon: u64) -> usize
+        requires { IsOpen self.old id }
+        ensures chains { Updates self.old self.new id (Some (left_after horizon (versions_at self.old id))) }
+        ensures count { result + length (versions_at self.new id) ≡ length (versions_at self.old id) }
+        ensures content { (stamp : ℕ) → horizon ≤ stamp → at_of stamp (versions_at self.new id) ≡ at_of stamp (versions_at self.old id) }
+        ensures spare { self.new.spare + cells_at self.new id ≡ self.old.spare + cells_at self.old id }
+        ensures least { self.old.spare ≤ self.new.spare }
+    {
+        let line = self.lines.replace(id.number, None);
+        let (line, count) = cut(&mut self.pool, line, horizon);
+        put(&mut self.lines, id.number, line);
+        count
+    }
+
+    /// Ends a chain. Its cells are reserved from here on, and its id may be opened again. Takes no memory.
+    pub fn close(&mut self, id: ChainId)
+        requires { IsOpen self.old id }
+        ensures chains { Updates self.old self.new id None }
+        ensures spare { self.new.spare ≡ self.old.spare + cells_at self.old id }
+    {
+        let line = self.lines.remove(id.number);
+        end(&mut self.pool, line);
+    }
+}
+
+impl<V: Drop> Drop for Chains<V> {
+    fn drop(self) {
+        let Chains { pool, lines } = self;
+        let mut pool = pool;
+        let mut entries = lines.into_entries();
+        while let Some(entry) = entries.pop() {
+            match entry.value() {
+                Some(line) => {
+                    end(&mut pool, line);
+                }
+                None => {}
+            }
+        }
+        entries.destroy_empty();
+        pool.end();
+    }
+}

@@ -1,0 +1,4 @@
+pub mod NewestLemmas
+pub mod RangeLemmas
+pub mod SeekLemmas
+pub mod TiedLemmas

@@ -1,0 +1,146 @@
+-- What stands next to a cut in the content, from what a walk over the tree passes.
+use Rattle.std.proofs.Common.{◌≡◌, ℕ, List, [], ◌∷◌, ◌++◌, refl, sym, ap, ◌∙◌, subst}
+use Rattle.std.proofs.lemmas.List.{reverse-append}
+use Rattle.std.specs.Prelude.{Bool, true, false, not, cond, filter, reverse, Option, Some, None}
+use Rattle.std.specs.Ordering.{eq_by_cmp}
+use Rattle.std.specs.Cmp.{second_so, first_so, eq_by_cmp_equiv}
+use Rattle.std.specs.Bool.{passes}
+use Rattle.std.specs.Option.{option_map, option_or}
+use Rattle.std.specs.List.{find}
+use Rattle.std.specs.FinMap as finmap
+use Rattle.std.specs.FinMap.{is_sorted}
+use Rattle.std.specs.FinMap.Entries.{below_all, is_sorted-where_key}
+use Rattle.collation.specs.Reference.{Reference}
+use Rattle.collation.specs.Order.{ref_cmp}
+use Rattle.collation.specs.OrderLaws.{ref_cmp_total, ref_cmp-IsAntisymmetric, is_equal}
+use Rattle.collation.specs.Nearest.{nearest, find_last}
+use Rattle.version_chain.specs.Versions.{at_of}
+use Rattle.version_chain.specs.Chains.{versions_at, IsOpen}
+use Rattle.version_store.specs.Versions.{Row, content_at, with_value, seen_at, first_of}
+use Rattle.version_store.specs.Tied.{rows, versions_in, AreOpen, IsTied}
+use Rattle.globals.specs.NearestLaws.{true_of, not_found_itself}
+use Rattle.version_store.specs.laws.Content.{entries_content}
+use Rattle.version_store.proofs.TiedLemmas.{State, Pairs, entries_in}
+
+-- ---- forward
+
+find_seen : (P : Reference → Bool) (c : State) (s : ℕ) (ps : Pairs) → find (λ e. P e.0) (seen_at s (rows c ps)) ≡ first_of (seen_at s (rows c (filter (λ p. P p.0) ps)))
+find_seen P c s [] = refl
+find_seen P c s (p ∷ ps) = by_case (P p.0) refl (at_of s (versions_at c p.1)) refl (find_seen P c s ps)
+  where
+    by_case : (b : Bool) → P p.0 ≡ b → (v : Option (List ℕ)) → at_of s (versions_at c p.1) ≡ v
+        → find (λ e. P e.0) (seen_at s (rows c ps)) ≡ first_of (seen_at s (rows c (filter (λ q. P q.0) ps)))
+        → find (λ e. P e.0) (with_value p.0 v (seen_at s (rows c ps))) ≡ first_of (seen_at s (rows c (cond b (p ∷ filter (λ q. P q.0) ps) (filter (λ q. P q.0) ps))))
+    by_case true b None v rest = rest ∙ sym (ap (λ o. first_of (with_value p.0 o (seen_at s (rows c (filter (λ q. P q.0) ps))))) v)
+    by_case true b (Some x) v rest = ap (λ t. cond t (Some (p.0, x)) (find (λ e. P e.0) (seen_at s (rows c ps)))) b ∙ sym (ap (λ o. first_of (with_value p.0 o (seen_at s (rows c (filter (λ q. P q.0) ps))))) v)
+    by_case false b None v rest = rest
+    by_case false b (Some x) v rest = ap (λ t. cond t (Some (p.0, x)) (find (λ e. P e.0) (seen_at s (rows c ps)))) b ∙ rest
+
+pub next_in : (B : Reference → Bool) (c : State) (ps : Pairs) (s : ℕ) → is_sorted ref_cmp ps ≡ true
+    → first_of (seen_at s (rows c (filter (λ p. not (B p.0)) ps))) ≡ nearest true (λ x. not (B x)) (content_at (versions_in c ps) s)
+next_in B c ps s h = sym (ap (find (λ e. not (B e.0))) (entries_content (versions_in c ps) s ∙ ap (seen_at s) (entries_in c ps h)) ∙ find_seen (λ x. not (B x)) c s ps)
+
+-- ---- backward
+
+or_none : {A : Type 0} (o : Option A) → option_or o None ≡ o
+or_none None = refl
+or_none (Some x) = refl
+
+-- one pair more at the end
+first_joined : (c : State) (s : ℕ) (xs : Pairs) (p : Reference × ℕ) → first_of (seen_at s (rows c (xs ++ p ∷ []))) ≡ option_or (first_of (seen_at s (rows c xs))) (first_of (with_value p.0 (at_of s (versions_at c p.1)) []))
+first_joined c s [] p = refl
+first_joined c s (x ∷ xs) p = by_value (at_of s (versions_at c x.1)) (first_joined c s xs p)
+  where
+    by_value : (v : Option (List ℕ)) → first_of (seen_at s (rows c (xs ++ p ∷ []))) ≡ option_or (first_of (seen_at s (rows c xs))) (first_of (with_value p.0 (at_of s (versions_at c p.1)) []))
+        → first_of (with_value x.0 v (seen_at s (rows c (xs ++ p ∷ [])))) ≡ option_or (first_of (with_value x.0 v (seen_at s (rows c xs)))) (first_of (with_value p.0 (at_of s (versions_at c p.1)) []))
+    by_value None rest = rest
+    by_value (Some y) rest = refl
+
+find_last_seen : (P : Reference → Bool) (c : State) (s : ℕ) (ps : Pairs) → find_last (λ e. P e.0) (seen_at s (rows c ps)) ≡ first_of (seen_at s (rows c (reverse (filter (λ p. P p.0) ps))))
+find_last_seen P c s [] = refl
+find_last_seen P c s (p ∷ ps) = by_case (P p.0) refl (at_of s (versions_at c p.1)) refl (find_last_seen P c s ps)
+  where
+    fs : Pairs
+    fs = filter (λ q. P q.0) ps
+
+    turned : first_of (seen_at s (rows c (reverse (p ∷ fs)))) ≡ option_or (first_of (seen_at s (rows c (reverse fs)))) (first_of (with_value p.0 (at_of s (versions_at c p.1)) []))
+    turned = ap (λ xs. first_of (seen_at s (rows c xs))) (reverse-append (p ∷ []) fs) ∙ first_joined c s (reverse fs) p
+
+    by_case : (b : Bool) → P p.0 ≡ b → (v : Option (List ℕ)) → at_of s (versions_at c p.1) ≡ v
+        → find_last (λ e. P e.0) (seen_at s (rows c ps)) ≡ first_of (seen_at s (rows c (reverse fs)))
+        → find_last (λ e. P e.0) (with_value p.0 v (seen_at s (rows c ps))) ≡ first_of (seen_at s (rows c (reverse (cond b (p ∷ fs) fs))))
+    by_case true b None v rest = rest ∙ sym (turned ∙ ap (λ o. option_or (first_of (seen_at s (rows c (reverse fs)))) (first_of (with_value p.0 o []))) v ∙ or_none (first_of (seen_at s (rows c (reverse fs)))))
+    by_case true b (Some x) v rest =
+        ap (λ t. option_or (find_last (λ e. P e.0) (seen_at s (rows c ps))) (cond t (Some (p.0, x)) None)) b
+        ∙ ap (λ o. option_or o (Some (p.0, x))) rest
+        ∙ sym (turned ∙ ap (λ o. option_or (first_of (seen_at s (rows c (reverse fs)))) (first_of (with_value p.0 o []))) v)
+    by_case false b None v rest = rest
+    by_case false b (Some x) v rest =
+        ap (λ t. option_or (find_last (λ e. P e.0) (seen_at s (rows c ps))) (cond t (Some (p.0, x)) None)) b
+        ∙ or_none (find_last (λ e. P e.0) (seen_at s (rows c ps))) ∙ rest
+
+pub prev_in : (B : Reference → Bool) (c : State) (ps : Pairs) (s : ℕ) → is_sorted ref_cmp ps ≡ true
+    → first_of (seen_at s (rows c (reverse (filter (λ p. B p.0) ps)))) ≡ nearest false B (content_at (versions_in c ps) s)
+prev_in B c ps s h = sym (ap (find_last (λ e. B e.0)) (entries_content (versions_in c ps) s ∙ ap (seen_at s) (entries_in c ps h)) ∙ find_last_seen B c s ps)
+
+-- ---- the ids that a walk passes are open
+
+all_open : (c : State) (ps : Pairs) → is_sorted ref_cmp ps ≡ true → ((q : Reference) (id : ℕ) → finmap.find ref_cmp q ps ≡ Some id → IsOpen c id) → AreOpen c ps
+all_open c [] h is = tt
+all_open c (p ∷ ps) h is =
+    (is p.0 p.1 here, all_open c ps (second_so (below_all ref_cmp p.0 ps) _ h) (λ q id at. is q id (behind q id (eq_by_cmp ref_cmp q p.0) refl at)))
+  where
+    here : finmap.find ref_cmp p.0 (p ∷ ps) ≡ Some p.1
+    here = ap (λ r. cond r (Some p.1) (finmap.find ref_cmp p.0 ps)) (let laws = eq_by_cmp_equiv ref_cmp_total in laws.refl p.0)
+
+    behind : (q : Reference) (id : ℕ) (t : Bool) → eq_by_cmp ref_cmp q p.0 ≡ t → finmap.find ref_cmp q ps ≡ Some id → finmap.find ref_cmp q (p ∷ ps) ≡ Some id
+    behind q id true t at =
+        let same = ref_cmp-IsAntisymmetric q p.0 (is_equal _ t) in
+        let none = sym at ∙ ap (λ x. finmap.find ref_cmp x ps) same ∙ not_found_itself ref_cmp ref_cmp_total ref_cmp-IsAntisymmetric p.0 ps (first_so (below_all ref_cmp p.0 ps) _ h) in
+        absurd (cc)
+    behind q id false t at = ap (λ r. cond r (Some p.1) (finmap.find ref_cmp q ps)) t ∙ at
+
+pub open_in : (c : State) (ps : Pairs) (now : ℕ) → IsTied ps c now → AreOpen c ps
+open_in c ps now tied = all_open c ps tied.sorted tied.opened
+
+pub open_filter : (c : State) (P : Reference × ℕ → Bool) (ps : Pairs) → AreOpen c ps → AreOpen c (filter P ps)
+open_filter c P [] opened = tt
+open_filter c P (p ∷ ps) opened = by_test (P p) (open_filter c P ps opened.1)
+  where
+    by_test : (b : Bool) → AreOpen c (filter P ps) → AreOpen c (cond b (p ∷ filter P ps) (filter P ps))
+    by_test true rest = (opened.0, rest)
+    by_test false rest = rest
+
+open_append : (c : State) (xs ys : Pairs) → AreOpen c xs → AreOpen c ys → AreOpen c (xs ++ ys)
+open_append c [] ys first second = second
+open_append c (x ∷ xs) ys first second = (first.0, open_append c xs ys first.1 second)
+
+pub open_reverse : (c : State) (ps : Pairs) → AreOpen c ps → AreOpen c (reverse ps)
+open_reverse c [] opened = tt
+open_reverse c (p ∷ ps) opened = subst (AreOpen c) (sym (reverse-append (p ∷ []) ps)) (open_append c (reverse ps) (p ∷ []) (open_reverse c ps opened.1) (opened.0, tt))
+
+-- ---- the first key behind another
+
+first_row : (c : State) (P : Reference → Bool) (ps : Pairs) → find (λ e. P e.0) (rows c ps) ≡ option_map (λ p. (p.0, versions_at c p.1)) (find (λ p. P p.0) ps)
+first_row c P [] = refl
+first_row c P (p ∷ ps) = by_test (P p.0) (first_row c P ps)
+  where
+    by_test : (b : Bool) → find (λ e. P e.0) (rows c ps) ≡ option_map (λ p. (p.0, versions_at c p.1)) (find (λ p. P p.0) ps)
+        → cond b (Some (p.0, versions_at c p.1)) (find (λ e. P e.0) (rows c ps)) ≡ option_map (λ p. (p.0, versions_at c p.1)) (cond b (Some p) (find (λ p. P p.0) ps))
+    by_test true rest = refl
+    by_test false rest = rest
+
+first_key : (o : Option (Reference × ℕ)) (c : State) → option_map (λ (r : Reference × Row). r.0) (option_map (λ p. (p.0, versions_at c p.1)) o) ≡ option_map (λ (p : Reference × ℕ). p.0) o
+first_key None c = refl
+first_key (Some p) c = refl
+
+pub key_in : (B : Reference → Bool) (c : State) (ps : Pairs) → is_sorted ref_cmp ps ≡ true
+    → option_map (λ (r : Reference × Row). r.0) (nearest true (λ x. not (B x)) (versions_in c ps)) ≡ option_map (λ (p : Reference × ℕ). p.0) (find (λ p. not (B p.0)) ps)
+key_in B c ps h =
+    ap (λ es. option_map (λ (r : Reference × Row). r.0) (find (λ e. not (B e.0)) es)) (entries_in c ps h)
+    ∙ ap (option_map (λ (r : Reference × Row). r.0)) (first_row c (λ x. not (B x)) ps)
+    ∙ first_key (find (λ p. not (B p.0)) ps) c
+
+-- what a walk passes is sorted
+pub sorted_filter : (P : Reference → Bool) (ps : Pairs) → is_sorted ref_cmp ps ≡ true → is_sorted ref_cmp (filter (λ p. P p.0) ps) ≡ true
+sorted_filter P ps h = true_of _ (is_sorted-where_key ref_cmp P ps (passes _ h))

@@ -1,0 +1,36 @@
+-- How a tree of ids and chains hold the versions together.
+use Rattle.std.specs.Prelude.{◌≡◌, ℕ, suc, true, List, [], ◌∷◌, Option, Some, map, filter, length}
+use Rattle.std.specs.Ordering.{eq_by_cmp}
+use Rattle.std.specs.FinMap.{find, is_sorted, from_sorted}
+use Rattle.collation.specs.Reference.{Reference}
+use Rattle.collation.specs.Order.{ref_cmp}
+use Rattle.globals.specs.declared.cut.Cut.{Cut}
+use Rattle.globals.specs.Cuts.{stands_before}
+use Rattle.version_chain.specs.Versions.{IsAbove, IsFalling}
+use Rattle.version_chain.specs.Chains.{ChainsState, versions_at, IsOpen, open_count}
+use Rattle.version_store.specs.Versions.{Row, Versions, newest_among}
+
+-- each key with the versions under its id
+abbrev pub rows : ChainsState (List ℕ) → List (Reference × ℕ) → List (Reference × Row)
+rows chains = map (λ p. (p.0, versions_at chains p.1))
+
+abbrev pub versions_in : ChainsState (List ℕ) → List (Reference × ℕ) → Versions
+versions_in chains pairs = from_sorted (rows chains pairs)
+
+-- the newest stamp of the rows that stand before a cut
+abbrev pub newest_below : Cut → ChainsState (List ℕ) → List (Reference × ℕ) → Option ℕ
+newest_below high chains pairs = newest_among (filter (λ e. stands_before high e.0) (rows chains pairs))
+
+-- the id of each pair is open
+abbrev pub AreOpen : ChainsState (List ℕ) → List (Reference × ℕ) → Type 0
+AreOpen chains [] = Unit {0}
+AreOpen chains (p ∷ ps) = IsOpen chains p.1 × AreOpen chains ps
+
+-- the keys rise, each has an open chain, no chain is named twice, no other is open, no version is after now, and stamps fall
+pub record IsTied (pairs : List (Reference × ℕ)) (chains : ChainsState (List ℕ)) (now : ℕ) : Type 0 where
+  pub sorted : is_sorted ref_cmp pairs ≡ true
+  pub opened : (q : Reference) (id : ℕ) → find ref_cmp q pairs ≡ Some id → IsOpen chains id
+  pub apart : (q r : Reference) (id : ℕ) → find ref_cmp q pairs ≡ Some id → find ref_cmp r pairs ≡ Some id → eq_by_cmp ref_cmp q r ≡ true
+  pub settled : (q : Reference) (id : ℕ) → find ref_cmp q pairs ≡ Some id → IsAbove (suc now) (versions_at chains id)
+  pub falls : (q : Reference) (id : ℕ) → find ref_cmp q pairs ≡ Some id → IsFalling (versions_at chains id)
+  pub counted : open_count chains ≡ length pairs

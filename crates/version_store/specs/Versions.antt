@@ -1,0 +1,161 @@
+-- What a store is seen as: for each placed reference its versions, newest first.
+-- Read Versions, content_at, written and changed; specs/laws/Content.antt has their laws.
+use Rattle.std.specs.Prelude.{◌≡◌, ◌≤◌, ℕ, Bool, true, false, not, ◌&&◌, cond, max, List, [], ◌∷◌, Option, Some, None, filter, refl}
+use Rattle.std.specs.Coded.{Coded, code_by, coded×, coded_ℕ, coded_list, coded_option}
+use Rattle.std.specs.FinMap as finmap
+use Rattle.std.specs.FinMap.{FinMap, code}
+use Rattle.collation.specs.Reference.{Reference}
+use Rattle.collation.specs.Order.{ref_cmp}
+use Rattle.collation.specs.Database.{Database, reference_code}
+use Rattle.std.specs.Ordering.{is_lt}
+use Rattle.version_chain.specs.Versions.{Entry, newest_of, at_of, IsAbove}
+use Rattle.version_chain.specs.Chains.{listed}
+use Rattle.globals.specs.declared.cut.Cut.{Cut}
+use Rattle.globals.specs.Cuts.{stands_before}
+
+-- a version is a stamp and a value or its absence
+abbrev pub Row : Type 0
+Row = List (Entry (List ℕ))
+
+-- the placed references, each with its versions, newest first
+abbrev pub Versions : Type 0
+Versions = FinMap ref_cmp Row
+
+-- the newest stamp, the oldest stamp at which content is kept, for how many versions cells are reserved, and the reference
+-- that a collector visited last
+pub record Stored : Type 0 where
+  pub versions : Versions
+  pub present : ℕ
+  pub cut : ℕ
+  pub spare : ℕ
+  pub mark : Option Reference
+
+abbrev pub stored_code : Coded Stored
+stored_code =
+    code_by (Versions × (ℕ × (ℕ × (ℕ × Option Reference))))
+    (coded× (code reference_code (coded_list (coded× coded_ℕ (coded_option (coded_list coded_ℕ))))) (coded× coded_ℕ (coded× coded_ℕ (coded× coded_ℕ (coded_option reference_code)))))
+    (λ s. (s.versions, (s.present, (s.cut, (s.spare, s.mark))))) (λ p. record { versions = p.0; present = p.1.0; cut = p.1.1.0; spare = p.1.1.1.0; mark = p.1.1.1.1 }) (λ _. refl)
+
+module _ {K V : Type 0} where
+  -- the entry in front, where there is a value
+  abbrev pub with_value : K → Option V → List (K × V) → List (K × V)
+  with_value k None es = es
+  with_value k (Some v) es = (k, v) ∷ es
+
+  -- each key with the value of its newest version not after the stamp, where that is a value
+  abbrev pub seen_at : ℕ → List (K × List (Entry V)) → List (K × V)
+  seen_at s [] = []
+  seen_at s (e ∷ es) = with_value e.0 (at_of s e.1) (seen_at s es)
+
+-- the content at a stamp: for each reference the newest version not after it, where that is a value
+abbrev pub content_at : Versions → ℕ → Database
+content_at m s = finmap.from_sorted (seen_at s (finmap.entries m))
+
+-- the versions of a reference; none where it isn't placed
+abbrev pub versions_of : Versions → Reference → Row
+versions_of m r = listed (finmap.get m r)
+
+-- the first of a list
+abbrev pub first_of : {A : Type 0} → List A → Option A
+first_of [] = None
+first_of (x ∷ xs) = Some x
+
+-- x stands after r, or there is no r
+abbrev pub is_behind : Option Reference → Reference → Bool
+is_behind None x = true
+is_behind (Some r) x = is_lt (ref_cmp r x)
+
+-- the reference has an empty row, unless it has one already
+abbrev pub placed : Reference → Versions → Versions
+placed r m = cond (finmap.contains_key m r) m (finmap.insert m r [])
+
+abbrev pub all_placed : List Reference → Versions → Versions
+all_placed [] m = m
+all_placed (r ∷ rs) m = all_placed rs (placed r m)
+
+-- ---- changes
+
+-- a reference, and its new value or absence
+abbrev pub Change : Type 0
+Change = Reference × Option (List ℕ)
+
+-- one more version, at the stamp
+abbrev pub with_version : ℕ → Change → Versions → Versions
+with_version stamp c m = finmap.insert m c.0 ((stamp, c.1) ∷ versions_of m c.0)
+
+-- one more version for each change
+abbrev pub written : ℕ → List Change → Versions → Versions
+written stamp [] m = m
+written stamp (c ∷ cs) m = written stamp cs (with_version stamp c m)
+
+-- the versions of a reference once a change is written, if there is one
+abbrev pub row_after : ℕ → Option (Option (List ℕ)) → Row → Row
+row_after stamp None vs = vs
+row_after stamp (Some x) vs = (stamp, x) ∷ vs
+
+abbrev pub set_to : Reference → Option (List ℕ) → Database → Database
+set_to r None d = finmap.remove d r
+set_to r (Some v) d = finmap.insert d r v
+
+-- the database with the changes done
+abbrev pub changed : List Change → Database → Database
+changed [] d = d
+changed (c ∷ cs) d = changed cs (set_to c.0 c.1 d)
+
+-- each change is of a placed reference
+abbrev pub ArePlaced : Versions → List Change → Type 0
+ArePlaced m [] = Unit {0}
+ArePlaced m (c ∷ cs) = (finmap.contains_key m c.0 ≡ true) × ArePlaced m cs
+
+-- no two changes are of one reference
+abbrev pub AreApart : List Change → Type 0
+AreApart [] = Unit {0}
+AreApart (c ∷ cs) = (finmap.find ref_cmp c.0 cs ≡ None) × AreApart cs
+
+-- the stamp is above all versions of the references that the changes are of
+abbrev pub AreBelow : ℕ → Versions → List Change → Type 0
+AreBelow stamp m [] = Unit {0}
+AreBelow stamp m (c ∷ cs) = IsAbove stamp (versions_of m c.0) × AreBelow stamp m cs
+
+-- ---- the newest stamp in a range
+
+abbrev pub later : Option ℕ → Option ℕ → Option ℕ
+later None b = b
+later (Some a) None = Some a
+later (Some a) (Some b) = Some (max a b)
+
+abbrev pub newest_among : List (Reference × Row) → Option ℕ
+newest_among [] = None
+newest_among (e ∷ es) = later (newest_of e.1) (newest_among es)
+
+-- the newest stamp of any version of a reference between two cuts
+abbrev pub newest_between : Cut → Cut → Versions → Option ℕ
+newest_between low high m = newest_among (filter (λ e. not (stands_before low e.0) && stands_before high e.0) (finmap.entries m))
+
+-- the number is at most that, if there is one
+abbrev pub AtMost : ℕ → Option ℕ → Type 0
+AtMost n None = ⊥
+AtMost n (Some t) = n ≤ t
+
+-- a reference that passes whose newest version has this stamp
+pub record IsNewestOf (test : Reference → Bool) (m : Versions) (t : ℕ) : Type 0 where
+  pub reference : Reference
+  pub passes : test reference ≡ true
+  pub newest : newest_of (versions_of m reference) ≡ Some t
+
+-- the reference stands between two cuts
+abbrev pub stands_between : Cut → Cut → Reference → Bool
+stands_between low high x = not (stands_before low x) && stands_before high x
+
+-- no reference between the cuts has a newer version, and one has a version of this stamp
+pub record IsNewestIn (low high : Cut) (m : Versions) (newest : Option ℕ) : Type 0 where
+  pub most : (r : Reference) (n : ℕ) → stands_between low high r ≡ true → newest_of (versions_of m r) ≡ Some n → AtMost n newest
+  pub there : (t : ℕ) → newest ≡ Some t → IsNewestOf (stands_between low high) m t
+
+-- ---- for the collector
+
+-- the reference is placed and has no versions
+abbrev pub is_bare : Option Row → Bool
+is_bare None = false
+is_bare (Some []) = true
+is_bare (Some (v ∷ vs)) = false

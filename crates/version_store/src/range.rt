@@ -1,0 +1,53 @@
+//! The newest version of a range of references.
+ghost use Rattle.std.specs.Prelude.{◌≡◌, true};
+ghost use Rattle.std.specs.FinMap.{is_sorted};
+ghost use Rattle.collation.specs.Order.{ref_cmp};
+ghost use Rattle.version_store.specs.Versions.{newest_between, IsNewestIn, later as later_spec};
+ghost use Rattle.version_store.specs.Tied.{newest_below, AreOpen};
+
+use crate::point::CutPoint;
+use crate::store::Store;
+use btree::Walk;
+use collation::Text;
+use globals::{Cut, stands_before};
+use key_codec::Key;
+use version_chain::{ChainId, Chains};
+
+// The newer of two stamps, where there are any.
+fn later(a: Option<u64>, b: Option<u64>) -> Option<u64>
+    ensures { result ≡ later_spec a b }
+{
+    match (a, b) {
+        (None, b) => b,
+        (a, None) => a,
+        (Some(a), Some(b)) => Some(a.max(b)),
+    }
+}
+
+// The newest stamp of the references that are left and stand before a cut.
+fn newest_before(walk: Walk<'_, Key, ChainId>, high: Cut<'_>, chains: &Chains<Text>) -> Option<u64>
+    requires opened { AreOpen chains.now walk }
+    requires sorted { is_sorted ref_cmp walk ≡ true }
+    ensures { result ≡ newest_below high.entry chains.now walk.entry }
+{
+    let mut newest = None;
+    for (key, id) in walk {
+        if !stands_before(high, key) {
+            return newest;
+        }
+        newest = later(newest, chains.newest(*id));
+    }
+    newest
+}
+
+impl Store {
+    /// The newest stamp of any version of a reference that doesn't stand before `low` and stands before `high`; none where
+    /// no such reference has a version. Absences count. Takes no memory.
+    pub fn newest_in(&self, low: Cut<'_>, high: Cut<'_>) -> Option<u64>
+        ensures stamp { result ≡ newest_between low.entry high.entry self.now.versions }
+        ensures newest { IsNewestIn low.entry high.entry self.now.versions result }
+    {
+        let walk = self.tree.from(&CutPoint { cut: low });
+        newest_before(walk, high, &self.chains)
+    }
+}

@@ -1,0 +1,66 @@
+//! The members next to a cut in the content at a stamp, by walks over the tree.
+ghost use Rattle.std.specs.Prelude.{◌≡◌};
+ghost use Rattle.std.specs.Option.{option_map};
+ghost use Rattle.globals.specs.Cuts.{first_from, last_before};
+ghost use Rattle.version_store.specs.Versions.{content_at, seen_at, first_of};
+ghost use Rattle.version_store.specs.Tied.{rows, AreOpen};
+
+use crate::point::CutPoint;
+use crate::store::Store;
+use btree::{Walk, WalkBack};
+use collation::Text;
+use globals::Cut;
+use key_codec::Key;
+use version_chain::{ChainId, Chains};
+
+// The first of the references that are left whose chain has a value at the stamp, with the value.
+fn first_valued<'v>(
+    walk: Walk<'v, Key, ChainId>,
+    chains: &'v Chains<Text>,
+    stamp: u64,
+) -> Option<(&'v Key, &'v Text)>
+    requires { AreOpen chains.now walk }
+    ensures { option_map (λ e. (e.0.now, e.1.now)) result ≡ first_of (seen_at stamp (rows chains.now walk.entry)) }
+{
+    for (key, id) in walk {
+        if let Some(text) = chains.at(*id, stamp) {
+            return Some((key, text));
+        }
+    }
+    None
+}
+
+// The same, backwards.
+fn last_valued<'v>(
+    walk: WalkBack<'v, Key, ChainId>,
+    chains: &'v Chains<Text>,
+    stamp: u64,
+) -> Option<(&'v Key, &'v Text)>
+    requires { AreOpen chains.now walk }
+    ensures { option_map (λ e. (e.0.now, e.1.now)) result ≡ first_of (seen_at stamp (rows chains.now walk.entry)) }
+{
+    for (key, id) in walk {
+        if let Some(text) = chains.at(*id, stamp) {
+            return Some((key, text));
+        }
+    }
+    None
+}
+
+impl Store {
+    // The first reference that has a value at the stamp and doesn't stand before the cut, with the value.
+    pub(crate) fn next_at(&self, cut: Cut<'_>, stamp: u64) -> Option<(&Key, &Text)>
+        ensures { option_map (λ e. (e.0.now, e.1.now)) result ≡ first_from cut.entry (content_at self.now.versions stamp) }
+    {
+        let walk = self.tree.from(&CutPoint { cut });
+        first_valued(walk, &self.chains, stamp)
+    }
+
+    // The last reference that has a value at the stamp and stands before the cut, with the value.
+    pub(crate) fn prev_at(&self, cut: Cut<'_>, stamp: u64) -> Option<(&Key, &Text)>
+        ensures { option_map (λ e. (e.0.now, e.1.now)) result ≡ last_before cut.entry (content_at self.now.versions stamp) }
+    {
+        let walk = self.tree.back_from(&CutPoint { cut });
+        last_valued(walk, &self.chains, stamp)
+    }
+}

@@ -1,0 +1,122 @@
+//! The store: what it holds, its stamps, and its content at a stamp.
+ghost use Rattle.std.specs.Prelude.{◌≡◌, ℕ, ◌<◌, ◌≤◌, suc, Some, None, IfOk, IfErr, OnOk, ◌⊎◌};
+ghost use Rattle.std.specs.Option.{option_copied};
+ghost use Rattle.std.specs.FinMap as finmap;
+ghost use Rattle.refusal.specs.declared.Refusal.{Refusal};
+ghost use Rattle.collation.specs.Reference.{Reference};
+ghost use Rattle.version_chain.specs.Versions.{IsAbove, IsFalling};
+ghost use Rattle.version_store.specs.Versions.{content_at, versions_of};
+ghost use Rattle.version_store.specs.Tied.{versions_in};
+
+use crate::snapshot::Snapshot;
+use btree::Tree;
+use collation::Text;
+use key_codec::Key;
+use refusal::Refusal;
+use std::alloc::Global;
+use std::marker::Model;
+use version_chain::{ChainId, Chains};
+
+/// Versions of a database, in a tree from keys to ids and chains by id.
+#[derive(Drop)]
+pub struct Store {
+    pub(crate) tree: Tree<Key, ChainId>,
+    pub(crate) chains: Chains<Text>,
+    pub(crate) present: u64,
+    pub(crate) cut: u64,
+    pub(crate) mark: Option<Key>,
+}
+
+impl Model for Store {
+    ghost use Rattle.std.specs.Prelude.{◌≤◌};
+    ghost use Rattle.version_store.specs.Versions.{Stored, stored_code};
+    ghost use Rattle.version_store.specs.Tied.{versions_in, IsTied};
+
+    ghost Value = { Stored };
+
+    ghost coded = { stored_code };
+
+    ghost view = { λ s. record { versions = versions_in s.chains s.tree.pairs; present = s.present; cut = s.cut; spare = s.chains.spare; mark = s.mark } };
+
+    ghost invariant = { λ s. IsTied s.tree.pairs s.chains s.present × (s.cut ≤ s.present) };
+}
+
+impl Store {
+    /// A store without references, at stamp 0. Takes no memory.
+    pub fn new(alloc: Global) -> Store
+        ensures { result ≡ record { versions = finmap.empty; present = 0; cut = 0; spare = 0; mark = None } }
+    {
+        Store {
+            tree: Tree::new(alloc),
+            chains: Chains::new(alloc),
+            present: 0,
+            cut: 0,
+            mark: None,
+        }
+    }
+
+    /// The newest stamp. No version is after it, and the stamps of each reference's versions fall.
+    pub fn now(&self) -> u64
+        ensures present { result ≡ self.now.present }
+        ensures settled { (r : Reference) → IsAbove (suc self.now.present) (versions_of self.now.versions r) }
+        ensures falls { (r : Reference) → IsFalling (versions_of self.now.versions r) }
+        ensures cut { self.now.cut ≤ self.now.present }
+    {
+        self.present
+    }
+
+    /// The oldest stamp at which content is kept.
+    pub fn cut(&self) -> u64
+        ensures { result ≡ self.now.cut }
+    {
+        self.cut
+    }
+
+    /// For how many versions cells are reserved.
+    pub fn spare(&self) -> usize
+        ensures { result ≡ self.now.spare }
+    {
+        self.chains.spare()
+    }
+
+    /// Whether the reference has a chain.
+    pub fn is_placed(&self, key: &Key) -> bool
+        ensures { result ≡ finmap.contains_key self.now.versions key.now }
+    {
+        self.tree.get(key).0.is_some()
+    }
+
+    /// What the versions are read from: the tree of the placed references, and the chains under its ids.
+    pub fn tree_and_chains(&self) -> (&Tree<Key, ChainId>, &Chains<Text>)
+        ensures { self.now.versions ≡ versions_in result.1.now result.0.now.pairs }
+    {
+        (&self.tree, &self.chains)
+    }
+
+    // Its value at a stamp.
+    pub(crate) fn get_at(&self, key: &Key, stamp: u64) -> Option<&Text>
+        ensures { option_copied result ≡ finmap.get (content_at self.now.versions stamp) key.now }
+    {
+        match self.tree.get(key).0 {
+            Some(id) => self.chains.at(*id, stamp),
+            None => None,
+        }
+    }
+
+    /// The content at a stamp. Takes no memory.
+    ///
+    /// Refusals: `Gone` where it is below the cut, `Ahead` where it is after now.
+    pub fn view_at(&self, stamp: u64) -> Result<Snapshot<'_>, Refusal>
+        ensures view { IfOk result (λ view. view ≡ content_at self.now.versions stamp) }
+        ensures kept { OnOk result ((self.now.cut ≤ stamp) × (stamp ≤ self.now.present)) }
+        ensures refused { IfErr result (λ refusal. ((refusal ≡ Refusal.Gone) × (stamp < self.now.cut)) ⊎ ((refusal ≡ Refusal.Ahead) × (self.now.present < stamp))) }
+    {
+        if stamp < self.cut {
+            Err(Refusal::Gone)
+        } else if stamp > self.present {
+            Err(Refusal::Ahead)
+        } else {
+            Ok(Snapshot { store: self, stamp })
+        }
+    }
+}

@@ -1,0 +1,71 @@
+//! Changes: one version for each, at one stamp.
+ghost use Rattle.std.specs.Prelude.{◌≡◌, ℕ, ◌+◌, ◌-◌, ◌<◌, ◌≤◌, vec_len, true};
+ghost use Rattle.std.specs.FinMap as finmap;
+ghost use Rattle.collation.specs.Order.{ref_cmp};
+ghost use Rattle.collation.specs.Reference.{Reference};
+ghost use Rattle.version_chain.specs.Versions.{IsAbove};
+ghost use Rattle.version_store.specs.Versions.{content_at, versions_of, row_after, with_version, written, changed, ArePlaced, AreApart, AreBelow};
+
+use crate::store::Store;
+use collation::Text;
+use key_codec::Key;
+
+impl Store {
+    // Adds the newest version of a reference.
+    fn push_one(&mut self, stamp: u64, key: &Key, value: Option<Text>)
+        requires placed { finmap.contains_key self.old.versions key.now ≡ true }
+        requires newest { IsAbove stamp (versions_of self.old.versions key.now) }
+        requires stamp { stamp ≤ self.old.present }
+        requires reserved { 0 < self.old.spare }
+        ensures versions { self.new.versions ≡ with_version stamp (key.now, value) self.old.versions }
+        ensures present { self.new.present ≡ self.old.present }
+        ensures cut { self.new.cut ≡ self.old.cut }
+        ensures mark { self.new.mark ≡ self.old.mark }
+        ensures spare { self.old.spare ≤ self.new.spare + 1 }
+    {
+        match self.tree.get(key).0 {
+            Some(id) => self.chains.push_reserved(*id, stamp, value),
+            None => unreachable!(),
+        }
+    }
+
+    // Adds a version for each change.
+    fn push_all(&mut self, stamp: u64, changes: Vec<(Key, Option<Text>)>)
+        requires placed { ArePlaced self.old.versions changes.items }
+        requires apart { AreApart changes.items }
+        requires newest { AreBelow stamp self.old.versions changes.items }
+        requires stamp { stamp ≤ self.old.present }
+        requires reserved { vec_len changes ≤ self.old.spare }
+        ensures versions { self.new.versions ≡ written stamp changes.items self.old.versions }
+        ensures present { self.new.present ≡ self.old.present }
+        ensures cut { self.new.cut ≡ self.old.cut }
+        ensures mark { self.new.mark ≡ self.old.mark }
+        ensures spare { self.old.spare ≤ self.new.spare + vec_len changes }
+    {
+        for (key, value) in changes {
+            self.push_one(stamp, &key, value);
+            drop(key);
+        }
+    }
+
+    /// Does the changes: one version for each, at one stamp, which is now from here on. The content at the stamp is that at
+    /// the old now with the changes done; at each stamp before it is as it was. With no changes only now moves. Takes no
+    /// memory.
+    pub fn write_reserved(&mut self, stamp: u64, changes: Vec<(Key, Option<Text>)>)
+        requires stamp { self.old.present < stamp }
+        requires placed { ArePlaced self.old.versions changes.items }
+        requires apart { AreApart changes.items }
+        requires reserved { vec_len changes ≤ self.old.spare }
+        ensures content { content_at self.new.versions stamp ≡ changed changes.items (content_at self.old.versions self.old.present) }
+        ensures before { (s : ℕ) → s < stamp → content_at self.new.versions s ≡ content_at self.old.versions s }
+        ensures rows { (r : Reference) → versions_of self.new.versions r ≡ row_after stamp (finmap.find ref_cmp r changes.items) (versions_of self.old.versions r) }
+        ensures versions { self.new.versions ≡ written stamp changes.items self.old.versions }
+        ensures present { self.new.present ≡ stamp }
+        ensures cut { self.new.cut ≡ self.old.cut }
+        ensures mark { self.new.mark ≡ self.old.mark }
+        ensures spare { self.old.spare ≤ self.new.spare + vec_len changes }
+    {
+        self.present = stamp;
+        self.push_all(stamp, changes);
+    }
+}
