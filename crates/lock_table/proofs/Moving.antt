@@ -1,0 +1,223 @@
+-- Counts are raised or lowered, name by name.
+use Rattle.std.proofs.Common.{zero, suc, ◌≡◌, ◌<◌, ◌≤◌, ℕ, List, [], ◌∷◌, length, drop, Bool, true, false, refl, sym, ap, subst, ◌∙◌, ◌⊎◌, inl, inr, arith}
+use Rattle.std.specs.Prelude.{cond, ◌||◌, max, min, Some, unwrap_or}
+use Rattle.std.specs.List.{All, list_any}
+use Rattle.std.specs.Ordering.{is_eq, eq_by_cmp}
+use Rattle.std.specs.Cmp.{tied_itself}
+use Rattle.std.specs.Map.{lookup}
+use Rattle.std.specs.BTreeMap.{is_at}
+use Rattle.std.specs.FinMap as finmap
+use Rattle.std.proofs.Math.Seq.{drop-cons}
+use Rattle.std.proofs.Math.ListN.{get_or}
+use Rattle.collation.specs.Reference.{Resource}
+use Rattle.collation.specs.Locks.{resource_cmp, Counts, count_of}
+use Rattle.collation.specs.CountingLaws.{resource_cmp_total, resource_cmp-IsAntisymmetric, same_resource}
+use Rattle.lock_trie.specs.laws.Conflicts.{left_first, entry_counted, AreThere, all_there}
+use Rattle.lock_table.specs.Counted.{AreCounts, AreRaised, AreLowered, is_named}
+
+abbrev pub is_key : Resource → Resource × ℕ → Bool
+is_key x e = eq_by_cmp resource_cmp x e.0
+
+-- what is counted stands among the entries
+pub key_among : (es : List (Resource × ℕ)) (m : Counts) → finmap.from_entries es ≡ m → All (λ e. lookup (is_at (resource_cmp e.0)) es ≡ Some e.1) es → (x : Resource) → 0 < count_of m x → list_any (is_key x) es ≡ true
+key_among es m was all x h =
+    let counted = entry_counted m x h in
+    let left = left_first resource_cmp_total resource_cmp-IsAntisymmetric (is_key x) es m was all in
+    left.passing x counted.0 counted.1 (ap is_eq (tied_itself resource_cmp_total x))
+
+abbrev pub RaisedOne : (Resource → ℕ) → (Resource → ℕ) → Resource → ℕ → Type 0
+RaisedOne now next n v = (x : Resource) → next x ≡ cond (eq_by_cmp resource_cmp x n) (max (now n) v) (now x)
+
+abbrev pub LoweredOne : (Resource → ℕ) → (Resource → ℕ) → Resource → ℕ → Type 0
+LoweredOne now next n v = (x : Resource) → next x ≡ cond (eq_by_cmp resource_cmp x n) (min (now n) v) (now x)
+
+-- ---- up
+
+pub raised_first : (old others : Resource → ℕ) → AreRaised old old others
+raised_first old others = record { above = λ x. omega arith; most = λ x. omega arith }
+
+pub raised_next : (old now next others : Resource → ℕ) (n : Resource) (v : ℕ) → v ≡ others n → RaisedOne now next n v → AreRaised old now others → AreRaised old next others
+raised_next old now next others n v is one raised = record {
+  above = λ x. by_above x (eq_by_cmp resource_cmp x n) refl;
+  most = λ x. by_most x (eq_by_cmp resource_cmp x n) refl;
+}
+  where
+    to : (x : Resource) (b : Bool) → eq_by_cmp resource_cmp x n ≡ b → next x ≡ cond b (max (now n) v) (now x)
+    to x b t = one x ∙ ap (λ z. cond z (max (now n) v) (now x)) t
+
+    by_above : (x : Resource) (b : Bool) → eq_by_cmp resource_cmp x n ≡ b → old x ≤ next x
+    by_above x true t =
+        let next_is = to x true t in
+        let same : now n ≡ now x = ap now (sym (same_resource x n t)) in
+        let was = raised.above x in omega arith
+    by_above x false t = let next_is = to x false t in let was = raised.above x in omega arith
+
+    by_most : (x : Resource) (b : Bool) → eq_by_cmp resource_cmp x n ≡ b → next x ≤ max (old x) (others x)
+    by_most x true t =
+        let next_is = to x true t in
+        let same : now n ≡ now x = ap now (sym (same_resource x n t)) in
+        let also : others n ≡ others x = ap others (sym (same_resource x n t)) in
+        let was = raised.most x in omega arith
+    by_most x false t = let next_is = to x false t in let was = raised.most x in omega arith
+
+reached_next : (now next others : Resource → ℕ) (n : Resource) (v : ℕ) → v ≡ others n → RaisedOne now next n v → (x : Resource) (later : Bool) → (others x ≤ now x) ⊎ ((eq_by_cmp resource_cmp x n || later) ≡ true) → (others x ≤ next x) ⊎ (later ≡ true)
+reached_next now next others n v is one x later was = by_test (eq_by_cmp resource_cmp x n) refl was
+  where
+    to : (b : Bool) → eq_by_cmp resource_cmp x n ≡ b → next x ≡ cond b (max (now n) v) (now x)
+    to b t = one x ∙ ap (λ z. cond z (max (now n) v) (now x)) t
+
+    by_test : (b : Bool) → eq_by_cmp resource_cmp x n ≡ b → (others x ≤ now x) ⊎ ((b || later) ≡ true) → (others x ≤ next x) ⊎ (later ≡ true)
+    by_test true t was =
+        let next_is = to true t in
+        let also : others n ≡ others x = ap others (sym (same_resource x n t)) in
+        inl (omega arith)
+    by_test false t (inl high) = let next_is = to false t in inl (omega arith)
+    by_test false t (inr any) = inr any
+
+pub raised_along : (old now next others : Resource → ℕ) → ((x : Resource) → next x ≡ now x) → AreRaised old now others → AreRaised old next others
+raised_along old now next others same raised = record {
+  above = λ x. let e = same x in let was = raised.above x in omega arith;
+  most = λ x. let e = same x in let was = raised.most x in omega arith;
+}
+
+-- ---- down
+
+pub lowered_first : (old target : Resource → ℕ) → AreLowered old old target
+lowered_first old target = record { below = λ x. omega arith; least = λ x. omega arith }
+
+pub lowered_next : (old now next target : Resource → ℕ) (n : Resource) (v : ℕ) → v ≡ target n → LoweredOne now next n v → AreLowered old now target → AreLowered old next target
+lowered_next old now next target n v is one lowered = record {
+  below = λ x. by_below x (eq_by_cmp resource_cmp x n) refl;
+  least = λ x. by_least x (eq_by_cmp resource_cmp x n) refl;
+}
+  where
+    to : (x : Resource) (b : Bool) → eq_by_cmp resource_cmp x n ≡ b → next x ≡ cond b (min (now n) v) (now x)
+    to x b t = one x ∙ ap (λ z. cond z (min (now n) v) (now x)) t
+
+    by_below : (x : Resource) (b : Bool) → eq_by_cmp resource_cmp x n ≡ b → next x ≤ old x
+    by_below x true t =
+        let next_is = to x true t in
+        let same : now n ≡ now x = ap now (sym (same_resource x n t)) in
+        let was = lowered.below x in omega arith
+    by_below x false t = let next_is = to x false t in let was = lowered.below x in omega arith
+
+    by_least : (x : Resource) (b : Bool) → eq_by_cmp resource_cmp x n ≡ b → min (old x) (target x) ≤ next x
+    by_least x true t =
+        let next_is = to x true t in
+        let same : now n ≡ now x = ap now (sym (same_resource x n t)) in
+        let also : target n ≡ target x = ap target (sym (same_resource x n t)) in
+        let was = lowered.least x in omega arith
+    by_least x false t = let next_is = to x false t in let was = lowered.least x in omega arith
+
+low_next : (now next target : Resource → ℕ) (n : Resource) (v : ℕ) → v ≡ target n → LoweredOne now next n v → (x : Resource) (later : Bool) → (now x ≤ target x) ⊎ ((eq_by_cmp resource_cmp x n || later) ≡ true) → (next x ≤ target x) ⊎ (later ≡ true)
+low_next now next target n v is one x later was = by_test (eq_by_cmp resource_cmp x n) refl was
+  where
+    to : (b : Bool) → eq_by_cmp resource_cmp x n ≡ b → next x ≡ cond b (min (now n) v) (now x)
+    to b t = one x ∙ ap (λ z. cond z (min (now n) v) (now x)) t
+
+    by_test : (b : Bool) → eq_by_cmp resource_cmp x n ≡ b → (now x ≤ target x) ⊎ ((b || later) ≡ true) → (next x ≤ target x) ⊎ (later ≡ true)
+    by_test true t was =
+        let next_is = to true t in
+        let also : target n ≡ target x = ap target (sym (same_resource x n t)) in
+        inl (omega arith)
+    by_test false t (inl low) = let next_is = to false t in inl (omega arith)
+    by_test false t (inr any) = inr any
+
+-- ---- over a list of names
+
+front : (ns : List Resource) (i : ℕ) (n : Resource) → i < length ns → n ≡ get_or ns i n → drop i ns ≡ n ∷ drop (suc i) ns
+front ns i n h is = drop-cons ns i n h ∙ ap (λ z. z ∷ drop (suc i) ns) (sym is)
+
+nothing_left : (ns : List Resource) (i : ℕ) → length ns ≤ i → drop i ns ≡ []
+nothing_left [] zero h = refl
+nothing_left [] (suc i) h = refl
+nothing_left (n ∷ ns) zero h = absurd (omega arith)
+nothing_left (n ∷ ns) (suc i) h = nothing_left ns i (omega arith)
+
+abbrev pub HighLeft : (Resource → ℕ) → (Resource → ℕ) → List Resource → ℕ → Type 0
+HighLeft now others ns i = (x : Resource) → is_named x ns ≡ true → (others x ≤ now x) ⊎ (is_named x (drop i ns) ≡ true)
+
+pub high_next : (now next others : Resource → ℕ) (ns : List Resource) (i k : ℕ) (n : Resource) (v : ℕ) → suc i ≡ k → i < length ns → n ≡ get_or ns i n → v ≡ others n → RaisedOne now next n v → HighLeft now others ns i → HighLeft next others ns k
+high_next now next others ns i k n v k_is h is v_is one left x named =
+    subst (λ j. (others x ≤ next x) ⊎ (is_named x (drop j ns) ≡ true)) k_is
+    (reached_next now next others n v v_is one x (is_named x (drop (suc i) ns)) (subst (λ z. (others x ≤ now x) ⊎ (is_named x z ≡ true)) (front ns i n h is) (left x named)))
+
+pub high_done : (now others : Resource → ℕ) (ns : List Resource) (i : ℕ) → length ns ≤ i → HighLeft now others ns i → (x : Resource) → is_named x ns ≡ true → others x ≤ now x
+high_done now others ns i h left x named = elim (left x named) [
+  | inl high ↦ high
+  | inr any ↦ let none : false ≡ true = sym (ap (is_named x) (nothing_left ns i h)) ∙ any in absurd (cc)
+]
+
+abbrev pub LowLeft : (Resource → ℕ) → (Resource → ℕ) → List Resource → ℕ → Type 0
+LowLeft now target ns i = (x : Resource) → is_named x ns ≡ true → (now x ≤ target x) ⊎ (is_named x (drop i ns) ≡ true)
+
+pub low_names_next : (now next target : Resource → ℕ) (ns : List Resource) (i k : ℕ) (n : Resource) (v : ℕ) → suc i ≡ k → i < length ns → n ≡ get_or ns i n → v ≡ target n → LoweredOne now next n v → LowLeft now target ns i → LowLeft next target ns k
+low_names_next now next target ns i k n v k_is h is v_is one left x named =
+    subst (λ j. (next x ≤ target x) ⊎ (is_named x (drop j ns) ≡ true)) k_is
+    (low_next now next target n v v_is one x (is_named x (drop (suc i) ns)) (subst (λ z. (now x ≤ target x) ⊎ (is_named x z ≡ true)) (front ns i n h is) (left x named)))
+
+pub low_names_done : (now target : Resource → ℕ) (ns : List Resource) (i : ℕ) → length ns ≤ i → LowLeft now target ns i → (x : Resource) → is_named x ns ≡ true → now x ≤ target x
+low_names_done now target ns i h left x named = elim (left x named) [
+  | inl low ↦ low
+  | inr any ↦ let none : false ≡ true = sym (ap (is_named x) (nothing_left ns i h)) ∙ any in absurd (cc)
+]
+
+-- ---- over the entries of counts
+
+pub record Rising (old now : Resource → ℕ) (others : Counts) (rest : List (Resource × ℕ)) : Type 0 where
+  pub raised : AreRaised old now (count_of others)
+  pub there : AreThere others rest
+  pub reaching : (x : Resource) → (count_of others x ≤ now x) ⊎ (list_any (is_key x) rest ≡ true)
+
+pub rising_first : (es : List (Resource × ℕ)) (old : Resource → ℕ) (others : Counts) → finmap.from_entries es ≡ others → All (λ e. lookup (is_at (resource_cmp e.0)) es ≡ Some e.1) es → Rising old old others es
+rising_first es old others was all = record {
+  raised = raised_first old (count_of others);
+  there = all_there resource_cmp_total es es others was all;
+  reaching = λ x. by_count x (count_of others x) refl;
+}
+  where
+    by_count : (x : Resource) (n : ℕ) → count_of others x ≡ n → (count_of others x ≤ old x) ⊎ (list_any (is_key x) es ≡ true)
+    by_count x zero e = inl (omega arith)
+    by_count x (suc n) e = inr (key_among es others was all x (omega arith))
+
+pub rising_next : (old now next : Resource → ℕ) (others : Counts) (e : Resource × ℕ) (fs rest : List (Resource × ℕ)) → rest ≡ e ∷ fs → RaisedOne now next e.0 e.1 → Rising old now others rest → Rising old next others fs
+rising_next old now next others e fs rest is one rising =
+    let here : Rising old now others (e ∷ fs) = subst (Rising old now others) is rising in
+    let v_is : e.1 ≡ count_of others e.0 = sym (ap (λ z. unwrap_or z 0) here.there.0) in
+    record {
+      raised = raised_next old now next (count_of others) e.0 e.1 v_is one here.raised;
+      there = here.there.1;
+      reaching = λ x. reached_next now next (count_of others) e.0 e.1 v_is one x (list_any (is_key x) fs) (here.reaching x);
+    }
+
+pub risen : (old now : Resource → ℕ) (others : Counts) (rest : List (Resource × ℕ)) → rest ≡ [] → Rising old now others rest → (x : Resource) → count_of others x ≤ now x
+risen old now others rest is rising x = elim (rising.reaching x) [
+  | inl high ↦ high
+  | inr any ↦ let none : false ≡ true = ap (list_any (is_key x)) (sym is) ∙ any in absurd (cc)
+]
+
+pub risen_small : (others : Counts) (e : Resource × ℕ) (fs rest : List (Resource × ℕ)) → rest ≡ e ∷ fs → AreCounts others → AreThere others rest → e.1 ≤ 65535
+risen_small others e fs rest is are there =
+    let here : AreThere others (e ∷ fs) = subst (AreThere others) is there in
+    let count : count_of others e.0 ≡ e.1 = ap (λ z. unwrap_or z 0) here.0 in
+    let h : count_of others e.0 ≤ 65535 = are.small e.0 in
+    omega arith
+
+pub record Sinking (old now target : Resource → ℕ) (over : Counts) (rest : List (Resource × ℕ)) : Type 0 where
+  pub lowered : AreLowered old now target
+  pub reaching : (x : Resource) → 0 < count_of over x → (now x ≤ target x) ⊎ (list_any (is_key x) rest ≡ true)
+
+pub sinking_first : (es : List (Resource × ℕ)) (old target : Resource → ℕ) (over : Counts) → finmap.from_entries es ≡ over → All (λ e. lookup (is_at (resource_cmp e.0)) es ≡ Some e.1) es → Sinking old old target over es
+sinking_first es old target over was all = record { lowered = lowered_first old target; reaching = λ x h. inr (key_among es over was all x h) }
+
+pub sinking_next : (old now next target : Resource → ℕ) (over : Counts) (e : Resource × ℕ) (fs rest : List (Resource × ℕ)) (v : ℕ) → rest ≡ e ∷ fs → v ≡ target e.0 → LoweredOne now next e.0 v → Sinking old now target over rest → Sinking old next target over fs
+sinking_next old now next target over e fs rest v is v_is one sinking = record {
+  lowered = lowered_next old now next target e.0 v v_is one sinking.lowered;
+  reaching = λ x h. low_next now next target e.0 v v_is one x (list_any (is_key x) fs) (subst (λ z. (now x ≤ target x) ⊎ (list_any (is_key x) z ≡ true)) is (sinking.reaching x h));
+}
+
+pub sunk : (old now target : Resource → ℕ) (over : Counts) (rest : List (Resource × ℕ)) → rest ≡ [] → Sinking old now target over rest → (x : Resource) → 0 < count_of over x → now x ≤ target x
+sunk old now target over rest is sinking x h = elim (sinking.reaching x h) [
+  | inl low ↦ low
+  | inr any ↦ let none : false ≡ true = ap (list_any (is_key x)) (sym is) ∙ any in absurd (cc)
+]

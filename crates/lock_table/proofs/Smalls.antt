@@ -1,0 +1,79 @@
+-- Counts as std's map keeps them.
+use Rattle.std.proofs.Common.{◌≡◌, ◌≤◌, ◌<◌, ℕ, List, Bool, true, false, refl, sym, ap, subst, ◌∙◌, arith}
+use Rattle.std.specs.Prelude.{cond, max, Option, Some, None, IsSome, unwrap_or, Result, Ok, Err, OnOk, OnErr}
+use Rattle.std.specs.Ordering.{eq_by_cmp}
+use Rattle.std.specs.Map.{lookup}
+use Rattle.std.specs.BTreeMap.{is_at}
+use Rattle.std.specs.FinMap as finmap
+use Rattle.collation.specs.Reference.{Resource}
+use Rattle.collation.specs.Locks.{resource_cmp, Counts, count_of}
+use Rattle.collation.specs.CountingLaws.{resource_cmp_total, resource_cmp-IsAntisymmetric, count_insert, count_remove, same_resource}
+use Rattle.collation.specs.ZeroLaws.{none_empty, none_insert, none_remove}
+use Rattle.lock_table.specs.Counted.{AreCounts}
+use Rattle.lock_table.proofs.Moving.{RaisedOne}
+use Rattle.lock_trie.specs.laws.Mapped.{seen, is_inserted, is_removed}
+
+by_test_small : (b : Bool) (v w : ℕ) → v ≤ 65535 → w ≤ 65535 → cond b v w ≤ 65535
+by_test_small true v w p q = p
+by_test_small false v w p q = q
+
+pub small_empty : AreCounts finmap.empty
+small_empty = record {
+  small = λ n. let e : count_of finmap.empty n ≡ 0 = ap (λ o. unwrap_or o 0) (finmap.get-empty resource_cmp n) in omega arith;
+  some = none_empty;
+}
+
+pub small_insert : (counts : Counts) (n : Resource) (v : ℕ) → v ≤ 65535 → 0 < v → AreCounts counts → AreCounts (finmap.insert counts n v)
+small_insert counts n v h some are = record {
+  small = λ x. rw (count_insert counts n v x) (by_test_small (eq_by_cmp resource_cmp x n) v (count_of counts x) h (are.small x));
+  some = none_insert counts n v some are.some;
+}
+
+pub small_remove : (counts : Counts) (n : Resource) → AreCounts counts → AreCounts (finmap.remove counts n)
+small_remove counts n are = record {
+  small = λ x. rw (count_remove counts n x) (by_test_small (eq_by_cmp resource_cmp x n) 0 (count_of counts x) (omega arith) (are.small x));
+  some = none_remove counts n are.some;
+}
+
+pub inserted : (es fs : List (Resource × ℕ)) (m : Counts) (k : Resource) (x : ℕ) → finmap.from_entries es ≡ m → ((q : Resource) → lookup (is_at (resource_cmp q)) fs ≡ cond (is_at (resource_cmp k) q) (Some x) (lookup (is_at (resource_cmp q)) es)) → finmap.from_entries fs ≡ finmap.insert m k x
+inserted = is_inserted resource_cmp_total resource_cmp-IsAntisymmetric
+
+pub removed : (es fs : List (Resource × ℕ)) (m : Counts) (k : Resource) → finmap.from_entries es ≡ m → ((q : Resource) → lookup (is_at (resource_cmp q)) fs ≡ cond (is_at (resource_cmp k) q) None (lookup (is_at (resource_cmp q)) es)) → finmap.from_entries fs ≡ finmap.remove m k
+removed = is_removed resource_cmp_total resource_cmp-IsAntisymmetric
+
+-- the count that the map answers
+pub counted : (es : List (Resource × ℕ)) (m : Counts) (q : Resource) (o : Option ℕ) → finmap.from_entries es ≡ m → o ≡ lookup (is_at (resource_cmp q)) es → unwrap_or o 0 ≡ count_of m q
+counted es m q o was is = ap (λ t. unwrap_or t 0) (is ∙ sym (seen resource_cmp_total es q) ∙ ap (λ n. finmap.get n q) was)
+
+pub small_along : (m n : Counts) → m ≡ n → AreCounts n → AreCounts m
+small_along m n e small = subst AreCounts (sym e) small
+
+pub counted_small : (es : List (Resource × ℕ)) (m : Counts) (q : Resource) (o : Option ℕ) → finmap.from_entries es ≡ m → o ≡ lookup (is_at (resource_cmp q)) es → AreCounts (finmap.from_entries es) → unwrap_or o 0 ≤ 65535
+counted_small es m q o was is small = let e = counted es m q o was is in let s : AreCounts m = small_along m _ (sym was) small in let h : count_of m q ≤ 65535 = s.small q in omega arith
+
+pub is_there : {V : Type 0} (p : Option V) (v : V) → Some v ≡ p → IsSome p
+is_there p v e = subst IsSome e refl
+
+pub not_had : (es : List (Resource × ℕ)) (m : Counts) (q : Resource) → finmap.from_entries es ≡ m → None ≡ lookup (is_at (resource_cmp q)) es → 0 < count_of m q → ⊥
+not_had es m q was is h = let e = counted es m q None was is in let z : 0 ≡ count_of m q = e in absurd (omega arith)
+
+pub raised_by : (old new : Counts) (n : Resource) (count v : ℕ) → count ≡ count_of old n → count < v → new ≡ finmap.insert old n v → RaisedOne (count_of old) (count_of new) n v
+raised_by old new n count v is less put x = ap (λ m. count_of m x) put ∙ count_insert old n v x ∙ ap (λ z. cond (eq_by_cmp resource_cmp x n) z (count_of old x)) higher
+  where
+    higher : v ≡ max (count_of old n) v
+    higher = omega arith
+
+pub raised_not : (old : Counts) (n : Resource) (count v : ℕ) → count ≡ count_of old n → v ≤ count → RaisedOne (count_of old) (count_of old) n v
+raised_not old n count v is less x = by_test (eq_by_cmp resource_cmp x n) refl
+  where
+    by_test : (b : Bool) → eq_by_cmp resource_cmp x n ≡ b → count_of old x ≡ cond b (max (count_of old n) v) (count_of old x)
+    by_test true e = let same : count_of old x ≡ count_of old n = ap (count_of old) (same_resource x n e) in omega arith
+    by_test false e = refl
+
+pub onward : {A E P Q : Type 0} (r : Result A E) → (P → Q) → OnOk r P → OnOk r Q
+onward (Ok a) f p = f p
+onward (Err e) f p = tt
+
+pub err_always : {A E P : Type 0} (r : Result A E) → P → OnErr r P
+err_always (Ok a) p = tt
+err_always (Err e) p = p

@@ -1,0 +1,12 @@
+use Rattle.std.proofs.Common.{◌≤◌, length}
+use Rattle.collation.specs.Locks.{count_of}
+use Rattle.lock_table.specs.Counted.{AreRaised}
+use Rattle.lock_table.proofs.Moving.{HighLeft}
+use Rattle.lock_table.proofs.counts.Counts.raise_names.Given as goal
+
+abbrev pub invariant-loop-name : goal.invariant-loop-name
+invariant-loop-name l = record {
+  in_range : l.name-index ≤ length l.names;
+  raised : AreRaised (count_of l.initial.self) (count_of l.self) (count_of l.others);
+  left : HighLeft (count_of l.self) (count_of l.others) l.names l.name-index;
+}

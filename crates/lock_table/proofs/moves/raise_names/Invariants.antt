@@ -1,0 +1,15 @@
+use Rattle.std.proofs.Common.{◌≤◌, length}
+use Rattle.collation.specs.Locks.{count_of}
+use Rattle.lock_trie.specs.Held.{held_count}
+use Rattle.lock_table.specs.Counted.{AreRaised}
+use Rattle.lock_table.specs.Rows.{AreOthersSame}
+use Rattle.lock_table.proofs.Moving.{HighLeft}
+use Rattle.lock_table.proofs.moves.raise_names.Given as goal
+
+abbrev pub invariant-loop-name : goal.invariant-loop-name
+invariant-loop-name l = record {
+  in_range : l.name-index ≤ length l.names;
+  others : AreOthersSame l.initial.trie l.trie l.job;
+  raised : AreRaised (held_count l.initial.trie l.job) (held_count l.trie l.job) (count_of l.target);
+  left : HighLeft (held_count l.trie l.job) (count_of l.target) l.names l.name-index;
+}

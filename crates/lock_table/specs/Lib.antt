@@ -1,0 +1,4 @@
+pub mod Codes
+pub mod Counted
+pub mod Rows
+pub mod Tables

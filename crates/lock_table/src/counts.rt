@@ -1,0 +1,249 @@
+//! Counts by lock name.
+ghost use Rattle.std.specs.Prelude.{true, ◌⊎◌, if◌then◌else◌, ◌≡◌, ◌≤◌, ◌<◌, ◌+◌, ◌-◌, max, ℕ, OnOk, OnErr, IfErr, IfOk};
+ghost use Rattle.std.specs.List.{list_any};
+ghost use Rattle.std.specs.FinMap as finmap;
+ghost use Rattle.collation.specs.Reference.{Resource};
+ghost use Rattle.std.specs.Ordering.{eq_by_cmp};
+ghost use Rattle.collation.specs.Locks.{resource_cmp, count_of, one_fewer, more_of, fewer_of};
+ghost use Rattle.lock_trie.specs.Held.{held_count};
+ghost use Rattle.lock_table.specs.Counted.{AreCounts, AreRaised, AreLowered, is_over, is_named};
+ghost use Rattle.lock_table.specs.Rows.{held_of, AreOthersSame};
+
+use crate::inside::{Inside, held};
+use crate::moves::lower;
+use collation::LockName;
+use lock_trie::LockTrie;
+use refusal::Refusal;
+use std::alloc::{AllocError, Global};
+use std::collections::BTreeMap;
+use std::marker::Model;
+
+/// The highest count of a name.
+pub const MOST: u32 = 65_535;
+
+/// How many times each lock name is had. A name that is had no time has no entry.
+#[derive(Drop)]
+pub struct Counts {
+    map: BTreeMap<LockName, u32>,
+    alloc: Global,
+}
+
+impl Model for Counts {
+    ghost use Rattle.std.specs.FinMap as finmap;
+    ghost use Rattle.lock_table.specs.Codes.{counts_code};
+    ghost use Rattle.lock_table.specs.Counted.{AreCounts};
+    ghost use Rattle.collation.specs.Locks as locks;
+
+    ghost Value = { locks.Counts };
+
+    ghost coded = { counts_code };
+
+    ghost view = { λ c. finmap.from_entries c.map.entries };
+
+    ghost invariant = { λ c. AreCounts (finmap.from_entries c.map.entries) };
+}
+
+impl Counts {
+    /// No name is had.
+    pub fn new(alloc: Global) -> Counts
+        ensures { result ≡ finmap.empty }
+    {
+        Counts {
+            map: BTreeMap::new(alloc),
+            alloc,
+        }
+    }
+
+    /// No name is had; memory comes from where these counts have theirs.
+    pub fn none(&self) -> Counts
+        ensures { result ≡ finmap.empty }
+    {
+        Counts::new(self.alloc)
+    }
+
+    /// No count is above the highest, and none that has an entry is 0.
+    pub fn look(&self)
+        ensures { AreCounts self.now }
+    {
+        let _ = &self.map;
+    }
+
+    /// How many times this name is had.
+    pub fn count(&self, name: &LockName) -> u32
+        ensures count { result ≡ count_of self.now name.now }
+        ensures small { result ≤ 65535 }
+    {
+        match self.map.get(name) {
+            Some(count) => *count,
+            None => 0,
+        }
+    }
+
+    /// The same counts once more.
+    pub fn copy(&self) -> Result<Counts, AllocError>
+        ensures { IfOk result (λ counts. counts ≡ self.now) }
+    {
+        let map = self.map.clone()?;
+        Ok(Counts {
+            map,
+            alloc: self.alloc,
+        })
+    }
+
+    /// This name is had n times. A refusal leaves the counts as they were.
+    fn put(&mut self, name: &LockName, n: u32) -> Result<(), AllocError>
+        requires small { n ≤ 65535 }
+        requires some { 0 < n }
+        ensures ok { OnOk result (self.new ≡ finmap.insert self.old name.now n) }
+        ensures err { OnErr result (self.new ≡ self.old) }
+    {
+        let key = name.clone()?;
+        match self.map.insert(key, n) {
+            Ok(_) => Ok(()),
+            Err(failed) => {
+                drop(failed);
+                Err(AllocError)
+            }
+        }
+    }
+
+    /// This name is had no time.
+    fn remove(&mut self, name: &LockName)
+        ensures { self.new ≡ finmap.remove self.old name.now }
+    {
+        self.map.remove(name);
+    }
+
+    /// This name, which is had, is had n times. Takes no memory.
+    fn change(&mut self, name: &LockName, n: u32)
+        requires small { n ≤ 65535 }
+        requires some { 0 < n }
+        requires had { 0 < count_of self.old name.now }
+        ensures { self.new ≡ finmap.insert self.old name.now n }
+    {
+        if let Some(count) = self.map.get_mut(name) {
+            *count = n;
+        }
+    }
+
+    /// This name, which is had count times, is had n times: only a name that wasn't had takes memory.
+    fn set(&mut self, name: &LockName, count: u32, n: u32) -> Result<(), AllocError>
+        requires small { n ≤ 65535 }
+        requires some { 0 < n }
+        requires is { count ≡ count_of self.old name.now }
+        ensures ok { OnOk result (self.new ≡ finmap.insert self.old name.now n) }
+        ensures err { OnErr result (self.new ≡ self.old) }
+    {
+        if count == 0 {
+            self.put(name, n)
+        } else {
+            self.change(name, n);
+            Ok(())
+        }
+    }
+
+    /// One more of this name.
+    fn add_one(&mut self, name: &LockName) -> Result<(), Refusal>
+        ensures ok { OnOk result (self.new ≡ finmap.insert self.old name.now (count_of self.old name.now + 1)) }
+        ensures err { OnErr result (self.new ≡ self.old) }
+        ensures full { IfErr result (λ refusal. (refusal ≡ Refusal.OutOfMemory) ⊎ ((refusal ≡ Refusal.LockCountFull) × (65535 ≤ count_of self.old name.now))) }
+    {
+        let count = self.count(name);
+        if count >= MOST {
+            return Err(Refusal::LockCountFull);
+        }
+        match self.set(name, count, count + 1) {
+            Ok(()) => Ok(()),
+            Err(_) => Err(Refusal::OutOfMemory),
+        }
+    }
+
+    /// One fewer of this name. Takes no memory.
+    fn take_one(&mut self, name: &LockName)
+        ensures { self.new ≡ one_fewer self.old name.now }
+    {
+        let count = self.count(name);
+        if count <= 1 {
+            self.remove(name);
+        } else {
+            self.change(name, count - 1);
+        }
+    }
+
+    /// One more of each name. Refusals: `LockCountFull` where that leaves a count above the highest;
+    /// `OutOfMemory`. After either the counts are as they were.
+    pub fn add_all(&mut self, names: &[LockName]) -> Result<(), Refusal>
+        ensures ok { OnOk result (self.new ≡ more_of names.now self.old) }
+        ensures err { OnErr result (self.new ≡ self.old) }
+        ensures full { IfErr result (λ refusal. (refusal ≡ Refusal.OutOfMemory) ⊎ ((refusal ≡ Refusal.LockCountFull) × (list_any (is_over names.now self.old) names.now ≡ true))) }
+    {
+        self.look();
+        for i in 0..names.len() {
+            match self.add_one(&names[i]) {
+                Ok(()) => {}
+                Err(refusal) => {
+                    self.look();
+                    self.take_all(&names[..i]);
+                    return Err(refusal);
+                }
+            }
+        }
+        Ok(())
+    }
+
+    /// One fewer of each name. Takes no memory.
+    pub fn take_all(&mut self, names: &[LockName])
+        ensures { self.new ≡ fewer_of names.now self.old }
+    {
+        for name in names {
+            self.take_one(name);
+        }
+    }
+
+    /// This name is had at least as many times as in the others.
+    fn raise(&mut self, name: &LockName, n: u32) -> Result<(), AllocError>
+        requires { n ≤ 65535 }
+        ensures ok { OnOk result ((x : Resource) → count_of self.new x ≡ (if eq_by_cmp resource_cmp x name.now then max (count_of self.old name.now) n else count_of self.old x)) }
+        ensures err { OnErr result (self.new ≡ self.old) }
+    {
+        let count = self.count(name);
+        if n > count {
+            self.set(name, count, n)
+        } else {
+            Ok(())
+        }
+    }
+
+    /// Of each of these names at least as many as in the others. Where memory is refused some may be raised.
+    pub fn raise_names(&mut self, names: &[LockName], others: &Counts) -> Result<(), AllocError>
+        ensures raised { AreRaised (count_of self.old) (count_of self.new) (count_of others.now) }
+        ensures ok { OnOk result ((x : Resource) → is_named x names.now ≡ true → count_of others.now x ≤ count_of self.new x) }
+    {
+        for name in names {
+            self.raise(name, others.count(name))?;
+        }
+        Ok(())
+    }
+
+    /// Of each name at least as many as in the others. Where memory is refused some may be raised.
+    pub fn raise_all(&mut self, others: &Counts) -> Result<(), AllocError>
+        ensures raised { AreRaised (count_of self.old) (count_of self.new) (count_of others.now) }
+        ensures ok { OnOk result ((x : Resource) → count_of others.now x ≤ count_of self.new x) }
+    {
+        for (name, count) in others.map.iter() {
+            self.raise(name, *count)?;
+        }
+        Ok(())
+    }
+
+    /// The job holds each name that is had here at most as many times as its counts say. Takes no memory.
+    pub fn lower_in(&self, trie: &mut LockTrie, job: u16, want: &Counts, inside: &Option<Inside>)
+        ensures others { AreOthersSame trie.old trie.new job }
+        ensures lowered { AreLowered (held_count trie.old job) (held_count trie.new job) (count_of (held_of want.now inside.now)) }
+        ensures reached { (x : Resource) → 0 < count_of self.now x → held_count trie.new job x ≤ count_of (held_of want.now inside.now) x }
+    {
+        for (name, _) in self.map.iter() {
+            lower(trie, job, name, held(want, inside, name));
+        }
+    }
+}

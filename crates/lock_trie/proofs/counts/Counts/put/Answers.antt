@@ -1,0 +1,19 @@
+use Rattle.std.proofs.Common.{sym, ap, ◌∙◌}
+use Rattle.std.specs.FinMap as finmap
+use Rattle.lock_trie.specs.laws.Smalls.{inserted, small_insert, small_along}
+use Rattle.lock_trie.proofs.counts.Counts.put.Goals as goal
+use Rattle.lock_trie.proofs.counts.Counts.put.Goals.{in-Ok, in-Err}
+
+pub invariant_of-self : goal.invariant_of-self
+invariant_of-self c = elim c.match-insert.branch [
+  | in-Ok w ↦
+      small_along _ _ (inserted c.self.inside.map.entries c.insert.new.self.entries c.args.self.now c.in_ok-key.key c.args.n c.self.view_is w.in-Ok.ensures.updates.0)
+      (small_insert c.args.self.now c.in_ok-key.key c.args.n c.requires (rw (← c.self.view_is) c.self.invariant))
+  | in-Err w ↦ small_along _ _ (ap finmap.from_entries w.in-Err.ensures.err) c.self.invariant
+]
+
+pub returns-clause-ok : goal.returns-clause-ok
+returns-clause-ok c = elim c.match-insert.branch [
+  | in-Ok w ↦ rw w.result-is (inserted c.self.inside.map.entries c.insert.new.self.entries c.args.self.now c.in_ok-key.key c.args.n c.self.view_is w.in-Ok.ensures.updates.0 ∙ ap (λ k. finmap.insert c.args.self.now k c.args.n) (sym c.in_ok-key.ensures.cases))
+  | in-Err w ↦ rw w.result-is tt
+]
