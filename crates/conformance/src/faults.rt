@@ -1,78 +1,267 @@
-//! A reader or a writer that fails at each call in turn, and input in pieces.
-use crate::rows::output_of;
+//! A reader or a writer that fails at each call in turn, input in pieces, and what is written when.
+use crate::scripts::output_of;
 use crate::streams::{Pieces, Taken};
 use listing::Counted;
-use script_run::{Fault, Outcome, run_script};
+use refusal::Refusal;
+use script_run::{Fault, NoLog, Outcome, RefusalLog, run_script, run_with};
 use std::alloc::Global;
 use std::test::Fail;
 
 const SCRIPT: &[u8] =
     b"1 SET ^A(1)=1\n2 SET ^A(2)=\"two\"\n1 $ORDER(^A(\"\"),-1)\n1 FOO\n\n2 KILL ^A(1)\n1 $DATA(^A)";
 
-// How a script of pieces of this size went, and what was written.
-fn run_pieces(
-    alloc: Global,
-    size: usize,
-    read_fails_at: u64,
-    write_fails_at: u64,
-) -> Result<(Result<Outcome, Fault>, Vec<u8>), Fail> {
-    let mut reader = Counted::new(Pieces {
-        text: SCRIPT,
+// How a script went, what was written, and how many reads and writes there were.
+#[derive(Drop)]
+struct Went {
+    outcome: Result<Outcome, Fault>,
+    text: Vec<u8>,
+    reads: u64,
+    writes: u64,
+    read_failures: u64,
+    write_failures: u64,
+}
+
+// What fails: a read or a write by its number, or a write that takes nothing (0: none).
+#[derive(Clone, Copy)]
+struct Failing {
+    read: u64,
+    write: u64,
+    nothing_at: u64,
+}
+
+const NONE: Failing = Failing {
+    read: 0,
+    write: 0,
+    nothing_at: 0,
+};
+
+fn reader_of(script: &[u8], size: usize, failing: Failing) -> Counted<Pieces<'_>> {
+    Counted::new(Pieces {
+        text: script,
         size,
-        fails_at: read_fails_at,
+        fails_at: failing.read,
         calls: 0,
-    });
-    let mut writer = Counted::new(Taken {
+    })
+}
+
+fn writer_of(alloc: Global, size: usize, failing: Failing) -> Counted<Taken> {
+    Counted::new(Taken {
         text: Vec::new(alloc),
         size,
-        fails_at: write_fails_at,
+        fails_at: failing.write,
+        nothing_at: failing.nothing_at,
         calls: 0,
-    });
+        largest: 0,
+    })
+}
+
+fn run_pieces(alloc: Global, size: usize, failing: Failing) -> Result<Went, Fail> {
+    let mut reader = reader_of(SCRIPT, size, failing);
+    let mut writer = writer_of(alloc, size, failing);
     let outcome = run_script(alloc, &mut reader, &mut writer);
     let text = Vec::from_slice(alloc, &writer.inner().text)?;
-    Ok((outcome, text))
+    Ok(Went {
+        outcome,
+        text,
+        reads: reader.inner().calls,
+        writes: writer.inner().calls,
+        read_failures: reader.failures(),
+        write_failures: writer.failures(),
+    })
+}
+
+fn is_whole(alloc: Global, size: usize, whole: &[u8]) -> Result<bool, Fail> {
+    let went = run_pieces(alloc, size, NONE)?;
+    Ok(went.outcome == Ok(Outcome { refused: true }) && went.text.as_slice() == whole)
+}
+
+// A read that fails is the last call of the reader, is counted once, and leaves just the replies of lines that ended.
+fn ends_at_read(alloc: Global, size: usize, call: u64, whole: &[u8]) -> Result<bool, Fail> {
+    let failing = Failing { read: call, ..NONE };
+    let went = run_pieces(alloc, size, failing)?;
+    Ok(
+        went.outcome == Err(Fault::Read)
+            && went.reads == call
+            && went.read_failures == 1
+            && went.write_failures == 0
+            && whole.starts_with(&went.text)
+            && went.text.len() + 3 <= whole.len(),
+    )
+}
+
+fn ends_at_write(alloc: Global, size: usize, call: u64, whole: &[u8]) -> Result<bool, Fail> {
+    let failing = Failing {
+        write: call,
+        ..NONE
+    };
+    let went = run_pieces(alloc, size, failing)?;
+    Ok(
+        went.outcome == Err(Fault::Write)
+            && went.writes == call
+            && went.write_failures == 1
+            && went.read_failures == 0
+            && whole.starts_with(&went.text),
+    )
+}
+
+fn ends_at_nothing(alloc: Global, size: usize, call: u64, whole: &[u8]) -> Result<bool, Fail> {
+    let failing = Failing {
+        nothing_at: call,
+        ..NONE
+    };
+    let went = run_pieces(alloc, size, failing)?;
+    Ok(
+        went.outcome == Err(Fault::Write)
+            && went.writes == call
+            && went.write_failures == 1
+            && whole.starts_with(&went.text),
+    )
+}
+
+// How many reads and writes there are where none fails.
+fn calls_of(alloc: Global, size: usize) -> Result<(u64, u64), Fail> {
+    let went = run_pieces(alloc, size, NONE)?;
+    Ok((went.reads, went.writes))
 }
 
 #[test]
 fn pieces_of_any_size_give_the_same_text(rt: HostRuntime) -> Result<(), Fail> {
     let (whole, _) = output_of(rt.alloc(), SCRIPT)?;
     for size in [1, 7, 4096] {
-        let (outcome, text) = run_pieces(rt.alloc(), size, 0, 0)?;
-        assert_eq!(rt; outcome, Ok(Outcome { refused: true }));
-        assert_eq!(rt; text.as_slice(), whole.as_slice(), "in pieces of {size}");
+        let same = is_whole(rt.alloc(), size, &whole)?;
+        assert!(rt; same, "in pieces of {size}");
     }
     Ok(())
 }
 
 #[test]
-fn a_failing_read_ends_the_run_without_a_listing(rt: HostRuntime) -> Result<(), Fail> {
+fn each_failing_read_ends_the_run_there(rt: HostRuntime) -> Result<(), Fail> {
     let (whole, _) = output_of(rt.alloc(), SCRIPT)?;
     for size in [1, 7, 4096] {
-        for call in 1..=(SCRIPT.len() / size + 2) as u64 {
-            let (outcome, text) = run_pieces(rt.alloc(), size, call, 0)?;
-            if outcome.is_ok() {
-                break;
-            }
-            assert_eq!(rt; outcome, Err(Fault::Read), "at read {call} of {size}");
-            assert!(rt; whole.starts_with(&text), "at read {call} of {size}");
-            assert!(rt; text.len() + 3 <= whole.len(), "at read {call} of {size}");
+        let (reads, _) = calls_of(rt.alloc(), size)?;
+        assert!(rt; reads > 1, "in pieces of {size}");
+        for call in 1..=reads {
+            let ends = ends_at_read(rt.alloc(), size, call, &whole)?;
+            assert!(rt; ends, "at read {call} of {size}");
         }
     }
     Ok(())
 }
 
 #[test]
-fn a_failing_write_leaves_a_beginning(rt: HostRuntime) -> Result<(), Fail> {
+fn each_failing_write_leaves_a_beginning(rt: HostRuntime) -> Result<(), Fail> {
     let (whole, _) = output_of(rt.alloc(), SCRIPT)?;
     for size in [1, 7, 4096] {
-        for call in 1..=(whole.len() / size + 20) as u64 {
-            let (outcome, text) = run_pieces(rt.alloc(), size, 0, call)?;
-            if outcome.is_ok() {
-                break;
-            }
-            assert_eq!(rt; outcome, Err(Fault::Write), "at write {call} of {size}");
-            assert!(rt; whole.starts_with(&text), "at write {call} of {size}");
+        let (_, writes) = calls_of(rt.alloc(), size)?;
+        assert!(rt; writes > 0, "in pieces of {size}");
+        for call in 1..=writes {
+            let ends = ends_at_write(rt.alloc(), size, call, &whole)?;
+            assert!(rt; ends, "at write {call} of {size}");
         }
     }
+    Ok(())
+}
+
+#[test]
+fn each_write_that_takes_nothing_is_a_fault(rt: HostRuntime) -> Result<(), Fail> {
+    let (whole, _) = output_of(rt.alloc(), SCRIPT)?;
+    for size in [1, 7, 4096] {
+        let (_, writes) = calls_of(rt.alloc(), size)?;
+        for call in 1..=writes {
+            let ends = ends_at_nothing(rt.alloc(), size, call, &whole)?;
+            assert!(rt; ends, "at write {call} of {size}");
+        }
+    }
+    Ok(())
+}
+
+// One value of 32,767 bytes, and 60 times its text in one read: the most that is written at once.
+fn largest_write(alloc: Global) -> Result<usize, Fail> {
+    let mut script = Vec::from_slice(alloc, b"1 SET ^A=\"")?;
+    for _ in 0..32767 {
+        script.push(b'x')?;
+    }
+    script.extend_from_slice(b"\"\n")?;
+    for _ in 0..60 {
+        script.extend_from_slice(b"1 $GET(^A)\n")?;
+    }
+    let mut reader = reader_of(&script, script.len(), NONE);
+    let mut writer = writer_of(alloc, usize::MAX, NONE);
+    let outcome = run_script(alloc, &mut reader, &mut writer);
+    Ok(if outcome.is_ok() {
+        writer.inner().largest
+    } else {
+        0
+    })
+}
+
+#[test]
+fn replies_are_written_before_the_buffer_grows(rt: HostRuntime) -> Result<(), Fail> {
+    let largest = largest_write(rt.alloc())?;
+    assert!(rt; largest > 16384, "a write of {largest}");
+    assert!(rt; largest < 16384 + 32800, "a write of {largest}");
+    Ok(())
+}
+
+// What was told of refused lines.
+#[derive(Drop)]
+struct Told {
+    lines: u64,
+    refusals: u64,
+}
+
+impl RefusalLog for Told {
+    fn refused(&mut self, line: u64, refusal: Refusal) {
+        self.lines = line;
+        if refusal == Refusal::BadLine {
+            self.refusals = self.refusals.saturating_add(1);
+        }
+    }
+}
+
+// The text of a run without a listing, the last line that was told of, and how many were.
+fn unlisted(alloc: Global) -> Result<(Vec<u8>, u64, u64), Fail> {
+    let mut reader = reader_of(b"1 SET ^A=1\n\n1 FOO\r\n2 $GET(^A)", 7, NONE);
+    let mut writer = writer_of(alloc, 7, NONE);
+    let mut told = Told {
+        lines: 0,
+        refusals: 0,
+    };
+    let outcome = run_with(alloc, false, &mut reader, &mut writer, &mut told);
+    let text = if outcome == Ok(Outcome { refused: true }) {
+        Vec::from_slice(alloc, &writer.inner().text)?
+    } else {
+        Vec::new(alloc)
+    };
+    Ok((text, told.lines, told.refusals))
+}
+
+#[test]
+fn run_without_listing_prints_replies_alone(rt: HostRuntime) -> Result<(), Fail> {
+    let (text, line, refusals) = unlisted(rt.alloc())?;
+    assert_eq!(rt;
+        text.as_slice(),
+        b"1 ok\n1 error 1 BadLine\n2 1\n".as_slice()
+    );
+    assert_eq!(rt; (line, refusals), (3, 1));
+    Ok(())
+}
+
+// What a run prints with a log that keeps nothing.
+fn listed(alloc: Global) -> Result<Vec<u8>, Fail> {
+    let mut reader = reader_of(b"1 SET ^A=1", 7, NONE);
+    let mut writer = writer_of(alloc, 7, NONE);
+    let outcome = run_with(alloc, true, &mut reader, &mut writer, &mut NoLog);
+    Ok(if outcome == Ok(Outcome { refused: false }) {
+        Vec::from_slice(alloc, &writer.inner().text)?
+    } else {
+        Vec::new(alloc)
+    })
+}
+
+#[test]
+fn run_with_listing_is_the_script_s_run(rt: HostRuntime) -> Result<(), Fail> {
+    let text = listed(rt.alloc())?;
+    assert_eq!(rt; text.as_slice(), b"1 ok\n--\n^A=1\n".as_slice());
     Ok(())
 }

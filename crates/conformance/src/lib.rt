@@ -1,18 +1,24 @@
-//! Tests that cross crates: scripts as text in and text out, each read and write failing in turn, and worked
-//! lists of steps. What happens where memory is refused is the crate `refused_memory`.
+//! Tests of scripts, lines and steps. Tests of the texts below them stand in `text_tests`; what happens where memory is
+//! refused is the program `refused_memory`; the scripts of `examples/` are run by the program `example_runs`.
 //!
-//! Expected texts come from docs/RULES.md and docs/FORMATS.md, never from the program.
+//! Expected values come from docs/RULES.md and docs/FORMATS.md, never from the program. Commands are made from lines.
 #![tactic(auto)]
 
 #[cfg(test)]
-mod examples;
+mod answers;
+#[cfg(test)]
+mod commands;
 #[cfg(test)]
 mod faults;
 #[cfg(test)]
-mod machine;
+mod lines;
 #[cfg(test)]
-mod rows;
+mod scripts;
+#[cfg(test)]
+mod steps;
 #[cfg(test)]
 mod streams;
 #[cfg(test)]
 mod views;
+#[cfg(test)]
+mod words;

@@ -26,13 +26,16 @@ impl Read for Pieces<'_> {
     }
 }
 
-// A text that is written in pieces, and a call that fails (0: none).
+// A text that is written in pieces, a call that fails and one that takes nothing (0: none), and the most bytes that
+// were offered at once.
 #[derive(Drop)]
 pub struct Taken {
     pub text: Vec<u8>,
     pub size: usize,
     pub fails_at: u64,
+    pub nothing_at: u64,
     pub calls: u64,
+    pub largest: usize,
 }
 
 impl Write for Taken {
@@ -41,6 +44,10 @@ impl Write for Taken {
         if self.calls == self.fails_at {
             return Err(io::Error::from(ErrorKind::Other));
         }
+        if self.calls == self.nothing_at {
+            return Ok(0);
+        }
+        self.largest = self.largest.max(buf.len());
         let n = min(self.size, buf.len());
         self.text.extend_from_slice(&buf[..n])?;
         Ok(n)

@@ -4,7 +4,7 @@ use script_run::run_script;
 use std::alloc::Global;
 use std::test::Fail;
 
-// What a script writes, and whether a reply was refused.
+/// What a script writes, and whether a reply was refused.
 pub fn output_of(alloc: Global, input: &[u8]) -> Result<(Vec<u8>, bool), Fail> {
     let mut reader = Counted::new(input);
     let mut writer = Counted::new(Vec::new(alloc));
@@ -73,9 +73,6 @@ fn refused_lines_keep_their_place(rt: HostRuntime) -> Result<(), Fail> {
             "x SET ^A=1\n1 FOO\n5000 SET ^A=1\n1 SET ^1A=1\n1 SET ^A(\"\")=1\n",
             "0 error 1 BadLine\n1 error 1 BadLine\n0 error 12 BadJob\n1 error 2 BadName\n1 error 3 EmptySubscript\n--\n",
         ),
-        ("1 SET ^A(\"x", "1 error 1 BadLine\n--\n"),
-        ("1\n", "1 error 1 BadLine\n--\n"),
-        (" \n", "0 error 1 BadLine\n--\n"),
         ("\r\n\n", "--\n"),
         (
             "1 SET ^A=1\r\n1 $GET(^A)\r",
@@ -138,29 +135,5 @@ fn a_copy_too_deep_sets_nothing(rt: HostRuntime) -> Result<(), Fail> {
     let (text, _) = output_of(alloc, &input)?;
     let want = b"1 ok\n1 error 5 TooManySubscripts\n--\n^B(1)=1\n";
     assert_eq!(rt; text.as_slice(), want.as_slice());
-    Ok(())
-}
-
-#[test]
-fn query_backward_from_an_open_place_has_three_cases(rt: HostRuntime) -> Result<(), Fail> {
-    let rows = [
-        (
-            "1 SET ^A(4)=1\n1 SET ^A(5)=1\n1 SET ^A(5,2)=1\n1 $QUERY(^A(5,\"\"),-1)\n",
-            "1 ^A(5,2)\n--\n",
-        ),
-        (
-            "1 SET ^A(4)=1\n1 SET ^A(5)=1\n1 $QUERY(^A(5,\"\"),-1)\n",
-            "1 ^A(5)\n--\n",
-        ),
-        ("1 SET ^A(4)=1\n1 $QUERY(^A(5,\"\"),-1)\n", "1 ^A(4)\n--\n"),
-    ];
-    for (input, found) in rows {
-        let (text, _) = output_of(rt.alloc(), input.as_bytes())?;
-        assert!(rt;
-            text.windows(found.len())
-                .any(|part| part == found.as_bytes()),
-            "for {input}"
-        );
-    }
     Ok(())
 }

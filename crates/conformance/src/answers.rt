@@ -1,0 +1,47 @@
+//! Lines that are done one by one on a core, for the other tests.
+use job_core::JobCore;
+use refusal::Refusal;
+use script::{Drafts, read_line, write_reply};
+use std::alloc::Global;
+
+/// Does the line and puts its reply, as text, behind what stands in `out`.
+pub fn answer(
+    alloc: Global,
+    core: &mut JobCore,
+    line: &[u8],
+    out: &mut Vec<u8>,
+) -> Result<(), Refusal> {
+    let mut drafts = Drafts::new(alloc);
+    match read_line(alloc, line, &mut drafts) {
+        Ok((job, command)) => {
+            let reply = core.step(job, command);
+            let written = write_reply(Some(job), &reply, out);
+            drop(reply);
+            written?;
+            Ok(())
+        }
+        Err(fault) => Err(fault.refusal),
+    }
+}
+
+/// Whether the line's reply is this text, without the byte 10 at its end.
+pub fn answers(
+    alloc: Global,
+    core: &mut JobCore,
+    line: &[u8],
+    want: &[u8],
+) -> Result<bool, Refusal> {
+    let mut out = Vec::new(alloc);
+    answer(alloc, core, line, &mut out)?;
+    Ok(out.strip_suffix(b"\n".as_slice()) == Some(want))
+}
+
+/// A core that has done these lines.
+pub fn core_of(alloc: Global, lines: &[&str]) -> Result<JobCore, Refusal> {
+    let mut core = JobCore::new(alloc);
+    let mut replies = Vec::new(alloc);
+    for line in lines {
+        answer(alloc, &mut core, line.as_bytes(), &mut replies)?;
+    }
+    Ok(core)
+}

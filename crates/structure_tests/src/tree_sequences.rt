@@ -1,0 +1,219 @@
+//! The B-tree at numbers. Expected answers are those of std's `BTreeMap` at the same steps, and numbers by hand.
+ghost use Rattle.std.specs.Prelude.{nat_lt};
+ghost use Rattle.structure_tests.specs.Numbers.{below_below};
+
+use btree::{Point, Tree};
+use std::alloc::{AllocError, Global};
+use std::collections::BTreeMap;
+
+// The point before a number.
+#[derive(Drop)]
+struct Before(u64);
+
+impl Point<u64> for Before {
+    ghost before = { λ p k. nat_lt k p.0 };
+
+    fn is_after(&self, key: &u64) -> bool {
+        *key < self.0
+    }
+
+    ghost downward = { λ p x y h e. below_below x y p.0 h e };
+}
+
+// Which key a step is about: rising, falling, or in no order with many keys twice.
+#[derive(Clone, Copy)]
+enum Order {
+    Rising,
+    Falling,
+    Mixed,
+}
+
+fn key_of(order: Order, step: u64) -> u64 {
+    match order {
+        Order::Rising => step,
+        Order::Falling => 10_000_u64.saturating_sub(step),
+        Order::Mixed => (step % 10_000) * 7_919 % 2_003,
+    }
+}
+
+// Does one step on both maps: every third one removes the key of an earlier step. Whether they answer alike.
+fn is_step_alike(
+    alloc: Global,
+    order: Order,
+    tree: &mut Tree<u64, u64>,
+    map: &mut BTreeMap<u64, u64>,
+    step: u64,
+) -> Result<bool, AllocError> {
+    if step % 3 == 2 {
+        let key = key_of(order, step / 2);
+        return Ok(tree.remove(&key) == map.remove(&key));
+    }
+    let key = key_of(order, step);
+    let before = tree.insert(alloc, key, step)?;
+    Ok(before == map.insert(key, step)?)
+}
+
+fn are_steps_alike(
+    alloc: Global,
+    order: Order,
+    tree: &mut Tree<u64, u64>,
+    map: &mut BTreeMap<u64, u64>,
+) -> Result<bool, AllocError> {
+    for step in 0..10_000 {
+        if !is_step_alike(alloc, order, tree, map, step)? {
+            return Ok(false);
+        }
+    }
+    Ok(true)
+}
+
+// Whether both maps have the same pairs in the same order.
+fn are_pairs_alike(tree: &Tree<u64, u64>, map: &BTreeMap<u64, u64>) -> bool {
+    if tree.len() != map.len() {
+        return false;
+    }
+    for ((key, value), (map_key, map_value)) in tree.iter().zip(map.iter()) {
+        if *key != *map_key || *value != *map_value {
+            return false;
+        }
+    }
+    true
+}
+
+fn is_alike(alloc: Global, order: Order) -> Result<bool, AllocError> {
+    let mut tree = Tree::new(alloc);
+    let mut map = BTreeMap::new(alloc);
+    let alike = are_steps_alike(alloc, order, &mut tree, &mut map)?;
+    Ok(alike && are_pairs_alike(&tree, &map))
+}
+
+// The multiples of three below 3,000, inserted in no order.
+fn threes(alloc: Global) -> Result<Tree<u64, u64>, AllocError> {
+    let mut tree = Tree::new(alloc);
+    for step in 0_u64..1_000 {
+        let number = step * 7 % 1_000 * 3;
+        tree.insert(alloc, number, step)?;
+    }
+    Ok(tree)
+}
+
+fn number_of(found: (Option<(&u64, &u64)>, usize)) -> Option<u64> {
+    match found.0 {
+        None => None,
+        Some((number, _)) => Some(*number),
+    }
+}
+
+// Whether a walk on from a number, and one back from it, pass the multiples of three and end.
+fn are_walks_whole(tree: &Tree<u64, u64>, from: u64, above: u64, count: usize) -> bool {
+    let mut want = above;
+    let mut passed: usize = 0;
+    for (number, _) in tree.from(&Before(from)) {
+        if *number != want {
+            return false;
+        }
+        want = want.saturating_add(3);
+        passed = passed.saturating_add(1);
+    }
+    want = above;
+    for (number, _) in tree.back_from(&Before(from)) {
+        want = want.saturating_sub(3);
+        if *number != want {
+            return false;
+        }
+        passed = passed.saturating_add(1);
+    }
+    passed == count
+}
+
+fn depth_of(alloc: Global, keys: u64) -> Result<usize, AllocError> {
+    let mut tree = Tree::new(alloc);
+    for step in 0..keys {
+        tree.insert(alloc, step, step)?;
+    }
+    Ok(tree.depth())
+}
+
+// Inserts a number. Where memory is refused, whether all is as before; then once more.
+fn is_refusal_whole(
+    alloc: Global,
+    tree: &mut Tree<u64, u64>,
+    number: u64,
+) -> Result<bool, AllocError> {
+    let len = tree.len();
+    let depth = tree.depth();
+    let Err(refused) = tree.insert(alloc, number, number) else {
+        return Ok(true);
+    };
+    let same = tree.len() == len && tree.depth() == depth && tree.get(&number).0.is_none();
+    let (key, value) = refused.value;
+    tree.insert(alloc, key, value)?;
+    Ok(same && key == number && value == number)
+}
+
+fn are_refusals_whole(alloc: Global) -> Result<bool, AllocError> {
+    let mut tree = Tree::new(alloc);
+    for number in 0..700 {
+        if !is_refusal_whole(alloc, &mut tree, number)? {
+            return Ok(false);
+        }
+    }
+    Ok(tree.len() == 700 && tree.depth() == 3)
+}
+
+#[cfg(test)]
+mod tests {
+    use super::{
+        Before, Order, are_refusals_whole, are_walks_whole, depth_of, is_alike, number_of, threes,
+    };
+    use std::alloc::AllocError;
+
+    #[test]
+    fn tree_of_rising_keys_answers_as_std_map(rt: HostRuntime) -> Result<(), AllocError> {
+        assert!(rt; is_alike(rt.alloc(), Order::Rising)?);
+        Ok(())
+    }
+
+    #[test]
+    fn tree_of_falling_keys_answers_as_std_map(rt: HostRuntime) -> Result<(), AllocError> {
+        assert!(rt; is_alike(rt.alloc(), Order::Falling)?);
+        Ok(())
+    }
+
+    #[test]
+    fn tree_of_mixed_keys_answers_as_std_map(rt: HostRuntime) -> Result<(), AllocError> {
+        assert!(rt; is_alike(rt.alloc(), Order::Mixed)?);
+        Ok(())
+    }
+
+    #[test]
+    fn seeks_answer_the_nearest_pairs(rt: HostRuntime) -> Result<(), AllocError> {
+        let tree = threes(rt.alloc())?;
+        assert_eq!(rt; number_of(tree.first_from(&Before(1_000))), Some(1_002));
+        assert_eq!(rt; number_of(tree.last_before(&Before(1_002))), Some(999));
+        assert_eq!(rt; number_of(tree.first_from(&Before(2_998))), None);
+        assert_eq!(rt; number_of(tree.last_before(&Before(0))), None);
+        Ok(())
+    }
+
+    #[test]
+    fn walks_from_a_point_pass_all_pairs(rt: HostRuntime) -> Result<(), AllocError> {
+        let tree = threes(rt.alloc())?;
+        assert!(rt; are_walks_whole(&tree, 1_000, 1_002, 1_000));
+        assert!(rt; are_walks_whole(&tree, 0, 0, 1_000));
+        assert!(rt; are_walks_whole(&tree, 3_000, 3_000, 1_000));
+        Ok(())
+    }
+
+    #[test]
+    fn tree_of_100000_keys_has_at_most_4_levels(rt: HostRuntime) -> Result<(), AllocError> {
+        assert!(rt; depth_of(rt.alloc(), 100_000)? <= 4);
+        Ok(())
+    }
+
+    #[test]
+    fn refused_insert_leaves_content_and_depth(rt: HostRuntime) -> Result<(), AllocError> {
+        assert!(rt; are_refusals_whole(rt.alloc())?);
+        Ok(())
+    }
+}

@@ -1,0 +1,19 @@
+//! Tests of the language and its texts: refusals, canonic numbers, the order, literals and references as text, key
+//! bytes. Tests of scripts and steps stand in `conformance`.
+//!
+//! Expected values come from docs/RULES.md and docs/FORMATS.md, never from the program. A test owns at most one or two
+//! values, and a table's row is one call (docs/PROVING.md).
+#![tactic(auto)]
+
+#[cfg(test)]
+mod keys;
+#[cfg(test)]
+mod literals;
+#[cfg(test)]
+mod numbers;
+#[cfg(test)]
+mod order;
+#[cfg(test)]
+mod references;
+#[cfg(test)]
+mod refusals;
