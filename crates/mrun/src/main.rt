@@ -8,20 +8,17 @@
 //! 0, all replies are accepted; 1, a reply is an `error`; 2, a fault, or wrong words, told on standard error.
 #![tactic(auto)]
 
-mod file;
-
 use clap::error::ErrorKind;
-use file::open_file;
 use listing::Counted;
 use mrun_args::{Args, args_of};
 use refusal::Refusal;
 use script_run::{Fault, Outcome, RefusalLog, run_with, status_of};
 use std::alloc::AllocError;
 use std::env::FillError;
-use std::io;
 use std::io::Read;
 use std::process::ExitCode;
-use std::rt::Env;
+use std::rt::{Env, Files};
+use std::{fs, io};
 
 // Tells refused lines on standard error, where that is asked for. What can't be printed there is left out.
 struct ErrorLog<'a, P> {
@@ -79,15 +76,17 @@ fn told(rt: &impl Eprint, fault: Fault) -> u8 {
 }
 
 // Prints that a file can't be opened, and why, and answers the exit status.
-fn told_of_file(rt: &(impl Eprint + AllocGlobal), name: &[u8], why: io::Error) -> u8 {
+fn told_of_file(rt: &impl Eprint, name: &str, why: io::Error) -> u8 {
     let fault = Fault::Read;
-    match String::from_utf8_lossy(rt.alloc(), name) {
-        Ok(name) => {
-            let _ = eprintln!(rt; "mrun: {fault}: {name}: {why}");
-            status_of(&Err(fault))
-        }
-        Err(_) => told(rt, fault),
-    }
+    let _ = eprintln!(rt; "mrun: {fault}: {name}: {why}");
+    status_of(&Err(fault))
+}
+
+// Prints that a file's name isn't UTF-8, which std's paths are, and answers the exit status.
+fn told_of_name(rt: &impl Eprint) -> u8 {
+    let fault = Fault::Read;
+    let _ = eprintln!(rt; "mrun: {fault}: the name of the file isn't UTF-8");
+    status_of(&Err(fault))
 }
 
 // Prints help, the version or what is wrong with the words, and answers the exit status.
@@ -115,7 +114,7 @@ fn run_from<R: Read + Drop>(rt: &(impl Print + Eprint + AllocGlobal), args: Args
     status_of(&outcome)
 }
 
-fn run_words(rt: &(impl Print + Eprint + Input + AllocGlobal), words: &[Vec<u8>]) -> u8 {
+fn run_words(rt: &(impl Files + Print + Eprint + Input + AllocGlobal), words: &[Vec<u8>]) -> u8 {
     let args = match args_of(rt.alloc(), words) {
         Ok(args) => args,
         Err(error) => return told_of_words(rt, error),
@@ -123,9 +122,12 @@ fn run_words(rt: &(impl Print + Eprint + Input + AllocGlobal), words: &[Vec<u8>]
     let Some(name) = args.file.and_then(|place| words.get(place)) else {
         return run_from(rt, args, rt.reader());
     };
-    match open_file(name) {
+    let Ok(path) = std::str::from_utf8(name) else {
+        return told_of_name(rt);
+    };
+    match fs::open(rt, path) {
         Ok(file) => run_from(rt, args, file),
-        Err(why) => told_of_file(rt, name, why),
+        Err(why) => told_of_file(rt, path, why),
     }
 }
 

@@ -1,7 +1,7 @@
 //! The command line of `mrun`: what its words ask for.
 //!
-//! Words are bytes, since a file may have any name. The parser reads a word that isn't UTF-8 with each bad sequence
-//! replaced; the file is told by its place among the words, so that its own bytes are kept.
+//! Words are bytes, since a word may be of any bytes. The parser reads one that isn't UTF-8 with each bad sequence
+//! replaced; the file is told by its place among the words, so that its own bytes are kept and no other file is opened.
 //!
 //! No contract says what the words ask for: tests run the parser on them.
 #![tactic(auto)]
