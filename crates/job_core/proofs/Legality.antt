@@ -18,7 +18,7 @@ use Rattle.command.specs.declared.request.Command.TheVariants.{Access}
 use Rattle.command.specs.declared.request.Reply.TheVariants.{Answered, Refused}
 use Rattle.refusal.specs.declared.Refusal.TheVariants.{StampsUsedUp, OutOfMemory}
 use Rattle.job_core.specs.Causes.{IsCause}
-use Rattle.job_core.specs.Machine.{reply_of, reply_with_room, reply_to_data, reply_on, refused_or}
+use Rattle.serial.specs.Machine.{reply_of, reply_with_room, reply_to_data, reply_on, refused_or}
 use Rattle.journal.specs.Story.{transaction_of, told_answer}
 use Rattle.journal.specs.History.{initial, after}
 use Rattle.journal.specs.laws.History.{after-append, IsLegal-append}
@@ -26,7 +26,7 @@ use Rattle.journal.specs.Story.{Machine, told, story_of}
 use Rattle.journal.specs.laws.Story.{story_of-append}
 use Rattle.job_core.specs.declared.machine.Step.{Step}
 use Rattle.job_core.specs.Steps.{command_of, commands_of}
-use Rattle.job_core.specs.Machine.{IsReply, AreReplies}
+use Rattle.serial.specs.Machine.{IsReply, AreReplies}
 use Rattle.job_core.specs.Agrees.{Agrees}
 
 pub lone_agrees : (us : List JournalUnit) (m : Database) (job : ℕ) (command : DataCommand) (answer : Answer) → Agrees us m → length us < 2 ^ 64 - 1 → data_refusal command m ≡ None → answer ≡ data_reply command m → Agrees (us ++ Lone job command answer ∷ []) (data_after command m)

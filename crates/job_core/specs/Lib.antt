@@ -1,4 +1,3 @@
-pub mod Machine
 pub mod Agrees
 pub mod Steps
 pub mod Causes

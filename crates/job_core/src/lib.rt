@@ -4,7 +4,7 @@
 //! transactions, of which there are none yet. What callers learn of it:
 //!
 //! (1) the machine is the story of the steps and their replies (`story_of` of the journal's `specs/`);
-//! (2) each reply is the machine's at its place (`reply_of` of `specs/Machine.antt`), or that memory was wanting;
+//! (2) each reply is the machine's at its place (`reply_of` of `specs/Machine.antt` of `serial`), or that memory was wanting;
 //! (3) the journal is legal: each reply in it is the one map's at its place (`IsLegal`);
 //! (4) the content is the map that the journal leaves (`after`).
 //!
@@ -13,7 +13,7 @@
 //! looks at the command's rule, writes its unit and makes all room, and then changes the store by calls that take no
 //! memory; so a refusal has changed nothing.
 //!
-//! Read `specs/Machine.antt`, `specs/Agrees.antt`, then `machine.rt`, `commands.rt`, `looks.rt`, `store.rt`.
+//! Read `specs/Machine.antt` of `serial`, `specs/Agrees.antt`, then `machine.rt`, `commands.rt`, `looks.rt`, `store.rt`.
 #![tactic(auto)]
 
 pub use commands::lone;

@@ -5,7 +5,7 @@ ghost use Rattle.command.specs.declared.request.Command.TheVariants.{Access};
 ghost use Rattle.journal.specs.History.{initial, after, IsLegal};
 ghost use Rattle.journal.specs.Story.{nothing_done, told, story_of};
 ghost use Rattle.job_core.specs.Causes.{early_refusal};
-ghost use Rattle.job_core.specs.Machine.{IsReply, AreReplies};
+ghost use Rattle.serial.specs.Machine.{IsReply, AreReplies};
 
 use crate::commands::lone;
 use crate::store::Store;

@@ -12,7 +12,7 @@ use Rattle.command.specs.declared.request.Reply.{Reply}
 use Rattle.command.specs.declared.request.Reply.TheVariants.{Answered, Finished, Had, Count, AtLevel, Committed, Restarted, Refused}
 use Rattle.journal.specs.History.{initial, after, IsLegal}
 use Rattle.journal.specs.Story.{Machine, nothing_done, told}
-use Rattle.job_core.specs.Machine.{IsReply}
+use Rattle.serial.specs.Machine.{IsReply}
 use Rattle.script.specs.Line.{reading_of, job_of}
 use Rattle.script.specs.Text.{reply_text}
 use Rattle.listing.specs.Listing.{listing_text}

@@ -2,7 +2,7 @@ use Rattle.std.proofs.Common.{◌≡◌, ◌≤◌, ◌+◌, length, vec_capacit
 use Rattle.std.specs.Vec.Iter.{into_iter_items}
 use Rattle.journal.specs.History.{initial, IsLegal}
 use Rattle.journal.specs.Story.{story_of}
-use Rattle.job_core.specs.Machine.{AreReplies}
+use Rattle.serial.specs.Machine.{AreReplies}
 use Rattle.job_core.specs.Steps.{commands_of}
 use Rattle.job_core.proofs.machine.JobCore.run.Given as goal
 
