@@ -1,0 +1,13 @@
+pub mod Alike
+pub mod ByJob
+pub mod Committing
+pub mod Excluding
+pub mod Good
+pub mod Overtaken
+pub mod ReadRanges
+pub mod Rereading
+pub mod Runs
+pub mod Standing
+pub mod Touches
+pub mod Traces
+pub mod Untouched
