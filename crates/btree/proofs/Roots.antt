@@ -1,5 +1,6 @@
 -- Facts on a tree's root.
-use Rattle.std.proofs.Common.{◌≡◌, ℕ, zero, suc, ◌+◌, ◌-◌, ◌*◌, ◌^◌, ◌<◌, ◌≤◌, true, false, not, cond, T, List, [], ◌∷◌, ◌++◌, length, is_some, refl, sym, ap, subst, ◌∙◌, arith, length-append, ⊎_elim}
+use Rattle.std.proofs.Common.{◌≡◌, ℕ, zero, suc, ◌+◌, ◌-◌, ◌*◌, ◌^◌, ◌<◌, ◌≤◌, true, false, not, cond, T, Ok, Err, Some, IfOk, OnErr, List, [], ◌∷◌, ◌++◌, length, is_some, refl, sym, ap, subst, ◌∙◌, arith, length-append, ⊎_elim}
+use Rattle.std.specs.Prelude.{Result}
 use Rattle.std.proofs.Math.Nat.{pow-succ', mul-le-mul_right, pow-le-pow_right}
 use Rattle.std.proofs.lemmas.Bool.{cases_lt}
 use Rattle.std.specs.Cmp.{IsTotalOrder}
@@ -87,6 +88,14 @@ module _ {K V : Type 0} (R : K → K → Ordering) (o : IsTotalOrder R) (b : Bra
   length_put new e =
       ap length e ∙ length-put R o key v b.pairs (sorted_of R b.pairs is.sorted)
       ∙ elim (is_some (find R key b.pairs)) as (λ t. cond t (length b.pairs) (length b.pairs + 1) ≡ length b.pairs + (1 - cond t 1 0)) [ true ↦ omega arith | false ↦ refl ]
+
+  -- a value in place of another, or no change
+  pub root_replaced : {E : Type 0} (r : Result V E) (n : ℕ) (new : Branch K V) → n ≡ length b.pairs → IsKid b.count b.height new → IfOk r (λ before. find R key b.pairs ≡ Some before) → IfOk r (λ _. new.pairs ≡ put R key v b.pairs) → OnErr r (new ≡ b) → IsRoot R new × (n ≡ length new.pairs)
+  root_replaced (Ok x) n new len kid found e same =
+      let size = length_put new.pairs e in
+      let there : ◌≡◌ {A = ℕ} (cond (is_some (find R key b.pairs)) 1 0) 1 = ap (λ o. cond (is_some o) 1 0) found in
+      (root_kept new kid e, omega (arith, size, there, len))
+  root_replaced (Err y) n new len kid found e same = (subst (IsRoot R) (sym same) is, len ∙ ap (λ (x : Branch K V). length x.pairs) (sym same))
 
 -- ---- a removal
 

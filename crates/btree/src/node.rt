@@ -1,5 +1,5 @@
 //! A node: pairs of its own, and, unless it is a leaf, a kid before, between and after them.
-ghost use Rattle.std.specs.Prelude.{IfOk, IfErr, OnErr, IsSome, ◌⊎◌, suc, ◌++◌, ◌∷◌, [], length, vec_capacity, ◌≡◌, ◌+◌, ◌^◌, ◌<◌, ◌≤◌};
+ghost use Rattle.std.specs.Prelude.{IfOk, IfErr, OnErr, IsSome, None, Some, ◌⊎◌, suc, ◌++◌, ◌∷◌, [], length, vec_capacity, ◌≡◌, ◌+◌, ◌^◌, ◌<◌, ◌≤◌};
 ghost use Rattle.std.specs.Option.{option_map};
 ghost use Rattle.std.specs.FinMap.Entries.{find, put};
 ghost use Rattle.btree.specs.Order.{Ascends, first_from, last_before, without};
@@ -235,6 +235,14 @@ impl<K: Drop, V: Drop> Node<K, V> {
 }
 
 impl<K: Drop, V: Drop> Node<K, V> {
+    /// Takes out all pairs, and keeps the room for its own.
+    pub fn clear(&mut self)
+        ensures { self.new ≡ record { pairs = []; height = 0; count = 0; sizes = [] } }
+    {
+        self.entries.clear();
+        self.kids.clear();
+    }
+
     /// Gives way to the only kid, where there is no pair.
     pub fn fall(&mut self)
         requires most { self.old.count ≤ 32 }
@@ -297,6 +305,27 @@ impl<K: Ord + Drop, V: Drop> Node<K, V> {
         put_beside(&mut self.entries, &mut self.kids, at, beside);
         let beside = split_long(&mut self.entries, &mut self.kids, spare, spare_kids);
         Ok((before, beside))
+    }
+
+    /// Sets the value of a key that is there, and gives the one before. Where it isn't, the value comes back.
+    pub fn replace(&mut self, key: &K, value: V) -> Result<V, V>
+        requires sorted { Ascends K.cmp self.old.pairs }
+        requires fits { self.old.count ≤ 32 }
+        ensures before { IfOk result (λ before. find K.cmp key.now self.old.pairs ≡ Some before) }
+        ensures same_size { IsKid self.old.count self.old.height self.new }
+        ensures put { IfOk result (λ _. self.new.pairs ≡ put K.cmp key.now value self.old.pairs) }
+        ensures handed_back { IfErr result (λ back. back ≡ value) }
+        ensures missed { OnErr result (find K.cmp key.now self.old.pairs ≡ None) }
+        ensures kept { OnErr result (self.new ≡ self.old) }
+    {
+        let at = match place(&self.entries, key) {
+            Ok(at) => return Ok(replace_value(&mut self.entries, at, value)),
+            Err(at) => at,
+        };
+        if self.kids.is_empty() {
+            return Err(value);
+        }
+        self.kids[at].replace(key, value)
     }
 
     /// Takes out the pair of a key, and gives its value.

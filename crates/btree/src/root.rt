@@ -1,5 +1,5 @@
 //! The tree: its root, and how many pairs there are.
-ghost use Rattle.std.specs.Prelude.{◌≡◌, ◌+◌, ◌*◌, ◌-◌, ◌^◌, ◌<◌, ◌≤◌, ◌==◌, [], length, reverse, not, true, cond, is_some, IfOk, IfErr, OnErr};
+ghost use Rattle.std.specs.Prelude.{◌≡◌, ◌+◌, ◌*◌, ◌-◌, ◌^◌, ◌<◌, ◌≤◌, ◌==◌, [], length, reverse, not, true, cond, is_some, None, Some, IfOk, IfErr, OnErr};
 ghost use Rattle.std.specs.Option.{option_map};
 ghost use Rattle.std.specs.List.{filter, find};
 ghost use Rattle.std.specs.FinMap.Entries as entries;
@@ -162,6 +162,29 @@ impl<K: Ord + Drop, V: Drop> Tree<K, V> {
             self.root.rise(entries, kids, beside);
         }
         Ok(before)
+    }
+
+    /// Sets the value of a key that is there, and gives the one before. It takes no memory.
+    ///
+    /// Where the key isn't there nothing has changed, and the value comes back.
+    pub fn replace(&mut self, key: &K, value: V) -> Result<V, V>
+        ensures before { IfOk result (λ before. entries.find K.cmp key.now self.old.pairs ≡ Some before) }
+        ensures put { IfOk result (λ _. self.new.pairs ≡ entries.put K.cmp key.now value self.old.pairs) }
+        ensures depth { IfOk result (λ _. self.new.depth ≡ self.old.depth) }
+        ensures handed_back { IfErr result (λ back. back ≡ value) }
+        ensures missed { OnErr result (entries.find K.cmp key.now self.old.pairs ≡ None) }
+        ensures kept { OnErr result (self.new ≡ self.old) }
+    {
+        self.root.replace(key, value)
+    }
+
+    /// Takes out all pairs. It takes no memory, and keeps a row for the root.
+    pub fn clear(&mut self)
+        ensures empty { self.new.pairs ≡ [] }
+        ensures depth { self.new.depth ≡ 1 }
+    {
+        self.root.clear();
+        self.len = 0;
     }
 
     /// Takes out the pair of a key, and gives its value. It takes no memory.

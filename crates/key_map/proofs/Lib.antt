@@ -1,0 +1,2 @@
+mod Front
+mod Pairs

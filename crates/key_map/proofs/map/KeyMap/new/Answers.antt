@@ -1,0 +1,5 @@
+use Rattle.key_map.proofs.Pairs.{map_none}
+use Rattle.key_map.proofs.map.KeyMap.new.Goals as goal
+
+pub returns : goal.returns
+returns g c = rw c.new.ensures.empty map_none

@@ -1,0 +1,25 @@
+//! Cuts as points of the tree.
+ghost use Rattle.globals.specs.Cuts.{stands_before as stands_before_spec};
+
+use btree::Point;
+use globals::{Cut, stands_before};
+use key_codec::Key;
+
+// A cut between references, as a point of the tree.
+#[derive(Clone, Copy)]
+pub struct CutPoint<'a> {
+    pub cut: Cut<'a>,
+}
+
+impl<'a> Point<Key> for CutPoint<'a> {
+    ghost use Rattle.globals.specs.Cuts.{stands_before};
+    ghost use Rattle.globals.specs.CutLaws.{stands_before-earlier};
+
+    ghost before = { λ p x. stands_before p.cut x };
+
+    ghost downward = { λ p x y l h. stands_before-earlier p.cut x y l h };
+
+    fn is_after(&self, key: &Key) -> bool {
+        stands_before(self.cut, key)
+    }
+}

@@ -1,0 +1,10 @@
+//! Tests of a transaction's private writes: what no clause says, that calls succeed one after the other where there is
+//! memory, and each public call once. Expected values follow from what SET and KILL leave.
+#![tactic(auto)]
+
+#[cfg(test)]
+mod keys;
+#[cfg(test)]
+mod random;
+#[cfg(test)]
+mod worked;

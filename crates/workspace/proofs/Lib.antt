@@ -1,0 +1,2 @@
+mod Layered
+mod TakenBack

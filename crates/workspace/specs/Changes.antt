@@ -1,0 +1,50 @@
+-- The changes that a workspace's writes make to a database: each touched reference once, with its value or none.
+use Rattle.std.specs.Prelude.{◌≡◌, ⊤, ℕ, Bool, false, not, ◌&&◌, ◌||◌, List, [], ◌∷◌, ◌++◌, Option, Some, None, if◌then◌else◌}
+use Rattle.std.specs.List.{list_any}
+use Rattle.std.specs.FinMap as finmap
+use Rattle.collation.specs.Reference.{Reference}
+use Rattle.collation.specs.Order.{ref_eq}
+use Rattle.collation.specs.Database.{Database}
+use Rattle.collation.specs.Answers.{subtree_of}
+use Rattle.workspace.specs.Layers.{Layer, laid_over}
+
+-- a reference, and the value that it gets, or none where it is removed
+abbrev pub Change : Type 0
+Change = Reference × Option (List ℕ)
+
+-- the database after these changes, in turn
+abbrev pub changed : List Change → Database → Database
+changed [] m = m
+changed ((k, Some v) ∷ cs) m = changed cs (finmap.insert m k v)
+changed ((k, None) ∷ cs) m = changed cs (finmap.remove m k)
+
+-- x is written, or has a value below and none any more
+abbrev pub touches : Layer → Database → Reference → Bool
+touches w m x = finmap.contains_key w.written x || (finmap.contains_key m x && not (finmap.contains_key (laid_over w m) x))
+
+-- no reference is changed twice
+abbrev pub IsOnce : List Change → Type 0
+IsOnce [] = ⊤
+IsOnce (c ∷ cs) = (list_any (λ (d : Change). ref_eq c.0 d.0) cs ≡ false) × IsOnce cs
+
+-- these changes turn the database into the writes laid over it, and change just what is touched, each reference once
+pub record AreChanges (w : Layer) (m : Database) (cs : List Change) : Type 0 where
+  pub leave : changed cs m ≡ laid_over w m
+  pub touched : (x : Reference) → list_any (λ (c : Change). ref_eq x c.0) cs ≡ touches w m x
+  pub once : IsOnce cs
+
+-- ---- how they are listed
+
+abbrev pub set_changes : List (Reference × List ℕ) → List Change
+set_changes [] = []
+set_changes (e ∷ es) = (e.0, Some e.1) ∷ set_changes es
+
+-- each of these that isn't written
+abbrev pub removed : Database → List (Reference × List ℕ) → List Change
+removed written [] = []
+removed written (e ∷ es) = if finmap.contains_key written e.0 then removed written es else (e.0, None) ∷ removed written es
+
+-- what stands under killed references, one after another, and isn't written
+abbrev pub removed_by : {X : Type 0} → Database → Database → List (Reference × X) → List Change
+removed_by written m [] = []
+removed_by written m (k ∷ ks) = removed written (subtree_of k.0 m) ++ removed_by written m ks

@@ -1,0 +1,4 @@
+pub mod Layers
+pub mod Changes
+pub mod Copies
+pub mod laws

@@ -1,0 +1,2 @@
+pub mod Layering
+pub mod Changing

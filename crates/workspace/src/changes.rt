@@ -1,0 +1,90 @@
+//! The changes that the writes make to what a view contains.
+ghost use Rattle.std.specs.Prelude.{◌≡◌, [], ◌∷◌, ◌++◌, Some, None, OnOk, IfOk};
+ghost use Rattle.std.specs.FinMap as finmap;
+ghost use Rattle.collation.specs.Answers.{subtree_of};
+ghost use Rattle.workspace.specs.Changes.{set_changes, removed, removed_by};
+
+use collation::Text;
+use globals::{OrderedView, subtree};
+use key_codec::Key;
+use key_map::KeyMap;
+use std::alloc::{AllocError, Global};
+
+fn push_written(
+    changes: &mut Vec<(Key, Option<Text>)>,
+    written: &KeyMap<Text>,
+) -> Result<(), AllocError>
+    ensures { OnOk result (changes.new.items ≡ changes.old.items ++ set_changes (finmap.entries written.now)) }
+{
+    for (key, value) in written.iter() {
+        push_set(changes, key, value)?;
+    }
+    Ok(())
+}
+
+fn push_set(
+    changes: &mut Vec<(Key, Option<Text>)>,
+    key: &Key,
+    value: &Text,
+) -> Result<(), AllocError>
+    ensures { OnOk result (changes.new.items ≡ changes.old.items ++ (key.now, Some value.now) ∷ []) }
+{
+    let key = key.clone()?;
+    let value = value.clone()?;
+    changes.push((key, Some(value)))?;
+    Ok(())
+}
+
+fn push_gone(changes: &mut Vec<(Key, Option<Text>)>, key: &Key) -> Result<(), AllocError>
+    ensures { OnOk result (changes.new.items ≡ changes.old.items ++ (key.now, None) ∷ []) }
+{
+    let key = key.clone()?;
+    changes.push((key, None))?;
+    Ok(())
+}
+
+// What stands at and under a killed reference, and isn't written.
+fn push_removed<V: OrderedView>(
+    changes: &mut Vec<(Key, Option<Text>)>,
+    written: &KeyMap<Text>,
+    view: &V,
+    root: &Key,
+) -> Result<(), AllocError>
+    ensures { OnOk result (changes.new.items ≡ changes.old.items ++ removed written.now (subtree_of root.now (V.content view.now))) }
+{
+    for (key, _) in subtree(view, root) {
+        if written.get(key).is_none() {
+            push_gone(changes, key)?;
+        }
+    }
+    Ok(())
+}
+
+fn push_all_removed<V: OrderedView>(
+    changes: &mut Vec<(Key, Option<Text>)>,
+    written: &KeyMap<Text>,
+    view: &V,
+    killed: &KeyMap<()>,
+) -> Result<(), AllocError>
+    ensures { OnOk result (changes.new.items ≡ changes.old.items ++ removed_by written.now (V.content view.now) (finmap.entries killed.now)) }
+{
+    for (root, _) in killed.iter() {
+        push_removed(changes, written, view, root)?;
+    }
+    Ok(())
+}
+
+// All of them: the written values, and then what is removed, killed reference by killed reference.
+pub(crate) fn list_changes<V: OrderedView>(
+    alloc: Global,
+    written: &KeyMap<Text>,
+    killed: &KeyMap<()>,
+    view: &V,
+) -> Result<Vec<(Key, Option<Text>)>, AllocError>
+    ensures { IfOk result (λ changes. changes.items ≡ set_changes (finmap.entries written.now) ++ removed_by written.now (V.content view.now) (finmap.entries killed.now)) }
+{
+    let mut changes = Vec::new(alloc);
+    push_written(&mut changes, written)?;
+    push_all_removed(&mut changes, written, view, killed)?;
+    Ok(changes)
+}

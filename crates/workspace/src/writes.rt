@@ -1,0 +1,167 @@
+//! The written values and killed references, and their changes.
+ghost use Rattle.std.specs.Prelude.{◌≡◌, ◌||◌, false, OnOk, OnErr, IfOk, MatchOption, not};
+ghost use Rattle.std.specs.FinMap as finmap;
+ghost use Rattle.std.specs.List.{list_any};
+ghost use Rattle.collation.specs.Reference.{Reference};
+ghost use Rattle.collation.specs.Order.{ref_eq};
+ghost use Rattle.collation.specs.Database.{Database, is_under};
+ghost use Rattle.collation.specs.Answers.{set_all as set_all_spec};
+ghost use Rattle.command.specs.Data.{data_after};
+ghost use Rattle.command.specs.declared.access.DataCommand.TheVariants.{Set as set_command, Kill as kill_command};
+ghost use Rattle.workspace.specs.Layers.{nothing_written, is_killed as is_killed_spec, laid_over, decides as decides_spec, IsKiller};
+ghost use Rattle.workspace.specs.Changes.{AreChanges};
+
+use crate::changes::list_changes;
+use crate::copies::{set_copies, set_one};
+use crate::kills::{kill_both, kill_written};
+use collation::Text;
+use globals::{Cut, OrderedView};
+use key_codec::Key;
+use key_map::KeyMap;
+use std::alloc::{AllocError, Global};
+use std::marker::Model;
+
+/// What a transaction wrote. It is seen as the values that it set, and the references at and under which it killed all.
+#[derive(Drop)]
+pub struct Workspace {
+    written: KeyMap<Text>,
+    killed: KeyMap<()>,
+}
+
+impl Model for Workspace {
+    ghost use Rattle.std.specs.FinMap as finmap;
+    ghost use Rattle.workspace.specs.Layers.{Layer, layer_code, AreApart};
+
+    ghost Value = { Layer };
+
+    ghost coded = { layer_code };
+
+    ghost view = { λ w. record { written = w.written; killed = finmap.keys w.killed } };
+
+    ghost invariant = { λ w. AreApart w.killed };
+}
+
+impl Workspace {
+    /// A workspace in which nothing is written. Takes no memory.
+    pub fn new(alloc: Global) -> Workspace
+        ensures { result ≡ nothing_written }
+    {
+        Workspace {
+            written: KeyMap::new(alloc),
+            killed: KeyMap::new(alloc),
+        }
+    }
+
+    /// The values that were set and not killed later.
+    pub fn written(&self) -> &KeyMap<Text>
+        ensures { result.now ≡ self.now.written }
+    {
+        &self.written
+    }
+
+    /// The killed references, of which none is at or under another.
+    pub fn killed(&self) -> &KeyMap<()>
+        ensures { finmap.keys result.now ≡ self.now.killed }
+    {
+        &self.killed
+    }
+
+    /// The killed reference at or above this one, by one look-up.
+    pub fn killed_over(&self, key: &Key) -> Option<&Key>
+        ensures { MatchOption result (is_killed_spec self.now.killed key.now ≡ false) (λ killed. IsKiller self.now.killed key.now killed.now) }
+    {
+        match self.killed.last_before(Cut::After(key)) {
+            Some((killed, _)) => {
+                if key.is_under(killed) {
+                    Some(killed)
+                } else {
+                    None
+                }
+            }
+            None => None,
+        }
+    }
+
+    fn is_killed(&self, key: &Key) -> bool
+        ensures { result ≡ is_killed_spec self.now.killed key.now }
+    {
+        match self.killed.last_before(Cut::After(key)) {
+            Some((killed, _)) => key.is_under(killed),
+            None => false,
+        }
+    }
+
+    /// Whether what this reference has doesn't depend on the database below: it is written, or at or under a killed one.
+    pub fn decides(&self, key: &Key) -> bool
+        ensures { result ≡ decides_spec self.now key.now }
+    {
+        self.written.get(key).is_some() || self.is_killed(key)
+    }
+
+    /// Forgets all writes. Takes no memory.
+    pub fn clear(&mut self)
+        ensures { self.new ≡ nothing_written }
+    {
+        self.written.clear();
+        self.killed.clear();
+    }
+
+    /// Sets a value.
+    ///
+    /// Refused where there is no memory, and then nothing has changed.
+    pub fn set(&mut self, alloc: Global, key: Key, value: Text) -> Result<(), AllocError>
+        ensures over { OnOk result ((m : Database) → laid_over self.new m ≡ data_after (set_command key value) (laid_over self.old m)) }
+        ensures decides { OnOk result ((x : Reference) → decides_spec self.new x ≡ (decides_spec self.old x || ref_eq x key)) }
+        ensures written { OnOk result (self.new ≡ record self.old { written = finmap.insert self.old.written key value }) }
+        ensures err { OnErr result (self.new ≡ self.old) }
+    {
+        set_one(&mut self.written, alloc, key, value)?;
+        Ok(())
+    }
+
+    /// Sets the values of these references, in turn: all of them or none.
+    ///
+    /// Refused where there is no memory, and then nothing has changed.
+    pub fn set_all(&mut self, alloc: Global, copies: Vec<(Key, Text)>) -> Result<(), AllocError>
+        ensures over { OnOk result ((m : Database) → laid_over self.new m ≡ set_all_spec copies.items (laid_over self.old m)) }
+        ensures decides { OnOk result ((x : Reference) → decides_spec self.new x ≡ (decides_spec self.old x || list_any (λ e. ref_eq x e.0) copies.items)) }
+        ensures written { OnOk result (self.new ≡ record self.old { written = set_all_spec copies.items self.old.written }) }
+        ensures err { OnErr result (self.new ≡ self.old) }
+    {
+        set_copies(&mut self.written, alloc, copies)?;
+        Ok(())
+    }
+
+    /// Kills what is at and under a reference: what was written there, and whatever the database below has there.
+    ///
+    /// Refused where there is no memory, and then nothing has changed.
+    pub fn kill(&mut self, alloc: Global, key: Key) -> Result<(), AllocError>
+        ensures over { OnOk result ((m : Database) → laid_over self.new m ≡ data_after (kill_command key) (laid_over self.old m)) }
+        ensures decides { OnOk result ((x : Reference) → decides_spec self.new x ≡ (decides_spec self.old x || is_under key x)) }
+        ensures written { OnOk result (self.new.written ≡ finmap.retain_keys self.old.written (λ x. not (is_under key x))) }
+        ensures killed { OnOk result ((x : Reference) → is_killed_spec self.new.killed x ≡ (is_killed_spec self.old.killed x || is_under key x)) }
+        ensures err { OnErr result (self.new ≡ self.old) }
+    {
+        if self.is_killed(&key) {
+            kill_written(&mut self.written, alloc, key)?;
+            return Ok(());
+        }
+        kill_both(&mut self.written, &mut self.killed, alloc, key)?;
+        Ok(())
+    }
+
+    /// What the writes change in what a view contains, so that it becomes the writes laid over it: each reference that is
+    /// written, with its value, and each that is killed and has a value below, removed. Takes memory for the list alone.
+    ///
+    /// Refused where there is no memory.
+    pub fn changes_over<V: OrderedView>(
+        &self,
+        alloc: Global,
+        view: &V,
+    ) -> Result<Vec<(Key, Option<Text>)>, AllocError>
+        ensures { IfOk result (λ changes. AreChanges self.now (V.content view.now) changes.items) }
+    {
+        let changes = list_changes(alloc, &self.written, &self.killed, view)?;
+        Ok(changes)
+    }
+}
