@@ -60,7 +60,7 @@ back_moved a b e h =
     λ i. record { name = name i; subscripts = rest i }
 
 -- q is the copy of e where e is what q would be a copy of
-same_copy : (a b q e : Reference) → is_under b e ≡ true → ref_eq q (moved a b e) ≡ (is_under a q && ref_eq (moved b a q) e)
+pub same_copy : (a b q e : Reference) → is_under b e ≡ true → ref_eq q (moved a b e) ≡ (is_under a q && ref_eq (moved b a q) e)
 same_copy a b q e h = both_ways _ _ onward back
   where
     onward : ref_eq q (moved a b e) ≡ true → (is_under a q && ref_eq (moved b a q) e) ≡ true

@@ -1,3 +1,5 @@
+pub mod Answering
+pub mod Fitting
 pub mod Cuts
 pub mod CutLaws
 pub mod NearestLaws
@@ -9,3 +11,4 @@ pub mod MergingLaws
 pub mod TellingLaws
 pub mod ChangingLaws
 pub mod SeekLaws
+pub mod laws

@@ -17,6 +17,7 @@
 //! Not promised: how long a view takes for a look-up.
 #![tactic(auto)]
 
+pub use answering::{answer, look};
 pub use cut::{Cut, stands_before};
 pub use laws::{
     data_tells_value_and_descendants, descendants_are_under, kill_kills_the_subtree,
@@ -30,6 +31,7 @@ pub use traversal::query;
 pub use view::OrderedView;
 pub use walk::{Descent, Walk, subtree, walk_from};
 
+mod answering;
 mod cut;
 mod laws;
 mod levels;

@@ -97,6 +97,14 @@ impl Place {
         }
     }
 
+    /// The key of the level of the last subscript: one level up, or where it is open the place's own. Takes memory only past
+    /// 38 bytes.
+    pub fn level_key(&self, alloc: Global) -> Result<Key, AllocError>
+        ensures { IfOk result (λ key. key ≡ parent_of self.now) }
+    {
+        Key::from_slice(alloc, self.level())
+    }
+
     /// The subscript at the level of the place's last one on the way to this key; none where it isn't below that level.
     pub fn child_toward(&self, alloc: Global, key: &Key) -> Result<Option<Text>, AllocError>
         ensures child { IfOk result (λ child. child ≡ child_of (parent_of self.now) key.now) }

@@ -1,0 +1,38 @@
+-- What $ORDER and $QUERY answer on any database fits the command.
+use Rattle.std.proofs.Common.{◌≡◌, ℕ, Bool, true, List, [], refl, subst, inl, inr}
+use Rattle.std.specs.Prelude.{Option, Some, None, IfSome, unwrap_or}
+use Rattle.std.specs.Option.{option_map}
+use Rattle.std.specs.Cmp.{first_so}
+use Rattle.collation.specs.Reference.{Reference, Spot}
+use Rattle.collation.specs.Order.{ref_cmp}
+use Rattle.collation.specs.Database.{Database}
+use Rattle.collation.specs.Nearest.{nearest}
+use Rattle.collation.specs.Levels.{parent_of, below, has_name}
+use Rattle.collation.specs.Answers.{follows, query_of}
+use Rattle.key_codec.specs.Key.{IsReference}
+use Rattle.command.specs.Data.{found_reply}
+use Rattle.globals.specs.NearestLaws.{nearest_passes}
+use Rattle.globals.specs.Fitting.{IsSiblingOrNone, IsQueryAnswer}
+
+-- an answer of `order`, written as $ORDER's
+pub sibling_or_none : (p : Spot) (answer : Option (List ℕ)) → IfSome answer (λ s. IsReference (below (parent_of p) s)) → IsSiblingOrNone p (unwrap_or answer [])
+sibling_or_none p None fits = inl refl
+sibling_or_none p (Some s) fits = inr fits
+
+-- what $QUERY finds has the name of the place
+pub query_named : (forward : Bool) (p : Spot) (m : Database) (r : Reference) → query_of forward p m ≡ Some r → has_name p.reference r ≡ true
+query_named forward p m r is = by_found (nearest forward (follows forward p) m) refl is
+  where
+    by_found : (o : Option (Reference × List ℕ)) → nearest forward (follows forward p) m ≡ o → option_map (λ e. e.0) o ≡ Some r → has_name p.reference r ≡ true
+    by_found None found is = absurd (cc)
+    by_found (Some e) found is =
+        let same : e.0 ≡ r = cc in
+        subst (λ x. has_name p.reference x ≡ true) same (first_so (has_name p.reference e.0) _ (nearest_passes ref_cmp forward (follows forward p) m e found))
+
+-- $QUERY's answer fits
+pub query_fits : (forward : Bool) (p : Spot) (m : Database) → IsQueryAnswer p (found_reply (query_of forward p m))
+query_fits forward p m = by_found (query_of forward p m) refl
+  where
+    by_found : (o : Option Reference) → query_of forward p m ≡ o → IsQueryAnswer p (found_reply o)
+    by_found None is = tt
+    by_found (Some r) is = query_named forward p m r is

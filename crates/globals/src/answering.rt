@@ -1,0 +1,112 @@
+//! What data commands are answered on a view.
+ghost use Rattle.std.specs.Prelude.{◌≡◌, Some, [], None, IfOk, OnOk, IfErr, IsErrOf, unwrap_or};
+ghost use Rattle.std.specs.Option.{option_copied};
+ghost use Rattle.command.specs.Data.{data_refusal, data_reply, look_refusal, look_reply, found_reply};
+ghost use Rattle.command.specs.declared.access.Look.TheVariants.{Order as order_command};
+ghost use Rattle.globals.specs.Answering.{IsRuleOrMemory, early_refusal, copies_of};
+ghost use Rattle.globals.specs.Fitting.{IsAnswerOf, IsLookAnswer, IsOrderAnswer, IsQueryAnswer};
+
+use crate::{OrderedView, data, merge_list, order, query};
+use collation::{Direction, Text};
+use command::{Answer, DataCommand, Look};
+use key_codec::{Key, Place};
+use refusal::Refusal;
+use std::alloc::{AllocError, Global};
+
+/// The answer of a command that only looks, on a view.
+///
+/// Refusals: `NeedSubscript` where $ORDER's place has no subscript; `OutOfMemory`, which no such $ORDER gets.
+pub fn look<V: OrderedView>(alloc: Global, view: &V, look: &Look) -> Result<Answer, Refusal>
+    ensures answer { IfOk result (λ answer. answer ≡ look_reply look.now (V.content view.now)) }
+    ensures fits { IfOk result (λ answer. IsLookAnswer look.now answer) }
+    ensures accepted { OnOk result (look_refusal look.now ≡ None) }
+    ensures early { (refusal : Refusal) → look_refusal look.now ≡ Some refusal → IsErrOf result refusal }
+    ensures cause { IfErr result (λ refusal. IsRuleOrMemory refusal (look_refusal look.now)) }
+{
+    match look {
+        Look::Data(key) => Ok(Answer::Number(data(view, key))),
+        Look::Get(key, default) => {
+            let value = found_or(alloc, view.get(key), default)?;
+            Ok(Answer::Value(value))
+        }
+        Look::Order(place, direction) => sibling_answer(alloc, view, place, *direction),
+        Look::Query(place, direction) => {
+            let found = found_answer(alloc, query(view, place, *direction))?;
+            Ok(found)
+        }
+    }
+}
+
+// The value, the default, or the empty string.
+fn found_or(alloc: Global, found: Option<&Text>, default: &Option<Text>) -> Result<Text, AllocError>
+    ensures { IfOk result (λ text. text ≡ unwrap_or (option_copied found.entry) (unwrap_or default.now [])) }
+{
+    match found {
+        Some(value) => value.clone(),
+        None => match default {
+            Some(value) => value.clone(),
+            None => Ok(Text::new(alloc)),
+        },
+    }
+}
+
+// The reference, or the empty string.
+fn found_answer(alloc: Global, found: Option<&Key>) -> Result<Answer, AllocError>
+    ensures { IfOk result (λ answer. answer ≡ found_reply (option_copied found.entry)) }
+{
+    match found {
+        Some(key) => {
+            let key = key.clone()?;
+            Ok(Answer::Found(key))
+        }
+        None => Ok(Answer::Value(Text::new(alloc))),
+    }
+}
+
+fn sibling_answer<V: OrderedView>(
+    alloc: Global,
+    view: &V,
+    place: &Place,
+    direction: Direction,
+) -> Result<Answer, Refusal>
+    ensures answer { IfOk result (λ answer. answer ≡ look_reply (order_command place.now direction) (V.content view.now)) }
+    ensures fits { IfOk result (λ answer. IsOrderAnswer place.now answer) }
+    ensures accepted { OnOk result (look_refusal (order_command place.now direction) ≡ None) }
+    ensures early { (refusal : Refusal) → look_refusal (order_command place.now direction) ≡ Some refusal → IsErrOf result refusal }
+    ensures cause { IfErr result (λ refusal. IsRuleOrMemory refusal (look_refusal (order_command place.now direction))) }
+{
+    match order(alloc, view, place, direction) {
+        Ok(Some(subscript)) => Ok(Answer::Value(subscript)),
+        Ok(None) => Ok(Answer::Value(Text::new(alloc))),
+        Err(refusal) => Err(refusal),
+    }
+}
+
+/// The answer of a data command on a view, and what MERGE sets there; the view stays as it is.
+///
+/// Refusals: the command's own rule (`NeedSubscript`, `MergeOverlap`, `TooManySubscripts`); `OutOfMemory`, which never
+/// hides a rule that is looked at before memory is asked for (`early_refusal`).
+pub fn answer<V: OrderedView>(
+    alloc: Global,
+    view: &V,
+    command: &DataCommand,
+) -> Result<(Answer, Vec<(Key, Text)>), Refusal>
+    ensures answer { IfOk result (λ r. r.0 ≡ data_reply command.now (V.content view.now)) }
+    ensures fits { IfOk result (λ r. IsAnswerOf command.now r.0) }
+    ensures copies { IfOk result (λ r. r.1.items ≡ copies_of command.now (V.content view.now)) }
+    ensures accepted { OnOk result (data_refusal command.now (V.content view.now) ≡ None) }
+    ensures early { (refusal : Refusal) → early_refusal command.now ≡ Some refusal → IsErrOf result refusal }
+    ensures cause { IfErr result (λ refusal. IsRuleOrMemory refusal (data_refusal command.now (V.content view.now))) }
+{
+    match command {
+        DataCommand::Set(_, _) | DataCommand::Kill(_) => Ok((Answer::Done, Vec::new(alloc))),
+        DataCommand::Merge(target, source) => match merge_list(alloc, view, target, source) {
+            Ok(copies) => Ok((Answer::Done, copies)),
+            Err(refusal) => Err(refusal),
+        },
+        DataCommand::Look(asked) => match look(alloc, view, asked) {
+            Ok(answer) => Ok((answer, Vec::new(alloc))),
+            Err(refusal) => Err(refusal),
+        },
+    }
+}

@@ -1,0 +1,133 @@
+-- What a command has read lies between two cuts, and nothing else does.
+use Rattle.std.proofs.Common.{◌≡◌, ℕ, Bool, true, false, List, [], refl, sym, ap, subst, ◌∙◌}
+use Rattle.std.specs.Prelude.{not, ◌&&◌, ◌||◌, Option, Result, Ok, Err, OnOk}
+use Rattle.std.proofs.Math.Bool.{not-not}
+use Rattle.collation.specs.declared.direction.Direction.{Direction}
+use Rattle.collation.specs.declared.direction.Direction.TheVariants.{Forward, Backward}
+use Rattle.collation.specs.Reference.{Reference, Spot}
+use Rattle.collation.specs.Levels.{is_before, is_after, parent_of, has_level, has_name}
+use Rattle.collation.specs.Answers.{follows, is_forward}
+use Rattle.command.specs.declared.access.DataCommand.{DataCommand}
+use Rattle.command.specs.declared.access.DataCommand.TheVariants.{Merge, Look}
+use Rattle.command.specs.declared.access.Look.{Look as LookCommand}
+use Rattle.command.specs.declared.access.Look.TheVariants.{Data, Get, Order, Query}
+use Rattle.command.specs.declared.access.Answer.{Answer}
+use Rattle.command.specs.declared.access.Answer.TheVariants.{Done, Value, Number, Found}
+use Rattle.journal.specs.Touching.{read_set, order_read, query_read}
+use Rattle.globals.specs.declared.cut.Cut.{Cut}
+use Rattle.globals.specs.Cuts.{stands_before}
+use Rattle.globals.specs.Fitting.{IsSiblingOrNone, IsOrderAnswer, IsQueryAnswer}
+use Rattle.serial.specs.ReadRanges.{is_from_level, level_end, root_of}
+use Rattle.serial.specs.laws.ReadRanges.{reads_range}
+use Rattle.read_ranges.specs.declared.range.ReadRange.{ReadRange}
+use Rattle.read_ranges.specs.Ranges.{is_in_one, IsDecided, IsNoted}
+
+pub on_ok : {A E : Type 0} {P Q : Type 0} (r : Result A E) → (P → Q) → OnOk r P → OnOk r Q
+on_ok (Ok a) f p = f p
+on_ok (Err e) f p = p
+
+-- the ranges have what passes the test too, and that is the read set
+noted : (old new : List ReadRange) (command : DataCommand) (answer : Answer) (decided : Bool) (test : Reference → Bool)
+    → ((own : Reference → Bool) → IsDecided command decided own → (x : Reference) → read_set command answer own x ≡ test x)
+    → ((x : Reference) → is_in_one new x ≡ (is_in_one old x || test x)) → IsNoted old new command answer decided
+noted old new command answer decided test same more = λ own d x. more x ∙ ap (λ b. is_in_one old x || b) (sym (same own d x))
+
+-- ---- MERGE, $DATA and $GET
+
+pub merge_noted : (old new : List ReadRange) (command : DataCommand) (a b : Reference) (answer : Answer) (decided : Bool) → command ≡ Merge a b
+    → ((x : Reference) → is_in_one new x ≡ (is_in_one old x || (not (is_before false b x) && is_before true b x))) → IsNoted old new command answer decided
+merge_noted old new command a b answer decided is more =
+    subst (λ (c : DataCommand). IsNoted old new c answer decided) (sym is)
+    (noted old new (Merge a b) answer decided _ (λ own d x. let law = reads_range own x in law.merge_of a b answer) more)
+
+pub data_noted : (old new : List ReadRange) (look : LookCommand) (r : Reference) (answer : Answer) (decided : Bool) → look ≡ Data r
+    → ((x : Reference) → is_in_one new x ≡ (is_in_one old x || (not (is_before false r x) && is_before true r x))) → IsNoted old new (Look look) answer decided
+data_noted old new look r answer decided is more =
+    subst (λ (l : LookCommand). IsNoted old new (Look l) answer decided) (sym is)
+    (noted old new (Look (Data r)) answer decided _ (λ own d x. let law = reads_range own x in law.data_of r answer) more)
+
+pub get_noted : (old new : List ReadRange) (look : LookCommand) (r : Reference) (default : Option (List ℕ)) (answer : Answer) (decided : Bool) → look ≡ Get r default → decided ≡ false
+    → ((x : Reference) → is_in_one new x ≡ (is_in_one old x || (not (is_before false r x) && not (is_after false r x)))) → IsNoted old new (Look look) answer decided
+get_noted old new look r default answer decided is none more =
+    subst (λ (l : LookCommand). IsNoted old new (Look l) answer decided) (sym is)
+    (noted old new (Look (Get r default)) answer decided _ (λ own d x. let law = reads_range own x in law.get_of r default answer (d ∙ none)) more)
+
+-- ---- $ORDER
+
+pub order_noted : (old new : List ReadRange) (p : Spot) (direction : Direction) (answer : Answer) (t : List ℕ) → answer ≡ Value t
+    → ((x : Reference) → is_in_one new x ≡ (is_in_one old x || order_read (is_forward direction) p (Value t) x)) → (decided : Bool) → IsNoted old new (Look (Order p direction)) answer decided
+order_noted old new p direction answer t is more decided =
+    subst (λ (a : Answer). IsNoted old new (Look (Order p direction)) a decided) (sym is) (noted old new (Look (Order p direction)) (Value t) decided _ (λ own d x. refl) more)
+
+pub leveled : (p : Spot) (answer : Answer) (t : List ℕ) → answer ≡ Value t → IsOrderAnswer p answer → (has_level p ≡ true) × IsSiblingOrNone p t
+leveled p answer t is fits = subst (λ (a : Answer). IsOrderAnswer p a) is fits
+
+pub siblings_forward : (old new : List ReadRange) (p : Spot) (direction : Direction) (t : List ℕ) (low : Cut) (end : Reference) → direction ≡ Forward → has_level p ≡ true
+    → ((x : Reference) → not (stands_before low x) ≡ is_after (not p.is_open) p.reference x) → end ≡ level_end (parent_of p) t
+    → ((x : Reference) → is_in_one new x ≡ (is_in_one old x || (not (stands_before low x) && is_before true end x)))
+    → (x : Reference) → is_in_one new x ≡ (is_in_one old x || order_read (is_forward direction) p (Value t) x)
+siblings_forward old new p direction t low end ahead level starts ends more x =
+    let law = reads_range (λ _. false) x in
+    more x ∙ ap (λ b. is_in_one old x || b) ((λ i. starts x i && is_before true (ends i) x) ∙ sym (law.order_forward p t level) ∙ (λ i. order_read (is_forward (sym ahead i)) p (Value t) x))
+
+pub siblings_backward : (old new : List ReadRange) (p : Spot) (direction : Direction) (t : List ℕ) (low high : Cut) → direction ≡ Backward → has_level p ≡ true
+    → ((x : Reference) → not (stands_before low x) ≡ is_from_level (parent_of p) t x) → ((x : Reference) → stands_before high x ≡ is_before p.is_open p.reference x)
+    → ((x : Reference) → is_in_one new x ≡ (is_in_one old x || (not (stands_before low x) && stands_before high x)))
+    → (x : Reference) → is_in_one new x ≡ (is_in_one old x || order_read (is_forward direction) p (Value t) x)
+siblings_backward old new p direction t low high back level starts ends more x =
+    let law = reads_range (λ _. false) x in
+    more x ∙ ap (λ b. is_in_one old x || b) ((λ i. starts x i && ends x i) ∙ sym (law.order_backward p t level) ∙ (λ i. order_read (is_forward (sym back i)) p (Value t) x))
+
+-- ---- $QUERY
+
+pub found_noted : (old new : List ReadRange) (p : Spot) (direction : Direction) (answer : Answer) (r : Reference) → answer ≡ Found r
+    → ((x : Reference) → is_in_one new x ≡ (is_in_one old x || query_read (is_forward direction) p (Found r) x)) → (decided : Bool) → IsNoted old new (Look (Query p direction)) answer decided
+found_noted old new p direction answer r is more decided =
+    subst (λ (a : Answer). IsNoted old new (Look (Query p direction)) a decided) (sym is) (noted old new (Look (Query p direction)) (Found r) decided _ (λ own d x. refl) more)
+
+pub named : (p : Spot) (answer : Answer) (r : Reference) → answer ≡ Found r → IsQueryAnswer p answer → has_name p.reference r ≡ true
+named p answer r is fits = subst (λ (a : Answer). IsQueryAnswer p a) is fits
+
+pub up_to_forward : (old new : List ReadRange) (p : Spot) (direction : Direction) (start r : Reference) → direction ≡ Forward → has_name p.reference r ≡ true → start ≡ p.reference
+    → ((x : Reference) → is_in_one new x ≡ (is_in_one old x || (not (not (is_after false start x)) && not (is_after false r x))))
+    → (x : Reference) → is_in_one new x ≡ (is_in_one old x || query_read (is_forward direction) p (Found r) x)
+up_to_forward old new p direction start r ahead name starts more x =
+    let law = reads_range (λ _. false) x in
+    more x ∙ ap (λ b. is_in_one old x || b) (
+    ap (λ b. b && not (is_after false r x)) (not-not (is_after false start x)) ∙ (λ i. is_after false (starts i) x && not (is_after false r x)) ∙ sym (law.query_forward p r name)
+    ∙ (λ i. query_read (is_forward (sym ahead i)) p (Found r) x)
+    )
+
+pub up_to_backward : (old new : List ReadRange) (p : Spot) (direction : Direction) (high : Cut) (r : Reference) → direction ≡ Backward → has_name p.reference r ≡ true
+    → ((x : Reference) → stands_before high x ≡ is_before p.is_open p.reference x)
+    → ((x : Reference) → is_in_one new x ≡ (is_in_one old x || (not (is_before false r x) && stands_before high x)))
+    → (x : Reference) → is_in_one new x ≡ (is_in_one old x || query_read (is_forward direction) p (Found r) x)
+up_to_backward old new p direction high r back name ends more x =
+    let law = reads_range (λ _. false) x in
+    more x ∙ ap (λ b. is_in_one old x || b) ((λ i. not (is_before false r x) && ends x i) ∙ sym (law.query_backward p r name) ∙ (λ i. query_read (is_forward (sym back i)) p (Found r) x))
+
+-- an answer that isn't a reference
+pub none_noted : (old new : List ReadRange) (p : Spot) (direction : Direction) (answer : Answer) → ((r : Reference) → answer ≡ Found r → ⊥)
+    → ((x : Reference) → is_in_one new x ≡ (is_in_one old x || follows (is_forward direction) p x)) → (decided : Bool) → IsNoted old new (Look (Query p direction)) answer decided
+none_noted old new p direction Done none more decided = noted old new (Look (Query p direction)) Done decided _ (λ own d x. refl) more
+none_noted old new p direction (Value t) none more decided = noted old new (Look (Query p direction)) (Value t) decided _ (λ own d x. refl) more
+none_noted old new p direction (Number n) none more decided = noted old new (Look (Query p direction)) (Number n) decided _ (λ own d x. refl) more
+none_noted old new p direction (Found r) none more decided = absurd (none r refl)
+
+pub rest_forward : (old new : List ReadRange) (p : Spot) (direction : Direction) (start name : Reference) → direction ≡ Forward → start ≡ p.reference → name ≡ root_of p.reference
+    → ((x : Reference) → is_in_one new x ≡ (is_in_one old x || (not (not (is_after false start x)) && is_before true name x)))
+    → (x : Reference) → is_in_one new x ≡ (is_in_one old x || follows (is_forward direction) p x)
+rest_forward old new p direction start name ahead starts ends more x =
+    let law = reads_range (λ _. false) x in
+    more x ∙ ap (λ b. is_in_one old x || b) (
+    ap (λ b. b && is_before true name x) (not-not (is_after false start x)) ∙ (λ i. is_after false (starts i) x && is_before true (ends i) x) ∙ sym (law.none_forward p [])
+    ∙ (λ i. follows (is_forward (sym ahead i)) p x)
+    )
+
+pub rest_backward : (old new : List ReadRange) (p : Spot) (direction : Direction) (name : Reference) (high : Cut) → direction ≡ Backward → name ≡ root_of p.reference
+    → ((x : Reference) → stands_before high x ≡ is_before p.is_open p.reference x)
+    → ((x : Reference) → is_in_one new x ≡ (is_in_one old x || (not (is_before false name x) && stands_before high x)))
+    → (x : Reference) → is_in_one new x ≡ (is_in_one old x || follows (is_forward direction) p x)
+rest_backward old new p direction name high back starts ends more x =
+    let law = reads_range (λ _. false) x in
+    more x ∙ ap (λ b. is_in_one old x || b) ((λ i. not (is_before false (starts i) x) && ends x i) ∙ sym (law.none_backward p []) ∙ (λ i. follows (is_forward (sym back i)) p x))

@@ -1,0 +1,10 @@
+use Rattle.read_ranges.proofs.Noting.{on_ok, rest_forward, rest_backward}
+use Rattle.read_ranges.proofs.noted.Ranges.note_rest.Goals as goal
+
+pub returns-in-Forward-clause-more : goal.returns-in-Forward-clause-more
+returns-in-Forward-clause-more c =
+    on_ok c.add.result (rest_forward c.args.self.now c.add.new.self c.args.place.now c.args.direction c.key.result.now c.args.name.now c.in-Forward.is c.key.ensures c.requires) c.add.ensures.more
+
+pub returns-in-Backward-clause-more : goal.returns-in-Backward-clause-more
+returns-in-Backward-clause-more c =
+    on_ok c.add-in-Backward.result (rest_backward c.args.self.now c.add-in-Backward.new.self c.args.place.now c.args.direction c.args.name.now c.before_place.result c.in-Backward.is c.requires c.before_place.ensures) c.add-in-Backward.ensures.more

@@ -1,0 +1,272 @@
+//! The ranges that a transaction has read.
+ghost use Rattle.std.specs.Prelude.{◌≡◌, Bool, ◌||◌, ◌<◌, true, false, [], length, take, IfOk, OnOk, OnErr};
+ghost use Rattle.collation.specs.Reference.{Reference};
+ghost use Rattle.collation.specs.Levels.{has_level, has_name, parent_of};
+ghost use Rattle.collation.specs.Answers.{follows, is_forward};
+ghost use Rattle.command.specs.declared.access.DataCommand.TheVariants.{Look as look_command};
+ghost use Rattle.command.specs.declared.access.Look.TheVariants.{Order as order_command, Query as query_command};
+ghost use Rattle.command.specs.declared.access.Answer.TheVariants.{Value, Found};
+ghost use Rattle.globals.specs.Fitting.{IsAnswerOf, IsLookAnswer, IsOrderAnswer, IsQueryAnswer};
+ghost use Rattle.journal.specs.Touching.{order_read, query_read};
+ghost use Rattle.serial.specs.ReadRanges.{level_end as level_end_spec, root_of};
+ghost use Rattle.read_ranges.specs.Ranges.{between, is_in_one, IsNoted, IsBehind};
+
+use crate::level::{after_place, before_place, level_end, level_start};
+use crate::range::ReadRange;
+use collation::{Direction, Text};
+use command::{Answer, DataCommand, Look};
+use globals::Cut;
+use key_codec::{Key, Place};
+use std::alloc::{AllocError, Global};
+use std::marker::Model;
+
+// How many of the last ranges may grow.
+const NEAR: usize = 4;
+
+/// The ranges that a transaction has read.
+#[derive(Debug, Drop)]
+pub struct Ranges {
+    list: Vec<ReadRange>,
+}
+
+impl Model for Ranges {
+    ghost use Rattle.std.specs.Prelude.{List};
+    ghost use Rattle.read_ranges.specs.declared.range.ReadRange.{ReadRange};
+
+    ghost Value = { List ReadRange };
+
+    ghost view = { λ r. r.list.items };
+}
+
+impl Ranges {
+    /// Nothing was read. Takes no memory.
+    pub fn new(alloc: Global) -> Ranges
+        ensures { result ≡ [] }
+    {
+        Ranges {
+            list: Vec::new(alloc),
+        }
+    }
+
+    /// The ranges, in the order in which they were begun. Takes no memory.
+    pub fn ranges(&self) -> &[ReadRange]
+        ensures { result.now ≡ self.now }
+    {
+        self.list.as_slice()
+    }
+
+    /// How many ranges they are. Takes no memory.
+    pub fn len(&self) -> usize
+        ensures { result ≡ length self.now }
+    {
+        self.list.len()
+    }
+
+    /// Forgets all ranges but the first `count`, which takes back a MERGE that was noted when they were so many. Takes no
+    /// memory.
+    pub fn back_to(&mut self, count: usize)
+        ensures { self.new ≡ take count self.old }
+    {
+        self.list.truncate(count);
+    }
+
+    /// Notes what an answered command has read. `decided` tells whether the transaction's own writes decide what a
+    /// $GET's reference has; of other commands it says nothing.
+    ///
+    /// A command that changes the database reads nothing, or a range that is put behind the others, so that it can be taken
+    /// back. What a command that looks has read may lie in one of the last ranges.
+    ///
+    /// Where memory is refused nothing has changed.
+    pub fn note(
+        &mut self,
+        alloc: Global,
+        command: &DataCommand,
+        answer: &Answer,
+        decided: bool,
+    ) -> Result<(), AllocError>
+        requires { IsAnswerOf command.now answer.now }
+        ensures noted { OnOk result (IsNoted self.old self.new command.now answer.now decided) }
+        ensures behind { OnOk result (IsBehind command.now self.old self.new) }
+        ensures err { OnErr result (self.new ≡ self.old) }
+    {
+        match command {
+            DataCommand::Set(_, _) => Ok(()),
+            DataCommand::Kill(_) => Ok(()),
+            DataCommand::Merge(_, source) => self.push(Cut::Before(source), Cut::Past(source)),
+            DataCommand::Look(look) => self.note_look(alloc, look, answer, decided),
+        }
+    }
+
+    fn note_look(
+        &mut self,
+        alloc: Global,
+        look: &Look,
+        answer: &Answer,
+        decided: bool,
+    ) -> Result<(), AllocError>
+        requires { IsLookAnswer look.now answer.now }
+        ensures noted { OnOk result (IsNoted self.old self.new (look_command look.now) answer.now decided) }
+        ensures err { OnErr result (self.new ≡ self.old) }
+    {
+        match look {
+            Look::Data(key) => self.add(Cut::Before(key), Cut::Past(key)),
+            Look::Get(key, _) => {
+                if decided {
+                    return Ok(());
+                }
+                self.add(Cut::Before(key), Cut::After(key))
+            }
+            Look::Order(place, direction) => self.note_order(alloc, place, *direction, answer),
+            Look::Query(place, direction) => self.note_query(alloc, place, *direction, answer),
+        }
+    }
+
+    fn note_order(
+        &mut self,
+        alloc: Global,
+        place: &Place,
+        direction: Direction,
+        answer: &Answer,
+    ) -> Result<(), AllocError>
+        requires { IsOrderAnswer place.now answer.now }
+        ensures noted { (decided : Bool) → OnOk result (IsNoted self.old self.new (look_command (order_command place.now direction)) answer.now decided) }
+        ensures err { OnErr result (self.new ≡ self.old) }
+    {
+        match answer {
+            Answer::Value(subscript) => {
+                let end = level_end(alloc, place, subscript)?;
+                self.note_siblings(place, direction, subscript, &end)
+            }
+            _ => Ok(()),
+        }
+    }
+
+    // What stands at and under the siblings beyond the place, up to the one that was answered.
+    fn note_siblings(
+        &mut self,
+        place: &Place,
+        direction: Direction,
+        answer: &Text,
+        end: &Key,
+    ) -> Result<(), AllocError>
+        requires level { has_level place.now ≡ true }
+        requires end { end.now ≡ level_end_spec (parent_of place.now) answer.now }
+        ensures more { OnOk result ((x : Reference) → is_in_one self.new x ≡ (is_in_one self.old x || order_read (is_forward direction) place.now (Value answer.now) x)) }
+        ensures err { OnErr result (self.new ≡ self.old) }
+    {
+        match direction {
+            Direction::Forward => {
+                let low = after_place(place);
+                self.add(low, Cut::Past(end))
+            }
+            Direction::Backward => {
+                let low = level_start(end, answer);
+                self.add(low, before_place(place))
+            }
+        }
+    }
+
+    fn note_query(
+        &mut self,
+        alloc: Global,
+        place: &Place,
+        direction: Direction,
+        answer: &Answer,
+    ) -> Result<(), AllocError>
+        requires { IsQueryAnswer place.now answer.now }
+        ensures noted { (decided : Bool) → OnOk result (IsNoted self.old self.new (look_command (query_command place.now direction)) answer.now decided) }
+        ensures err { OnErr result (self.new ≡ self.old) }
+    {
+        match answer {
+            Answer::Found(found) => self.note_up_to(place, direction, found),
+            _ => {
+                let name = place.key().root(alloc)?;
+                self.note_rest(place, direction, &name)
+            }
+        }
+    }
+
+    // What follows the place, up to the reference that was found.
+    fn note_up_to(
+        &mut self,
+        place: &Place,
+        direction: Direction,
+        found: &Key,
+    ) -> Result<(), AllocError>
+        requires { has_name place.now.reference found.now ≡ true }
+        ensures more { OnOk result ((x : Reference) → is_in_one self.new x ≡ (is_in_one self.old x || query_read (is_forward direction) place.now (Found found.now) x)) }
+        ensures err { OnErr result (self.new ≡ self.old) }
+    {
+        match direction {
+            Direction::Forward => self.add(Cut::After(place.key()), Cut::After(found)),
+            Direction::Backward => self.add(Cut::Before(found), before_place(place)),
+        }
+    }
+
+    // What follows the place, up to the end of its name.
+    fn note_rest(
+        &mut self,
+        place: &Place,
+        direction: Direction,
+        name: &Key,
+    ) -> Result<(), AllocError>
+        requires { name.now ≡ root_of place.now.reference }
+        ensures more { OnOk result ((x : Reference) → is_in_one self.new x ≡ (is_in_one self.old x || follows (is_forward direction) place.now x)) }
+        ensures err { OnErr result (self.new ≡ self.old) }
+    {
+        match direction {
+            Direction::Forward => self.add(Cut::After(place.key()), Cut::Past(name)),
+            Direction::Backward => self.add(Cut::Before(name), before_place(place)),
+        }
+    }
+
+    // Puts in what lies between two cuts: into one of the last ranges that it joins, or else as a range of its own.
+    fn add(&mut self, low: Cut<'_>, high: Cut<'_>) -> Result<(), AllocError>
+        ensures more { OnOk result ((x : Reference) → is_in_one self.new x ≡ (is_in_one self.old x || between low.entry high.entry x)) }
+        ensures err { OnErr result (self.new ≡ self.old) }
+    {
+        let first = self.list.len().saturating_sub(NEAR);
+        for i in first..self.list.len() {
+            if self.join(i, low, high)? {
+                return Ok(());
+            }
+        }
+        self.push(low, high)
+    }
+
+    // Puts what lies between two cuts behind the others, as a range of its own.
+    fn push(&mut self, low: Cut<'_>, high: Cut<'_>) -> Result<(), AllocError>
+        ensures more { OnOk result ((x : Reference) → is_in_one self.new x ≡ (is_in_one self.old x || between low.entry high.entry x)) }
+        ensures behind { OnOk result (take (length self.old) self.new ≡ self.old) }
+        ensures err { OnErr result (self.new ≡ self.old) }
+    {
+        self.list.reserve(1)?;
+        let range = ReadRange::new(low, high)?;
+        self.list.push_reserved(range);
+        Ok(())
+    }
+
+    // Lets a range take in what lies between two cuts, where that joins it, and tells whether it has.
+    fn join(&mut self, i: usize, low: Cut<'_>, high: Cut<'_>) -> Result<bool, AllocError>
+        requires { i < length self.now }
+        ensures joined { IfOk result (λ joined. joined ≡ true → (x : Reference) → is_in_one self.new x ≡ (is_in_one self.old x || between low.entry high.entry x)) }
+        ensures apart { IfOk result (λ joined. joined ≡ false → self.new ≡ self.old) }
+        ensures err { OnErr result (self.new ≡ self.old) }
+    {
+        self.list[i].take_in(low, high)
+    }
+
+    /// Whether a reference was read: it lies in one of the ranges. Takes no memory.
+    pub fn meets(&self, key: &Key) -> bool
+        ensures { result ≡ is_in_one self.now key.now }
+    {
+        self.list.iter().any(|range| range.contains(key))
+    }
+
+    /// Forgets all ranges. Takes no memory.
+    pub fn clear(&mut self)
+        ensures { self.new ≡ [] }
+    {
+        self.list.clear();
+    }
+}
