@@ -12,7 +12,7 @@ use Rattle.m_text.specs.Reading.{with_front, begins_with, some_at, parted_at, cl
 use Rattle.m_text.specs.Place.{subscript_at, subscripts_at, front_word, past_word, named_at, place_at, name_fault, ref_fault, spot_fault, spot_of, unless, without_fault, ref_at, spot_at}
 use Rattle.m_text.specs.Drafts.{Drafts, DraftsSpelled}
 use Rattle.m_text.specs.FaultLaws.{ref_due, spot_due, due_or_memory}
-use Rattle.m_text.proofs.Fronts.{with_front-nil, refused_too}
+use Rattle.m_text.specs.ReadingLaws.{with_front-nil, refused_too}
 use Rattle.std.specs.Prelude.{◌==◌}
 
 -- what has been read, and what the rest will add

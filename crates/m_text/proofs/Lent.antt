@@ -4,8 +4,8 @@ use Rattle.std.proofs.lemmas.List.{append-nil}
 use Rattle.std.specs.Prelude.{◌||◌}
 use Rattle.m_text.specs.Reading.{with_front, begins_with, parted_at}
 use Rattle.m_text.specs.Literal.{quoted_at, part_at, literal_at}
-use Rattle.m_text.proofs.Fronts.{with_front-nil}
-use Rattle.m_text.proofs.Parted.{reads_last}
+use Rattle.m_text.specs.ReadingLaws.{with_front-nil}
+use Rattle.m_text.specs.LoopLaws.{reads_last}
 
 closed_run : (rest : List ℕ) → begins_with 34 rest ≡ false → quoted_at (34 ∷ rest) ≡ Some ([], rest)
 unfolding quoted_at

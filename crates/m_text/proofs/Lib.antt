@@ -1,6 +1,5 @@
 pub mod Fronts
 pub mod QuotedRuns
-pub mod Parted
 pub mod Digits
 pub mod Ends
 pub mod Numbers

@@ -7,6 +7,8 @@ pub mod Laws
 pub mod FrontLaws
 pub mod FaultLaws
 pub mod PartedLaws
+pub mod ReadingLaws
+pub mod LoopLaws
 pub mod PartLaws
 pub mod LiteralLaws
 pub mod PlaceLaws

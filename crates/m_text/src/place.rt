@@ -76,8 +76,15 @@ fn read_subscripts<'a>(
     }
 }
 
-// A name word and subscripts.
-fn read_named<'a>(alloc: Global, text: &'a [u8], draft: &mut KeyDraft) -> Result<&'a [u8], Refusal>
+/// Reads what is spelled as a name word and subscripts at the front of a text, a reference or place without its caret,
+/// into a draft, and answers what follows it.
+///
+/// Whatever faults it has, as `read_draft`. Refusals: `BadLine` where none is spelled there; `OutOfMemory`.
+pub fn read_named<'a>(
+    alloc: Global,
+    text: &'a [u8],
+    draft: &mut KeyDraft,
+) -> Result<&'a [u8], Refusal>
     ensures { DraftsSpelled draft.new result (named_at text.now) }
 {
     let (word, rest) = split_word(text);

@@ -4,7 +4,7 @@ use Rattle.std.proofs.lemmas.Bool.{or_right}
 use Rattle.std.specs.Prelude.{◌&&◌, ◌==◌}
 use Rattle.refusal.specs.declared.Refusal.{Refusal}
 use Rattle.refusal.specs.declared.Refusal.TheVariants.{BadLine, BadJob, OutOfMemory}
-use Rattle.command.specs.declared.access.DataCommand.{DataCommand}
+use Rattle.command.specs.declared.request.Command.{Command}
 use Rattle.m_text.specs.Reading.{◌>>=◌, IsRefused, IsDue}
 use Rattle.m_text.specs.Literal.{front_digits, past_digits, number_from}
 use Rattle.m_text.specs.Place.{unless}
@@ -23,42 +23,42 @@ abbrev job_number : List ℕ → ℕ
 job_number line = number_from 0 (front_digits line)
 
 -- behind the digits of a line of the grammar stands a blank
-blank_behind : (t u : Bool) (line : List ℕ) (c : DataCommand) → (begins_blank (past_digits line)) ≡ u → cond t None (cond u (Some (past_blank (past_digits line))) None >>= λ rest. command_at rest >>= end_of) ≡ Some c → u ≡ true
+blank_behind : (t u : Bool) (line : List ℕ) (c : Command) → (begins_blank (past_digits line)) ≡ u → cond t None (cond u (Some (past_blank (past_digits line))) None >>= λ rest. command_at rest >>= end_of) ≡ Some c → u ≡ true
 blank_behind t true line c p e = refl
 blank_behind true false line c p e = absurd cc
 blank_behind false false line c p e = absurd cc
 
-job_is : (line : List ℕ) (c : DataCommand) → spelled_by line ≡ Some c → job_of line ≡ cond (is_job (job_number line)) (Some (job_number line)) None
+job_is : (line : List ℕ) (c : Command) → spelled_by line ≡ Some c → job_of line ≡ cond (is_job (job_number line)) (Some (job_number line)) None
 unfolding job_of spelled_by
 job_is line c e =
     let blank : begins_blank (past_digits line) ≡ true = blank_behind (length (front_digits line) == 0) (begins_blank (past_digits line)) line c refl e in
     ap (λ (t : Bool). cond (t && is_job (job_number line)) (Some (job_number line)) None) (or_right (length (past_digits line) == 0) (begins_blank (past_digits line)) blank)
 
 -- the line of a job that is none
-pub bad_job : (line : List ℕ) (c : DataCommand) → spelled_by line ≡ Some c → job_of line ≡ None → reading_of line ≡ Err BadJob
+pub bad_job : (line : List ℕ) (c : Command) → spelled_by line ≡ Some c → job_of line ≡ None → reading_of line ≡ Err BadJob
 unfolding reading_of
 bad_job line c e none = ap (judged (job_number line)) e ∙ at (is_job (job_number line)) (sym (job_is line c e) ∙ none)
   where
-    at : (t : Bool) → cond t (Some (job_number line)) None ≡ None → cond t (unless {A = ℕ × DataCommand} (fault_of c) (job_number line, c)) (Err BadJob) ≡ Err BadJob
+    at : (t : Bool) → cond t (Some (job_number line)) None ≡ None → cond t (unless {A = ℕ × Command} (fault_of c) (job_number line, c)) (Err BadJob) ≡ Err BadJob
     at true h = absurd cc
     at false h = refl
 
 -- the line of a job
-judged_is : (line : List ℕ) (c : DataCommand) (n : ℕ) → spelled_by line ≡ Some c → job_of line ≡ Some n → reading_of line ≡ unless {A = ℕ × DataCommand} (fault_of c) (n, c)
+judged_is : (line : List ℕ) (c : Command) (n : ℕ) → spelled_by line ≡ Some c → job_of line ≡ Some n → reading_of line ≡ unless {A = ℕ × Command} (fault_of c) (n, c)
 unfolding reading_of
 judged_is line c n e some = ap (judged (job_number line)) e ∙ at (is_job (job_number line)) (sym (job_is line c e) ∙ some)
   where
-    at : (t : Bool) → cond t (Some (job_number line)) None ≡ Some n → cond t (unless {A = ℕ × DataCommand} (fault_of c) (job_number line, c)) (Err BadJob) ≡ unless {A = ℕ × DataCommand} (fault_of c) (n, c)
-    at true h = let same : job_number line ≡ n = cc in ap (λ (k : ℕ). unless {A = ℕ × DataCommand} (fault_of c) (k, c)) same
+    at : (t : Bool) → cond t (Some (job_number line)) None ≡ Some n → cond t (unless {A = ℕ × Command} (fault_of c) (job_number line, c)) (Err BadJob) ≡ unless {A = ℕ × Command} (fault_of c) (n, c)
+    at true h = let same : job_number line ≡ n = cc in ap (λ (k : ℕ). unless {A = ℕ × Command} (fault_of c) (k, c)) same
     at false h = absurd cc
 
-pub read : (line : List ℕ) (c d : DataCommand) (n : ℕ) → spelled_by line ≡ Some c → job_of line ≡ Some n → unless (fault_of c) c ≡ Ok d → reading_of line ≡ Ok (n, d)
+pub read : (line : List ℕ) (c d : Command) (n : ℕ) → spelled_by line ≡ Some c → job_of line ≡ Some n → unless (fault_of c) c ≡ Ok d → reading_of line ≡ Ok (n, d)
 read line c d n e some good =
     let p = unless_ok (fault_of c) c d good in
-    judged_is line c n e some ∙ ap (λ (f : Option Refusal). unless {A = ℕ × DataCommand} f (n, c)) p.0 ∙ ap (λ (x : DataCommand). Ok (n, x)) p.1
+    judged_is line c n e some ∙ ap (λ (f : Option Refusal). unless {A = ℕ × Command} f (n, c)) p.0 ∙ ap (λ (x : Command). Ok (n, x)) p.1
 
-pub faulty : (line : List ℕ) (c : DataCommand) (n : ℕ) (refusal : Refusal) → spelled_by line ≡ Some c → job_of line ≡ Some n → IsDue refusal (unless (fault_of c) c) → IsRefusalOf line refusal
+pub faulty : (line : List ℕ) (c : Command) (n : ℕ) (refusal : Refusal) → spelled_by line ≡ Some c → job_of line ≡ Some n → IsDue refusal (unless (fault_of c) c) → IsRefusalOf line refusal
 faulty line c n OutOfMemory e some h = tt
-faulty line c n refusal e some h = judged_is line c n e some ∙ ap (λ (f : Option Refusal). unless {A = ℕ × DataCommand} f (n, c)) (unless_err (fault_of c) c refusal h)
+faulty line c n refusal e some h = judged_is line c n e some ∙ ap (λ (f : Option Refusal). unless {A = ℕ × Command} f (n, c)) (unless_err (fault_of c) c refusal h)
 
 pub ruleset of_lines = (bad_line, bad_job, read, faulty)

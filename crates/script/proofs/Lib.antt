@@ -1,3 +1,4 @@
 pub mod Due
 pub mod Judging
+pub mod Naming
 pub mod Sentences

@@ -15,8 +15,8 @@ use Rattle.m_text.specs.Forms.{IsLiteral, IsReference, IsBreak, IsReferenceBreak
 use Rattle.m_text.specs.PartedLaws.{begins}
 use Rattle.m_text.specs.LiteralLaws.{literal_found, literal_read}
 use Rattle.m_text.specs.PlaceLaws.{FoundOf, place_found, place_read}
-use Rattle.script.specs.declared.word.Word.{Word}
-use Rattle.script.specs.declared.word.Word.TheVariants as words
+use Rattle.script.specs.declared.word.DataWord.{DataWord}
+use Rattle.script.specs.declared.word.DataWord.TheVariants as data_words
 use Rattle.script.specs.Commands.{direction_of, value_at, source_at, default_at, direction_at, tail_at, operands_at}
 use Rattle.script.specs.Grammar.{IsDefault, IsDirection, IsTail, IsOperands}
 use Rattle.script.specs.Grammar.IsDefault.{no_default, default}
@@ -108,16 +108,16 @@ direction_found bytes d rest e = at (begins_with 44 bytes) refl e
 alone : (Tail : List ℕ → DataCommand → Type 0) (x c : DataCommand) (bytes rest : List ℕ) → Tail [] x → ◌≡◌ {A = Option (DataCommand × List ℕ)} (Some (x, bytes)) (Some (c, rest)) → FoundOf Tail bytes c rest
 alone Tail x c bytes rest form e = let p = some_pair_parts x c bytes rest e in found_is Tail bytes x c bytes rest p.0 p.1 (record { text = []; form = form; parts = refl })
 
-tail_found : (word : Word) (r : Reference) (bytes : List ℕ) (c : DataCommand) (rest : List ℕ) → tail_at word r bytes ≡ Some (c, rest) → FoundOf (IsTail word r) bytes c rest
-tail_found words.Set r bytes c rest e = then_found value_at (IsBehind 61 IsLiteral) (IsTail words.Set r) (λ v. Set r v) value_found (λ text v h. rw h.parts (set h.form)) bytes c rest e
-tail_found words.Kill r bytes c rest e = alone (IsTail words.Kill r) (Kill r) c bytes rest kill e
-tail_found words.Merge r bytes c rest e = then_found source_at (IsBehind 61 IsReference) (IsTail words.Merge r) (λ s. Merge r s) source_found (λ text s h. rw h.parts (merge h.form)) bytes c rest e
-tail_found words.Data r bytes c rest e = alone (IsTail words.Data r) (Look (Data r)) c bytes rest data_of e
-tail_found words.Get r bytes c rest e = then_found default_at IsDefault (IsTail words.Get r) (λ d. Look (Get r d)) default_found (λ text d h. get_of h) bytes c rest e
-tail_found words.Order r bytes c rest e = then_found direction_at IsDirection (IsTail words.Order r) (λ d. Look (Order (spot_of r) d)) direction_found (λ text d h. order_of h) bytes c rest e
-tail_found words.Query r bytes c rest e = then_found direction_at IsDirection (IsTail words.Query r) (λ d. Look (Query (spot_of r) d)) direction_found (λ text d h. query_of h) bytes c rest e
+tail_found : (word : DataWord) (r : Reference) (bytes : List ℕ) (c : DataCommand) (rest : List ℕ) → tail_at word r bytes ≡ Some (c, rest) → FoundOf (IsTail word r) bytes c rest
+tail_found data_words.Set r bytes c rest e = then_found value_at (IsBehind 61 IsLiteral) (IsTail data_words.Set r) (λ v. Set r v) value_found (λ text v h. rw h.parts (set h.form)) bytes c rest e
+tail_found data_words.Kill r bytes c rest e = alone (IsTail data_words.Kill r) (Kill r) c bytes rest kill e
+tail_found data_words.Merge r bytes c rest e = then_found source_at (IsBehind 61 IsReference) (IsTail data_words.Merge r) (λ s. Merge r s) source_found (λ text s h. rw h.parts (merge h.form)) bytes c rest e
+tail_found data_words.Data r bytes c rest e = alone (IsTail data_words.Data r) (Look (Data r)) c bytes rest data_of e
+tail_found data_words.Get r bytes c rest e = then_found default_at IsDefault (IsTail data_words.Get r) (λ d. Look (Get r d)) default_found (λ text d h. get_of h) bytes c rest e
+tail_found data_words.Order r bytes c rest e = then_found direction_at IsDirection (IsTail data_words.Order r) (λ d. Look (Order (spot_of r) d)) direction_found (λ text d h. order_of h) bytes c rest e
+tail_found data_words.Query r bytes c rest e = then_found direction_at IsDirection (IsTail data_words.Query r) (λ d. Look (Query (spot_of r) d)) direction_found (λ text d h. query_of h) bytes c rest e
 
-pub operands_found : (word : Word) (bytes : List ℕ) (c : DataCommand) (rest : List ℕ) → operands_at word bytes ≡ Some (c, rest) → FoundOf (IsOperands word) bytes c rest
+pub operands_found : (word : DataWord) (bytes : List ℕ) (c : DataCommand) (rest : List ℕ) → operands_at word bytes ≡ Some (c, rest) → FoundOf (IsOperands word) bytes c rest
 unfolding operands_at
 operands_found word bytes c rest e =
     let a = and_then_some (place_at bytes) (λ place. tail_at word place.0 place.1) (c, rest) e in
@@ -153,7 +153,7 @@ unfolding direction_at
 direction_read rest stops no_direction = rw stops.comma refl
 direction_read rest stops (direction {text} {value} {d} literal of) = rw (literal_read text value rest literal stops.literal, of) refl
 
-tail_read : {word : Word} {r : Reference} {text : List ℕ} {c : DataCommand} (rest : List ℕ) → Stops rest → IsTail word r text c → tail_at word r (text ++ rest) ≡ Some (c, rest)
+tail_read : {word : DataWord} {r : Reference} {text : List ℕ} {c : DataCommand} (rest : List ℕ) → Stops rest → IsTail word r text c → tail_at word r (text ++ rest) ≡ Some (c, rest)
 tail_read rest stops (set {r} {text} {value} literal) = rw (value_read text value rest literal stops) refl
 tail_read rest stops kill = refl
 tail_read rest stops (merge {r} {s} {text} form) = rw (source_read text s rest form stops) refl
@@ -171,7 +171,7 @@ direction_breaks rest stops no_direction = stops.reference
 direction_breaks rest stops (direction literal of) = refl
 
 -- a reference ends before its tail
-tail_breaks : {word : Word} {r : Reference} {text : List ℕ} {c : DataCommand} (rest : List ℕ) → Stops rest → IsTail word r text c → IsReferenceBreak (text ++ rest)
+tail_breaks : {word : DataWord} {r : Reference} {text : List ℕ} {c : DataCommand} (rest : List ℕ) → Stops rest → IsTail word r text c → IsReferenceBreak (text ++ rest)
 tail_breaks rest stops (set literal) = refl
 tail_breaks rest stops kill = stops.reference
 tail_breaks rest stops (merge form) = refl
@@ -180,11 +180,11 @@ tail_breaks rest stops (get_of of) = default_breaks rest stops of
 tail_breaks rest stops (order_of of) = direction_breaks rest stops of
 tail_breaks rest stops (query_of of) = direction_breaks rest stops of
 
-pub operands_read : (word : Word) (text : List ℕ) (c : DataCommand) (rest : List ℕ) → IsOperands word text c → Stops rest → operands_at word (text ++ rest) ≡ Some (c, rest)
+pub operands_read : (word : DataWord) (text : List ℕ) (c : DataCommand) (rest : List ℕ) → IsOperands word text c → Stops rest → operands_at word (text ++ rest) ≡ Some (c, rest)
 unfolding operands_at
 operands_read word text c rest h stops =
     let regrouped : text ++ rest ≡ h.place ++ (h.tail ++ rest) = ap (λ u. u ++ rest) h.parts ∙ append_assoc h.place h.tail rest in
     rw (regrouped, place_read h.place h.reference (h.tail ++ rest) h.spelled (tail_breaks rest stops h.wanted)) (tail_read rest stops h.wanted)
 
-pub operands_begin : (word : Word) (text : List ℕ) (c : DataCommand) (rest : List ℕ) → IsOperands word text c → begins_with 94 (text ++ rest) ≡ true
+pub operands_begin : (word : DataWord) (text : List ℕ) (c : DataCommand) (rest : List ℕ) → IsOperands word text c → begins_with 94 (text ++ rest) ≡ true
 operands_begin word text c rest h = rw (h.parts, h.spelled.parts) refl

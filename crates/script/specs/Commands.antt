@@ -1,5 +1,5 @@
 -- Commands at the front of a text, and the first fault of a command. Source: docs/FORMATS.md, "Lines".
--- Read command_at first, then tail_at, then fault_of.
+-- Read command_at first, then behind_act, tail_at, then fault_of.
 use Rattle.std.specs.Prelude.{ℕ, Bool, false, not, ◌||◌, ◌==◌, nat_eq, nat_lt, if◌then◌else◌, List, [], ◌∷◌, length, drop, Option, None, Some, codes}
 use Rattle.std.specs.List.{position_or_len}
 use Rattle.std.specs.Option.{option_map, option_and_then, option_or}
@@ -13,12 +13,20 @@ use Rattle.command.specs.declared.access.DataCommand.{DataCommand}
 use Rattle.command.specs.declared.access.DataCommand.TheVariants.{Set, Kill, Merge, Look}
 use Rattle.command.specs.declared.access.Look.{Look as LookCommand}
 use Rattle.command.specs.declared.access.Look.TheVariants.{Data, Get, Order, Query}
+use Rattle.collation.specs.declared.lock.LockCommand.TheVariants.{Release}
+use Rattle.command.specs.declared.request.Command.{Command}
+use Rattle.command.specs.declared.request.Command.TheVariants.{Access, Lock, Start, Commit, Rollback, Restart, Level, Restarts, Halt}
 use Rattle.m_text.specs.Reading.{◌>>=◌, begins_with, after}
 use Rattle.m_text.specs.Literal.{literal_at, front_letters, past_letters}
 use Rattle.m_text.specs.Place.{place_at, spot_of, ref_fault, spot_fault}
 use Rattle.script.specs.declared.word.Word.{Word}
 use Rattle.script.specs.declared.word.Word.TheVariants as words
+use Rattle.script.specs.declared.word.DataWord.{DataWord}
+use Rattle.script.specs.declared.word.DataWord.TheVariants as data_words
+use Rattle.script.specs.declared.word.AloneWord.{AloneWord}
+use Rattle.script.specs.declared.word.AloneWord.TheVariants as alone_words
 use Rattle.script.specs.Words.{act_of, function_of}
+use Rattle.script.specs.Locking.{locking_at, lock_fault}
 
 -- byte 32 or byte 9
 abbrev pub is_blank : ℕ → Bool
@@ -72,39 +80,74 @@ direction_at text =
     else Some (Forward, text)
 
 -- what a word wants behind its reference r
-abbrev pub tail_at : Word → Reference → List ℕ → Option (DataCommand × List ℕ)
-tail_at words.Set r text = value_at text >>= λ value. Some (Set r value.0, value.1)
-tail_at words.Kill r text = Some (Kill r, text)
-tail_at words.Merge r text = source_at text >>= λ source. Some (Merge r source.0, source.1)
-tail_at words.Data r text = Some (Look (Data r), text)
-tail_at words.Get r text = default_at text >>= λ default. Some (Look (Get r default.0), default.1)
-tail_at words.Order r text = direction_at text >>= λ direction. Some (Look (Order (spot_of r) direction.0), direction.1)
-tail_at words.Query r text = direction_at text >>= λ direction. Some (Look (Query (spot_of r) direction.0), direction.1)
+abbrev pub tail_at : DataWord → Reference → List ℕ → Option (DataCommand × List ℕ)
+tail_at data_words.Set r text = value_at text >>= λ value. Some (Set r value.0, value.1)
+tail_at data_words.Kill r text = Some (Kill r, text)
+tail_at data_words.Merge r text = source_at text >>= λ source. Some (Merge r source.0, source.1)
+tail_at data_words.Data r text = Some (Look (Data r), text)
+tail_at data_words.Get r text = default_at text >>= λ default. Some (Look (Get r default.0), default.1)
+tail_at data_words.Order r text = direction_at text >>= λ direction. Some (Look (Order (spot_of r) direction.0), direction.1)
+tail_at data_words.Query r text = direction_at text >>= λ direction. Some (Look (Query (spot_of r) direction.0), direction.1)
 
 -- a reference, and what the word wants behind it
-unfoldable pub operands_at : Word → List ℕ → Option (DataCommand × List ℕ)
+unfoldable pub operands_at : DataWord → List ℕ → Option (DataCommand × List ℕ)
 operands_at word text = do
   place ← place_at text
   tail_at word place.0 place.1
 
--- a word, a blank and what the act wants
-unfoldable pub acts_at : List ℕ → Option (DataCommand × List ℕ)
-acts_at text = do
-  act ← act_of (front_letters text)
-  rest ← blank_at (past_letters text)
-  operands_at act rest
+-- behind LOCK's word: nothing but a blank, or a blank and names
+unfoldable pub lock_at : List ℕ → Option (Command × List ℕ)
+lock_at text =
+    if length (past_blank text) == 0
+    then Some (Lock Release, text)
+    else (do
+      rest ← blank_at text
+      command ← locking_at rest
+      Some (Lock command.0, command.1))
 
--- after '$': a word, and in parentheses what the function wants
-unfoldable pub functions_at : List ℕ → Option (DataCommand × List ℕ)
-functions_at text = do
-  function ← function_of (front_letters text)
-  rest ← after 40 (past_letters text)
-  command ← operands_at function rest
+-- the command that is its word alone
+abbrev pub command_of : AloneWord → Command
+command_of alone_words.Start = Start
+command_of alone_words.Commit = Commit
+command_of alone_words.Rollback = Rollback
+command_of alone_words.Restart = Restart
+command_of alone_words.Halt = Halt
+command_of alone_words.Level = Level
+command_of alone_words.Restarts = Restarts
+
+-- what an act wants behind its word: a blank and operands, lock names, or nothing
+abbrev pub behind_act : Word → List ℕ → Option (Command × List ℕ)
+behind_act (words.Access word) text = do
+  rest ← blank_at text
+  command ← operands_at word rest
+  Some (Access command.0, command.1)
+behind_act words.Lock text = lock_at text
+behind_act (words.Alone word) text = Some (command_of word, text)
+
+-- what a function wants behind its word: operands in parentheses, or nothing; LOCK is none
+abbrev pub behind_function : Word → List ℕ → Option (Command × List ℕ)
+behind_function (words.Access word) text = do
+  rest ← after 40 text
+  command ← operands_at word rest
   rest ← after 41 command.1
-  Some (command.0, rest)
+  Some (Access command.0, rest)
+behind_function words.Lock text = None
+behind_function (words.Alone word) text = Some (command_of word, text)
+
+-- a word, and what the act wants
+unfoldable pub acts_at : List ℕ → Option (Command × List ℕ)
+acts_at text = do
+  word ← act_of (front_letters text)
+  behind_act word (past_letters text)
+
+-- after '$': a word, and what the function wants
+unfoldable pub functions_at : List ℕ → Option (Command × List ℕ)
+functions_at text = do
+  word ← function_of (front_letters text)
+  behind_function word (past_letters text)
 
 -- a command, whatever faults it has
-unfoldable pub command_at : List ℕ → Option (DataCommand × List ℕ)
+unfoldable pub command_at : List ℕ → Option (Command × List ℕ)
 command_at text = if begins_with 36 text then functions_at (drop 1 text) else acts_at text
 
 -- a value over 32,767 bytes
@@ -118,9 +161,21 @@ look_fault (Get r default) = option_or (ref_fault r) (option_and_then value_faul
 look_fault (Order p direction) = spot_fault p
 look_fault (Query p direction) = spot_fault p
 
+-- the first fault of a data command, from left to right
+abbrev pub data_fault : DataCommand → Option Refusal
+data_fault (Set r value) = option_or (ref_fault r) (value_fault value)
+data_fault (Kill r) = ref_fault r
+data_fault (Merge target source) = option_or (ref_fault target) (ref_fault source)
+data_fault (Look look) = look_fault look
+
 -- the first fault of a command, from left to right
-abbrev pub fault_of : DataCommand → Option Refusal
-fault_of (Set r value) = option_or (ref_fault r) (value_fault value)
-fault_of (Kill r) = ref_fault r
-fault_of (Merge target source) = option_or (ref_fault target) (ref_fault source)
-fault_of (Look look) = look_fault look
+abbrev pub fault_of : Command → Option Refusal
+fault_of (Access command) = data_fault command
+fault_of (Lock command) = lock_fault command
+fault_of Start = None
+fault_of Commit = None
+fault_of Rollback = None
+fault_of Restart = None
+fault_of Level = None
+fault_of Restarts = None
+fault_of Halt = None

@@ -1,21 +1,31 @@
 -- The grammar of lines: which texts spell which commands. Source: docs/FORMATS.md, "Lines".
--- Read IsLine, then IsCommand; references and literals are those of m_text.
-use Rattle.std.specs.Prelude.{◌≡◌, ◌<◌, ℕ, true, false, List, [], ◌∷◌, ◌++◌, length, Option, None, Some}
+-- Read IsLine, then IsCommand; references, names and literals are those of m_text.
+use Rattle.std.specs.Prelude.{◌≡◌, ◌<◌, ◌≤◌, ℕ, true, false, List, [], ◌∷◌, ◌++◌, length, Option, None, Some}
 use Rattle.std.specs.List.{list_all}
 use Rattle.std.specs.Char.{is_ascii_digit}
-use Rattle.collation.specs.Reference.{Reference}
+use Rattle.collation.specs.Reference.{Reference, Resource}
 use Rattle.collation.specs.declared.direction.Direction.{Direction}
 use Rattle.collation.specs.declared.direction.Direction.TheVariants.{Forward}
 use Rattle.command.specs.declared.access.DataCommand.{DataCommand}
 use Rattle.command.specs.declared.access.DataCommand.TheVariants.{Set, Kill, Merge, Look}
 use Rattle.command.specs.declared.access.Look.TheVariants.{Data, Get, Order, Query}
+use Rattle.collation.specs.declared.lock.LockCommand.{LockCommand}
+use Rattle.collation.specs.declared.lock.LockCommand.TheVariants.{Release}
+use Rattle.command.specs.declared.request.Command.{Command}
+use Rattle.command.specs.declared.request.Command.TheVariants.{Access, Lock}
 use Rattle.m_text.specs.Literal.{number_from}
 use Rattle.m_text.specs.Place.{spot_of}
-use Rattle.m_text.specs.Forms.{IsLiteral, IsReference}
+use Rattle.m_text.specs.Forms.{IsLiteral, IsParted, IsNamed, IsReference}
 use Rattle.script.specs.declared.word.Word.{Word}
 use Rattle.script.specs.declared.word.Word.TheVariants as words
+use Rattle.script.specs.declared.word.DataWord.{DataWord}
+use Rattle.script.specs.declared.word.DataWord.TheVariants as data_words
+use Rattle.script.specs.declared.word.AloneWord.{AloneWord}
+use Rattle.script.specs.declared.lock.Form.{Form}
+use Rattle.script.specs.declared.lock.Form.TheVariants as forms
 use Rattle.script.specs.Words.{is_named, is_function}
-use Rattle.script.specs.Commands.{is_blank, direction_of}
+use Rattle.script.specs.Locking.{locking}
+use Rattle.script.specs.Commands.{is_blank, direction_of, command_of}
 
 -- one or more bytes 32 or 9
 pub record IsBlank (text : List ℕ) : Type 0 where
@@ -37,17 +47,17 @@ pub data IsDirection : List ℕ → Direction → Type 0 where
   direction : {text value : List ℕ} {d : Direction} → IsLiteral text value → direction_of value ≡ Some d → IsDirection (44 ∷ text) d
 
 -- what a word wants behind its reference r
-pub data IsTail : Word → Reference → List ℕ → DataCommand → Type 0 where
-  set : {r : Reference} {text value : List ℕ} → IsLiteral text value → IsTail words.Set r (61 ∷ text) (Set r value)
-  kill : {r : Reference} → IsTail words.Kill r [] (Kill r)
-  merge : {r s : Reference} {text : List ℕ} → IsReference text s → IsTail words.Merge r (61 ∷ text) (Merge r s)
-  data_of : {r : Reference} → IsTail words.Data r [] (Look (Data r))
-  get_of : {r : Reference} {text : List ℕ} {value : Option (List ℕ)} → IsDefault text value → IsTail words.Get r text (Look (Get r value))
-  order_of : {r : Reference} {text : List ℕ} {d : Direction} → IsDirection text d → IsTail words.Order r text (Look (Order (spot_of r) d))
-  query_of : {r : Reference} {text : List ℕ} {d : Direction} → IsDirection text d → IsTail words.Query r text (Look (Query (spot_of r) d))
+pub data IsTail : DataWord → Reference → List ℕ → DataCommand → Type 0 where
+  set : {r : Reference} {text value : List ℕ} → IsLiteral text value → IsTail data_words.Set r (61 ∷ text) (Set r value)
+  kill : {r : Reference} → IsTail data_words.Kill r [] (Kill r)
+  merge : {r s : Reference} {text : List ℕ} → IsReference text s → IsTail data_words.Merge r (61 ∷ text) (Merge r s)
+  data_of : {r : Reference} → IsTail data_words.Data r [] (Look (Data r))
+  get_of : {r : Reference} {text : List ℕ} {value : Option (List ℕ)} → IsDefault text value → IsTail data_words.Get r text (Look (Get r value))
+  order_of : {r : Reference} {text : List ℕ} {d : Direction} → IsDirection text d → IsTail data_words.Order r text (Look (Order (spot_of r) d))
+  query_of : {r : Reference} {text : List ℕ} {d : Direction} → IsDirection text d → IsTail data_words.Query r text (Look (Query (spot_of r) d))
 
 -- a reference, and what the word wants behind it
-pub record IsOperands (word : Word) (text : List ℕ) (c : DataCommand) : Type 0 where
+pub record IsOperands (word : DataWord) (text : List ℕ) (c : DataCommand) : Type 0 where
   pub place : List ℕ
   pub tail : List ℕ
   pub reference : Reference
@@ -55,13 +65,57 @@ pub record IsOperands (word : Word) (text : List ℕ) (c : DataCommand) : Type 0
   pub wanted : IsTail word reference tail c
   pub parts : text ≡ place ++ tail
 
--- a word, a blank and operands, or '$', a word and operands in parentheses
-pub data IsCommand : List ℕ → DataCommand → Type 0 where
-  act : {word : Word} {letters blank text : List ℕ} {c : DataCommand} → is_function word ≡ false → IsWord word letters → IsBlank blank → IsOperands word text c → IsCommand (letters ++ (blank ++ text)) c
-  function : {word : Word} {letters text : List ℕ} {c : DataCommand} → is_function word ≡ true → IsWord word letters → IsOperands word text c → IsCommand (36 ∷ (letters ++ (40 ∷ (text ++ 41 ∷ [])))) c
+-- a lock name: a reference, or one without its caret
+pub data IsLockName : List ℕ → Resource → Type 0 where
+  with_caret : {text : List ℕ} {r : Reference} → IsReference text r → IsLockName text (record { has_caret = true; reference = r })
+  without_caret : {text : List ℕ} {r : Reference} → IsNamed text r → IsLockName text (record { has_caret = false; reference = r })
+
+-- a lock name, for the list of it
+pub record IsOneName (text : List ℕ) (ns : List Resource) : Type 0 where
+  pub name : Resource
+  pub spelled : IsLockName text name
+  pub alone : ns ≡ name ∷ []
+
+-- a lock name, or several in parentheses with a comma between two
+pub data AreLockNames : List ℕ → List Resource → Type 0 where
+  one_name : {text : List ℕ} {ns : List Resource} → IsOneName text ns → AreLockNames text ns
+  names : {texts : List ℕ} {ns : List Resource} → IsParted IsOneName 44 texts ns → AreLockNames (40 ∷ (texts ++ 41 ∷ [])) ns
+
+-- nothing, '+' or '-'
+pub data IsSign : List ℕ → Form → Type 0 where
+  no_sign : IsSign [] forms.Only
+  plus : IsSign (43 ∷ []) forms.More
+  minus : IsSign (45 ∷ []) forms.Fewer
+
+-- nothing, or ':' and one to nine digits
+pub data IsTimeout : List ℕ → Type 0 where
+  no_timeout : IsTimeout []
+  timeout : {digits : List ℕ} → list_all is_ascii_digit digits ≡ true → 0 < length digits → length digits ≤ 9 → IsTimeout (58 ∷ digits)
+
+-- a sign, lock names and a timeout, which means nothing
+pub record IsLocking (text : List ℕ) (c : LockCommand) : Type 0 where
+  pub sign : List ℕ
+  pub listed : List ℕ
+  pub ending : List ℕ
+  pub form : Form
+  pub resources : List Resource
+  pub signed : IsSign sign form
+  pub spelled : AreLockNames listed resources
+  pub timed : IsTimeout ending
+  pub asked : c ≡ locking form resources
+  pub parts : text ≡ sign ++ (listed ++ ending)
+
+-- a word, a blank and what the word wants, or a word alone; a function stands behind '$', its operands in parentheses
+pub data IsCommand : List ℕ → Command → Type 0 where
+  act : {word : DataWord} {letters blank text : List ℕ} {c : DataCommand} → is_function (words.Access word) ≡ false → IsWord (words.Access word) letters → IsBlank blank → IsOperands word text c → IsCommand (letters ++ (blank ++ text)) (Access c)
+  function : {word : DataWord} {letters text : List ℕ} {c : DataCommand} → is_function (words.Access word) ≡ true → IsWord (words.Access word) letters → IsOperands word text c → IsCommand (36 ∷ (letters ++ (40 ∷ (text ++ 41 ∷ [])))) (Access c)
+  release : {letters : List ℕ} → IsWord words.Lock letters → IsCommand letters (Lock Release)
+  lock : {letters blank text : List ℕ} {c : LockCommand} → IsWord words.Lock letters → IsBlank blank → IsLocking text c → IsCommand (letters ++ (blank ++ text)) (Lock c)
+  alone : {word : AloneWord} {letters : List ℕ} → is_function (words.Alone word) ≡ false → IsWord (words.Alone word) letters → IsCommand letters (command_of word)
+  function_alone : {word : AloneWord} {letters : List ℕ} → is_function (words.Alone word) ≡ true → IsWord (words.Alone word) letters → IsCommand (36 ∷ letters) (command_of word)
 
 -- digits, a blank, a command, and perhaps a blank
-pub record IsLine (line : List ℕ) (job : ℕ) (c : DataCommand) : Type 0 where
+pub record IsLine (line : List ℕ) (job : ℕ) (c : Command) : Type 0 where
   pub digits : List ℕ
   pub blank : List ℕ
   pub command : List ℕ

@@ -1,10 +1,12 @@
 pub mod Line
 pub mod Words
+pub mod Locking
 pub mod Commands
 pub mod Sentence
 pub mod Text
 pub mod Grammar
 pub mod Laws
 pub mod WordLaws
+pub mod LockLaws
 pub mod CommandLaws
 pub mod LineLaws

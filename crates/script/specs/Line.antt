@@ -3,7 +3,7 @@
 use Rattle.std.specs.Prelude.{◌≡◌, ⊤, ℕ, Bool, ◌&&◌, ◌||◌, ◌==◌, nat_le, if◌then◌else◌, List, length, Option, None, Some, Result, Ok, Err}
 use Rattle.refusal.specs.declared.Refusal.{Refusal}
 use Rattle.refusal.specs.declared.Refusal.TheVariants.{BadLine, BadJob, OutOfMemory}
-use Rattle.command.specs.declared.access.DataCommand.{DataCommand}
+use Rattle.command.specs.declared.request.Command.{Command}
 use Rattle.m_text.specs.Reading.{◌>>=◌}
 use Rattle.m_text.specs.Literal.{front_digits, past_digits, number_from}
 use Rattle.m_text.specs.Place.{unless}
@@ -15,11 +15,11 @@ abbrev pub is_job : ℕ → Bool
 is_job n = nat_le 1 n && nat_le n 4096
 
 -- the end of a line: a blank or nothing
-abbrev pub end_of : DataCommand × List ℕ → Option DataCommand
+abbrev pub end_of : Command × List ℕ → Option Command
 end_of x = if length (past_blank x.1) == 0 then Some x.0 else None
 
 -- a line of the grammar: digits, a blank, a command and perhaps a blank
-unfoldable pub spelled_by : List ℕ → Option DataCommand
+unfoldable pub spelled_by : List ℕ → Option Command
 spelled_by line =
     if length (front_digits line) == 0
     then None
@@ -29,12 +29,12 @@ spelled_by line =
       end_of command)
 
 -- first the grammar is looked at, then the job, then the command's faults
-abbrev pub judged : ℕ → Option DataCommand → Result (ℕ × DataCommand) Refusal
+abbrev pub judged : ℕ → Option Command → Result (ℕ × Command) Refusal
 judged job None = Err BadLine
 judged job (Some command) = if is_job job then unless (fault_of command) (job, command) else Err BadJob
 
 -- the job and the command of a line, or its refusal
-unfoldable pub reading_of : List ℕ → Result (ℕ × DataCommand) Refusal
+unfoldable pub reading_of : List ℕ → Result (ℕ × Command) Refusal
 reading_of line = judged (number_from 0 (front_digits line)) (spelled_by line)
 
 -- digits end at a blank or the end of the line
@@ -52,6 +52,6 @@ IsRefusalOf line OutOfMemory = ⊤
 IsRefusalOf line refusal = reading_of line ≡ Err refusal
 
 -- what a function answered is what the line asks, unless memory ran out
-abbrev pub IsReading : List ℕ → Result (ℕ × DataCommand) LineFault → Type 0
+abbrev pub IsReading : List ℕ → Result (ℕ × Command) LineFault → Type 0
 IsReading line (Ok step) = (reading_of line ≡ Ok step) × (job_of line ≡ Some step.0)
 IsReading line (Err fault) = IsRefusalOf line fault.refusal × (fault.job ≡ job_of line)

@@ -1,51 +1,93 @@
--- Sentences, and the commands that they say with the references of drafts.
-use Rattle.std.specs.Prelude.{◌≡◌, ℕ, List, Option, Some, Result, Ok, Err}
+-- Sentences, and the commands that they say with the references and lock names of drafts.
+use Rattle.std.specs.Prelude.{◌≡◌, ℕ, List, Option, None, Some, Result, Ok, Err}
 use Rattle.std.specs.Borrow.{Bor}
 use Rattle.refusal.specs.declared.Refusal.{Refusal}
-use Rattle.collation.specs.Reference.{Reference}
+use Rattle.collation.specs.Reference.{Reference, Resource}
+use Rattle.collation.specs.declared.lock.LockCommand.{LockCommand}
+use Rattle.collation.specs.declared.lock.LockCommand.TheVariants.{Release}
 use Rattle.key_codec.specs.Draft.{IsDraft}
 use Rattle.key_codec.specs.declared.draft.KeyDraft.{KeyDraft}
 use Rattle.command.specs.declared.access.DataCommand.{DataCommand}
 use Rattle.command.specs.declared.access.DataCommand.TheVariants.{Set, Kill, Merge, Look}
 use Rattle.command.specs.declared.access.Look.TheVariants.{Data, Get, Order, Query}
+use Rattle.command.specs.declared.request.Command.{Command}
+use Rattle.command.specs.declared.request.Command.TheVariants.{Access, Lock}
 use Rattle.m_text.specs.Reading.{IsRefused}
 use Rattle.m_text.specs.Place.{spot_of}
+use Rattle.script.specs.declared.lock.Form.{Form}
+use Rattle.script.specs.declared.names.Names.{Names}
 use Rattle.script.specs.declared.sentence.Drafts.{Drafts}
+use Rattle.script.specs.declared.sentence.DataSentence.{DataSentence}
+use Rattle.script.specs.declared.sentence.DataSentence.TheVariants as data_sentences
 use Rattle.script.specs.declared.sentence.Sentence.{Sentence}
 use Rattle.script.specs.declared.sentence.Sentence.TheVariants as sentences
+use Rattle.script.specs.Locking.{locking, names_fault}
+use Rattle.script.specs.Commands.{command_of}
 
 -- the sentence says the command of r, which for MERGE has the reference of the second draft too
-abbrev pub Says : KeyDraft → Reference → Sentence → DataCommand → Type 0
-Says second r (sentences.Set value) c = c ≡ Set r value
-Says second r sentences.Kill c = c ≡ Kill r
-Says second r sentences.Merge c = (s : Reference) × (c ≡ (Merge r s)) × IsDraft second s
-Says second r sentences.Data c = c ≡ Look (Data r)
-Says second r (sentences.Get default) c = c ≡ Look (Get r default)
-Says second r (sentences.Order direction) c = c ≡ Look (Order (spot_of r) direction)
-Says second r (sentences.Query direction) c = c ≡ Look (Query (spot_of r) direction)
+abbrev pub Says : KeyDraft → Reference → DataSentence → DataCommand → Type 0
+Says second r (data_sentences.Set value) c = c ≡ Set r value
+Says second r data_sentences.Kill c = c ≡ Kill r
+Says second r data_sentences.Merge c = (s : Reference) × (c ≡ (Merge r s)) × IsDraft second s
+Says second r data_sentences.Data c = c ≡ Look (Data r)
+Says second r (data_sentences.Get default) c = c ≡ Look (Get r default)
+Says second r (data_sentences.Order direction) c = c ≡ Look (Order (spot_of r) direction)
+Says second r (data_sentences.Query direction) c = c ≡ Look (Query (spot_of r) direction)
 
 -- what is read behind the reference r says the command that is there
-abbrev pub Tells : KeyDraft → Reference → Result (Sentence × Bor (List ℕ)) Refusal → Option (DataCommand × List ℕ) → Type 0
+abbrev pub Tells : KeyDraft → Reference → Result (DataSentence × Bor (List ℕ)) Refusal → Option (DataCommand × List ℕ) → Type 0
 Tells second r (Ok x) read = (c : DataCommand) × (read ≡ Some (c, x.1.now)) × Says second r x.0 c
 Tells second r (Err refusal) read = IsRefused refusal read
 
--- a sentence and the drafts' references are those of the command
-pub record Spells (drafts : Drafts) (sentence : Sentence) (c : DataCommand) : Type 0 where
+-- a sentence and the drafts' references are those of the data command
+pub record SpellsData (drafts : Drafts) (sentence : DataSentence) (c : DataCommand) : Type 0 where
   pub reference : Reference
   pub drafted : IsDraft drafts.first reference
   pub said : Says drafts.second reference sentence c
 
+-- the sentence is that of some data command
+pub record SomeData (drafts : Drafts) (sentence : DataSentence) : Type 0 where
+  pub command : DataCommand
+  pub spelled : SpellsData drafts sentence command
+
+-- what is read is the sentence of the data command that is there
+abbrev pub FindsData : Drafts → Result (DataSentence × Bor (List ℕ)) Refusal → Option (DataCommand × List ℕ) → Type 0
+FindsData drafts (Ok x) read = (c : DataCommand) × (read ≡ Some (c, x.1.now)) × SpellsData drafts x.0 c
+FindsData drafts (Err refusal) read = IsRefused refusal read
+
+-- the lock names that are read, whatever faults they have: the first fault, or all of them
+pub record AreNamed (names : Names) (ns : List Resource) : Type 0 where
+  pub fault : names.fault ≡ names_fault ns
+  pub found : names_fault ns ≡ None → names.found.items ≡ ns
+
+-- the names are those that are read
+abbrev pub NamesSpelled : Names → Result (Bor (List ℕ)) Refusal → Option (List Resource × List ℕ) → Type 0
+NamesSpelled names (Ok rest) read = (ns : List Resource) × (read ≡ Some (ns, rest.now)) × AreNamed names ns
+NamesSpelled names (Err refusal) read = IsRefused refusal read
+
+-- a form and the names are those of the LOCK that is there
+abbrev pub FindsLocking : Names → Result (Form × Bor (List ℕ)) Refusal → Option (LockCommand × List ℕ) → Type 0
+FindsLocking names (Ok x) read = (ns : List Resource) × (read ≡ Some (locking x.0 ns, x.1.now)) × AreNamed names ns
+FindsLocking names (Err refusal) read = IsRefused refusal read
+
+-- a sentence with what the drafts have says the command
+abbrev pub Spells : Drafts → Sentence → Command → Type 0
+Spells drafts (sentences.Access sentence) c = (d : DataCommand) × (c ≡ Access d) × SpellsData drafts sentence d
+Spells drafts sentences.Release c = c ≡ Lock Release
+Spells drafts (sentences.Lock form) c = (ns : List Resource) × (c ≡ Lock (locking form ns)) × AreNamed drafts.names ns
+Spells drafts (sentences.Alone word) c = c ≡ command_of word
+
 -- what is read is the sentence of the command that is there
-abbrev pub Finds : Drafts → Result (Sentence × Bor (List ℕ)) Refusal → Option (DataCommand × List ℕ) → Type 0
-Finds drafts (Ok x) read = (c : DataCommand) × (read ≡ Some (c, x.1.now)) × Spells drafts x.0 c
+abbrev pub Finds : Drafts → Result (Sentence × Bor (List ℕ)) Refusal → Option (Command × List ℕ) → Type 0
+Finds drafts (Ok x) read = (c : Command) × (read ≡ Some (c, x.1.now)) × Spells drafts x.0 c
 Finds drafts (Err refusal) read = IsRefused refusal read
 
 -- the same of a whole line
-abbrev pub FindsAll : Drafts → Result Sentence Refusal → Option DataCommand → Type 0
-FindsAll drafts (Ok sentence) read = (c : DataCommand) × (read ≡ Some c) × Spells drafts sentence c
+abbrev pub FindsAll : Drafts → Result Sentence Refusal → Option Command → Type 0
+FindsAll drafts (Ok sentence) read = (c : Command) × (read ≡ Some c) × Spells drafts sentence c
 FindsAll drafts (Err refusal) read = IsRefused refusal read
 
 -- the sentence is that of some command
 pub record SpellsSome (drafts : Drafts) (sentence : Sentence) : Type 0 where
-  pub command : DataCommand
+  pub command : Command
   pub spelled : Spells drafts sentence command

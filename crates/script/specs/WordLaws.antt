@@ -9,6 +9,8 @@ use Rattle.m_text.specs.Literal.{is_word}
 use Rattle.m_text.specs.PartLaws.{word_letters}
 use Rattle.script.specs.declared.word.Word.{Word}
 use Rattle.script.specs.declared.word.Word.TheVariants as words
+use Rattle.script.specs.declared.word.DataWord.TheVariants as data_words
+use Rattle.script.specs.declared.word.AloneWord.TheVariants as alone_words
 use Rattle.script.specs.Words.{words_of, acts, functions, is_either, is_named, is_function, act_of, function_of}
 
 abbrev capitals : List ℕ → List ℕ
@@ -54,23 +56,39 @@ found_by table word bs p q e = elim (either_is (words_of word).0 (words_of word)
 
 -- letters that name an act are read as it
 pub act_named : (word : Word) (bs : List ℕ) → is_function word ≡ false → is_named word bs ≡ true → act_of bs ≡ Some word
-act_named words.Set bs k e = found_by acts words.Set bs refl refl e
-act_named words.Kill bs k e = found_by acts words.Kill bs refl refl e
-act_named words.Merge bs k e = found_by acts words.Merge bs refl refl e
-act_named words.Data bs k e = absurd cc
-act_named words.Get bs k e = absurd cc
-act_named words.Order bs k e = absurd cc
-act_named words.Query bs k e = absurd cc
+act_named (words.Access data_words.Set) bs k e = found_by acts (words.Access data_words.Set) bs refl refl e
+act_named (words.Access data_words.Kill) bs k e = found_by acts (words.Access data_words.Kill) bs refl refl e
+act_named (words.Access data_words.Merge) bs k e = found_by acts (words.Access data_words.Merge) bs refl refl e
+act_named (words.Access data_words.Data) bs k e = absurd cc
+act_named (words.Access data_words.Get) bs k e = absurd cc
+act_named (words.Access data_words.Order) bs k e = absurd cc
+act_named (words.Access data_words.Query) bs k e = absurd cc
+act_named words.Lock bs k e = found_by acts words.Lock bs refl refl e
+act_named (words.Alone alone_words.Start) bs k e = found_by acts (words.Alone alone_words.Start) bs refl refl e
+act_named (words.Alone alone_words.Commit) bs k e = found_by acts (words.Alone alone_words.Commit) bs refl refl e
+act_named (words.Alone alone_words.Rollback) bs k e = found_by acts (words.Alone alone_words.Rollback) bs refl refl e
+act_named (words.Alone alone_words.Restart) bs k e = found_by acts (words.Alone alone_words.Restart) bs refl refl e
+act_named (words.Alone alone_words.Halt) bs k e = found_by acts (words.Alone alone_words.Halt) bs refl refl e
+act_named (words.Alone alone_words.Level) bs k e = absurd cc
+act_named (words.Alone alone_words.Restarts) bs k e = absurd cc
 
 -- the same of a function
 pub function_named : (word : Word) (bs : List ℕ) → is_function word ≡ true → is_named word bs ≡ true → function_of bs ≡ Some word
-function_named words.Set bs k e = absurd cc
-function_named words.Kill bs k e = absurd cc
-function_named words.Merge bs k e = absurd cc
-function_named words.Data bs k e = found_by functions words.Data bs refl refl e
-function_named words.Get bs k e = found_by functions words.Get bs refl refl e
-function_named words.Order bs k e = found_by functions words.Order bs refl refl e
-function_named words.Query bs k e = found_by functions words.Query bs refl refl e
+function_named (words.Access data_words.Set) bs k e = absurd cc
+function_named (words.Access data_words.Kill) bs k e = absurd cc
+function_named (words.Access data_words.Merge) bs k e = absurd cc
+function_named (words.Access data_words.Data) bs k e = found_by functions (words.Access data_words.Data) bs refl refl e
+function_named (words.Access data_words.Get) bs k e = found_by functions (words.Access data_words.Get) bs refl refl e
+function_named (words.Access data_words.Order) bs k e = found_by functions (words.Access data_words.Order) bs refl refl e
+function_named (words.Access data_words.Query) bs k e = found_by functions (words.Access data_words.Query) bs refl refl e
+function_named words.Lock bs k e = absurd cc
+function_named (words.Alone alone_words.Start) bs k e = absurd cc
+function_named (words.Alone alone_words.Commit) bs k e = absurd cc
+function_named (words.Alone alone_words.Rollback) bs k e = absurd cc
+function_named (words.Alone alone_words.Restart) bs k e = absurd cc
+function_named (words.Alone alone_words.Halt) bs k e = absurd cc
+function_named (words.Alone alone_words.Level) bs k e = found_by functions (words.Alone alone_words.Level) bs refl refl e
+function_named (words.Alone alone_words.Restarts) bs k e = found_by functions (words.Alone alone_words.Restarts) bs refl refl e
 
 -- what is found passes the test, and what all pass
 find_passes : (p q : Word → Bool) (table : List Word) (word : Word) → list_all q table ≡ true → find p table ≡ Some word → (p word ≡ true) × (q word ≡ true)
@@ -92,13 +110,21 @@ abbrev are_capitals : List ℕ → Bool
 are_capitals ws = list_all (λ w. nat_le 65 w && nat_le w 90) ws
 
 table_capitals : (word : Word) → (are_capitals (words_of word).0 ≡ true) × (are_capitals (words_of word).1 ≡ true)
-table_capitals words.Set = (refl, refl)
-table_capitals words.Kill = (refl, refl)
-table_capitals words.Merge = (refl, refl)
-table_capitals words.Data = (refl, refl)
-table_capitals words.Get = (refl, refl)
-table_capitals words.Order = (refl, refl)
-table_capitals words.Query = (refl, refl)
+table_capitals (words.Access data_words.Set) = (refl, refl)
+table_capitals (words.Access data_words.Kill) = (refl, refl)
+table_capitals (words.Access data_words.Merge) = (refl, refl)
+table_capitals (words.Access data_words.Data) = (refl, refl)
+table_capitals (words.Access data_words.Get) = (refl, refl)
+table_capitals (words.Access data_words.Order) = (refl, refl)
+table_capitals (words.Access data_words.Query) = (refl, refl)
+table_capitals words.Lock = (refl, refl)
+table_capitals (words.Alone alone_words.Start) = (refl, refl)
+table_capitals (words.Alone alone_words.Commit) = (refl, refl)
+table_capitals (words.Alone alone_words.Rollback) = (refl, refl)
+table_capitals (words.Alone alone_words.Restart) = (refl, refl)
+table_capitals (words.Alone alone_words.Halt) = (refl, refl)
+table_capitals (words.Alone alone_words.Level) = (refl, refl)
+table_capitals (words.Alone alone_words.Restarts) = (refl, refl)
 
 pub named_letters : (word : Word) (bs : List ℕ) → is_named word bs ≡ true → list_all is_ascii_alphabetic bs ≡ true
 named_letters word bs e = elim (or_cases _ _ e) [

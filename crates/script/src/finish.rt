@@ -3,15 +3,18 @@ ghost use Rattle.std.specs.Prelude.{◌≡◌};
 ghost use Rattle.std.specs.Option.{option_and_then};
 ghost use Rattle.collation.specs.Reference.{Reference};
 ghost use Rattle.key_codec.specs.Draft.{IsDraft, IsSpelled};
-ghost use Rattle.command.specs.declared.access.DataCommand.{DataCommand as CommandView};
+ghost use Rattle.command.specs.declared.access.DataCommand.{DataCommand as DataView};
+ghost use Rattle.command.specs.declared.request.Command.{Command as CommandView};
 ghost use Rattle.m_text.specs.Reading.{Answers};
 ghost use Rattle.m_text.specs.Place.{ref_fault, spot_fault, spot_of, unless};
-ghost use Rattle.script.specs.Commands.{value_fault, fault_of};
-ghost use Rattle.script.specs.Sentence.{Spells, SpellsSome};
+ghost use Rattle.script.specs.Commands.{command_of as command_of_spec, value_fault, data_fault, fault_of};
+ghost use Rattle.script.specs.Sentence.{Spells, SpellsData, SpellsSome, SomeData};
 
-use crate::sentence::{Drafts, Sentence};
-use collation::{Direction, Text};
-use command::{DataCommand, Look};
+use crate::lock::locking;
+use crate::sentence::{DataSentence, Drafts, Sentence};
+use crate::word::AloneWord;
+use collation::{Direction, LockCommand, Text};
+use command::{Command, DataCommand, Look};
 use key_codec::{Key, KeyDraft, Place};
 use refusal::Refusal;
 use std::alloc::Global;
@@ -57,7 +60,7 @@ fn checked_default(default: Option<Text>) -> Result<Option<Text>, Refusal>
 
 fn set(alloc: Global, draft: &KeyDraft, value: Text) -> Result<DataCommand, Refusal>
     requires { IsSpelled draft.now }
-    ensures { (r : Reference) → IsDraft draft.now r → Answers (λ c. c) result (unless (fault_of (DataCommand.Set r value)) (DataCommand.Set r value)) }
+    ensures { (r : Reference) → IsDraft draft.now r → Answers (λ c. c) result (unless (data_fault (DataCommand.Set r value)) (DataCommand.Set r value)) }
 {
     let key = key_of(alloc, draft)?;
     let value = checked(value)?;
@@ -66,7 +69,7 @@ fn set(alloc: Global, draft: &KeyDraft, value: Text) -> Result<DataCommand, Refu
 
 fn kill(alloc: Global, draft: &KeyDraft) -> Result<DataCommand, Refusal>
     requires { IsSpelled draft.now }
-    ensures { (r : Reference) → IsDraft draft.now r → Answers (λ c. c) result (unless (fault_of (DataCommand.Kill r)) (DataCommand.Kill r)) }
+    ensures { (r : Reference) → IsDraft draft.now r → Answers (λ c. c) result (unless (data_fault (DataCommand.Kill r)) (DataCommand.Kill r)) }
 {
     let key = key_of(alloc, draft)?;
     Ok(DataCommand::Kill(key))
@@ -75,7 +78,7 @@ fn kill(alloc: Global, draft: &KeyDraft) -> Result<DataCommand, Refusal>
 fn merge(alloc: Global, target: &KeyDraft, source: &KeyDraft) -> Result<DataCommand, Refusal>
     requires target { IsSpelled target.now }
     requires source { IsSpelled source.now }
-    ensures { (r s : Reference) → IsDraft target.now r → IsDraft source.now s → Answers (λ c. c) result (unless (fault_of (DataCommand.Merge r s)) (DataCommand.Merge r s)) }
+    ensures { (r s : Reference) → IsDraft target.now r → IsDraft source.now s → Answers (λ c. c) result (unless (data_fault (DataCommand.Merge r s)) (DataCommand.Merge r s)) }
 {
     let target = key_of(alloc, target)?;
     let source = key_of(alloc, source)?;
@@ -84,7 +87,7 @@ fn merge(alloc: Global, target: &KeyDraft, source: &KeyDraft) -> Result<DataComm
 
 fn data(alloc: Global, draft: &KeyDraft) -> Result<DataCommand, Refusal>
     requires { IsSpelled draft.now }
-    ensures { (r : Reference) → IsDraft draft.now r → Answers (λ c. c) result (unless (fault_of (DataCommand.Look (Look.Data r))) (DataCommand.Look (Look.Data r))) }
+    ensures { (r : Reference) → IsDraft draft.now r → Answers (λ c. c) result (unless (data_fault (DataCommand.Look (Look.Data r))) (DataCommand.Look (Look.Data r))) }
 {
     let key = key_of(alloc, draft)?;
     Ok(DataCommand::Look(Look::Data(key)))
@@ -92,7 +95,7 @@ fn data(alloc: Global, draft: &KeyDraft) -> Result<DataCommand, Refusal>
 
 fn get(alloc: Global, draft: &KeyDraft, default: Option<Text>) -> Result<DataCommand, Refusal>
     requires { IsSpelled draft.now }
-    ensures { (r : Reference) → IsDraft draft.now r → Answers (λ c. c) result (unless (fault_of (DataCommand.Look (Look.Get r default))) (DataCommand.Look (Look.Get r default))) }
+    ensures { (r : Reference) → IsDraft draft.now r → Answers (λ c. c) result (unless (data_fault (DataCommand.Look (Look.Get r default))) (DataCommand.Look (Look.Get r default))) }
 {
     let key = key_of(alloc, draft)?;
     let default = checked_default(default)?;
@@ -101,7 +104,7 @@ fn get(alloc: Global, draft: &KeyDraft, default: Option<Text>) -> Result<DataCom
 
 fn order(alloc: Global, draft: &KeyDraft, direction: Direction) -> Result<DataCommand, Refusal>
     requires { IsSpelled draft.now }
-    ensures { (r : Reference) → IsDraft draft.now r → Answers (λ c. c) result (unless (fault_of (DataCommand.Look (Look.Order (spot_of r) direction))) (DataCommand.Look (Look.Order (spot_of r) direction))) }
+    ensures { (r : Reference) → IsDraft draft.now r → Answers (λ c. c) result (unless (data_fault (DataCommand.Look (Look.Order (spot_of r) direction))) (DataCommand.Look (Look.Order (spot_of r) direction))) }
 {
     match place_of(alloc, draft) {
         Ok(place) => Ok(DataCommand::Look(Look::Order(place, direction))),
@@ -111,7 +114,7 @@ fn order(alloc: Global, draft: &KeyDraft, direction: Direction) -> Result<DataCo
 
 fn query(alloc: Global, draft: &KeyDraft, direction: Direction) -> Result<DataCommand, Refusal>
     requires { IsSpelled draft.now }
-    ensures { (r : Reference) → IsDraft draft.now r → Answers (λ c. c) result (unless (fault_of (DataCommand.Look (Look.Query (spot_of r) direction))) (DataCommand.Look (Look.Query (spot_of r) direction))) }
+    ensures { (r : Reference) → IsDraft draft.now r → Answers (λ c. c) result (unless (data_fault (DataCommand.Look (Look.Query (spot_of r) direction))) (DataCommand.Look (Look.Query (spot_of r) direction))) }
 {
     match place_of(alloc, draft) {
         Ok(place) => Ok(DataCommand::Look(Look::Query(place, direction))),
@@ -119,22 +122,60 @@ fn query(alloc: Global, draft: &KeyDraft, direction: Direction) -> Result<DataCo
     }
 }
 
-// The command, or its first fault from left to right.
+// The data command, or its first fault from left to right.
+fn finish_data(
+    alloc: Global,
+    sentence: DataSentence,
+    drafts: &Drafts,
+) -> Result<DataCommand, Refusal>
+    requires { SomeData drafts.now sentence }
+    ensures { (c : DataView) → SpellsData drafts.now sentence c → Answers (λ x. x) result (unless (data_fault c) c) }
+{
+    match sentence {
+        DataSentence::Set(value) => set(alloc, &drafts.first, value),
+        DataSentence::Kill => kill(alloc, &drafts.first),
+        DataSentence::Merge => merge(alloc, &drafts.first, &drafts.second),
+        DataSentence::Data => data(alloc, &drafts.first),
+        DataSentence::Get(default) => get(alloc, &drafts.first, default),
+        DataSentence::Order(direction) => order(alloc, &drafts.first, direction),
+        DataSentence::Query(direction) => query(alloc, &drafts.first, direction),
+    }
+}
+
+// The command that is its word alone.
+fn command_of(word: AloneWord) -> Command
+    ensures { result ≡ command_of_spec word }
+{
+    match word {
+        AloneWord::Start => Command::Start,
+        AloneWord::Commit => Command::Commit,
+        AloneWord::Rollback => Command::Rollback,
+        AloneWord::Restart => Command::Restart,
+        AloneWord::Halt => Command::Halt,
+        AloneWord::Level => Command::Level,
+        AloneWord::Restarts => Command::Restarts,
+    }
+}
+
+// The command, or its first fault from left to right. Lock names are taken out of the drafts.
 pub(crate) fn finish(
     alloc: Global,
     sentence: Sentence,
-    drafts: &Drafts,
-) -> Result<DataCommand, Refusal>
-    requires { SpellsSome drafts.now sentence }
-    ensures { (c : CommandView) → Spells drafts.now sentence c → Answers (λ x. x) result (unless (fault_of c) c) }
+    drafts: &mut Drafts,
+) -> Result<Command, Refusal>
+    requires { SpellsSome drafts.old sentence }
+    ensures { (c : CommandView) → Spells drafts.old sentence c → Answers (λ x. x) result (unless (fault_of c) c) }
 {
     match sentence {
-        Sentence::Set(value) => set(alloc, &drafts.first, value),
-        Sentence::Kill => kill(alloc, &drafts.first),
-        Sentence::Merge => merge(alloc, &drafts.first, &drafts.second),
-        Sentence::Data => data(alloc, &drafts.first),
-        Sentence::Get(default) => get(alloc, &drafts.first, default),
-        Sentence::Order(direction) => order(alloc, &drafts.first, direction),
-        Sentence::Query(direction) => query(alloc, &drafts.first, direction),
+        Sentence::Access(sentence) => match finish_data(alloc, sentence, drafts) {
+            Ok(command) => Ok(Command::Access(command)),
+            Err(refusal) => Err(refusal),
+        },
+        Sentence::Release => Ok(Command::Lock(LockCommand::Release)),
+        Sentence::Lock(form) => match drafts.names.take(alloc) {
+            Ok(names) => Ok(Command::Lock(locking(form, names))),
+            Err(refusal) => Err(refusal),
+        },
+        Sentence::Alone(word) => Ok(command_of(word)),
     }
 }

@@ -5,18 +5,19 @@
 //!
 //! (1) its grammar: `command_at` in `specs/Commands.antt`, which knows no limits;
 //! (2) its job, from 1 to 4,096, however many digits it has;
-//! (3) its references and values from left to right: `fault_of` in `specs/Commands.antt`.
+//! (3) its references, lock names and values from left to right: `fault_of` in `specs/Commands.antt`.
 //!
-//! So `4097 KILL ^1A x` gets BadLine, `4097 KILL ^1A` gets BadJob, `1 KILL ^1A` gets BadName. The job that is
+//! So `4097 LOCK 5 x` gets BadLine, `4097 LOCK 5` gets BadJob, `1 LOCK 5` gets BadName. The job that is
 //! printed before a refusal is `job_of`. Replies: `reply_text` in `specs/Text.antt`.
 //!
 //! The grammar stands apart as a relation, `IsLine` in `specs/Grammar.antt`; `specs/Laws.antt` ties both together.
 //!
-//! A line is read once: its references into the key bytes of drafts that serve for the next line too, the rest of it
-//! into a sentence; where line and job are good, both make the command.
+//! A line is read once: its references into the key bytes of drafts that serve for the next line too, lock names into
+//! a list up to the first that is at fault, the rest of it into a sentence; where line and job are good, these make the
+//! command. What a timeout says is read and kept nowhere.
 //!
 //! Read `specs/Line.antt`, `specs/Grammar.antt`, `specs/Laws.antt`, `specs/Text.antt`, then `line.rt`,
-//! `sentence.rt`, `finish.rt`, `reply.rt`. Not here: lines of LOCK, transactions and HALT, whose words get BadLine.
+//! `sentence.rt`, `lock.rt`, `finish.rt`, `reply.rt`.
 #![tactic(auto)]
 
 pub use laws::lines_are_read_as_spelled;
@@ -28,6 +29,8 @@ mod blank;
 mod finish;
 mod laws;
 mod line;
+mod lock;
+mod names;
 mod reply;
 mod sentence;
 mod word;

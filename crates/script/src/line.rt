@@ -8,7 +8,7 @@ use crate::blank::{begins_blank, past_blank, skip_blank};
 use crate::finish::finish;
 use crate::sentence::{Drafts, Sentence, read_sentence};
 use collation::Job;
-use command::DataCommand;
+use command::Command;
 use m_text::{number_up_to, split_digits};
 use refusal::Refusal;
 use std::alloc::Global;
@@ -69,16 +69,17 @@ fn read_spelled_line(alloc: Global, line: &[u8], drafts: &mut Drafts) -> Result<
 
 /// The job and the command of a line, which comes without its end.
 ///
-/// The drafts may be those of other lines: what a line leaves in them serves none. Refusals, in this order: `BadLine`
-/// where the line isn't of the grammar; `BadJob` where its job isn't 1 to 4,096; then the command's first fault from
-/// left to right: `BadName`, `TooManySubscripts`, `EmptySubscript`, `SubscriptTooLong`, `ValueTooLong`. And
-/// `OutOfMemory`, which may hide another. The job that is printed stands in the fault.
+/// The drafts may be those of other lines: what a line leaves in them serves none. A LOCK's timeout isn't told.
+/// Refusals, in this order: `BadLine` where the line isn't of the grammar; `BadJob` where its job isn't 1 to 4,096; then
+/// the first fault of the command's references, lock names and values from left to right: `BadName`,
+/// `TooManySubscripts`, `EmptySubscript`, `SubscriptTooLong`, `ValueTooLong`. And `OutOfMemory`, which may hide another.
+/// The job that is printed stands in the fault.
 #[tactic(auto, using(crate::proofs::Judging::of_lines))]
 pub fn read_line(
     alloc: Global,
     line: &[u8],
     drafts: &mut Drafts,
-) -> Result<(Job, DataCommand), LineFault>
+) -> Result<(Job, Command), LineFault>
     ensures { IsReading line.now result }
 {
     let job = printed_job(line);

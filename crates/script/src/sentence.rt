@@ -4,21 +4,24 @@ ghost use Rattle.collation.specs.Reference.{Reference};
 ghost use Rattle.m_text.specs.Drafts.{DraftsSpelled};
 ghost use Rattle.m_text.specs.Reading.{Gives, Skips, after as after_of};
 ghost use Rattle.script.specs.Commands as commands;
-ghost use Rattle.script.specs.Sentence.{Finds, Tells};
+ghost use Rattle.script.specs.Sentence.{Finds, FindsData, Tells};
 
-use crate::blank::skip_blank;
-use crate::word::{Word, act_of, function_of};
+use crate::blank::{past_blank, skip_blank};
+use crate::lock::{Form, read_locking};
+use crate::names::Names;
+use crate::word::{AloneWord, DataWord, Word, act_of, function_of};
 use collation::{Direction, Text};
 use key_codec::KeyDraft;
 use m_text::{after, read_draft, read_literal, split_letters};
 use refusal::Refusal;
 use std::alloc::Global;
 
-/// The references of a line while it is read, in buffers that serve for the next line too.
+/// The references and lock names of a line while it is read, in buffers that serve for the next line too.
 #[derive(Debug, Drop)]
 pub struct Drafts {
     pub(crate) first: KeyDraft,
     pub(crate) second: KeyDraft,
+    pub(crate) names: Names,
 }
 
 impl Drafts {
@@ -27,13 +30,14 @@ impl Drafts {
         Drafts {
             first: KeyDraft::new(alloc),
             second: KeyDraft::new(alloc),
+            names: Names::new(alloc),
         }
     }
 }
 
-// A command without its references: the first draft has one, and that of MERGE's source is in the second.
+// A data command without its references: the first draft has one, and that of MERGE's source is in the second.
 #[derive(Debug, Drop)]
-pub(crate) enum Sentence {
+pub(crate) enum DataSentence {
     Set(Text),
     Kill,
     Merge,
@@ -41,6 +45,17 @@ pub(crate) enum Sentence {
     Get(Option<Text>),
     Order(Direction),
     Query(Direction),
+}
+
+// A command without its references and lock names, which stand in the drafts.
+#[derive(Debug, Drop)]
+pub(crate) enum Sentence {
+    Access(DataSentence),
+    // LOCK without names.
+    Release,
+    // LOCK with names.
+    Lock(Form),
+    Alone(AloneWord),
 }
 
 // What follows the byte.
@@ -113,33 +128,33 @@ fn read_direction(alloc: Global, text: &[u8]) -> Result<(Direction, &[u8]), Refu
 // What a word wants behind its reference.
 fn read_tail<'a>(
     alloc: Global,
-    word: Word,
+    word: DataWord,
     text: &'a [u8],
     source: &mut KeyDraft,
-) -> Result<(Sentence, &'a [u8]), Refusal>
+) -> Result<(DataSentence, &'a [u8]), Refusal>
     ensures { (r : Reference) → Tells source.new r result (commands.tail_at word r text.now) }
 {
     match word {
-        Word::Set => match read_value(alloc, text) {
-            Ok((value, rest)) => Ok((Sentence::Set(value), rest)),
+        DataWord::Set => match read_value(alloc, text) {
+            Ok((value, rest)) => Ok((DataSentence::Set(value), rest)),
             Err(refusal) => Err(refusal),
         },
-        Word::Kill => Ok((Sentence::Kill, text)),
-        Word::Merge => match read_source(alloc, text, source) {
-            Ok(rest) => Ok((Sentence::Merge, rest)),
+        DataWord::Kill => Ok((DataSentence::Kill, text)),
+        DataWord::Merge => match read_source(alloc, text, source) {
+            Ok(rest) => Ok((DataSentence::Merge, rest)),
             Err(refusal) => Err(refusal),
         },
-        Word::Data => Ok((Sentence::Data, text)),
-        Word::Get => match read_default(alloc, text) {
-            Ok((default, rest)) => Ok((Sentence::Get(default), rest)),
+        DataWord::Data => Ok((DataSentence::Data, text)),
+        DataWord::Get => match read_default(alloc, text) {
+            Ok((default, rest)) => Ok((DataSentence::Get(default), rest)),
             Err(refusal) => Err(refusal),
         },
-        Word::Order => match read_direction(alloc, text) {
-            Ok((direction, rest)) => Ok((Sentence::Order(direction), rest)),
+        DataWord::Order => match read_direction(alloc, text) {
+            Ok((direction, rest)) => Ok((DataSentence::Order(direction), rest)),
             Err(refusal) => Err(refusal),
         },
-        Word::Query => match read_direction(alloc, text) {
-            Ok((direction, rest)) => Ok((Sentence::Query(direction), rest)),
+        DataWord::Query => match read_direction(alloc, text) {
+            Ok((direction, rest)) => Ok((DataSentence::Query(direction), rest)),
             Err(refusal) => Err(refusal),
         },
     }
@@ -148,16 +163,66 @@ fn read_tail<'a>(
 // A reference, and what a word wants behind it.
 fn read_operands<'a>(
     alloc: Global,
-    word: Word,
+    word: DataWord,
     text: &'a [u8],
     drafts: &mut Drafts,
-) -> Result<(Sentence, &'a [u8]), Refusal>
-    ensures { Finds drafts.new result (commands.operands_at word text.now) }
+) -> Result<(DataSentence, &'a [u8]), Refusal>
+    ensures { FindsData drafts.new result (commands.operands_at word text.now) }
 {
     match read_draft(alloc, text, &mut drafts.first) {
         Ok(rest) => read_tail(alloc, word, rest, &mut drafts.second),
         Err(refusal) => Err(refusal),
     }
+}
+
+// What stands behind LOCK's word: nothing but a blank, or a blank and names.
+#[tactic(auto, unfolding(crate::specs::Commands::lock_at))]
+fn read_lock<'a>(
+    alloc: Global,
+    text: &'a [u8],
+    drafts: &mut Drafts,
+) -> Result<(Sentence, &'a [u8]), Refusal>
+    ensures { Finds drafts.new result (commands.lock_at text.now) }
+{
+    if past_blank(text).is_empty() {
+        return Ok((Sentence::Release, text));
+    }
+    let rest = skip_blank(text)?;
+    match read_locking(alloc, rest, &mut drafts.first, &mut drafts.names) {
+        Ok((form, rest)) => Ok((Sentence::Lock(form), rest)),
+        Err(refusal) => Err(refusal),
+    }
+}
+
+// What stands behind the word of a data command that is an act.
+fn read_change<'a>(
+    alloc: Global,
+    word: DataWord,
+    text: &'a [u8],
+    drafts: &mut Drafts,
+) -> Result<(Sentence, &'a [u8]), Refusal>
+    ensures { Finds drafts.new result (commands.behind_act (Word.Access word) text.now) }
+{
+    let rest = skip_blank(text)?;
+    match read_operands(alloc, word, rest, drafts) {
+        Ok((sentence, rest)) => Ok((Sentence::Access(sentence), rest)),
+        Err(refusal) => Err(refusal),
+    }
+}
+
+// What stands behind the word of a data command that is a function.
+fn read_look<'a>(
+    alloc: Global,
+    word: DataWord,
+    text: &'a [u8],
+    drafts: &mut Drafts,
+) -> Result<(Sentence, &'a [u8]), Refusal>
+    ensures { Finds drafts.new result (commands.behind_function (Word.Access word) text.now) }
+{
+    let rest = past(b'(', text)?;
+    let (sentence, rest) = read_operands(alloc, word, rest, drafts)?;
+    let rest = past(b')', rest)?;
+    Ok((Sentence::Access(sentence), rest))
 }
 
 #[tactic(auto, unfolding(crate::specs::Commands::acts_at))]
@@ -170,10 +235,9 @@ fn read_acts<'a>(
 {
     let (letters, rest) = split_letters(text);
     match act_of(letters) {
-        Some(act) => {
-            let rest = skip_blank(rest)?;
-            read_operands(alloc, act, rest, drafts)
-        }
+        Some(Word::Access(word)) => read_change(alloc, word, rest, drafts),
+        Some(Word::Lock) => read_lock(alloc, rest, drafts),
+        Some(Word::Alone(word)) => Ok((Sentence::Alone(word), rest)),
         None => Err(Refusal::BadLine),
     }
 }
@@ -188,12 +252,9 @@ fn read_functions<'a>(
 {
     let (letters, rest) = split_letters(text);
     match function_of(letters) {
-        Some(function) => {
-            let rest = past(b'(', rest)?;
-            let (sentence, rest) = read_operands(alloc, function, rest, drafts)?;
-            let rest = past(b')', rest)?;
-            Ok((sentence, rest))
-        }
+        Some(Word::Access(word)) => read_look(alloc, word, rest, drafts),
+        Some(Word::Lock) => Err(Refusal::BadLine),
+        Some(Word::Alone(word)) => Ok((Sentence::Alone(word), rest)),
         None => Err(Refusal::BadLine),
     }
 }

@@ -8,6 +8,15 @@ use m_text::is_word;
 // What a word names: an act by itself, or a function after a `$`.
 #[derive(Clone, Copy, Debug)]
 pub(crate) enum Word {
+    // A data command.
+    Access(DataWord),
+    Lock,
+    // A command that is its word alone.
+    Alone(AloneWord),
+}
+
+#[derive(Clone, Copy, Debug)]
+pub(crate) enum DataWord {
     Set,
     Kill,
     Merge,
@@ -17,10 +26,49 @@ pub(crate) enum Word {
     Query,
 }
 
+#[derive(Clone, Copy, Debug)]
+pub(crate) enum AloneWord {
+    Start,
+    Commit,
+    Rollback,
+    Restart,
+    Halt,
+    Level,
+    Restarts,
+}
+
 fn is_either(short: &[u8], long: &[u8], letters: &[u8]) -> bool
     ensures { result ≡ words.is_either short.now long.now letters.now }
 {
     is_word(short, letters) || is_word(long, letters)
+}
+
+fn is_named_data(word: DataWord, letters: &[u8]) -> bool
+    ensures { result ≡ words.is_named (Word.Access word) letters.now }
+{
+    match word {
+        DataWord::Set => is_either(b"S", b"SET", letters),
+        DataWord::Kill => is_either(b"K", b"KILL", letters),
+        DataWord::Merge => is_either(b"M", b"MERGE", letters),
+        DataWord::Data => is_either(b"D", b"DATA", letters),
+        DataWord::Get => is_either(b"G", b"GET", letters),
+        DataWord::Order => is_either(b"O", b"ORDER", letters),
+        DataWord::Query => is_either(b"Q", b"QUERY", letters),
+    }
+}
+
+fn is_named_alone(word: AloneWord, letters: &[u8]) -> bool
+    ensures { result ≡ words.is_named (Word.Alone word) letters.now }
+{
+    match word {
+        AloneWord::Start => is_either(b"TS", b"TSTART", letters),
+        AloneWord::Commit => is_either(b"TC", b"TCOMMIT", letters),
+        AloneWord::Rollback => is_either(b"TRO", b"TROLLBACK", letters),
+        AloneWord::Restart => is_either(b"TRE", b"TRESTART", letters),
+        AloneWord::Halt => is_either(b"H", b"HALT", letters),
+        AloneWord::Level => is_either(b"TL", b"TLEVEL", letters),
+        AloneWord::Restarts => is_either(b"TR", b"TRESTART", letters),
+    }
 }
 
 // Whether letters are one of the two words, in any case.
@@ -28,13 +76,9 @@ fn is_named(word: Word, letters: &[u8]) -> bool
     ensures { result ≡ words.is_named word letters.now }
 {
     match word {
-        Word::Set => is_either(b"S", b"SET", letters),
-        Word::Kill => is_either(b"K", b"KILL", letters),
-        Word::Merge => is_either(b"M", b"MERGE", letters),
-        Word::Data => is_either(b"D", b"DATA", letters),
-        Word::Get => is_either(b"G", b"GET", letters),
-        Word::Order => is_either(b"O", b"ORDER", letters),
-        Word::Query => is_either(b"Q", b"QUERY", letters),
+        Word::Access(word) => is_named_data(word, letters),
+        Word::Lock => is_either(b"L", b"LOCK", letters),
+        Word::Alone(word) => is_named_alone(word, letters),
     }
 }
 
@@ -48,12 +92,31 @@ fn named_by(letters: &[u8], table: &[Word]) -> Option<Word>
 pub(crate) fn act_of(letters: &[u8]) -> Option<Word>
     ensures { result ≡ words.act_of letters.now }
 {
-    named_by(letters, &[Word::Set, Word::Kill, Word::Merge])
+    let table = [
+        Word::Access(DataWord::Set),
+        Word::Access(DataWord::Kill),
+        Word::Access(DataWord::Merge),
+        Word::Lock,
+        Word::Alone(AloneWord::Start),
+        Word::Alone(AloneWord::Commit),
+        Word::Alone(AloneWord::Rollback),
+        Word::Alone(AloneWord::Restart),
+        Word::Alone(AloneWord::Halt),
+    ];
+    named_by(letters, &table)
 }
 
 // The function that letters name, after its `$`.
 pub(crate) fn function_of(letters: &[u8]) -> Option<Word>
     ensures { result ≡ words.function_of letters.now }
 {
-    named_by(letters, &[Word::Data, Word::Get, Word::Order, Word::Query])
+    let table = [
+        Word::Access(DataWord::Data),
+        Word::Access(DataWord::Get),
+        Word::Access(DataWord::Order),
+        Word::Access(DataWord::Query),
+        Word::Alone(AloneWord::Level),
+        Word::Alone(AloneWord::Restarts),
+    ];
+    named_by(letters, &table)
 }

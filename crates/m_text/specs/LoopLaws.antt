@@ -5,7 +5,7 @@ use Rattle.std.proofs.lemmas.Option.{same_Some}
 use Rattle.m_text.specs.Reading.{with_front, rest_of, begins_with, some_at, IsRefused, IsRefusedAlways}
 use Rattle.refusal.specs.declared.Refusal.{Refusal}
 use Rattle.m_text.specs.PartedLaws.{front_some}
-use Rattle.m_text.proofs.Fronts.{with_front-append, rest_of-front, refused_too, refused_always_too}
+use Rattle.m_text.specs.ReadingLaws.{with_front-append, rest_of-front, refused_too, refused_always_too}
 
 abbrev Read : Type 0 → Type 0
 Read A = Option (List A × List ℕ)
