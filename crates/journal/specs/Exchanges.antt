@@ -2,6 +2,7 @@
 use Rattle.std.specs.Prelude.{◌≡◌, ℕ, ◌<◌, ◌^◌, List, [], length, unwrap_or, option_map}
 use Rattle.std.specs.List.{flat_map}
 use Rattle.journal.specs.declared.unit.Exchange.{Exchange}
+use Rattle.journal.specs.declared.exchanges.ExchangeMark.{ExchangeMark}
 use Rattle.journal.specs.Format.{exchange_bytes}
 use Rattle.journal.specs.Reading.{list_at, exchange_at}
 use Rattle.journal.specs.Stored.{Each, FitsExchange}
@@ -16,3 +17,8 @@ pub record Tells (bytes : List ℕ) (count : ℕ) (es : List Exchange) : Type 0 
   pub number : count ≡ length es
   pub few : count < 2 ^ 64
   pub fit : Each FitsExchange es
+
+-- the log went as far as these exchanges
+pub record IsMarkOf (mark : ExchangeMark) (es : List Exchange) : Type 0 where
+  pub bytes : mark.bytes ≡ length (flat_map exchange_bytes es)
+  pub count : mark.count ≡ length es

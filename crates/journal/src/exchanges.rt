@@ -1,6 +1,7 @@
 //! The exchanges of an open transaction.
-ghost use Rattle.std.specs.Prelude.{◌≡◌, [], ◌∷◌, ◌++◌, length, OnOk, OnErr};
+ghost use Rattle.std.specs.Prelude.{◌≡◌, [], ◌∷◌, ◌++◌, length, take, OnOk, OnErr};
 ghost use Rattle.std.specs.List.{flat_map};
+ghost use Rattle.journal.specs.Exchanges.{IsMarkOf};
 ghost use Rattle.journal.specs.Format as format;
 ghost use Rattle.journal.specs.Stored.{FitExchanges};
 
@@ -27,6 +28,13 @@ impl Model for ExchangeLog {
     ghost view = { λ l. exchanges_in l.count l.bytes.items };
 
     ghost invariant = { λ l. Tells l.bytes.items l.count (exchanges_in l.count l.bytes.items) };
+}
+
+/// How far a log of exchanges went at some moment.
+#[derive(Clone, Copy, Debug)]
+pub struct ExchangeMark {
+    pub(crate) bytes: usize,
+    pub(crate) count: u64,
 }
 
 impl ExchangeLog {
@@ -70,5 +78,32 @@ impl ExchangeLog {
         self.bytes.extend_from_slice(&self.draft)?;
         self.count += 1;
         Ok(())
+    }
+
+    /// How far the log goes now.
+    pub fn mark(&self) -> ExchangeMark
+        ensures { IsMarkOf result self.now }
+    {
+        ExchangeMark {
+            bytes: self.bytes.len(),
+            count: self.count,
+        }
+    }
+
+    /// Takes out what was pushed since a mark. Takes no memory.
+    pub fn back_to(&mut self, mark: ExchangeMark)
+        requires { IsMarkOf mark (take mark.count self.old) }
+        ensures { self.new ≡ take mark.count self.old }
+    {
+        self.bytes.truncate(mark.bytes);
+        self.count = mark.count;
+    }
+
+    /// Takes out all. Takes no memory.
+    pub fn clear(&mut self)
+        ensures { self.new ≡ [] }
+    {
+        self.bytes.clear();
+        self.count = 0;
     }
 }

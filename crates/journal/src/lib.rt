@@ -20,7 +20,7 @@
 //! Not promised: the time of a unit's reading back.
 #![tactic(auto)]
 
-pub use exchanges::ExchangeLog;
+pub use exchanges::{ExchangeLog, ExchangeMark};
 pub use laws::{
     joined_histories, joined_stories, locks_are_right_and_act, logs_read_back,
     lone_commands_are_right_and_act, transactions_are_right_and_act,

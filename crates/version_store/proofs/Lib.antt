@@ -1,3 +1,4 @@
+pub mod CutLemmas
 pub mod NewestLemmas
 pub mod RangeLemmas
 pub mod SeekLemmas

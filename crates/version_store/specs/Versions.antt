@@ -10,6 +10,7 @@ use Rattle.collation.specs.Database.{Database, reference_code}
 use Rattle.std.specs.Ordering.{is_lt}
 use Rattle.version_chain.specs.Versions.{Entry, newest_of, at_of, IsAbove}
 use Rattle.version_chain.specs.Chains.{listed}
+use Rattle.version_chain.specs.Cut.{left_after}
 use Rattle.globals.specs.declared.cut.Cut.{Cut}
 use Rattle.globals.specs.Cuts.{stands_before}
 
@@ -50,6 +51,10 @@ module _ {K V : Type 0} where
 -- the content at a stamp: for each reference the newest version not after it, where that is a value
 abbrev pub content_at : Versions → ℕ → Database
 content_at m s = finmap.from_sorted (seen_at s (finmap.entries m))
+
+-- the content at the newest stamp
+abbrev pub content_now : Stored → Database
+content_now s = content_at s.versions s.present
 
 -- the versions of a reference; none where it isn't placed
 abbrev pub versions_of : Versions → Reference → Row
@@ -159,3 +164,21 @@ abbrev pub is_bare : Option Row → Bool
 is_bare None = false
 is_bare (Some []) = true
 is_bare (Some (v ∷ vs)) = false
+
+-- without the reference, where it has no versions
+abbrev pub unless_bare : Reference → Versions → Versions
+unless_bare r m = cond (is_bare (finmap.get m r)) (finmap.remove m r) m
+
+-- the reference without what nobody at or after the horizon sees, and not placed where nothing is left
+abbrev pub tidied : ℕ → Reference → Versions → Versions
+tidied horizon r m = unless_bare r (finmap.insert m r (left_after horizon (versions_of m r)))
+
+-- one more version for each change, and its reference tidied
+abbrev pub written_and_cut : ℕ → ℕ → List Change → Versions → Versions
+written_and_cut stamp horizon [] m = m
+written_and_cut stamp horizon (c ∷ cs) m = written_and_cut stamp horizon cs (tidied horizon c.0 (with_version stamp c m))
+
+-- the versions of a reference once a change is written, if there is one, and what nobody at or after the horizon sees is dropped
+abbrev pub row_cut : ℕ → ℕ → Option (Option (List ℕ)) → Row → Row
+row_cut stamp horizon None vs = vs
+row_cut stamp horizon (Some x) vs = left_after horizon ((stamp, x) ∷ vs)

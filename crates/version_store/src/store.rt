@@ -5,7 +5,7 @@ ghost use Rattle.std.specs.FinMap as finmap;
 ghost use Rattle.refusal.specs.declared.Refusal.{Refusal};
 ghost use Rattle.collation.specs.Reference.{Reference};
 ghost use Rattle.version_chain.specs.Versions.{IsAbove, IsFalling};
-ghost use Rattle.version_store.specs.Versions.{content_at, versions_of};
+ghost use Rattle.version_store.specs.Versions.{content_at, content_now, versions_of};
 ghost use Rattle.version_store.specs.Tied.{versions_in};
 
 use crate::snapshot::Snapshot;
@@ -117,6 +117,16 @@ impl Store {
             Err(Refusal::Ahead)
         } else {
             Ok(Snapshot { store: self, stamp })
+        }
+    }
+
+    /// The content at the newest stamp. Takes no memory.
+    pub fn view_now(&self) -> Snapshot<'_>
+        ensures { result ≡ content_now self.now }
+    {
+        Snapshot {
+            store: self,
+            stamp: self.present,
         }
     }
 }

@@ -1,10 +1,13 @@
 -- The bytes of an open transaction, exchange by exchange.
-use Rattle.std.specs.Prelude.{◌≡◌, ℕ, ◌+◌, ◌<◌, ◌^◌, List, [], ◌∷◌, ◌++◌, length, Some}
+use Rattle.std.specs.Prelude.{◌≡◌, ℕ, zero, suc, min, ◌+◌, ◌<◌, ◌≤◌, ◌^◌, List, [], ◌∷◌, ◌++◌, length, take, drop, Some}
 use Rattle.std.specs.List.{flat_map}
 use Rattle.std.proofs.Common.{ap, sym, ◌∙◌, append-nil, refl, arith, length-append, subst}
-use Rattle.std.proofs.lemmas.List.{flat_map_more}
+use Rattle.std.proofs.lemmas.List.{flat_map_more, take-append-drop, length-take}
+use Rattle.std.proofs.lemmas.Grind.{flat_map-append}
+use Rattle.std.proofs.Math.Seq.{take-append_seam}
+use Rattle.journal.specs.declared.exchanges.ExchangeMark.{ExchangeMark}
 use Rattle.journal.specs.declared.unit.Exchange.{Exchange}
-use Rattle.journal.specs.Exchanges.{exchanges_in, Tells}
+use Rattle.journal.specs.Exchanges.{exchanges_in, Tells, IsMarkOf}
 use Rattle.journal.specs.Format.{exchange_bytes}
 use Rattle.journal.specs.Reading.{list_at, exchange_at}
 use Rattle.journal.specs.Stored.{Each, FitsExchange, FitExchanges}
@@ -49,3 +52,25 @@ tells_itself new count es h = subst (Tells new count) (sym (exchanges_again new 
 
 pub they_fit : (bytes : List ℕ) (count : ℕ) (es : List Exchange) → Tells bytes count es → FitExchanges es
 they_fit bytes count es h = let n : count ≡ length es = h.number in let few : count < 2 ^ 64 = h.few in record { count = omega arith; each = h.fit }
+
+Each-take : (n : ℕ) (es : List Exchange) → Each FitsExchange es → Each FitsExchange (take n es)
+Each-take zero es h = tt
+Each-take (suc n) [] h = tt
+Each-take (suc n) (e ∷ es) h = (h.0, Each-take n es h.1)
+
+-- a beginning of them
+pub tells_front : (bytes : List ℕ) (mark : ExchangeMark) (count : ℕ) (es : List Exchange) → Tells bytes count es → IsMarkOf mark (take mark.count es) → Tells (take mark.bytes bytes) mark.count (take mark.count es)
+tells_front bytes mark count es h at =
+    let front = take mark.count es in
+    let joined : bytes ≡ flat_map exchange_bytes front ++ flat_map exchange_bytes (drop mark.count es) = h.written ∙ ap (flat_map exchange_bytes) (sym (take-append-drop mark.count es)) ∙ flat_map-append exchange_bytes front (drop mark.count es) in
+    let most : length front ≡ min mark.count (length es) = length-take mark.count es in
+    let own : mark.count ≡ length front = at.count in
+    let all : count ≡ length es = h.number in
+    let few : count < 2 ^ 64 = h.few in
+    let least : min mark.count (length es) ≤ length es = omega arith in
+    record {
+      written = (λ i. take (at.bytes i) (joined i)) ∙ take-append_seam (flat_map exchange_bytes front) (flat_map exchange_bytes (drop mark.count es));
+      number = own;
+      few = omega (arith, own, most, least, all, few);
+      fit = Each-take mark.count es h.fit;
+    }

@@ -75,7 +75,7 @@ get_content m s q =
 same_content : (d e : Database) → ((q : Reference) → get d q ≡ get e q) → d ≡ e
 same_content d e is = same_map ref_cmp_total ref_cmp-IsAntisymmetric d e is
 
-get_same : {X : Type 0} (m : FinMap ref_cmp X) (q k : Reference) → eq_by_cmp ref_cmp q k ≡ true → get m q ≡ get m k
+pub get_same : {X : Type 0} (m : FinMap ref_cmp X) (q k : Reference) → eq_by_cmp ref_cmp q k ≡ true → get m q ≡ get m k
 get_same m q k t = ap (get m) (ref_cmp-IsAntisymmetric q k (is_equal _ t))
 
 split : {A : Type 0} (t : Bool) (a b c : A) → (t ≡ true → a ≡ c) → (t ≡ false → b ≡ c) → cond t a b ≡ c
@@ -221,10 +221,13 @@ contains_placed k r m = ap is_some (get_placed k r m (get m k) refl) ∙ by_tie 
 pub rows_bare : (m : Versions) (k r : Reference) → get m k ≡ None → versions_of (finmap.insert m k []) r ≡ versions_of m r
 rows_bare m k r none = ap (λ b. versions_of (cond b m (finmap.insert m k [])) r) (sym (ap is_some none)) ∙ rows_placed k r m
 
--- content is told by versions
+-- content at a stamp is told by what is seen of the versions there
+pub content_alike : (m n : Versions) (s : ℕ) → ((r : Reference) → at_of s (versions_of m r) ≡ at_of s (versions_of n r)) → content_at m s ≡ content_at n s
+content_alike m n s same = same_content _ _ (λ q.
+    get_content m s q ∙ sym (at_listed s (get m q)) ∙ same q ∙ at_listed s (get n q) ∙ sym (get_content n s q))
+
 pub content_rows : (m n : Versions) (s : ℕ) → ((r : Reference) → versions_of m r ≡ versions_of n r) → content_at m s ≡ content_at n s
-content_rows m n s same = same_content _ _ (λ q.
-    get_content m s q ∙ sym (at_listed s (get m q)) ∙ ap (at_of s) (same q) ∙ at_listed s (get n q) ∙ sym (get_content n s q))
+content_rows m n s same = content_alike m n s (λ r. ap (at_of s) (same r))
 
 pub contains_all_placed : (ks : List Reference) (r : Reference) (m : Versions) → finmap.contains_key m r ≡ true → finmap.contains_key (all_placed ks m) r ≡ true
 contains_all_placed [] r m is = is

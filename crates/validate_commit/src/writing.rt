@@ -1,0 +1,45 @@
+//! The prepared unit pushed, and its changes written.
+ghost use Rattle.std.specs.Prelude.{◌≡◌, ◌-◌, ◌<◌, ◌≤◌, ◌^◌, ◌++◌, ◌∷◌, [], None, max, length, vec_len, unwrap_or, IsSome, IfSome};
+ghost use Rattle.journal.specs.Kept.{job_of};
+ghost use Rattle.std.specs.FinMap.{find};
+ghost use Rattle.collation.specs.Order.{ref_cmp};
+ghost use Rattle.collation.specs.Reference.{Reference};
+ghost use Rattle.version_store.specs.Versions.{ArePlaced, versions_of, row_cut};
+ghost use Rattle.validate_commit.specs.Agreement.{Agreement, IsNext};
+
+use collation::Text;
+use journal::{Journal, Receipt};
+use key_codec::Key;
+use version_store::Store;
+
+/// Pushes the prepared unit, and writes its changes at the stamp that is its number. The unit is legal behind those before
+/// it, and the changes are what it leaves at just the references that it touches.
+///
+/// `oldest` is the least stamp whose content is still asked for; with none only that at the new stamp is. Versions of the
+/// references that are changed that nobody from there on sees are dropped, and so is each reference without a version.
+/// Takes no memory, and isn't refused.
+pub fn write(
+    store: &mut Store,
+    journal: &mut Journal,
+    changes: Vec<(Key, Option<Text>)>,
+    oldest: Option<u64>,
+) -> Receipt
+    requires agreed { Agreement store.old journal.old.units }
+    requires prepared { IsSome journal.old.prepared }
+    requires next { IfSome journal.old.prepared (λ unit. IsNext changes.items unit journal.old.units) }
+    requires counted { length journal.old.units < 2 ^ 64 - 1 }
+    requires placed { ArePlaced store.old.versions changes.items }
+    requires reserved { vec_len changes ≤ store.old.spare }
+    requires oldest { IfSome oldest (λ stamp. stamp ≤ length journal.old.units) }
+    ensures agreed { Agreement store.new journal.new.units }
+    ensures units { IfSome journal.old.prepared (λ unit. journal.new.units ≡ journal.old.units ++ unit ∷ []) }
+    ensures none_left { journal.new.prepared ≡ None }
+    ensures receipt { IfSome journal.old.prepared (λ unit. result ≡ record { job = job_of unit; number = length journal.new.units; unit = unit }) }
+    ensures cut { store.new.cut ≡ max store.old.cut (unwrap_or oldest (length journal.new.units)) }
+    ensures rows { (r : Reference) → versions_of store.new.versions r ≡ row_cut (length journal.new.units) store.new.cut (find ref_cmp r changes.items) (versions_of store.old.versions r) }
+{
+    let stamp = store.now() + 1;
+    let receipt = journal.push_prepared();
+    store.write_and_cut(stamp, oldest.unwrap_or(stamp), changes);
+    receipt
+}
