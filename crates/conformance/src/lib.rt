@@ -13,6 +13,8 @@ mod faults;
 #[cfg(test)]
 mod lines;
 #[cfg(test)]
+mod readings;
+#[cfg(test)]
 mod scripts;
 #[cfg(test)]
 mod steps;

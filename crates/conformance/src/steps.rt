@@ -1,6 +1,8 @@
 //! Lists of steps, from docs/RULES.md: their replies, the journal and the content that they leave; and long lists, which
 //! end within the runner's limit.
 use crate::answers::answers;
+use collation::Job;
+use command::Command;
 use job_core::{JobCore, Step, run_from_nothing};
 use listing::{Counted, ListingFault, write_listing};
 use refusal::Refusal;
@@ -8,13 +10,24 @@ use script::{Drafts, read_line, write_reply};
 use std::alloc::Global;
 use std::test::Fail;
 
-fn push_step(alloc: Global, steps: &mut Vec<Step>, line: &str) -> Result<(), Refusal> {
-    let mut drafts = Drafts::new(alloc);
-    match read_line(alloc, line.as_bytes(), &mut drafts) {
-        Ok((job, command)) => {
+// A step of the machine, which does data commands alone for now.
+fn push_command(steps: &mut Vec<Step>, job: Job, command: Command) -> Result<(), Refusal> {
+    match command {
+        Command::Access(command) => {
             steps.push(Step::Do(job, command))?;
             Ok(())
         }
+        other => {
+            drop(other);
+            Err(Refusal::BadLine)
+        }
+    }
+}
+
+fn push_step(alloc: Global, steps: &mut Vec<Step>, line: &str) -> Result<(), Refusal> {
+    let mut drafts = Drafts::new(alloc);
+    match read_line(alloc, line.as_bytes(), &mut drafts) {
+        Ok((job, command)) => push_command(steps, job, command),
         Err(fault) => Err(fault.refusal),
     }
 }
@@ -59,7 +72,7 @@ fn a_worked_list_has_its_replies(rt: HostRuntime) -> Result<(), Fail> {
 
 fn is_listed_as(alloc: Global, core: &JobCore, want: &[u8]) -> Result<bool, ListingFault> {
     let mut writer = Counted::new(Vec::new(alloc));
-    write_listing(alloc, core.content(), &mut writer)?;
+    write_listing(alloc, &core.content(), &mut writer)?;
     Ok(writer.inner().as_slice() == want)
 }
 

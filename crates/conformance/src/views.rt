@@ -40,8 +40,9 @@ fn next_and_prev_part_the_nodes_at_each_form_of_cut(rt: HostRuntime) -> Result<(
         (Cut::After(&one), "9", "1"),
         (Cut::Past(&one), "c", "b"),
     ];
+    let content = core.content();
     for (cut, next, prev) in rows {
-        let (first, last) = (core.content().next(cut), core.content().prev(cut));
+        let (first, last) = (content.next(cut), content.prev(cut));
         let found = (
             bytes(first.map(|node| node.1)),
             bytes(last.map(|node| node.1)),
@@ -56,12 +57,13 @@ fn walks_meet_each_node_in_order(rt: HostRuntime) -> Result<(), Fail> {
     let core = core_of(rt.alloc(), &LINES)?;
     let root = key_of(rt.alloc(), b"^A(1)")?;
     let mut met = Vec::new(rt.alloc());
-    for (_, value) in walk_from(core.content(), Cut::Start) {
+    let content = core.content();
+    for (_, value) in walk_from(&content, Cut::Start) {
         met.extend_from_slice(value.as_slice())?;
     }
     assert_eq!(rt; met.as_slice(), b"019bc".as_slice());
     met.clear();
-    for (_, value) in subtree(core.content(), &root) {
+    for (_, value) in subtree(&content, &root) {
         met.extend_from_slice(value.as_slice())?;
     }
     assert_eq!(rt; met.as_slice(), b"19b".as_slice());

@@ -1,12 +1,12 @@
 -- The state of all jobs stays in agreement over one unit, and a run over one step.
-use Rattle.std.proofs.Common.{◌≡◌, ◌⊎◌, ℕ, List, [], ◌∷◌, ◌++◌, ◌+◌, ◌-◌, ◌^◌, ◌≤◌, ◌<◌, length, sym, ap, subst, refl, cond, true, false, ◌∙◌, arith, length-append, inl, inr, Some, None}
+use Rattle.std.proofs.Common.{◌≡◌, ℕ, List, [], ◌∷◌, ◌++◌, ◌+◌, ◌-◌, ◌^◌, ◌≤◌, ◌<◌, length, sym, ap, subst, cond, true, false, ◌∙◌, arith, length-append, inl, inr, None}
 use Rattle.std.proofs.lemmas.List.{map-append, length-map}
 use Rattle.refusal.specs.declared.Refusal.{Refusal}
 use Rattle.command.specs.declared.access.DataCommand.{DataCommand}
 use Rattle.command.specs.declared.access.Answer.{Answer}
 use Rattle.command.specs.declared.request.Command.{Command}
 use Rattle.command.specs.declared.request.Reply.{Reply}
-use Rattle.command.specs.Data.{data_refusal, data_reply, data_after}
+use Rattle.command.specs.Data.{data_refusal, data_reply}
 use Rattle.collation.specs.Database.{Database}
 use Rattle.journal.specs.declared.unit.Unit.{Unit as JournalUnit}
 use Rattle.journal.specs.declared.unit.Unit.TheVariants.{Lone}
@@ -16,25 +16,16 @@ use Rattle.std.specs.Ordering.{nat_cmp}
 use Rattle.std.proofs.lemmas.Bool.Decides.{nat_tests}
 use Rattle.command.specs.declared.request.Command.TheVariants.{Access}
 use Rattle.command.specs.declared.request.Reply.TheVariants.{Answered, Refused}
-use Rattle.refusal.specs.declared.Refusal.TheVariants.{StampsUsedUp, OutOfMemory}
+use Rattle.refusal.specs.declared.Refusal.TheVariants.{StampsUsedUp}
 use Rattle.job_core.specs.Causes.{IsCause}
 use Rattle.serial.specs.Machine.{reply_of, reply_with_room, reply_to_data, reply_on, refused_or}
 use Rattle.journal.specs.Story.{transaction_of, told_answer}
 use Rattle.journal.specs.History.{initial, after}
-use Rattle.journal.specs.laws.History.{after-append, IsLegal-append}
 use Rattle.journal.specs.Story.{Machine, told, story_of}
 use Rattle.journal.specs.laws.Story.{story_of-append}
 use Rattle.job_core.specs.declared.machine.Step.{Step}
 use Rattle.job_core.specs.Steps.{command_of, commands_of}
 use Rattle.serial.specs.Machine.{IsReply, AreReplies}
-use Rattle.job_core.specs.Agrees.{Agrees}
-
-pub lone_agrees : (us : List JournalUnit) (m : Database) (job : ℕ) (command : DataCommand) (answer : Answer) → Agrees us m → length us < 2 ^ 64 - 1 → data_refusal command m ≡ None → answer ≡ data_reply command m → Agrees (us ++ Lone job command answer ∷ []) (data_after command m)
-lone_agrees us m job command answer is room accepted right = record {
-  legal = IsLegal-append us (Lone job command answer ∷ []) initial is.legal ((ap (data_refusal command) (sym is.content) ∙ accepted, right ∙ ap (data_reply command) is.content), tt);
-  content = ap (data_after command) is.content ∙ sym (ap (λ s. s.map) (after-append us (Lone job command answer ∷ []) initial));
-  counted = omega (arith, room, length-append us (Lone job command answer ∷ []));
-}
 
 -- one step more of a run
 pub story_more : (start self new : Machine) (steps : List Step) (replies : List Reply) (step : Step) (reply : Reply) → length replies ≡ length steps → self ≡ story_of (commands_of steps) replies start → new ≡ told (command_of step).0 (command_of step).1 reply self
@@ -89,19 +80,19 @@ within us job command reply e few =
 told_length : (us : List JournalUnit) (job : ℕ) (command : DataCommand) (answer : Answer) → length us + 1 ≡ length (told job (Access command) (Answered answer) (alone us)).units
 told_length us job command answer = omega (arith, length-append us (Lone job command answer ∷ [])) ∙ ap (λ (s : Machine). length s.units) (told_alone us job command answer)
 
-pub answered_exact : (us : List JournalUnit) (m : Database) (job : ℕ) (command : DataCommand) (answer : Answer) → Agrees us m → length us < 2 ^ 64 - 1 → data_refusal command m ≡ None → answer ≡ data_reply command m → IsReply job (Access command) (Answered answer) (alone us)
-answered_exact us m job command answer is room accepted right =
-    let reply : reply_with_room job (Access command) (alone us) ≡ Answered answer = reply_alone us job command ∙ ap (reply_on command) (sym is.content) ∙ (λ i. refused_or (accepted i) (Answered (sym right i))) in
+pub answered_exact : (us : List JournalUnit) (m : Database) (job : ℕ) (command : DataCommand) (answer : Answer) → m ≡ (after us initial).map → length us < 2 ^ 64 - 1 → data_refusal command m ≡ None → answer ≡ data_reply command m → IsReply job (Access command) (Answered answer) (alone us)
+answered_exact us m job command answer content room accepted right =
+    let reply : reply_with_room job (Access command) (alone us) ≡ Answered answer = reply_alone us job command ∙ ap (reply_on command) (sym content) ∙ (λ i. refused_or (accepted i) (Answered (sym right i))) in
     let few : length (told job (Access command) (Answered answer) (alone us)).units < 2 ^ 64 = omega (arith, room, told_length us job command answer) in
     inl (within us job (Access command) (Answered answer) reply few)
 
-pub refused_exact : (us : List JournalUnit) (m : Database) (job : ℕ) (command : DataCommand) (refusal : Refusal) → Agrees us m → IsCause refusal command m (length us) → IsReply job (Access command) (Refused refusal) (alone us)
-refused_exact us m job command refusal is (inl (inl rule)) =
-    let reply : reply_with_room job (Access command) (alone us) ≡ Refused refusal = reply_alone us job command ∙ ap (reply_on command) (sym is.content) ∙ (λ i. refused_or (rule i) (Answered (data_reply command m))) in
-    inl (within us job (Access command) (Refused refusal) reply is.counted)
-refused_exact us m job command refusal is (inl (inr memory)) = inr (ap Refused memory)
-refused_exact us m job command refusal is (inr full) =
-    let reply : reply_with_room job (Access command) (alone us) ≡ Answered (data_reply command m) = reply_alone us job command ∙ ap (reply_on command) (sym is.content) ∙ (λ i. refused_or (full.1 i) (Answered (data_reply command m))) in
+pub refused_exact : (us : List JournalUnit) (m : Database) (job : ℕ) (command : DataCommand) (refusal : Refusal) → m ≡ (after us initial).map → length us < 2 ^ 64 → IsCause refusal command m (length us) → IsReply job (Access command) (Refused refusal) (alone us)
+refused_exact us m job command refusal content counted (inl (inl rule)) =
+    let reply : reply_with_room job (Access command) (alone us) ≡ Refused refusal = reply_alone us job command ∙ ap (reply_on command) (sym content) ∙ (λ i. refused_or (rule i) (Answered (data_reply command m))) in
+    inl (within us job (Access command) (Refused refusal) reply counted)
+refused_exact us m job command refusal content counted (inl (inr memory)) = inr (ap Refused memory)
+refused_exact us m job command refusal content counted (inr full) =
+    let reply : reply_with_room job (Access command) (alone us) ≡ Answered (data_reply command m) = reply_alone us job command ∙ ap (reply_on command) (sym content) ∙ (λ i. refused_or (full.1 i) (Answered (data_reply command m))) in
     let more : length us + 1 ≡ length (told job (Access command) (Answered (data_reply command m)) (alone us)).units = told_length us job command (data_reply command m) in
     let over : nat_lt (2 ^ 64 - 1) (length (told job (Access command) (reply_with_room job (Access command) (alone us)) (alone us)).units) ≡ true = rw (reply, ← more) (grind (arith, nat_tests, full.2)) in
     inl (ap Refused full.0 ∙ sym (ap (λ b. cond b (Refused StampsUsedUp) (reply_with_room job (Access command) (alone us))) over))

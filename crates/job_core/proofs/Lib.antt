@@ -1,5 +1,2 @@
+pub mod ChangeLemmas
 pub mod Legality
-pub mod Found
-pub mod Stored
-pub mod Parts
-pub mod Lookups

@@ -1,7 +1,4 @@
-pub mod Agrees
 pub mod Steps
 pub mod Causes
-pub mod Copies
+pub mod Changes
 pub mod Codes
-pub mod Held
-pub mod Places

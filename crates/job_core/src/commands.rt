@@ -1,49 +1,64 @@
 //! A data command outside a transaction, in one step.
-ghost use Rattle.std.specs.Prelude.{◌≡◌, ◌≤◌, ◌<◌, ◌^◌, ◌-◌, [], ◌∷◌, ◌++◌, None, Some, length, vec_len, IfOk, OnOk, OnErr, IfErr, IsErrOf};
+ghost use Rattle.std.specs.Prelude.{◌≡◌, ◌≤◌, ◌<◌, ◌^◌, ◌-◌, ◌+◌, [], ◌∷◌, ◌++◌, None, Some, max, length, unwrap_or, vec_len, vec_capacity, IsSome, IfSome, IfOk, OnOk, OnErr, IfErr, IsErrOf};
 ghost use Rattle.refusal.specs.declared.Refusal.{Refusal};
 ghost use Rattle.command.specs.Data.{data_refusal, data_reply, data_after};
 ghost use Rattle.journal.specs.declared.unit.Unit.TheVariants.{Lone};
-ghost use Rattle.journal.specs.Kept.{HasNoRoom};
-ghost use Rattle.job_core.specs.Causes.{IsCause, IsRuleOrMemory, early_refusal};
-ghost use Rattle.job_core.specs.Copies.{copies_of, nodes_needed as nodes_needed_spec};
+ghost use Rattle.journal.specs.Kept.{job_of};
+ghost use Rattle.version_store.specs.Versions.{content_now};
+ghost use Rattle.validate_commit.specs.Agreement.{Agreement, IsNext};
+ghost use Rattle.job_core.specs.Causes.{IsCause, early_refusal};
+ghost use Rattle.job_core.specs.Changes.{found_changes, own_change};
 
-use crate::looks::answer;
-use crate::store::Store;
+use crate::changes::{with_own, work_out};
 use collation::{Job, Text};
 use command::{Answer, DataCommand};
-use globals::OrderedView;
 use journal::{Journal, Receipt};
 use key_codec::Key;
 use refusal::Refusal;
-use std::alloc::Global;
+use std::alloc::{AllocError, Global};
+use validate_commit::write;
+use version_store::Store;
 
-/// Does a data command of a job outside a transaction, in one step.
+/// Does a data command of a job outside a transaction, in one step, on a store and a journal that agree.
 ///
 /// On `Ok` the answer is the command's on the database, the journal has its unit, and the receipt names it. A refusal
 /// leaves database and journal as they were; its cause is the command's own rule, else a full journal
 /// (`StampsUsedUp`), or want of memory, which never hides a rule that is looked at before memory is asked for.
+///
+/// `oldest` is the least stamp whose content is still asked for, where there is one: up to it, or else up to now, the
+/// references that are changed are cut.
 pub fn lone(
     alloc: Global,
     store: &mut Store,
     journal: &mut Journal,
     job: Job,
     command: DataCommand,
+    oldest: Option<u64>,
 ) -> Result<(Answer, Receipt), Refusal>
-    ensures answer { IfOk result (λ r. r.0 ≡ data_reply command store.old.map) }
-    ensures accepted { OnOk result (data_refusal command store.old.map ≡ None) }
+    requires agreed { Agreement store.old journal.old.units }
+    requires oldest { IfSome oldest (λ stamp. stamp ≤ length journal.old.units) }
+    ensures answer { IfOk result (λ r. r.0 ≡ data_reply command (content_now store.old)) }
+    ensures accepted { OnOk result (data_refusal command (content_now store.old) ≡ None) }
     ensures unit { IfOk result (λ r. journal.new.units ≡ journal.old.units ++ Lone job command r.0 ∷ []) }
     ensures receipt { IfOk result (λ r. r.1 ≡ record { job = job; number = length journal.new.units; unit = Lone job command r.0 }) }
     ensures counted { OnOk result (length journal.old.units < 2 ^ 64 - 1) }
-    ensures database { OnOk result (store.new.map ≡ data_after command store.old.map) }
-    ensures refused { OnErr result ((journal.new.units ≡ journal.old.units) × (store.new.map ≡ store.old.map)) }
+    ensures database { OnOk result (content_now store.new ≡ data_after command (content_now store.old)) }
+    ensures refused { OnErr result ((journal.new.units ≡ journal.old.units) × (content_now store.new ≡ content_now store.old)) }
     ensures early { (refusal : Refusal) → early_refusal command ≡ Some refusal → IsErrOf result refusal }
-    ensures cause { IfErr result (λ refusal. IsCause refusal command store.old.map (length journal.old.units)) }
+    ensures cause { IfErr result (λ refusal. IsCause refusal command (content_now store.old) (length journal.old.units)) }
+    ensures agreed { Agreement store.new journal.new.units }
+    ensures cut { store.new.cut ≤ max store.old.cut (unwrap_or oldest (length journal.new.units)) }
 {
     match prepare(alloc, store, journal, job, &command) {
-        Ok((answer, copies)) => {
-            let receipt = journal.push_prepared();
-            change(store, command, copies);
-            Ok((answer, receipt))
+        Ok((answer, found)) => {
+            let changes = with_own(command, found);
+            match do_prepared(alloc, store, journal, changes, oldest) {
+                Ok(receipt) => Ok((answer, receipt)),
+                Err(_) => {
+                    drop(answer);
+                    Err(Refusal::OutOfMemory)
+                }
+            }
         }
         Err(refusal) => {
             drop(command);
@@ -52,124 +67,62 @@ pub fn lone(
     }
 }
 
-// The answer, what MERGE sets, and room for all of it: after this nothing can fail.
+// The answer, what is to be changed, and the unit written.
 fn prepare(
     alloc: Global,
-    store: &mut Store,
+    store: &Store,
     journal: &mut Journal,
     job: Job,
     command: &DataCommand,
-) -> Result<(Answer, Vec<(Key, Text)>), Refusal>
-    ensures answer { IfOk result (λ r. r.0 ≡ data_reply command.now store.old.map) }
-    ensures copies { IfOk result (λ r. r.1.items ≡ copies_of command.now store.old.map) }
-    ensures accepted { OnOk result (data_refusal command.now store.old.map ≡ None) }
+) -> Result<(Answer, Vec<(Key, Option<Text>)>), Refusal>
+    ensures answer { IfOk result (λ r. r.0 ≡ data_reply command.now (content_now store.now)) }
+    ensures changes { IfOk result (λ r. r.1.items ≡ found_changes command.now (content_now store.now)) }
+    ensures room { IfOk result (λ r. vec_len r.1 + length (own_change command.now) ≤ vec_capacity r.1) }
+    ensures accepted { OnOk result (data_refusal command.now (content_now store.now) ≡ None) }
     ensures prepared { IfOk result (λ r. journal.new.prepared ≡ Some (Lone job command.now r.0)) }
     ensures counted { OnOk result (length journal.old.units < 2 ^ 64 - 1) }
-    ensures room { IfOk result (λ r. nodes_needed_spec command.now (vec_len r.1) ≤ store.new.spare) }
-    ensures map { store.new.map ≡ store.old.map }
     ensures units { journal.new.units ≡ journal.old.units }
     ensures early { (refusal : Refusal) → early_refusal command.now ≡ Some refusal → IsErrOf result refusal }
-    ensures cause { IfErr result (λ refusal. IsCause refusal command.now store.old.map (length journal.old.units)) }
+    ensures cause { IfErr result (λ refusal. IsCause refusal command.now (content_now store.now) (length journal.old.units)) }
 {
-    match work_out(alloc, store, command) {
-        Ok((answer, copies)) => {
-            let needed = nodes_needed(command, copies.len());
-            match make_room(store, journal, job, command, &answer, needed) {
-                Ok(()) => Ok((answer, copies)),
-                Err(refusal) => {
-                    drop(answer);
-                    drop(copies);
-                    Err(refusal)
-                }
+    let view = store.view_now();
+    match work_out(alloc, &view, command) {
+        Ok((answer, changes)) => match journal.prepare_lone(job, command, &answer) {
+            Ok(()) => Ok((answer, changes)),
+            Err(refusal) => {
+                drop(answer);
+                drop(changes);
+                Err(refusal)
             }
-        }
+        },
         Err(refusal) => Err(refusal),
     }
 }
 
-// The answer, and what MERGE sets.
-fn work_out<V: OrderedView>(
+// Does the prepared unit: room for its changes, and then the unit and the changes.
+fn do_prepared(
     alloc: Global,
-    view: &V,
-    command: &DataCommand,
-) -> Result<(Answer, Vec<(Key, Text)>), Refusal>
-    ensures answer { IfOk result (λ r. r.0 ≡ data_reply command.now (V.content view.now)) }
-    ensures copies { IfOk result (λ r. r.1.items ≡ copies_of command.now (V.content view.now)) }
-    ensures accepted { OnOk result (data_refusal command.now (V.content view.now) ≡ None) }
-    ensures early { (refusal : Refusal) → early_refusal command.now ≡ Some refusal → IsErrOf result refusal }
-    ensures cause { IfErr result (λ refusal. IsRuleOrMemory refusal (data_refusal command.now (V.content view.now))) }
-{
-    match command {
-        DataCommand::Set(_, _) | DataCommand::Kill(_) => Ok((Answer::Done, Vec::new(alloc))),
-        DataCommand::Merge(target, source) => {
-            match globals::merge_list(alloc, view, target, source) {
-                Ok(copies) => Ok((Answer::Done, copies)),
-                Err(refusal) => Err(refusal),
-            }
-        }
-        DataCommand::Look(look) => match answer(alloc, view, look) {
-            Ok(answer) => Ok((answer, Vec::new(alloc))),
-            Err(refusal) => Err(refusal),
-        },
-    }
-}
-
-// For how many further references there has to be room.
-fn nodes_needed(command: &DataCommand, copies: usize) -> usize
-    ensures { result ≡ nodes_needed_spec command.now copies }
-{
-    match command {
-        DataCommand::Set(_, _) => 1,
-        DataCommand::Kill(_) => 0,
-        DataCommand::Merge(_, _) => copies,
-        DataCommand::Look(_) => 0,
-    }
-}
-
-// The unit written, and room for it and for so many further references.
-fn make_room(
     store: &mut Store,
     journal: &mut Journal,
-    job: Job,
-    command: &DataCommand,
-    answer: &Answer,
-    nodes: usize,
-) -> Result<(), Refusal>
-    ensures prepared { OnOk result (journal.new.prepared ≡ Some (Lone job command.now answer.now)) }
-    ensures counted { OnOk result (length journal.old.units < 2 ^ 64 - 1) }
-    ensures room { OnOk result (nodes ≤ store.new.spare) }
-    ensures map { store.new.map ≡ store.old.map }
-    ensures units { journal.new.units ≡ journal.old.units }
-    ensures cause { IfErr result (λ refusal. HasNoRoom refusal 1 (length journal.old.units)) }
+    changes: Vec<(Key, Option<Text>)>,
+    oldest: Option<u64>,
+) -> Result<Receipt, AllocError>
+    requires agreed { Agreement store.old journal.old.units }
+    requires prepared { IsSome journal.old.prepared }
+    requires next { IfSome journal.old.prepared (λ unit. IsNext changes.items unit journal.old.units) }
+    requires counted { length journal.old.units < 2 ^ 64 - 1 }
+    requires oldest { IfSome oldest (λ stamp. stamp ≤ length journal.old.units) }
+    ensures agreed { Agreement store.new journal.new.units }
+    ensures units { OnOk result (IfSome journal.old.prepared (λ unit. journal.new.units ≡ journal.old.units ++ unit ∷ [])) }
+    ensures receipt { IfOk result (λ receipt. IfSome journal.old.prepared (λ unit. receipt ≡ record { job = job_of unit; number = length journal.new.units; unit = unit })) }
+    ensures refused { OnErr result ((journal.new.units ≡ journal.old.units) × (content_now store.new ≡ content_now store.old)) }
+    ensures cut { store.new.cut ≤ max store.old.cut (unwrap_or oldest (length journal.new.units)) }
 {
-    journal.prepare_lone(job, command, answer)?;
-    store.reserve(nodes)?;
-    Ok(())
-}
-
-// What the command leaves. Takes no memory.
-fn change(store: &mut Store, command: DataCommand, copies: Vec<(Key, Text)>)
-    requires copies { copies.items ≡ copies_of command store.old.map }
-    requires room { nodes_needed_spec command (vec_len copies) ≤ store.old.spare }
-    ensures { store.new.map ≡ data_after command store.old.map }
-{
-    match command {
-        DataCommand::Set(key, value) => {
-            drop(copies);
-            store.set_reserved(key, value);
-        }
-        DataCommand::Kill(key) => {
-            drop(copies);
-            store.kill(&key);
-        }
-        DataCommand::Merge(target, source) => {
-            drop(target);
-            drop(source);
-            store.set_all_reserved(copies);
-        }
-        DataCommand::Look(look) => {
-            drop(copies);
-            drop(look);
+    match store.place_keys(alloc, &changes) {
+        Ok(()) => Ok(write(store, journal, changes, oldest)),
+        Err(error) => {
+            drop(changes);
+            Err(error)
         }
     }
 }

@@ -8,13 +8,13 @@ ghost use Rattle.job_core.specs.Causes.{early_refusal};
 ghost use Rattle.serial.specs.Machine.{IsReply, AreReplies};
 
 use crate::commands::lone;
-use crate::store::Store;
 use collation::Job;
 use command::{DataCommand, Reply};
 use journal::Journal;
 use refusal::Refusal;
 use std::alloc::Global;
 use std::marker::Model;
+use version_store::{Snapshot, Store};
 
 /// One atomic step.
 #[derive(Debug, Drop)]
@@ -27,7 +27,7 @@ pub enum Step {
 ///
 /// Contracts see the machine: its units, each right at its place, of which the database is what they leave, and the
 /// open transactions, of which there are none yet.
-#[derive(Debug, Drop)]
+#[derive(Drop)]
 pub struct JobCore {
     alloc: Global,
     store: Store,
@@ -37,7 +37,7 @@ pub struct JobCore {
 impl Model for JobCore {
     ghost use Rattle.std.specs.FinMap as map;
     ghost use Rattle.journal.specs.Story.{Machine};
-    ghost use Rattle.job_core.specs.Agrees.{Agrees};
+    ghost use Rattle.validate_commit.specs.Agreement.{Agreement};
     ghost use Rattle.job_core.specs.Codes.{machine_code};
 
     ghost Value = { Machine };
@@ -46,7 +46,7 @@ impl Model for JobCore {
 
     ghost view = { λ c. record { units = c.journal.units; transactions = map.empty } };
 
-    ghost invariant = { λ c. Agrees c.journal.units c.store.map };
+    ghost invariant = { λ c. Agreement c.store c.journal.units };
 }
 
 impl JobCore {
@@ -72,10 +72,10 @@ impl JobCore {
     }
 
     /// The database: what the journal's units leave.
-    pub fn content(&self) -> &Store
-        ensures { result.now.map ≡ (after self.now.units initial).map }
+    pub fn content(&self) -> Snapshot<'_>
+        ensures { result ≡ (after self.now.units initial).map }
     {
-        &self.store
+        self.store.view_now()
     }
 
     /// One step of a job. Either the journal gains a unit with the reply, or the reply is a refusal and nothing has
@@ -90,7 +90,14 @@ impl JobCore {
         ensures early { (refusal : Refusal) → early_refusal command ≡ Some refusal → result ≡ Reply.Refused refusal }
         ensures legal { IsLegal self.new.units initial }
     {
-        match lone(self.alloc, &mut self.store, &mut self.journal, job, command) {
+        match lone(
+            self.alloc,
+            &mut self.store,
+            &mut self.journal,
+            job,
+            command,
+            None,
+        ) {
             Ok((answer, _receipt)) => Reply::Answered(answer),
             Err(refusal) => Reply::Refused(refusal),
         }

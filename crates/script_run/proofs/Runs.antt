@@ -1,5 +1,5 @@
 -- Lines that were answered, one after the other.
-use Rattle.std.proofs.Common.{◌≡◌, ℕ, suc, ◌+◌, ◌-◌, ◌≤◌, take, Bool, true, ◌||◌, List, [], ◌∷◌, ◌++◌, map, length, drop, Option, Result, Ok, Err, inl, inr, refl, sym, ap, subst, ◌∙◌, append_assoc, arith, length-drop, drop-drop}
+use Rattle.std.proofs.Common.{◌≡◌, ℕ, suc, ◌+◌, ◌-◌, ◌≤◌, take, Bool, true, ◌||◌, List, [], ◌∷◌, ◌++◌, map, length, drop, Option, Result, Ok, Err, inr, refl, sym, ap, subst, ◌∙◌, append_assoc, arith, length-drop, drop-drop}
 use Rattle.std.proofs.lemmas.List.{append-nil, map-append}
 use Rattle.std.proofs.lemmas.Grind.{flat_map-append}
 use Rattle.std.proofs.lemmas.List.Folds.{list_any-append}
@@ -10,18 +10,18 @@ use Rattle.journal.specs.History.{initial, IsLegal, after as after_units}
 use Rattle.journal.specs.Story.{Machine}
 use Rattle.refusal.specs.declared.Refusal.{Refusal}
 use Rattle.refusal.specs.declared.Refusal.TheVariants.{OutOfMemory}
-use Rattle.script.specs.Line.{reading_of, job_of}
+use Rattle.script.specs.Line.{job_of}
 use Rattle.script.specs.Text.{reply_text}
 use Rattle.std.specs.Prelude.{Some, None}
 use Rattle.std.specs.Io.BufRead.{strip_last}
 use Rattle.std.proofs.Math.Bool.{or-false, or_assoc}
 use Rattle.listing.specs.Bytes.{WritesBeginning, Passes}
-use Rattle.listing.specs.BytesLaws.{rest_of, Appends-nothing, WritesBeginning-all, WritesBeginning-longer, Passes-none, Passes-all, Passes-more, Passes-then, Passes-begun, Passes-Appends, Passes-beginning}
+use Rattle.listing.specs.BytesLaws.{rest_of, Appends-nothing, WritesBeginning-all, WritesBeginning-longer, Passes-none, Passes-all, Passes-more, Passes-then, Passes-begun, Passes-Appends}
 use Rattle.std.specs.Io.KnownBytes.{Appends}
 use Rattle.bstr.specs.Find.{IsFirstByte, is_byte}
 use Rattle.script_run.specs.Lines.{kept, lines_of, has_no_end}
 use Rattle.script_run.proofs.Cut.{end_of, first_line, no_end, joined_line, has_no_end-append}
-use Rattle.script_run.specs.Output.{Answer, IsAnswer, AreAnswers, told_by, left_by, text_of, is_refused, some_refused, ending}
+use Rattle.script_run.specs.Output.{Answer, asked_by, IsAnswer, AreAnswers, told_by, left_by, text_of, is_refused, some_refused, ending}
 use Rattle.script_run.specs.Runs.{Ran, Broke, RanFront, BrokeFront, RanEnd, BrokeEnd}
 use Rattle.script_run.specs.declared.answers.Script.{Script}
 
@@ -29,7 +29,7 @@ one-text : (line : List ℕ) (reply : Reply) (job : Option ℕ) (old : Script) (
 one-text line reply job old out j t = t ∙ ap (λ (k : Option ℕ). old.out.items ++ reply_text k reply) j ∙ ap (λ (ts : List ℕ). old.out.items ++ ts) (sym (append-nil _))
 
 -- one line was answered, and its reply gathered
-pub Ran-one : (line : List ℕ) (reply : Reply) (job : Option ℕ) (old new : Script) (before now : Option (List ℕ)) (out : List ℕ) → job ≡ job_of line → IsAnswer old.core (reading_of line) reply → new.core ≡ told_by (reading_of line) reply old.core
+pub Ran-one : (line : List ℕ) (reply : Reply) (job : Option ℕ) (old new : Script) (before now : Option (List ℕ)) (out : List ℕ) → job ≡ job_of line → IsAnswer old.core (asked_by line) reply → new.core ≡ told_by (asked_by line) reply old.core
     → out ≡ old.out.items ++ reply_text job reply → Passes before now out new.out.items → new.refused ≡ (old.refused || is_refused reply) → (IsLegal old.core.units initial → IsLegal new.core.units initial) → Ran (line ∷ []) old new before now
 Ran-one line reply job old new before now out j a u t p r l = record {
   answers = (line, reply) ∷ [];
@@ -42,8 +42,8 @@ Ran-one line reply job old new before now out j a u t p r l = record {
 }
 
 -- a line was answered, and of its reply's text a beginning was written
-pub Broke-one : (line : List ℕ) (reply : Reply) (job : Option ℕ) (old : Script) (core : Machine) (before now : Option (List ℕ)) (out : List ℕ) → job ≡ job_of line → IsAnswer old.core (reading_of line) reply
-    → core ≡ told_by (reading_of line) reply old.core → out ≡ old.out.items ++ reply_text job reply → WritesBeginning before now out → (IsLegal old.core.units initial → IsLegal core.units initial) → Broke (line ∷ []) old before now
+pub Broke-one : (line : List ℕ) (reply : Reply) (job : Option ℕ) (old : Script) (core : Machine) (before now : Option (List ℕ)) (out : List ℕ) → job ≡ job_of line → IsAnswer old.core (asked_by line) reply
+    → core ≡ told_by (asked_by line) reply old.core → out ≡ old.out.items ++ reply_text job reply → WritesBeginning before now out → (IsLegal old.core.units initial → IsLegal core.units initial) → Broke (line ∷ []) old before now
 Broke-one line reply job old core before now out j a u t w l = record {
   answers = (line, reply) ∷ [];
   of_lines = refl;
@@ -71,7 +71,7 @@ Ran-none old new a u o r = record {
 -- answers at their places, and then answers after them
 pub AreAnswers-append : (s t : Machine) (xs ys : List Answer) → AreAnswers s xs → t ≡ left_by xs s → AreAnswers t ys → AreAnswers s (xs ++ ys)
 AreAnswers-append s t [] ys h e k = subst (λ (m : Machine). AreAnswers m ys) e k
-AreAnswers-append s t (x ∷ xs) ys h e k = (h.0, AreAnswers-append (told_by (reading_of x.0) x.1 s) t xs ys h.1 e k)
+AreAnswers-append s t (x ∷ xs) ys h e k = (h.0, AreAnswers-append (told_by (asked_by x.0) x.1 s) t xs ys h.1 e k)
 
 -- the text of answers and of those after them
 text-then : (out : List ℕ) (xs ys : List Answer) → (out ++ text_of xs) ++ text_of ys ≡ out ++ text_of (xs ++ ys)
@@ -80,7 +80,7 @@ text-then out xs ys = append_assoc out (text_of xs) (text_of ys) ∙ ap (λ (ts 
 -- what answers leave, and then those after them
 pub left-append : (xs ys : List Answer) (s : Machine) → left_by (xs ++ ys) s ≡ left_by ys (left_by xs s)
 left-append [] ys s = refl
-left-append (x ∷ xs) ys s = left-append xs ys (told_by (reading_of x.0) x.1 s)
+left-append (x ∷ xs) ys s = left-append xs ys (told_by (asked_by x.0) x.1 s)
 
 pub left-then : (s t : Machine) (xs ys : List Answer) → t ≡ left_by xs s → left_by ys t ≡ left_by (xs ++ ys) s
 left-then s t xs ys e = ap (left_by ys) e ∙ sym (left-append xs ys s)
@@ -137,7 +137,7 @@ no_memory s (Err e) = inr refl
 
 pub silent-each : (s : Machine) (ls : List (List ℕ)) → AreAnswers s (silent ls)
 silent-each s [] = tt
-silent-each s (l ∷ ls) = (no_memory s (reading_of l), silent-each (told_by (reading_of l) (Refused OutOfMemory) s) ls)
+silent-each s (l ∷ ls) = (no_memory s (asked_by l), silent-each (told_by (asked_by l) (Refused OutOfMemory) s) ls)
 
 told-nothing : (r : Result (ℕ × DataCommand) Refusal) (s : Machine) → told_by r (Refused OutOfMemory) s ≡ s
 told-nothing (Ok step) s = refl
@@ -145,7 +145,7 @@ told-nothing (Err e) s = refl
 
 pub silent-left : (ls : List (List ℕ)) (s : Machine) → left_by (silent ls) s ≡ s
 silent-left [] s = refl
-silent-left (l ∷ ls) s = ap (left_by (silent ls)) (told-nothing (reading_of l) s) ∙ silent-left ls s
+silent-left (l ∷ ls) s = ap (left_by (silent ls)) (told-nothing (asked_by l) s) ∙ silent-left ls s
 
 -- the run broke off before these lines
 pub Broke-before : (ls : List (List ℕ)) (a : Script) (p : Option (List ℕ)) → Broke ls a p p

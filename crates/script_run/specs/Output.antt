@@ -4,9 +4,10 @@ use Rattle.std.specs.Prelude.{◌≡◌, ◌⊎◌, ⊤, ℕ, Bool, true, false,
 use Rattle.std.specs.List.{flat_map, list_any}
 use Rattle.std.specs.Io.KnownBytes.{Appends}
 use Rattle.refusal.specs.declared.Refusal.{Refusal}
-use Rattle.refusal.specs.declared.Refusal.TheVariants.{OutOfMemory}
+use Rattle.refusal.specs.declared.Refusal.TheVariants.{BadLine, OutOfMemory}
 use Rattle.collation.specs.Database.{Database}
 use Rattle.command.specs.declared.access.DataCommand.{DataCommand}
+use Rattle.command.specs.declared.request.Command.{Command}
 use Rattle.command.specs.declared.request.Command.TheVariants.{Access}
 use Rattle.command.specs.declared.request.Reply.{Reply}
 use Rattle.command.specs.declared.request.Reply.TheVariants.{Answered, Finished, Had, Count, AtLevel, Committed, Restarted, Refused}
@@ -23,6 +24,19 @@ use Rattle.script_run.specs.Lines.{lines_of, has_no_end}
 abbrev pub Answer : Type 0
 Answer = List ℕ × Reply
 
+-- for now the machine does data commands alone: a line with any other command is refused with BadLine
+abbrev pub done_today : ℕ → Command → Result (ℕ × DataCommand) Refusal
+done_today job (Access command) = Ok (job, command)
+done_today job command = Err BadLine
+
+abbrev pub asked_today : Result (ℕ × Command) Refusal → Result (ℕ × DataCommand) Refusal
+asked_today (Ok step) = done_today step.0 step.1
+asked_today (Err refusal) = Err refusal
+
+-- what a line asks of the machine, or its refusal
+abbrev pub asked_by : List ℕ → Result (ℕ × DataCommand) Refusal
+asked_by line = asked_today (reading_of line)
+
 -- a line that asks nothing gets its refusal, or that of memory; another gets the machine's reply, or that of memory
 abbrev pub IsAnswer : Machine → Result (ℕ × DataCommand) Refusal → Reply → Type 0
 IsAnswer s (Ok step) reply = IsReply step.0 (Access step.1) reply s
@@ -36,12 +50,12 @@ told_by (Err refusal) reply s = s
 -- what lines and their replies leave, each in its turn
 abbrev pub left_by : List Answer → Machine → Machine
 left_by [] s = s
-left_by (a ∷ answers) s = left_by answers (told_by (reading_of a.0) a.1 s)
+left_by (a ∷ answers) s = left_by answers (told_by (asked_by a.0) a.1 s)
 
 -- each line has its answer at its place
 abbrev pub AreAnswers : Machine → List Answer → Type 0
 AreAnswers s [] = ⊤
-AreAnswers s (a ∷ answers) = IsAnswer s (reading_of a.0) a.1 × AreAnswers (told_by (reading_of a.0) a.1 s) answers
+AreAnswers s (a ∷ answers) = IsAnswer s (asked_by a.0) a.1 × AreAnswers (told_by (asked_by a.0) a.1 s) answers
 
 abbrev pub text_of : List Answer → List ℕ
 text_of answers = flat_map (λ a. reply_text (job_of a.0) a.1) answers

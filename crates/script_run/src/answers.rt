@@ -1,30 +1,46 @@
 //! A line, its reply, and the reply's text.
 ghost use Rattle.std.specs.Prelude.{◌≡◌, ◌++◌, ◌∷◌, [], OnOk, OnErr, IsErrOf, ◌||◌};
-ghost use Rattle.script.specs.Line.{reading_of, job_of};
+ghost use Rattle.script.specs.Line.{job_of};
 ghost use Rattle.journal.specs.History.{initial, IsLegal};
 ghost use Rattle.listing.specs.Bytes.{Counts};
 ghost use Rattle.script_run.specs.Lines.{kept};
-ghost use Rattle.script_run.specs.Output.{IsAnswer, told_by, is_refused as refused_of};
+ghost use Rattle.script_run.specs.Output.{asked_by, done_today, IsAnswer, told_by, is_refused as refused_of};
 ghost use Rattle.script_run.specs.Runs.{Ran, Broke};
 
 use crate::RefusalLog;
 use collation::Job;
-use command::Reply;
+use command::{Command, Reply};
 use job_core::JobCore;
 use listing::{Counted, ListingFault};
+use refusal::Refusal;
 use script::{Drafts, read_line, write_reply};
 use std::alloc::Global;
 use std::io::Write;
 
 // The machine, the references of the line that is read, the text that is gathered and not yet written, whether a reply was a refusal, and how many lines came,
 // empty ones too. The number of lines saturates.
-#[derive(Debug, Drop)]
+#[derive(Drop)]
 pub(crate) struct Script {
     pub(crate) core: JobCore,
     pub(crate) drafts: Drafts,
     pub(crate) out: Vec<u8>,
     pub(crate) refused: bool,
     pub(crate) lines: u64,
+}
+
+// Only data commands are done for now.
+fn reply_today(core: &mut JobCore, job: Job, command: Command) -> Reply
+    ensures answer { IsAnswer core.old (done_today job command) result }
+    ensures machine { core.new ≡ told_by (done_today job command) result core.old }
+    ensures legal { IsLegal core.old.units initial → IsLegal core.new.units initial }
+{
+    match command {
+        Command::Access(command) => core.step(job, command),
+        other => {
+            drop(other);
+            Reply::Refused(Refusal::BadLine)
+        }
+    }
 }
 
 fn answer_line(
@@ -34,13 +50,13 @@ fn answer_line(
     line: &[u8],
 ) -> (Option<Job>, Reply)
     ensures job { result.0 ≡ job_of line.now }
-    ensures answer { IsAnswer core.old (reading_of line.now) result.1 }
-    ensures machine { core.new ≡ told_by (reading_of line.now) result.1 core.old }
+    ensures answer { IsAnswer core.old (asked_by line.now) result.1 }
+    ensures machine { core.new ≡ told_by (asked_by line.now) result.1 core.old }
     ensures legal { IsLegal core.old.units initial → IsLegal core.new.units initial }
 {
     match read_line(alloc, line, drafts) {
         Ok((job, command)) => {
-            let reply = core.step(job, command);
+            let reply = reply_today(core, job, command);
             (Some(job), reply)
         }
         Err(fault) => (fault.job, Reply::Refused(fault.refusal)),

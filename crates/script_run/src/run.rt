@@ -101,7 +101,8 @@ fn write_ending<W: Write>(
 {
     if listed {
         script.out.extend_from_slice(b"--\n")?;
-        write_listing_after(script.core.content(), &mut script.out, writer)?;
+        let content = script.core.content();
+        write_listing_after(&content, &mut script.out, writer)?;
     } else {
         writer.write_gathered(&mut script.out)?;
     }
@@ -128,6 +129,43 @@ fn finish<W: Write>(
     Ok(())
 }
 
+// The lines to the end of input and the ending, in a script that is new.
+fn run_pieces<R: Read, W: Write>(
+    alloc: Global,
+    listed: bool,
+    script: &mut Script,
+    reader: &mut Counted<R>,
+    writer: &mut Counted<W>,
+    log: &mut impl RefusalLog,
+) -> Result<(), Fault>
+    requires core { script.old.core ≡ nothing_done }
+    requires out { script.old.out.items ≡ [] }
+    requires refused { script.old.refused ≡ false }
+    ensures output { OnOk result (IfSome (R.remaining reader.old.inner)
+        (λ bytes. Wrote listed bytes script.new.refused (W.contents writer.old.inner) (W.contents writer.new.inner))) }
+    ensures at_end { OnOk result (IsAtEnd (R.remaining reader.new.inner)) }
+    ensures begun { OnErr result (IfSome (R.remaining reader.old.inner)
+        (λ bytes. IsBegun listed bytes (W.contents writer.old.inner) (W.contents writer.new.inner))) }
+    ensures answered { IsErrOf result Fault.Read → IfSome (R.remaining reader.old.inner) (λ bytes. IfSome (R.remaining reader.new.inner)
+        (λ more. HasAnswered bytes more (W.contents writer.old.inner) (W.contents writer.new.inner))) }
+    ensures read { IsErrOf result Fault.Read → Counts reader.old.failures reader.new.failures × (writer.new.failures ≡ writer.old.failures) }
+    ensures write { IsErrOf result Fault.Write → Counts writer.old.failures writer.new.failures × (reader.new.failures ≡ reader.old.failures) }
+    ensures kept { OnOk result ((reader.new.failures ≡ reader.old.failures) × (writer.new.failures ≡ writer.old.failures)) }
+    ensures memory { IsErrOf result Fault.Memory → (reader.new.failures ≡ reader.old.failures) × (writer.new.failures ≡ writer.old.failures) }
+{
+    let mut begun = Vec::new(alloc);
+    let mut buffer = [0; PIECE_BYTES];
+    'pieces: for _ in 0..u64::MAX {
+        let piece = read_piece(reader, &mut buffer)?;
+        if piece.is_empty() {
+            finish(alloc, listed, script, &begun, writer, log)?;
+            return Ok(());
+        }
+        take_piece(alloc, script, &mut begun, piece, writer, log)?;
+    }
+    Err(Fault::Memory)
+}
+
 /// Runs a script as `run_script` does. Without `listed` neither `--` nor the listing is written, and `log` is told of
 /// each refused line.
 pub fn run_with<R: Read, W: Write>(
@@ -150,19 +188,17 @@ pub fn run_with<R: Read, W: Write>(
     ensures memory { IsErrOf result Fault.Memory → (reader.new.failures ≡ reader.old.failures) × (writer.new.failures ≡ writer.old.failures) }
 {
     let mut script = new_script(alloc)?;
-    let mut begun = Vec::new(alloc);
-    let mut buffer = [0; PIECE_BYTES];
-    'pieces: for _ in 0..u64::MAX {
-        let piece = read_piece(reader, &mut buffer)?;
-        if piece.is_empty() {
-            finish(alloc, listed, &mut script, &begun, writer, log)?;
-            return Ok(Outcome {
-                refused: script.refused,
-            });
+    match run_pieces(alloc, listed, &mut script, reader, writer, log) {
+        Ok(()) => {
+            let refused = script.refused;
+            drop(script);
+            Ok(Outcome { refused })
         }
-        take_piece(alloc, &mut script, &mut begun, piece, writer, log)?;
+        Err(fault) => {
+            drop(script);
+            Err(fault)
+        }
     }
-    Err(Fault::Memory)
 }
 
 /// Runs a script: reads lines to the end of input, does each in its turn, and writes a reply to each and then

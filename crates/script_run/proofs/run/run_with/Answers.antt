@@ -1,51 +1,6 @@
-use Rattle.std.proofs.Common.{◌≡◌, length, refl, ◌∙◌, arith}
-use Rattle.std.proofs.lemmas.Bool.Decides.{nat_tests}
-use Rattle.script_run.proofs.Stands.{answered, begun_first, begun_at, begun_piece, begun_end, wrote_all, stands_first, stands_next}
+use Rattle.script_run.proofs.Stands.{begun_first}
 use Rattle.listing.specs.BytesLaws.{on_err}
 use Rattle.script_run.proofs.run.run_with.Goals as goal
 
 pub returns-in_err-script-clause-begun : goal.returns-in_err-script-clause-begun
 returns-in_err-script-clause-begun g c = on_err _ _ (begun_first _ _ _)
-
-pub pieces-init : goal.pieces-init
-pieces-init g c =
-    let new = c.in_ok-script.ensures in
-    record { stands = stands_first _ _ _ _ new.core new.out new.refused c.new-begun.ensures.items; reads = refl; writes = refl }
-
-pub returns-in_err-piece-clause-begun : goal.returns-in_err-piece-clause-begun
-returns-in_err-piece-clause-begun g c = on_err _ _ (begun_at _ _ _ _ _ _ _ c.pieces.invariant.stands)
-
-pub returns-in_err-piece-clause-answered : goal.returns-in_err-piece-clause-answered
-returns-in_err-piece-clause-answered g c = λ _. answered _ _ _ _ _ _ _ c.pieces.invariant.stands c.in_err-piece.ensures.err
-
-pub returns-in_err-take_piece-clause-begun : goal.returns-in_err-take_piece-clause-begun
-returns-in_err-take_piece-clause-begun g c = on_err _ _ (begun_piece _ _ _ _ _ _ _ _ _ _ c.pieces.invariant.stands c.in_ok-piece.ensures.read c.in_err-take_piece.ensures.err)
-
-pub returns-clause-begun : goal.returns-clause-begun
-returns-clause-begun g c = begun_at _ _ _ _ _ _ _ c.pieces.invariant.stands
-
-pub returns-in_err-finish-clause-begun : goal.returns-in_err-finish-clause-begun
-returns-in_err-finish-clause-begun g c =
-    let none : length c.in_ok-piece.piece.now ≡ 0 = grind (arith, nat_tests, c.is_empty.ensures, c.if-is_empty.true) in
-    let ended = rw c.deref.ensures.value at c.in_err-finish.ensures.err in
-    on_err _ _ (begun_end _ _ _ _ _ _ _ _ _ _ c.pieces.invariant.stands c.in_ok-piece.ensures.read none ended)
-
-pub returns-then-is_empty-clause-output : goal.returns-then-is_empty-clause-output
-returns-then-is_empty-clause-output g c =
-    let none : length c.in_ok-piece.piece.now ≡ 0 = grind (arith, nat_tests, c.is_empty.ensures, c.if-is_empty.true) in
-    let ended = rw c.deref.ensures.value at c.in_ok-finish.ensures.ran in
-    wrote_all _ _ _ _ _ _ _ _ _ _ _ c.pieces.invariant.stands c.in_ok-piece.ensures.read none ended
-
-pub returns-then-is_empty-clause-at_end : goal.returns-then-is_empty-clause-at_end
-returns-then-is_empty-clause-at_end g c =
-    let none : length c.in_ok-piece.piece.now ≡ 0 = grind (arith, nat_tests, c.is_empty.ensures, c.if-is_empty.true) in
-    c.in_ok-piece.ensures.read.ended none
-
-pub pieces-preserved : goal.pieces-preserved
-pieces-preserved g c =
-    let ran = c.in_ok-take_piece.ensures in
-    record {
-      stands = stands_next _ _ _ _ _ _ _ _ _ _ _ c.pieces.invariant.stands c.in_ok-piece.ensures.read ran.ran ran.begun ran.empty;
-      reads = c.in_ok-piece.ensures.kept ∙ c.pieces.invariant.reads;
-      writes = ran.counts ∙ c.pieces.invariant.writes;
-    }

@@ -1,18 +1,17 @@
-use Rattle.std.proofs.Common.{◌≡◌, ap, sym, ◌∙◌}
+use Rattle.std.proofs.Common.{ap, sym, ◌∙◌}
 use Rattle.command.specs.declared.request.Command.TheVariants.{Access}
 use Rattle.journal.specs.Story.{told}
-use Rattle.job_core.proofs.Legality.{alone, lone_agrees, told_alone, answered_exact, refused_exact}
+use Rattle.version_store.specs.Versions.{content_now}
+use Rattle.validate_commit.specs.laws.Agreement.{agreed_now}
+use Rattle.job_core.proofs.Legality.{alone, told_alone, answered_exact, refused_exact}
 use Rattle.job_core.proofs.machine.JobCore.step.Goals.{in-Ok, in-Err}
 use Rattle.job_core.proofs.machine.JobCore.step.Goals as goal
 
 pub invariant_of-self : goal.invariant_of-self
-invariant_of-self c = elim c.match-lone.branch [
-  | in-Ok w ↦ rw (w.in-Ok.ensures.unit, w.in-Ok.ensures.database) (lone_agrees _ _ _ _ _ c.self.invariant w.in-Ok.ensures.counted w.in-Ok.ensures.accepted w.in-Ok.ensures.answer)
-  | in-Err w ↦ let same = w.in-Err.ensures.refused in rw (same.0, same.1) c.self.invariant
-]
+invariant_of-self c = c.lone.ensures.agreed
 
 pub returns-clause-legal : goal.returns-clause-legal
-returns-clause-legal c = let agrees = invariant_of-self c in agrees.legal
+returns-clause-legal c = let agrees = c.lone.ensures.agreed in agrees.legal
 
 pub returns-clause-machine : goal.returns-clause-machine
 returns-clause-machine c = elim c.match-lone.branch [
@@ -21,7 +20,11 @@ returns-clause-machine c = elim c.match-lone.branch [
 ]
 
 pub returns-clause-exact : goal.returns-clause-exact
-returns-clause-exact c = elim c.match-lone.branch [
-  | in-Ok w ↦ rw (w.result-is, ← c.self.view_is) (answered_exact c.self.inside.journal.units c.self.inside.store.map c.args.job c.args.command w.in-Ok.answer c.self.invariant w.in-Ok.ensures.counted w.in-Ok.ensures.accepted w.in-Ok.ensures.answer)
-  | in-Err w ↦ rw (w.result-is, ← c.self.view_is) (refused_exact c.self.inside.journal.units c.self.inside.store.map c.args.job c.args.command w.in-Err.refusal c.self.invariant w.in-Err.ensures.cause)
-]
+returns-clause-exact c =
+    let units = c.self.inside.journal.units in
+    let now = content_now c.self.inside.store in
+    let content = agreed_now c.self.inside.store units c.self.invariant in
+    elim c.match-lone.branch [
+      | in-Ok w ↦ rw (w.result-is, ← c.self.view_is) (answered_exact units now c.args.job c.args.command w.in-Ok.answer content w.in-Ok.ensures.counted w.in-Ok.ensures.accepted w.in-Ok.ensures.answer)
+      | in-Err w ↦ rw (w.result-is, ← c.self.view_is) (refused_exact units now c.args.job c.args.command w.in-Err.refusal content c.self.invariant.counted w.in-Err.ensures.cause)
+    ]
