@@ -1,7 +1,7 @@
 //! The content of a core, looked at through `OrderedView`: docs/RULES.md, "Order".
 use crate::answers::core_of;
 use collation::Text;
-use globals::{Cut, OrderedView, subtree, walk_from};
+use globals::{Cut, OrderedView};
 use key_codec::{Key, KeyDraft};
 use m_text::read_reference;
 use refusal::Refusal;
@@ -49,23 +49,5 @@ fn next_and_prev_part_the_nodes_at_each_form_of_cut(rt: HostRuntime) -> Result<(
         );
         assert_eq!(rt; found, (next.as_bytes(), prev.as_bytes()));
     }
-    Ok(())
-}
-
-#[test]
-fn walks_meet_each_node_in_order(rt: HostRuntime) -> Result<(), Fail> {
-    let core = core_of(rt.alloc(), &LINES)?;
-    let root = key_of(rt.alloc(), b"^A(1)")?;
-    let mut met = Vec::new(rt.alloc());
-    let content = core.content();
-    for (_, value) in walk_from(&content, Cut::Start) {
-        met.extend_from_slice(value.as_slice())?;
-    }
-    assert_eq!(rt; met.as_slice(), b"019bc".as_slice());
-    met.clear();
-    for (_, value) in subtree(&content, &root) {
-        met.extend_from_slice(value.as_slice())?;
-    }
-    assert_eq!(rt; met.as_slice(), b"19b".as_slice());
     Ok(())
 }
