@@ -1,6 +1,6 @@
 -- Rows by job as a lock state, and the trie beside them.
 use Rattle.std.proofs.Common.{◌≡◌, ◌<◌, ℕ, List, Bool, true, false, refl, sym, ap, subst, ◌∙◌, ◌⊎◌, inl, inr}
-use Rattle.std.specs.Prelude.{cond, Option, Some, None, IsSome, unwrap_or, is_some, IfErr, Result, Ok, Err, OnOk, OnErr}
+use Rattle.std.specs.Prelude.{cond, Option, Some, None, IsSome, unwrap_or, is_some, IfErr, IfOk, Result, Ok, Err, OnOk, OnErr}
 use Rattle.std.specs.Ordering.{nat_cmp, is_eq, eq_by_cmp}
 use Rattle.std.specs.Cmp.{nat_cmp_total, tied_itself}
 use Rattle.std.specs.Option.{option_map}
@@ -227,3 +227,13 @@ copied_some f (Some a) = refl
 pub refused_by : (b : Bool) (refusal : Refusal) → (refusal ≡ OutOfMemory) ⊎ ((refusal ≡ LockCountFull) × (b ≡ true)) → (refusal ≡ OutOfMemory) ⊎ (cond b (Some LockCountFull) None ≡ Some refusal)
 refused_by b refusal (inl e) = inl e
 refused_by b refusal (inr p) = inr (ap (λ t. cond t (Some LockCountFull) None) p.1 ∙ ap Some (sym p.0))
+
+pub if_ok_onward : {A E : Type 0} {P Q : A → Type 0} (r : Result A E) → ((a : A) → P a → Q a) → IfOk r P → IfOk r Q
+if_ok_onward (Ok a) f p = f a p
+if_ok_onward (Err e) f p = tt
+
+pub wants_nothing : (es : List (ℕ × JobLocks)) (m : LockState) (job : ℕ) → finmap.from_entries es ≡ m → None ≡ lookup (is_at (nat_cmp job)) es → finmap.empty ≡ (locks_of job m).want
+wants_nothing es m job was is = sym (ap (λ o. (unwrap_or o no_locks).want) (got es m job None was is))
+
+pub all_refused_by : {A : Type 0} (r : Result A Refusal) (b : Bool) (ended : Option Refusal) → ended ≡ cond b (Some LockCountFull) None → IfErr r (λ refusal. (refusal ≡ OutOfMemory) ⊎ ((refusal ≡ LockCountFull) × (b ≡ true))) → IfErr r (λ refusal. (refusal ≡ OutOfMemory) ⊎ (ended ≡ Some refusal))
+all_refused_by r b ended is cause = subst (λ o. IfErr r (λ refusal. (refusal ≡ OutOfMemory) ⊎ (o ≡ Some refusal))) (sym is) (if_err_onward r (refused_by b) cause)

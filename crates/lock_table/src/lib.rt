@@ -15,6 +15,9 @@
 //! | rollback or restart | those of the start | as wanted | forgotten | `back_job` |
 //! | HALT | none | none | forgotten | `end_job` |
 //!
+//! A `LockCommand` of any form is replied to by `reply`, judged by `check` and done by `do_lock`, which picks `lock_all`,
+//! `plus`, `minus` or `clear`; `reply` and `check` change nothing.
+//!
 //! Invariants:
 //! (1) a row keeps what is wanted and, inside, the peaks: for names that were released there the highest count wanted
 //!     before. Held is the greater of the two, so that nothing else has to change when a name is released inside
@@ -27,12 +30,15 @@
 //! trie is brought back to what the row holds. A LOCK with + or - costs what it names, one that releases all what the
 //! job wants, and the first in a transaction a copy of what is wanted.
 //!
-//! Read `specs/Rows.antt`, then `table.rt`, `row.rt`, `moves.rt`.
+//! `check` copies what the job wants; `reply` takes no memory.
+//!
+//! Read `specs/Rows.antt`, then `table.rt`, `command.rt`, `row.rt`, `moves.rt`.
 //! Not promised: any time.
 #![tactic(auto)]
 
 pub use table::LockTable;
 
+mod command;
 mod counts;
 mod inside;
 mod moves;

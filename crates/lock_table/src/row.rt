@@ -60,6 +60,13 @@ impl Row {
         }
     }
 
+    /// A copy of what is wanted.
+    pub fn wanted(&self) -> Result<Counts, AllocError>
+        ensures { IfOk result (λ want. want ≡ self.now.want) }
+    {
+        self.want.copy()
+    }
+
     /// The first LOCK in a transaction remembers what is wanted; answers whether this is the first.
     fn enter(&mut self) -> Result<bool, AllocError>
         ensures ok { OnOk result (self.new ≡ enters self.old) }

@@ -7,11 +7,12 @@ ghost use Rattle.collation.specs.Locks.{no_locks, locks_of, changed, job_wants, 
 ghost use Rattle.lock_table.specs.Rows.{want_by, is_full_by};
 ghost use Rattle.lock_table.specs.Tables.{nothing};
 
+use crate::counts::Counts;
 use crate::row::{Form, Row};
 use collation::{Job, LockName, LockNames};
 use lock_trie::LockTrie;
 use refusal::Refusal;
-use std::alloc::Global;
+use std::alloc::{AllocError, Global};
 use std::collections::BTreeMap;
 use std::marker::Model;
 
@@ -56,7 +57,8 @@ impl LockTable {
         self.trie.blocked(job, name)
     }
 
-    fn are_blocked(&self, job: u16, names: &[LockName]) -> bool
+    /// Whether one of these names is blocked.
+    pub(crate) fn are_blocked(&self, job: u16, names: &[LockName]) -> bool
         ensures { result ≡ list_any (is_blocked self.now job) names.now }
     {
         for name in names {
@@ -65,6 +67,23 @@ impl LockTable {
             }
         }
         false
+    }
+
+    /// Counts of no name.
+    pub(crate) fn nothing(&self) -> Counts
+        ensures { result ≡ finmap.empty }
+    {
+        Counts::new(self.alloc)
+    }
+
+    /// A copy of what the job wants.
+    pub(crate) fn wanted(&self, job: u16) -> Result<Counts, AllocError>
+        ensures { IfOk result (λ want. want ≡ (let l = locks_of job self.now in l.want)) }
+    {
+        match self.rows.get(&job) {
+            Some(row) => row.wanted(),
+            None => Ok(self.nothing()),
+        }
     }
 
     /// The job, which has no row, has one with nothing in it.

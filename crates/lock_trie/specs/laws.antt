@@ -1,3 +1,2 @@
 pub mod Mapped
 pub mod Conflicts
-pub mod Smalls

@@ -4,12 +4,35 @@
 //! `take_away` change one count and leave all others; `blocked` says whether another job holds the name, an ancestor
 //! of it or a descendant.
 //!
-//! Read `specs/Held.antt`, then `trie.rt`.
-//! Not promised: any time; `blocked` looks at the locks of every other job.
+//! | Level | Keyed by | Keeps | File |
+//! |---|---|---|---|
+//! | `LockTrie` | caret or none | the roots of each | `trie.rt` |
+//! | `Roots` | the name | a root | `roots.rt` |
+//! | `Root` | | what is held at each path, and how much of it at and below each | `root.rt` |
+//! | `Paths` | the path: the subscripts | a node | `paths.rt` |
+//! | `Marks` | the job | a count | `marks.rt` |
+//!
+//! A root is a tree by subscripts whose nodes lie in two ordered maps by path. A path is looked up by a slice of the name's
+//! subscripts, so each beginning of it is found without memory, and nothing recurs.
+//!
+//! Invariants:
+//! (1) the counts at and below a path are those of all held paths that begin with it (`specs/Tallied.antt`);
+//! (2) no held count is above 65,535;
+//! (3) nodes and roots without counts have no entry (not stated: no clause could tell).
+//!
+//! `blocked` looks once at the path's node for what is at and below it, and once at each beginning of the path for what is
+//! held there, at two jobs of a node at most. `add` and `take_away` change the node and one count for each beginning. So
+//! each costs the depth of the name times a logarithm of how many names and paths are held, whatever is held elsewhere.
+//! A held path of d subscripts takes d + 2 keys, of d²/2 subscripts in all; paths that begin alike share them.
+//!
+//! Read `specs/Held.antt`, then `trie.rt`, `root.rt`.
+//! Not promised: any time.
 #![tactic(auto)]
 
 pub use trie::LockTrie;
 
-mod conflict;
-mod counts;
+mod marks;
+mod paths;
+mod root;
+mod roots;
 mod trie;

@@ -1,32 +1,17 @@
 //! Each job's held counts.
-ghost use Rattle.std.specs.Prelude.{true, false, ◌≡◌, ◌≤◌, ◌<◌, ◌+◌, ◌-◌, ◌↔◌, ℕ, None, Some, OnOk, OnErr, IfErr, IfOk, IsTrue};
-ghost use Rattle.std.specs.FinMap as finmap;
+ghost use Rattle.std.specs.Prelude.{true, false, ◌≡◌, ◌≤◌, ◌+◌, ◌-◌, ℕ, OnOk, OnErr};
 ghost use Rattle.collation.specs.Reference.{Resource};
-ghost use Rattle.lock_trie.specs.Held.{held_count, IsHeldByAnother, IsRecounted, IsSame};
+ghost use Rattle.lock_trie.specs.Held.{held_count, roots_of, IsHeldByAnother, IsRecounted, IsSame};
 
-use crate::counts::Counts;
+use crate::roots::Roots;
 use collation::LockName;
 use std::alloc::{AllocError, Global};
-use std::collections::BTreeMap;
-use std::marker::Model;
 
 /// The held counts of all jobs.
 #[derive(Drop)]
 pub struct LockTrie {
-    jobs: BTreeMap<u16, Counts>,
-    alloc: Global,
-}
-
-impl Model for LockTrie {
-    ghost use Rattle.std.specs.FinMap as finmap;
-    ghost use Rattle.lock_trie.specs.Codes.{held_code};
-    ghost use Rattle.lock_trie.specs.Held.{Held};
-
-    ghost Value = { Held };
-
-    ghost coded = { held_code };
-
-    ghost view = { λ t. finmap.from_entries t.jobs.entries };
+    plain: Roots,
+    caret: Roots,
 }
 
 impl LockTrie {
@@ -35,8 +20,19 @@ impl LockTrie {
         ensures { (job : ℕ) → (n : Resource) → held_count result job n ≡ 0 }
     {
         LockTrie {
-            jobs: BTreeMap::new(alloc),
-            alloc,
+            plain: Roots::new(alloc),
+            caret: Roots::new(alloc),
+        }
+    }
+
+    /// The roots among which the name has its own.
+    fn roots(&self, name: &LockName) -> &Roots
+        ensures { result.now ≡ roots_of self.now name.now }
+    {
+        if name.has_caret() {
+            &self.caret
+        } else {
+            &self.plain
         }
     }
 
@@ -45,10 +41,9 @@ impl LockTrie {
         ensures count { result ≡ held_count self.now job name.now }
         ensures small { result ≤ 65535 }
     {
-        match self.jobs.get(&job) {
-            Some(counts) => counts.count(name),
-            None => 0,
-        }
+        let reference = name.reference();
+        self.roots(name)
+            .count(job, reference.name(), reference.subscripts())
     }
 
     /// The job holds this one n times more. Where memory is refused nothing has changed.
@@ -57,22 +52,16 @@ impl LockTrie {
         ensures ok { OnOk result (IsRecounted self.old self.new job name.now (held_count self.old job name.now + n)) }
         ensures err { OnErr result (IsSame self.old self.new) }
     {
-        match self.jobs.get_mut(&job) {
-            Some(counts) => {
-                let count = counts.count(name);
-                counts.put(name, count + n)
-            }
-            None => {
-                let mut counts = Counts::new(self.alloc);
-                counts.put(name, n)?;
-                match self.jobs.insert(job, counts) {
-                    Ok(_) => Ok(()),
-                    Err(failed) => {
-                        drop(failed);
-                        Err(AllocError)
-                    }
-                }
-            }
+        if n == 0 {
+            return Ok(());
+        }
+        let reference = name.reference();
+        if name.has_caret() {
+            self.caret
+                .add(job, reference.name(), reference.subscripts(), n)
+        } else {
+            self.plain
+                .add(job, reference.name(), reference.subscripts(), n)
         }
     }
 
@@ -80,8 +69,13 @@ impl LockTrie {
     pub fn take_away(&mut self, job: u16, name: &LockName, n: u32)
         ensures { IsRecounted self.old self.new job name.now (held_count self.old job name.now - n) }
     {
-        if let Some(counts) = self.jobs.get_mut(&job) {
-            counts.take(name, n);
+        let reference = name.reference();
+        if name.has_caret() {
+            self.caret
+                .take_away(job, reference.name(), reference.subscripts(), n);
+        } else {
+            self.plain
+                .take_away(job, reference.name(), reference.subscripts(), n);
         }
     }
 
@@ -90,11 +84,8 @@ impl LockTrie {
         ensures some { result ≡ true → IsHeldByAnother self.now job name.now }
         ensures none { result ≡ false → IsHeldByAnother self.now job name.now → ⊥ }
     {
-        for (other, counts) in self.jobs.iter() {
-            if *other != job && counts.conflicts(name) {
-                return true;
-            }
-        }
-        false
+        let reference = name.reference();
+        self.roots(name)
+            .blocked(job, reference.name(), reference.subscripts())
     }
 }

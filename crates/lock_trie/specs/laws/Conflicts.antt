@@ -1,25 +1,19 @@
--- What keeps a resource off.
+-- A loop over a map that looks for one entry; counts that have an entry.
 use Rattle.std.proofs.Common.{suc, ◌≡◌, ◌<◌, ℕ, List, [], ◌∷◌, Bool, true, false, refl, sym, ap, subst, ◌∙◌, arith}
-use Rattle.std.specs.Prelude.{cond, ◌||◌, ◌==◌, not, nat_lt, Option, Some, None, unwrap_or}
+use Rattle.std.specs.Prelude.{cond, ◌||◌, nat_lt, Option, Some, None, unwrap_or}
 use Rattle.std.specs.List.{All, list_any}
 use Rattle.std.specs.declared.cmp.Ordering.{Ordering}
 use Rattle.std.specs.Ordering.{is_eq}
-use Rattle.std.specs.Cmp.{IsTotalOrder, first_so, second_so}
+use Rattle.std.specs.Cmp.{IsTotalOrder}
 use Rattle.std.specs.Map.{lookup}
 use Rattle.std.specs.BTreeMap.{is_at}
 use Rattle.std.specs.FinMap as finmap
 use Rattle.std.specs.FinMap.{FinMap, IsAntisymmetric}
-use Rattle.std.proofs.lemmas.Bool.{or_left, or_right, and_from, eq-eqb, lt-ltb, ltb-true}
+use Rattle.std.proofs.lemmas.Bool.{or_left, or_right, lt-ltb}
 use Rattle.collation.specs.Reference.{Resource}
 use Rattle.collation.specs.OrderLaws.{is_equal}
-use Rattle.collation.specs.Locks.{resource_cmp, Counts, count_of}
-use Rattle.std.specs.Ordering.{nat_cmp}
-use Rattle.std.specs.Cmp.{nat_cmp_total}
-use Rattle.std.specs.FinMap.{nat_cmp-IsAntisymmetric}
-use Rattle.collation.specs.CountingLaws.{resource_cmp_total, resource_cmp-IsAntisymmetric}
+use Rattle.collation.specs.Locks.{Counts, count_of}
 use Rattle.collation.specs.EntryLaws.{some_entry_of, entry_of}
-use Rattle.collation.specs.BlockingLaws.{differ}
-use Rattle.lock_trie.specs.Held.{Held, held_count, keeps_off, holds_off, IsHeldByAnother}
 use Rattle.lock_trie.specs.laws.Mapped.{seen}
 
 -- what is left to look at: each entry is there, and where one passes, one of these does
@@ -79,35 +73,3 @@ entry_counted counts x h = by_found (finmap.get counts x) refl h
     by_found : (o : Option ℕ) → finmap.get counts x ≡ o → 0 < unwrap_or o 0 → (v : ℕ) × (finmap.get counts x ≡ Some v) × (nat_lt 0 v ≡ true)
     by_found None is h = absurd (omega arith)
     by_found (Some v) is h = (v, is, lt-ltb 0 v h)
-
-job_there : (s : Held) (job : ℕ) (x : Resource) → 0 < held_count s job x → (l : Counts) × (finmap.get s job ≡ Some l) × (0 < count_of l x)
-job_there s job x h = by_found (finmap.get s job) refl h
-  where
-    by_found : (o : Option Counts) → finmap.get s job ≡ o → 0 < count_of (unwrap_or o finmap.empty) x → (l : Counts) × (finmap.get s job ≡ Some l) × (0 < count_of l x)
-    by_found None is h = let none : count_of finmap.empty x ≡ 0 = ap (λ o. unwrap_or o 0) (finmap.get-empty resource_cmp x) in absurd (omega arith)
-    by_found (Some l) is h = (l, is, h)
-
-not_same : (a b : ℕ) → not (a == b) ≡ true → a ≡ b → ⊥
-not_same a b h is = by_test (a == b) refl h
-  where
-    by_test : (t : Bool) → (a == b) ≡ t → not t ≡ true → ⊥
-    by_test true e h = absurd (cc)
-    by_test false e h = let t : true ≡ false = sym (eq-eqb a b is) ∙ e in absurd (cc)
-
-pub held_by_another : (s : Held) (job : ℕ) (n : Resource) → list_any (holds_off job n) (finmap.entries s) ≡ true → IsHeldByAnother s job n
-held_by_another s job n b =
-    let j = some_entry_of nat_cmp nat_cmp_total nat_cmp-IsAntisymmetric (holds_off job n) s b in
-    let h = some_entry_of resource_cmp resource_cmp_total resource_cmp-IsAntisymmetric (keeps_off n) j.1.0 (second_so (not (j.0 == job)) _ j.1.2) in
-    let count : 0 < count_of j.1.0 h.0 = subst (λ o. 0 < unwrap_or o 0) (sym h.1.1) (ltb-true 0 h.1.0 (first_so (nat_lt 0 h.1.0) _ h.1.2)) in (
-      j.0,
-      not_same j.0 job (first_so (not (j.0 == job)) _ j.1.2),
-      (h.0, subst (λ o. 0 < count_of (unwrap_or o finmap.empty) h.0) (sym j.1.1) count, second_so (nat_lt 0 h.1.0) _ h.1.2),
-    )
-
-pub not_held_by_another : (s : Held) (job : ℕ) (n : Resource) → list_any (holds_off job n) (finmap.entries s) ≡ false → IsHeldByAnother s job n → ⊥
-not_held_by_another s job n off t =
-    let there = job_there s t.0 t.2.0 t.2.1 in
-    let counted = entry_counted there.0 t.2.0 there.2 in
-    let yes : list_any (holds_off job n) (finmap.entries s) ≡ true = entry_of nat_cmp nat_cmp_total nat_cmp-IsAntisymmetric (holds_off job n) s t.0 there.0 there.1
-    (and_from _ _ (differ t.0 job t.1) (entry_of resource_cmp resource_cmp_total resource_cmp-IsAntisymmetric (keeps_off n) there.0 t.2.0 counted.0 counted.1 (and_from _ _ counted.2 t.2.2))) in
-    absurd (cc)

@@ -1,0 +1,7 @@
+use Rattle.std.proofs.Common.{sym, None}
+use Rattle.lock_trie.specs.Paths.{marked_at}
+use Rattle.lock_trie.proofs.AtPaths.{kept_at, put_then_kept}
+use Rattle.lock_trie.proofs.paths.Paths.take.Goals as goal
+
+pub returns-then-is_bare : goal.returns-then-is_bare
+returns-then-is_bare c = put_then_kept (marked_at c.args.self.now) (marked_at c.lower.new.self) _ c.args.path.now c.args.job _ c.lower.ensures (kept_at c.lower.new.self.map c.remove.new.self c.args.path.now None c.remove.ensures.updates (λ other. sym (c.is_bare.ensures c.if-is_bare.true other)))

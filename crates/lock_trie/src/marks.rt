@@ -1,0 +1,84 @@
+//! Counts by job.
+ghost use Rattle.std.specs.Prelude.{true, false, ◌≡◌, ◌<◌, ◌+◌, ◌-◌, ℕ, OnOk, OnErr};
+ghost use Rattle.lock_trie.specs.Marks.{marked, IsPut};
+
+use std::alloc::{AllocError, Global};
+use std::collections::BTreeMap;
+
+/// A count for each job. A job without an entry has none.
+#[derive(Drop)]
+pub struct Marks {
+    map: BTreeMap<u16, u64>,
+}
+
+impl Marks {
+    /// No job has a count.
+    pub fn new(alloc: Global) -> Marks
+        ensures { (job : ℕ) → marked result job ≡ 0 }
+    {
+        Marks {
+            map: BTreeMap::new(alloc),
+        }
+    }
+
+    /// The job's count. Takes no memory.
+    pub fn count(&self, job: u16) -> u64
+        ensures { result ≡ marked self.now job }
+    {
+        match self.map.get(&job) {
+            Some(count) => *count,
+            None => 0,
+        }
+    }
+
+    /// The job's count is n greater. Refused where there is no memory, or no number so great: then all is as it was.
+    pub fn add(&mut self, job: u16, n: u64) -> Result<(), AllocError>
+        ensures ok { OnOk result (IsPut (marked self.old) (marked self.new) job (marked self.old job + n)) }
+        ensures err { OnErr result ((other : ℕ) → marked self.new other ≡ marked self.old other) }
+    {
+        let Some(count) = self.count(job).checked_add(n) else {
+            return Err(AllocError);
+        };
+        match self.map.insert(job, count) {
+            Ok(_) => Ok(()),
+            Err(failed) => {
+                drop(failed);
+                Err(AllocError)
+            }
+        }
+    }
+
+    /// The job's count is n less; at none its entry goes. Takes no memory.
+    pub fn take(&mut self, job: u16, n: u64)
+        ensures { IsPut (marked self.old) (marked self.new) job (marked self.old job - n) }
+    {
+        let count = self.count(job);
+        if count <= n {
+            self.map.remove(&job);
+        } else if let Some(kept) = self.map.get_mut(&job) {
+            *kept = count - n;
+        }
+    }
+
+    /// Whether a job other than this one has a count above 0.
+    ///
+    /// It looks at two entries at most, since the trie adds no 0.
+    pub fn has_other(&self, job: u16) -> bool
+        ensures some { result ≡ true → (other : ℕ) × (other ≡ job → ⊥) × (0 < marked self.now other) }
+        ensures none { result ≡ false → (other : ℕ) → (other ≡ job → ⊥) → marked self.now other ≡ 0 }
+    {
+        for (other, count) in self.map.iter() {
+            if *other != job && *count > 0 {
+                return true;
+            }
+        }
+        false
+    }
+
+    /// Whether no job has an entry.
+    pub fn is_empty(&self) -> bool
+        ensures { result ≡ true → (job : ℕ) → marked self.now job ≡ 0 }
+    {
+        self.map.is_empty()
+    }
+}

@@ -1,0 +1,125 @@
+//! Counts by path and job.
+ghost use Rattle.std.specs.Prelude.{true, false, ◌≡◌, ◌<◌, ◌+◌, ◌-◌, ℕ, OnOk, OnErr};
+ghost use Rattle.lock_trie.specs.Paths.{Path, marked_at, IsPutAt, AreKept};
+
+use crate::marks::Marks;
+use collation::Text;
+use std::alloc::{AllocError, Global};
+use std::collections::BTreeMap;
+
+/// A count for each path and job. A path is a list of subscripts; one without counts has no entry.
+#[derive(Drop)]
+pub struct Paths {
+    map: BTreeMap<Vec<Text>, Marks>,
+    alloc: Global,
+}
+
+impl Paths {
+    /// No job has a count.
+    pub fn new(alloc: Global) -> Paths
+        ensures { (x : Path) (job : ℕ) → marked_at result x job ≡ 0 }
+    {
+        Paths {
+            map: BTreeMap::new(alloc),
+            alloc,
+        }
+    }
+
+    /// The job's count at the path. Takes no memory.
+    pub fn count(&self, job: u16, path: &[Text]) -> u64
+        ensures { result ≡ marked_at self.now path.now job }
+    {
+        match self.map.get(path) {
+            Some(marks) => marks.count(job),
+            None => 0,
+        }
+    }
+
+    /// The job's count at the path, where no job has one, is n.
+    fn put(&mut self, job: u16, path: &[Text], n: u64) -> Result<(), AllocError>
+        requires { (other : ℕ) → marked_at self.old path.now other ≡ 0 }
+        ensures ok { OnOk result (IsPutAt (marked_at self.old) (marked_at self.new) path.now job (marked_at self.old path.now job + n)) }
+        ensures err { OnErr result (AreKept (marked_at self.old) (marked_at self.new)) }
+    {
+        let mut marks = Marks::new(self.alloc);
+        marks.add(job, n)?;
+        let key = path.to_vec(self.alloc)?;
+        match self.map.insert(key, marks) {
+            Ok(before) => {
+                drop(before);
+                Ok(())
+            }
+            Err(failed) => {
+                drop(failed);
+                Err(AllocError)
+            }
+        }
+    }
+
+    fn has_entry(&self, path: &[Text]) -> bool
+        ensures { result ≡ false → (job : ℕ) → marked_at self.now path.now job ≡ 0 }
+    {
+        self.map.get(path).is_some()
+    }
+
+    /// The job's count at the path is n greater. Refused where there is no memory, or no number so great: then all is
+    /// as it was.
+    pub fn add(&mut self, job: u16, path: &[Text], n: u64) -> Result<(), AllocError>
+        ensures ok { OnOk result (IsPutAt (marked_at self.old) (marked_at self.new) path.now job (marked_at self.old path.now job + n)) }
+        ensures err { OnErr result (AreKept (marked_at self.old) (marked_at self.new)) }
+    {
+        if !self.has_entry(path) {
+            return self.put(job, path, n);
+        }
+        match self.map.get_mut(path) {
+            Some(marks) => marks.add(job, n),
+            None => Err(AllocError),
+        }
+    }
+
+    /// The job's count at the path is n less.
+    fn lower(&mut self, job: u16, path: &[Text], n: u64)
+        ensures { IsPutAt (marked_at self.old) (marked_at self.new) path.now job (marked_at self.old path.now job - n) }
+    {
+        if let Some(marks) = self.map.get_mut(path) {
+            marks.take(job, n);
+        }
+    }
+
+    fn is_bare(&self, path: &[Text]) -> bool
+        ensures { result ≡ true → (job : ℕ) → marked_at self.now path.now job ≡ 0 }
+    {
+        match self.map.get(path) {
+            Some(marks) => marks.is_empty(),
+            None => true,
+        }
+    }
+
+    /// The job's count at the path is n less; a path without counts goes. Takes no memory.
+    pub fn take(&mut self, job: u16, path: &[Text], n: u64)
+        ensures { IsPutAt (marked_at self.old) (marked_at self.new) path.now job (marked_at self.old path.now job - n) }
+    {
+        self.lower(job, path, n);
+        if self.is_bare(path) {
+            drop(self.map.remove(path));
+        }
+    }
+
+    /// Whether a job other than this one has a count above 0 at the path. Takes no memory.
+    pub fn has_other(&self, job: u16, path: &[Text]) -> bool
+        ensures some { result ≡ true → (other : ℕ) × (other ≡ job → ⊥) × (0 < marked_at self.now path.now other) }
+        ensures none { result ≡ false → (other : ℕ) → (other ≡ job → ⊥) → marked_at self.now path.now other ≡ 0 }
+    {
+        match self.map.get(path) {
+            Some(marks) => marks.has_other(job),
+            None => false,
+        }
+    }
+
+    /// Whether no path has an entry.
+    pub fn is_empty(&self) -> bool
+        ensures { result ≡ true → (x : Path) (job : ℕ) → marked_at self.now x job ≡ 0 }
+    {
+        self.map.is_empty()
+    }
+}

@@ -1,0 +1,123 @@
+//! One root for each name.
+ghost use Rattle.std.specs.Prelude.{true, false, ◌||◌, ◌≡◌, ◌≤◌, ◌<◌, ◌+◌, ◌-◌, ℕ, List, OnOk, OnErr};
+ghost use Rattle.collation.specs.Database.{begins_with};
+ghost use Rattle.lock_trie.specs.Paths.{Path};
+ghost use Rattle.lock_trie.specs.Roots.{held_at, IsHeldPut, AreHeldSame};
+
+use crate::root::Root;
+use collation::Text;
+use std::alloc::{AllocError, Global};
+use std::collections::BTreeMap;
+
+/// The root of each name under which something is held.
+#[derive(Drop)]
+pub struct Roots {
+    map: BTreeMap<Vec<u8>, Root>,
+    alloc: Global,
+}
+
+impl Roots {
+    /// Nothing is held.
+    pub fn new(alloc: Global) -> Roots
+        ensures { (y : List ℕ) (x : Path) (job : ℕ) → held_at result y x job ≡ 0 }
+    {
+        Roots {
+            map: BTreeMap::new(alloc),
+            alloc,
+        }
+    }
+
+    /// How many times the job holds the path under the name. Takes no memory.
+    pub fn count(&self, job: u16, name: &[u8], path: &[Text]) -> u32
+        ensures count { result ≡ held_at self.now name.now path.now job }
+        ensures small { result ≤ 65535 }
+    {
+        match self.map.get(name) {
+            Some(root) => root.count(job, path),
+            None => 0,
+        }
+    }
+
+    /// The job holds the path n times; before, nothing was held under the name.
+    fn put(&mut self, job: u16, name: &[u8], path: &[Text], n: u32) -> Result<(), AllocError>
+        requires none { (x : Path) (other : ℕ) → held_at self.old name.now x other ≡ 0 }
+        requires small { n ≤ 65535 }
+        ensures ok { OnOk result (IsHeldPut (held_at self.old) (held_at self.new) name.now path.now job (held_at self.old name.now path.now job + n)) }
+        ensures err { OnErr result (AreHeldSame (held_at self.old) (held_at self.new)) }
+    {
+        let mut root = Root::new(self.alloc);
+        root.add(job, path, n)?;
+        let key = name.to_vec(self.alloc)?;
+        match self.map.insert(key, root) {
+            Ok(before) => {
+                drop(before);
+                Ok(())
+            }
+            Err(failed) => {
+                drop(failed);
+                Err(AllocError)
+            }
+        }
+    }
+
+    fn has_entry(&self, name: &[u8]) -> bool
+        ensures { result ≡ false → (x : Path) (job : ℕ) → held_at self.now name.now x job ≡ 0 }
+    {
+        self.map.get(name).is_some()
+    }
+
+    /// The job holds the path n times more. Refused where there is no memory: then all is as it was.
+    pub fn add(&mut self, job: u16, name: &[u8], path: &[Text], n: u32) -> Result<(), AllocError>
+        requires { held_at self.old name.now path.now job + n ≤ 65535 }
+        ensures ok { OnOk result (IsHeldPut (held_at self.old) (held_at self.new) name.now path.now job (held_at self.old name.now path.now job + n)) }
+        ensures err { OnErr result (AreHeldSame (held_at self.old) (held_at self.new)) }
+    {
+        if !self.has_entry(name) {
+            return self.put(job, name, path, n);
+        }
+        match self.map.get_mut(name) {
+            Some(root) => root.add(job, path, n),
+            None => Err(AllocError),
+        }
+    }
+
+    /// The job holds the path n times fewer.
+    fn lower(&mut self, job: u16, name: &[u8], path: &[Text], n: u32)
+        ensures { IsHeldPut (held_at self.old) (held_at self.new) name.now path.now job (held_at self.old name.now path.now job - n) }
+    {
+        if let Some(root) = self.map.get_mut(name) {
+            root.take_away(job, path, n);
+        }
+    }
+
+    fn is_bare(&self, name: &[u8]) -> bool
+        ensures { result ≡ true → (x : Path) (job : ℕ) → held_at self.now name.now x job ≡ 0 }
+    {
+        match self.map.get(name) {
+            Some(root) => root.is_empty(),
+            None => true,
+        }
+    }
+
+    /// The job holds the path n times fewer; a name under which nothing is held goes. Takes no memory.
+    pub fn take_away(&mut self, job: u16, name: &[u8], path: &[Text], n: u32)
+        ensures { IsHeldPut (held_at self.old) (held_at self.new) name.now path.now job (held_at self.old name.now path.now job - n) }
+    {
+        self.lower(job, name, path, n);
+        if self.is_bare(name) {
+            drop(self.map.remove(name));
+        }
+    }
+
+    /// Whether a job other than this one holds the path, a beginning of it or one that begins with it, under the name.
+    /// Takes no memory.
+    pub fn blocked(&self, job: u16, name: &[u8], path: &[Text]) -> bool
+        ensures some { result ≡ true → (other : ℕ) × (other ≡ job → ⊥) × ((x : Path) × (0 < held_at self.now name.now x other) × ((begins_with x path.now || begins_with path.now x) ≡ true)) }
+        ensures none { result ≡ false → (other : ℕ) (x : Path) → (other ≡ job → ⊥) → (begins_with x path.now || begins_with path.now x) ≡ true → held_at self.now name.now x other ≡ 0 }
+    {
+        match self.map.get(name) {
+            Some(root) => root.blocked(job, path),
+            None => false,
+        }
+    }
+}
