@@ -54,7 +54,7 @@ fn write_placed(store: &mut Store, stamp: u64, changes: Vec<(Key, Option<Text>)>
 }
 
 // One change at the stamp; an empty value is an absence.
-fn write(
+pub(crate) fn write(
     alloc: Global,
     store: &mut Store,
     name: &[u8],
@@ -78,7 +78,7 @@ fn worked(alloc: Global, store: &mut Store) -> Result<bool, Refusal> {
 }
 
 // The name of the first reference that a stamp shows, found forward and then backward; or what is refused there.
-fn first_at(store: &Store, stamp: u64) -> Result<Option<u8>, Refusal> {
+pub(crate) fn first_at(store: &Store, stamp: u64) -> Result<Option<u8>, Refusal> {
     let view = store.view_at(stamp)?;
     match view.next(Cut::Start) {
         Some((key, _)) => Ok(last_before(&view, Cut::After(key))),

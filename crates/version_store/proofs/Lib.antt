@@ -1,5 +1,7 @@
 pub mod CutLemmas
+pub mod DropLemmas
 pub mod NewestLemmas
 pub mod RangeLemmas
 pub mod SeekLemmas
 pub mod TiedLemmas
+pub mod TurnLemmas

@@ -1,6 +1,6 @@
 -- What a store is seen as: for each placed reference its versions, newest first.
 -- Read Versions, content_at, written and changed; specs/laws/Content.antt has their laws.
-use Rattle.std.specs.Prelude.{◌≡◌, ◌≤◌, ℕ, Bool, true, false, not, ◌&&◌, cond, max, List, [], ◌∷◌, Option, Some, None, filter, refl}
+use Rattle.std.specs.Prelude.{◌≡◌, ◌≤◌, ℕ, Bool, true, false, not, ◌&&◌, cond, max, List, [], ◌∷◌, ◌++◌, Option, Some, None, filter, map, take, refl}
 use Rattle.std.specs.Coded.{Coded, code_by, coded×, coded_ℕ, coded_list, coded_option}
 use Rattle.std.specs.FinMap as finmap
 use Rattle.std.specs.FinMap.{FinMap, code}
@@ -164,6 +164,17 @@ abbrev pub is_bare : Option Row → Bool
 is_bare None = false
 is_bare (Some []) = true
 is_bare (Some (v ∷ vs)) = false
+
+abbrev pub keys_of : {X : Type 0} → List (Reference × X) → List Reference
+keys_of = map (λ e. e.0)
+
+-- the placed references as a collector visits them: those behind the mark, then the others
+abbrev pub in_turn : Option Reference → Versions → List Reference
+in_turn mark m = filter (is_behind mark) (keys_of (finmap.entries m)) ++ filter (λ r. not (is_behind mark r)) (keys_of (finmap.entries m))
+
+-- those that are next in turn, at most so many
+abbrev pub next_in_turn : ℕ → Stored → List Reference
+next_in_turn limit s = take limit (in_turn s.mark s.versions)
 
 -- without the reference, where it has no versions
 abbrev pub unless_bare : Reference → Versions → Versions

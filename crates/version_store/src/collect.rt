@@ -6,7 +6,7 @@ ghost use Rattle.refusal.specs.declared.Refusal.{Refusal};
 ghost use Rattle.collation.specs.Nearest.{nearest};
 ghost use Rattle.globals.specs.Cuts.{stands_before};
 ghost use Rattle.version_chain.specs.Cut.{left_after};
-ghost use Rattle.version_store.specs.Versions.{content_at, versions_of, is_behind, is_bare};
+ghost use Rattle.version_store.specs.Versions.{content_at, versions_of, is_behind, is_bare, tidied};
 
 use crate::point::CutPoint;
 use crate::store::Store;
@@ -88,6 +88,38 @@ impl Store {
                 }
             }
             None => false,
+        }
+    }
+
+    /// Drops the versions of a placed reference that nobody at or after the horizon sees, and the reference where nothing is
+    /// left: `cut_key` and `drop_key` in one look-up. Tells how many versions went, and whether the reference did. Takes no
+    /// memory.
+    pub fn cut_and_drop(&mut self, key: &Key, horizon: u64) -> (usize, bool)
+        requires placed { finmap.contains_key self.old.versions key.now ≡ true }
+        requires horizon { horizon ≤ self.old.cut }
+        ensures versions { self.new.versions ≡ tidied horizon key.now self.old.versions }
+        ensures count { result.0 + length (left_after horizon (versions_of self.old.versions key.now)) ≡ length (versions_of self.old.versions key.now) }
+        ensures bare { result.1 ≡ is_bare (Some (left_after horizon (versions_of self.old.versions key.now))) }
+        ensures content { (s : ℕ) → horizon ≤ s → content_at self.new.versions s ≡ content_at self.old.versions s }
+        ensures present { self.new.present ≡ self.old.present }
+        ensures cut { self.new.cut ≡ self.old.cut }
+        ensures mark { self.new.mark ≡ self.old.mark }
+        ensures spare { self.old.spare ≤ self.new.spare }
+    {
+        match self.tree.get(key).0 {
+            Some(id) => {
+                let chain = *id;
+                let count = self.chains.cut(chain, horizon);
+                match self.chains.newest(chain) {
+                    Some(_) => (count, false),
+                    None => {
+                        drop(self.tree.remove(key));
+                        self.chains.close(chain);
+                        (count, true)
+                    }
+                }
+            }
+            None => unreachable!(),
         }
     }
 

@@ -1,0 +1,3 @@
+pub mod NextLemmas
+pub mod RowLemmas
+pub mod TurnLemmas
