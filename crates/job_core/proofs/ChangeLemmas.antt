@@ -16,7 +16,7 @@ use Rattle.collation.specs.Answers.{merged, moved, subtree_of}
 use Rattle.collation.specs.Levels.{overlap}
 use Rattle.refusal.specs.declared.Refusal.{Refusal}
 use Rattle.refusal.specs.declared.Refusal.TheVariants.{MergeOverlap}
-use Rattle.job_core.specs.Causes.{early_refusal}
+use Rattle.globals.specs.Answering.{early_refusal}
 use Rattle.journal.specs.laws.History.{after-unit}
 use Rattle.command.specs.declared.access.DataCommand.{DataCommand}
 use Rattle.command.specs.declared.access.DataCommand.TheVariants.{Set, Kill, Merge, Look}

@@ -1,2 +1,10 @@
 pub mod ChangeLemmas
 pub mod Legality
+pub mod Held
+pub mod Machines
+pub mod Joined
+pub mod Replies
+pub mod Cases
+pub mod DataCommands
+pub mod LockCommands
+pub mod Collecting

@@ -1,4 +1,4 @@
--- How transactions and machines are stored.
+-- How transactions, machines and sessions are stored.
 use Rattle.std.specs.Prelude.{ℕ, Bool, List, refl}
 use Rattle.std.specs.FinMap.{FinMap, code}
 use Rattle.std.specs.Ordering.{nat_cmp}
@@ -8,6 +8,8 @@ use Rattle.journal.specs.declared.unit.Unit.{Unit as JournalUnit}
 use Rattle.journal.specs.Story.{Transaction, Machine}
 use Rattle.journal.specs.contracts.unit.Exchange as e
 use Rattle.journal.specs.contracts.unit.Unit as u
+use Rattle.job_core.specs.Sessions.{Sessions}
+use Rattle.job_core.specs.contracts.sessions.Session as s
 
 abbrev pub transaction_code : Coded Transaction
 transaction_code =
@@ -18,3 +20,6 @@ abbrev pub machine_code : Coded Machine
 machine_code =
     code_by (List JournalUnit × FinMap nat_cmp Transaction) (coded× (coded_list u.the_row.coded) (code coded_ℕ transaction_code))
     (λ s. (s.units, s.transactions)) (λ p. record { units = p.0; transactions = p.1 }) (λ _. refl)
+
+abbrev pub session_map_code : Coded Sessions
+session_map_code = code coded_ℕ s.the_row.coded

@@ -2,3 +2,5 @@ pub mod Steps
 pub mod Causes
 pub mod Changes
 pub mod Codes
+pub mod Sessions
+pub mod Joined

@@ -5,10 +5,9 @@ ghost use Rattle.collation.specs.Order.{ref_eq};
 ghost use Rattle.collation.specs.Answers.{subtree_of, merged};
 ghost use Rattle.command.specs.Data.{data_refusal, data_reply};
 ghost use Rattle.command.specs.declared.access.DataCommand.TheVariants.{Merge as merge_command};
-ghost use Rattle.job_core.specs.Causes.{IsRuleOrMemory, early_refusal};
+ghost use Rattle.globals.specs.Answering.{IsRuleOrMemory, early_refusal};
 ghost use Rattle.job_core.specs.Changes.{killed, valued, found_changes, own_change};
 
-use crate::looks::answer;
 use collation::Text;
 use command::{Answer, DataCommand};
 use globals::OrderedView;
@@ -100,7 +99,7 @@ pub(crate) fn work_out<V: OrderedView>(
                 Err(refusal) => Err(refusal),
             }
         }
-        DataCommand::Look(look) => match answer(alloc, view, look) {
+        DataCommand::Look(look) => match globals::look(alloc, view, look) {
             Ok(answer) => Ok((answer, Vec::new(alloc))),
             Err(refusal) => Err(refusal),
         },

@@ -6,7 +6,8 @@ ghost use Rattle.journal.specs.declared.unit.Unit.TheVariants.{Lone};
 ghost use Rattle.journal.specs.Kept.{job_of};
 ghost use Rattle.version_store.specs.Versions.{content_now};
 ghost use Rattle.validate_commit.specs.Agreement.{Agreement, IsNext};
-ghost use Rattle.job_core.specs.Causes.{IsCause, early_refusal};
+ghost use Rattle.globals.specs.Answering.{early_refusal};
+ghost use Rattle.job_core.specs.Causes.{IsCause};
 ghost use Rattle.job_core.specs.Changes.{found_changes, own_change};
 
 use crate::changes::{with_own, work_out};

@@ -1,65 +1,63 @@
 //! The state machine of all jobs: one step, and the run of a list.
-ghost use Rattle.std.specs.Prelude.{◌≡◌, Some, IfOk, OnErr, IsErrOf, length};
+ghost use Rattle.std.specs.Prelude.{◌≡◌, true, Some, IfOk, OnErr, IsErrOf, length};
 ghost use Rattle.refusal.specs.declared.Refusal.{Refusal};
-ghost use Rattle.command.specs.declared.request.Command.TheVariants.{Access};
 ghost use Rattle.journal.specs.History.{initial, after, IsLegal};
-ghost use Rattle.journal.specs.Story.{nothing_done, told, story_of};
-ghost use Rattle.job_core.specs.Causes.{early_refusal};
-ghost use Rattle.serial.specs.Machine.{IsReply, AreReplies};
+ghost use Rattle.journal.specs.Story.{nothing_done, transaction_of, told, story_of};
+ghost use Rattle.serial.specs.Machine.{reply_of, IsReply, AreReplies};
 
-use crate::commands::lone;
+use crate::engine::Engine;
 use collation::Job;
-use command::{DataCommand, Reply};
+use collector::Progress;
+use command::{Command, Reply};
 use journal::Journal;
+use lock_table::LockTable;
 use refusal::Refusal;
 use std::alloc::Global;
 use std::marker::Model;
-use version_store::{Snapshot, Store};
+use version_store::Snapshot;
 
 /// One atomic step.
 #[derive(Debug, Drop)]
 pub enum Step {
     /// A job's command.
-    Do(Job, DataCommand),
+    Do(Job, Command),
+    /// A turn of the collector over so many keys.
+    Collect(usize),
 }
 
-/// The database, and the journal of what was done to it.
+/// The database, the locks and the open transactions of all jobs, and the journal of what was done.
 ///
-/// Contracts see the machine: its units, each right at its place, of which the database is what they leave, and the
-/// open transactions, of which there are none yet.
+/// Contracts see the machine: its units, each right at its place, of which database and locks are what they leave, and
+/// the open transactions.
 #[derive(Drop)]
 pub struct JobCore {
-    alloc: Global,
-    store: Store,
-    journal: Journal,
+    engine: Engine,
 }
 
 impl Model for JobCore {
-    ghost use Rattle.std.specs.FinMap as map;
     ghost use Rattle.journal.specs.Story.{Machine};
-    ghost use Rattle.validate_commit.specs.Agreement.{Agreement};
     ghost use Rattle.job_core.specs.Codes.{machine_code};
+    ghost use Rattle.job_core.specs.Joined.{IsWhole, machine_shown};
 
     ghost Value = { Machine };
 
     ghost coded = { machine_code };
 
-    ghost view = { λ c. record { units = c.journal.units; transactions = map.empty } };
+    ghost view = { λ c. machine_shown c.engine };
 
-    ghost invariant = { λ c. Agreement c.store c.journal.units };
+    ghost invariant = { λ c. IsWhole c.engine };
 }
 
 impl JobCore {
-    ghost use Rattle.job_core.specs.Steps.{command_of, commands_of};
+    ghost use Rattle.job_core.specs.Steps.{commands_of, IsTaken};
+    ghost use Rattle.job_core.specs.Joined.{early_of, takes_none};
 
-    /// A core without units, whose database is empty. Takes no memory.
+    /// A core without units and open transactions, whose database is empty. Takes no memory.
     pub fn new(alloc: Global) -> JobCore
         ensures { result ≡ nothing_done }
     {
         JobCore {
-            alloc,
-            store: Store::new(alloc),
-            journal: Journal::new(alloc),
+            engine: Engine::new(alloc),
         }
     }
 
@@ -68,65 +66,92 @@ impl JobCore {
         ensures units { result.now.units ≡ self.now.units }
         ensures legal { IsLegal self.now.units initial }
     {
-        &self.journal
+        &self.engine.journal
     }
 
     /// The database: what the journal's units leave.
     pub fn content(&self) -> Snapshot<'_>
         ensures { result ≡ (after self.now.units initial).map }
     {
-        self.store.view_now()
+        self.engine.store.view_now()
     }
 
-    /// One step of a job. Either the journal gains a unit with the reply, or the reply is a refusal and nothing has
-    /// changed.
+    /// The locks of all jobs: what the journal's units leave.
+    pub fn locks(&self) -> &LockTable
+        ensures { result.now ≡ (after self.now.units initial).locks }
+    {
+        &self.engine.locks
+    }
+
+    /// One step of a job. Its reply tells what has changed; after a refusal nothing has.
     ///
-    /// Refusals: by the command's own rule `NeedSubscript`, `MergeOverlap`, `TooManySubscripts`; then
-    /// `StampsUsedUp` where the journal is full; `OutOfMemory`, which never hides a rule that is looked at before
-    /// memory is asked for.
-    pub fn step(&mut self, job: Job, command: DataCommand) -> Reply
-        ensures machine { self.new ≡ told job (Access command) result self.old }
-        ensures exact { IsReply job (Access command) result self.old }
-        ensures early { (refusal : Refusal) → early_refusal command ≡ Some refusal → result ≡ Reply.Refused refusal }
+    /// Refusals of a data command: `TransactionTooLong` in a transaction that holds 65,535 of them; by its own rule
+    /// `NeedSubscript`, `MergeOverlap`, `TooManySubscripts`. Of LOCK: `LockCountFull`. Of TSTART: `LevelTooDeep`. Of
+    /// TCOMMIT, TROLLBACK and TRESTART: `NoTransaction`. Then of all that add a unit `StampsUsedUp`, where the journal is
+    /// full; and `OutOfMemory`, which never hides a refusal that is looked at before memory is asked for, and which never
+    /// comes where no memory is taken: $TLEVEL, $TRESTART, TSTART and TCOMMIT within a transaction, and a TROLLBACK or
+    /// TRESTART without a LOCK.
+    pub fn step(&mut self, job: Job, command: Command) -> Reply
+        ensures machine { self.new ≡ told job command result self.old }
+        ensures exact { IsReply job command result self.old }
+        ensures early { (refusal : Refusal) → early_of command (transaction_of job self.old) ≡ Some refusal → result ≡ Reply.Refused refusal }
+        ensures sure { takes_none command (transaction_of job self.old) ≡ true → result ≡ reply_of job command self.old }
         ensures legal { IsLegal self.new.units initial }
     {
-        match lone(
-            self.alloc,
-            &mut self.store,
-            &mut self.journal,
-            job,
-            command,
-            None,
-        ) {
-            Ok((answer, _receipt)) => Reply::Answered(answer),
-            Err(refusal) => Reply::Refused(refusal),
+        match command {
+            Command::Access(command) => self.engine.access(job, command),
+            Command::Lock(command) => self.engine.lock(job, command),
+            Command::Start => self.engine.start(job),
+            Command::Commit => self.engine.commit(job),
+            Command::Rollback => self.engine.rollback(job),
+            Command::Restart => self.engine.restart(job),
+            Command::Level => self.engine.level(job),
+            Command::Restarts => self.engine.restarts(job),
+            Command::Halt => self.engine.halt(job),
         }
     }
 
-    fn take_step(&mut self, step: Step) -> Reply
-        ensures machine { self.new ≡ told (command_of step).0 (command_of step).1 result self.old }
-        ensures exact { IsReply (command_of step).0 (command_of step).1 result self.old }
+    /// A turn of the collector: of so many keys, in turn from where the last one stopped, what no open transaction and
+    /// nobody from now on sees is dropped. The machine stays, and so all that can be observed.
+    ///
+    /// Refusals: `OutOfMemory`, after which nothing has changed.
+    pub fn collect(&mut self, limit: usize) -> Result<Progress, Refusal>
+        ensures same { self.new ≡ self.old }
+        ensures memory { OnErr result (IsErrOf result Refusal.OutOfMemory) }
+        ensures legal { IsLegal self.new.units initial }
+    {
+        self.engine.collect(limit)
+    }
+
+    // A step's reply, if it is a command.
+    fn take_step(&mut self, step: Step) -> Option<Reply>
+        ensures taken { IsTaken step result self.old self.new }
         ensures legal { IsLegal self.new.units initial }
     {
         match step {
-            Step::Do(job, command) => self.step(job, command),
+            Step::Do(job, command) => Some(self.step(job, command)),
+            Step::Collect(limit) => {
+                let _progress = self.collect(limit);
+                None
+            }
         }
     }
 
-    /// Steps in turn, with a reply for each. The list of replies is allocated first; if that is refused,
-    /// `OutOfMemory`, no step was done.
+    /// Steps in turn, with a reply for each command; a turn of the collector changes no reply, and one that finds no memory
+    /// is passed over. The list of replies is allocated first; if that is refused, `OutOfMemory`, no step was done.
     pub fn run(&mut self, steps: Vec<Step>) -> Result<Vec<Reply>, Refusal>
         ensures machine { IfOk result (λ replies. self.new ≡ story_of (commands_of steps.items) replies.items self.old) }
         ensures exact { IfOk result (λ replies. AreReplies (commands_of steps.items) replies.items self.old) }
-        ensures each { IfOk result (λ replies. length replies.items ≡ length steps.items) }
+        ensures each { IfOk result (λ replies. length replies.items ≡ length (commands_of steps.items)) }
         ensures legal { IsLegal self.new.units initial }
         ensures refused { OnErr result (self.new ≡ self.old) }
         ensures memory { OnErr result (IsErrOf result Refusal.OutOfMemory) }
     {
-        let mut replies = Vec::with_capacity(self.alloc, steps.len())?;
+        let mut replies = Vec::with_capacity(self.engine.alloc, steps.len())?;
         'steps: for step in steps {
-            let reply = self.take_step(step);
-            replies.push_reserved(reply);
+            if let Some(reply) = self.take_step(step) {
+                replies.push_reserved(reply);
+            }
         }
         Ok(replies)
     }
@@ -144,7 +169,7 @@ ghost use Rattle.job_core.specs.Steps.{commands_of};
 pub fn run_from_nothing(alloc: Global, steps: Vec<Step>) -> Result<(JobCore, Vec<Reply>), Refusal>
     ensures story { IfOk result (λ r. r.0 ≡ story_of (commands_of steps.items) r.1.items nothing_done) }
     ensures exact { IfOk result (λ r. AreReplies (commands_of steps.items) r.1.items nothing_done) }
-    ensures each { IfOk result (λ r. length r.1.items ≡ length steps.items) }
+    ensures each { IfOk result (λ r. length r.1.items ≡ length (commands_of steps.items)) }
     ensures legal { IfOk result (λ r. IsLegal r.0.units initial) }
     ensures memory { OnErr result (IsErrOf result Refusal.OutOfMemory) }
 {

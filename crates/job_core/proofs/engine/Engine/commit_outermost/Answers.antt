@@ -1,0 +1,61 @@
+use Rattle.std.proofs.Common.{sym, ap, subst, ◌∙◌, ◌≤◌}
+use Rattle.collation.specs.Locks.{locks_after_commit}
+use Rattle.job_core.specs.Sessions.{machine_of}
+use Rattle.job_core.proofs.Held.{some_of}
+use Rattle.job_core.proofs.Joined.{horizon_keeps}
+use Rattle.job_core.proofs.Cases.{no_commit, committed, not_committed, left_whole, overtaken}
+use Rattle.job_core.proofs.engine.Engine.commit_outermost.Goals as goal
+
+pub commit-verdict-requires-clause-work : goal.commit-verdict-requires-clause-work
+commit-verdict-requires-clause-work c = let o = c.requires.whole.opened c.args.job c.in-Some.session.now (sym c.in-Some.ensures) in o.work
+
+pub commit-verdict-requires-clause-begun : goal.commit-verdict-requires-clause-begun
+commit-verdict-requires-clause-begun c = let o = c.requires.whole.opened c.args.job c.in-Some.session.now (sym c.in-Some.ensures) in o.begun
+
+pub commit-verdict-requires-clause-kept : goal.commit-verdict-requires-clause-kept
+commit-verdict-requires-clause-kept c = let o = c.requires.whole.opened c.args.job c.in-Some.session.now (sym c.in-Some.ensures) in o.kept
+
+pub returns-in-None : goal.returns-in-None
+returns-in-None c = no_commit c.args.job c.args.self.now c.requires.whole (sym c.in-None.ensures)
+
+pub restart-requires : goal.restart-requires
+restart-requires c =
+    let told = c.commit-verdict.ensures in
+    let verdict = rw (c.in-Ok-Restart.is, c.in-Ok-Restart.field-0-is) at told.verdict in
+    left_whole c.args.job c.args.self.now c.requires.whole c.commit-verdict.new.store c.commit-verdict.new.journal c.commit-verdict.new.locks verdict.1.0 verdict.1.1 told.agreed
+    (λ q v there. horizon_keeps c.oldest-oldest.result c.args.self.now.store.present c.args.self.now.store.cut c.commit-verdict.new.store.cut _ c.args.self.now.sessions c.oldest-oldest.ensures (rw c.in-Ok-Restart.is at told.cut) q v there
+    (let o = c.requires.whole.opened q v there in o.kept))
+
+pub returns-in-Ok-Committed : goal.returns-in-Ok-Committed
+returns-in-Ok-Committed c =
+    let told = c.commit-verdict.ensures in
+    let verdict = rw (c.in-Ok-Committed.is, c.in-Ok-Committed.field-0-is) at told.verdict in
+    let s = c.in-Some.session.now in
+    let there = sym c.in-Some.ensures in
+    committed c.args.job c.args.self.now c.requires.whole (record { alloc = c.args.self.now.alloc; store = c.commit-verdict.new.store; journal = c.commit-verdict.new.journal; locks = c.commit-verdict.new.locks; sessions = c.close.new.self })
+    s there (some_of (λ v. v.level ≤ 1) _ s there c.requires.level) verdict.0 verdict.1.0 (verdict.1.1.0 ∙ ap (locks_after_commit s.work.job) c.requires.whole.locks) told.agreed
+    (λ q v held. horizon_keeps c.oldest-oldest.result c.args.self.now.store.present c.args.self.now.store.cut c.commit-verdict.new.store.cut _ c.args.self.now.sessions c.oldest-oldest.ensures (rw c.in-Ok-Committed.is at told.cut) q v held
+    (let o = c.requires.whole.opened q v held in o.kept))
+    c.close.ensures
+
+pub returns-in-Ok-Restart : goal.returns-in-Ok-Restart
+returns-in-Ok-Restart c =
+    let told = c.commit-verdict.ensures in
+    let verdict = rw (c.in-Ok-Restart.is, c.in-Ok-Restart.field-0-is) at told.verdict in
+    let s = c.in-Some.session.now in
+    let there = sym c.in-Some.ensures in
+    overtaken c.args.job c.args.self.now c.requires.whole (record c.args.self.now { store = c.commit-verdict.new.store; journal = c.commit-verdict.new.journal; locks = c.commit-verdict.new.locks }) c.restart.new.self
+    s c.restart.result there (some_of (λ v. v.level ≤ 1) _ s there c.requires.level) verdict.0 (ap (λ us. machine_of us c.args.self.now.sessions) verdict.1.0) c.restart.ensures
+
+pub returns-in-Err : goal.returns-in-Err
+returns-in-Err c =
+    let told = c.commit-verdict.ensures in
+    let units = rw c.in-Err.is at told.units in
+    let cut = rw c.in-Err.is at told.same_cut in
+    let s = c.in-Some.session.now in
+    let there = sym c.in-Some.ensures in
+    not_committed c.args.job c.args.self.now c.requires.whole (record c.args.self.now { store = c.commit-verdict.new.store; journal = c.commit-verdict.new.journal; locks = c.commit-verdict.new.locks })
+    s c.in-Err.refusal there (some_of (λ v. v.level ≤ 1) _ s there c.requires.level)
+    (left_whole c.args.job c.args.self.now c.requires.whole c.commit-verdict.new.store c.commit-verdict.new.journal c.commit-verdict.new.locks units (rw c.in-Err.is at told.locks) told.agreed
+    (λ q v held. subst (λ n. n ≤ v.work.start) (sym cut) (let o = c.requires.whole.opened q v held in o.kept)))
+    (ap (λ us. machine_of us c.args.self.now.sessions) units) (rw c.in-Err.is at told.cause)
