@@ -1,21 +1,8 @@
 //! Lines that are done one by one on a core, for the other tests.
-use collation::Job;
-use command::{Command, Reply};
 use job_core::JobCore;
 use refusal::Refusal;
 use script::{Drafts, read_line, write_reply};
 use std::alloc::Global;
-
-// The machine does data commands alone for now.
-fn reply_today(core: &mut JobCore, job: Job, command: Command) -> Reply {
-    match command {
-        Command::Access(command) => core.step(job, command),
-        other => {
-            drop(other);
-            Reply::Refused(Refusal::BadLine)
-        }
-    }
-}
 
 /// Does the line and puts its reply, as text, behind what stands in `out`.
 pub fn answer(
@@ -27,7 +14,7 @@ pub fn answer(
     let mut drafts = Drafts::new(alloc);
     match read_line(alloc, line, &mut drafts) {
         Ok((job, command)) => {
-            let reply = reply_today(core, job, command);
+            let reply = core.step(job, command);
             let written = write_reply(Some(job), &reply, out);
             drop(reply);
             written?;

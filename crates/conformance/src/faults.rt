@@ -58,7 +58,7 @@ fn writer_of(alloc: Global, size: usize, failing: Failing) -> Counted<Taken> {
 fn run_pieces(alloc: Global, size: usize, failing: Failing) -> Result<Went, Fail> {
     let mut reader = reader_of(SCRIPT, size, failing);
     let mut writer = writer_of(alloc, size, failing);
-    let outcome = run_script(alloc, &mut reader, &mut writer);
+    let outcome = run_script(alloc, 0, &mut reader, &mut writer);
     let text = Vec::from_slice(alloc, &writer.inner().text)?;
     Ok(Went {
         outcome,
@@ -187,7 +187,7 @@ fn largest_write(alloc: Global) -> Result<usize, Fail> {
     }
     let mut reader = reader_of(&script, script.len(), NONE);
     let mut writer = writer_of(alloc, usize::MAX, NONE);
-    let outcome = run_script(alloc, &mut reader, &mut writer);
+    let outcome = run_script(alloc, 0, &mut reader, &mut writer);
     Ok(if outcome.is_ok() {
         writer.inner().largest
     } else {
@@ -227,7 +227,7 @@ fn unlisted(alloc: Global) -> Result<(Vec<u8>, u64, u64), Fail> {
         lines: 0,
         refusals: 0,
     };
-    let outcome = run_with(alloc, false, &mut reader, &mut writer, &mut told);
+    let outcome = run_with(alloc, false, 0, &mut reader, &mut writer, &mut told);
     let text = if outcome == Ok(Outcome { refused: true }) {
         Vec::from_slice(alloc, &writer.inner().text)?
     } else {
@@ -251,7 +251,7 @@ fn run_without_listing_prints_replies_alone(rt: HostRuntime) -> Result<(), Fail>
 fn listed(alloc: Global) -> Result<Vec<u8>, Fail> {
     let mut reader = reader_of(b"1 SET ^A=1", 7, NONE);
     let mut writer = writer_of(alloc, 7, NONE);
-    let outcome = run_with(alloc, true, &mut reader, &mut writer, &mut NoLog);
+    let outcome = run_with(alloc, true, 0, &mut reader, &mut writer, &mut NoLog);
     Ok(if outcome == Ok(Outcome { refused: false }) {
         Vec::from_slice(alloc, &writer.inner().text)?
     } else {

@@ -13,6 +13,8 @@ mod faults;
 #[cfg(test)]
 mod lines;
 #[cfg(test)]
+mod locks;
+#[cfg(test)]
 mod readings;
 #[cfg(test)]
 mod scripts;
@@ -20,6 +22,8 @@ mod scripts;
 mod steps;
 #[cfg(test)]
 mod streams;
+#[cfg(test)]
+mod transactions;
 #[cfg(test)]
 mod views;
 #[cfg(test)]

@@ -14,7 +14,7 @@ fn is_answered(alloc: Global, line: &[u8], reply: &[u8]) -> Result<bool, Fail> {
 
 #[test]
 fn doubtful_lines_get_the_replies_of_the_table(rt: HostRuntime) -> Result<(), Fail> {
-    let rows: [(&[u8], &[u8]); 32] = [
+    let rows: [(&[u8], &[u8]); 37] = [
         (b"1", b"1 error 1 BadLine"),
         (b" ", b"0 error 1 BadLine"),
         (b"5000 FOO", b"0 error 1 BadLine"),
@@ -41,6 +41,11 @@ fn doubtful_lines_get_the_replies_of_the_table(rt: HostRuntime) -> Result<(), Fa
         (b"4097 KILL ^1A", b"0 error 12 BadJob"),
         (b"4294967297 KILL ^A", b"0 error 12 BadJob"),
         (b"18446744073709551617 KILL ^A", b"0 error 12 BadJob"),
+        (b"4097 HALT", b"0 error 12 BadJob"),
+        (b"99999999999999999999999 HALT", b"0 error 12 BadJob"),
+        (b"1 TSTART x", b"1 error 1 BadLine"),
+        (b"1 LOCK +1A", b"1 error 2 BadName"),
+        (b"1 LOCK (^A,B(1,\"\"),^1C)", b"1 error 3 EmptySubscript"),
         (b"1 $DATA(^A(\"\"))", b"1 error 3 EmptySubscript"),
         (b"1 $ORDER(^A(\"\",1))", b"1 error 3 EmptySubscript"),
         (b"1 $ORDER(^A(\"\",\"\"))", b"1 error 3 EmptySubscript"),
@@ -62,7 +67,7 @@ fn doubtful_lines_get_the_replies_of_the_table(rt: HostRuntime) -> Result<(), Fa
 
 #[test]
 fn words_are_read_in_any_case_and_short(rt: HostRuntime) -> Result<(), Fail> {
-    let rows: [(&[u8], &[u8]); 17] = [
+    let rows: [(&[u8], &[u8]); 24] = [
         (b"00001 KILL ^A", b"1 ok"),
         (b"4096 SET ^A=1  ", b"4096 ok"),
         (b"1 \t set ^A=1\t", b"1 ok"),
@@ -80,6 +85,13 @@ fn words_are_read_in_any_case_and_short(rt: HostRuntime) -> Result<(), Fail> {
         (b"1 $ORDER(^A(1),$C(49))", b"1 \"\""),
         (b"1 $ORDER(^A)", b"1 error 7 NeedSubscript"),
         (b"1 $q(^A(\"\"),-1)", b"1 \"\""),
+        (b"00001 HALT", b"1 ok"),
+        (b"4096 h\t", b"4096 ok"),
+        (b"7 ts", b"7 level 1"),
+        (b"1 $TL", b"1 0"),
+        (b"1 $tr ", b"1 0"),
+        (b"1 l", b"1 ok"),
+        (b"1 Lock +(^A,B)", b"1 1"),
     ];
     for (line, reply) in rows {
         assert!(rt; is_answered(rt.alloc(), line, reply)?, "{line:?}");

@@ -1,8 +1,6 @@
 //! Lists of steps, from docs/RULES.md: their replies, the journal and the content that they leave; and long lists, which
 //! end within the runner's limit.
 use crate::answers::answers;
-use collation::Job;
-use command::Command;
 use job_core::{JobCore, Step, run_from_nothing};
 use listing::{Counted, ListingFault, write_listing};
 use refusal::Refusal;
@@ -10,24 +8,13 @@ use script::{Drafts, read_line, write_reply};
 use std::alloc::Global;
 use std::test::Fail;
 
-// A step of the machine, which does data commands alone for now.
-fn push_command(steps: &mut Vec<Step>, job: Job, command: Command) -> Result<(), Refusal> {
-    match command {
-        Command::Access(command) => {
-            steps.push(Step::Do(job, command))?;
-            Ok(())
-        }
-        other => {
-            drop(other);
-            Err(Refusal::BadLine)
-        }
-    }
-}
-
 fn push_step(alloc: Global, steps: &mut Vec<Step>, line: &str) -> Result<(), Refusal> {
     let mut drafts = Drafts::new(alloc);
     match read_line(alloc, line.as_bytes(), &mut drafts) {
-        Ok((job, command)) => push_command(steps, job, command),
+        Ok((job, command)) => {
+            steps.push(Step::Do(job, command))?;
+            Ok(())
+        }
         Err(fault) => Err(fault.refusal),
     }
 }

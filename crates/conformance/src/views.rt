@@ -1,11 +1,11 @@
 //! The content of a core, looked at through `OrderedView`: docs/RULES.md, "Order".
 use crate::answers::core_of;
 use collation::Text;
-use globals::{Cut, OrderedView};
+use globals::{Cut, OrderedView, subtree, walk_from};
 use key_codec::{Key, KeyDraft};
 use m_text::read_reference;
 use refusal::Refusal;
-use std::alloc::Global;
+use std::alloc::{AllocError, Global};
 use std::test::Fail;
 
 fn key_of(alloc: Global, text: &[u8]) -> Result<Key, Refusal> {
@@ -49,5 +49,71 @@ fn next_and_prev_part_the_nodes_at_each_form_of_cut(rt: HostRuntime) -> Result<(
         );
         assert_eq!(rt; found, (next.as_bytes(), prev.as_bytes()));
     }
+    Ok(())
+}
+
+// Ten nodes of three globals, of which four lie in the subtree of ^B(2). Each value tells the place in order.
+const MORE_LINES: [&str; 10] = [
+    "1 SET ^C(\"x\")=9",
+    "1 SET ^B(2,\"b\")=6",
+    "1 SET ^B(2,10)=5",
+    "1 SET ^B(2)=3",
+    "1 SET ^B(2,9)=4",
+    "1 SET ^B(12)=7",
+    "1 SET ^B=2",
+    "1 SET ^A(1,1)=1",
+    "1 SET ^A=0",
+    "1 SET ^C=8",
+];
+
+// Whether a walk over all of the view meets nodes of just these values.
+fn walk_meets<V: OrderedView>(alloc: Global, view: &V, want: &[u8]) -> Result<bool, AllocError> {
+    let mut met = Vec::new(alloc);
+    for (_, value) in walk_from(view, Cut::Start) {
+        met.extend_from_slice(value.as_slice())?;
+    }
+    Ok(met.as_slice() == want)
+}
+
+// Whether a walk over the subtree does.
+fn subtree_meets<V: OrderedView>(
+    alloc: Global,
+    view: &V,
+    root: &Key,
+    want: &[u8],
+) -> Result<bool, AllocError> {
+    let mut met = Vec::new(alloc);
+    for (_, value) in subtree(view, root) {
+        met.extend_from_slice(value.as_slice())?;
+    }
+    Ok(met.as_slice() == want)
+}
+
+#[test]
+fn walks_meet_each_node_in_order(rt: HostRuntime) -> Result<(), Fail> {
+    let core = core_of(rt.alloc(), &MORE_LINES)?;
+    let all = walk_meets(rt.alloc(), &core.content(), b"0123456789");
+    assert_eq!(rt; all.unwrap_or(false), true);
+    Ok(())
+}
+
+// Whether a walk over the subtree of the reference in the text does.
+fn subtree_at_meets<V: OrderedView>(
+    alloc: Global,
+    view: &V,
+    text: &[u8],
+    want: &[u8],
+) -> Result<bool, Refusal> {
+    let root = key_of(alloc, text)?;
+    let meets = subtree_meets(alloc, view, &root, want);
+    drop(root);
+    Ok(meets?)
+}
+
+#[test]
+fn walks_meet_each_node_of_a_subtree(rt: HostRuntime) -> Result<(), Fail> {
+    let core = core_of(rt.alloc(), &MORE_LINES)?;
+    let below = subtree_at_meets(rt.alloc(), &core.content(), b"^B(2)", b"3456");
+    assert_eq!(rt; below.unwrap_or(false), true);
     Ok(())
 }

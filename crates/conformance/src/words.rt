@@ -21,6 +21,7 @@ const PLAIN: Args = Args {
     file: None,
     listed: true,
     errors: false,
+    collect_every: 0,
 };
 
 #[test]
@@ -55,9 +56,9 @@ fn words_ask_for_options(rt: HostRuntime) -> Result<(), Fail> {
     assert_eq!(rt;
         both,
         Ok(Args {
-            file: None,
             listed: false,
-            errors: true
+            errors: true,
+            ..PLAIN
         })
     );
     let after = asked(rt.alloc(), &[b"--no-listing", b"--", b"--errors"])?;
@@ -66,7 +67,7 @@ fn words_ask_for_options(rt: HostRuntime) -> Result<(), Fail> {
         Ok(Args {
             file: Some(3),
             listed: false,
-            errors: false
+            ..PLAIN
         })
     );
     Ok(())
@@ -82,5 +83,48 @@ fn words_ask_for_help_or_are_wrong(rt: HostRuntime) -> Result<(), Fail> {
     assert_eq!(rt; two, Err(ErrorKind::UnknownArgument));
     let unknown = asked(rt.alloc(), &[b"--nothing"])?;
     assert_eq!(rt; unknown, Err(ErrorKind::UnknownArgument));
+    Ok(())
+}
+
+// After how many printed lines the collector passes, by this word.
+fn passes(alloc: Global, word: &[u8]) -> Result<Result<u64, ErrorKind>, Fail> {
+    Ok(match asked(alloc, &[b"--collect-every", word])? {
+        Ok(args) => Ok(args.collect_every),
+        Err(kind) => Err(kind),
+    })
+}
+
+#[test]
+fn words_ask_for_the_collector(rt: HostRuntime) -> Result<(), Fail> {
+    let rows = [
+        (b"0".as_slice(), Ok(0)),
+        (b"7", Ok(7)),
+        (b"1000000", Ok(1000000)),
+        (b"1000001", Err(ErrorKind::ValueValidation)),
+        (b"x", Err(ErrorKind::ValueValidation)),
+        (b"1.5", Err(ErrorKind::ValueValidation)),
+        (b"", Err(ErrorKind::ValueValidation)),
+        (b"-1", Err(ErrorKind::UnknownArgument)),
+    ];
+    for (word, want) in rows {
+        let found = passes(rt.alloc(), word)?;
+        assert_eq!(rt; found, want);
+    }
+    Ok(())
+}
+
+#[test]
+fn words_ask_for_the_collector_and_a_file(rt: HostRuntime) -> Result<(), Fail> {
+    let both = asked(rt.alloc(), &[b"--collect-every=5", b"5"])?;
+    assert_eq!(rt;
+        both,
+        Ok(Args {
+            file: Some(2),
+            collect_every: 5,
+            ..PLAIN
+        })
+    );
+    let none = asked(rt.alloc(), &[b"--collect-every"])?;
+    assert_eq!(rt; none, Err(ErrorKind::InvalidValue));
     Ok(())
 }

@@ -1,7 +1,6 @@
 //! The library in use: a core does the lines of two jobs, one after the other, and the replies are printed.
 #![tactic(auto)]
 
-use command::Command;
 use job_core::JobCore;
 use script::{Drafts, read_line, write_reply};
 use std::io;
@@ -13,10 +12,8 @@ fn main(rt: HostRuntime) -> io::Result<()> {
     let mut text = Vec::new(rt.alloc());
     for line in ["1 SET ^Stock(\"apples\")=3", "2 $GET(^Stock(\"apples\"))"] {
         if let Ok((job, command)) = read_line(rt.alloc(), line.as_bytes(), &mut drafts) {
-            if let Command::Access(command) = command {
-                let reply = core.step(job, command);
-                write_reply(Some(job), &reply, &mut text)?;
-            }
+            let reply = core.step(job, command);
+            write_reply(Some(job), &reply, &mut text)?;
         }
     }
     io::writer(&rt).write_all(&text)

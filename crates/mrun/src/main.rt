@@ -107,7 +107,14 @@ fn run_from<R: Read + Drop>(rt: &(impl Print + Eprint + AllocGlobal), args: Args
         rt,
         told: args.errors,
     };
-    let outcome = run_with(rt.alloc(), args.listed, &mut reader, &mut writer, &mut log);
+    let outcome = run_with(
+        rt.alloc(),
+        args.listed,
+        args.collect_every,
+        &mut reader,
+        &mut writer,
+        &mut log,
+    );
     if let Err(fault) = outcome {
         let _ = eprintln!(rt; "mrun: {fault}");
     }

@@ -6,8 +6,12 @@
 //! No contract says what the words ask for: tests run the parser on them.
 #![tactic(auto)]
 
+use clap::builder::ValueParser;
 use clap::{Arg, ArgAction, Command, Error};
 use std::alloc::Global;
+
+// The most printed lines from one pass of the collector to the next that may be asked for.
+const MOST_LINES: u64 = 1000000;
 
 // What `--help` prints under the options.
 const LINES: &str = "Each line is a job, 1 to 4096, a blank, and a command or a function:
@@ -21,6 +25,7 @@ At the end of input follow `--` and the listing of the database, which starts em
 Lines can be typed: each gets its reply at once, and Ctrl-D on an empty line ends the input.
 
 --errors tells a refused line's number and refusal; it can't tell the column, nor what was expected there.
+--collect-every drops old versions of values that no transaction can see any more; what is printed doesn't depend on it.
 
 Exit status: 0, all replies are accepted; 1, a reply is an `error`; 2, input can't be read, output can't be
 written, memory ran out, or the words above are wrong.";
@@ -34,6 +39,8 @@ pub struct Args {
     pub listed: bool,
     /// Whether each refused line is told on standard error.
     pub errors: bool,
+    /// After how many printed lines the collector passes over the database, again and again; 0 for never.
+    pub collect_every: u64,
 }
 
 fn command<'a>(alloc: Global) -> Result<Command<'a>, Error> {
@@ -48,6 +55,13 @@ fn command<'a>(alloc: Global) -> Result<Command<'a>, Error> {
         .long("errors")
         .action(ArgAction::SetTrue)
         .help("Tell each refused line's number and refusal on standard error");
+    let collect_every = Arg::new(alloc, "collect-every")
+        .long("collect-every")
+        .action(ArgAction::Set)
+        .value_name("N")
+        .value_parser(ValueParser::unsigned(0, MOST_LINES))
+        .default_value("0")
+        .help("Let the collector pass after each Nth printed line, 0 to 1000000; 0 is never");
     let command = Command::new(alloc, "mrun")
         .version("0.1.0")
         .about(
@@ -56,11 +70,13 @@ fn command<'a>(alloc: Global) -> Result<Command<'a>, Error> {
         .after_help(LINES)
         .arg(file)?
         .arg(no_listing)?
-        .arg(errors)?;
+        .arg(errors)?
+        .arg(collect_every)?;
     Ok(command)
 }
 
-// The first word of this text. The program's name comes before it, and only options can have the same text.
+// The first word of this text. The program's name comes before it, and only options and their values can have the same
+// text; they are of ASCII, so then their bytes are the file's too.
 fn place_of(words: &[String], text: &str) -> Option<usize> {
     for i in 1..words.len() {
         if words[i].as_str() == text {
@@ -85,5 +101,6 @@ pub fn args_of(alloc: Global, words: &[Vec<u8>]) -> Result<Args, Error> {
         file,
         listed: !matches.get_flag("no-listing"),
         errors: matches.get_flag("errors"),
+        collect_every: matches.get_one("collect-every").unwrap_or(0),
     })
 }

@@ -1,7 +1,7 @@
 //! The lists that are run. A text of over 16 bytes doesn't lie in its value.
 
-/// A list with every command. The last, a copy of ^B into ^B("x"), is refused by its own rule.
-pub const EVERY_COMMAND: [&str; 10] = [
+/// A list with every data command. The last, a copy of ^B into ^B("x"), is refused by its own rule.
+pub const DATA_COMMANDS: [&str; 10] = [
     "1 SET ^A(1,2,3,4)=\"a text that is too long to lie inline\"",
     "1 SET ^A(1)=\"a text that is too long to lie inline\"",
     "1 SET ^A(\"a text that is too long to lie inline\")=\"a text that is too long to lie inline\"",
@@ -26,4 +26,26 @@ pub const PLAIN: [&str; 10] = [
     "1 $GET(^A(\"a text that is too long to lie inline\"))",
     "1 SET ^A(\"007\")=\"a text that is too long to lie inline\"",
     "1 $GET(^A(\"007\"))",
+];
+
+/// Two transactions with locks, of which one is overtaken and goes back. In the end job 1 halts.
+pub const TRANSACTIONS: [&str; 18] = [
+    "1 LOCK (^A(1,2),Desk)",
+    "1 TSTART",
+    "2 TSTART",
+    "1 SET ^A(1,2,3,4)=\"a text that is too long to lie inline\"",
+    "1 $GET(^A(1,2,3,4))",
+    "1 MERGE ^B(\"a text that is too long to lie inline\")=^A",
+    "1 $ORDER(^B(\"\"))",
+    "2 $QUERY(^B(1))",
+    "1 LOCK +(^A(1),^B(\"a text that is too long to lie inline\"))",
+    "1 KILL ^A(1)",
+    "2 LOCK +^A",
+    "1 TCOMMIT",
+    "2 SET ^C=1",
+    "2 TCOMMIT",
+    "2 SET ^C=2",
+    "2 TROLLBACK",
+    "1 LOCK -(^A(1),Desk)",
+    "1 HALT",
 ];

@@ -5,8 +5,6 @@
 //! `tests/refused_allocations` has each later allocation refused in turn.
 #![tactic(auto)]
 
-use collation::Job;
-use command::{Command, Reply};
 use job_core::JobCore;
 use listing::{Counted, ListingFault, write_listing};
 use refusal::Refusal;
@@ -27,24 +25,13 @@ struct Replies {
     second: Vec<u8>,
 }
 
-// The machine does data commands alone for now.
-fn reply_today(core: &mut JobCore, job: Job, command: Command) -> Reply {
-    match command {
-        Command::Access(command) => core.step(job, command),
-        other => {
-            drop(other);
-            Reply::Refused(Refusal::BadLine)
-        }
-    }
-}
-
 // The line's reply, alone in `out`. A line that can't be read is refused so.
 fn answer(alloc: Global, core: &mut JobCore, line: &str, out: &mut Vec<u8>) -> Result<(), Refusal> {
     out.clear();
     let mut drafts = Drafts::new(alloc);
     match read_line(alloc, line.as_bytes(), &mut drafts) {
         Ok((job, command)) => {
-            let reply = reply_today(core, job, command);
+            let reply = core.step(job, command);
             let written = write_reply(Some(job), &reply, out);
             drop(reply);
             written?;
@@ -154,11 +141,12 @@ fn replies_with_room(alloc: Global) -> Result<Replies, AllocError> {
     })
 }
 
-fn both_are_alike(alloc: Global, refused: &mut u64) -> Result<bool, Refusal> {
+fn all_are_alike(alloc: Global, refused: &mut u64) -> Result<bool, Refusal> {
     let mut replies = replies_with_room(alloc)?;
-    let every = is_alike(alloc, &lines::EVERY_COMMAND, &mut replies, refused)?;
+    let data = is_alike(alloc, &lines::DATA_COMMANDS, &mut replies, refused)?;
     let plain = is_alike(alloc, &lines::PLAIN, &mut replies, refused)?;
-    Ok(every && plain)
+    let transactions = is_alike(alloc, &lines::TRANSACTIONS, &mut replies, refused)?;
+    Ok(data && plain && transactions)
 }
 
 // The number that the digits spell, of which there are at most eight.
@@ -184,7 +172,7 @@ fn main(rt: HostRuntime) -> io::Result<()> {
     rt.reader().read(&mut digits)?;
     take_and_give_back(rt.alloc(), number_of(&digits))?;
     let mut refused: u64 = 0;
-    match both_are_alike(rt.alloc(), &mut refused) {
+    match all_are_alike(rt.alloc(), &mut refused) {
         Ok(true) => println!(rt; "alike, steps refused: {refused}"),
         Ok(false) => println!(rt; "they differ"),
         // The second core met the refusal, or a listing did.

@@ -1,15 +1,20 @@
 -- Lines that were answered, one after the other.
-use Rattle.std.proofs.Common.{◌≡◌, ℕ, suc, ◌+◌, ◌-◌, ◌≤◌, take, Bool, true, ◌||◌, List, [], ◌∷◌, ◌++◌, map, length, drop, Option, Result, Ok, Err, inr, refl, sym, ap, subst, ◌∙◌, append_assoc, arith, length-drop, drop-drop}
+use Rattle.std.proofs.Common.{◌≡◌, ℕ, suc, ◌+◌, ◌-◌, ◌≤◌, take, Bool, true, false, cond, ◌||◌, List, [], ◌∷◌, ◌++◌, map, length, drop, Option, Result, Ok, Err, inr, refl, sym, ap, subst, ◌∙◌, append_assoc, arith, length-drop, drop-drop}
 use Rattle.std.proofs.lemmas.List.{append-nil, map-append}
 use Rattle.std.proofs.lemmas.Grind.{flat_map-append}
 use Rattle.std.proofs.lemmas.List.Folds.{list_any-append}
-use Rattle.command.specs.declared.access.DataCommand.{DataCommand}
+use Rattle.command.specs.declared.request.Command.{Command}
+use Rattle.command.specs.declared.request.Command.TheVariants.{Halt}
 use Rattle.command.specs.declared.request.Reply.{Reply}
-use Rattle.command.specs.declared.request.Reply.TheVariants.{Refused}
+use Rattle.command.specs.declared.request.Reply.TheVariants.{Finished, Refused}
 use Rattle.journal.specs.History.{initial, IsLegal, after as after_units}
-use Rattle.journal.specs.Story.{Machine}
+use Rattle.journal.specs.Story.{Machine, told}
+use Rattle.journal.specs.declared.unit.Unit.TheVariants.{End}
+use Rattle.journal.specs.laws.History.{IsLegal-append}
+use Rattle.serial.specs.Machine.{run_of, step_of}
+use Rattle.script_run.specs.OpenJobs.{open_after}
 use Rattle.refusal.specs.declared.Refusal.{Refusal}
-use Rattle.refusal.specs.declared.Refusal.TheVariants.{OutOfMemory}
+use Rattle.refusal.specs.declared.Refusal.TheVariants.{StampsUsedUp, OutOfMemory}
 use Rattle.script.specs.Line.{job_of}
 use Rattle.script.specs.Text.{reply_text}
 use Rattle.std.specs.Prelude.{Some, None}
@@ -21,7 +26,7 @@ use Rattle.std.specs.Io.KnownBytes.{Appends}
 use Rattle.bstr.specs.Find.{IsFirstByte, is_byte}
 use Rattle.script_run.specs.Lines.{kept, lines_of, has_no_end}
 use Rattle.script_run.proofs.Cut.{end_of, first_line, no_end, joined_line, has_no_end-append}
-use Rattle.script_run.specs.Output.{Answer, asked_by, IsAnswer, AreAnswers, told_by, left_by, text_of, is_refused, some_refused, ending}
+use Rattle.script_run.specs.Output.{Answer, asked_by, IsAnswer, AreAnswers, told_by, left_by, ends_session, left_open, halts_of, left_at_end, text_of, is_refused, some_refused, ending}
 use Rattle.script_run.specs.Runs.{Ran, Broke, RanFront, BrokeFront, RanEnd, BrokeEnd}
 use Rattle.script_run.specs.declared.answers.Script.{Script}
 
@@ -30,14 +35,16 @@ one-text line reply job old out j t = t ∙ ap (λ (k : Option ℕ). old.out.ite
 
 -- one line was answered, and its reply gathered
 pub Ran-one : (line : List ℕ) (reply : Reply) (job : Option ℕ) (old new : Script) (before now : Option (List ℕ)) (out : List ℕ) → job ≡ job_of line → IsAnswer old.core (asked_by line) reply → new.core ≡ told_by (asked_by line) reply old.core
-    → out ≡ old.out.items ++ reply_text job reply → Passes before now out new.out.items → new.refused ≡ (old.refused || is_refused reply) → (IsLegal old.core.units initial → IsLegal new.core.units initial) → Ran (line ∷ []) old new before now
-Ran-one line reply job old new before now out j a u t p r l = record {
+    → out ≡ old.out.items ++ reply_text job reply → Passes before now out new.out.items → new.refused ≡ (old.refused || is_refused reply) → new.jobs.items ≡ open_after job (ends_session line reply) old.jobs.items
+    → (IsLegal old.core.units initial → IsLegal new.core.units initial) → Ran (line ∷ []) old new before now
+Ran-one line reply job old new before now out j a u t p r o l = record {
   answers = (line, reply) ∷ [];
   of_lines = refl;
   each = (a, tt);
   machine = u;
   passes = subst (λ (ts : List ℕ). Passes before now ts new.out.items) (one-text line reply job old out j t) p;
   refused = r ∙ ap (λ (b : Bool). old.refused || b) (sym (or-false _));
+  jobs = o ∙ ap (λ (k : Option ℕ). open_after k (ends_session line reply) old.jobs.items) j;
   legal = l;
 }
 
@@ -57,14 +64,15 @@ pub nothing_begun : (a : Option (List ℕ)) (x : List ℕ) → WritesBeginning a
 nothing_begun a x = WritesBeginning-longer a a [] x (WritesBeginning-all a a [] (Appends-nothing a))
 
 -- an empty line has no answer
-pub Ran-none : (old new : Script) (a : Option (List ℕ)) → new.core ≡ old.core → new.out.items ≡ old.out.items → new.refused ≡ old.refused → Ran [] old new a a
-Ran-none old new a u o r = record {
+pub Ran-none : (old new : Script) (a : Option (List ℕ)) → new.core ≡ old.core → new.out.items ≡ old.out.items → new.refused ≡ old.refused → new.jobs.items ≡ old.jobs.items → Ran [] old new a a
+Ran-none old new a u o r j = record {
   answers = [];
   of_lines = refl;
   each = tt;
   machine = u;
   passes = subst (λ (ts : List ℕ). Passes a a ts new.out.items) (o ∙ sym (append-nil old.out.items)) (Passes-none a new.out.items);
   refused = r ∙ sym (or-false old.refused);
+  jobs = j;
   legal = λ h. subst (λ (s : Machine). IsLegal s.units initial) (sym u) h;
 }
 
@@ -85,6 +93,14 @@ left-append (x ∷ xs) ys s = left-append xs ys (told_by (asked_by x.0) x.1 s)
 pub left-then : (s t : Machine) (xs ys : List Answer) → t ≡ left_by xs s → left_by ys t ≡ left_by (xs ++ ys) s
 left-then s t xs ys e = ap (left_by ys) e ∙ sym (left-append xs ys s)
 
+-- which jobs are open then
+pub open-append : (xs ys : List Answer) (jobs : List ℕ) → left_open (xs ++ ys) jobs ≡ left_open ys (left_open xs jobs)
+open-append [] ys jobs = refl
+open-append (x ∷ xs) ys jobs = open-append xs ys (open_after (job_of x.0) (ends_session x.0 x.1) jobs)
+
+pub open-then : (jobs now : List ℕ) (xs ys : List Answer) → now ≡ left_open xs jobs → left_open ys now ≡ left_open (xs ++ ys) jobs
+open-then jobs now xs ys e = ap (left_open ys) e ∙ sym (open-append xs ys jobs)
+
 lines-then : (xs ys : List Answer) (ls ms : List (List ℕ)) → map (λ (x : Answer). x.0) xs ≡ ls → map (λ (x : Answer). x.0) ys ≡ ms → map (λ (x : Answer). x.0) (xs ++ ys) ≡ ls ++ ms
 lines-then xs ys ls ms h k = map-append (λ (x : Answer). x.0) xs ys ∙ ap (λ (l : List (List ℕ)). l ++ map (λ (x : Answer). x.0) ys) h ∙ ap (λ (l : List (List ℕ)). ls ++ l) k
 
@@ -98,6 +114,7 @@ Ran-then ls ms a b c p q r h k = record {
       (Passes-then p q r ((a.out.items ++ text_of h.answers) ++ text_of k.answers) (b.out.items ++ text_of k.answers) c.out.items (Passes-more p q (a.out.items ++ text_of h.answers) b.out.items (text_of k.answers) h.passes) k.passes);
   refused = k.refused ∙ ap (λ (x : Bool). x || some_refused k.answers) h.refused ∙ or_assoc a.refused (some_refused h.answers) (some_refused k.answers)
       ∙ ap (λ (x : Bool). a.refused || x) (sym (list_any-append _ h.answers k.answers));
+  jobs = k.jobs ∙ open-then a.jobs.items b.jobs.items h.answers k.answers h.jobs;
   legal = λ l. k.legal (h.legal l);
 }
 
@@ -131,7 +148,7 @@ pub silent-lines : (ls : List (List ℕ)) → map (λ (x : Answer). x.0) (silent
 silent-lines [] = refl
 silent-lines (l ∷ ls) = ap (λ (m : List (List ℕ)). l ∷ m) (silent-lines ls)
 
-no_memory : (s : Machine) (r : Result (ℕ × DataCommand) Refusal) → IsAnswer s r (Refused OutOfMemory)
+no_memory : (s : Machine) (r : Result (ℕ × Command) Refusal) → IsAnswer s r (Refused OutOfMemory)
 no_memory s (Ok step) = inr refl
 no_memory s (Err e) = inr refl
 
@@ -139,7 +156,7 @@ pub silent-each : (s : Machine) (ls : List (List ℕ)) → AreAnswers s (silent 
 silent-each s [] = tt
 silent-each s (l ∷ ls) = (no_memory s (asked_by l), silent-each (told_by (asked_by l) (Refused OutOfMemory) s) ls)
 
-told-nothing : (r : Result (ℕ × DataCommand) Refusal) (s : Machine) → told_by r (Refused OutOfMemory) s ≡ s
+told-nothing : (r : Result (ℕ × Command) Refusal) (s : Machine) → told_by r (Refused OutOfMemory) s ≡ s
 told-nothing (Ok step) s = refl
 told-nothing (Err e) s = refl
 
@@ -165,8 +182,8 @@ pub BrokeFront-after : (text rest : List ℕ) (a b : Script) (p q r : Option (Li
 BrokeFront-after text rest a b p q r h w = record { lines = h.lines; rest = rest; broke = Broke-after h.lines a b p q r h.ran w; split = h.split }
 
 -- all that was gathered was written then
-pub RanFront-written : (text rest : List ℕ) (a b c : Script) (p q r : Option (List ℕ)) → RanFront text rest a b p q → Appends q r b.out.items → c.core ≡ b.core → c.refused ≡ b.refused → c.out.items ≡ [] → RanFront text rest a c p r
-RanFront-written text rest a b c p q r h w u d o = record {
+pub RanFront-written : (text rest : List ℕ) (a b c : Script) (p q r : Option (List ℕ)) → RanFront text rest a b p q → Appends q r b.out.items → c.core ≡ b.core → c.refused ≡ b.refused → c.jobs.items ≡ b.jobs.items → c.out.items ≡ [] → RanFront text rest a c p r
+RanFront-written text rest a b c p q r h w u d j o = record {
   lines = h.lines;
   ran = record {
     answers = h.ran.answers;
@@ -175,6 +192,7 @@ RanFront-written text rest a b c p q r h w u d o = record {
     machine = u ∙ h.ran.machine;
     passes = Passes-then p q r (a.out.items ++ text_of h.ran.answers) b.out.items c.out.items h.ran.passes (Passes-all q r b.out.items c.out.items w o);
     refused = d ∙ h.ran.refused;
+    jobs = j ∙ h.ran.jobs;
     legal = λ l. subst (λ (s : Machine). IsLegal s.units initial) (sym u) (h.ran.legal l);
   };
   split = h.split;
@@ -185,8 +203,8 @@ pub RanFront-is : (text rest same : List ℕ) (a b : Script) (p q : Option (List
 RanFront-is text rest same a b p q e h = subst (λ (t : List ℕ). RanFront text t a b p q) (sym e) h
 
 -- nothing of the text is answered yet
-pub RanFront-none : (text : List ℕ) (a b : Script) (p : Option (List ℕ)) → b.core ≡ a.core → b.out.items ≡ a.out.items → b.refused ≡ a.refused → RanFront text text a b p p
-RanFront-none text a b p u o r = record { lines = []; ran = Ran-none a b p u o r; split = λ more. refl }
+pub RanFront-none : (text : List ℕ) (a b : Script) (p : Option (List ℕ)) → b.core ≡ a.core → b.out.items ≡ a.out.items → b.refused ≡ a.refused → b.jobs.items ≡ a.jobs.items → RanFront text text a b p p
+RanFront-none text a b p u o r j = record { lines = []; ran = Ran-none a b p u o r j; split = λ more. refl }
 
 pub RanFront-more : (text rest after : List ℕ) (ls : List (List ℕ)) (a b c : Script) (p q r : Option (List ℕ)) → RanFront text rest a b p q → Ran ls b c q r
     → ((more : List ℕ) → lines_of (rest ++ more) ≡ ls ++ lines_of (after ++ more)) → RanFront text after a c p r
@@ -273,27 +291,47 @@ joined_broke_first begun piece line end a p q none found line-is broke = record 
   split = joined-split begun piece line (drop (suc end) piece) end none found line-is refl;
 }
 
--- the last line was answered, and the ending written
-pub ended : (listed : Bool) (begun : List ℕ) (a b c : Script) (p q r : Option (List ℕ)) → Ran (kept begun) a b p q → Appends q r (b.out.items ++ ending listed (after_units b.core.units initial).map) → c.refused ≡ b.refused → RanEnd listed begun a c p r
-ended listed begun a b c p q r h w e = record {
+-- ---- the end of input
+
+-- a HALT leaves legal units
+halt-legal : (job : ℕ) (s : Machine) (full : Bool) → IsLegal s.units initial → IsLegal (told job Halt (cond full (Refused StampsUsedUp) Finished) s).units initial
+halt-legal job s true l = l
+halt-legal job s false l = IsLegal-append s.units (End job ∷ []) initial l (tt, tt)
+
+pub halts-legal : (jobs : List ℕ) (s : Machine) → IsLegal s.units initial → IsLegal (run_of (halts_of jobs) s).units initial
+halts-legal [] s l = l
+halts-legal (job ∷ jobs) s l = halts-legal jobs (step_of job Halt s) (halt-legal job s _ l)
+
+-- the open jobs were halted after the last line
+halted : (ls : List (List ℕ)) (a b : Script) (core : Machine) (p q : Option (List ℕ)) (h : Ran ls a b p q) → core ≡ run_of (halts_of b.jobs.items) b.core → core ≡ left_at_end h.answers a.jobs.items a.core
+halted ls a b core p q h e = e ∙ (λ i. run_of (halts_of (h.jobs i)) (h.machine i))
+
+halted-legal : (ls : List (List ℕ)) (a b : Script) (p q : Option (List ℕ)) (h : Ran ls a b p q) → IsLegal a.core.units initial → IsLegal (left_at_end h.answers a.jobs.items a.core).units initial
+halted-legal ls a b p q h l = halts-legal (left_open h.answers a.jobs.items) (left_by h.answers a.core) (subst (λ (s : Machine). IsLegal s.units initial) h.machine (h.legal l))
+
+-- and then the ending was written
+pub ended : (listed : Bool) (begun : List ℕ) (a b c : Script) (core : Machine) (p q r : Option (List ℕ)) → Ran (kept begun) a b p q → core ≡ run_of (halts_of b.jobs.items) b.core → Appends q r (b.out.items ++ ending listed (after_units core.units initial).map)
+    → c.refused ≡ b.refused → RanEnd listed begun a c p r
+ended listed begun a b c core p q r h e w d = record {
   answers = h.answers;
   of_lines = h.of_lines;
   each = h.each;
-  legal = λ l. subst (λ (s : Machine). IsLegal s.units initial) h.machine (h.legal l);
-  refused = e ∙ h.refused;
-  written = subst (λ (s : Machine). Appends p r ((a.out.items ++ text_of h.answers) ++ ending listed (after_units s.units initial).map)) h.machine
-      (Passes-Appends p q r _ _ (Passes-more p q (a.out.items ++ text_of h.answers) b.out.items (ending listed (after_units b.core.units initial).map) h.passes) w);
+  legal = halted-legal (kept begun) a b p q h;
+  refused = d ∙ h.refused;
+  written = subst (λ (s : Machine). Appends p r ((a.out.items ++ text_of h.answers) ++ ending listed (after_units s.units initial).map)) (halted (kept begun) a b core p q h e)
+      (Passes-Appends p q r _ _ (Passes-more p q (a.out.items ++ text_of h.answers) b.out.items (ending listed (after_units core.units initial).map) h.passes) w);
 }
 
 -- or a beginning of it
-pub broke_ending : (listed : Bool) (begun : List ℕ) (a b : Script) (p q r : Option (List ℕ)) → Ran (kept begun) a b p q → WritesBeginning q r (b.out.items ++ ending listed (after_units b.core.units initial).map) → BrokeEnd listed begun a p r
-broke_ending listed begun a b p q r h w = record {
+pub broke_ending : (listed : Bool) (begun : List ℕ) (a b : Script) (core : Machine) (p q r : Option (List ℕ)) → Ran (kept begun) a b p q → core ≡ run_of (halts_of b.jobs.items) b.core
+    → WritesBeginning q r (b.out.items ++ ending listed (after_units core.units initial).map) → BrokeEnd listed begun a p r
+broke_ending listed begun a b core p q r h e w = record {
   answers = h.answers;
   of_lines = h.of_lines;
   each = h.each;
-  legal = λ l. subst (λ (s : Machine). IsLegal s.units initial) h.machine (h.legal l);
-  begun = subst (λ (s : Machine). WritesBeginning p r ((a.out.items ++ text_of h.answers) ++ ending listed (after_units s.units initial).map)) h.machine
-      (Passes-begun p q r _ _ (Passes-more p q (a.out.items ++ text_of h.answers) b.out.items (ending listed (after_units b.core.units initial).map) h.passes) w);
+  legal = halted-legal (kept begun) a b p q h;
+  begun = subst (λ (s : Machine). WritesBeginning p r ((a.out.items ++ text_of h.answers) ++ ending listed (after_units s.units initial).map)) (halted (kept begun) a b core p q h e)
+      (Passes-begun p q r _ _ (Passes-more p q (a.out.items ++ text_of h.answers) b.out.items (ending listed (after_units core.units initial).map) h.passes) w);
 }
 
 -- the run broke off in the last line
@@ -302,6 +340,10 @@ broke_last listed begun a p r h = record {
   answers = h.answers;
   of_lines = h.of_lines;
   each = h.each;
-  legal = h.legal;
+  legal = λ l. halts-legal (left_open h.answers a.jobs.items) (left_by h.answers a.core) (h.legal l);
   begun = WritesBeginning-longer p r (a.out.items ++ text_of h.answers) _ h.begun;
 }
+
+-- or in the HALTs after it
+pub broke_halts : (listed : Bool) (begun : List ℕ) (a b : Script) (p q : Option (List ℕ)) → Ran (kept begun) a b p q → BrokeEnd listed begun a p q
+broke_halts listed begun a b p q h = broke_last listed begun a p q (Broke-after (kept begun) a b p q q h (nothing_begun q b.out.items))

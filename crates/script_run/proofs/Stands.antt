@@ -7,14 +7,15 @@ use Rattle.std.specs.Prelude.{⊤}
 use Rattle.std.specs.Io.KnownBytes.{Appends, Consumes, IsAtEnd, Keeps}
 use Rattle.journal.specs.Story.{Machine, nothing_done}
 use Rattle.journal.specs.History.{initial, after, IsLegal}
+use Rattle.serial.specs.Machine.{run_of}
 use Rattle.listing.specs.Bytes.{WritesBeginning, Passes}
 use Rattle.script_run.specs.Lines.{kept, lines_of, has_no_end}
-use Rattle.script_run.specs.Output.{Answer, AreAnswers, left_by, text_of, some_refused, ending, IsOutput, Wrote, IsBegun, HasAnswered}
+use Rattle.script_run.specs.Output.{Answer, AreAnswers, left_by, left_open, halts_of, left_at_end, text_of, some_refused, ending, IsOutput, Wrote, IsBegun, HasAnswered}
 use Rattle.script_run.specs.Runs.{RanFront, BrokeFront, RanEnd, BrokeEnd, HasRead}
 use Rattle.script_run.specs.declared.answers.Script.{Script}
 use Rattle.listing.specs.BytesLaws.{Appends-nothing, Appends-more, WritesBeginning-all, WritesBeginning-longer, WritesBeginning-then, Passes-Appends}
 use Rattle.script_run.specs.LineLaws.{last_line}
-use Rattle.script_run.proofs.Runs.{AreAnswers-append, silent, silent-lines, silent-each, silent-left, left-append, left-then, nothing_begun}
+use Rattle.script_run.proofs.Runs.{AreAnswers-append, silent, silent-lines, silent-each, silent-left, left-append, left-then, open-then, halts-legal, nothing_begun}
 
 abbrev pub lines_in : List Answer → List (List ℕ)
 lines_in answers = map (λ a. a.0) answers
@@ -30,6 +31,7 @@ pub record Stands (all left : Option (List ℕ)) (begun : List ℕ) (old new : O
   pub answers : List Answer
   pub each : AreAnswers nothing_done answers
   pub machine : script.core ≡ left_by answers nothing_done
+  pub jobs : script.jobs.items ≡ left_open answers []
   pub legal : IsLegal script.core.units initial
   pub out : script.out.items ≡ []
   pub refused : script.refused ≡ some_refused answers
@@ -41,11 +43,12 @@ Follows-start : (all : Option (List ℕ)) → Follows all all [] []
 Follows-start None = tt
 Follows-start (Some xs) = refl
 
-pub stands_first : (all old : Option (List ℕ)) (begun : List ℕ) (script : Script) → script.core ≡ nothing_done → script.out.items ≡ [] → script.refused ≡ false → begun ≡ [] → Stands all all begun old old script
-stands_first all old begun script u o r b = record {
+pub stands_first : (all old : Option (List ℕ)) (begun : List ℕ) (script : Script) → script.core ≡ nothing_done → script.jobs.items ≡ [] → script.out.items ≡ [] → script.refused ≡ false → begun ≡ [] → Stands all all begun old old script
+stands_first all old begun script u j o r b = record {
   answers = [];
   each = tt;
   machine = u;
+  jobs = j;
   legal = subst (λ (s : Machine). IsLegal s.units initial) (sym u) tt;
   out = o;
   refused = r;
@@ -89,6 +92,7 @@ stands_next all left left' old new new' begun piece rest a b h r f w o = record 
   answers = h.answers ++ f.ran.answers;
   each = AreAnswers-append nothing_done a.core h.answers f.ran.answers h.each h.machine f.ran.each;
   machine = f.ran.machine ∙ left-then nothing_done a.core h.answers f.ran.answers h.machine;
+  jobs = f.ran.jobs ∙ open-then [] a.jobs.items h.answers f.ran.answers h.jobs;
   legal = f.ran.legal h.legal;
   out = o;
   refused = f.ran.refused ∙ ap (λ (x : Bool). x || some_refused f.ran.answers) h.refused ∙ sym (list_any-append _ h.answers f.ran.answers);
@@ -107,7 +111,7 @@ pub goes_on : (listed : Bool) (bytes : List ℕ) (answers : List Answer) (rest :
 goes_on listed bytes answers rest e each legal =
     let whole : List Answer = answers ++ silent rest in
     let same : left_by whole nothing_done ≡ left_by answers nothing_done = left-append answers (silent rest) nothing_done ∙ silent-left rest (left_by answers nothing_done) in
-    let tail : List ℕ = ending listed (after (left_by whole nothing_done).units initial).map in
+    let tail : List ℕ = ending listed (after (left_at_end whole [] nothing_done).units initial).map in
     record {
       more = text_of (silent rest) ++ tail;
       refused = some_refused whole;
@@ -115,7 +119,7 @@ goes_on listed bytes answers rest e each legal =
         answers = whole;
         of_lines = lines-append answers (silent rest) ∙ ap (λ (l : List (List ℕ)). lines_in answers ++ l) (silent-lines rest) ∙ sym e;
         each = AreAnswers-append nothing_done (left_by answers nothing_done) answers (silent rest) each refl (silent-each (left_by answers nothing_done) rest);
-        legal = subst (λ (s : Machine). IsLegal s.units initial) (sym same) legal;
+        legal = halts-legal (left_open whole []) (left_by whole nothing_done) (subst (λ (s : Machine). IsLegal s.units initial) (sym same) legal);
         written = sym (append_assoc (text_of answers) (text_of (silent rest)) tail) ∙ ap (λ (t : List ℕ). t ++ tail) (sym (flat_map-append _ answers (silent rest)));
         told = refl;
       };
@@ -159,19 +163,21 @@ at_end bytes (Some more) (Some more') ls begun piece h k p e =
 
 -- the whole output, of the answers before the end of input and of that to the last line
 whole_output : (listed : Bool) (bytes : List ℕ) (left left' old new : Option (List ℕ)) (begun piece : List ℕ) (a : Script) (last : List Answer) (h : Stands (Some bytes) left begun old new a) → HasRead left left' piece → length piece ≡ 0
-    → lines_in last ≡ kept begun → AreAnswers a.core last → (IsLegal a.core.units initial → IsLegal (left_by last a.core).units initial)
-    → IsOutput listed bytes (text_of h.answers ++ ((a.out.items ++ text_of last) ++ ending listed (after (left_by last a.core).units initial).map)) (a.refused || some_refused last)
+    → lines_in last ≡ kept begun → AreAnswers a.core last → (IsLegal a.core.units initial → IsLegal (left_at_end last a.jobs.items a.core).units initial)
+    → IsOutput listed bytes (text_of h.answers ++ ((a.out.items ++ text_of last) ++ ending listed (after (left_at_end last a.jobs.items a.core).units initial).map)) (a.refused || some_refused last)
 whole_output listed bytes left left' old new begun piece a last h r none of_lines each legal =
     let whole : List Answer = h.answers ++ last in
     let left-is : left_by last a.core ≡ left_by whole nothing_done = left-then nothing_done a.core h.answers last h.machine in
-    let tail : List ℕ = ending listed (after (left_by last a.core).units initial).map in
+    let open-is : left_open last a.jobs.items ≡ left_open whole [] = open-then [] a.jobs.items h.answers last h.jobs in
+    let end-is : left_at_end last a.jobs.items a.core ≡ left_at_end whole [] nothing_done = λ i. run_of (halts_of (open-is i)) (left-is i) in
+    let tail : List ℕ = ending listed (after (left_at_end last a.jobs.items a.core).units initial).map in
     record {
       answers = whole;
       of_lines = lines-append h.answers last ∙ ap (λ (l : List (List ℕ)). lines_in h.answers ++ l) (of_lines ∙ sym (last_line begun h.whole)) ∙ sym (at_end bytes left left' (lines_in h.answers) begun piece h.split r.consumed (nil_from_length piece none) (r.ended none));
       each = AreAnswers-append nothing_done a.core h.answers last h.each h.machine each;
-      legal = subst (λ (s : Machine). IsLegal s.units initial) left-is (legal h.legal);
+      legal = subst (λ (s : Machine). IsLegal s.units initial) end-is (legal h.legal);
       written = ap (λ (t : List ℕ). text_of h.answers ++ ((t ++ text_of last) ++ tail)) h.out ∙ sym (append_assoc (text_of h.answers) (text_of last) tail) ∙ ap (λ (t : List ℕ). t ++ tail) (sym (flat_map-append _ h.answers last))
-          ∙ ap (λ (s : Machine). text_of whole ++ ending listed (after s.units initial).map) left-is;
+          ∙ ap (λ (s : Machine). text_of whole ++ ending listed (after s.units initial).map) end-is;
       told = ap (λ (x : Bool). x || some_refused last) h.refused ∙ sym (list_any-append _ h.answers last);
     }
 
@@ -179,7 +185,7 @@ pub wrote_all : (listed : Bool) (all left left' old new last : Option (List ℕ)
     → IfSome all (λ bytes. Wrote listed bytes b.refused old last)
 wrote_all listed None left left' old new last begun piece a b h r none e = tt
 wrote_all listed (Some bytes) left left' old new last begun piece a b h r none e =
-    let end : List ℕ = (a.out.items ++ text_of e.answers) ++ ending listed (after (left_by e.answers a.core).units initial).map in
+    let end : List ℕ = (a.out.items ++ text_of e.answers) ++ ending listed (after (left_at_end e.answers a.jobs.items a.core).units initial).map in
     record {
       text = text_of h.answers ++ end;
       output = subst (IsOutput listed bytes (text_of h.answers ++ end)) (sym e.refused) (whole_output listed bytes left left' old new begun piece a e.answers h r none e.of_lines e.each e.legal);
@@ -191,7 +197,7 @@ pub begun_end : (listed : Bool) (all left left' old new last : Option (List ℕ)
     → IfSome all (λ bytes. IsBegun listed bytes old last)
 begun_end listed None left left' old new last begun piece a h r none e = tt
 begun_end listed (Some bytes) left left' old new last begun piece a h r none e =
-    let end : List ℕ = (a.out.items ++ text_of e.answers) ++ ending listed (after (left_by e.answers a.core).units initial).map in
+    let end : List ℕ = (a.out.items ++ text_of e.answers) ++ ending listed (after (left_at_end e.answers a.jobs.items a.core).units initial).map in
     record {
       text = text_of h.answers ++ end;
       refused = a.refused || some_refused e.answers;

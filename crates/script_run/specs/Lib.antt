@@ -1,4 +1,5 @@
 pub mod Lines
+pub mod OpenJobs
 pub mod Output
 pub mod Runs
 pub mod Faults

@@ -1,50 +1,41 @@
 -- What a script writes.
 -- Read IsOutput, Wrote, IsBegun and HasAnswered; the contract of run_script cites these.
-use Rattle.std.specs.Prelude.{◌≡◌, ◌⊎◌, ⊤, ℕ, Bool, true, false, List, [], ◌∷◌, ◌++◌, map, Option, Result, Ok, Err, codes}
+use Rattle.std.specs.Prelude.{◌≡◌, ◌⊎◌, ⊤, ℕ, Bool, true, false, not, ◌&&◌, List, [], ◌∷◌, ◌++◌, map, Option, Result, Ok, Err, codes}
 use Rattle.std.specs.List.{flat_map, list_any}
 use Rattle.std.specs.Io.KnownBytes.{Appends}
 use Rattle.refusal.specs.declared.Refusal.{Refusal}
-use Rattle.refusal.specs.declared.Refusal.TheVariants.{BadLine, OutOfMemory}
+use Rattle.refusal.specs.declared.Refusal.TheVariants.{OutOfMemory}
 use Rattle.collation.specs.Database.{Database}
-use Rattle.command.specs.declared.access.DataCommand.{DataCommand}
 use Rattle.command.specs.declared.request.Command.{Command}
-use Rattle.command.specs.declared.request.Command.TheVariants.{Access}
+use Rattle.command.specs.declared.request.Command.TheVariants.{Access, Lock, Start, Commit, Rollback, Restart, Level, Restarts, Halt}
 use Rattle.command.specs.declared.request.Reply.{Reply}
 use Rattle.command.specs.declared.request.Reply.TheVariants.{Answered, Finished, Had, Count, AtLevel, Committed, Restarted, Refused}
 use Rattle.journal.specs.History.{initial, after, IsLegal}
 use Rattle.journal.specs.Story.{Machine, nothing_done, told}
-use Rattle.serial.specs.Machine.{IsReply}
+use Rattle.serial.specs.Machine.{IsReply, run_of}
 use Rattle.script.specs.Line.{reading_of, job_of}
 use Rattle.script.specs.Text.{reply_text}
 use Rattle.listing.specs.Listing.{listing_text}
 use Rattle.listing.specs.Bytes.{WritesBeginning}
 use Rattle.script_run.specs.Lines.{lines_of, has_no_end}
+use Rattle.script_run.specs.OpenJobs.{open_after}
 
 -- a line and its reply
 abbrev pub Answer : Type 0
 Answer = List ℕ × Reply
 
--- for now the machine does data commands alone: a line with any other command is refused with BadLine
-abbrev pub done_today : ℕ → Command → Result (ℕ × DataCommand) Refusal
-done_today job (Access command) = Ok (job, command)
-done_today job command = Err BadLine
-
-abbrev pub asked_today : Result (ℕ × Command) Refusal → Result (ℕ × DataCommand) Refusal
-asked_today (Ok step) = done_today step.0 step.1
-asked_today (Err refusal) = Err refusal
-
 -- what a line asks of the machine, or its refusal
-abbrev pub asked_by : List ℕ → Result (ℕ × DataCommand) Refusal
-asked_by line = asked_today (reading_of line)
+abbrev pub asked_by : List ℕ → Result (ℕ × Command) Refusal
+asked_by line = reading_of line
 
 -- a line that asks nothing gets its refusal, or that of memory; another gets the machine's reply, or that of memory
-abbrev pub IsAnswer : Machine → Result (ℕ × DataCommand) Refusal → Reply → Type 0
-IsAnswer s (Ok step) reply = IsReply step.0 (Access step.1) reply s
+abbrev pub IsAnswer : Machine → Result (ℕ × Command) Refusal → Reply → Type 0
+IsAnswer s (Ok step) reply = IsReply step.0 step.1 reply s
 IsAnswer s (Err refusal) reply = (reply ≡ Refused refusal) ⊎ (reply ≡ Refused OutOfMemory)
 
 -- what a line and its reply change
-abbrev pub told_by : Result (ℕ × DataCommand) Refusal → Reply → Machine → Machine
-told_by (Ok step) reply s = told step.0 (Access step.1) reply s
+abbrev pub told_by : Result (ℕ × Command) Refusal → Reply → Machine → Machine
+told_by (Ok step) reply s = told step.0 step.1 reply s
 told_by (Err refusal) reply s = s
 
 -- what lines and their replies leave, each in its turn
@@ -73,6 +64,42 @@ is_refused (Refused refusal) = true
 abbrev pub some_refused : List Answer → Bool
 some_refused answers = list_any (λ a. is_refused a.1) answers
 
+-- ---- the end of input
+
+-- the command is HALT
+abbrev pub is_halt : Command → Bool
+is_halt (Access command) = false
+is_halt (Lock command) = false
+is_halt Start = false
+is_halt Commit = false
+is_halt Rollback = false
+is_halt Restart = false
+is_halt Level = false
+is_halt Restarts = false
+is_halt Halt = true
+
+-- the line asks for HALT
+abbrev pub asks_halt : Result (ℕ × Command) Refusal → Bool
+asks_halt (Ok step) = is_halt step.1
+asks_halt (Err refusal) = false
+
+-- the session of a line's job ended with it: HALT was done
+abbrev pub ends_session : List ℕ → Reply → Bool
+ends_session line reply = asks_halt (asked_by line) && not (is_refused reply)
+
+-- the jobs that are open after lines and their replies, those before them given
+abbrev pub left_open : List Answer → List ℕ → List ℕ
+left_open [] jobs = jobs
+left_open (a ∷ answers) jobs = left_open answers (open_after (job_of a.0) (ends_session a.0 a.1) jobs)
+
+-- each job's HALT, in order
+abbrev pub halts_of : List ℕ → List (ℕ × Command)
+halts_of jobs = map (λ job. (job, Halt)) jobs
+
+-- what is left at the end of input: after the last line each open job was halted
+abbrev pub left_at_end : List Answer → List ℕ → Machine → Machine
+left_at_end answers jobs s = run_of (halts_of (left_open answers jobs)) (left_by answers s)
+
 -- what follows the replies: "--" and the listing, or nothing where no listing is asked for
 abbrev pub ending : Bool → Database → List ℕ
 ending true m = codes "--\n" ++ listing_text m
@@ -83,8 +110,8 @@ pub record IsOutput (listed : Bool) (bytes text : List ℕ) (refused : Bool) : T
   pub answers : List Answer
   pub of_lines : map (λ a. a.0) answers ≡ lines_of bytes
   pub each : AreAnswers nothing_done answers
-  pub legal : IsLegal (left_by answers nothing_done).units initial
-  pub written : text ≡ text_of answers ++ ending listed (after (left_by answers nothing_done).units initial).map
+  pub legal : IsLegal (left_at_end answers [] nothing_done).units initial
+  pub written : text ≡ text_of answers ++ ending listed (after (left_at_end answers [] nothing_done).units initial).map
   pub told : refused ≡ some_refused answers
 
 -- such a text was written

@@ -4,7 +4,7 @@ use Rattle.std.specs.Io.KnownBytes.{Appends, Consumes, IsAtEnd}
 use Rattle.journal.specs.History.{initial, after, IsLegal}
 use Rattle.listing.specs.Bytes.{WritesBeginning, Passes}
 use Rattle.script_run.specs.Lines.{kept, lines_of}
-use Rattle.script_run.specs.Output.{Answer, AreAnswers, left_by, text_of, some_refused, ending}
+use Rattle.script_run.specs.Output.{Answer, AreAnswers, left_by, left_open, left_at_end, text_of, some_refused, ending}
 use Rattle.script_run.specs.declared.answers.Script.{Script}
 
 -- the lines were answered, one after the other, and each reply was written or is gathered
@@ -15,6 +15,7 @@ pub record Ran (lines : List (List ℕ)) (old new : Script) (before now : Option
   pub machine : new.core ≡ left_by answers old.core
   pub passes : Passes before now (old.out.items ++ text_of answers) new.out.items
   pub refused : new.refused ≡ (old.refused || some_refused answers)
+  pub jobs : new.jobs.items ≡ left_open answers old.jobs.items
   pub legal : IsLegal old.core.units initial → IsLegal new.core.units initial
 
 -- the run broke off: the lines have answers of whose text a beginning was written
@@ -38,22 +39,22 @@ pub record BrokeFront (text : List ℕ) (old : Script) (before now : Option (Lis
   pub broke : Broke lines old before now
   pub split : (more : List ℕ) → lines_of (text ++ more) ≡ lines ++ lines_of (rest ++ more)
 
--- the last line was answered, and all that was gathered and the ending were written
+-- the last line was answered, the open jobs were halted, and all that was gathered and the ending were written
 pub record RanEnd (listed : Bool) (line : List ℕ) (old new : Script) (before now : Option (List ℕ)) : Type 0 where
   pub answers : List Answer
   pub of_lines : map (λ a. a.0) answers ≡ kept line
   pub each : AreAnswers old.core answers
-  pub legal : IsLegal old.core.units initial → IsLegal (left_by answers old.core).units initial
+  pub legal : IsLegal old.core.units initial → IsLegal (left_at_end answers old.jobs.items old.core).units initial
   pub refused : new.refused ≡ (old.refused || some_refused answers)
-  pub written : Appends before now ((old.out.items ++ text_of answers) ++ ending listed (after (left_by answers old.core).units initial).map)
+  pub written : Appends before now ((old.out.items ++ text_of answers) ++ ending listed (after (left_at_end answers old.jobs.items old.core).units initial).map)
 
 -- a beginning of that was written
 pub record BrokeEnd (listed : Bool) (line : List ℕ) (old : Script) (before now : Option (List ℕ)) : Type 0 where
   pub answers : List Answer
   pub of_lines : map (λ a. a.0) answers ≡ kept line
   pub each : AreAnswers old.core answers
-  pub legal : IsLegal old.core.units initial → IsLegal (left_by answers old.core).units initial
-  pub begun : WritesBeginning before now ((old.out.items ++ text_of answers) ++ ending listed (after (left_by answers old.core).units initial).map)
+  pub legal : IsLegal old.core.units initial → IsLegal (left_at_end answers old.jobs.items old.core).units initial
+  pub begun : WritesBeginning before now ((old.out.items ++ text_of answers) ++ ending listed (after (left_at_end answers old.jobs.items old.core).units initial).map)
 
 -- the piece was read, or there was none left
 pub record HasRead (old new : Option (List ℕ)) (piece : List ℕ) : Type 0 where

@@ -1,65 +1,76 @@
 //! A line, its reply, and the reply's text.
-ghost use Rattle.std.specs.Prelude.{◌≡◌, ◌++◌, ◌∷◌, [], OnOk, OnErr, IsErrOf, ◌||◌};
+ghost use Rattle.std.specs.Prelude.{◌≡◌, ◌++◌, ◌∷◌, [], OnOk, OnErr, IsErrOf, ◌||◌, ◌&&◌, not};
 ghost use Rattle.script.specs.Line.{job_of};
 ghost use Rattle.journal.specs.History.{initial, IsLegal};
 ghost use Rattle.listing.specs.Bytes.{Counts};
 ghost use Rattle.script_run.specs.Lines.{kept};
-ghost use Rattle.script_run.specs.Output.{asked_by, done_today, IsAnswer, told_by, is_refused as refused_of};
+ghost use Rattle.script_run.specs.Output.{asked_by, ends_session, is_halt as is_halt_command, IsAnswer, told_by, is_refused as refused_of};
 ghost use Rattle.script_run.specs.Runs.{Ran, Broke};
 
 use crate::RefusalLog;
+use crate::collecting::{Countdown, collect_when_due};
+use crate::open_jobs::note_line;
 use collation::Job;
 use command::{Command, Reply};
 use job_core::JobCore;
 use listing::{Counted, ListingFault};
-use refusal::Refusal;
 use script::{Drafts, read_line, write_reply};
 use std::alloc::Global;
 use std::io::Write;
 
-// The machine, the references of the line that is read, the text that is gathered and not yet written, whether a reply was a refusal, and how many lines came,
-// empty ones too. The number of lines saturates.
+// The machine, the open jobs, the references of the line that is read, the text that is gathered and not yet written,
+// whether a reply was a refusal, how many lines came, empty ones too, and when the collector passes next. The number of
+// lines saturates.
 #[derive(Drop)]
 pub(crate) struct Script {
     pub(crate) core: JobCore,
+    pub(crate) jobs: Vec<Job>,
     pub(crate) drafts: Drafts,
     pub(crate) out: Vec<u8>,
     pub(crate) refused: bool,
     pub(crate) lines: u64,
+    pub(crate) countdown: Countdown,
 }
 
-// Only data commands are done for now.
-fn reply_today(core: &mut JobCore, job: Job, command: Command) -> Reply
-    ensures answer { IsAnswer core.old (done_today job command) result }
-    ensures machine { core.new ≡ told_by (done_today job command) result core.old }
-    ensures legal { IsLegal core.old.units initial → IsLegal core.new.units initial }
+fn is_halt(command: &Command) -> bool
+    ensures { result ≡ is_halt_command command.now }
 {
-    match command {
-        Command::Access(command) => core.step(job, command),
-        other => {
-            drop(other);
-            Reply::Refused(Refusal::BadLine)
-        }
-    }
+    matches!(command, Command::Halt)
 }
 
+fn is_refusal(reply: &Reply) -> bool
+    ensures { result ≡ refused_of reply.now }
+{
+    matches!(reply, Reply::Refused(_))
+}
+
+fn is_done(halts: bool, refused: bool) -> bool
+    ensures { result ≡ (halts && not refused) }
+{
+    halts && !refused
+}
+
+// Reads a line and does it. Answers its job, whether the job's session ended, and the reply.
 fn answer_line(
     alloc: Global,
     core: &mut JobCore,
     drafts: &mut Drafts,
     line: &[u8],
-) -> (Option<Job>, Reply)
+) -> (Option<Job>, bool, Reply)
     ensures job { result.0 ≡ job_of line.now }
-    ensures answer { IsAnswer core.old (asked_by line.now) result.1 }
-    ensures machine { core.new ≡ told_by (asked_by line.now) result.1 core.old }
+    ensures ended { result.1 ≡ ends_session line.now result.2 }
+    ensures answer { IsAnswer core.old (asked_by line.now) result.2 }
+    ensures machine { core.new ≡ told_by (asked_by line.now) result.2 core.old }
     ensures legal { IsLegal core.old.units initial → IsLegal core.new.units initial }
 {
     match read_line(alloc, line, drafts) {
         Ok((job, command)) => {
-            let reply = reply_today(core, job, command);
-            (Some(job), reply)
+            let halts = is_halt(&command);
+            let reply = core.step(job, command);
+            let ended = is_done(halts, is_refusal(&reply));
+            (Some(job), ended, reply)
         }
-        Err(fault) => (fault.job, Reply::Refused(fault.refusal)),
+        Err(fault) => (fault.job, false, Reply::Refused(fault.refusal)),
     }
 }
 
@@ -82,7 +93,8 @@ fn either(a: bool, b: bool) -> bool
     a || b
 }
 
-// The reply is gathered, and what is gathered written once it is enough.
+// Room for one open job more is made first. The reply is gathered, and what is gathered written once it is enough. Then
+// comes the collector's pass, where one is due.
 fn run_line<W: Write>(
     alloc: Global,
     script: &mut Script,
@@ -96,11 +108,14 @@ fn run_line<W: Write>(
     ensures counted { IsErrOf result ListingFault.Write → Counts writer.old.failures writer.new.failures }
     ensures memory { IsErrOf result ListingFault.Memory → writer.new.failures ≡ writer.old.failures }
 {
-    let (job, reply) = answer_line(alloc, &mut script.core, &mut script.drafts, line);
+    script.jobs.reserve(1)?;
+    let (job, ended, reply) = answer_line(alloc, &mut script.core, &mut script.drafts, line);
+    note_line(&mut script.jobs, &job, ended);
     let refused = log_reply(log, script.lines, &reply);
     script.refused = either(script.refused, refused);
     write_reply(job, &reply, &mut script.out)?;
     writer.write_full(&mut script.out)?;
+    collect_when_due(&mut script.countdown, &mut script.core);
     Ok(())
 }
 

@@ -1,9 +1,12 @@
 //! Scripts from bytes to bytes: lines in, replies and the listing out.
 //!
 //! Callers see it as one relation between the bytes read and the bytes written: `IsOutput` of
-//! `specs/Output.antt`. Each line that isn't empty has one reply, a command is refused only with a cause at its
-//! place, the story of lines and replies is a legal journal, and what is written is the text of the replies, `--`,
-//! and the listing of the map that the journal leaves. After a fault what was written is a beginning of such a text.
+//! `specs/Output.antt`. Each line that isn't empty has one reply: the machine's at its place, or that memory was
+//! wanting. After the last line each open job is halted. The journal that is left is legal, and what is written is the
+//! text of the replies, `--`, and the listing of the map that the journal leaves. After a fault what was written is a
+//! beginning of such a text.
+//!
+//! A job is open from its first line that names it until a HALT that is done; its next line opens it anew.
 //!
 //! Input is read in pieces. The whole lines of a piece are run and their replies written before the next read,
 //! so that a person or a program at the other end of a pipe gets its replies at once; where a read fails, just the
@@ -11,7 +14,11 @@
 //! written whenever it holds 16,384 bytes, and the listing is gathered in it too. A line is copied only where it goes
 //! on from one piece to the next.
 //!
-//! Read `specs/Lines.antt`, `specs/Output.antt`, then `answers.rt`, `lines.rt`, `run.rt`.
+//! After each so many replies as the caller says the collector passes over the store (`collecting.rt`). That leaves the
+//! machine, so no clause names it.
+//!
+//! Read `specs/Lines.antt`, `specs/OpenJobs.antt`, `specs/Output.antt`, then `answers.rt`, `open_jobs.rt`,
+//! `collecting.rt`, `lines.rt`, `run.rt`.
 //! Not promised: that memory is there; how the text is cut into writes; what a log is told.
 #![tactic(auto)]
 
@@ -21,8 +28,10 @@ pub use log::{NoLog, RefusalLog};
 pub use run::{Outcome, run_script, run_with};
 
 mod answers;
+mod collecting;
 mod fault;
 mod laws;
 mod lines;
 mod log;
+mod open_jobs;
 mod run;

@@ -9,7 +9,9 @@ ghost use Rattle.script_run.specs.Output.{ending, Wrote, IsBegun, HasAnswered};
 ghost use Rattle.script_run.specs.Runs.{RanFront, BrokeFront, RanEnd, BrokeEnd, HasRead};
 
 use crate::answers::{Script, run_kept};
+use crate::collecting::Countdown;
 use crate::lines::run_piece;
+use crate::open_jobs::halt_open;
 use crate::{Fault, NoLog, RefusalLog};
 use job_core::JobCore;
 use listing::{Counted, ListingFault, ReadFault, write_listing_after};
@@ -47,18 +49,21 @@ fn read_piece<'a, R: Read>(
 }
 
 // A script that holds its buffer, before its first line.
-fn new_script(alloc: Global) -> Result<Script, AllocError>
+fn new_script(alloc: Global, collect_every: u64) -> Result<Script, AllocError>
     ensures core { IfOk result (λ script. script.core ≡ nothing_done) }
+    ensures jobs { IfOk result (λ script. script.jobs.items ≡ []) }
     ensures out { IfOk result (λ script. script.out.items ≡ []) }
     ensures refused { IfOk result (λ script. script.refused ≡ false) }
 {
     let out = Vec::with_capacity(alloc, OUT_BYTES)?;
     Ok(Script {
         core: JobCore::new(alloc),
+        jobs: Vec::new(alloc),
         drafts: Drafts::new(alloc),
         out,
         refused: false,
         lines: 0,
+        countdown: Countdown::new(collect_every),
     })
 }
 
@@ -109,7 +114,7 @@ fn write_ending<W: Write>(
     Ok(())
 }
 
-// The last line, which has no end, and the ending.
+// The last line, which has no end, then the open jobs' HALT, and the ending.
 fn finish<W: Write>(
     alloc: Global,
     listed: bool,
@@ -125,6 +130,7 @@ fn finish<W: Write>(
     ensures memory { IsErrOf result ListingFault.Memory → writer.new.failures ≡ writer.old.failures }
 {
     run_kept(alloc, script, begun, writer, log)?;
+    halt_open(&mut script.core, &script.jobs)?;
     write_ending(alloc, listed, script, writer)?;
     Ok(())
 }
@@ -139,6 +145,7 @@ fn run_pieces<R: Read, W: Write>(
     log: &mut impl RefusalLog,
 ) -> Result<(), Fault>
     requires core { script.old.core ≡ nothing_done }
+    requires jobs { script.old.jobs.items ≡ [] }
     requires out { script.old.out.items ≡ [] }
     requires refused { script.old.refused ≡ false }
     ensures output { OnOk result (IfSome (R.remaining reader.old.inner)
@@ -168,9 +175,12 @@ fn run_pieces<R: Read, W: Write>(
 
 /// Runs a script as `run_script` does. Without `listed` neither `--` nor the listing is written, and `log` is told of
 /// each refused line.
+///
+/// The clauses name no `collect_every`: what is written is promised alike for each.
 pub fn run_with<R: Read, W: Write>(
     alloc: Global,
     listed: bool,
+    collect_every: u64,
     reader: &mut Counted<R>,
     writer: &mut Counted<W>,
     log: &mut impl RefusalLog,
@@ -187,7 +197,7 @@ pub fn run_with<R: Read, W: Write>(
     ensures kept { OnOk result ((reader.new.failures ≡ reader.old.failures) × (writer.new.failures ≡ writer.old.failures)) }
     ensures memory { IsErrOf result Fault.Memory → (reader.new.failures ≡ reader.old.failures) × (writer.new.failures ≡ writer.old.failures) }
 {
-    let mut script = new_script(alloc)?;
+    let mut script = new_script(alloc, collect_every)?;
     match run_pieces(alloc, listed, &mut script, reader, writer, log) {
         Ok(()) => {
             let refused = script.refused;
@@ -201,16 +211,21 @@ pub fn run_with<R: Read, W: Write>(
     }
 }
 
-/// Runs a script: reads lines to the end of input, does each in its turn, and writes a reply to each and then
-/// the listing. Replies are written before the next read, and earlier where 16,384 bytes of them are gathered.
+/// Runs a script: reads lines to the end of input, does each in its turn, and writes a reply to each, then halts
+/// the open jobs in order of first appearance, and writes the listing. A job is open from its first line until a HALT
+/// that is done; a HALT at the end that a full journal refuses (`StampsUsedUp`) is passed over. Replies are written before the next read, and earlier where 16,384 bytes of them are gathered.
+///
+/// After each so many replies as `collect_every` says the collector passes over all keys; 0 is never. No reply and no
+/// listing depends on it, but for what fits into memory, and a pass that finds no memory is passed over.
 ///
 /// On `Ok` the text is whole and all input was read. After a fault the text is a beginning of a whole one, without a
 /// listing unless the fault came while that was written; after `Read` it is the replies of the lines that had ended.
 /// `Read` and `Write` are answered only where a call of the reader or the writer failed, `Memory` where none did, but
 /// memory was refused and no reply could say so: for the buffer, before the first line, for a line longer than a
-/// piece, or for a reply or a listing's line.
+/// piece, for the list of open jobs, for a reply or a listing's line, or for an open job's HALT at the end of input.
 pub fn run_script<R: Read, W: Write>(
     alloc: Global,
+    collect_every: u64,
     reader: &mut Counted<R>,
     writer: &mut Counted<W>,
 ) -> Result<Outcome, Fault>
@@ -226,5 +241,5 @@ pub fn run_script<R: Read, W: Write>(
     ensures kept { OnOk result ((reader.new.failures ≡ reader.old.failures) × (writer.new.failures ≡ writer.old.failures)) }
     ensures memory { IsErrOf result Fault.Memory → (reader.new.failures ≡ reader.old.failures) × (writer.new.failures ≡ writer.old.failures) }
 {
-    run_with(alloc, true, reader, writer, &mut NoLog)
+    run_with(alloc, true, collect_every, reader, writer, &mut NoLog)
 }

@@ -6,7 +6,7 @@ use Rattle.script_run.proofs.Runs.{RanFront-none, more_lines, broke_lines, no_mo
 use Rattle.script_run.proofs.lines.run_lines.Goals as goal
 
 pub lines-init : goal.lines-init
-lines-init g c = record { in_range = omega arith; ran = RanFront-none _ _ _ _ refl refl refl; kept = refl }
+lines-init g c = record { in_range = omega arith; ran = RanFront-none _ _ _ _ refl refl refl refl; kept = refl }
 
 pub lines-preserved : goal.lines-preserved
 lines-preserved g c =

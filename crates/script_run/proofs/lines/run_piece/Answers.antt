@@ -8,7 +8,7 @@ pub returns-in_err-extend_line-clause-err : goal.returns-in_err-extend_line-clau
 returns-in_err-extend_line-clause-err g c = on_err _ _ (BrokeFront-before _ _ _)
 
 pub returns-in_default-clause-ran : goal.returns-in_default-clause-ran
-returns-in_default-clause-ran g c = RanFront-is _ _ _ _ _ _ _ c.in_ok-extend_line.ensures (RanFront-none _ _ _ _ refl refl refl)
+returns-in_default-clause-ran g c = RanFront-is _ _ _ _ _ _ _ c.in_ok-extend_line.ensures (RanFront-none _ _ _ _ refl refl refl refl)
 
 pub returns-in_default-clause-begun : goal.returns-in_default-clause-begun
 returns-in_default-clause-begun g c = no_end_piece _ _ _ c.requires c.in_default.ensures c.in_ok-extend_line.ensures

@@ -5,7 +5,7 @@ use Rattle.listing.specs.BytesLaws.{on_err}
 use Rattle.script_run.proofs.run.run_pieces.Goals as goal
 
 pub pieces-init : goal.pieces-init
-pieces-init g c = record { stands = stands_first _ _ _ _ c.requires.core c.requires.out c.requires.refused c.new-begun.ensures.items; reads = refl; writes = refl }
+pieces-init g c = record { stands = stands_first _ _ _ _ c.requires.core c.requires.jobs c.requires.out c.requires.refused c.new-begun.ensures.items; reads = refl; writes = refl }
 
 pub returns-in_err-piece-clause-begun : goal.returns-in_err-piece-clause-begun
 returns-in_err-piece-clause-begun g c = on_err _ _ (begun_at _ _ _ _ _ _ _ c.pieces.invariant.stands)
