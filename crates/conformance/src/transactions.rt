@@ -141,3 +141,25 @@ fn levels_go_to_127(rt: HostRuntime) -> Result<(), Fail> {
     assert!(rt; text.ends_with(end.as_slice()));
     Ok(())
 }
+
+// A transaction that asks once more than it may, then sets, and commits.
+fn long_script(alloc: Global) -> Result<Vec<u8>, Fail> {
+    let mut script = Vec::new(alloc);
+    script.extend_from_slice(b"1 TSTART\n")?;
+    for _ in 0..65536 {
+        script.extend_from_slice(b"1 $GET(^X)\n")?;
+    }
+    script.extend_from_slice(b"1 SET ^X=1\n1 TCOMMIT\n1 $GET(^X)\n")?;
+    Ok(script)
+}
+
+// What is refused for the length isn't done, and the rest commits.
+#[test]
+fn transactions_hold_65535_data_commands(rt: HostRuntime) -> Result<(), Fail> {
+    let script = long_script(rt.alloc())?;
+    let (text, _) = output_of(rt.alloc(), &script)?;
+    let end =
+        b"1 \"\"\n1 error 13 TransactionTooLong\n1 error 13 TransactionTooLong\n1 committed\n1 \"\"\n--\n";
+    assert!(rt; text.ends_with(end.as_slice()));
+    Ok(())
+}

@@ -29,7 +29,7 @@ pub const PLAIN: [&str; 10] = [
 ];
 
 /// Two transactions with locks, of which one is overtaken and goes back. In the end job 1 halts.
-pub const TRANSACTIONS: [&str; 18] = [
+pub const TRANSACTIONS: [&str; 19] = [
     "1 LOCK (^A(1,2),Desk)",
     "1 TSTART",
     "2 TSTART",
@@ -45,6 +45,7 @@ pub const TRANSACTIONS: [&str; 18] = [
     "2 SET ^C=1",
     "2 TCOMMIT",
     "2 SET ^C=2",
+    "2 LOCK",
     "2 TROLLBACK",
     "1 LOCK -(^A(1),Desk)",
     "1 HALT",
