@@ -1,3 +1,4 @@
 pub mod Cut
+pub mod Exact
 pub mod Runs
 pub mod Stands

@@ -10,6 +10,7 @@ use Rattle.journal.specs.History.{initial, after, IsLegal}
 use Rattle.serial.specs.Machine.{run_of}
 use Rattle.listing.specs.Bytes.{WritesBeginning, Passes}
 use Rattle.script_run.specs.Lines.{kept, lines_of, has_no_end}
+use Rattle.script_run.proofs.Exact.{exact_output}
 use Rattle.script_run.specs.Output.{Answer, AreAnswers, left_by, left_open, halts_of, left_at_end, text_of, some_refused, ending, IsOutput, Wrote, IsBegun, HasAnswered}
 use Rattle.script_run.specs.Runs.{RanFront, BrokeFront, RanEnd, BrokeEnd, HasRead}
 use Rattle.script_run.specs.declared.answers.Script.{Script}
@@ -186,9 +187,11 @@ pub wrote_all : (listed : Bool) (all left left' old new last : Option (List ℕ)
 wrote_all listed None left left' old new last begun piece a b h r none e = tt
 wrote_all listed (Some bytes) left left' old new last begun piece a b h r none e =
     let end : List ℕ = (a.out.items ++ text_of e.answers) ++ ending listed (after (left_at_end e.answers a.jobs.items a.core).units initial).map in
+    let output : IsOutput listed bytes (text_of h.answers ++ end) b.refused = subst (IsOutput listed bytes (text_of h.answers ++ end)) (sym e.refused) (whole_output listed bytes left left' old new begun piece a e.answers h r none e.of_lines e.each e.legal) in
     record {
       text = text_of h.answers ++ end;
-      output = subst (IsOutput listed bytes (text_of h.answers ++ end)) (sym e.refused) (whole_output listed bytes left left' old new begun piece a e.answers h r none e.of_lines e.each e.legal);
+      output = output;
+      exact = exact_output listed bytes (text_of h.answers ++ end) b.refused output;
       written = Appends-more old new last (text_of h.answers) end h.written e.written;
     }
 

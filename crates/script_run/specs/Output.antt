@@ -1,5 +1,5 @@
 -- What a script writes.
--- Read IsOutput, Wrote, IsBegun and HasAnswered; the contract of run_script cites these.
+-- Read IsOutput, output_of, Wrote, IsBegun and HasAnswered; the contract of run_script cites these.
 use Rattle.std.specs.Prelude.{◌≡◌, ◌⊎◌, ⊤, ℕ, Bool, true, false, not, ◌&&◌, List, [], ◌∷◌, ◌++◌, map, Option, Result, Ok, Err, codes}
 use Rattle.std.specs.List.{flat_map, list_any}
 use Rattle.std.specs.Io.KnownBytes.{Appends}
@@ -12,7 +12,8 @@ use Rattle.command.specs.declared.request.Reply.{Reply}
 use Rattle.command.specs.declared.request.Reply.TheVariants.{Answered, Finished, Had, Count, AtLevel, Committed, Restarted, Refused}
 use Rattle.journal.specs.History.{initial, after, IsLegal}
 use Rattle.journal.specs.Story.{Machine, nothing_done, told}
-use Rattle.serial.specs.Machine.{IsReply, run_of}
+use Rattle.serial.specs.Machine.{IsReply, reply_of, run_of}
+use Rattle.serial.specs.Memory.{is_out_of_memory}
 use Rattle.script.specs.Line.{reading_of, job_of}
 use Rattle.script.specs.Text.{reply_text}
 use Rattle.listing.specs.Listing.{listing_text}
@@ -114,10 +115,37 @@ pub record IsOutput (listed : Bool) (bytes text : List ℕ) (refused : Bool) : T
   pub written : text ≡ text_of answers ++ ending listed (after (left_at_end answers [] nothing_done).units initial).map
   pub told : refused ≡ some_refused answers
 
--- such a text was written
+-- ---- where memory is never wanting
+
+-- the reply to a line
+abbrev pub exact_reply : Result (ℕ × Command) Refusal → Machine → Reply
+exact_reply (Ok step) s = reply_of step.0 step.1 s
+exact_reply (Err refusal) s = Refused refusal
+
+-- each line with its reply, in its turn
+abbrev pub exact_answers : List (List ℕ) → Machine → List Answer
+exact_answers [] s = []
+exact_answers (line ∷ lines) s = (line, exact_reply (asked_by line) s) ∷ exact_answers lines (told_by (asked_by line) (exact_reply (asked_by line) s) s)
+
+-- these answers, and what follows them
+abbrev pub text_with_ending : Bool → List Answer → List ℕ
+text_with_ending listed answers = text_of answers ++ ending listed (after (left_at_end answers [] nothing_done).units initial).map
+
+-- the text of a script's output: a function of the bytes read
+abbrev pub output_of : Bool → List ℕ → List ℕ
+output_of listed bytes = text_with_ending listed (exact_answers (lines_of bytes) nothing_done)
+
+-- a reply tells that memory was wanting
+abbrev pub some_wanting : List Answer → Bool
+some_wanting answers = list_any (λ a. is_out_of_memory a.1) answers
+
+-- ---- what was written
+
+-- such a text was written; where no reply tells of a want of memory, just that of the bytes read
 pub record Wrote (listed : Bool) (bytes : List ℕ) (refused : Bool) (old new : Option (List ℕ)) : Type 0 where
   pub text : List ℕ
   pub output : IsOutput listed bytes text refused
+  pub exact : some_wanting output.answers ≡ false → text ≡ output_of listed bytes
   pub written : Appends old new text
 
 -- a beginning of such a text was written

@@ -218,7 +218,8 @@ pub fn run_with<R: Read, W: Write>(
 /// After each so many replies as `collect_every` says the collector passes over all keys; 0 is never. No reply and no
 /// listing depends on it, but for what fits into memory, and a pass that finds no memory is passed over.
 ///
-/// On `Ok` the text is whole and all input was read. After a fault the text is a beginning of a whole one, without a
+/// On `Ok` the text is whole and all input was read; where no reply in it is `OutOfMemory`, it is a function of the
+/// bytes read (`output_of`). After a fault the text is a beginning of a whole one, without a
 /// listing unless the fault came while that was written; after `Read` it is the replies of the lines that had ended.
 /// `Read` and `Write` are answered only where a call of the reader or the writer failed, `Memory` where none did, but
 /// memory was refused and no reply could say so: for the buffer, before the first line, for a line longer than a

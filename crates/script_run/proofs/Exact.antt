@@ -1,0 +1,37 @@
+-- Where no reply tells of a want of memory, the text is a function of the bytes read.
+use Rattle.std.proofs.Common.{◌≡◌, ℕ, Bool, true, false, ◌||◌, List, [], ◌∷◌, map, refl, sym, ap, ◌∙◌, inl, inr, ◌⊎◌}
+use Rattle.std.specs.Prelude.{Result, Ok, Err}
+use Rattle.refusal.specs.declared.Refusal.{Refusal}
+use Rattle.refusal.specs.declared.Refusal.TheVariants.{OutOfMemory}
+use Rattle.command.specs.declared.request.Command.{Command}
+use Rattle.command.specs.declared.request.Reply.{Reply}
+use Rattle.command.specs.declared.request.Reply.TheVariants.{Refused}
+use Rattle.journal.specs.Story.{Machine, nothing_done}
+use Rattle.serial.specs.Memory.{is_out_of_memory}
+use Rattle.script_run.specs.Lines.{lines_of}
+use Rattle.script_run.specs.Output.{Answer, asked_by, told_by, IsAnswer, AreAnswers, IsOutput, exact_reply, exact_answers, text_with_ending, output_of, some_wanting}
+
+-- a reply that tells of no want of memory is the machine's
+exact_one : (asked : Result (ℕ × Command) Refusal) (reply : Reply) (s : Machine) → IsAnswer s asked reply → is_out_of_memory reply ≡ false → reply ≡ exact_reply asked s
+exact_one (Ok step) reply s (inl e) had = e
+exact_one (Ok step) reply s (inr e) had = let wanting : is_out_of_memory reply ≡ true = ap is_out_of_memory e in absurd cc
+exact_one (Err refusal) reply s (inl e) had = e
+exact_one (Err refusal) reply s (inr e) had = let wanting : is_out_of_memory reply ≡ true = ap is_out_of_memory e in absurd cc
+
+-- none of these tells of it
+none_wanting : (a b : Bool) → (a || b) ≡ false → (a ≡ false) × (b ≡ false)
+none_wanting true b h = absurd cc
+none_wanting false b h = (refl, h)
+
+exact_all : (answers : List Answer) (s : Machine) → AreAnswers s answers → some_wanting answers ≡ false → answers ≡ exact_answers (map (λ a. a.0) answers) s
+exact_all [] s each had = refl
+exact_all (a ∷ answers) s each had =
+    let p = none_wanting (is_out_of_memory a.1) (some_wanting answers) had in
+    let one : a.1 ≡ exact_reply (asked_by a.0) s = exact_one (asked_by a.0) a.1 s each.0 p.0 in
+    ap (λ (more : List Answer). a ∷ more) (exact_all answers (told_by (asked_by a.0) a.1 s) each.1 p.1)
+    ∙ ap (λ (r : Reply). (a.0, r) ∷ exact_answers (map (λ a. a.0) answers) (told_by (asked_by a.0) r s)) one
+
+-- an output without such a reply
+pub exact_output : (listed : Bool) (bytes text : List ℕ) (refused : Bool) (o : IsOutput listed bytes text refused) → some_wanting o.answers ≡ false → text ≡ output_of listed bytes
+exact_output listed bytes text refused o had =
+    o.written ∙ ap (text_with_ending listed) (exact_all o.answers nothing_done o.each had ∙ ap (λ (lines : List (List ℕ)). exact_answers lines nothing_done) o.of_lines)
