@@ -1,5 +1,5 @@
 -- A data command of a job, from what store, journal and sessions have done.
-use Rattle.std.proofs.Common.{◌≡◌, ◌≤◌, ◌+◌, ℕ, [], ◌∷◌, ◌++◌, length, Bool, true, false, refl, sym, ap, subst, ◌∙◌, arith, length-append, inl, inr, cond}
+use Rattle.std.proofs.Common.{◌≡◌, ◌≤◌, ◌<◌, ◌+◌, ℕ, [], ◌∷◌, ◌++◌, length, Bool, true, false, refl, sym, ap, subst, ◌∙◌, arith, length-append, inl, inr, cond}
 use Rattle.std.specs.Prelude.{nat_lt, Option, Some, None, IsSome, IfSome, Ok, Err, IsErrOf}
 use Rattle.std.proofs.lemmas.Bool.Decides.{nat_tests}
 use Rattle.std.specs.Ordering.{nat_cmp, eq_by_cmp}
@@ -8,11 +8,15 @@ use Rattle.std.specs.FinMap as finmap
 use Rattle.std.specs.FinMap.{nat_cmp-IsAntisymmetric}
 use Rattle.collation.specs.OrderLaws.{is_equal}
 use Rattle.refusal.specs.declared.Refusal.{Refusal}
-use Rattle.refusal.specs.declared.Refusal.TheVariants.{TransactionTooLong}
+use Rattle.refusal.specs.declared.Refusal.TheVariants.{TransactionTooLong, MergeOverlap, TooManySubscripts}
 use Rattle.command.specs.declared.access.DataCommand.{DataCommand}
+use Rattle.command.specs.declared.access.DataCommand.TheVariants.{Set, Kill, Merge, Look}
 use Rattle.command.specs.declared.access.Answer.{Answer}
 use Rattle.command.specs.declared.request.Command.TheVariants.{Access}
 use Rattle.command.specs.declared.request.Reply.TheVariants.{Answered, Refused}
+use Rattle.collation.specs.Database.{Database}
+use Rattle.collation.specs.Levels.{overlap}
+use Rattle.collation.specs.Answers.{is_too_deep}
 use Rattle.command.specs.Data.{data_refusal, data_reply}
 use Rattle.journal.specs.declared.unit.Unit.TheVariants.{Lone}
 use Rattle.journal.specs.Kept.{Kept}
@@ -32,6 +36,17 @@ use Rattle.job_core.proofs.Machines.{machine_put}
 use Rattle.job_core.proofs.Joined.{joined_put, joined_unit, joined_store}
 use Rattle.job_core.proofs.Replies.{step_done, step_kept, exact_rule, exact_full}
 use Rattle.job_core.proofs.Cases.{shows}
+
+-- a command that is accepted isn't refused early
+accepted_late : (command : DataCommand) (m : Database) → data_refusal command m ≡ None → early_refusal command ≡ None
+accepted_late (Set r v) m e = refl
+accepted_late (Kill r) m e = refl
+accepted_late (Merge a b) m e = by_overlap (overlap a b) e
+  where
+    by_overlap : (o : Bool) → cond o (Some MergeOverlap) (cond (is_too_deep a b m) (Some TooManySubscripts) None) ≡ None → cond o (Some MergeOverlap) None ≡ None
+    by_overlap true never = absurd (cc)
+    by_overlap false never = refl
+accepted_late (Look look) m e = e
 
 module _ (job : ℕ) (command : DataCommand) (old : Engine) (whole : IsWhole old) where
   -- ---- outside a transaction
@@ -92,8 +107,8 @@ module _ (job : ℕ) (command : DataCommand) (old : Engine) (whole : IsWhole old
       ap (λ o. reply_to_data command o old.journal.units) (shows old job (Some s) is) ∙ ap (λ b. cond b (reply_on command (seen_by (shown s) old.journal.units)) (Refused TransactionTooLong)) test
       ∙ ap (λ m. cond short (reply_on command (seen s.work m)) (Refused TransactionTooLong)) (sym (began_with s is))
 
-  early_inside : (s : Session) (short : Bool) → finmap.get old.sessions job ≡ Some s → nat_lt (length s.work.exchanges) 65535 ≡ short → early_of (Access command) (transaction_of job (machine_shown old)) ≡ cond short None (Some TransactionTooLong)
-  early_inside s short is test = ap (early_of (Access command)) (shows old job (Some s) is) ∙ ap (λ b. cond b None (Some TransactionTooLong)) test
+  early_inside : (s : Session) (short : Bool) → finmap.get old.sessions job ≡ Some s → nat_lt (length s.work.exchanges) 65535 ≡ short → early_of (Access command) (transaction_of job (machine_shown old)) ≡ cond short (early_refusal command) (Some TransactionTooLong)
+  early_inside s short is test = ap (early_of (Access command)) (shows old job (Some s) is) ∙ ap (λ b. cond b (early_refusal command) (Some TransactionTooLong)) test
 
   open_next : (s w : Session) (answer : Answer) → finmap.get old.sessions job ≡ Some s → IsAnswered command answer (content_at old.store.versions s.work.start) s w → IsOpen old.store old.journal.units job w
   open_next s w answer is done =
@@ -119,7 +134,7 @@ module _ (job : ℕ) (command : DataCommand) (old : Engine) (whole : IsWhole old
       (ap (machine_of units) put.put ∙ machine_put units old.sessions job w
       ∙ (λ i. put_transaction job (record { level = done.level i; restarts = done.restarts i; start = done.start i; exchanges = done.exchanges i; took_lock = done.took_lock i }) (machine_shown old))
       ∙ ap (λ o. told_answer job command answer o (machine_shown old)) (sym (shows old job (Some s) is)))
-      (early_inside s true is short)
+      (early_inside s true is short ∙ accepted_late command (seen s.work (content_at old.store.versions s.work.start)) done.accepted)
 
   -- a session put where it stands
   put_itself : (s : Session) → finmap.get old.sessions job ≡ Some s → finmap.insert old.sessions job s ≡ old.sessions
@@ -138,11 +153,12 @@ module _ (job : ℕ) (command : DataCommand) (old : Engine) (whole : IsWhole old
       exact_rule (machine_shown old) job (Access command) refusal (inside_reply s true is test ∙ ap (λ o. refused_or o (Answered (data_reply command (seen s.work (content_at old.store.versions s.work.start))))) rule) (let agreed = whole.agreed in agreed.counted)
   exact_inside s refusal is (inr (few, inr memory)) = inr (ap Refused memory)
 
-  early_refused : (s : Session) (refusal : Refusal) → finmap.get old.sessions job ≡ Some s → (65535 ≤ length s.work.exchanges → refusal ≡ TransactionTooLong) → (r : Refusal) → early_of (Access command) (transaction_of job (machine_shown old)) ≡ Some r → Refused refusal ≡ Refused r
-  early_refused s refusal is long r early = by_length (nat_lt (length s.work.exchanges) 65535) refl
+  early_refused : (s : Session) (refusal : Refusal) → finmap.get old.sessions job ≡ Some s → (65535 ≤ length s.work.exchanges → refusal ≡ TransactionTooLong)
+      → ((rule : Refusal) → length s.work.exchanges < 65535 → early_refusal command ≡ Some rule → refusal ≡ rule) → (r : Refusal) → early_of (Access command) (transaction_of job (machine_shown old)) ≡ Some r → Refused refusal ≡ Refused r
+  early_refused s refusal is long rule r early = by_length (nat_lt (length s.work.exchanges) 65535) refl
     where
       by_length : (b : Bool) → nat_lt (length s.work.exchanges) 65535 ≡ b → Refused refusal ≡ Refused r
-      by_length true test = let never = sym (early_inside s true is test) ∙ early in absurd (cc)
+      by_length true test = let few : length s.work.exchanges < 65535 = grind (arith, nat_tests) in ap Refused (rule r few (sym (early_inside s true is test) ∙ early))
       by_length false test =
           let many : 65535 ≤ length s.work.exchanges = grind (arith, nat_tests) in
           let told = sym (early_inside s false is test) ∙ early in
@@ -155,4 +171,4 @@ module _ (job : ℕ) (command : DataCommand) (old : Engine) (whole : IsWhole old
       let done = put.answered in
       let same : ss ≡ old.sessions = put.put ∙ ap (finmap.insert old.sessions job) done.same ∙ put_itself s is in
       step_kept job (Access command) old (record old { sessions = ss }) (subst (IsJoined old.store old.journal.units old.locks) (sym same) whole)
-      refusal (ap (machine_of old.journal.units) same) (exact_inside s refusal is done.cause) (early_refused s refusal is done.long) refl
+      refusal (ap (machine_of old.journal.units) same) (exact_inside s refusal is done.cause) (early_refused s refusal is done.long done.early) refl

@@ -52,7 +52,7 @@ IsHorizon (Some stamp) now ss = (stamp ≤ now) × AreFrom stamp ss
 -- the refusal that is looked at before anything takes memory
 abbrev pub early_of : Command → Option Transaction → Option Refusal
 early_of (Access command) None = early_refusal command
-early_of (Access command) (Some t) = if nat_lt (length t.exchanges) 65535 then None else Some TransactionTooLong
+early_of (Access command) (Some t) = if nat_lt (length t.exchanges) 65535 then early_refusal command else Some TransactionTooLong
 early_of (Lock command) t = None
 early_of Start None = None
 early_of Start (Some t) = if nat_lt t.level 127 then None else Some LevelTooDeep

@@ -13,6 +13,7 @@ use Rattle.command.specs.Data.{data_refusal, data_reply}
 use Rattle.journal.specs.declared.unit.Unit.{Unit as JournalUnit}
 use Rattle.journal.specs.Story.{Transaction, Machine}
 use Rattle.version_store.specs.Versions.{Stored, content_at}
+use Rattle.globals.specs.Answering.{early_refusal}
 use Rattle.validate_commit.specs.Working.{IsWorkOn, IsCauseInside, just_begun, seen}
 use Rattle.job_core.specs.declared.sessions.Session.{Session}
 
@@ -86,6 +87,7 @@ pub record IsRefused (command : DataCommand) (refusal : Refusal) (m : Database) 
   pub same : new ≡ old
   pub cause : IsCauseInside refusal command old.work m
   pub long : 65535 ≤ length old.work.exchanges → refusal ≡ TransactionTooLong
+  pub early : (rule : Refusal) → length old.work.exchanges < 65535 → early_refusal command ≡ Some rule → refusal ≡ rule
 
 abbrev pub HasAnswered : DataCommand → Result Answer Refusal → Stored → Session → Session → Type 0
 HasAnswered command (Ok answer) store old new = IsAnswered command answer (content_at store.versions old.work.start) old new

@@ -8,7 +8,7 @@ ghost use Rattle.journal.specs.declared.unit.Unit.TheVariants.{Whole};
 ghost use Rattle.collation.specs.Reference.{Reference};
 ghost use Rattle.command.specs.declared.access.Look.{Look as LookView};
 ghost use Rattle.command.specs.declared.access.DataCommand.TheVariants.{Look as look_command};
-ghost use Rattle.globals.specs.Answering.{copies_of, IsRuleOrMemory};
+ghost use Rattle.globals.specs.Answering.{copies_of, early_refusal, IsRuleOrMemory};
 ghost use Rattle.globals.specs.Fitting.{IsAnswerOf};
 ghost use Rattle.workspace.specs.Layers.{laid_over, decides};
 ghost use Rattle.read_ranges.specs.Ranges.{IsBehind, IsDecided};
@@ -173,7 +173,8 @@ impl Work {
     /// own commands. The command is kept with its answer.
     ///
     /// Refusals, after which nothing has changed: `TransactionTooLong` where the transaction holds 65,535 data commands,
-    /// before all others; the command's own rule on what it sees; `OutOfMemory`.
+    /// before all others; the command's own rule on what it sees; `OutOfMemory`, which never hides a rule that is looked at
+    /// before memory is asked for (`early_refusal`).
     pub fn access<V: OrderedView>(
         &mut self,
         view: &V,
@@ -188,6 +189,7 @@ impl Work {
         ensures start { self.new.start ≡ self.old.start }
         ensures refused { OnErr result (self.new ≡ self.old) }
         ensures long { 65535 ≤ length self.old.exchanges → IsErrOf result Refusal.TransactionTooLong }
+        ensures early { (refusal : Refusal) → length self.old.exchanges < 65535 → early_refusal command ≡ Some refusal → IsErrOf result refusal }
         ensures cause { IfErr result (λ refusal. IsCauseInside refusal command self.old (V.content view.now)) }
     {
         if self.exchanges.len() >= MOST_COMMANDS {
@@ -220,6 +222,7 @@ impl Work {
         ensures fits { IfOk result (λ r. IsAnswerOf command.now r.0) }
         ensures copies { IfOk result (λ r. r.1.items ≡ copies_of command.now (laid_over self.now.layer (V.content view.now))) }
         ensures accepted { OnOk result (data_refusal command.now (seen self.now (V.content view.now)) ≡ None) }
+        ensures early { (refusal : Refusal) → early_refusal command.now ≡ Some refusal → IsErrOf result refusal }
         ensures cause { IfErr result (λ refusal. IsRuleOrMemory refusal (data_refusal command.now (seen self.now (V.content view.now)))) }
     {
         globals::answer(self.alloc, &Overlay::new(&self.workspace, view), command)
