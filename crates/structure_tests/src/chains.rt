@@ -90,17 +90,44 @@ fn push(
     Ok(true)
 }
 
+fn drop_oldest(seat: &mut Seat, count: usize) {
+    for _ in 0..count {
+        if seat.versions.len() > 0 {
+            seat.versions.remove(0);
+        }
+    }
+}
+
+fn push_and_cut(
+    chains: &mut Chains<u64>,
+    seat: &mut Seat,
+    stamp: u64,
+    value: Option<u64>,
+    horizon: u64,
+) -> Result<bool, AllocError> {
+    chains.reserve(1)?;
+    seat.versions.reserve(1)?;
+    if !chains.is_open(seat.id) || chains.spare() == 0 {
+        return Ok(false);
+    }
+    if let Some(newest) = chains.newest(seat.id) {
+        if newest >= stamp {
+            return Ok(false);
+        }
+    }
+    chains.push_and_cut(seat.id, stamp, value, horizon);
+    seat.versions.push((stamp, value))?;
+    drop_oldest(seat, plain_dropped(&seat.versions, horizon));
+    Ok(true)
+}
+
 fn cut(chains: &mut Chains<u64>, seat: &mut Seat, horizon: u64) -> bool {
     if !chains.is_open(seat.id) {
         return false;
     }
     let dropped = plain_dropped(&seat.versions, horizon);
     let is_same = chains.cut(seat.id, horizon) == dropped;
-    for _ in 0..dropped {
-        if seat.versions.len() > 0 {
-            seat.versions.remove(0);
-        }
-    }
+    drop_oldest(seat, dropped);
     is_same
 }
 
@@ -142,7 +169,12 @@ fn act(
                 return Ok(reads_alike(chains, seat, stamp.saturating_sub(past)));
             }
             let value = if draw % 3 == 0 { None } else { Some(draw) };
-            push(chains, seat, stamp, value)
+            if kind < 48 {
+                return push(chains, seat, stamp, value);
+            }
+            // The same horizon for a while, so that older versions are known to stay.
+            let horizon = (stamp - stamp % 64).saturating_sub(past % 2);
+            push_and_cut(chains, seat, stamp, value, horizon)
         }
         None => Ok(true),
     }

@@ -2,9 +2,10 @@
 ghost use Rattle.std.specs.Prelude.{◌≡◌, ℕ, ◌+◌, ◌<◌, ◌≤◌, [], ◌∷◌, Some, None, IsTrue, ◌↔◌, length, option_copied, slice_set, IfOk, OnErr};
 ghost use Rattle.version_chain.specs.Slots.{slot_at, value_of};
 ghost use Rattle.version_chain.specs.Links.{line_versions};
+ghost use Rattle.version_chain.specs.Tidy.{since_at as since_at_spec};
 
 use crate::chain::{Line, at, end, newest, push};
-use crate::cut::cut;
+use crate::cut::{cut, push_and_cut};
 use crate::slots::Slots;
 use crate::version::Version;
 use cell_pool::Pool;
@@ -31,16 +32,23 @@ impl Model for ChainId {
 pub struct Chains<V: Drop> {
     pool: Pool<Version<V>>,
     lines: Slots<Version<V>>,
+    // What is known of the chains, so that a write need not look at older versions that it can't drop: where the newest
+    // version of a chain is after `since`, a cut at the horizon drops none of it. No version is after `latest`.
+    horizon: u64,
+    since: u64,
+    latest: u64,
 }
 
 impl<V: Drop> Model for Chains<V> {
+    ghost use Rattle.std.specs.Prelude.{◌≤◌};
     ghost use Rattle.version_chain.specs.Chains.{ChainsState, IsChains, seen};
+    ghost use Rattle.version_chain.specs.Tidy.{AreTidy};
 
     ghost Value = { ChainsState V };
 
     ghost view = { λ a. record { chains = seen a.lines; spare = a.pool.spare } };
 
-    ghost invariant = { λ a. IsChains a.pool.pages a.pool.out a.lines };
+    ghost invariant = { λ a. IsChains a.pool.pages a.pool.out a.lines × AreTidy a.horizon a.since a.latest (record { chains = seen a.lines; spare = a.pool.spare }) × (a.horizon ≤ a.since) };
 }
 
 // Puts a line back where it was taken out.
@@ -51,6 +59,19 @@ fn put<V>(lines: &mut Slots<Version<V>>, number: usize, line: Line<V>)
     match lines.replace(number, line) {
         None => {}
         Some(_version) => unreachable!(),
+    }
+}
+
+// The stamp since which chains are known to be tidy, once writes cut at the horizon `now`: where it is another than before,
+// no chain is.
+fn since_at(now: u64, horizon: u64, since: u64, latest: u64) -> u64
+    ensures value { result ≡ since_at_spec now horizon since latest }
+    ensures low { horizon ≤ since → now ≤ result }
+{
+    if now == horizon {
+        since
+    } else {
+        latest.max(now)
     }
 }
 
@@ -66,6 +87,9 @@ impl<V: Drop> Chains<V> {
         Chains {
             pool: Pool::new(alloc),
             lines: Slots::new(alloc),
+            horizon: 0,
+            since: 0,
+            latest: 0,
         }
     }
 
@@ -152,6 +176,27 @@ impl<V: Drop> Chains<V> {
         let line = self.lines.replace(id.number, None);
         let line = push(&mut self.pool, line, stamp, value);
         put(&mut self.lines, id.number, line);
+        self.since = self.since.max(stamp);
+        self.latest = self.latest.max(stamp);
+    }
+
+    /// Adds the newest version of a chain, as `push_reserved` does, and drops what `cut` drops. Takes no memory. Older versions
+    /// that are known to stay aren't looked at: so many writes of one chain under one horizon cost what so many chains would.
+    pub fn push_and_cut(&mut self, id: ChainId, stamp: u64, value: Option<V>, horizon: u64)
+        requires open { IsOpen self.old id }
+        requires reserved { HasCell self.old id }
+        requires newest { IsAbove stamp (versions_at self.old id) }
+        ensures chains { Updates self.old self.new id (Some (left_after horizon ((stamp, value) ∷ versions_at self.old id))) }
+        ensures spare { self.new.spare + cells_at self.new id ≡ self.old.spare + cells_at self.old id }
+        ensures least { self.old.spare ≤ self.new.spare + 1 }
+    {
+        let since = since_at(horizon, self.horizon, self.since, self.latest);
+        let line = self.lines.replace(id.number, None);
+        let line = push_and_cut(&mut self.pool, line, since, stamp, value, horizon);
+        put(&mut self.lines, id.number, line);
+        self.horizon = horizon;
+        self.since = since;
+        self.latest = self.latest.max(stamp);
     }
 
     /// Drops each version that a newer one not after the horizon hides, and an absence not after the horizon where it is the
@@ -183,7 +228,13 @@ impl<V: Drop> Chains<V> {
 
 impl<V: Drop> Drop for Chains<V> {
     fn drop(self) {
-        let Chains { pool, lines } = self;
+        let Chains {
+            pool,
+            lines,
+            horizon: _,
+            since: _,
+            latest: _,
+        } = self;
         let mut pool = pool;
         let mut entries = lines.into_entries();
         while let Some(entry) = entries.pop() {

@@ -2,13 +2,14 @@
 //!
 //! The versions after the horizon are turned round onto a list of their own, what stands behind them is given back but for
 //! one value, and the versions are turned round onto that: no memory, no recursion, and each cell stays where it is.
-ghost use Rattle.std.specs.Prelude.{◌≡◌, ◌+◌, List, length};
+ghost use Rattle.std.specs.Prelude.{true, false, [], ◌∷◌, ◌≡◌, ◌≤◌, ◌<◌, ◌+◌, List, length, option_copied};
 ghost use denote.RawPtr.{Ptr};
 ghost use Rattle.version_chain.specs.Links.{versions, pages, line_versions, line_pages, AllOf, back_onto, AllAfter, FromAtMost};
-ghost use Rattle.version_chain.specs.Versions.{cells_of};
+ghost use Rattle.version_chain.specs.Versions.{cells_of, IsAbove};
 ghost use Rattle.version_chain.specs.Cut.{cut_of, newest_value};
+ghost use Rattle.version_chain.specs.Tidy.{IsNewerThan};
 
-use crate::chain::{Line, clear};
+use crate::chain::{Line, clear, newest, push};
 use crate::version::{Link, Version};
 use cell_pool::Pool;
 
@@ -113,4 +114,42 @@ pub(crate) fn cut<V: Drop>(
             (Some(Version::new(stamp, value, None)), count)
         }
     }
+}
+
+// Whether the newest version is after the stamp.
+fn is_newer<V>(line: Option<&Version<V>>, stamp: u64) -> bool
+    ensures { result ≡ true → IsNewerThan stamp (line_versions (option_copied line.entry)) }
+{
+    match newest(line) {
+        Some(newest) => newest > stamp,
+        None => false,
+    }
+}
+
+/// Puts a version in front, and drops what a cut drops. Where the newest one so far is after `since`, it is known that no
+/// older one has to go, and none is looked at.
+pub(crate) fn push_and_cut<V: Drop>(
+    pool: &mut Pool<Version<V>>,
+    line: Line<V>,
+    since: u64,
+    stamp: u64,
+    value: Option<V>,
+    horizon: u64,
+) -> Line<V>
+    requires reserved { ¬ (line_versions line ≡ []) → 0 < pool.old.spare }
+    requires theirs { AllOf pool.old.pages (line_pages line) }
+    requires above { IsAbove stamp (line_versions line) }
+    requires low { horizon ≤ since }
+    requires tidy { IsNewerThan since (line_versions line) → cut_of horizon (line_versions line) ≡ line_versions line }
+    ensures left { line_versions result ≡ cut_of horizon ((stamp, value) ∷ line_versions line) }
+    ensures theirs { AllOf pool.new.pages (line_pages result) }
+    ensures counts { (pool.new.pages ≡ pool.old.pages) × (pool.new.out + cells_of (line_versions line) ≡ pool.old.out + cells_of (line_versions result)) × (pool.new.spare + pool.new.out ≡ pool.old.spare + pool.old.out) }
+{
+    let tidy = is_newer(line.as_ref(), since);
+    let pushed = push(pool, line, stamp, value);
+    if tidy {
+        return pushed;
+    }
+    let (left, _count) = cut(pool, pushed, horizon);
+    left
 }

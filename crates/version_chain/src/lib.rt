@@ -11,7 +11,11 @@
 //! (2) each cell of a chain is of the pool's pages, and the chains have as many cells as are out: one for each version but
 //!     the newest;
 //! (3) a number that is not open has no cells;
-//! (4) the numbers that are not open are linked, and the next id is the first of these.
+//! (4) the numbers that are not open are linked, and the next id is the first of these;
+//! (5) a chain whose newest version is after `since` has none that a cut at the kept horizon drops (`specs/Tidy.antt`).
+//!
+//! `push_and_cut` is how a store writes: while a transaction is open the horizon stays, and by (5) no write looks at the
+//! versions that have come since. Where the horizon has moved, the next write of a chain looks at those after it.
 //!
 //! With versions 9 "x", 7 absent, 4 "y", 2 "x": `cut(id, 6)` leaves 9, 7, 4; `cut(id, 8)` leaves 9.
 //!

@@ -8,7 +8,8 @@ use Rattle.collation.specs.Order.{ref_cmp}
 use Rattle.btree.specs.Order.{without}
 use Rattle.version_chain.specs.Versions.{newest_of, IsAbove}
 use Rattle.version_chain.specs.Cut.{left_after}
-use Rattle.version_chain.specs.Chains.{versions_at, Updates}
+use Rattle.version_chain.specs.Chains.{versions_at, listed, Updates}
+use Rattle.version_chain.specs.laws.Chains.{between}
 use Rattle.version_store.specs.Versions.{versions_of, with_version, is_bare, tidied}
 use Rattle.version_store.specs.Tied.{versions_in, IsTied}
 use Rattle.version_store.proofs.TiedLemmas.{State, Pairs, row_in, pushed, tied_update, cut_row, tied_cut, bare_in, not_bare_in, tied_without, versions_without}
@@ -28,6 +29,13 @@ cut_chain c d e ps now id stamp horizon k x tied at pushing cutting low newest =
       tied = tied_cut d e ps now id horizon k pushed_to at cutting;
       versions = cut_row d e ps now id horizon k pushed_to at cutting ∙ ap (λ m. finmap.insert m k (left_after horizon (versions_of m k))) one;
     }
+
+-- both at once
+pub cut_at_once : (c e : State) (ps : Pairs) (now id stamp horizon : ℕ) (k : Reference) (x : Option (List ℕ)) → IsTied ps c now → Some id ≡ find ref_cmp k ps
+    → Updates c e id (Some (left_after horizon ((stamp, x) ∷ versions_at c id))) → stamp ≤ now → IsAbove stamp (versions_of (versions_in c ps) k) → CutChain c e ps now id stamp horizon k x
+cut_at_once c e ps now id stamp horizon k x tied at updates low newest =
+    let b = between c e id ((stamp, x) ∷ versions_at c id) (left_after horizon ((stamp, x) ∷ versions_at c id)) (tied.opened k id (sym at)) updates in
+    cut_chain c b.middle e ps now id stamp horizon k x tied at b.before (subst (λ vs. Updates b.middle e id (Some (left_after horizon vs))) (sym (ap listed b.before.changed)) b.behind) low newest
 
 module _ (c e : State) (ps : Pairs) (now id stamp horizon : ℕ) (k : Reference) (x : Option (List ℕ)) (is : CutChain c e ps now id stamp horizon k x) (at : Some id ≡ find ref_cmp k ps) where
   pub tied_bare : (f : State) → Updates e f id None → IsTied (without ref_cmp k ps) f now

@@ -85,8 +85,7 @@ impl Store {
         match self.tree.get(key).0 {
             Some(id) => {
                 let id = *id;
-                self.chains.push_reserved(id, stamp, value);
-                let _count = self.chains.cut(id, horizon);
+                self.chains.push_and_cut(id, stamp, value, horizon);
                 match self.chains.newest(id) {
                     Some(_) => {}
                     None => {

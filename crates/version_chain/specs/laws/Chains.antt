@@ -1,9 +1,10 @@
--- Laws of a change under one id, for callers that keep ids. Read open_count_updated, chains_stay and versions_left.
-use Rattle.std.proofs.Common.{◌≡◌, ◌≢◌, ℕ, zero, suc, ◌+◌, List, [], ◌∷◌, map, Option, Some, is_some, count_by, cond, refl, ap, ◌∙◌, arith, Contains}
+-- Laws of a change under one id, for callers that keep ids. Read open_count_updated, chains_stay, versions_left and between.
+use Rattle.std.proofs.Common.{◌≡◌, ◌≢◌, ℕ, zero, suc, ◌+◌, ◌<◌, List, [], ◌∷◌, length, set, map, Option, Some, None, IsSome, is_some, count_by, cond, refl, sym, ap, ◌∙◌, arith, Contains}
+use Rattle.std.proofs.lemmas.List.{get_or-set_same, get_or-set_other}
 use Rattle.std.proofs.lemmas.List.Sums.{sum_by-cons}
 use Rattle.version_chain.specs.Slots.{slot_at}
 use Rattle.version_chain.specs.Versions.{Entry}
-use Rattle.version_chain.specs.Chains.{ChainsState, chain_at, versions_at, listed, Updates, open_count}
+use Rattle.version_chain.specs.Chains.{ChainsState, chain_at, versions_at, listed, IsOpen, Updates, open_count}
 
 first_apart : (i : ℕ) → zero ≢ suc i
 first_apart i e = absurd (omega (arith, e))
@@ -61,3 +62,25 @@ module _ {V : Type 0} where
       → open_count new + held_count (chain_at old id) ≡ open_count old + held_count chain
   open_count_updated old new id chain updates =
       count_but_one old.chains new.chains id updates.others ∙ ap (λ c. open_count old + held_count c) updates.changed
+
+  open_inside : (chains : List (Option (List (Entry V)))) (id : ℕ) → IsSome (slot_at chains id) → id < length chains
+  open_inside [] id found = absurd cc
+  open_inside (x ∷ chains) zero found = omega arith
+  open_inside (x ∷ chains) (suc id) found = let within = open_inside chains id found in omega (arith, within)
+
+  -- chains between two changes under one id
+  pub record Between (old new : ChainsState V) (id : ℕ) (first second : List (Entry V)) : Type 0 where
+    pub middle : ChainsState V
+    pub before : Updates old middle id (Some first)
+    pub behind : Updates middle new id (Some second)
+
+  -- a change under an open id is two of them
+  pub between : (old new : ChainsState V) (id : ℕ) (first second : List (Entry V)) → IsOpen old id → Updates old new id (Some second) → Between old new id first second
+  between old new id first second is updates =
+      let within : id < length old.chains = open_inside old.chains id is in
+      let middle : ChainsState V = record { chains = set old.chains id (Some first); spare = old.spare } in
+      record {
+        middle = middle;
+        before = record { changed = get_or-set_same old.chains id (Some first) None within; others = λ other ne. get_or-set_other old.chains id other (Some first) None ne };
+        behind = record { changed = updates.changed; others = λ other ne. updates.others other ne ∙ sym (get_or-set_other old.chains id other (Some first) None ne) };
+      }

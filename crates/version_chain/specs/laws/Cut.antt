@@ -29,10 +29,10 @@ module _ {V : Type 0} where
   alone v None = refl
   alone v (Some x) = refl
 
-  cut_late : (h : ℕ) (v : Entry V) (vs : List (Entry V)) → leb v.0 h ≡ false → cut_of h (v ∷ vs) ≡ v ∷ cut_of h vs
+  pub cut_late : (h : ℕ) (v : Entry V) (vs : List (Entry V)) → leb v.0 h ≡ false → cut_of h (v ∷ vs) ≡ v ∷ cut_of h vs
   cut_late h v vs e = ap (λ b. cond b (if_value v v.1) (v ∷ cut_of h vs)) e
 
-  cut_early : (h : ℕ) (v : Entry V) (vs : List (Entry V)) → leb v.0 h ≡ true → cut_of h (v ∷ vs) ≡ if_value v v.1
+  pub cut_early : (h : ℕ) (v : Entry V) (vs : List (Entry V)) → leb v.0 h ≡ true → cut_of h (v ∷ vs) ≡ if_value v v.1
   cut_early h v vs e = ap (λ b. cond b (if_value v v.1) (v ∷ cut_of h vs)) e
 
   left_behind : (h : ℕ) (newer vs : List (Entry V)) → covers h newer ≡ false → without_old_absence h (uncovered h newer vs) ≡ cut_of h vs
@@ -129,6 +129,35 @@ module _ {V : Type 0} where
   newest_of-left_after h n (v ∷ vs) late e =
       let same : v.0 ≡ n = cc in
       ap newest_of (left_after-cut_of h (v ∷ vs) ∙ cut_late h v vs (leb_no v.0 h (leb v.0 h) refl (omega (arith, late, same)))) ∙ e
+
+  -- a cut leaves no more versions
+  length_cut : (h : ℕ) (vs : List (Entry V)) → length (cut_of h vs) ≤ length vs
+  length_cut h [] = omega arith
+  length_cut h (v ∷ vs) = by_stamp (leb v.0 h) (length_cut h vs)
+    where
+      by_value : (x : Option V) → length (if_value v x) ≤ 1
+      by_value None = omega arith
+      by_value (Some x) = omega arith
+
+      by_stamp : (b : Bool) → length (cut_of h vs) ≤ length vs → length (cond b (if_value v v.1) (v ∷ cut_of h vs)) ≤ length (v ∷ vs)
+      by_stamp true less = let few = by_value v.1 in omega (arith, few)
+      by_stamp false less = omega (arith, less)
+
+  -- a new version and a cut take one cell more at most
+  pub cells_of-left_after : (h stamp : ℕ) (x : Option V) (vs : List (Entry V)) → cells_of (left_after h ((stamp, x) ∷ vs)) ≤ cells_of vs + 1
+  cells_of-left_after h stamp x vs = subst (λ us. cells_of us ≤ cells_of vs + 1) (sym (left_after-cut_of h ((stamp, x) ∷ vs))) (by_stamp (leb stamp h))
+    where
+      by_value : (y : Option V) → cells_of (if_value (stamp, x) y) ≤ cells_of vs + 1
+      by_value None = omega arith
+      by_value (Some y) = omega arith
+
+      behind : (us : List (Entry V)) → length (cut_of h us) ≤ cells_of us + 1
+      behind [] = omega arith
+      behind (u ∷ us) = let less = length_cut h (u ∷ us) in omega (arith, less)
+
+      by_stamp : (b : Bool) → cells_of (cond b (if_value (stamp, x) x) ((stamp, x) ∷ cut_of h vs)) ≤ cells_of vs + 1
+      by_stamp true = by_value x
+      by_stamp false = behind vs
 
   -- fewer versions take no more cells
   pub cells_of-fewer : (vs us : List (Entry V)) (n : ℕ) → n + length us ≡ length vs → cells_of us ≤ cells_of vs

@@ -1,11 +1,11 @@
 use Rattle.std.proofs.Common.{subst}
 use Rattle.version_chain.specs.Versions.{IsAbove}
 use Rattle.version_store.proofs.TiedLemmas.{row_in, not_placed}
-use Rattle.version_store.proofs.CutLemmas.{cut_chain, tied_bare, versions_bare, versions_left}
+use Rattle.version_store.proofs.CutLemmas.{cut_at_once, tied_bare, versions_bare, versions_left}
 use Rattle.version_store.proofs.store.Store.push_and_cut.Goals as goal
 
-pub push_reserved-requires-clause-newest : goal.push_reserved-requires-clause-newest
-push_reserved-requires-clause-newest c =
+pub push_and_cut-requires-clause-newest : goal.push_and_cut-requires-clause-newest
+push_and_cut-requires-clause-newest c =
     let s = c.self.inside in
     let at = rw c.in-Some.is at c.get.ensures.found in
     let newest = rw (← c.self.view_is) at c.requires.newest in
@@ -23,7 +23,7 @@ invariant_of-self c =
     let at = rw c.in-Some.is at c.get.ensures.found in
     let low = rw (← c.self.view_is) at c.requires.stamp in
     let newest = rw (← c.self.view_is) at c.requires.newest in
-    let is = cut_chain s.chains c.push_reserved.new.self c.cut-count.new.self s.tree.pairs s.present c.in-Some.id.now c.args.stamp c.args.horizon c.args.key.now c.args.value c.self.invariant.0 at c.push_reserved.ensures.chains c.cut-count.ensures.chains low newest in
+    let is = cut_at_once s.chains c.push_and_cut.new.self s.tree.pairs s.present c.in-Some.id.now c.args.stamp c.args.horizon c.args.key.now c.args.value c.self.invariant.0 at c.push_and_cut.ensures.chains low newest in
     (is.tied, c.self.invariant.1)
 
 pub invariant_of-self-in-None-newest : goal.invariant_of-self-in-None-newest
@@ -32,8 +32,8 @@ invariant_of-self-in-None-newest c =
     let at = rw c.in-Some.is at c.get.ensures.found in
     let low = rw (← c.self.view_is) at c.requires.stamp in
     let newest = rw (← c.self.view_is) at c.requires.newest in
-    let is = cut_chain s.chains c.push_reserved.new.self c.cut-count.new.self s.tree.pairs s.present c.in-Some.id.now c.args.stamp c.args.horizon c.args.key.now c.args.value c.self.invariant.0 at c.push_reserved.ensures.chains c.cut-count.ensures.chains low newest in
-    rw c.remove.ensures.pairs (tied_bare s.chains c.cut-count.new.self s.tree.pairs s.present c.in-Some.id.now c.args.stamp c.args.horizon c.args.key.now c.args.value is at c.close.new.self c.close.ensures.chains, c.self.invariant.1)
+    let is = cut_at_once s.chains c.push_and_cut.new.self s.tree.pairs s.present c.in-Some.id.now c.args.stamp c.args.horizon c.args.key.now c.args.value c.self.invariant.0 at c.push_and_cut.ensures.chains low newest in
+    rw c.remove.ensures.pairs (tied_bare s.chains c.push_and_cut.new.self s.tree.pairs s.present c.in-Some.id.now c.args.stamp c.args.horizon c.args.key.now c.args.value is at c.close.new.self c.close.ensures.chains, c.self.invariant.1)
 
 pub returns-in-Some-newest-clause-versions : goal.returns-in-Some-newest-clause-versions
 returns-in-Some-newest-clause-versions c =
@@ -41,9 +41,9 @@ returns-in-Some-newest-clause-versions c =
     let at = rw c.in-Some.is at c.get.ensures.found in
     let low = rw (← c.self.view_is) at c.requires.stamp in
     let newest = rw (← c.self.view_is) at c.requires.newest in
-    let is = cut_chain s.chains c.push_reserved.new.self c.cut-count.new.self s.tree.pairs s.present c.in-Some.id.now c.args.stamp c.args.horizon c.args.key.now c.args.value c.self.invariant.0 at c.push_reserved.ensures.chains c.cut-count.ensures.chains low newest in
+    let is = cut_at_once s.chains c.push_and_cut.new.self s.tree.pairs s.present c.in-Some.id.now c.args.stamp c.args.horizon c.args.key.now c.args.value c.self.invariant.0 at c.push_and_cut.ensures.chains low newest in
     let some = rw c.in-Some-newest.is at c.newest.ensures.newest in
-    rw (← c.self.view_is) (versions_left s.chains c.cut-count.new.self s.tree.pairs s.present c.in-Some.id.now c.args.stamp c.args.horizon c.args.key.now c.args.value is at _ some)
+    rw (← c.self.view_is) (versions_left s.chains c.push_and_cut.new.self s.tree.pairs s.present c.in-Some.id.now c.args.stamp c.args.horizon c.args.key.now c.args.value is at _ some)
 
 pub returns-in-None-newest-clause-versions : goal.returns-in-None-newest-clause-versions
 returns-in-None-newest-clause-versions c =
@@ -51,6 +51,6 @@ returns-in-None-newest-clause-versions c =
     let at = rw c.in-Some.is at c.get.ensures.found in
     let low = rw (← c.self.view_is) at c.requires.stamp in
     let newest = rw (← c.self.view_is) at c.requires.newest in
-    let is = cut_chain s.chains c.push_reserved.new.self c.cut-count.new.self s.tree.pairs s.present c.in-Some.id.now c.args.stamp c.args.horizon c.args.key.now c.args.value c.self.invariant.0 at c.push_reserved.ensures.chains c.cut-count.ensures.chains low newest in
+    let is = cut_at_once s.chains c.push_and_cut.new.self s.tree.pairs s.present c.in-Some.id.now c.args.stamp c.args.horizon c.args.key.now c.args.value c.self.invariant.0 at c.push_and_cut.ensures.chains low newest in
     let none = rw c.in-None-newest.is at c.newest.ensures.newest in
-    rw (← c.self.view_is, c.remove.ensures.pairs) (versions_bare s.chains c.cut-count.new.self s.tree.pairs s.present c.in-Some.id.now c.args.stamp c.args.horizon c.args.key.now c.args.value is at c.close.new.self c.close.ensures.chains none)
+    rw (← c.self.view_is, c.remove.ensures.pairs) (versions_bare s.chains c.push_and_cut.new.self s.tree.pairs s.present c.in-Some.id.now c.args.stamp c.args.horizon c.args.key.now c.args.value is at c.close.new.self c.close.ensures.chains none)
