@@ -1,0 +1,60 @@
+"""The programs that the scripts of this folder run, and how one run is measured."""
+import os
+import subprocess
+
+ROOT = os.path.dirname(os.path.dirname(os.path.abspath(__file__)))
+MRUN = os.path.join(ROOT, "crates", "mrun", "out", "mrun")
+
+
+def built():
+    """Builds mrun where it isn't built yet, or a source is newer."""
+    subprocess.run([os.path.join(ROOT, "mrun"), "--version"], check=True, stdout=subprocess.DEVNULL)
+
+
+def compile_plain(folder):
+    """The two plain programs: over a map alone, and with versions, transactions and locks."""
+    programs = []
+    for source, name in (("main.rs", "plain"), ("whole.rs", "whole")):
+        program = os.path.join(folder, name)
+        path = os.path.join(ROOT, "bench", "plain", source)
+        # The map alone leaves the parts that it shares with the other partly unused.
+        command = ["rustc", "--edition", "2021", "-O", "-A", "dead_code", "-o", program, path]
+        subprocess.run(command, check=True)
+        programs.append(program)
+    return programs
+
+
+def timed(command, output, **options):
+    """Processor seconds of one run, and its peak of memory in MB, which GNU time asks of its own small child."""
+    memory = output + ".memory" if output != os.devnull else None
+    measure = ["/usr/bin/time", "-f", "%M", "-o", memory] if memory else []
+    with open(output, "wb") as out:
+        process = subprocess.Popen(measure + command, stdout=out, stdin=subprocess.DEVNULL, **options)
+        _, status, usage = os.wait4(process.pid, 0)
+        process.returncode = os.waitstatus_to_exitcode(status)
+    if process.returncode != 0:
+        raise SystemExit(f"{' '.join(command)} ended with status {process.returncode}")
+    if not memory:
+        return usage.ru_utime + usage.ru_stime, 0
+    with open(memory) as file:
+        return usage.ru_utime + usage.ru_stime, int(file.read()) / 1024
+
+
+def instructions(command, folder):
+    """How many instructions a run takes, in millions, counted by callgrind; the program's own and the kernel's aren't told apart,
+    since only its own are counted."""
+    tool = ["valgrind", "--tool=callgrind", "--callgrind-out-file=" + os.devnull]
+    run = subprocess.run(tool + command, stdout=subprocess.DEVNULL, stderr=subprocess.PIPE, check=True, cwd=folder)
+    told = [line for line in run.stderr.decode().splitlines() if "Collected" in line]
+    return int(told[0].split()[-1]) / 1e6
+
+
+def lines_of(path):
+    with open(path, "rb") as file:
+        return sum(1 for _ in file)
+
+
+def restarts_of(path):
+    """How many replies tell a restart."""
+    with open(path, "rb") as file:
+        return sum(1 for line in file if line.split()[1:2] == [b"restart"])
