@@ -49,7 +49,7 @@ def guide(points):
     return [(size, seconds * size * math.log(size) / (last * math.log(last))) for size, _ in points]
 
 
-def legend(width):
+def legend():
     told = [(OURS, "mrun"), (PLAIN, "plain Rust with versions"), (GUIDE, "size times logarithm, through mrun's last point")]
     across = LEFT
     for colour, text in told:
@@ -59,22 +59,21 @@ def legend(width):
 
 
 def draw(path, panels):
-    """Each panel is a name, and sizes with mrun's seconds and the plain program's."""
-    seconds = [value for _, points in panels for point in points for value in point[1:]]
+    """Each panel is a name, and by sizes mrun's seconds and the plain program's."""
+    seconds = [value for _, *lines in panels for line in lines for _, value in line]
     low, high = math.floor(math.log10(min(seconds))), math.ceil(math.log10(max(seconds)))
     rows = math.ceil(len(panels) / COLUMNS)
     width = LEFT + COLUMNS * (WIDTH + GAP_ACROSS)
     height = TOP + rows * (HEIGHT + GAP_DOWN)
     lines = [f'<svg xmlns="http://www.w3.org/2000/svg" width="{width}" height="{height}" font-family="sans-serif" font-size="12">']
     lines.append(f'<rect width="{width}" height="{height}" fill="white"/>')
-    lines.extend(legend(width))
-    for index, (name, points) in enumerate(panels):
-        sizes = [size for size, _, _ in points]
+    lines.extend(legend())
+    for index, (name, ours, plain) in enumerate(panels):
+        sizes = [size for size, _ in ours]
         panel = Panel(index, sizes, low, high)
-        ours = [(size, ours) for size, ours, _ in points]
         lines.extend(panel.frame(name, sizes))
         lines.extend(panel.line(guide(ours), GUIDE, dots=False))
-        lines.extend(panel.line([(size, plain) for size, _, plain in points], PLAIN))
+        lines.extend(panel.line(plain, PLAIN))
         lines.extend(panel.line(ours, OURS))
     lines.append("</svg>")
     with open(path, "w") as file:

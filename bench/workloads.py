@@ -35,6 +35,13 @@ def shuffled(file, count):
     gets(file, count, source)
 
 
+def shuffled_both(file, count):
+    """As many $GETs as SETs."""
+    source = random.Random(1)
+    sets(file, shuffled_numbers(count, source))
+    write(file, (f"1 $GET(^A({source.randint(1, count)}))" for _ in range(count)))
+
+
 def falling(file, count):
     sets(file, range(count, 0, -1))
 
@@ -178,3 +185,42 @@ def locks(file, count):
     taken_locks(file, jobs, 100)
     lock_tries(file, jobs, 100, count // 2, False)
     lock_tries(file, jobs, 100, count // 2, True)
+
+
+def one_key_while_open(file, count):
+    write(file, ["2 TSTART", "2 $GET(^B)"])
+    write(file, (f"1 SET ^A={i}" for i in range(count)))
+
+
+def queue_while_open(file, count):
+    """Killed nodes are kept as absences for a transaction, and each $ORDER passes over them."""
+    sets(file, range(1, count + 1))
+    write(file, ["2 TSTART"])
+    for i in range(1, count + 1):
+        write(file, ['1 $ORDER(^A(""))', f"1 KILL ^A({i})"])
+
+
+def orders_after(file, count):
+    """The transaction has ended, and the absences are still there."""
+    sets(file, range(1, count + 1))
+    write(file, ["2 TSTART"])
+    write(file, (f"1 KILL ^A({i})" for i in range(1, count)))
+    write(file, ["2 TCOMMIT"])
+    write(file, ('1 $ORDER(^A(""))' for _ in range(count)))
+
+
+def queue_inside(file, count):
+    """A transaction takes nodes from the front, and each $ORDER passes over what it killed."""
+    sets(file, range(1, count + 1))
+    write(file, ["1 TSTART"])
+    for i in range(1, count + 1):
+        write(file, ['1 $ORDER(^A(""))', f"1 KILL ^A({i})"])
+    write(file, ["1 TCOMMIT"])
+
+
+def locks_inside(file, count):
+    """A job that holds many names takes one more in each of as many transactions."""
+    taken = ",".join(f"^Held({i})" for i in range(count))
+    write(file, [f"1 LOCK +({taken})"])
+    for i in range(count):
+        write(file, ["1 TSTART", f"1 LOCK +^Next({i})", "1 TCOMMIT", f"1 LOCK -^Next({i})"])
