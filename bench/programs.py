@@ -41,8 +41,7 @@ def timed(command, output, **options):
 
 
 def instructions(command, folder):
-    """How many instructions a run takes, in millions, counted by callgrind; the program's own and the kernel's aren't told apart,
-    since only its own are counted."""
+    """How many instructions a run takes, in millions, counted by callgrind: the program's own, without the kernel's."""
     tool = ["valgrind", "--tool=callgrind", "--callgrind-out-file=" + os.devnull]
     run = subprocess.run(tool + command, stdout=subprocess.DEVNULL, stderr=subprocess.PIPE, check=True, cwd=folder)
     told = [line for line in run.stderr.decode().splitlines() if "Collected" in line]

@@ -27,6 +27,9 @@ const LONGEST_NAME: usize = 31;
 const LONGEST_SUBSCRIPT: usize = 127;
 const LONGEST_VALUE: usize = 32767;
 
+/// The string that a literal stands for.
+pub type Value<'a> = Cow<'a, [u8]>;
+
 #[derive(Clone, Copy, PartialEq)]
 pub enum Direction {
     Forward,
@@ -43,7 +46,7 @@ pub struct Place<'a> {
 }
 
 pub enum Data<'a> {
-    Set(Node<'a>, Cow<'a, [u8]>),
+    Set(Node<'a>, Value<'a>),
     Kill(Node<'a>),
     Merge(Node<'a>, Node<'a>),
     Look(Look<'a>),
@@ -51,7 +54,7 @@ pub enum Data<'a> {
 
 pub enum Look<'a> {
     Data(Node<'a>),
-    Get(Node<'a>, Option<Cow<'a, [u8]>>),
+    Get(Node<'a>, Option<Value<'a>>),
     Order(Place<'a>, Direction),
     Query(Place<'a>, Direction),
 }
@@ -357,7 +360,7 @@ fn past_timeout(text: &[u8]) -> Option<&[u8]> {
     (1..=9).contains(&digits.len()).then_some(rest)
 }
 
-fn default(text: &[u8]) -> Option<(Option<Cow<'_, [u8]>>, &[u8])> {
+fn default(text: &[u8]) -> Option<(Option<Value<'_>>, &[u8])> {
     let [b',', more @ ..] = text else { return Some((None, text)) };
     let (default, rest) = literal(more)?;
     Some((Some(default.value()), rest))

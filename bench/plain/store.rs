@@ -1,8 +1,8 @@
 //! Nodes with their versions, as far back as an open transaction sees them.
 use crate::key::{PAST, with_byte};
 use crate::view::View;
-use std::collections::btree_map::{BTreeMap, Entry};
 use std::collections::VecDeque;
+use std::collections::btree_map::{BTreeMap, Entry};
 use std::ops::Bound::{self, Excluded, Included, Unbounded};
 
 /// How many changes were made.
@@ -14,7 +14,7 @@ struct Version {
     value: Option<Box<[u8]>>,
 }
 
-/// The versions of a node. Those before the newest stand by rising stamps, and only where there are some.
+/// The versions of a node. Those before the newest stand by rising stamps, and in a box, since most nodes have none.
 struct Chain {
     newest: Version,
     older: Option<Box<VecDeque<Version>>>,

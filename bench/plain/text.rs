@@ -1,7 +1,7 @@
 //! Literals: how they are read and written, and which strings are canonic numbers (docs/FORMATS.md).
 use std::borrow::Cow;
 
-/// A number of canonic form. Zero has no digits; the whole part has no leading zeros, and the fraction no trailing ones.
+/// A number of canonic form. Zero has no digits; the whole part has no leading zeros, the fraction no trailing ones.
 #[derive(Clone, Copy)]
 pub struct Number<'a> {
     pub negative: bool,

@@ -40,7 +40,9 @@ pub fn look<'a>(view: &'a impl View, look: &'a Look) -> Result<Answer<'a>, Refus
             let level = place.level.ok_or(Refusal::NeedSubscript)?;
             Ok(order(view, place, level, *direction).map_or(Answer::Value(b""), |key| Answer::Subscript(key, level)))
         }
-        Look::Query(place, direction) => Ok(query(view, place, *direction).map_or(Answer::Value(b""), Answer::Reference)),
+        Look::Query(place, direction) => {
+            Ok(query(view, place, *direction).map_or(Answer::Value(b""), Answer::Reference))
+        }
     }
 }
 

@@ -1,7 +1,7 @@
 //! All commands of `mrun`, written by hand in plain Rust: a `BTreeMap` of key bytes with a chain of versions for each,
-//! cut as it is written as far as the oldest open transaction allows; transactions with their own writes, killed nodes and
-//! read ranges, checked at the commit; locks. No journal, and memory that runs out ends the process. One of the two marks
-//! that `bench/run` compares with; `main.rs` is the other.
+//! cut as it is written as far as the oldest open transaction allows; transactions with their own writes, killed nodes
+//! and read ranges, checked at the commit; locks. No journal, and memory that runs out ends the process. One of the two
+//! marks that `bench/run` compares with; `main.rs` is the other.
 mod key;
 mod line;
 mod locks;
