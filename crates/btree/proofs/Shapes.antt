@@ -14,6 +14,10 @@ module _ {K V : Type 0} where
   weave_leaf [] = refl
   weave_leaf (e ∷ es) = ap (λ xs. e ∷ xs) (weave_leaf es)
 
+  -- any pairs are a leaf
+  pub leaf_rows : (es : List (K × V)) (ks : List (Branch K V)) → ks ≡ [] → IsNode es ks
+  leaf_rows es ks leaf = rw leaf record { fits = λ q. absurd (omega arith); kids = refl }
+
   -- a node of this height is a leaf, or has kids of the height below
   pub kids_of : (h : ℕ) (ks : List (Branch K V)) → Each (IsKid 16 h) ks → AreKids (height_of ks) ks
   kids_of h [] s = refl

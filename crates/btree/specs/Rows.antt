@@ -58,9 +58,15 @@ pub record IsNode {K V : Type 0} (es : List (K × V)) (ks : List (Branch K V)) :
   pub fits : 0 < length ks → length ks ≡ suc (length es)
   pub kids : AreKids (height_of ks) ks
 
--- the rows of a leaf with more than 8 pairs, and of an inner node, never have to grow
+-- the rows of a leaf with more than 14 pairs, and of an inner node, never have to grow
 abbrev pub HasRoom : {K V : Type 0} → Vec (K × V) Global → Vec (Branch K V) Global → Type 0
-HasRoom es ks = (8 < length es.items → 33 ≤ vec_capacity es) × (0 < length ks.items → 33 ≤ vec_capacity es) × (0 < length ks.items → 34 ≤ vec_capacity ks)
+HasRoom es ks = (14 < length es.items → 33 ≤ vec_capacity es) × (0 < length ks.items → 33 ≤ vec_capacity es) × (0 < length ks.items → 34 ≤ vec_capacity ks)
+
+-- the kid at a place, if there is one, is full
+abbrev pub IsFullAt : {K V : Type 0} → ℕ → List (Branch K V) → Type 0
+IsFullAt i [] = Unit {0}
+IsFullAt zero (k ∷ ks) = 32 ≤ k.count
+IsFullAt (suc i) (k ∷ ks) = IsFullAt i ks
 
 -- empty rows, with room if they are to be cut off a node of so many pairs and kids
 pub record IsSpare {K V : Type 0} (pairs kids : ℕ) (es : Vec (K × V) Global) (ks : Vec (Branch K V) Global) : Type 0 where

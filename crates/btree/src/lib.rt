@@ -23,6 +23,7 @@
 #![tactic(auto)]
 
 mod backward;
+mod ease;
 mod forward;
 mod mend;
 mod node;

@@ -5,11 +5,12 @@ ghost use Rattle.std.specs.FinMap.Entries.{find, put};
 ghost use Rattle.btree.specs.Order.{Ascends, first_from, last_before, without};
 ghost use Rattle.btree.specs.Rows.{branch_of, sizes_of, IsNode, HasRoom, HasBecome, IsKid, IsFull, IsSpare, HasShrunk};
 
-use crate::mend::{append_reserved, mend, shift_first, shift_last, take_at, take_first};
-use crate::row::{insert_reserved, make_room, replace_value};
+use crate::ease::ease;
+use crate::mend::{append_reserved, mend, take_at};
+use crate::row::{cut_anew, replace_value};
 use crate::search::{count_before, entry_at, entry_before, place};
 use crate::seek::Point;
-use crate::split::{Beside, put_beside, spare_rows, split_long};
+use crate::split::{Beside, insert_leaf, put_beside, spare_rows, split_long};
 use std::alloc::{AllocError, AllocFailed, Global};
 use std::marker::Model;
 use std::mem;
@@ -97,7 +98,7 @@ impl<K, V> Node<K, V> {
         self.entries.len()
     }
 
-    /// Joins what a pair parts, of which one has a pair too few: into this node, or both with enough.
+    /// Joins what a pair parts: into this node, if one can hold all, or cut anew, half and half.
     pub fn rejoin(&mut self, pair: (K, V), right: Node<K, V>) -> Option<Beside<K, V>>
     where
         K: Drop,
@@ -105,28 +106,25 @@ impl<K, V> Node<K, V> {
         requires lower { IsKid 15 right.height self.old }
         requires upper { IsKid 15 right.height right }
         requires enough { 31 ≤ self.old.count + right.count }
-        requires short { (self.old.count ≤ 15) ⊎ (right.count ≤ 15) }
-        ensures { HasBecome 16 right.height (self.old.pairs ++ pair ∷ right.pairs) self.new result }
+        ensures joined { HasBecome 16 right.height (self.old.pairs ++ pair ∷ right.pairs) self.new result }
+        ensures two { 32 ≤ self.old.count + right.count → IsSome result }
     {
         let Node {
             entries: mut right_entries,
             kids: mut right_kids,
         } = right;
-        if self.entries.len() + right_entries.len() < 32 {
-            self.entries.push_reserved(pair);
+        let count = self.entries.len() + right_entries.len();
+        self.entries.push_reserved(pair);
+        if count < 32 {
             append_reserved(&mut self.entries, right_entries);
             append_reserved(&mut self.kids, right_kids);
             return None;
         }
-        if self.entries.len() < 16 {
-            self.entries.push_reserved(pair);
-            let pair = take_first(&mut right_entries);
-            shift_first(&mut self.kids, &mut right_kids);
-            return Some((pair, Node::new(right_entries, right_kids)));
-        }
-        insert_reserved(&mut right_entries, 0, pair);
+        let half = count - count / 2;
+        cut_anew(&mut self.entries, &mut right_entries, half + 1);
         let pair = self.entries.take_last();
-        shift_last(&mut self.kids, &mut right_kids);
+        let kid_count = self.kids.len() + right_kids.len();
+        cut_anew(&mut self.kids, &mut right_kids, kid_count.min(half + 1));
         Some((pair, Node::new(right_entries, right_kids)))
     }
 
@@ -286,23 +284,21 @@ impl<K: Ord + Drop, V: Drop> Node<K, V> {
             Ok(at) => return Ok((Some(replace_value(&mut self.entries, at, value)), None)),
             Err(at) => at,
         };
-        let Ok((spare, spare_kids)) = spare_rows(alloc, &self.entries, &self.kids) else {
+        if self.kids.is_empty() {
+            let beside = insert_leaf(&mut self.entries, &mut self.kids, alloc, at, (key, value))?;
+            return Ok((None, beside));
+        }
+        let Ok((spare, spare_kids)) = spare_rows(alloc, &self.entries, &self.kids, at) else {
             return Err(AllocFailed {
                 value: (key, value),
             });
         };
-        if self.kids.is_empty() {
-            let Ok(()) = make_room(&mut self.entries) else {
-                return Err(AllocFailed {
-                    value: (key, value),
-                });
-            };
-            insert_reserved(&mut self.entries, at, (key, value));
-            let beside = split_long(&mut self.entries, &mut self.kids, spare, spare_kids);
-            return Ok((None, beside));
-        }
         let (before, beside) = self.kids[at].insert(alloc, key, value)?;
-        put_beside(&mut self.entries, &mut self.kids, at, beside);
+        let Some(beside) = beside else {
+            ease(&mut self.entries, &mut self.kids, at);
+            return Ok((before, None));
+        };
+        put_beside(&mut self.entries, &mut self.kids, at, Some(beside));
         let beside = split_long(&mut self.entries, &mut self.kids, spare, spare_kids);
         Ok((before, beside))
     }

@@ -19,20 +19,30 @@ pub fn insert_reserved<T: Drop>(row: &mut Vec<T>, at: usize, element: T)
     }
 }
 
-/// Makes room for one element more: for 8 in all, or for 33.
+// How many places a row gets that is to have one element more than so many.
+fn places_above(count: usize) -> usize
+    requires { count ≤ 32 }
+    ensures more { count < result }
+    ensures all { 14 ≤ count → result ≡ 33 }
+{
+    match count {
+        0..=3 => 4,
+        4..=7 => 8,
+        8..=13 => 14,
+        _ => 33,
+    }
+}
+
+/// Makes room for one element more: 4, 8, 14 or 33 places in all.
 pub fn make_room<T>(row: &mut Vec<T>) -> Result<(), AllocError>
     requires { length row.old.items ≤ 32 }
     ensures items { row.new.items ≡ row.old.items }
     ensures one { OnOk result (length row.old.items < vec_capacity row.new) }
-    ensures all { OnOk result (8 ≤ length row.old.items → 33 ≤ vec_capacity row.new) }
+    ensures all { OnOk result (14 ≤ length row.old.items → 33 ≤ vec_capacity row.new) }
     ensures capacity { vec_capacity row.old ≤ vec_capacity row.new }
 {
     let len = row.len();
-    if len < 8 {
-        row.reserve_exact(8 - len)
-    } else {
-        row.reserve_exact(33 - len)
-    }
+    row.reserve_exact(places_above(len) - len)
 }
 
 /// Moves the elements from a place on to an empty row.
@@ -73,4 +83,54 @@ pub fn replace_pair<T>(row: &mut Vec<T>, at: usize, pair: T) -> T
     ensures capacity { vec_capacity row.new ≡ vec_capacity row.old }
 {
     mem::replace(&mut row[at], pair)
+}
+
+/// Moves the first elements of a row behind another that has room, all but so many.
+pub fn move_first<T>(from: &mut Vec<T>, to: &mut Vec<T>, left: usize)
+    requires some { left ≤ length from.old.items }
+    requires room { length to.old.items + length from.old.items ≤ left + vec_capacity to.old }
+    ensures items { to.new.items ++ from.new.items ≡ to.old.items ++ from.old.items }
+    ensures left { length from.new.items ≡ left }
+    ensures capacity { (vec_capacity to.new ≡ vec_capacity to.old) × (vec_capacity from.new ≡ vec_capacity from.old) }
+{
+    from.reverse();
+    while from.len() > left {
+        let element = from.take_last();
+        to.push_reserved(element);
+    }
+    from.reverse();
+}
+
+/// Moves the last elements of a row before another that has room, all but so many.
+pub fn move_last<T>(from: &mut Vec<T>, to: &mut Vec<T>, left: usize)
+    requires some { left ≤ length from.old.items }
+    requires room { length to.old.items + length from.old.items ≤ left + vec_capacity to.old }
+    ensures items { from.new.items ++ to.new.items ≡ from.old.items ++ to.old.items }
+    ensures left { length from.new.items ≡ left }
+    ensures capacity { (vec_capacity to.new ≡ vec_capacity to.old) × (vec_capacity from.new ≡ vec_capacity from.old) }
+{
+    to.reverse();
+    while from.len() > left {
+        let element = from.take_last();
+        to.push_reserved(element);
+    }
+    to.reverse();
+}
+
+/// Cuts two rows anew: the first gets so many elements of both, and the second the others.
+pub fn cut_anew<T>(lower: &mut Vec<T>, upper: &mut Vec<T>, at: usize)
+    requires in_range { at ≤ length lower.old.items + length upper.old.items }
+    requires lower_room { at ≤ vec_capacity lower.old }
+    requires upper_room { length lower.old.items + length upper.old.items ≤ at + vec_capacity upper.old }
+    ensures items { lower.new.items ++ upper.new.items ≡ lower.old.items ++ upper.old.items }
+    ensures length { length lower.new.items ≡ at }
+    ensures capacity { (vec_capacity lower.new ≡ vec_capacity lower.old) × (vec_capacity upper.new ≡ vec_capacity upper.old) }
+{
+    let len = lower.len();
+    if len < at {
+        let left = upper.len() - (at - len);
+        move_first(upper, lower, left);
+    } else {
+        move_last(lower, upper, at);
+    }
 }

@@ -1,14 +1,15 @@
-use Rattle.std.proofs.Common.{◌≡◌, ◌≤◌, ◌<◌, ◌+◌, length, Some, ap, subst, sym, ◌∙◌, arith, rules, suc}
+use Rattle.std.proofs.Common.{◌≡◌, ◌≤◌, ◌<◌, length, slice_set, get_or, is_some, Option, Some, refl, ap, subst, sym, ◌∙◌, arith, rules, suc}
 use Rattle.std.proofs.lemmas.List.{length-set}
 use Rattle.std.specs.Vec.{vec_len}
 use Rattle.std.specs.List.{insert}
 use borrow.Author.Tests.{eqb-true, eqb-false}
 use Rattle.btree.specs.Order.{Ascends}
-use Rattle.btree.specs.Rows.{branch_of, HasBecome}
+use Rattle.btree.specs.Rows.{branch_of, height_of, with_pair, with_kid, HasBecome}
+use Rattle.btree.proofs.Shapes.{kid_of}
 use Rattle.btree.specs.Branch.{Branch}
 use Rattle.std.specs.FinMap.Entries.{find, put}
 use Rattle.btree.proofs.Places.{entries_ascend, kid_at}
-use Rattle.btree.proofs.Growth.{node_fits, found_here, grown_here, missed_leaf, grown_leaf, found_below, grown_below, node_below, kid_sorted, no_kids, one_longer, below_kids, spare_for}
+use Rattle.btree.proofs.Growth.{node_fits, found_here, grown_here, missed_leaf, grown_leaf, found_below, grown_below, node_below, kid_sorted, no_kids, one_longer, below_kids, full_at, spare_for}
 use Rattle.btree.proofs.node.Node.+insert.Goals as goal
 
 pub place-requires : goal.place-requires
@@ -41,7 +42,14 @@ returns-then-is_empty-clause-grown g t c =
     let gap = rw c.deref.ensures.value at c.in-Err.ensures.gap in
     let none : vec_len c.self.inside.kids ≡ 0 = eqb-true (vec_len c.self.inside.kids) 0 (sym c.is_empty.ensures ∙ c.if-is_empty.true) in
     let leaf = no_kids c.self.inside.kids.items (omega (arith, none, c.self.inside.kids.ok.0)) in
-    grown_leaf g.K.Ord.cmp g.met.K.Ord.total c.args.self.now c.self.inside.entries.items c.self.inside.kids.items c.self.view_is c.self.invariant.0 c.requires.sorted c.args.key c.args.value c.in-Err.at c.insert_reserved.new.row.items (branch_of c.split_long-beside.new.entries.items c.split_long-beside.new.kids.items) c.split_long-beside.result leaf (c.insert_reserved.ensures.items ∙ ap (λ zs. insert zs c.in-Err.at (c.args.key, c.args.value)) c.make_room.ensures.items) gap.0 gap.1 gap.2 c.split_long-beside.ensures.split
+    grown_leaf g.K.Ord.cmp g.met.K.Ord.total c.args.self.now c.self.inside.entries.items c.self.inside.kids.items c.self.view_is c.self.invariant.0 c.requires.sorted c.args.key c.args.value c.in-Err.at (insert c.self.inside.entries.items c.in-Err.at (c.args.key, c.args.value)) (branch_of c.insert_leaf.new.entries.items c.insert_leaf.new.kids.items) c.in_ok-beside.beside leaf refl gap.0 gap.1 gap.2 c.in_ok-beside.ensures.grown
+
+pub spare_rows-requires : goal.spare_rows-requires
+spare_rows-requires g t c =
+    let gap = rw c.deref.ensures.value at c.in-Err.ensures.gap in
+    let some : vec_len c.self.inside.kids ≡ 0 → ⊥ = eqb-false (vec_len c.self.inside.kids) 0 (sym c.is_empty.ensures ∙ c.if-is_empty.false) in
+    let low : c.in-Err.at < length c.self.inside.kids.items = below_kids c.in-Err.at c.self.inside.entries.items c.self.inside.kids.items c.self.invariant.0 (λ e. some (c.self.inside.kids.ok.0 ∙ e)) gap.0 in
+    rw c.deref-3.ensures.value low
 
 pub insert-requires : goal.insert-requires
 insert-requires g t c κs within =
@@ -54,29 +62,54 @@ insert-requires g t c κs within =
     let level : suc c.index_mut.result.now.height ≡ c.args.self.now.height = ap (λ b. suc b.height) c.index_mut.ensures.value ∙ kid.0 ∙ ap (λ b. b.height) c.self.view_is in
     search rules
 
-pub split_long-beside-requires-2-clause-node : goal.split_long-beside-requires-2-clause-node
-split_long-beside-requires-2-clause-node g t c =
+pub ease-requires-clause-node : goal.ease-requires-clause-node
+ease-requires-clause-node g t c =
     let gap = rw c.deref.ensures.value at c.in-Err.ensures.gap in
     let some : vec_len c.self.inside.kids ≡ 0 → ⊥ = eqb-false (vec_len c.self.inside.kids) 0 (sym c.is_empty.ensures ∙ c.if-is_empty.false) in
     let low : c.in-Err.at < length c.self.inside.kids.items = below_kids c.in-Err.at c.self.inside.entries.items c.self.inside.kids.items c.self.invariant.0 (λ e. some (c.self.inside.kids.ok.0 ∙ e)) gap.0 in
     let grown = subst (λ (k : Branch g.row.K.Denot g.row.V.Denot). HasBecome k.count k.height (put g.K.Ord.cmp c.args.key c.args.value k.pairs) c.insert.new.self c.in_ok-before.beside) c.index_mut.ensures.value c.in_ok-before.ensures.grown in
-    node_below g.K.Ord.cmp g.met.K.Ord.total c.args.self.now c.self.inside.entries.items c.self.inside.kids.items c.self.view_is c.self.invariant.0 c.requires.sorted c.args.key c.args.value c.in-Err.at c.index_mut.result.now c.insert.new.self c.in_ok-before.beside c.put_beside.new.entries.items c.put_beside.new.kids.items gap.0 low grown c.put_beside.ensures.pairs c.put_beside.ensures.kids
+    let one = subst (λ o. HasBecome (get_or c.self.inside.kids.items c.in-Err.at c.index_mut.result.now).count (get_or c.self.inside.kids.items c.in-Err.at c.index_mut.result.now).height (put g.K.Ord.cmp c.args.key c.args.value (get_or c.self.inside.kids.items c.in-Err.at c.index_mut.result.now).pairs) c.insert.new.self o) c.in_default-beside.is grown in
+    node_below g.K.Ord.cmp g.met.K.Ord.total c.args.self.now c.self.inside.entries.items c.self.inside.kids.items c.self.view_is c.self.invariant.0 c.requires.sorted c.args.key c.args.value c.in-Err.at c.index_mut.result.now c.insert.new.self Option.None c.self.inside.entries.items (slice_set c.self.inside.kids.items c.in-Err.at c.insert.new.self) gap.0 low one refl refl
 
-pub split_long-beside-requires-2-clause-long : goal.split_long-beside-requires-2-clause-long
-split_long-beside-requires-2-clause-long g t c =
-    let gap = rw c.deref.ensures.value at c.in-Err.ensures.gap in
-    let size = one_longer c.in-Err.at c.self.inside.entries.items c.in_ok-before.beside gap.0 in
-    omega (arith, size, ap length c.put_beside.ensures.pairs, ap (λ b. b.count) c.self.view_is, c.requires.fits)
-
-pub split_long-beside-requires-2-clause-spare : goal.split_long-beside-requires-2-clause-spare
-split_long-beside-requires-2-clause-spare g t c =
+pub returns-in_default-beside-clause-before : goal.returns-in_default-beside-clause-before
+returns-in_default-beside-clause-before g t c =
     let gap = rw c.deref.ensures.value at c.in-Err.ensures.gap in
     let some : vec_len c.self.inside.kids ≡ 0 → ⊥ = eqb-false (vec_len c.self.inside.kids) 0 (sym c.is_empty.ensures ∙ c.if-is_empty.false) in
     let low : c.in-Err.at < length c.self.inside.kids.items = below_kids c.in-Err.at c.self.inside.entries.items c.self.inside.kids.items c.self.invariant.0 (λ e. some (c.self.inside.kids.ok.0 ∙ e)) gap.0 in
-    let size = one_longer c.in-Err.at c.self.inside.entries.items c.in_ok-before.beside gap.0 in
-    let longest : length c.put_beside.new.entries.items ≤ length c.deref-2.result.now + 1 = rw c.deref-2.ensures.value (omega (arith, size, ap length c.put_beside.ensures.pairs)) in
-    let kids : 0 < length c.deref-3.result.now = rw c.deref-3.ensures.value (omega (arith, low)) in
-    spare_for (length c.deref-2.result.now) (length c.deref-3.result.now) (length c.put_beside.new.entries.items) (length c.put_beside.new.kids.items) c.in-Ok-spare_rows.spare c.in-Ok-spare_rows.spare_kids c.in-Ok-spare_rows.ensures longest kids
+    c.in_ok-before.ensures.before ∙ ap (λ b. find g.K.Ord.cmp c.args.key b.pairs) c.index_mut.ensures.value
+    ∙ sym (found_below g.K.Ord.cmp g.met.K.Ord.total c.args.self.now c.self.inside.entries.items c.self.inside.kids.items c.self.view_is c.self.invariant.0 c.requires.sorted c.args.key c.in-Err.at c.index_mut.result.now gap.0 low gap.1 gap.2)
+
+pub returns-in_default-beside-clause-grown : goal.returns-in_default-beside-clause-grown
+returns-in_default-beside-clause-grown g t c =
+    let gap = rw c.deref.ensures.value at c.in-Err.ensures.gap in
+    let some : vec_len c.self.inside.kids ≡ 0 → ⊥ = eqb-false (vec_len c.self.inside.kids) 0 (sym c.is_empty.ensures ∙ c.if-is_empty.false) in
+    let low : c.in-Err.at < length c.self.inside.kids.items = below_kids c.in-Err.at c.self.inside.entries.items c.self.inside.kids.items c.self.invariant.0 (λ e. some (c.self.inside.kids.ok.0 ∙ e)) gap.0 in
+    let grown = subst (λ (k : Branch g.row.K.Denot g.row.V.Denot). HasBecome k.count k.height (put g.K.Ord.cmp c.args.key c.args.value k.pairs) c.insert.new.self c.in_ok-before.beside) c.index_mut.ensures.value c.in_ok-before.ensures.grown in
+    let one = subst (λ o. HasBecome (get_or c.self.inside.kids.items c.in-Err.at c.index_mut.result.now).count (get_or c.self.inside.kids.items c.in-Err.at c.index_mut.result.now).height (put g.K.Ord.cmp c.args.key c.args.value (get_or c.self.inside.kids.items c.in-Err.at c.index_mut.result.now).pairs) c.insert.new.self o) c.in_default-beside.is grown in
+    let kid = kid_of (height_of (slice_set c.self.inside.kids.items c.in-Err.at c.insert.new.self)) c.ease.new.entries.items c.ease.new.kids.items (length c.self.inside.entries.items) c.ease.ensures.node c.ease.ensures.height (omega (arith, c.ease.ensures.kept)) (omega (arith, c.ease.ensures.kept, ap (λ b. b.count) c.self.view_is, c.requires.fits)) in
+    grown_below g.K.Ord.cmp g.met.K.Ord.total c.args.self.now c.self.inside.entries.items c.self.inside.kids.items c.self.view_is c.self.invariant.0 c.requires.sorted c.args.key c.args.value c.in-Err.at c.index_mut.result.now c.insert.new.self Option.None Option.None c.self.inside.entries.items (slice_set c.self.inside.kids.items c.in-Err.at c.insert.new.self) (branch_of c.ease.new.entries.items c.ease.new.kids.items) gap.0 low gap.1 gap.2 one refl refl (kid, c.ease.ensures.pairs)
+
+pub split_long-beside-requires-clause-node : goal.split_long-beside-requires-clause-node
+split_long-beside-requires-clause-node g t c =
+    let gap = rw c.deref.ensures.value at c.in-Err.ensures.gap in
+    let some : vec_len c.self.inside.kids ≡ 0 → ⊥ = eqb-false (vec_len c.self.inside.kids) 0 (sym c.is_empty.ensures ∙ c.if-is_empty.false) in
+    let low : c.in-Err.at < length c.self.inside.kids.items = below_kids c.in-Err.at c.self.inside.entries.items c.self.inside.kids.items c.self.invariant.0 (λ e. some (c.self.inside.kids.ok.0 ∙ e)) gap.0 in
+    let grown = subst (λ (k : Branch g.row.K.Denot g.row.V.Denot). HasBecome k.count k.height (put g.K.Ord.cmp c.args.key c.args.value k.pairs) c.insert.new.self c.in_ok-before.beside) c.index_mut.ensures.value c.in_ok-before.ensures.grown in
+    let entries = c.put_beside.ensures.pairs ∙ ap (λ o. with_pair c.self.inside.entries.items c.in-Err.at o) (sym c.in-Some.is) in
+    let kids = c.put_beside.ensures.kids ∙ ap (λ o. with_kid (slice_set c.self.inside.kids.items c.in-Err.at c.insert.new.self) c.in-Err.at o) (sym c.in-Some.is) in
+    node_below g.K.Ord.cmp g.met.K.Ord.total c.args.self.now c.self.inside.entries.items c.self.inside.kids.items c.self.view_is c.self.invariant.0 c.requires.sorted c.args.key c.args.value c.in-Err.at c.index_mut.result.now c.insert.new.self c.in_ok-before.beside c.put_beside.new.entries.items c.put_beside.new.kids.items gap.0 low grown entries kids
+
+pub split_long-beside-requires-clause-spare : goal.split_long-beside-requires-clause-spare
+split_long-beside-requires-clause-spare g t c long =
+    let gap = rw c.deref.ensures.value at c.in-Err.ensures.gap in
+    let some : vec_len c.self.inside.kids ≡ 0 → ⊥ = eqb-false (vec_len c.self.inside.kids) 0 (sym c.is_empty.ensures ∙ c.if-is_empty.false) in
+    let low : c.in-Err.at < length c.self.inside.kids.items = below_kids c.in-Err.at c.self.inside.entries.items c.self.inside.kids.items c.self.invariant.0 (λ e. some (c.self.inside.kids.ok.0 ∙ e)) gap.0 in
+    let fits : length c.self.inside.entries.items ≤ 32 = omega (arith, ap (λ b. b.count) c.self.view_is, c.requires.fits) in
+    let longest = one_longer c.in-Err.at c.self.inside.entries.items (Option.Some c.in-Some.beside) gap.0 in
+    let full = c.in_ok-before.ensures.only_full (ap is_some c.in-Some.is) in
+    let kid = full_at c.in-Err.at c.self.inside.kids.items c.index_mut.result.now (subst (λ b. 32 ≤ b.count) c.index_mut.ensures.value full) in
+    let spare = rw (c.deref-2.ensures.value, c.deref-3.ensures.value) at c.in-Ok-spare_rows.ensures in
+    spare_for (length c.self.inside.entries.items) (length c.self.inside.kids.items) (length c.put_beside.new.entries.items) (length c.put_beside.new.kids.items) c.in-Ok-spare_rows.spare c.in-Ok-spare_rows.spare_kids (spare (omega (arith, longest, long, ap length c.put_beside.ensures.pairs)) kid) (omega (arith, longest, ap length c.put_beside.ensures.pairs)) (omega (arith, low)) long
 
 pub returns-clause-before : goal.returns-clause-before
 returns-clause-before g t c =
@@ -92,4 +125,12 @@ returns-clause-grown g t c =
     let some : vec_len c.self.inside.kids ≡ 0 → ⊥ = eqb-false (vec_len c.self.inside.kids) 0 (sym c.is_empty.ensures ∙ c.if-is_empty.false) in
     let low : c.in-Err.at < length c.self.inside.kids.items = below_kids c.in-Err.at c.self.inside.entries.items c.self.inside.kids.items c.self.invariant.0 (λ e. some (c.self.inside.kids.ok.0 ∙ e)) gap.0 in
     let grown = subst (λ (k : Branch g.row.K.Denot g.row.V.Denot). HasBecome k.count k.height (put g.K.Ord.cmp c.args.key c.args.value k.pairs) c.insert.new.self c.in_ok-before.beside) c.index_mut.ensures.value c.in_ok-before.ensures.grown in
-    grown_below g.K.Ord.cmp g.met.K.Ord.total c.args.self.now c.self.inside.entries.items c.self.inside.kids.items c.self.view_is c.self.invariant.0 c.requires.sorted c.args.key c.args.value c.in-Err.at c.index_mut.result.now c.insert.new.self c.in_ok-before.beside c.split_long-beside-2.result c.put_beside.new.entries.items c.put_beside.new.kids.items (branch_of c.split_long-beside-2.new.entries.items c.split_long-beside-2.new.kids.items) gap.0 low gap.1 gap.2 grown c.put_beside.ensures.pairs c.put_beside.ensures.kids c.split_long-beside-2.ensures.split
+    let entries = c.put_beside.ensures.pairs ∙ ap (λ o. with_pair c.self.inside.entries.items c.in-Err.at o) (sym c.in-Some.is) in
+    let kids = c.put_beside.ensures.kids ∙ ap (λ o. with_kid (slice_set c.self.inside.kids.items c.in-Err.at c.insert.new.self) c.in-Err.at o) (sym c.in-Some.is) in
+    grown_below g.K.Ord.cmp g.met.K.Ord.total c.args.self.now c.self.inside.entries.items c.self.inside.kids.items c.self.view_is c.self.invariant.0 c.requires.sorted c.args.key c.args.value c.in-Err.at c.index_mut.result.now c.insert.new.self c.in_ok-before.beside c.split_long-beside.result c.put_beside.new.entries.items c.put_beside.new.kids.items (branch_of c.split_long-beside.new.entries.items c.split_long-beside.new.kids.items) gap.0 low gap.1 gap.2 grown entries kids c.split_long-beside.ensures.split
+
+pub returns-clause-only_full : goal.returns-clause-only_full
+returns-clause-only_full g t c some =
+    let gap = rw c.deref.ensures.value at c.in-Err.ensures.gap in
+    let size = one_longer c.in-Err.at c.self.inside.entries.items (Option.Some c.in-Some.beside) gap.0 in
+    omega (arith, c.split_long-beside.ensures.only_long some, size, ap length c.put_beside.ensures.pairs, ap (λ b. b.count) c.self.view_is)

@@ -1,0 +1,34 @@
+//! A full kid eased: a kid beside it, where that has places, takes a run of its pairs.
+ghost use Rattle.std.specs.Prelude.{◌≡◌, ◌<◌, length};
+ghost use Rattle.btree.specs.Rows.{weave, height_of, IsNode, HasRoom};
+
+use crate::mend::rejoin_kids;
+use crate::node::Node;
+
+// Whether a node has places enough to take pairs from a full one. With fewer the same pairs would be moved too often.
+fn has_places<K, V>(node: &Node<K, V>) -> bool {
+    node.count() <= 28
+}
+
+/// Eases a node of which one kid may be full: the kid before it or the one after it gets half of what it has more.
+///
+/// So keys that come in order leave nodes with 30 pairs behind them, where halves of split nodes would have 16.
+pub fn ease<K: Drop, V: Drop>(entries: &mut Vec<(K, V)>, kids: &mut Vec<Node<K, V>>, at: usize)
+    requires in_range { at < length kids.old.items }
+    requires node { IsNode entries.old.items kids.old.items }
+    requires room { HasRoom entries.old kids.old }
+    ensures pairs { weave entries.new.items kids.new.items ≡ weave entries.old.items kids.old.items }
+    ensures node { IsNode entries.new.items kids.new.items }
+    ensures height { height_of kids.new.items ≡ height_of kids.old.items }
+    ensures kept { length entries.new.items ≡ length entries.old.items }
+    ensures room { HasRoom entries.new kids.new }
+{
+    if kids[at].count() < 32 {
+        return;
+    }
+    if at > 0 && has_places(&kids[at - 1]) {
+        rejoin_kids(entries, kids, at);
+    } else if at + 1 < kids.len() && has_places(&kids[at + 1]) {
+        rejoin_kids(entries, kids, at + 1);
+    }
+}
