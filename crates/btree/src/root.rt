@@ -47,8 +47,8 @@ impl<K: Ord, V> Tree<K, V> {
 
     /// How many pairs there are.
     ///
-    /// Its clauses say what holds of every tree: keys rise, each node but the root has 16 to 32 pairs, and a tree of some
-    /// depth has at least so many.
+    /// Its clauses say what holds of every tree: keys rise, each node but the root has 16 to 32 pairs, and a tree of
+    /// some depth has at least so many.
     pub fn len(&self) -> usize
         ensures len { result ≡ length self.now.pairs }
         ensures ascends { Ascends K.cmp self.now.pairs }
@@ -130,10 +130,12 @@ impl<K: Ord, V> Tree<K, V> {
 }
 
 impl<K: Ord + Drop, V: Drop> Tree<K, V> {
-    /// Sets the value of a key, and gives the one before. A key that ties with a stored one leaves that one in its place.
+    /// Sets the value of a key, and gives the one before. A key that ties with a stored one leaves that one in its
+    /// place.
     ///
     /// Refused where there is no memory, or no number for one pair more: then nothing has changed, and both come back.
-    /// Memory is taken on the way down, before the first change, and only where a node on the way is full.
+    /// Memory is taken on the way down, before the first change, and only where a node on the way is full. That a node
+    /// which it has filled gives pairs to its neighbour takes none.
     pub fn insert(
         &mut self,
         alloc: Global,

@@ -126,12 +126,26 @@ fn are_walks_whole(tree: &Tree<u64, u64>, from: u64, above: u64, count: usize) -
     passed == count
 }
 
-fn depth_of(alloc: Global, keys: u64) -> Result<usize, AllocError> {
+// How many levels the tree of the numbers below `keys` has.
+fn depth_of(alloc: Global, keys: u64, rising: bool) -> Result<usize, AllocError> {
     let mut tree = Tree::new(alloc);
     for step in 0..keys {
-        tree.insert(alloc, step, step)?;
+        let number = if rising { step } else { keys - step };
+        tree.insert(alloc, number, step)?;
     }
     Ok(tree.depth())
+}
+
+// Whether the pairs are the numbers below one, each with itself.
+fn are_numbers_below(tree: &Tree<u64, u64>, count: u64) -> bool {
+    let mut want = 0;
+    for (number, value) in tree.iter() {
+        if *number != want || *value != want {
+            return false;
+        }
+        want = want.saturating_add(1);
+    }
+    want == count
 }
 
 // Inserts a number. Where memory is refused, whether all is as before; then once more.
@@ -140,12 +154,11 @@ fn is_refusal_whole(
     tree: &mut Tree<u64, u64>,
     number: u64,
 ) -> Result<bool, AllocError> {
-    let len = tree.len();
     let depth = tree.depth();
     let Err(refused) = tree.insert(alloc, number, number) else {
         return Ok(true);
     };
-    let same = tree.len() == len && tree.depth() == depth && tree.get(&number).0.is_none();
+    let same = tree.depth() == depth && are_numbers_below(tree, number);
     let (key, value) = refused.value;
     tree.insert(alloc, key, value)?;
     Ok(same && key == number && value == number)
@@ -153,12 +166,12 @@ fn is_refusal_whole(
 
 fn are_refusals_whole(alloc: Global) -> Result<bool, AllocError> {
     let mut tree = Tree::new(alloc);
-    for number in 0..700 {
+    for number in 0..1_100 {
         if !is_refusal_whole(alloc, &mut tree, number)? {
             return Ok(false);
         }
     }
-    Ok(tree.len() == 700 && tree.depth() == 3)
+    Ok(tree.len() == 1_100 && tree.depth() == 3)
 }
 
 #[cfg(test)]
@@ -207,7 +220,15 @@ mod tests {
 
     #[test]
     fn tree_of_100000_keys_has_at_most_4_levels(rt: HostRuntime) -> Result<(), AllocError> {
-        assert!(rt; depth_of(rt.alloc(), 100_000)? <= 4);
+        assert!(rt; depth_of(rt.alloc(), 100_000, true)? <= 4);
+        Ok(())
+    }
+
+    // 900 in two levels are at least 28 a leaf: halves of leaves that were cut would need three.
+    #[test]
+    fn keys_in_order_leave_nodes_nearly_full(rt: HostRuntime) -> Result<(), AllocError> {
+        assert_eq!(rt; depth_of(rt.alloc(), 900, true)?, 2);
+        assert_eq!(rt; depth_of(rt.alloc(), 900, false)?, 2);
         Ok(())
     }
 
