@@ -1,24 +1,17 @@
-//! Times of the B-tree: inserts of rising and of shuffled keys, look-ups and walks. Standard output has checksums alone,
-//! which another program with the same keys must print too; times go to standard error.
+//! Times of the B-tree: inserts of rising and of shuffled keys, look-ups and walks. Standard output has checksums
+//! alone, which another program with the same keys must print too; times go to standard error.
 //!
 //! The argument is how many keys there are. A key has 12 to 38 bytes: a number in ten digits, and as many bytes more as
 //! its last digits say, so that keys of near numbers have different lengths.
 #![tactic(auto)]
 
-use arrayvec::ArrayVec;
+mod key;
+
+use crate::key::Key;
 use btree::Tree;
 use std::alloc::{AllocError, Global};
 use std::time::Instant;
 use std::{env, io};
-
-type Key = ArrayVec<u8, 38>;
-
-// Puts a byte behind a key, if there is room.
-fn put(key: &mut Key, byte: u8) {
-    if !key.is_full() {
-        key.push(byte);
-    }
-}
 
 // The key of a number.
 fn key_of(number: u64) -> Key {
@@ -28,14 +21,7 @@ fn key_of(number: u64) -> Key {
         digits[9 - place] = (rest % 10) as u8 + b'0';
         rest /= 10;
     }
-    let mut key = ArrayVec::new();
-    for digit in digits {
-        put(&mut key, digit);
-    }
-    for _ in 0..number % 27 + 2 {
-        put(&mut key, b'.');
-    }
-    key
+    Key::of(digits, (number % 27 + 2) as u8)
 }
 
 // A number below `count`, for each step another one where the two have no factor in common.
