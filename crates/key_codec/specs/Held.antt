@@ -1,5 +1,5 @@
 -- Which bytes a key holds: in the value, or in an allocation.
-use Rattle.std.specs.Prelude.{ℕ, ◌≤◌, List, take}
+use Rattle.std.specs.Prelude.{◌≡◌, ℕ, ◌-◌, ◌≤◌, List, take, drop, replicate}
 use Rattle.key_codec.specs.declared.bytes.Held.{Held}
 use Rattle.key_codec.specs.declared.bytes.Held.TheVariants.{Short, Long}
 
@@ -7,6 +7,10 @@ abbrev pub bytes_of : Held → List ℕ
 bytes_of (Short len room) = take len room
 bytes_of (Long bytes) = bytes.items
 
+-- behind so many bytes the room is zeros
+abbrev pub IsFilled : ℕ → List ℕ → Type 0
+IsFilled len room = (len ≤ 38) × (drop len room ≡ replicate (38 - len) 0)
+
 abbrev pub IsHeld : Held → Type 0
-IsHeld (Short len room) = len ≤ 38
+IsHeld (Short len room) = IsFilled len room
 IsHeld (Long bytes) = Unit {0}

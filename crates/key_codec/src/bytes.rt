@@ -1,13 +1,19 @@
 //! Strings of bytes, of which the short ones lie in the value itself.
-ghost use Rattle.std.specs.Prelude.{◌≡◌, ◌+◌, ◌≤◌, ◌++◌, length, IfOk, IsOk};
+ghost use Rattle.std.specs.Prelude.{◌≡◌, ◌+◌, ◌≤◌, ◌++◌, length, take, IfOk, IsOk};
+ghost use Rattle.std.specs.Ordering.{nat_cmp};
+ghost use Rattle.std.specs.Cmp.Lexicographic.{slice_cmp};
+ghost use Rattle.key_codec.specs.Held.{IsFilled};
 
+use crate::order::compare;
 use std::alloc::{AllocError, Global};
+use std::cmp::Ordering;
 use std::marker::Model;
 
 // How many bytes lie in the value: with them it is as large as with 24, and keys of a name and two or three usual
 // subscripts fit.
 const MOST_SHORT: usize = 38;
 
+// Short bytes lie at the front of the room, and behind them it is zeros: so two rooms are compared whole.
 #[derive(Debug, Drop)]
 enum Held {
     Short(u8, [u8; 38]),
@@ -55,6 +61,20 @@ fn long(alloc: Global, first: &[u8], second: &[u8]) -> Result<Vec<u8>, AllocErro
     Ok(bytes)
 }
 
+// Rooms compare as the bytes in them, since both are zeros behind these: where the rooms are equal, the shorter bytes
+// stand first.
+fn compare_short(len: u8, room: &[u8; 38], other_len: u8, other_room: &[u8; 38]) -> Ordering
+    requires first { IsFilled len room.now }
+    requires second { IsFilled other_len other_room.now }
+    ensures { result ≡ slice_cmp nat_cmp (take len room.now) (take other_len other_room.now) }
+{
+    match compare(room, other_room) {
+        Ordering::Less => Ordering::Less,
+        Ordering::Equal => len.cmp(&other_len),
+        Ordering::Greater => Ordering::Greater,
+    }
+}
+
 impl KeyBytes {
     /// The one, and the other behind it. Takes memory only past 38 bytes.
     pub(crate) fn joined(alloc: Global, first: &[u8], second: &[u8]) -> Result<KeyBytes, AllocError>
@@ -86,6 +106,18 @@ impl KeyBytes {
         match &self.held {
             Held::Short(len, room) => &room[..*len as usize],
             Held::Long(bytes) => bytes.as_slice(),
+        }
+    }
+
+    /// How the bytes compare, one after the other, a beginning first.
+    pub(crate) fn compare(&self, other: &KeyBytes) -> Ordering
+        ensures { result ≡ slice_cmp nat_cmp self.now other.now }
+    {
+        match (&self.held, &other.held) {
+            (Held::Short(len, room), Held::Short(other_len, other_room)) => {
+                compare_short(*len, room, *other_len, other_room)
+            }
+            _ => compare(self.as_slice(), other.as_slice()),
         }
     }
 }

@@ -227,7 +227,7 @@ impl Ord for Key {
     ghost matches_eq = { ref_ties };
 
     fn cmp(&self, other: &Key) -> Ordering {
-        self.as_slice().cmp(&other.as_slice())
+        self.bytes.compare(&other.bytes)
     }
 }
 

@@ -36,6 +36,7 @@ mod count;
 mod draft;
 mod key;
 mod laws;
+mod order;
 mod place;
 mod range;
 mod read;
