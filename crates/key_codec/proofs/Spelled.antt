@@ -6,7 +6,9 @@ use Rattle.std.specs.Cmp.{ranks}
 use Rattle.std.specs.Cmp.Lexicographic.{slice_cmp}
 use Rattle.std.specs.Slice.Scan.{big_endian}
 use Rattle.std.specs.Int.{from_be_bytes, w64}
-use Rattle.std.proofs.lemmas.List.{take-append-drop, length-take}
+use Rattle.std.proofs.Math.Seq.{take-add}
+use Rattle.std.specs.FinMap.{nat_cmp-IsAntisymmetric, slice_cmp-IsAntisymmetric}
+use Rattle.std.proofs.lemmas.List.{take-append-drop, length-take, length-take-le, length-drop, take_all, take-append-le}
 use Rattle.std.specs.declared.cmp.Ordering.{Ordering}
 use Rattle.std.specs.declared.cmp.Ordering.TheVariants.{Less, Equal, Greater}
 
@@ -114,3 +116,52 @@ are_bytes (b ∷ bs) fits = (fits 0, are_bytes bs (λ i. fits (suc i)))
 pub eight : (xs ys : List ℕ) → length xs ≡ 8 → length ys ≡ 8 → AreBytes xs → AreBytes ys → nat_cmp (from_be_bytes w64 xs) (from_be_bytes w64 ys) ≡ slice_cmp nat_cmp xs ys
 eight xs ys long wide first second =
     (λ i. nat_cmp (spelt xs long i) (spelt ys wide i)) ∙ as_numbers 0 xs ys (omega (arith, long, wide)) first second
+
+level_lists : (xs : List ℕ) → slice_cmp nat_cmp xs xs ≡ Equal
+level_lists [] = refl
+level_lists (x ∷ xs) = then_equal (nat_cmp x x) (slice_cmp nat_cmp xs xs) (level x x refl) ∙ level_lists xs
+
+-- behind equal beginnings the rest decides
+pub behind_equal : (n : ℕ) (xs ys : List ℕ) → n ≤ length xs → n ≤ length ys → take n xs ≡ take n ys → slice_cmp nat_cmp xs ys ≡ slice_cmp nat_cmp (drop n xs) (drop n ys)
+behind_equal n xs ys long wide same =
+    in_chunks n xs ys long wide
+    ∙ ap (λ r. ordering_then r (slice_cmp nat_cmp (drop n xs) (drop n ys))) (ap (slice_cmp nat_cmp (take n xs)) (sym same) ∙ level_lists (take n xs))
+
+-- eight more bytes that are equal
+pub eight_more : (n : ℕ) (xs ys : List ℕ) → take n xs ≡ take n ys → slice_cmp nat_cmp (take 8 (drop n xs)) (take 8 (drop n ys)) ≡ Equal → take (n + 8) xs ≡ take (n + 8) ys
+eight_more n xs ys same level =
+    let alike = slice_cmp-IsAntisymmetric nat_cmp-IsAntisymmetric (take 8 (drop n xs)) (take 8 (drop n ys)) level in
+    take-add n 8 xs ∙ (λ i. same i ++ alike i) ∙ sym (take-add n 8 ys)
+
+first_decides : (r t : Ordering) → (r ≡ Equal → ⊥) → r ≡ ordering_then r t
+first_decides Less t unequal = refl
+first_decides Equal t unequal = absurd (unequal refl)
+first_decides Greater t unequal = refl
+
+-- eight unequal bytes behind equal ones decide
+pub eight_decide : (n : ℕ) (xs ys : List ℕ) (r : Ordering) → n + 8 ≤ length xs → n + 8 ≤ length ys → take n xs ≡ take n ys → r ≡ slice_cmp nat_cmp (take 8 (drop n xs)) (take 8 (drop n ys)) → (r ≡ Equal → ⊥) → r ≡ slice_cmp nat_cmp xs ys
+eight_decide n xs ys r long wide same is unequal =
+    let left = length-drop n xs in
+    let left_too = length-drop n ys in
+    first_decides r (slice_cmp nat_cmp (drop 8 (drop n xs)) (drop 8 (drop n ys))) unequal
+    ∙ ap (λ o. ordering_then o (slice_cmp nat_cmp (drop 8 (drop n xs)) (drop 8 (drop n ys)))) is
+    ∙ sym (in_chunks 8 (drop n xs) (drop n ys) (omega (arith, long, left)) (omega (arith, wide, left_too)))
+    ∙ sym (behind_equal n xs ys (omega (arith, long)) (omega (arith, wide)) same)
+
+-- what is equal so far is equal less far
+take_take : (n k : ℕ) (xs : List ℕ) → n ≤ length xs → take n (take (n + k) xs) ≡ take n xs
+take_take n k xs long =
+    let all = length-take-le n xs long in
+    ap (take n) (take-add n k xs) ∙ take-append-le n (take n xs) (take k (drop n xs)) (omega (arith, all)) ∙ take_all n (take n xs) (omega (arith, all))
+
+pub fewer : (n k : ℕ) (xs ys : List ℕ) → n ≤ length xs → n ≤ length ys → take (n + k) xs ≡ take (n + k) ys → take n xs ≡ take n ys
+fewer n k xs ys long wide same = sym (take_take n k xs long) ∙ ap (take n) same ∙ take_take n k ys wide
+
+-- so do the last eight
+pub last_decide : (n : ℕ) (xs ys : List ℕ) (r : Ordering) → length xs ≡ n + 8 → length ys ≡ n + 8 → take n xs ≡ take n ys → r ≡ slice_cmp nat_cmp (take 8 (drop n xs)) (take 8 (drop n ys)) → r ≡ slice_cmp nat_cmp xs ys
+last_decide n xs ys r long wide same is =
+    let left = length-drop n xs in
+    let left_too = length-drop n ys in
+    let all = take_all 8 (drop n xs) (omega (arith, long, left)) in
+    let all_too = take_all 8 (drop n ys) (omega (arith, wide, left_too)) in
+    is ∙ (λ i. slice_cmp nat_cmp (all i) (all_too i)) ∙ sym (behind_equal n xs ys (omega (arith, long)) (omega (arith, wide)) same)

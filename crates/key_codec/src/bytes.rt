@@ -1,10 +1,10 @@
 //! Strings of bytes, of which the short ones lie in the value itself.
-ghost use Rattle.std.specs.Prelude.{◌≡◌, ◌+◌, ◌≤◌, ◌++◌, length, take, IfOk, IsOk};
+ghost use Rattle.std.specs.Prelude.{◌≡◌, ◌+◌, ◌≤◌, ◌++◌, length, take, drop, IfOk, IsOk};
 ghost use Rattle.std.specs.Ordering.{nat_cmp};
 ghost use Rattle.std.specs.Cmp.Lexicographic.{slice_cmp};
 ghost use Rattle.key_codec.specs.Held.{IsFilled};
 
-use crate::order::compare;
+use crate::order::{compare, compare_eight};
 use std::alloc::{AllocError, Global};
 use std::cmp::Ordering;
 use std::marker::Model;
@@ -61,6 +61,36 @@ fn long(alloc: Global, first: &[u8], second: &[u8]) -> Result<Vec<u8>, AllocErro
     Ok(bytes)
 }
 
+// The eight bytes from a place on.
+fn eight_at(room: &[u8; 38], at: usize) -> [u8; 8]
+    requires { at ≤ 30 }
+    ensures { result ≡ take 8 (drop at room.now) }
+{
+    [
+        room[at],
+        room[at + 1],
+        room[at + 2],
+        room[at + 3],
+        room[at + 4],
+        room[at + 5],
+        room[at + 6],
+        room[at + 7],
+    ]
+}
+
+// How two rooms compare: by eight bytes at a time, at last by those from 30 on, of which two were compared before.
+fn compare_rooms(first: &[u8; 38], second: &[u8; 38]) -> Ordering
+    ensures { result ≡ slice_cmp nat_cmp first.now second.now }
+{
+    for word in 0..4usize {
+        match compare_eight(&eight_at(first, 8 * word), &eight_at(second, 8 * word)) {
+            Ordering::Equal => {}
+            unequal => return unequal,
+        }
+    }
+    compare_eight(&eight_at(first, 30), &eight_at(second, 30))
+}
+
 // Rooms compare as the bytes in them, since both are zeros behind these: where the rooms are equal, the shorter bytes
 // stand first.
 fn compare_short(len: u8, room: &[u8; 38], other_len: u8, other_room: &[u8; 38]) -> Ordering
@@ -68,7 +98,7 @@ fn compare_short(len: u8, room: &[u8; 38], other_len: u8, other_room: &[u8; 38])
     requires second { IsFilled other_len other_room.now }
     ensures { result ≡ slice_cmp nat_cmp (take len room.now) (take other_len other_room.now) }
 {
-    match compare(room, other_room) {
+    match compare_rooms(room, other_room) {
         Ordering::Less => Ordering::Less,
         Ordering::Equal => len.cmp(&other_len),
         Ordering::Greater => Ordering::Greater,

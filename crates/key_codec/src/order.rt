@@ -5,8 +5,8 @@ ghost use Rattle.std.specs.Cmp.Lexicographic.{slice_cmp};
 
 use std::cmp::Ordering;
 
-// Eight bytes compare as the number that they spell, the greatest first.
-fn compare_eight(first: &[u8; 8], second: &[u8; 8]) -> Ordering
+/// How eight bytes compare with eight: as the numbers that they spell, the greatest byte first.
+pub(crate) fn compare_eight(first: &[u8; 8], second: &[u8; 8]) -> Ordering
     ensures { result ≡ slice_cmp nat_cmp first.now second.now }
 {
     u64::from_be_bytes(*first).cmp(&u64::from_be_bytes(*second))
