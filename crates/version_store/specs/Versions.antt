@@ -189,6 +189,13 @@ abbrev pub written_and_cut : ℕ → ℕ → List Change → Versions → Versio
 written_and_cut stamp horizon [] m = m
 written_and_cut stamp horizon (c ∷ cs) m = written_and_cut stamp horizon cs (tidied horizon c.0 (with_version stamp c m))
 
+-- the change is written at the stamp, which is now, and its reference is cut
+pub record IsSetAt (stamp cut : ℕ) (c : Change) (old new : Stored) : Type 0 where
+  pub versions : new.versions ≡ tidied cut c.0 (with_version stamp c old.versions)
+  pub present : new.present ≡ stamp
+  pub cut_is : new.cut ≡ cut
+  pub mark : new.mark ≡ old.mark
+
 -- the versions of a reference once a change is written, if there is one, and what nobody at or after the horizon sees is dropped
 abbrev pub row_cut : ℕ → ℕ → Option (Option (List ℕ)) → Row → Row
 row_cut stamp horizon None vs = vs

@@ -46,8 +46,8 @@ impl Store {
         self.place_new(alloc, copy)
     }
 
-    // Reserves cells, so that there are at least `cells`, and keeps those there are.
-    fn reserve(&mut self, cells: usize) -> Result<(), AllocError>
+    /// Reserves cells, so that there are at least `cells`, and keeps those there are.
+    pub(crate) fn reserve(&mut self, cells: usize) -> Result<(), AllocError>
         ensures kept { self.new ≡ record self.old { spare = self.new.spare } }
         ensures spare { self.old.spare ≤ self.new.spare }
         ensures room { OnOk result (cells ≤ self.new.spare) }

@@ -1,0 +1,129 @@
+//! One reference set at a new stamp, and placed on the way.
+ghost use Rattle.std.specs.Prelude.{◌≡◌, ℕ, ◌<◌, ◌≤◌, [], ◌∷◌, None, Some, max, OnOk, OnErr, MatchOption};
+ghost use Rattle.std.specs.FinMap as finmap;
+ghost use Rattle.collation.specs.Order.{ref_cmp};
+ghost use Rattle.collation.specs.Reference.{Reference};
+ghost use Rattle.version_store.specs.Versions.{IsSetAt, content_at, versions_of, row_cut};
+
+use crate::store::Store;
+use collation::Text;
+use key_codec::Key;
+use std::alloc::{AllocError, Global};
+
+impl Store {
+    // Sets a reference that is placed, and cuts it; else the value comes back.
+    fn set_placed(&mut self, stamp: u64, cut: u64, key: &Key, value: Text) -> Option<Text>
+        requires stamp { self.old.present < stamp }
+        requires cut { cut ≤ stamp }
+        requires reserved { 0 < self.old.spare }
+        ensures { MatchOption result (IsSetAt stamp cut (key.now, Some value) self.old self.new)
+            (λ back. (back ≡ value) × (finmap.get self.old.versions key.now ≡ None) × (self.new ≡ self.old)) }
+    {
+        match self.tree.get(key).0 {
+            Some(id) => {
+                let id = *id;
+                self.present = stamp;
+                self.cut = cut;
+                self.chains.push_reserved(id, stamp, Some(value));
+                let _count = self.chains.cut(id, cut);
+                None
+            }
+            None => Some(value),
+        }
+    }
+
+    // Places a reference that isn't, and sets it.
+    fn set_new(
+        &mut self,
+        alloc: Global,
+        stamp: u64,
+        cut: u64,
+        key: Key,
+        value: Text,
+    ) -> Result<(), AllocError>
+        requires stamp { self.old.present < stamp }
+        requires cut { cut ≤ stamp }
+        requires none { finmap.get self.old.versions key ≡ None }
+        ensures ok { OnOk result (IsSetAt stamp cut (key, Some value) self.old self.new) }
+        ensures err { OnErr result (self.new ≡ self.old) }
+    {
+        let id = match self.chains.open() {
+            Ok(id) => id,
+            Err(error) => {
+                drop(key);
+                drop(value);
+                return Err(error);
+            }
+        };
+        match self.tree.insert(alloc, key, id) {
+            Ok(_) => {
+                self.present = stamp;
+                self.cut = cut;
+                self.chains.push_reserved(id, stamp, Some(value));
+                Ok(())
+            }
+            Err(back) => {
+                drop(back);
+                drop(value);
+                self.chains.close(id);
+                Err(AllocError)
+            }
+        }
+    }
+
+    // Sets a reference, which is placed where it isn't, and cuts it.
+    fn place_and_set(
+        &mut self,
+        alloc: Global,
+        stamp: u64,
+        cut: u64,
+        key: Key,
+        value: Text,
+    ) -> Result<(), AllocError>
+        requires stamp { self.old.present < stamp }
+        requires cut { cut ≤ stamp }
+        ensures ok { OnOk result (IsSetAt stamp cut (key, Some value) self.old self.new) }
+        ensures err { OnErr result (self.new ≡ record self.old { spare = self.new.spare }) }
+    {
+        match self.reserve(1) {
+            Ok(()) => {}
+            Err(error) => {
+                drop(key);
+                drop(value);
+                return Err(error);
+            }
+        }
+        match self.set_placed(stamp, cut, &key, value) {
+            None => {
+                drop(key);
+                Ok(())
+            }
+            Some(value) => self.set_new(alloc, stamp, cut, key, value),
+        }
+    }
+
+    /// Sets one reference at a stamp, which is now from here on, and raises the cut to the horizon, where it is below:
+    /// as `write_and_cut` of this one change, but the reference need not be placed. One look-up where it is placed, two
+    /// where it isn't.
+    ///
+    /// Refusals: `AllocError`. After it a cell may be reserved; nothing else has changed.
+    pub fn set_and_cut(
+        &mut self,
+        alloc: Global,
+        stamp: u64,
+        horizon: u64,
+        key: Key,
+        value: Text,
+    ) -> Result<(), AllocError>
+        requires stamp { self.old.present < stamp }
+        requires horizon { horizon ≤ stamp }
+        ensures content { OnOk result (content_at self.new.versions stamp ≡ finmap.insert (content_at self.old.versions self.old.present) key value) }
+        ensures before { OnOk result ((s : ℕ) → self.new.cut ≤ s → s < stamp → content_at self.new.versions s ≡ content_at self.old.versions s) }
+        ensures rows { OnOk result ((r : Reference) → versions_of self.new.versions r ≡ row_cut stamp self.new.cut (finmap.find ref_cmp r ((key, Some value) ∷ [])) (versions_of self.old.versions r)) }
+        ensures set { OnOk result (IsSetAt stamp (max self.old.cut horizon) (key, Some value) self.old self.new) }
+        ensures err { OnErr result (self.new ≡ record self.old { spare = self.new.spare }) }
+    {
+        let cut = self.cut.max(horizon);
+        self.place_and_set(alloc, stamp, cut, key, value)
+    }
+}
