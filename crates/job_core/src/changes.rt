@@ -1,12 +1,12 @@
 //! What a data command changes, gathered before anything is changed.
-ghost use Rattle.std.specs.Prelude.{◌≡◌, ◌≤◌, ◌+◌, ◌++◌, [], None, Some, map, length, vec_len, vec_capacity, IfOk, OnOk, IfErr, IsErrOf, if◌then◌else◌};
+ghost use Rattle.std.specs.Prelude.{◌≡◌, [], None, Some, map, IfOk, OnOk, IfErr, IsErrOf, if◌then◌else◌};
 ghost use Rattle.refusal.specs.declared.Refusal.{Refusal};
 ghost use Rattle.collation.specs.Order.{ref_eq};
 ghost use Rattle.collation.specs.Answers.{subtree_of, merged};
 ghost use Rattle.command.specs.Data.{data_refusal, data_reply};
 ghost use Rattle.command.specs.declared.access.DataCommand.TheVariants.{Merge as merge_command};
 ghost use Rattle.globals.specs.Answering.{IsRuleOrMemory, early_refusal};
-ghost use Rattle.job_core.specs.Changes.{killed, valued, found_changes, own_change};
+ghost use Rattle.job_core.specs.Changes.{killed, valued, found_changes};
 
 use collation::Text;
 use command::{Answer, DataCommand};
@@ -68,7 +68,7 @@ fn merge_changes<V: OrderedView>(
     }
 }
 
-/// The answer of a data command on a view, and what it changes but for its own change, for which there is room.
+/// The answer of a data command on a view, and what it changes but for its own change.
 ///
 /// Refusals: the command's own rule, and `OutOfMemory`, which never hides a rule that is looked at before memory is asked
 /// for.
@@ -79,16 +79,12 @@ pub(crate) fn work_out<V: OrderedView>(
 ) -> Result<(Answer, Vec<(Key, Option<Text>)>), Refusal>
     ensures answer { IfOk result (λ r. r.0 ≡ data_reply command.now (V.content view.now)) }
     ensures changes { IfOk result (λ r. r.1.items ≡ found_changes command.now (V.content view.now)) }
-    ensures room { IfOk result (λ r. vec_len r.1 + length (own_change command.now) ≤ vec_capacity r.1) }
     ensures accepted { OnOk result (data_refusal command.now (V.content view.now) ≡ None) }
     ensures early { (refusal : Refusal) → early_refusal command.now ≡ Some refusal → IsErrOf result refusal }
     ensures cause { IfErr result (λ refusal. IsRuleOrMemory refusal (data_refusal command.now (V.content view.now))) }
 {
     match command {
-        DataCommand::Set(_, _) => {
-            let changes = Vec::with_capacity(alloc, 1)?;
-            Ok((Answer::Done, changes))
-        }
+        DataCommand::Set(_, _) => Ok((Answer::Done, Vec::new(alloc))),
         DataCommand::Kill(key) => {
             let changes = kill_list(alloc, view, key)?;
             Ok((Answer::Done, changes))
@@ -104,25 +100,4 @@ pub(crate) fn work_out<V: OrderedView>(
             Err(refusal) => Err(refusal),
         },
     }
-}
-
-/// The changes that were found, and the command's own.
-pub(crate) fn with_own(
-    command: DataCommand,
-    changes: Vec<(Key, Option<Text>)>,
-) -> Vec<(Key, Option<Text>)>
-    requires { vec_len changes + length (own_change command) ≤ vec_capacity changes }
-    ensures { result.items ≡ changes.items ++ own_change command }
-{
-    let mut changes = changes;
-    match command {
-        DataCommand::Set(key, value) => changes.push_reserved((key, Some(value))),
-        DataCommand::Kill(key) => drop(key),
-        DataCommand::Merge(target, source) => {
-            drop(target);
-            drop(source);
-        }
-        DataCommand::Look(look) => drop(look),
-    }
-    changes
 }

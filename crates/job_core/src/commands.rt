@@ -1,5 +1,5 @@
 //! A data command outside a transaction, in one step.
-ghost use Rattle.std.specs.Prelude.{◌≡◌, ◌≤◌, ◌<◌, ◌^◌, ◌-◌, ◌+◌, [], ◌∷◌, ◌++◌, None, Some, max, length, unwrap_or, vec_len, vec_capacity, IsSome, IfSome, IfOk, OnOk, OnErr, IfErr, IsErrOf};
+ghost use Rattle.std.specs.Prelude.{◌≡◌, ◌≤◌, ◌<◌, ◌^◌, ◌-◌, [], ◌∷◌, ◌++◌, None, Some, max, length, unwrap_or, IsSome, IfSome, IfOk, OnOk, OnErr, IfErr, IsErrOf};
 ghost use Rattle.refusal.specs.declared.Refusal.{Refusal};
 ghost use Rattle.command.specs.Data.{data_refusal, data_reply, data_after};
 ghost use Rattle.journal.specs.declared.unit.Unit.TheVariants.{Lone};
@@ -10,14 +10,14 @@ ghost use Rattle.globals.specs.Answering.{early_refusal};
 ghost use Rattle.job_core.specs.Causes.{IsCause};
 ghost use Rattle.job_core.specs.Changes.{found_changes, own_change};
 
-use crate::changes::{with_own, work_out};
+use crate::changes::work_out;
 use collation::{Job, Text};
 use command::{Answer, DataCommand};
 use journal::{Journal, Receipt};
 use key_codec::Key;
 use refusal::Refusal;
 use std::alloc::{AllocError, Global};
-use validate_commit::write;
+use validate_commit::{write, write_set};
 use version_store::Store;
 
 /// Does a data command of a job outside a transaction, in one step, on a store and a journal that agree.
@@ -51,16 +51,13 @@ pub fn lone(
     ensures cut { store.new.cut ≤ max store.old.cut (unwrap_or oldest (length journal.new.units)) }
 {
     match prepare(alloc, store, journal, job, &command) {
-        Ok((answer, found)) => {
-            let changes = with_own(command, found);
-            match do_prepared(alloc, store, journal, changes, oldest) {
-                Ok(receipt) => Ok((answer, receipt)),
-                Err(_) => {
-                    drop(answer);
-                    Err(Refusal::OutOfMemory)
-                }
+        Ok((answer, found)) => match do_command(alloc, store, journal, command, found, oldest) {
+            Ok(receipt) => Ok((answer, receipt)),
+            Err(_) => {
+                drop(answer);
+                Err(Refusal::OutOfMemory)
             }
-        }
+        },
         Err(refusal) => {
             drop(command);
             Err(refusal)
@@ -78,7 +75,6 @@ fn prepare(
 ) -> Result<(Answer, Vec<(Key, Option<Text>)>), Refusal>
     ensures answer { IfOk result (λ r. r.0 ≡ data_reply command.now (content_now store.now)) }
     ensures changes { IfOk result (λ r. r.1.items ≡ found_changes command.now (content_now store.now)) }
-    ensures room { IfOk result (λ r. vec_len r.1 + length (own_change command.now) ≤ vec_capacity r.1) }
     ensures accepted { OnOk result (data_refusal command.now (content_now store.now) ≡ None) }
     ensures prepared { IfOk result (λ r. journal.new.prepared ≡ Some (Lone job command.now r.0)) }
     ensures counted { OnOk result (length journal.old.units < 2 ^ 64 - 1) }
@@ -97,6 +93,49 @@ fn prepare(
             }
         },
         Err(refusal) => Err(refusal),
+    }
+}
+
+// Does the prepared unit of a command: SET's one change without a list, a look that changes nothing without placing, the
+// others' changes as they were found.
+fn do_command(
+    alloc: Global,
+    store: &mut Store,
+    journal: &mut Journal,
+    command: DataCommand,
+    found: Vec<(Key, Option<Text>)>,
+    oldest: Option<u64>,
+) -> Result<Receipt, AllocError>
+    requires agreed { Agreement store.old journal.old.units }
+    requires prepared { IsSome journal.old.prepared }
+    requires found { found.items ≡ found_changes command (content_now store.old) }
+    requires next { IfSome journal.old.prepared (λ unit. IsNext (found.items ++ own_change command) unit journal.old.units) }
+    requires counted { length journal.old.units < 2 ^ 64 - 1 }
+    requires oldest { IfSome oldest (λ stamp. stamp ≤ length journal.old.units) }
+    ensures agreed { Agreement store.new journal.new.units }
+    ensures units { OnOk result (IfSome journal.old.prepared (λ unit. journal.new.units ≡ journal.old.units ++ unit ∷ [])) }
+    ensures receipt { IfOk result (λ receipt. IfSome journal.old.prepared (λ unit. receipt ≡ record { job = job_of unit; number = length journal.new.units; unit = unit })) }
+    ensures refused { OnErr result ((journal.new.units ≡ journal.old.units) × (content_now store.new ≡ content_now store.old)) }
+    ensures cut { store.new.cut ≤ max store.old.cut (unwrap_or oldest (length journal.new.units)) }
+{
+    match command {
+        DataCommand::Set(key, value) => {
+            drop(found);
+            write_set(alloc, store, journal, key, value, oldest)
+        }
+        DataCommand::Kill(key) => {
+            drop(key);
+            do_prepared(alloc, store, journal, found, oldest)
+        }
+        DataCommand::Merge(target, source) => {
+            drop(target);
+            drop(source);
+            do_prepared(alloc, store, journal, found, oldest)
+        }
+        DataCommand::Look(look) => {
+            drop(look);
+            Ok(write(store, journal, found, oldest))
+        }
     }
 }
 
