@@ -1,5 +1,5 @@
 -- Which references stand before a cut, and which members of a database stand next to it.
-use Rattle.std.specs.Prelude.{◌++◌, ◌≡◌, ℕ, Bool, true, false, not, List, Option, [], ◌∷◌, filter, if◌then◌else◌}
+use Rattle.std.specs.Prelude.{◌++◌, ◌≡◌, ◌≤◌, length, ℕ, Bool, true, false, not, List, Option, [], ◌∷◌, filter, if◌then◌else◌}
 use Rattle.std.specs.Ordering.{is_lt}
 use Rattle.std.specs.FinMap as finmap
 use Rattle.collation.specs.Reference.{Reference, Spot}
@@ -53,3 +53,9 @@ front_under r (e ∷ es) = if is_under r e.0 then e ∷ front_under r es else []
 pub record IsFront (front all : List (Reference × List ℕ)) : Type 0 where
   pub rest : List (Reference × List ℕ)
   pub parts : all ≡ front ++ rest
+
+-- the list begins with these, they are at most so many, and it is empty where they are none
+pub record IsRun (most : ℕ) (run all : List (Reference × List ℕ)) : Type 0 where
+  pub front : IsFront run all
+  pub bounded : length run ≤ most
+  pub ends : run ≡ [] → all ≡ []

@@ -1,6 +1,7 @@
 pub mod Answering
 pub mod Fitting
 pub mod Cuts
+pub mod Runs
 pub mod CutLaws
 pub mod NearestLaws
 pub mod SequenceLaws

@@ -1,2 +1,4 @@
 pub mod Fitting
 pub mod Under
+pub mod Steps
+pub mod Runs

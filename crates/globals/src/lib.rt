@@ -1,10 +1,11 @@
 //! $DATA, $ORDER, $QUERY and MERGE's list over any ordered view of a database, and walks over it.
 //!
-//! A view is whatever implements `OrderedView`: it shows a finite map from references to values, and answers three
-//! look-ups: the value at a reference, the first member from a cut on, the last member before a cut. A cut parts the
-//! references in two: `specs/Cuts.antt`. What each function answers stands in `specs/Answers.antt` of `collation` and
-//! `specs/Data.antt` of `command`, so that callers see one meaning whatever the view is. $GET is the view's own `get`. A
-//! walk is seen as the list of members that it has left, in order.
+//! A view is whatever implements `OrderedView`: it shows a finite map from references to values, and answers four
+//! look-ups: the value at a reference, the first member from a cut on, some of the first members from there on (a
+//! `Run`), the last member before a cut. A cut parts the references in two: `specs/Cuts.antt`. What each function
+//! answers stands in `specs/Answers.antt` of `collation` and `specs/Data.antt` of `command`, so that callers see one
+//! meaning whatever the view is. $GET is the view's own `get`. A walk is seen as the list of members that it has left,
+//! in order; it asks the view for up to 32 members at a look-up.
 //!
 //! Over ^A(1,5), ^A(3), ^B the place ^A(1) forward starts past ^A(1) and finds ^A(3): $ORDER answers 3. Backward
 //! ^A("") starts past ^A and finds ^A(3).
@@ -12,9 +13,11 @@
 //! What the answers and changes say in the words of references and values: `laws.rt`, with `specs/AnswerLaws.antt`
 //! and `specs/ChangeLaws.antt`.
 //!
-//! Read `specs/Cuts.antt`, then `view.rt`, `sibling.rt`, `walk.rt`. The proofs go by lists in lexicographic order:
+//! Read `specs/Cuts.antt`, then `view.rt`, `run.rt`, `sibling.rt`, `ahead.rt`, `walk.rt`. Laws for those who write a
+//! view: `specs/laws/Runs.antt`, `specs/laws/Steps.antt`. The proofs go by lists in lexicographic order:
 //! `specs/SequenceLaws.antt`, `specs/SeekLaws.antt`.
-//! Not promised: how long a view takes for a look-up.
+//! Not promised: how long a view takes for a look-up, and how many look-ups a function makes (`private_tests` counts
+//! them).
 #![tactic(auto)]
 
 pub use answering::{answer, look};
@@ -26,17 +29,20 @@ pub use laws::{
 };
 pub use merge::merge_list;
 pub use node::data;
+pub use run::Run;
 pub use sibling::order;
 pub use traversal::query;
 pub use view::OrderedView;
 pub use walk::{Descent, Walk, subtree, walk_from};
 
+mod ahead;
 mod answering;
 mod cut;
 mod laws;
 mod levels;
 mod merge;
 mod node;
+mod run;
 mod sibling;
 mod traversal;
 mod view;

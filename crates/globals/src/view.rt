@@ -1,12 +1,12 @@
 //! What the data functions need of a database.
-ghost use Rattle.std.specs.Prelude.{◌≡◌, Some, None, MatchOption};
+ghost use Rattle.std.specs.Prelude.{◌≡◌, ◌≤◌, Some, None, MatchOption};
 ghost use Rattle.std.specs.Option.{option_copied, option_map};
 ghost use Rattle.std.specs.FinMap as map;
 ghost use Rattle.collation.specs.Database.{Database};
 ghost use Rattle.collation.specs.Answers.{is_forward};
-ghost use Rattle.globals.specs.Cuts.{entries_from, first_from, last_before, next_to, IsFront};
+ghost use Rattle.globals.specs.Cuts.{entries_from, first_from, last_before, next_to, IsRun};
 
-use crate::Cut;
+use crate::{Cut, Run};
 use collation::{Direction, Text};
 use key_codec::Key;
 
@@ -30,10 +30,12 @@ pub trait OrderedView {
         ensures { MatchOption result (first_from cut.entry (content self.now) ≡ None)
             (λ e. first_from cut.entry (content self.now) ≡ Some (e.0.now, e.1.now)) };
 
-    /// Neighbours from the cut on, with their values: a beginning of what doesn't stand before it. How many is up to the
-    /// view, which lends what lies together, and nothing where it would have to gather.
-    fn run(&self, cut: Cut<'_>) -> &[(Key, Text)]
-        ensures { IsFront result.now (entries_from cut.entry (content self.now)) };
+    /// Some of the first members that don't stand before the cut, in order, each with its value: at most `most`, which is 1
+    /// to 32, and none only where there is none. A view may give fewer than it is asked for. Takes no memory.
+    fn gather(&self, cut: Cut<'_>, most: usize) -> Run<'_>
+        requires some { 1 ≤ most }
+        requires few { most ≤ 32 }
+        ensures { IsRun most result (entries_from cut.entry (content self.now)) };
 
     /// The last reference with a value that stands before the cut, with its value.
     fn prev(&self, cut: Cut<'_>) -> Option<(&Key, &Text)>

@@ -4,8 +4,9 @@ ghost use Rattle.collation.specs.Nearest.{nearest};
 ghost use Rattle.collation.specs.Answers.{is_forward};
 ghost use Rattle.overlay_view.specs.Merging.{is_left, lent_node, nearer as nearer_spec};
 
+use crate::gathering::{gather_left, join};
 use collation::{Direction, Text};
-use globals::{Cut, OrderedView};
+use globals::{Cut, OrderedView, Run};
 use key_codec::Key;
 use workspace::Workspace;
 
@@ -112,9 +113,10 @@ impl<'v, V: OrderedView> OrderedView for Overlay<'v, V> {
         nearer(own, below, Direction::Forward)
     }
 
-    // Neighbours of two layers lie apart, so nothing is lent at once.
-    fn run(&self, _cut: Cut<'_>) -> &[(Key, Text)] {
-        &[]
+    fn gather(&self, cut: Cut<'_>, most: usize) -> Run<'_> {
+        let own = self.workspace.written().gather(cut, most);
+        let below = gather_left(self.workspace, self.view, cut, most);
+        join(own, below, most)
     }
 
     fn prev(&self, cut: Cut<'_>) -> Option<(&Key, &Text)> {

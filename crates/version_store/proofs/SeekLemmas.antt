@@ -40,6 +40,26 @@ pub next_in : (B : Reference → Bool) (c : State) (ps : Pairs) (s : ℕ) → is
     → first_of (seen_at s (rows c (filter (λ p. not (B p.0)) ps))) ≡ nearest true (λ x. not (B x)) (content_at (versions_in c ps) s)
 next_in B c ps s h = sym (ap (find (λ e. not (B e.0))) (entries_content (versions_in c ps) s ∙ ap (seen_at s) (entries_in c ps h)) ∙ find_seen (λ x. not (B x)) c s ps)
 
+-- what is seen of the rows that pass a test
+seen_filter : (P : Reference → Bool) (c : State) (s : ℕ) (ps : Pairs) → filter (λ e. P e.0) (seen_at s (rows c ps)) ≡ seen_at s (rows c (filter (λ p. P p.0) ps))
+seen_filter P c s [] = refl
+seen_filter P c s (p ∷ ps) = by_case (P p.0) refl (at_of s (versions_at c p.1)) refl (seen_filter P c s ps)
+  where
+    by_case : (b : Bool) → P p.0 ≡ b → (v : Option (List ℕ)) → at_of s (versions_at c p.1) ≡ v
+        → filter (λ e. P e.0) (seen_at s (rows c ps)) ≡ seen_at s (rows c (filter (λ q. P q.0) ps))
+        → filter (λ e. P e.0) (with_value p.0 v (seen_at s (rows c ps))) ≡ seen_at s (rows c (cond b (p ∷ filter (λ q. P q.0) ps) (filter (λ q. P q.0) ps)))
+    by_case true b None v rest = rest ∙ sym (ap (λ o. with_value p.0 o (seen_at s (rows c (filter (λ q. P q.0) ps)))) v)
+    by_case true b (Some x) v rest =
+        ap (λ t. cond t ((p.0, x) ∷ filter (λ e. P e.0) (seen_at s (rows c ps))) (filter (λ e. P e.0) (seen_at s (rows c ps)))) b
+        ∙ ap (λ l. (p.0, x) ∷ l) rest
+        ∙ sym (ap (λ o. with_value p.0 o (seen_at s (rows c (filter (λ q. P q.0) ps)))) v)
+    by_case false b None v rest = rest
+    by_case false b (Some x) v rest = ap (λ t. cond t ((p.0, x) ∷ filter (λ e. P e.0) (seen_at s (rows c ps))) (filter (λ e. P e.0) (seen_at s (rows c ps)))) b ∙ rest
+
+pub entries_seen : (B : Reference → Bool) (c : State) (ps : Pairs) (s : ℕ) → is_sorted ref_cmp ps ≡ true
+    → seen_at s (rows c (filter (λ p. not (B p.0)) ps)) ≡ filter (λ e. not (B e.0)) (finmap.entries (content_at (versions_in c ps) s))
+entries_seen B c ps s h = sym (ap (filter (λ e. not (B e.0))) (entries_content (versions_in c ps) s ∙ ap (seen_at s) (entries_in c ps h)) ∙ seen_filter (λ x. not (B x)) c s ps)
+
 -- ---- backward
 
 or_none : {A : Type 0} (o : Option A) → option_or o None ≡ o
@@ -144,3 +164,7 @@ key_in B c ps h =
 -- what a walk passes is sorted
 pub sorted_filter : (P : Reference → Bool) (ps : Pairs) → is_sorted ref_cmp ps ≡ true → is_sorted ref_cmp (filter (λ p. P p.0) ps) ≡ true
 sorted_filter P ps h = true_of _ (is_sorted-where_key ref_cmp P ps (passes _ h))
+
+-- the first pair that a walk has left has a value
+pub seen_first : (c : State) (s : ℕ) (left later : Pairs) (p : Reference × ℕ) (x : List ℕ) → left ≡ p ∷ later → Some x ≡ at_of s (versions_at c p.1) → seen_at s (rows c left) ≡ (p.0, x) ∷ seen_at s (rows c later)
+seen_first c s left later p x first is = ap (λ ps. seen_at s (rows c ps)) first ∙ ap (λ o. with_value p.0 o (seen_at s (rows c later))) (sym is)

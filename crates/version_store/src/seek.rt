@@ -1,7 +1,7 @@
 //! The members next to a cut in the content at a stamp, by walks over the tree.
-ghost use Rattle.std.specs.Prelude.{◌≡◌};
+ghost use Rattle.std.specs.Prelude.{◌≡◌, ◌≤◌};
 ghost use Rattle.std.specs.Option.{option_map};
-ghost use Rattle.globals.specs.Cuts.{first_from, last_before};
+ghost use Rattle.globals.specs.Cuts.{entries_from, first_from, last_before, IsRun};
 ghost use Rattle.version_store.specs.Versions.{content_at, seen_at, first_of};
 ghost use Rattle.version_store.specs.Tied.{rows, AreOpen};
 
@@ -9,7 +9,7 @@ use crate::point::CutPoint;
 use crate::store::Store;
 use btree::{Walk, WalkBack};
 use collation::Text;
-use globals::Cut;
+use globals::{Cut, Run};
 use key_codec::Key;
 use version_chain::{ChainId, Chains};
 
@@ -47,6 +47,30 @@ fn last_valued<'v>(
     None
 }
 
+// The first of the references that are left whose chains have a value at the stamp, with the values; at most so many.
+fn gather_valued<'v>(
+    walk: Walk<'v, Key, ChainId>,
+    chains: &'v Chains<Text>,
+    stamp: u64,
+    most: usize,
+) -> Run<'v>
+    requires some { 1 ≤ most }
+    requires few { most ≤ 32 }
+    requires opened { AreOpen chains.now walk }
+    ensures { IsRun most result (seen_at stamp (rows chains.now walk.entry)) }
+{
+    let mut run = Run::new();
+    for (key, id) in walk {
+        if let Some(text) = chains.at(*id, stamp) {
+            run.push(key, text);
+            if run.len() == most {
+                return run;
+            }
+        }
+    }
+    run
+}
+
 impl Store {
     // The first reference that has a value at the stamp and doesn't stand before the cut, with the value.
     pub(crate) fn next_at(&self, cut: Cut<'_>, stamp: u64) -> Option<(&Key, &Text)>
@@ -62,5 +86,15 @@ impl Store {
     {
         let walk = self.tree.back_from(&CutPoint { cut });
         last_valued(walk, &self.chains, stamp)
+    }
+
+    // The first references that have a value at the stamp and don't stand before the cut, with the values; at most so many.
+    pub(crate) fn gather_at(&self, cut: Cut<'_>, stamp: u64, most: usize) -> Run<'_>
+        requires some { 1 ≤ most }
+        requires few { most ≤ 32 }
+        ensures { IsRun most result (entries_from cut.entry (content_at self.now.versions stamp)) }
+    {
+        let walk = self.tree.from(&CutPoint { cut });
+        gather_valued(walk, &self.chains, stamp, most)
     }
 }

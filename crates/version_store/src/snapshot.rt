@@ -1,7 +1,7 @@
 //! Content at one stamp.
 use crate::store::Store;
 use collation::Text;
-use globals::{Cut, OrderedView};
+use globals::{Cut, OrderedView, Run};
 use key_codec::Key;
 use std::marker::Model;
 
@@ -34,9 +34,8 @@ impl<'a> OrderedView for Snapshot<'a> {
         self.store.next_at(cut, self.stamp)
     }
 
-    // Values lie in the chains and not beside the keys, so nothing is lent at once.
-    fn run(&self, _cut: Cut<'_>) -> &[(Key, Text)] {
-        &[]
+    fn gather(&self, cut: Cut<'_>, most: usize) -> Run<'_> {
+        self.store.gather_at(cut, self.stamp, most)
     }
 
     fn prev(&self, cut: Cut<'_>) -> Option<(&Key, &Text)> {
