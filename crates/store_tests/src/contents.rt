@@ -1,6 +1,6 @@
 //! Worked versions: what each stamp shows, what a snapshot refuses, and what is left once a collector has been.
 use collation::{Name, Ref, Subscripts, Text};
-use globals::{Cut, OrderedView};
+use globals::{Cut, OrderedView, Run};
 use key_codec::Key;
 use refusal::Refusal;
 use std::alloc::Global;
@@ -105,6 +105,30 @@ fn worked_versions_show_their_contents(rt: HostRuntime) -> Result<(), Fail> {
     assert_eq!(rt; first_at(&store, 3), Ok(Some(b'B')));
     assert_eq!(rt; first_at(&store, 4), Ok(Some(b'A')));
     assert_eq!(rt; first_at(&store, 5), Err(Refusal::Ahead));
+    Ok(())
+}
+
+fn last_name(run: &Run<'_>) -> Option<u8> {
+    match run.last() {
+        Some((key, _)) => key.name().first().copied(),
+        None => None,
+    }
+}
+
+// How many nodes a stamp shows, and the name of the last of them.
+fn gathered_at(store: &Store, stamp: u64) -> Result<(usize, Option<u8>), Refusal> {
+    let view = store.view_at(stamp)?;
+    let run = view.gather(Cut::Start, 32);
+    Ok((run.len(), last_name(&run)))
+}
+
+#[test]
+fn snapshots_gather_what_has_a_value(rt: HostRuntime) -> Result<(), Fail> {
+    let mut store = Store::new(rt.alloc());
+    assert!(rt; worked(rt.alloc(), &mut store)?);
+    assert_eq!(rt; gathered_at(&store, 2), Ok((0, None)));
+    assert_eq!(rt; gathered_at(&store, 3), Ok((1, Some(b'B'))));
+    assert_eq!(rt; gathered_at(&store, 4), Ok((2, Some(b'B'))));
     Ok(())
 }
 
