@@ -58,7 +58,7 @@ is_zero (b ∷ c ∷ bs) = false
 abbrev pub is_canonic : List ℕ → Bool
 is_canonic s = is_zero s || is_magnitude (magnitude s)
 
--- the worth of digits, where the first is worth 10^(n-1) and each a tenth of the one before
+-- the worth of digits, where the first is worth 10^(n-1) and each a tenth of the one before; those past the n-th count as units (n - 1 is 0 there)
 abbrev pub worth : ℕ → List ℕ → ℕ
 worth n [] = 0
 worth n (d ∷ ds) = (d - 48) * 10 ^ (n - 1) + worth (n - 1) ds

@@ -1,6 +1,5 @@
 //! Numeric literals: the canonic text of one.
-ghost use Rattle.std.specs.Prelude.{◌≡◌, ◌↔◌, [], ◌++◌, true, IfErr, IfOk, IfSome, IsSome, IsTrue, MatchOption, OnErr, is_some};
-ghost use Rattle.std.specs.Prelude.{◌&&◌};
+ghost use Rattle.std.specs.Prelude.{◌≡◌, ◌↔◌, [], ◌++◌, true, IfErr, IfOk, IfSome, IsSome, IsTrue, MatchOption, OnErr, is_some, ◌&&◌};
 ghost use Rattle.std.specs.Char.{is_ascii_digit};
 ghost use Rattle.std.specs.List.{list_all};
 ghost use Rattle.canonic_number.specs.Grammar.{IsNumericLiteral};
@@ -16,8 +15,8 @@ use std::alloc::Global;
 /// The canonic text of a numeric literal; none where the text is no numeric literal.
 ///
 /// A literal is an optional `-`, then digits, digits `.` digits, or `.` digits, of any length. Its value stays:
-/// zeros before its first digit that counts and zeros at the end of its fraction go, and zero is `0`.
-/// Refusals: `OutOfMemory`, only of a literal. Takes memory once, for the answer.
+/// leading zeros and trailing zeros of the fraction are dropped, and zero is `0`.
+/// Refusals: `OutOfMemory`, only of a literal.
 pub fn canonic_of(alloc: Global, text: &[u8]) -> Result<Option<Vec<u8>>, Refusal>
     ensures test { IfOk result (λ answer. is_some answer ≡ literal.is_numeric text.now) }
     ensures grammar { IfOk result (λ answer. IsSome answer ↔ IsNumericLiteral text.now) }

@@ -1,25 +1,20 @@
 -- What $DATA, $ORDER and $QUERY answer, and what MERGE copies. Source: docs/RULES.md, "Data commands".
-use Rattle.std.specs.Prelude.{ℕ, ◌+◌, Bool, true, false, ◌&&◌, nat_lt, List, [], ◌++◌, map, filter, fold, drop, length, Option, None, Some, unwrap_or, if◌then◌else◌}
+use Rattle.std.specs.Prelude.{ℕ, ◌+◌, Bool, true, false, ◌&&◌, nat_lt, List, [], ◌++◌, map, filter, fold, drop, length, Option, unwrap_or, if◌then◌else◌}
 use Rattle.std.specs.Ordering.{is_lt}
-use Rattle.std.specs.Option.{option_map, option_and_then}
-use Rattle.std.specs.List.{list_any}
+use Rattle.std.specs.List.{list_any, filter_map}
 use Rattle.std.specs.FinMap as finmap
 use Rattle.collation.specs.declared.direction.Direction.{Direction}
 use Rattle.collation.specs.declared.direction.Direction.TheVariants.{Forward, Backward}
 use Rattle.collation.specs.Reference.{Reference, Spot}
-use Rattle.collation.specs.Order.{subscript_cmp}
+use Rattle.collation.specs.Order.{subscript_cmp, ref_cmp, ref_eq}
 use Rattle.collation.specs.Database.{Database, is_under}
 use Rattle.collation.specs.Nearest.{nearest}
-use Rattle.collation.specs.Levels.{child_of, is_below, has_name, parent_of, last, is_after, is_before}
+use Rattle.collation.specs.Levels.{child_of, is_below, has_name, parent_of, last, is_before}
+use Rattle.collation.specs.Limits.{most_subscripts}
 
 -- 1 where r has a value, and 10 more where a descendant of r has one
 abbrev pub data_of : Reference → Database → ℕ
 data_of r m = (if finmap.contains_key m r then 1 else 0) + (if list_any (is_below r) (finmap.keys m) then 10 else 0)
-
--- the element is there and passes the test
-abbrev pub any_of : {A : Type 0} → (A → Bool) → Option A → Bool
-any_of P None = false
-any_of P (Some x) = P x
 
 -- the subscript t comes after the start, or (not forward) before it. An open start comes before all, and backward after all
 abbrev pub is_beyond : Bool → Spot → List ℕ → Bool
@@ -27,21 +22,21 @@ is_beyond forward p t =
     if p.is_open then true
     else (if forward then is_lt (subscript_cmp (last p.reference.subscripts) t) else is_lt (subscript_cmp t (last p.reference.subscripts)))
 
--- x stands at or under a sibling beyond the start
-abbrev pub counts : Bool → Spot → Reference → Bool
-counts forward p x = any_of (is_beyond forward p) (child_of (parent_of p) x)
+-- the subscripts one level below r that the members of the database have there, in order
+abbrev pub children_of : Reference → Database → List (List ℕ)
+children_of r m = filter_map (child_of r) (finmap.keys m)
 
--- the subscript of the nearest such sibling, or the empty string
+-- the nearest sibling beyond the start, or the empty string
 abbrev pub order_of : Bool → Spot → Database → List ℕ
-order_of forward p m = unwrap_or (option_and_then (λ e. child_of (parent_of p) e.0) (nearest forward (counts forward p) m)) []
+order_of forward p m = unwrap_or (nearest forward (filter (is_beyond forward p) (children_of (parent_of p) m))) []
 
 -- x has the name of the place and stands beyond it. An open place stands directly after its reference, and backward after all under it
 abbrev pub follows : Bool → Spot → Reference → Bool
-follows forward p x = has_name p.reference x && (if forward then is_after false p.reference x else is_before p.is_open p.reference x)
+follows forward p x = has_name p.reference x && (if forward then is_lt (ref_cmp p.reference x) else is_before p.is_open p.reference x)
 
 -- the nearest member of the name beyond the place
 abbrev pub query_of : Bool → Spot → Database → Option Reference
-query_of forward p m = option_map (λ e. e.0) (nearest forward (follows forward p) m)
+query_of forward p m = nearest forward (filter (follows forward p) (finmap.keys m))
 
 -- the members at or under r, in order
 abbrev pub subtree_of : Reference → Database → List (Reference × List ℕ)
@@ -51,17 +46,17 @@ subtree_of r m = filter (λ e. is_under r e.0) (finmap.entries m)
 abbrev pub moved : Reference → Reference → Reference → Reference
 moved a b x = record { name = a.name; subscripts = a.subscripts ++ drop (length b.subscripts) x.subscripts }
 
--- what MERGE sets: each member at or under b, moved to a
+-- what MERGE sets: each member at or under b, moved to a; into itself it sets nothing
 abbrev pub merged : Reference → Reference → Database → List (Reference × List ℕ)
-merged a b m = map (λ e. (moved a b e.0, e.1)) (subtree_of b m)
+merged a b m = if ref_eq a b then [] else map (λ e. (moved a b e.0, e.1)) (subtree_of b m)
 
 -- the database with these values set, in turn
 abbrev pub set_all : List (Reference × List ℕ) → Database → Database
 set_all es m = fold (λ (n : Database) (e : Reference × List ℕ). finmap.insert n e.0 e.1) m es
 
--- some copy would have more than 31 subscripts
+-- some copy would have too many subscripts
 abbrev pub is_too_deep : Reference → Reference → Database → Bool
-is_too_deep a b m = list_any (λ e. nat_lt 31 (length e.0.subscripts)) (merged a b m)
+is_too_deep a b m = list_any (λ e. nat_lt most_subscripts (length e.0.subscripts)) (merged a b m)
 
 abbrev pub is_forward : Direction → Bool
 is_forward Forward = true

@@ -3,6 +3,7 @@ use Rattle.std.specs.Prelude.{ℕ, Bool, false, Option, None, Some, List, [], �
 use Rattle.refusal.specs.declared.Refusal.{Refusal}
 use Rattle.refusal.specs.declared.Refusal.TheVariants.{EmptySubscript, SubscriptTooLong, TooManySubscripts}
 use Rattle.canonic_number.specs.Number.{limit}
+use Rattle.collation.specs.Limits.{most_subscripts}
 
 -- the first fault from left to right: empty, or longer than the limit
 abbrev pub subscripts_fault : List (List ℕ) → Option Refusal
@@ -12,7 +13,7 @@ subscripts_fault (s ∷ ss) =
 
 -- the number of subscripts is looked at first
 abbrev pub reference_fault : List (List ℕ) → Option Refusal
-reference_fault ss = if nat_lt 31 (length ss) then Some TooManySubscripts else subscripts_fault ss
+reference_fault ss = if nat_lt most_subscripts (length ss) then Some TooManySubscripts else subscripts_fault ss
 
 -- the last subscript is empty
 abbrev pub ends_open : List (List ℕ) → Bool
@@ -26,6 +27,6 @@ closed_part [] = []
 closed_part (s ∷ []) = if length s == 0 then [] else s ∷ []
 closed_part (s ∷ t ∷ ts) = s ∷ closed_part (t ∷ ts)
 
--- the same of a place, whose last subscript may be empty and counts among the 31
+-- the same of a place, whose last subscript may be empty and counts among them
 abbrev pub place_fault : List (List ℕ) → Option Refusal
-place_fault ss = if nat_lt 31 (length ss) then Some TooManySubscripts else reference_fault (closed_part ss)
+place_fault ss = if nat_lt most_subscripts (length ss) then Some TooManySubscripts else reference_fault (closed_part ss)

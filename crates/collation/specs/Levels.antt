@@ -1,5 +1,5 @@
 -- Which references stand below one, and which stand before a cut.
-use Rattle.std.specs.Prelude.{ℕ, Bool, true, false, not, ◌&&◌, ◌||◌, nat_eq, List, [], ◌∷◌, ◌++◌, Option, None, Some, is_some, if◌then◌else◌}
+use Rattle.std.specs.Prelude.{ℕ, Bool, ◌||◌, nat_eq, nat_lt, List, [], ◌∷◌, ◌++◌, length, Option, None, Some, is_some, if◌then◌else◌}
 use Rattle.std.specs.Cmp.Lexicographic.{pointwise}
 use Rattle.std.specs.Ordering.{is_lt}
 use Rattle.collation.specs.Reference.{Reference, Spot}
@@ -24,10 +24,6 @@ is_below r x = is_some (child_of r x)
 abbrev pub has_name : Reference → Reference → Bool
 has_name r x = pointwise nat_eq r.name x.name
 
-abbrev pub is_nil : List (List ℕ) → Bool
-is_nil [] = true
-is_nil (s ∷ ss) = false
-
 -- all but the last
 abbrev pub front : List (List ℕ) → List (List ℕ)
 front [] = []
@@ -43,14 +39,6 @@ last (x ∷ y ∷ ys) = last (y ∷ ys)
 abbrev pub parent_of : Spot → Reference
 parent_of p = if p.is_open then p.reference else record { name = p.reference.name; subscripts = front p.reference.subscripts }
 
--- x stands after r and all that is under r
-abbrev pub is_past : Reference → Reference → Bool
-is_past r x = not (is_under r x) && is_lt (ref_cmp r x)
-
--- x stands after r, or (whole) after all that is under r
-abbrev pub is_after : Bool → Reference → Reference → Bool
-is_after whole r x = if whole then is_past r x else is_lt (ref_cmp r x)
-
 -- x stands before r, or (whole) before the end of all that is under r
 abbrev pub is_before : Bool → Reference → Reference → Bool
 is_before whole r x = if whole then (is_under r x || is_lt (ref_cmp x r)) else is_lt (ref_cmp x r)
@@ -61,7 +49,7 @@ overlap a b = is_below a b || is_below b a
 
 -- a place that names a level: it has a subscript, if an empty one
 abbrev pub has_level : Spot → Bool
-has_level p = p.is_open || not (is_nil p.reference.subscripts)
+has_level p = p.is_open || nat_lt 0 (length p.reference.subscripts)
 
 -- the reference one level below r
 abbrev pub below : Reference → List ℕ → Reference

@@ -1,9 +1,12 @@
 pub mod Order
 pub mod OrderLaws
 pub mod Reference
+pub mod Limits
+pub mod Bytes
 pub mod Name
 pub mod Faults
 pub mod Database
+pub mod Changes
 pub mod Nearest
 pub mod Levels
 pub mod Answers

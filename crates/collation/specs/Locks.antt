@@ -1,5 +1,5 @@
 -- Lock state, and what LOCK replies and leaves, or why it is refused. Source: docs/RULES.md, "Locks".
-use Rattle.std.specs.Prelude.{ℕ, ◌+◌, ◌-◌, ◌==◌, max, Bool, true, false, not, ◌&&◌, ◌||◌, nat_lt, nat_le, List, [], fold, Option, None, Some, unwrap_or, if◌then◌else◌}
+use Rattle.std.specs.Prelude.{◌≡◌, ◌<◌, ℕ, ◌+◌, ◌-◌, ◌==◌, max, Bool, true, false, not, ◌&&◌, ◌||◌, nat_lt, nat_le, List, [], fold, Option, None, Some, unwrap_or, if◌then◌else◌}
 use Rattle.std.specs.declared.cmp.Ordering.{Ordering}
 use Rattle.std.specs.Ordering.{nat_cmp, bool_cmp, on, then_cmp}
 use Rattle.std.specs.Bool.{beq}
@@ -11,10 +11,9 @@ use Rattle.refusal.specs.declared.Refusal.TheVariants.{LockCountFull}
 use Rattle.collation.specs.declared.lock.LockCommand.{LockCommand}
 use Rattle.collation.specs.declared.lock.LockCommand.TheVariants.{Release, Only, More, Fewer}
 use Rattle.collation.specs.Reference.{Resource}
-use Rattle.std.specs.Cmp.{IsEquivalence, and_equiv, on_equiv, bool_eq_equiv}
 use Rattle.collation.specs.Order.{ref_cmp, ref_eq}
-use Rattle.collation.specs.OrderLaws.{ref_eq_laws}
 use Rattle.collation.specs.Database.{is_under}
+use Rattle.collation.specs.Limits.{most_locks}
 
 -- those without a caret first, and then as references
 unfoldable pub resource_cmp : Resource → Resource → Ordering
@@ -24,15 +23,16 @@ resource_cmp = then_cmp (on (λ n. n.has_caret) bool_cmp) (on (λ n. n.reference
 abbrev pub resource_eq : Resource → Resource → Bool
 resource_eq n x = beq n.has_caret x.has_caret && ref_eq n.reference x.reference
 
-pub resource_eq_laws : IsEquivalence resource_eq
-resource_eq_laws = and_equiv (on_equiv (λ n. n.has_caret) bool_eq_equiv) (on_equiv (λ n. n.reference) ref_eq_laws)
-
 -- how many times each resource is had; one that has no entry is had no time
 abbrev pub Counts : Type 0
 Counts = FinMap resource_cmp ℕ
 
 abbrev pub count_of : Counts → Resource → ℕ
 count_of counts n = unwrap_or (finmap.get counts n) 0
+
+-- an entry has a count above 0
+abbrev pub HasNoZeros : Counts → Type 0
+HasNoZeros counts = (n : Resource) (v : ℕ) → finmap.get counts n ≡ Some v → 0 < v
 
 -- one more of each, in turn
 abbrev pub more_of : List Resource → Counts → Counts
@@ -99,9 +99,9 @@ want_kept (Fewer ns) want = fewer_of ns want
 abbrev pub lock_reply : ℕ → LockCommand → LockState → Bool
 lock_reply job command s = not (list_any (is_blocked s job) (asked command))
 
--- a LOCK is refused where it would leave a count above 65,535, were nothing blocked
+-- a LOCK is refused where it would leave a count above the limit, were nothing blocked
 abbrev pub lock_refusal : ℕ → LockCommand → LockState → Option Refusal
-lock_refusal job command s = if list_any (λ n. nat_lt 65535 (count_of (want_had command (locks_of job s).want) n)) (asked command) then Some LockCountFull else None
+lock_refusal job command s = if list_any (λ n. nat_lt most_locks (count_of (want_had command (locks_of job s).want) n)) (asked command) then Some LockCountFull else None
 
 -- a job comes to want these counts: outside a transaction it holds them alone; inside it holds the greatest since its start, which is remembered
 abbrev pub job_wants : Bool → Counts → JobLocks → JobLocks

@@ -2,13 +2,16 @@
 use Rattle.std.specs.Prelude.{◌≡◌, Bool, true, false}
 use Rattle.std.proofs.Common.{refl, ap, subst}
 use Rattle.std.specs.Bool.{beq, Decides}
-use Rattle.std.specs.Cmp.{first_so, second_so}
+use Rattle.std.specs.Cmp.{first_so, second_so, IsEquivalence, and_equiv, on_equiv, bool_eq_equiv}
 use Rattle.std.specs.Ordering.{eq_by_cmp}
 use Rattle.std.proofs.lemmas.Bool.{and_from}
 use Rattle.collation.specs.Reference.{Resource}
-use Rattle.collation.specs.OrderLaws.{ref_eq_decides, ties_of}
+use Rattle.collation.specs.OrderLaws.{ref_eq_decides, ties_of, ref_eq_laws}
 use Rattle.collation.specs.Locks.{resource_cmp, resource_eq}
 use Rattle.collation.specs.CountingLaws.{resource_cmp_total, resource_cmp-IsAntisymmetric}
+
+pub resource_eq_laws : IsEquivalence resource_eq
+resource_eq_laws = and_equiv (on_equiv (λ n. n.has_caret) bool_eq_equiv) (on_equiv (λ n. n.reference) ref_eq_laws)
 
 beq_same : (a b : Bool) → beq a b ≡ true → a ≡ b
 beq_same true true e = refl

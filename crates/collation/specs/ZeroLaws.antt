@@ -3,17 +3,13 @@ use Rattle.std.proofs.Common.{zero, suc, ◌≡◌, ◌≤◌, ◌<◌, ℕ, ◌
 use Rattle.std.specs.Prelude.{◌-◌, ◌||◌, cond, filter, fold, max, nat_le, Option, Some, None, unwrap_or}
 use Rattle.std.specs.List.{list_any}
 use Rattle.std.specs.Ordering.{eq_by_cmp}
-use Rattle.std.proofs.lemmas.Bool.{leb-true, le-leb}
+use Rattle.std.proofs.lemmas.Bool.{leb-true}
 use Rattle.std.specs.FinMap as finmap
 use Rattle.collation.specs.Reference.{Resource}
-use Rattle.collation.specs.Locks.{resource_cmp, Counts, count_of, more_of, one_fewer, fewer_of, greater}
+use Rattle.collation.specs.Locks.{resource_cmp, Counts, HasNoZeros, count_of, more_of, one_fewer, fewer_of, greater}
 use Rattle.collation.specs.EntryLaws.{some_entry_of}
 use Rattle.collation.specs.LockLaws.{times}
 use Rattle.collation.specs.CountingLaws.{resource_cmp_total, resource_cmp-IsAntisymmetric, counts_tell}
-
--- an entry has a count above 0
-abbrev pub HasNoZeros : Counts → Type 0
-HasNoZeros counts = (n : Resource) (v : ℕ) → finmap.get counts n ≡ Some v → 0 < v
 
 pub none_empty : HasNoZeros finmap.empty
 none_empty n v e = let none : None ≡ Some v = sym (finmap.get-empty resource_cmp n) ∙ e in absurd (cc)

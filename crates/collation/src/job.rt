@@ -1,6 +1,8 @@
 //! Jobs.
 ghost use Rattle.std.specs.Prelude.{◌≡◌, ◌≤◌, MatchResult};
+ghost use Rattle.collation.specs.Limits.{most_jobs};
 
+use crate::MOST_JOBS;
 use refusal::Refusal;
 use std::marker::Model;
 
@@ -12,12 +14,13 @@ pub struct Job {
 
 impl Model for Job {
     ghost use Rattle.std.specs.Prelude.{ℕ, ◌≤◌};
+    ghost use Rattle.collation.specs.Limits.{most_jobs};
 
     ghost Value = { ℕ };
 
     ghost view = { λ j. j.number };
 
-    ghost invariant = { λ j. (1 ≤ j.number) × (j.number ≤ 4096) };
+    ghost invariant = { λ j. (1 ≤ j.number) × (j.number ≤ most_jobs) };
 
     ghost inverse = { λ n. record { number = n } };
 }
@@ -25,10 +28,10 @@ impl Model for Job {
 impl Job {
     /// The job of this number. Refused, `BadJob`, where that isn't 1 to 4,096.
     pub fn new(number: u64) -> Result<Job, Refusal>
-        ensures { MatchResult result (λ job. (job ≡ number) × (1 ≤ number) × (number ≤ 4096))
-            (λ refusal. (1 ≤ number → number ≤ 4096 → ⊥) × (refusal ≡ Refusal.BadJob)) }
+        ensures { MatchResult result (λ job. (job ≡ number) × (1 ≤ number) × (number ≤ most_jobs))
+            (λ refusal. (1 ≤ number → number ≤ most_jobs → ⊥) × (refusal ≡ Refusal.BadJob)) }
     {
-        if number >= 1 && number <= 4096 {
+        if number >= 1 && number <= MOST_JOBS {
             Ok(Job {
                 number: number as u16,
             })
@@ -41,7 +44,7 @@ impl Job {
     pub fn number(self) -> u16
         ensures value { result ≡ self }
         ensures low { 1 ≤ result }
-        ensures high { result ≤ 4096 }
+        ensures high { result ≤ most_jobs }
     {
         self.number
     }

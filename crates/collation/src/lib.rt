@@ -18,15 +18,20 @@
 pub use direction::Direction;
 pub use job::Job;
 pub use laws::{numbers_compare_by_value, order_is_total};
+pub use limits::{
+    LONGEST_NAME, LONGEST_SUBSCRIPT, LONGEST_VALUE, MOST_COMMANDS, MOST_JOBS, MOST_LEVELS,
+    MOST_SUBSCRIPTS,
+};
 pub use lock::{LockCommand, LockName, LockNames};
 pub use name::{Name, is_name};
-pub use reference::{MOST_SUBSCRIPTS, Ref, Subscripts, cmp_ref};
+pub use reference::{Ref, Subscripts, cmp_ref};
 pub use subscript::cmp_subscript;
 pub use text::Text;
 
 mod direction;
 mod job;
 mod laws;
+mod limits;
 mod lock;
 mod name;
 mod reference;

@@ -22,7 +22,8 @@ impl Model for LockName {
 }
 
 impl PartialEq for LockName {
-    ghost use Rattle.collation.specs.Locks.{resource_eq, resource_eq_laws};
+    ghost use Rattle.collation.specs.Locks.{resource_eq};
+    ghost use Rattle.collation.specs.ResourceLaws.{resource_eq_laws};
     ghost use Rattle.std.specs.Cmp.{partial_equiv_from_equiv};
 
     ghost eq = { resource_eq };
@@ -35,7 +36,7 @@ impl PartialEq for LockName {
 }
 
 impl Eq for LockName {
-    ghost use Rattle.collation.specs.Locks.{resource_eq_laws};
+    ghost use Rattle.collation.specs.ResourceLaws.{resource_eq_laws};
 
     ghost laws = { resource_eq_laws };
 }
@@ -136,7 +137,8 @@ impl Model for LockNames {
 
 impl PartialEq for LockNames {
     ghost use Rattle.std.specs.Cmp.Lexicographic.{pointwise, lists_equiv};
-    ghost use Rattle.collation.specs.Locks.{resource_eq, resource_eq_laws};
+    ghost use Rattle.collation.specs.Locks.{resource_eq};
+    ghost use Rattle.collation.specs.ResourceLaws.{resource_eq_laws};
     ghost use Rattle.std.specs.Cmp.{partial_equiv_from_equiv};
 
     ghost eq = { pointwise resource_eq };
@@ -150,7 +152,7 @@ impl PartialEq for LockNames {
 
 impl Eq for LockNames {
     ghost use Rattle.std.specs.Cmp.Lexicographic.{lists_equiv};
-    ghost use Rattle.collation.specs.Locks.{resource_eq_laws};
+    ghost use Rattle.collation.specs.ResourceLaws.{resource_eq_laws};
 
     ghost laws = { lists_equiv resource_eq_laws };
 }

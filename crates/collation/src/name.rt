@@ -3,7 +3,7 @@ ghost use Rattle.std.specs.Prelude.{◌≡◌, MatchResult, true, false};
 ghost use Rattle.std.specs.List.{list_all};
 ghost use Rattle.collation.specs.Name.{is_name as name_ok, is_letter_or_digit as letter_or_digit};
 
-use crate::Text;
+use crate::{LONGEST_NAME, Text};
 use refusal::Refusal;
 use std::alloc::AllocError;
 use std::marker::Model;
@@ -46,7 +46,7 @@ pub fn is_name(bytes: &[u8]) -> bool
         [first, rest @ ..] => {
             (*first == b'%' || first.is_ascii_alphabetic())
                 && are_letters_or_digits(rest)
-                && rest.len() <= 30
+                && bytes.len() <= LONGEST_NAME
         }
     }
 }

@@ -5,17 +5,13 @@ ghost use Rattle.std.specs.Cmp.Lexicographic.{slice_cmp};
 ghost use Rattle.collation.specs.Order.{subscript_cmp, ref_cmp};
 ghost use Rattle.collation.specs.Faults.{reference_fault, subscripts_fault};
 
-use crate::{Name, Text, cmp_subscript};
-use canonic_number::LONGEST_SUBSCRIPT;
+use crate::{LONGEST_SUBSCRIPT, MOST_SUBSCRIPTS, Name, Text, cmp_subscript};
 use refusal::Refusal;
 use smallvec::SmallVec;
 use std::alloc::AllocError;
 use std::cmp::Ordering;
 use std::hash::{Hash, Hasher};
 use std::marker::Model;
-
-/// How many subscripts a reference may have.
-pub const MOST_SUBSCRIPTS: usize = 31;
 
 /// A list of subscripts. One lies in the value itself.
 pub type Subscripts = SmallVec<Text, 1>;

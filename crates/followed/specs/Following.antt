@@ -1,8 +1,8 @@
 -- When a workspace holds what commands have written, and what its changes are then.
-use Rattle.std.specs.Prelude.{◌≡◌, ℕ, Bool, true, false, not, List, [], ◌∷◌, ◌++◌}
+use Rattle.std.specs.Prelude.{◌≡◌, ℕ, true, List, [], ◌∷◌, ◌++◌}
 use Rattle.std.specs.List.{list_any}
 use Rattle.std.specs.FinMap as finmap
-use Rattle.command.specs.declared.access.DataCommand.{DataCommand}
+use Rattle.command.specs.declared.access.Look.{Look as LookCommand}
 use Rattle.command.specs.declared.access.DataCommand.TheVariants.{Set, Kill, Merge, Look}
 use Rattle.command.specs.declared.access.Answer.{Answer}
 use Rattle.collation.specs.Reference.{Reference}
@@ -15,7 +15,8 @@ use Rattle.journal.specs.Touching.{has_read, has_written, leaves_set, touched_by
 use Rattle.serial.specs.Agreeing.{Agree}
 use Rattle.workspace.specs.Layers.{Layer, laid_over, decides}
 use Rattle.workspace.specs.laws.Layering.{KillsUnder}
-use Rattle.workspace.specs.Changes.{Change, changed, AreChanges, IsOnce}
+use Rattle.workspace.specs.Changes.{AreChanges, IsOnce}
+use Rattle.collation.specs.Changes.{Change, changed}
 
 -- the workspace holds what these commands wrote, done in turn on the database m
 pub record Holds (w : Layer) (es : List Exchange) (m : Database) : Type 0 where
@@ -23,19 +24,12 @@ pub record Holds (w : Layer) (es : List Exchange) (m : Database) : Type 0 where
   pub decided : (x : Reference) → decides w x ≡ has_written es m x
   pub left_set : (x : Reference) → finmap.contains_key w.written x ≡ leaves_set es m x
 
--- the command writes something: looks don't, nor does a MERGE of a reference into itself
-abbrev pub writes : DataCommand → Bool
-writes (Set r v) = true
-writes (Kill r) = true
-writes (Merge a b) = not (ref_eq a b)
-writes (Look look) = false
-
--- what the workspace holds after one more command: the same after one that writes nothing, else what a set, a kill or the copies of a MERGE leave in it
+-- what the workspace holds after one more command: the same after one that looks, else what a set, a kill or the copies of a MERGE leave in it
 pub record HoldsOn (w : Layer) (es : List Exchange) (m : Database) (answer : Answer) : Type 0 where
-  pub look : (c : DataCommand) → writes c ≡ false → Holds w (es ++ record { command = c; answer = answer } ∷ []) m
+  pub look : (l : LookCommand) → Holds w (es ++ record { command = Look l; answer = answer } ∷ []) m
   pub set : (r : Reference) (v : List ℕ) → Holds (record w { written = finmap.insert w.written r v }) (es ++ record { command = Set r v; answer = answer } ∷ []) m
   pub kill : (r : Reference) (n : Layer) → KillsUnder r w n → Holds n (es ++ record { command = Kill r; answer = answer } ∷ []) m
-  pub merge : (a b : Reference) → ref_eq a b ≡ false → Holds (record w { written = set_all (merged a b (laid_over w m)) w.written }) (es ++ record { command = Merge a b; answer = answer } ∷ []) m
+  pub merge : (a b : Reference) → Holds (record w { written = set_all (merged a b (laid_over w m)) w.written }) (es ++ record { command = Merge a b; answer = answer } ∷ []) m
 
 -- a workspace goes on holding what is written
 abbrev pub HoldsAlways : Type 0

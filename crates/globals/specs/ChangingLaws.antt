@@ -16,7 +16,7 @@ use Rattle.collation.specs.Database.{Database, is_under, begins_with}
 use Rattle.collation.specs.Answers.{merged, moved, set_all}
 use Rattle.globals.specs.NearestLaws.{not_found_itself, true_of}
 use Rattle.globals.specs.ChangeLaws.{SetSetsOne, KillKillsSubtree, MergeCopiesSubtree}
-use Rattle.globals.specs.MergingLaws.{copied}
+use Rattle.globals.specs.Copies.{copied, all_copies}
 
 -- ---- SET and KILL
 
@@ -129,11 +129,32 @@ chosen : {A : Type 0} (u : Bool) (o g : Option A) → option_or (cond u o None) 
 chosen true o g = refl
 chosen false o g = refl
 
+or_itself : {A : Type 0} (o : Option A) → option_or o o ≡ o
+or_itself None = refl
+or_itself (Some x) = refl
+
+-- what is under a reference is its own copy where that is merged into itself
+pub moved_itself : (a e : Reference) → is_under a e ≡ true → moved a a e ≡ e
+moved_itself a e h =
+    let name : a.name ≡ e.name = (bytes_decides a.name e.name).0 (first_so _ _ h) in
+    let rest : a.subscripts ++ drop (length a.subscripts) e.subscripts ≡ e.subscripts = begins_back e.subscripts a.subscripts (second_so _ _ h) in
+    λ i. record { name = name i; subscripts = rest i }
+
 pub merge_subtree : MergeCopiesSubtree
-merge_subtree m a b q =
-    get_set_all (merged a b m) m q
-    ∙ ap (λ o. option_or o (finmap.get m q)) (last_copied a b q (finmap.entries m) (true_of _ (finmap.entries_sorted m)) ∙ ap (λ o. cond (is_under a q) o None) (sym (finmap.get-entries m (moved b a q))))
-    ∙ chosen (is_under a q) (finmap.get m (moved b a q)) (finmap.get m q)
+merge_subtree m a b q = by_same (ref_eq a b) refl
+  where
+    kept : (u : Bool) (o g : Option (List ℕ)) → (u ≡ true → o ≡ g) → g ≡ cond u (option_or o g) g
+    kept true o g same = sym (ap (λ o. option_or o g) (same refl) ∙ or_itself g)
+    kept false o g same = refl
+
+    by_same : (t : Bool) → ref_eq a b ≡ t → finmap.get (set_all (cond t [] (all_copies a b m)) m) q ≡ cond (is_under a q) (option_or (finmap.get m (moved b a q)) (finmap.get m q)) (finmap.get m q)
+    by_same true e =
+        let one : b ≡ a = sym ((ref_eq_decides a b).0 e) in
+        kept (is_under a q) (finmap.get m (moved b a q)) (finmap.get m q) (λ u. ap (finmap.get m) (ap (λ z. moved z a q) one ∙ moved_itself a q u))
+    by_same false e =
+        get_set_all (all_copies a b m) m q
+        ∙ ap (λ o. option_or o (finmap.get m q)) (last_copied a b q (finmap.entries m) (true_of _ (finmap.entries_sorted m)) ∙ ap (λ o. cond (is_under a q) o None) (sym (finmap.get-entries m (moved b a q))))
+        ∙ chosen (is_under a q) (finmap.get m (moved b a q)) (finmap.get m q)
 
 -- copies that are set in any database w: a reference has a value where it is a copy, or had one in w
 some_or : {A : Type 0} (u : Bool) (o g : Option A) → is_some (option_or (cond u o None) g) ≡ ((u && is_some o) || is_some g)
@@ -141,7 +162,12 @@ some_or true (Some x) g = refl
 some_or true None g = refl
 some_or false o g = refl
 
-pub contains_merged : (a b x : Reference) (m w : Database) → finmap.contains_key (set_all (merged a b m) w) x ≡ ((is_under a x && finmap.contains_key m (moved b a x)) || finmap.contains_key w x)
-contains_merged a b x m w =
-    ap is_some (get_set_all (merged a b m) w x ∙ ap (λ o. option_or o (finmap.get w x)) (last_copied a b x (finmap.entries m) (true_of _ (finmap.entries_sorted m)) ∙ ap (λ o. cond (is_under a x) o None) (sym (finmap.get-entries m (moved b a x)))))
-    ∙ some_or (is_under a x) (finmap.get m (moved b a x)) (finmap.get w x)
+pub contains_merged : (a b x : Reference) (m w : Database) →
+    finmap.contains_key (set_all (merged a b m) w) x ≡ ((not (ref_eq a b) && (is_under a x && finmap.contains_key m (moved b a x))) || finmap.contains_key w x)
+contains_merged a b x m w = by_same (ref_eq a b)
+  where
+    by_same : (t : Bool) → finmap.contains_key (set_all (cond t [] (all_copies a b m)) w) x ≡ ((not t && (is_under a x && finmap.contains_key m (moved b a x))) || finmap.contains_key w x)
+    by_same true = refl
+    by_same false =
+        ap is_some (get_set_all (all_copies a b m) w x ∙ ap (λ o. option_or o (finmap.get w x)) (last_copied a b x (finmap.entries m) (true_of _ (finmap.entries_sorted m)) ∙ ap (λ o. cond (is_under a x) o None) (sym (finmap.get-entries m (moved b a x)))))
+        ∙ some_or (is_under a x) (finmap.get m (moved b a x)) (finmap.get w x)

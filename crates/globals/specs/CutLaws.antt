@@ -8,10 +8,10 @@ use Rattle.collation.specs.Reference.{Reference}
 use Rattle.collation.specs.Order.{subscript_cmp, ref_cmp}
 use Rattle.collation.specs.OrderLaws.{subscript_cmp_total, ref_cmp_total, is_less}
 use Rattle.collation.specs.Database.{is_under}
-use Rattle.collation.specs.Levels.{is_before, is_past}
+use Rattle.collation.specs.Levels.{is_before}
+use Rattle.globals.specs.Cuts.{is_past, stands_before}
 use Rattle.globals.specs.declared.cut.Cut.{Cut}
 use Rattle.globals.specs.declared.cut.Cut.TheVariants.{Start, Before, After, Past}
-use Rattle.globals.specs.Cuts.{stands_before}
 use Rattle.globals.specs.SequenceLaws.{not_passed_so, passed_on, begins_not_before}
 use Rattle.globals.specs.PathLaws.{path, cmp_path, under_path, past_path, before_path}
 

@@ -1,14 +1,22 @@
 -- Which references stand before a cut, and which members of a database stand next to it.
-use Rattle.std.specs.Prelude.{◌++◌, ◌≡◌, ◌≤◌, length, ℕ, Bool, true, false, not, List, Option, [], ◌∷◌, filter, if◌then◌else◌}
+use Rattle.std.specs.Prelude.{◌++◌, ◌≡◌, ◌≤◌, length, ℕ, Bool, true, false, not, ◌&&◌, List, Option, [], ◌∷◌, filter, if◌then◌else◌}
 use Rattle.std.specs.Ordering.{is_lt}
 use Rattle.std.specs.FinMap as finmap
 use Rattle.collation.specs.Reference.{Reference, Spot}
 use Rattle.collation.specs.Order.{ref_cmp}
 use Rattle.collation.specs.Database.{Database, is_under}
-use Rattle.collation.specs.Nearest.{nearest}
+use Rattle.globals.specs.Entries.{nearest_entry}
 use Rattle.collation.specs.Levels.{is_before}
 use Rattle.globals.specs.declared.cut.Cut.{Cut}
 use Rattle.globals.specs.declared.cut.Cut.TheVariants.{Start, Before, After, Past}
+
+-- x stands after r and all that is under r
+abbrev pub is_past : Reference → Reference → Bool
+is_past r x = not (is_under r x) && is_lt (ref_cmp r x)
+
+-- x stands after r, or (whole) after all that is under r
+abbrev pub is_after : Bool → Reference → Reference → Bool
+is_after whole r x = if whole then is_past r x else is_lt (ref_cmp r x)
 
 -- x stands before the cut
 abbrev pub stands_before : Cut → Reference → Bool
@@ -19,11 +27,11 @@ stands_before (Past r) x = is_before true r.now x
 
 -- the first member that doesn't stand before the cut
 abbrev pub first_from : Cut → Database → Option (Reference × List ℕ)
-first_from cut m = nearest true (λ x. not (stands_before cut x)) m
+first_from cut m = nearest_entry true (λ x. not (stands_before cut x)) m
 
 -- the last member that stands before the cut
 abbrev pub last_before : Cut → Database → Option (Reference × List ℕ)
-last_before cut m = nearest false (stands_before cut) m
+last_before cut m = nearest_entry false (stands_before cut) m
 
 -- the first of these, or (not forward) the last
 abbrev pub next_to : Bool → Cut → Database → Option (Reference × List ℕ)

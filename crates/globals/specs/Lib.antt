@@ -2,6 +2,8 @@ pub mod Answering
 pub mod Fitting
 pub mod Cuts
 pub mod Runs
+pub mod Entries
+pub mod Copies
 pub mod CutLaws
 pub mod NearestLaws
 pub mod SequenceLaws

@@ -5,17 +5,11 @@ use Rattle.std.proofs.lemmas.List.Folds.{list_any-append}
 use Rattle.std.specs.Cmp.{first_so, second_so}
 use Rattle.std.specs.Prelude.{cond, ◌&&◌, nat_lt, map, filter}
 use Rattle.std.specs.List.{list_any, list_all}
+use Rattle.collation.specs.Limits.{most_subscripts}
 use Rattle.collation.specs.Reference.{Reference}
 use Rattle.collation.specs.Database.{is_under}
 use Rattle.collation.specs.Answers.{moved}
-
--- the copy of an entry
-abbrev pub copied : Reference → Reference → Reference × List ℕ → Reference × List ℕ
-copied a b e = (moved a b e.0, e.1)
-
--- an entry whose reference has too many subscripts
-abbrev pub is_deep : Reference × List ℕ → Bool
-is_deep e = nat_lt 31 (length e.0.subscripts)
+use Rattle.globals.specs.Copies.{copied, is_deep}
 
 pub all_under : (r : Reference) (es : List (Reference × List ℕ)) → list_all (λ e. is_under r e.0) (filter (λ e. is_under r e.0) es) ≡ true
 all_under r [] = refl
@@ -38,10 +32,10 @@ none_in : {A : Type 0} (p : A → Bool) (xs : List A) (y : A) → list_any p xs 
 none_in p xs y h e = list_any-append p xs (y ∷ []) ∙ or_from (list_any p xs) _ h (or_from (p y) _ e refl)
 
 -- a copy that is too deep is among all copies
-pub deep_found : (a b : Reference) (xs it rest whole : List (Reference × List ℕ)) (e : Reference × List ℕ) → xs ++ map (copied a b) it ≡ whole → it ≡ e ∷ rest → nat_lt 31 (length (moved a b e.0).subscripts) ≡ true → list_any is_deep whole ≡ true
+pub deep_found : (a b : Reference) (xs it rest whole : List (Reference × List ℕ)) (e : Reference × List ℕ) → xs ++ map (copied a b) it ≡ whole → it ≡ e ∷ rest → nat_lt most_subscripts (length (moved a b e.0).subscripts) ≡ true → list_any is_deep whole ≡ true
 deep_found a b xs it rest whole e all step deep = ap (list_any is_deep) (sym all ∙ ap (λ l. xs ++ map (copied a b) l) step) ∙ any_in is_deep xs (copied a b e) (map (copied a b) rest) deep
 
-pub still_shallow : (xs : List (Reference × List ℕ)) (e : Reference × List ℕ) → list_any is_deep xs ≡ false → nat_lt 31 (length e.0.subscripts) ≡ false → list_any is_deep (xs ++ e ∷ []) ≡ false
+pub still_shallow : (xs : List (Reference × List ℕ)) (e : Reference × List ℕ) → list_any is_deep xs ≡ false → nat_lt most_subscripts (length e.0.subscripts) ≡ false → list_any is_deep (xs ++ e ∷ []) ≡ false
 still_shallow xs e h s = none_in is_deep xs e h s
 
 -- the first that is left is under r, and so are the others

@@ -12,7 +12,7 @@ use Rattle.std.specs.FinMap as finmap
 use Rattle.std.specs.FinMap.{FinMap, IsAntisymmetric}
 use Rattle.std.specs.FinMap.Entries.{below_all, is_sorted}
 use Rattle.collation.specs.OrderLaws.{is_less, turned}
-use Rattle.collation.specs.Nearest.{find_last, nearest}
+use Rattle.globals.specs.Entries.{find_last, nearest_entry}
 
 -- the entry, where its key passes the test
 abbrev pub keep : {K X : Type 0} → (K → Bool) → Option (K × X) → Option (K × X)
@@ -113,10 +113,10 @@ module _ {K X : Type 0} (R : K → K → Ordering) where
             ] refl
       ] refl
 
-  pub nearest_after : (P B : K → Bool) → ((x : K) → P x ≡ true → B x ≡ true) → ((x y : K) → B x ≡ true → R x y ≡ Less → P y ≡ true → P x ≡ true) → (m : FinMap R X) → nearest true P m ≡ keep P (nearest true B m)
+  pub nearest_after : (P B : K → Bool) → ((x : K) → P x ≡ true → B x ≡ true) → ((x y : K) → B x ≡ true → R x y ≡ Less → P y ≡ true → P x ≡ true) → (m : FinMap R X) → nearest_entry true P m ≡ keep P (nearest_entry true B m)
   nearest_after P B inside down m = find_within P B inside down (finmap.entries m) (true_of _ (finmap.entries_sorted m))
 
-  pub nearest_before : (P B : K → Bool) → ((x : K) → P x ≡ true → B x ≡ true) → ((x y : K) → B y ≡ true → R x y ≡ Less → P x ≡ true → P y ≡ true) → (m : FinMap R X) → nearest false P m ≡ keep P (nearest false B m)
+  pub nearest_before : (P B : K → Bool) → ((x : K) → P x ≡ true → B x ≡ true) → ((x y : K) → B y ≡ true → R x y ≡ Less → P x ≡ true → P y ≡ true) → (m : FinMap R X) → nearest_entry false P m ≡ keep P (nearest_entry false B m)
   nearest_before P B inside up m = find_last_within P B inside up (finmap.entries m) (true_of _ (finmap.entries_sorted m))
 
   find_passes : (B : K → Bool) (es : List (K × X)) (f : K × X) → find (λ e. B e.0) es ≡ Some f → B f.0 ≡ true
@@ -128,7 +128,7 @@ module _ {K X : Type 0} (R : K → K → Ordering) where
       ] refl is
 
   -- the nearest one passes the test
-  pub nearest_passes : (forward : Bool) (B : K → Bool) (m : FinMap R X) (f : K × X) → nearest forward B m ≡ Some f → B f.0 ≡ true
+  pub nearest_passes : (forward : Bool) (B : K → Bool) (m : FinMap R X) (f : K × X) → nearest_entry forward B m ≡ Some f → B f.0 ≡ true
   nearest_passes true B m f is = find_passes B (finmap.entries m) f is
   nearest_passes false B m f is = let there = found_last B f.0 (finmap.entries m) f is in there.passes
 
@@ -142,7 +142,7 @@ answered P B f so None within = refl
 answered P B f so (Some e) within = rw (so e.0 (within e refl)) (some_kept e (f e.0) f refl)
 
 -- whether some key passes
-pub any_nearest : {K X : Type 0} {R : K → K → Ordering} (P : K → Bool) (m : FinMap R X) → list_any P (finmap.keys m) ≡ is_some (nearest true P m)
+pub any_nearest : {K X : Type 0} {R : K → K → Ordering} (P : K → Bool) (m : FinMap R X) → list_any P (finmap.keys m) ≡ is_some (nearest_entry true P m)
 any_nearest P m = any_found P (finmap.entries m)
 
 -- ---- the nearest entry, told by what `get` answers
@@ -249,7 +249,7 @@ module _ {K X : Type 0} (R : K → K → Ordering) (o : IsTotalOrder R) (same : 
         ] is
       ] refl is
 
-  pub nearest_is : (forward : Bool) (P : K → Bool) (m : FinMap R X) (e : K × X) → nearest forward P m ≡ Some e → IsNearest forward P m e
+  pub nearest_is : (forward : Bool) (P : K → Bool) (m : FinMap R X) (e : K × X) → nearest_entry forward P m ≡ Some e → IsNearest forward P m e
   nearest_is true P m e is =
       let sorted = true_of _ (finmap.entries_sorted m) in
       record {
@@ -265,6 +265,6 @@ module _ {K X : Type 0} (R : K → K → Ordering) (o : IsTotalOrder R) (same : 
         none_nearer = λ x p there. last_nearest P (finmap.entries m) e sorted is x p (sym (ap is_some (finmap.get-entries m x)) ∙ there);
       }
 
-  pub nearest_none : (forward : Bool) (P : K → Bool) (m : FinMap R X) → nearest forward P m ≡ None → (x : K) → P x ≡ true → finmap.get m x ≡ None
+  pub nearest_none : (forward : Bool) (P : K → Bool) (m : FinMap R X) → nearest_entry forward P m ≡ None → (x : K) → P x ≡ true → finmap.get m x ≡ None
   nearest_none true P m is x p = finmap.get-entries m x ∙ none_first P (finmap.entries m) is x p
   nearest_none false P m is x p = finmap.get-entries m x ∙ none_last P (finmap.entries m) is x p

@@ -11,8 +11,9 @@ use Rattle.collation.specs.Order.{subscript_cmp, ref_cmp}
 use Rattle.collation.specs.OrderLaws.{subscript_cmp_total, subscript_cmp-IsAntisymmetric, subscript_eq_decides, ties_of}
 use Rattle.collation.specs.Database.{is_under, begins_with}
 use Rattle.globals.specs.SequenceLaws.{next_of, begins, sibling, passed, not_passed}
-use Rattle.collation.specs.Answers.{any_of}
-use Rattle.collation.specs.Levels.{child, child_of, has_name, front, last, is_past, is_before}
+use Rattle.globals.specs.Entries.{any_of}
+use Rattle.collation.specs.Levels.{child, child_of, has_name, front, last, is_before}
+use Rattle.globals.specs.Cuts.{is_past}
 
 -- the name as a text that is no number, and the subscripts
 abbrev pub path : Reference → List (List ℕ)

@@ -1,6 +1,6 @@
 -- Each answer is found next to one bound.
 use Rattle.std.proofs.Common.{◌≡◌, ℕ, Bool, true, false, List, [], ◌∷◌, refl, sym, ap, ◌∙◌, Option, Some, None}
-use Rattle.std.specs.Prelude.{cond, not, ◌&&◌, ◌||◌, is_some, unwrap_or, IfOk, Result, Ok, Err}
+use Rattle.std.specs.Prelude.{cond, not, ◌&&◌, ◌||◌, nat_lt, length, is_some, unwrap_or, IfOk, Result, Ok, Err}
 use Rattle.std.specs.Option.{option_map, option_and_then}
 use Rattle.std.specs.declared.cmp.Ordering.TheVariants.{Less}
 use Rattle.std.proofs.Math.Bool.{not-not, and-true}
@@ -16,12 +16,13 @@ use Rattle.collation.specs.OrderLaws.{subscript_cmp_total, is_less}
 use Rattle.collation.specs.Database.{Database}
 use Rattle.globals.specs.NearestLaws.{keep, nearest_after, nearest_before, nearest_passes, answered, any_nearest}
 use Rattle.globals.specs.SequenceLaws.{sibling, below_after, below_closed, below_before, below_closed_back, sibling_after, sibling_closed, sibling_before, sibling_closed_back, sibling_known, sibling_known_back, head_closed, head_closed_back, head_closed_end}
-use Rattle.collation.specs.Nearest.{nearest}
-use Rattle.collation.specs.Levels.{child_of, is_below, has_name, is_nil, parent_of, is_after, is_before}
-use Rattle.collation.specs.Answers.{any_of, counts, follows, order_of, query_of}
+use Rattle.globals.specs.Entries.{nearest_entry, any_of, is_candidate}
+use Rattle.collation.specs.Levels.{child_of, is_below, has_name, parent_of, is_before}
+use Rattle.globals.specs.Cuts.{is_after, stands_before, next_to, order_start, query_start}
+use Rattle.collation.specs.Answers.{follows, order_of, query_of}
 use Rattle.globals.specs.declared.cut.Cut.{Cut}
 use Rattle.globals.specs.CutLaws.{not_before_end}
-use Rattle.globals.specs.Cuts.{stands_before, next_to, order_start, query_start}
+use Rattle.globals.specs.laws.Nearness.{order_is, query_is}
 use Rattle.globals.specs.PathLaws.{path, cmp_path, child_path, past_path, before_path, sibling_next, name_path}
 
 any_true : {X : Type 0} (o : Option X) → any_of (λ _. true) o ≡ is_some o
@@ -50,8 +51,8 @@ kept_below r None = refl
 kept_below r (Some e) = elim (is_below r e.0) as (λ b. is_some (cond b (Some e) None) ≡ b) [ true ↦ refl | false ↦ refl ]
 
 -- whether something stands below a reference, by the first member after it
-pub data_seek : (r : Reference) (m : Database) → list_any (is_below r) (finmap.keys m) ≡ any_of (λ e. is_below r e.0) (nearest true (is_after false r) m)
-data_seek r m = any_nearest (is_below r) m ∙ ap is_some (nearest_after ref_cmp (is_below r) (is_after false r) (below_is_after r) (below_is_closed r) m) ∙ kept_below r (nearest true (is_after false r) m)
+pub data_seek : (r : Reference) (m : Database) → list_any (is_below r) (finmap.keys m) ≡ any_of (λ e. is_below r e.0) (nearest_entry true (is_after false r) m)
+data_seek r m = any_nearest (is_below r) m ∙ ap is_some (nearest_after ref_cmp (is_below r) (is_after false r) (below_is_after r) (below_is_closed r) m) ∙ kept_below r (nearest_entry true (is_after false r) m)
 
 -- ---- siblings
 
@@ -67,30 +68,32 @@ seek true p = is_after (not p.is_open) p.reference
 seek false p = is_before p.is_open p.reference
 
 abbrev answer_of : Bool → Spot → Database → List ℕ
-answer_of forward p m = unwrap_or (option_and_then (λ e. child_of (parent_of p) e.0) (nearest forward (seek forward p) m)) []
+answer_of forward p m = unwrap_or (option_and_then (λ e. child_of (parent_of p) e.0) (nearest_entry forward (seek forward p) m)) []
 
-pub counts_opened : (forward : Bool) (r x : Reference) → counts forward (opened r) x ≡ is_below r x
+pub counts_opened : (forward : Bool) (r x : Reference) → is_candidate forward (opened r) x ≡ is_below r x
 counts_opened forward r x = any_true (child_of r x)
 
 open_after : (r : Reference) (m : Database) → order_of true (opened r) m ≡ answer_of true (opened r) m
 open_after r m =
-    let bound = nearest true (is_after false r) m in
-    let found : nearest true (counts true (opened r)) m ≡ keep (counts true (opened r)) bound =
-    nearest_after ref_cmp (counts true (opened r)) (is_after false r)
+    let bound = nearest_entry true (is_after false r) m in
+    let found : nearest_entry true (is_candidate true (opened r)) m ≡ keep (is_candidate true (opened r)) bound =
+    nearest_after ref_cmp (is_candidate true (opened r)) (is_after false r)
     (λ x h. below_is_after r x (sym (counts_opened true r x) ∙ h))
     (λ x y b l h. counts_opened true r x ∙ below_is_closed r x y b l (sym (counts_opened true r y) ∙ h)) m in
-    ap (λ o. unwrap_or (option_and_then (λ e. child_of r e.0) o) []) found
-    ∙ ap (λ o. unwrap_or o []) (answered (counts true (opened r)) (is_after false r) (child_of r) (λ x _. counts_opened true r x) bound (nearest_passes ref_cmp true (is_after false r) m))
+    order_is true (opened r) m
+    ∙ ap (λ o. unwrap_or (option_and_then (λ e. child_of r e.0) o) []) found
+    ∙ ap (λ o. unwrap_or o []) (answered (is_candidate true (opened r)) (is_after false r) (child_of r) (λ x _. counts_opened true r x) bound (nearest_passes ref_cmp true (is_after false r) m))
 
 open_before : (r : Reference) (m : Database) → order_of false (opened r) m ≡ answer_of false (opened r) m
 open_before r m =
-    let bound = nearest false (is_before true r) m in
-    let found : nearest false (counts false (opened r)) m ≡ keep (counts false (opened r)) bound =
-    nearest_before ref_cmp (counts false (opened r)) (is_before true r)
+    let bound = nearest_entry false (is_before true r) m in
+    let found : nearest_entry false (is_candidate false (opened r)) m ≡ keep (is_candidate false (opened r)) bound =
+    nearest_before ref_cmp (is_candidate false (opened r)) (is_before true r)
     (λ x h. below_is_before r x (sym (counts_opened false r x) ∙ h))
     (λ x y b l h. counts_opened false r y ∙ below_is_closed_back r x y b l (sym (counts_opened false r x) ∙ h)) m in
-    ap (λ o. unwrap_or (option_and_then (λ e. child_of r e.0) o) []) found
-    ∙ ap (λ o. unwrap_or o []) (answered (counts false (opened r)) (is_before true r) (child_of r) (λ x _. counts_opened false r x) bound (nearest_passes ref_cmp false (is_before true r) m))
+    order_is false (opened r) m
+    ∙ ap (λ o. unwrap_or (option_and_then (λ e. child_of r e.0) o) []) found
+    ∙ ap (λ o. unwrap_or o []) (answered (is_candidate false (opened r)) (is_before true r) (child_of r) (λ x _. counts_opened false r x) bound (nearest_passes ref_cmp false (is_before true r) m))
 
 -- a reference with subscripts
 abbrev pub deeper : List ℕ → List ℕ → List (List ℕ) → Reference
@@ -99,10 +102,10 @@ deeper n s ss = record { name = n; subscripts = s ∷ ss }
 later : List ℕ → List ℕ → Bool
 later r x = is_lt (subscript_cmp r x)
 
-pub counts_after : (n s : List ℕ) (ss : List (List ℕ)) (x : Reference) → counts true (closed (deeper n s ss)) x ≡ sibling subscript_cmp (λ r x. is_lt (subscript_cmp r x)) (path (deeper n s ss)) (path x)
+pub counts_after : (n s : List ℕ) (ss : List (List ℕ)) (x : Reference) → is_candidate true (closed (deeper n s ss)) x ≡ sibling subscript_cmp (λ r x. is_lt (subscript_cmp r x)) (path (deeper n s ss)) (path x)
 counts_after n s ss x = sibling_next (λ r x. is_lt (subscript_cmp r x)) (120 ∷ n) (s ∷ ss) (path x)
 
-pub counts_before : (n s : List ℕ) (ss : List (List ℕ)) (x : Reference) → counts false (closed (deeper n s ss)) x ≡ sibling subscript_cmp (λ r x. is_lt (subscript_cmp x r)) (path (deeper n s ss)) (path x)
+pub counts_before : (n s : List ℕ) (ss : List (List ℕ)) (x : Reference) → is_candidate false (closed (deeper n s ss)) x ≡ sibling subscript_cmp (λ r x. is_lt (subscript_cmp x r)) (path (deeper n s ss)) (path x)
 counts_before n s ss x = sibling_next (λ r x. is_lt (subscript_cmp x r)) (120 ∷ n) (s ∷ ss) (path x)
 
 pub counts_some : (n s : List ℕ) (ss : List (List ℕ)) (x : Reference) → is_some (child_of (parent_of (closed (deeper n s ss))) x) ≡ sibling subscript_cmp (λ r x. true) (path (deeper n s ss)) (path x)
@@ -112,33 +115,35 @@ closed_after : (n s : List ℕ) (ss : List (List ℕ)) (m : Database) → order_
 closed_after n s ss m =
     let r = deeper n s ss in
     let p = closed r in
-    let bound = nearest true (is_after true r) m in
-    let found : nearest true (counts true p) m ≡ keep (counts true p) bound =
-    nearest_after ref_cmp (counts true p) (is_after true r)
+    let bound = nearest_entry true (is_after true r) m in
+    let found : nearest_entry true (is_candidate true p) m ≡ keep (is_candidate true p) bound =
+    nearest_after ref_cmp (is_candidate true p) (is_after true r)
     (λ x h. past_path r x ∙ sibling_after subscript_cmp subscript_cmp_total (path r) (path x) (sym (counts_after n s ss x) ∙ h))
     (λ x y b l h. counts_after n s ss x ∙ sibling_closed subscript_cmp subscript_cmp_total (path r) (path x) (path y) (sym (past_path r x) ∙ b) (sym (cmp_path x y) ∙ l) (sym (counts_after n s ss y) ∙ h)) m in
-    ap (λ o. unwrap_or (option_and_then (λ e. child_of (parent_of p) e.0) o) []) found
-    ∙ ap (λ o. unwrap_or o []) (answered (counts true p) (is_after true r) (child_of (parent_of p))
+    order_is true p m
+    ∙ ap (λ o. unwrap_or (option_and_then (λ e. child_of (parent_of p) e.0) o) []) found
+    ∙ ap (λ o. unwrap_or o []) (answered (is_candidate true p) (is_after true r) (child_of (parent_of p))
     (λ x b. counts_after n s ss x ∙ sibling_known subscript_cmp subscript_cmp_total (path r) (path x) (sym (past_path r x) ∙ b) ∙ sym (counts_some n s ss x)) bound (nearest_passes ref_cmp true (is_after true r) m))
 
 closed_before : (n s : List ℕ) (ss : List (List ℕ)) (m : Database) → order_of false (closed (deeper n s ss)) m ≡ answer_of false (closed (deeper n s ss)) m
 closed_before n s ss m =
     let r = deeper n s ss in
     let p = closed r in
-    let bound = nearest false (is_before false r) m in
-    let found : nearest false (counts false p) m ≡ keep (counts false p) bound =
-    nearest_before ref_cmp (counts false p) (is_before false r)
+    let bound = nearest_entry false (is_before false r) m in
+    let found : nearest_entry false (is_candidate false p) m ≡ keep (is_candidate false p) bound =
+    nearest_before ref_cmp (is_candidate false p) (is_before false r)
     (λ x h. ap is_lt (cmp_path x r ∙ sibling_before subscript_cmp subscript_cmp_total (path r) (path x) (sym (counts_before n s ss x) ∙ h)))
     (λ x y b l h. counts_before n s ss y ∙ sibling_closed_back subscript_cmp subscript_cmp_total (path r) (path x) (path y) (less_path y r b) (sym (cmp_path x y) ∙ l) (sym (counts_before n s ss x) ∙ h)) m in
-    ap (λ o. unwrap_or (option_and_then (λ e. child_of (parent_of p) e.0) o) []) found
-    ∙ ap (λ o. unwrap_or o []) (answered (counts false p) (is_before false r) (child_of (parent_of p))
+    order_is false p m
+    ∙ ap (λ o. unwrap_or (option_and_then (λ e. child_of (parent_of p) e.0) o) []) found
+    ∙ ap (λ o. unwrap_or o []) (answered (is_candidate false p) (is_before false r) (child_of (parent_of p))
     (λ x b. counts_before n s ss x ∙ sibling_known_back subscript_cmp subscript_cmp_total (path r) (path x) (less_path x r b) ∙ sym (counts_some n s ss x)) bound (nearest_passes ref_cmp false (is_before false r) m))
 
 -- what $ORDER answers, by one look-up
-pub order_seek : (forward : Bool) (p : Spot) (m : Database) → (p.is_open || not (is_nil p.reference.subscripts)) ≡ true → order_of forward p m ≡ answer_of forward p m
+pub order_seek : (forward : Bool) (p : Spot) (m : Database) → (p.is_open || nat_lt 0 (length p.reference.subscripts)) ≡ true → order_of forward p m ≡ answer_of forward p m
 order_seek forward p m h = by_parts forward p.reference.name p.reference.subscripts p.is_open h
   where
-    by_parts : (forward : Bool) (n : List ℕ) (ss : List (List ℕ)) (b : Bool) → (b || not (is_nil ss)) ≡ true → order_of forward (record { reference = record { name = n; subscripts = ss }; is_open = b }) m ≡ answer_of forward (record { reference = record { name = n; subscripts = ss }; is_open = b }) m
+    by_parts : (forward : Bool) (n : List ℕ) (ss : List (List ℕ)) (b : Bool) → (b || nat_lt 0 (length ss)) ≡ true → order_of forward (record { reference = record { name = n; subscripts = ss }; is_open = b }) m ≡ answer_of forward (record { reference = record { name = n; subscripts = ss }; is_open = b }) m
     by_parts true n ss true h = open_after (record { name = n; subscripts = ss }) m
     by_parts false n ss true h = open_before (record { name = n; subscripts = ss }) m
     by_parts forward n [] false h = absurd (cc)
@@ -164,17 +169,19 @@ kept_both N B None within = refl
 kept_both N B (Some e) within = rw (within e refl) (ap (λ b. cond b (Some e) None) (and-true (N e.0)))
 
 -- what $QUERY answers, by one look-up
-pub query_seek : (forward : Bool) (p : Spot) (m : Database) → query_of forward p m ≡ option_map (λ e. e.0) (keep (has_name p.reference) (nearest forward (query_bound forward p) m))
+pub query_seek : (forward : Bool) (p : Spot) (m : Database) → query_of forward p m ≡ option_map (λ e. e.0) (keep (has_name p.reference) (nearest_entry forward (query_bound forward p) m))
 query_seek true p m =
     let B = query_bound true p in
-    ap (option_map (λ e. e.0)) (nearest_after ref_cmp (follows true p) B (λ x h. second_so (has_name p.reference x) _ h)
+    query_is true p m
+    ∙ ap (option_map (λ e. e.0)) (nearest_after ref_cmp (follows true p) B (λ x h. second_so (has_name p.reference x) _ h)
     (λ x y b l h. and_from _ _ (name_closed p.reference x y b l (first_so _ _ h)) b) m
-    ∙ kept_both (has_name p.reference) B (nearest true B m) (nearest_passes ref_cmp true B m))
+    ∙ kept_both (has_name p.reference) B (nearest_entry true B m) (nearest_passes ref_cmp true B m))
 query_seek false p m =
     let B = query_bound false p in
-    ap (option_map (λ e. e.0)) (nearest_before ref_cmp (follows false p) B (λ x h. second_so (has_name p.reference x) _ h)
+    query_is false p m
+    ∙ ap (option_map (λ e. e.0)) (nearest_before ref_cmp (follows false p) B (λ x h. second_so (has_name p.reference x) _ h)
     (λ x y b l h. and_from _ _ (name_closed_back p.is_open p.reference x y b l (first_so _ _ h)) b) m
-    ∙ kept_both (has_name p.reference) B (nearest false B m) (nearest_passes ref_cmp false B m))
+    ∙ kept_both (has_name p.reference) B (nearest_entry false B m) (nearest_passes ref_cmp false B m))
 
 -- ---- the same, of the key that a look-up gives
 
@@ -199,33 +206,33 @@ after_order_start p x =
 abbrev pub key_at : Bool → Cut → Database → Option Reference
 key_at forward cut m = option_map (λ e. e.0) (next_to forward cut m)
 
-pub order_found : (forward : Bool) (p : Spot) (m : Database) (cut : Cut) (k : Option Reference) → (p.is_open || not (is_nil p.reference.subscripts)) ≡ true → ((x : Reference) → stands_before cut x ≡ order_start forward p x) → k ≡ key_at forward cut m → order_of forward p m ≡ unwrap_or (option_and_then (child_of (parent_of p)) k) []
+pub order_found : (forward : Bool) (p : Spot) (m : Database) (cut : Cut) (k : Option Reference) → (p.is_open || nat_lt 0 (length p.reference.subscripts)) ≡ true → ((x : Reference) → stands_before cut x ≡ order_start forward p x) → k ≡ key_at forward cut m → order_of forward p m ≡ unwrap_or (option_and_then (child_of (parent_of p)) k) []
 order_found true p m cut k h start is =
-    let same : key_at true cut m ≡ option_map (λ e. e.0) (nearest true (seek true p) m) = λ i. option_map (λ e. e.0) (nearest true (λ x. (ap not (start x) ∙ after_order_start p x) i) m) in
-    order_seek true p m h ∙ ap (λ o. unwrap_or o []) (next_key (child_of (parent_of p)) (nearest true (seek true p) m) ∙ ap (option_and_then (child_of (parent_of p))) (sym (is ∙ same)))
+    let same : key_at true cut m ≡ option_map (λ e. e.0) (nearest_entry true (seek true p) m) = λ i. option_map (λ e. e.0) (nearest_entry true (λ x. (ap not (start x) ∙ after_order_start p x) i) m) in
+    order_seek true p m h ∙ ap (λ o. unwrap_or o []) (next_key (child_of (parent_of p)) (nearest_entry true (seek true p) m) ∙ ap (option_and_then (child_of (parent_of p))) (sym (is ∙ same)))
 order_found false p m cut k h start is =
-    let same : key_at false cut m ≡ option_map (λ e. e.0) (nearest false (seek false p) m) = λ i. option_map (λ e. e.0) (nearest false (λ x. start x i) m) in
-    order_seek false p m h ∙ ap (λ o. unwrap_or o []) (next_key (child_of (parent_of p)) (nearest false (seek false p) m) ∙ ap (option_and_then (child_of (parent_of p))) (sym (is ∙ same)))
+    let same : key_at false cut m ≡ option_map (λ e. e.0) (nearest_entry false (seek false p) m) = λ i. option_map (λ e. e.0) (nearest_entry false (λ x. start x i) m) in
+    order_seek false p m h ∙ ap (λ o. unwrap_or o []) (next_key (child_of (parent_of p)) (nearest_entry false (seek false p) m) ∙ ap (option_and_then (child_of (parent_of p))) (sym (is ∙ same)))
 
 -- the child of the place's level on the way to what a look-up gives is what $ORDER answers
-pub sibling_found : {E : Type 0} (forward : Bool) (p : Spot) (m : Database) (cut : Cut) (k : Reference) (r : Result (Option (List ℕ)) E) → (p.is_open || not (is_nil p.reference.subscripts)) ≡ true
+pub sibling_found : {E : Type 0} (forward : Bool) (p : Spot) (m : Database) (cut : Cut) (k : Reference) (r : Result (Option (List ℕ)) E) → (p.is_open || nat_lt 0 (length p.reference.subscripts)) ≡ true
     → ((x : Reference) → stands_before cut x ≡ order_start forward p x) → Some k ≡ key_at forward cut m → IfOk r (λ child. child ≡ child_of (parent_of p) k) → IfOk r (λ answer. unwrap_or answer [] ≡ order_of forward p m)
 sibling_found forward p m cut k (Ok child) h start is child_is = ap (λ o. unwrap_or o []) child_is ∙ sym (order_found forward p m cut (Some k) h start is)
 sibling_found forward p m cut k (Err e) h start is child_is = tt
 
 pub query_found : (forward : Bool) (p : Spot) (m : Database) (cut : Cut) (k : Option Reference) → ((x : Reference) → stands_before cut x ≡ query_start forward p x) → k ≡ key_at forward cut m → query_of forward p m ≡ option_and_then (λ k. cond (has_name p.reference k) (Some k) None) k
 query_found true p m cut k start is =
-    let same : key_at true cut m ≡ option_map (λ e. e.0) (nearest true (query_bound true p) m) = λ i. option_map (λ e. e.0) (nearest true (λ x. (ap not (start x) ∙ not-not (is_lt (ref_cmp p.reference x))) i) m) in
-    query_seek true p m ∙ kept_key (has_name p.reference) (nearest true (query_bound true p) m) ∙ ap (option_and_then (λ k. cond (has_name p.reference k) (Some k) None)) (sym (is ∙ same))
+    let same : key_at true cut m ≡ option_map (λ e. e.0) (nearest_entry true (query_bound true p) m) = λ i. option_map (λ e. e.0) (nearest_entry true (λ x. (ap not (start x) ∙ not-not (is_lt (ref_cmp p.reference x))) i) m) in
+    query_seek true p m ∙ kept_key (has_name p.reference) (nearest_entry true (query_bound true p) m) ∙ ap (option_and_then (λ k. cond (has_name p.reference k) (Some k) None)) (sym (is ∙ same))
 query_found false p m cut k start is =
-    let same : key_at false cut m ≡ option_map (λ e. e.0) (nearest false (query_bound false p) m) = λ i. option_map (λ e. e.0) (nearest false (λ x. start x i) m) in
-    query_seek false p m ∙ kept_key (has_name p.reference) (nearest false (query_bound false p) m) ∙ ap (option_and_then (λ k. cond (has_name p.reference k) (Some k) None)) (sym (is ∙ same))
+    let same : key_at false cut m ≡ option_map (λ e. e.0) (nearest_entry false (query_bound false p) m) = λ i. option_map (λ e. e.0) (nearest_entry false (λ x. start x i) m) in
+    query_seek false p m ∙ kept_key (has_name p.reference) (nearest_entry false (query_bound false p) m) ∙ ap (option_and_then (λ k. cond (has_name p.reference k) (Some k) None)) (sym (is ∙ same))
 
 any_key : (r : Reference) {X : Type 0} (o : Option (Reference × X)) → any_of (λ e. is_below r e.0) o ≡ any_of (is_below r) (option_map (λ e. e.0) o)
 any_key r None = refl
 any_key r (Some e) = refl
 
-pub data_found : (r : Reference) (m : Database) (k : Option Reference) → k ≡ option_map (λ e. e.0) (nearest true (λ x. not (not (is_lt (ref_cmp r x)))) m) → list_any (is_below r) (finmap.keys m) ≡ any_of (is_below r) k
+pub data_found : (r : Reference) (m : Database) (k : Option Reference) → k ≡ option_map (λ e. e.0) (nearest_entry true (λ x. not (not (is_lt (ref_cmp r x)))) m) → list_any (is_below r) (finmap.keys m) ≡ any_of (is_below r) k
 data_found r m k is =
-    let same : option_map (λ e. e.0) (nearest true (λ x. not (not (is_lt (ref_cmp r x)))) m) ≡ option_map (λ e. e.0) (nearest true (is_after false r) m) = λ i. option_map (λ e. e.0) (nearest true (λ x. not-not (is_lt (ref_cmp r x)) i) m) in
-    data_seek r m ∙ any_key r (nearest true (is_after false r) m) ∙ ap (any_of (is_below r)) (sym (is ∙ same))
+    let same : option_map (λ e. e.0) (nearest_entry true (λ x. not (not (is_lt (ref_cmp r x)))) m) ≡ option_map (λ e. e.0) (nearest_entry true (is_after false r) m) = λ i. option_map (λ e. e.0) (nearest_entry true (λ x. not-not (is_lt (ref_cmp r x)) i) m) in
+    data_seek r m ∙ any_key r (nearest_entry true (is_after false r) m) ∙ ap (any_of (is_below r)) (sym (is ∙ same))

@@ -7,7 +7,7 @@ use Rattle.std.specs.Ordering.{is_lt, is_eq, ordering_then, ordering_reverse}
 use Rattle.std.specs.Cmp.{IsTotalOrder, tied_back, alike_right, first_so}
 use Rattle.std.specs.Cmp.Lexicographic.{slice_cmp}
 use Rattle.collation.specs.OrderLaws.{is_less, is_equal, turned}
-use Rattle.collation.specs.Answers.{any_of}
+use Rattle.globals.specs.Entries.{any_of}
 
 record Squeezed (r a b : Ordering) : Type 0 where
   same : r ≡ Equal

@@ -2,3 +2,4 @@ pub mod Fitting
 pub mod Under
 pub mod Steps
 pub mod Runs
+pub mod Nearness

@@ -4,7 +4,7 @@ ghost use Rattle.globals.specs.Cuts.{stands_before as stands_before_spec};
 
 use key_codec::Key;
 
-/// A cut between references: each stands before it, or doesn't.
+/// A point in the order: each reference lies before it or after it.
 #[derive(Clone, Copy, Debug)]
 pub enum Cut<'a> {
     /// Before all references.

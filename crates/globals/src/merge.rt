@@ -1,10 +1,12 @@
 //! What MERGE copies.
-ghost use Rattle.std.specs.Prelude.{◌≡◌, ◌⊎◌, Some, None, true, false, IfOk, IsErrOf, MatchResult};
+ghost use Rattle.std.specs.Prelude.{◌≡◌, ◌⊎◌, Some, None, true, false, IfOk, IsOk, IsErrOf, MatchResult};
+ghost use Rattle.std.specs.List.{list_any};
 ghost use Rattle.collation.specs.Answers.{merged};
 ghost use Rattle.command.specs.Data.{data_refusal};
 ghost use Rattle.collation.specs.Levels.{overlap};
-ghost use Rattle.collation.specs.Answers.{is_too_deep};
+ghost use Rattle.collation.specs.Order.{ref_eq};
 ghost use Rattle.command.specs.declared.access.DataCommand.TheVariants.{Merge as merge_command};
+ghost use Rattle.globals.specs.Copies.{all_copies, is_deep};
 
 use crate::OrderedView;
 use crate::levels::is_below;
@@ -28,9 +30,9 @@ fn copies_of<V: OrderedView>(
     target: &Key,
     source: &Key,
 ) -> Result<Vec<(Key, Text)>, Refusal>
-    ensures copies { IfOk result (λ copies. copies.items ≡ merged target.now source.now (V.content view.now)) }
-    ensures refused { MatchResult result (λ _. is_too_deep target.now source.now (V.content view.now) ≡ false)
-        (λ refusal. (refusal ≡ Refusal.OutOfMemory) ⊎ ((refusal ≡ Refusal.TooManySubscripts) × (is_too_deep target.now source.now (V.content view.now) ≡ true))) }
+    ensures copies { IfOk result (λ copies. copies.items ≡ all_copies target.now source.now (V.content view.now)) }
+    ensures refused { MatchResult result (λ _. list_any is_deep (all_copies target.now source.now (V.content view.now)) ≡ false)
+        (λ refusal. (refusal ≡ Refusal.OutOfMemory) ⊎ ((refusal ≡ Refusal.TooManySubscripts) × (list_any is_deep (all_copies target.now source.now (V.content view.now)) ≡ true))) }
 {
     let mut copies = Vec::new(alloc);
     for (key, value) in subtree(view, source) {
@@ -42,7 +44,8 @@ fn copies_of<V: OrderedView>(
     Ok(copies)
 }
 
-/// What MERGE sets: each member at or under `source`, moved to `target`, with its value, in order.
+/// What MERGE sets: each member at or under `source`, moved to `target`, with its value, in order. Where the references
+/// are one it sets nothing, and nothing is refused.
 ///
 /// Refusals: `MergeOverlap` where one of the references is a proper descendant of the other, before
 /// `TooManySubscripts` where a copy would have over 31; `OutOfMemory`.
@@ -55,12 +58,16 @@ pub fn merge_list<V: OrderedView>(
     source: &Key,
 ) -> Result<Vec<(Key, Text)>, Refusal>
     ensures copies { IfOk result (λ copies. copies.items ≡ merged target.now source.now (V.content view.now)) }
+    ensures itself { ref_eq target.now source.now ≡ true → IsOk result }
     ensures overlaps { overlap target.now source.now ≡ true → IsErrOf result Refusal.MergeOverlap }
     ensures refused { MatchResult result (λ _. data_refusal (merge_command target.now source.now) (V.content view.now) ≡ None)
         (λ refusal. (refusal ≡ Refusal.OutOfMemory) ⊎ (data_refusal (merge_command target.now source.now) (V.content view.now) ≡ Some refusal)) }
 {
     if is_overlap(target, source) {
         return Err(Refusal::MergeOverlap);
+    }
+    if target == source {
+        return Ok(Vec::new(alloc));
     }
     copies_of(alloc, view, target, source)
 }

@@ -1,18 +1,17 @@
 -- A data command's changes are those of its unit.
-use Rattle.std.proofs.Common.{◌≡◌, ℕ, List, [], ◌∷◌, ◌++◌, refl, sym, ap, subst, ◌∙◌, append-nil, drop, length}
+use Rattle.std.proofs.Common.{◌≡◌, ℕ, List, [], ◌∷◌, ◌++◌, refl, sym, ap, subst, ◌∙◌, append-nil}
 use Rattle.std.specs.Prelude.{Bool, true, false, cond, not, ◌&&◌, ◌||◌, is_some, map, filter, Option, Some, None, Err, IsErrOf}
 use Rattle.std.specs.Ordering.{eq_by_cmp}
 use Rattle.std.specs.Option.{option_or}
 use Rattle.std.specs.Cmp.{first_so, second_so}
-use Rattle.std.specs.Cmp.Lexicographic.{bytes_decides}
 use Rattle.std.specs.FinMap as finmap
 use Rattle.std.specs.FinMap.{find, get, get-entries, get-insert, get-remove, entries_sorted, same_map}
 use Rattle.std.specs.FinMap.Entries.{is_sorted, below_all}
 use Rattle.collation.specs.Reference.{Reference}
 use Rattle.collation.specs.Order.{ref_cmp, ref_eq}
-use Rattle.collation.specs.OrderLaws.{ref_cmp_total, ref_cmp-IsAntisymmetric, ref_ties, ref_eq_decides, is_equal}
+use Rattle.collation.specs.OrderLaws.{ref_cmp_total, ref_cmp-IsAntisymmetric, ref_ties, is_equal}
 use Rattle.collation.specs.Database.{Database, is_under}
-use Rattle.collation.specs.Answers.{merged, moved, subtree_of}
+use Rattle.collation.specs.Answers.{moved, set_all, subtree_of}
 use Rattle.collation.specs.Levels.{overlap}
 use Rattle.refusal.specs.declared.Refusal.{Refusal}
 use Rattle.refusal.specs.declared.Refusal.TheVariants.{MergeOverlap}
@@ -23,11 +22,13 @@ use Rattle.command.specs.declared.access.DataCommand.TheVariants.{Set, Kill, Mer
 use Rattle.command.specs.declared.access.Answer.{Answer}
 use Rattle.command.specs.Data.{data_after, data_refusal, data_reply}
 use Rattle.globals.specs.NearestLaws.{true_of, not_found_itself}
-use Rattle.globals.specs.ChangingLaws.{begins_back, same_copy, under_moved, back_moved, kill_subtree, merge_subtree, contains_merged}
+use Rattle.globals.specs.Copies.{all_copies}
+use Rattle.globals.specs.ChangingLaws.{same_copy, under_moved, back_moved, kill_subtree, merge_subtree, contains_merged}
 use Rattle.journal.specs.declared.unit.Unit.{Unit as JournalUnit}
 use Rattle.journal.specs.declared.unit.Unit.TheVariants.{Lone}
 use Rattle.journal.specs.History.{State, initial, after}
-use Rattle.version_store.specs.Versions.{Stored, Change, changed, set_to, AreApart, content_now}
+use Rattle.version_store.specs.Versions.{Stored, AreApart, content_now}
+use Rattle.collation.specs.Changes.{Change, changed, set_to}
 use Rattle.validate_commit.specs.Agreement.{Agreement, AreChangesOf, IsNext}
 use Rattle.validate_commit.specs.laws.Agreement.{is_changed, agreed_now}
 use Rattle.job_core.specs.Changes.{killed, valued, found_changes, own_change}
@@ -195,20 +196,22 @@ apart_copied a b (e ∷ es) h = by_test (is_under b e.0) refl (apart_copied a b 
     )
     by_test false u rest = rest
 
-find_in_copied : (a b q : Reference) (m : Database) → find ref_cmp q (map valued (merged a b m)) ≡ cond (is_under a q) (to_value (get m (moved b a q))) None
+find_in_copied : (a b q : Reference) (m : Database) → find ref_cmp q (map valued (all_copies a b m)) ≡ cond (is_under a q) (to_value (get m (moved b a q))) None
 find_in_copied a b q m = find_copied a b q (finmap.entries m) ∙ ap (λ o. cond (is_under a q) (to_value o) None) (sym (get-entries m (moved b a q)))
 
-changes_merge : (job : ℕ) (a b : Reference) (answer : Answer) (s : State) → ref_eq a b ≡ false → AreChangesOf (map valued (merged a b s.map)) (Lone job (Merge a b) answer) s
+changes_merge : (job : ℕ) (a b : Reference) (answer : Answer) (s : State) → ref_eq a b ≡ false → AreChangesOf (map valued (all_copies a b s.map)) (Lone job (Merge a b) answer) s
 changes_merge job a b answer s other =
     let m = s.map in
-    let cs = map valued (merged a b m) in
+    let cs = map valued (all_copies a b m) in
+    let there : (x : Reference) → is_some (get (data_after (Merge a b) m) x) ≡ ((is_under a x && is_some (get m (moved b a x))) || is_some (get m x)) =
+    λ x. contains_merged a b x m m ∙ ap (λ t. (not t && (is_under a x && is_some (get m (moved b a x)))) || is_some (get m x)) other in
     let once : AreApart cs = apart_copied a b (finmap.entries m) (sorted_entries m) in
     record {
       leave = same_get (changed cs m) (data_after (Merge a b) m) (λ q.
           get_changed cs m q once ∙ ap (λ o. or_else o (get m q)) (find_in_copied a b q m) ∙ left (is_under a q) (get m (moved b a q)) (get m q) ∙ sym (merge_subtree m a b q));
       references = λ x.
           sym (is_changed x cs) ∙ ap is_some (find_in_copied a b x m) ∙ set (is_under a x) (get m (moved b a x)) (get m x)
-          ∙ (λ i. ((not (sym other i) && (is_under a x && is_some (get m (moved b a x)))) && true || false) || (is_some (get m x) && not (sym (contains_merged a b x m m) i)));
+          ∙ (λ i. ((not (sym other i) && (is_under a x && is_some (get m (moved b a x)))) && true || false) || (is_some (get m x) && not (sym (there x) i)));
       once = once;
     }
   where
@@ -224,36 +227,21 @@ changes_merge job a b answer s other =
     set false o None = refl
     set false o (Some v) = refl
 
-moved_itself : (a e : Reference) → is_under a e ≡ true → moved a a e ≡ e
-moved_itself a e h =
-    let name : a.name ≡ e.name = (bytes_decides a.name e.name).0 (first_so _ _ h) in
-    let rest : a.subscripts ++ drop (length a.subscripts) e.subscripts ≡ e.subscripts = begins_back e.subscripts a.subscripts (second_so _ _ h) in
-    λ i. record { name = name i; subscripts = rest i }
-
 changes_merge_itself : (job : ℕ) (a b : Reference) (answer : Answer) (s : State) → ref_eq a b ≡ true → AreChangesOf [] (Lone job (Merge a b) answer) s
 changes_merge_itself job a b answer s same =
     let m = s.map in
-    let one : a ≡ b = (ref_eq_decides a b).0 same in
+    let after : Bool → Database = λ t. set_all (cond t [] (all_copies a b m)) m in
     record {
-      leave = same_get m (data_after (Merge a b) m) (λ q.
-          kept (is_under a q) (get m q) (get m (moved b a q)) (λ u. ap (get m) (ap (λ z. moved z a q) (sym one) ∙ moved_itself a q u)) ∙ sym (merge_subtree m a b q));
+      leave = λ i. after (sym same i);
       references = λ x.
-          none (is_under a x && is_some (get m (moved b a x))) (is_some (get m x))
-          (λ t. ap is_some (sym (ap (get m) (ap (λ z. moved z a x) (sym one) ∙ moved_itself a x (first_so (is_under a x) _ t)))) ∙ second_so (is_under a x) _ t)
-          ∙ (λ i. ((not (sym same i) && (is_under a x && is_some (get m (moved b a x)))) && true || false) || (is_some (get m x) && not (sym (contains_merged a b x m m) i)));
+          nothing (is_some (get m x))
+          ∙ (λ i. ((not (sym same i) && (is_under a x && is_some (get m (moved b a x)))) && true || false) || (is_some (get m x) && not (is_some (get (after (sym same i)) x))));
       once = tt;
     }
   where
-    kept : (u : Bool) (g o : Option (List ℕ)) → (u ≡ true → o ≡ g) → g ≡ cond u (option_or o g) g
-    kept true None o is = sym (ap (λ o. option_or o None) (is refl))
-    kept true (Some v) o is = sym (ap (λ o. option_or o (Some v)) (is refl))
-    kept false g o is = refl
-
-    none : (t g : Bool) → (t ≡ true → g ≡ true) → false ≡ (((false && t) && true || false) || (g && not (t || g)))
-    none true true is = refl
-    none false true is = refl
-    none true false is = absurd (let e = is refl in cc)
-    none false false is = refl
+    nothing : (g : Bool) → false ≡ (g && not g)
+    nothing true = refl
+    nothing false = refl
 
 -- ---- all data commands
 
@@ -269,9 +257,9 @@ changes_set job r v answer s = record {
     set false None = refl
     set false (Some w) = refl
 
-by_same : (t : Bool) (a b : Reference) (job : ℕ) (answer : Answer) (s : State) → ref_eq a b ≡ t → AreChangesOf (cond t [] (map valued (merged a b s.map)) ++ []) (Lone job (Merge a b) answer) s
+by_same : (t : Bool) (a b : Reference) (job : ℕ) (answer : Answer) (s : State) → ref_eq a b ≡ t → AreChangesOf (map valued (cond t [] (all_copies a b s.map)) ++ []) (Lone job (Merge a b) answer) s
 by_same true a b job answer s same = changes_merge_itself job a b answer s same
-by_same false a b job answer s other = subst (λ cs. AreChangesOf cs (Lone job (Merge a b) answer) s) (sym (append-nil (map valued (merged a b s.map)))) (changes_merge job a b answer s other)
+by_same false a b job answer s other = subst (λ cs. AreChangesOf cs (Lone job (Merge a b) answer) s) (sym (append-nil (map valued (all_copies a b s.map)))) (changes_merge job a b answer s other)
 
 changes_of : (job : ℕ) (command : DataCommand) (answer : Answer) (s : State) → AreChangesOf (found_changes command s.map ++ own_change command) (Lone job command answer) s
 changes_of job (Set r v) answer s = changes_set job r v answer s

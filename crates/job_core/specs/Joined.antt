@@ -4,6 +4,7 @@ use Rattle.std.specs.Prelude.{◌≡◌, ◌≤◌, ◌<◌, ◌-◌, ◌^◌, �
 use Rattle.std.specs.FinMap as finmap
 use Rattle.refusal.specs.declared.Refusal.{Refusal}
 use Rattle.refusal.specs.declared.Refusal.TheVariants.{NoTransaction, LevelTooDeep, TransactionTooLong}
+use Rattle.collation.specs.Limits.{most_commands, most_levels}
 use Rattle.collation.specs.declared.lock.LockCommand.{LockCommand}
 use Rattle.collation.specs.Locks.{LockState, lock_reply}
 use Rattle.command.specs.declared.request.Command.{Command}
@@ -52,10 +53,10 @@ IsHorizon (Some stamp) now ss = (stamp ≤ now) × AreFrom stamp ss
 -- the refusal that is looked at before anything takes memory
 abbrev pub early_of : Command → Option Transaction → Option Refusal
 early_of (Access command) None = early_refusal command
-early_of (Access command) (Some t) = if nat_lt (length t.exchanges) 65535 then early_refusal command else Some TransactionTooLong
+early_of (Access command) (Some t) = if nat_lt (length t.exchanges) most_commands then early_refusal command else Some TransactionTooLong
 early_of (Lock command) t = None
 early_of Start None = None
-early_of Start (Some t) = if nat_lt t.level 127 then None else Some LevelTooDeep
+early_of Start (Some t) = if nat_lt t.level most_levels then None else Some LevelTooDeep
 early_of Commit None = Some NoTransaction
 early_of Commit (Some t) = None
 early_of Rollback None = Some NoTransaction

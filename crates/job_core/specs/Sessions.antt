@@ -6,6 +6,7 @@ use Rattle.std.specs.FinMap as finmap
 use Rattle.std.specs.FinMap.{FinMap}
 use Rattle.refusal.specs.declared.Refusal.{Refusal}
 use Rattle.refusal.specs.declared.Refusal.TheVariants.{NoTransaction, TransactionTooLong}
+use Rattle.collation.specs.Limits.{most_commands}
 use Rattle.collation.specs.Database.{Database}
 use Rattle.command.specs.declared.access.DataCommand.{DataCommand}
 use Rattle.command.specs.declared.access.Answer.{Answer}
@@ -73,7 +74,7 @@ pub record IsReadable (store : Stored) (s : Session) : Type 0 where
 pub record IsAnswered (command : DataCommand) (answer : Answer) (m : Database) (old new : Session) : Type 0 where
   pub right : answer ≡ data_reply command (seen old.work m)
   pub accepted : data_refusal command (seen old.work m) ≡ None
-  pub short : length old.work.exchanges < 65535
+  pub short : length old.work.exchanges < most_commands
   pub exchanges : new.work.exchanges ≡ old.work.exchanges ++ record { command = command; answer = answer } ∷ []
   pub work : IsWorkOn new.work m
   pub job : new.work.job ≡ old.work.job
@@ -86,8 +87,8 @@ pub record IsAnswered (command : DataCommand) (answer : Answer) (m : Database) (
 pub record IsRefused (command : DataCommand) (refusal : Refusal) (m : Database) (old new : Session) : Type 0 where
   pub same : new ≡ old
   pub cause : IsCauseInside refusal command old.work m
-  pub long : 65535 ≤ length old.work.exchanges → refusal ≡ TransactionTooLong
-  pub early : (rule : Refusal) → length old.work.exchanges < 65535 → early_refusal command ≡ Some rule → refusal ≡ rule
+  pub long : most_commands ≤ length old.work.exchanges → refusal ≡ TransactionTooLong
+  pub early : (rule : Refusal) → length old.work.exchanges < most_commands → early_refusal command ≡ Some rule → refusal ≡ rule
 
 abbrev pub HasAnswered : DataCommand → Result Answer Refusal → Stored → Session → Session → Type 0
 HasAnswered command (Ok answer) store old new = IsAnswered command answer (content_at store.versions old.work.start) old new

@@ -7,13 +7,10 @@ ghost use Rattle.journal.specs.Kept.{HasNoRoom};
 ghost use Rattle.job_core.specs.Joined.{IsWhole, IsStep};
 
 use crate::engine::Engine;
-use collation::Job;
+use collation::{Job, MOST_LEVELS};
 use command::Reply;
 use refusal::Refusal;
 use validate_commit::{Verdict, commit};
-
-// How deep transactions may be nested.
-const MOST_LEVELS: u64 = 127;
 
 impl Engine {
     /// TSTART: a transaction begins at level 1, or the open one's level is one higher.

@@ -3,6 +3,7 @@
 use Rattle.std.specs.Prelude.{ℕ, ◌/◌, ◌%◌, ◌==◌, Bool, true, false, ◌&&◌, nat_lt, nat_le, nat_eq, if◌then◌else◌, List, [], ◌∷◌, length, take, drop, Option, None, Some, zero, suc, is_none, option_and_then}
 use Rattle.std.specs.Cmp.Lexicographic.{pointwise}
 use Rattle.std.specs.Int.{Width, w16, w64, byte_len, from_be_bytes}
+use Rattle.collation.specs.Limits.{is_job}
 use Rattle.collation.specs.declared.direction.Direction.{Direction}
 use Rattle.collation.specs.declared.direction.Direction.TheVariants.{Forward, Backward}
 use Rattle.command.specs.declared.access.DataCommand.{DataCommand}
@@ -192,9 +193,6 @@ deed_at job tag bytes =
 unfoldable pub deed_of : ℕ → List ℕ → Option (JournalUnit × List ℕ)
 deed_of job [] = None
 deed_of job (tag ∷ bytes) = deed_at job tag bytes
-
-abbrev pub is_job : ℕ → Bool
-is_job n = nat_le 1 n && nat_le n 4096
 
 unfoldable pub unit_at : List ℕ → Option (JournalUnit × List ℕ)
 unit_at bytes = number_at bytes >>= λ n. if is_job n.0 then deed_of n.0 n.1 else None

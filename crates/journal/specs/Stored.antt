@@ -6,6 +6,7 @@ use Rattle.command.specs.declared.access.Look.{Look as LookCommand}
 use Rattle.command.specs.declared.access.Look.TheVariants.{Data, Get, Order, Query}
 use Rattle.command.specs.declared.access.Answer.{Answer}
 use Rattle.command.specs.declared.access.Answer.TheVariants.{Done, Value, Number, Found}
+use Rattle.collation.specs.Limits.{most_jobs}
 use Rattle.collation.specs.declared.lock.LockCommand.{LockCommand}
 use Rattle.collation.specs.declared.lock.LockCommand.TheVariants.{Release, Only, More, Fewer}
 use Rattle.collation.specs.Reference.{Reference, Resource}
@@ -81,5 +82,5 @@ FitsDeed (End job) = ⊤
 
 pub record FitsUnit (u : JournalUnit) : Type 0 where
   pub low : 1 ≤ job_of u
-  pub high : job_of u ≤ 4096
+  pub high : job_of u ≤ most_jobs
   pub deed : FitsDeed u

@@ -1,13 +1,14 @@
 -- Which references a unit touches, and which a transaction has read. Source: docs/RULES.md, "Transactions".
-use Rattle.std.specs.Prelude.{ℕ, Bool, false, not, ◌&&◌, ◌||◌, List, [], ◌∷◌, ◌++◌, if◌then◌else◌}
+use Rattle.std.specs.Prelude.{ℕ, Bool, false, not, ◌&&◌, ◌||◌, List, [], ◌∷◌, ◌++◌, unwrap_or, if◌then◌else◌}
 use Rattle.std.specs.Ordering.{is_lt}
+use Rattle.std.specs.Option.{option_map}
 use Rattle.std.specs.List.{list_any}
 use Rattle.std.specs.FinMap as finmap
 use Rattle.collation.specs.Reference.{Reference, Spot}
 use Rattle.collation.specs.Order.{ref_eq, ref_cmp, subscript_cmp}
 use Rattle.collation.specs.Database.{Database, is_under}
 use Rattle.collation.specs.Levels.{child_of, parent_of}
-use Rattle.collation.specs.Answers.{any_of, is_beyond, is_forward, follows, moved}
+use Rattle.collation.specs.Answers.{is_beyond, is_forward, follows, moved}
 use Rattle.command.specs.declared.access.DataCommand.{DataCommand}
 use Rattle.command.specs.declared.access.DataCommand.TheVariants.{Set, Kill, Merge, Look}
 use Rattle.command.specs.declared.access.Look.{Look as LookCommand}
@@ -67,7 +68,7 @@ is_beyond_answer forward (b ∷ bs) t = is_farther forward (b ∷ bs) t
 -- what $ORDER read: what stands at or under the subscripts beyond its place up to its answer
 abbrev pub order_read : Bool → Spot → Answer → Reference → Bool
 order_read forward p Done x = false
-order_read forward p (Value t) x = any_of (λ s. is_beyond forward p s && not (is_beyond_answer forward t s)) (child_of (parent_of p) x)
+order_read forward p (Value t) x = unwrap_or (option_map (λ s. is_beyond forward p s && not (is_beyond_answer forward t s)) (child_of (parent_of p) x)) false
 order_read forward p (Number n) x = false
 order_read forward p (Found r) x = false
 

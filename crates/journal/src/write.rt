@@ -1,6 +1,7 @@
 //! Units written as bytes, behind what stands there. A refusal may leave a part of them.
 ghost use Rattle.std.specs.Prelude.{◌≡◌, ◌≤◌, ◌+◌, ◌*◌, ◌++◌, [], ◌∷◌, OnOk, length, vec_len, vec_capacity};
 ghost use Rattle.std.specs.List.{flat_map};
+ghost use Rattle.collation.specs.Limits.{most_jobs};
 ghost use Rattle.journal.specs.Format as format;
 ghost use Rattle.journal.specs.declared.unit.Unit.TheVariants.{Lone, Whole, Lock, Back, End};
 ghost use Rattle.journal.specs.Stored.{FitsUnit, FitsString, FitsReference, FitsName, FitNames, FitsLook, FitsCommand, FitsAnswer, FitsLock, Each};
@@ -267,7 +268,7 @@ pub(crate) fn push_lock(
 fn push_job(bytes: &mut Vec<u8>, job: Job) -> Result<(), AllocError>
     ensures bytes { OnOk result (bytes.new.items ≡ bytes.old.items ++ format.number_bytes job) }
     ensures low { 1 ≤ job }
-    ensures high { job ≤ 4096 }
+    ensures high { job ≤ most_jobs }
 {
     push_number(bytes, u64::from(job.number()))
 }

@@ -15,10 +15,9 @@ use Rattle.std.specs.Cmp.Lexicographic.{pointwise, bytes_decides}
 use Rattle.collation.specs.Reference.{Reference}
 use Rattle.collation.specs.Database.{begins_with, is_under}
 use Rattle.collation.specs.Levels.{child, child_of, front}
-use Rattle.key_codec.specs.Key.{IsReference, IsSubscript, key_of, short_form, subscript_key, subscripts_key}
-use Rattle.key_codec.specs.Form.{short_form_is}
+use Rattle.key_codec.specs.Key.{IsReference, IsSubscript, key_of, short_form, subscript_key, subscripts_key, AreSubscripts}
+use Rattle.key_codec.specs.KeyLaws.{short_form_is, are_subscripts, no_fault, not_over, not_too_many, fits_short, begins_under, has_tag, key_of-append, one_subscript, under_begins}
 use Rattle.key_codec.specs.Reading.{BeginsWith, BeginsWithNone}
-use Rattle.key_codec.specs.KeyLaws.{AreSubscripts, are_subscripts, no_fault, not_over, not_too_many, fits_short, begins_under, has_tag, key_of-append, one_subscript, under_begins}
 use Rattle.key_codec.specs.BoundLaws.{equal_keys}
 use Rattle.key_codec.specs.Back.{reference_of}
 use Rattle.key_codec.specs.BackLaws.{key_again, is_reference_again, reference_of_key}

@@ -3,8 +3,7 @@ use Rattle.std.proofs.Common.{◌≡◌, ℕ, ◌+◌, Bool, List, [], ◌∷◌
 use Rattle.std.specs.Prelude.{nat_eq, MatchOption}
 use Rattle.std.specs.List.{list_all}
 use Rattle.canonic_number.specs.Place.{digits_of}
-use Rattle.key_codec.specs.Key.{short_form, subscript_key, subscripts_key, escaped, IsSubscript}
-use Rattle.key_codec.specs.KeyLaws.{AreSubscripts}
+use Rattle.key_codec.specs.Key.{short_form, subscript_key, subscripts_key, escaped, IsSubscript, AreSubscripts}
 use Rattle.key_codec.specs.BackLaws.{no_end, escaped_free}
 use Rattle.key_codec.specs.Reading.{tag_of, digit_byte, end_of}
 use Rattle.key_codec.proofs.Reading.{HasNumber, has_number, HasText, has_text, tails}

@@ -10,8 +10,8 @@ use Rattle.collation.specs.Reference.{Reference, Spot}
 use Rattle.collation.specs.Name.{is_name}
 use Rattle.collation.specs.Faults.{subscripts_fault, reference_fault, ends_open, closed_part}
 use Rattle.key_codec.specs.Key.{short_form, subscript_key, subscripts_key, key_of, IsReference}
-use Rattle.key_codec.specs.Draft.{IsDraft, longer, place_due, reference_due, place_of, IsDueOrMemory}
-use Rattle.key_codec.specs.DraftLaws.{open_fault, ends_open-more, closed_part-more, closed_part-whole, fault-closed, fault-pushed, fault-opened, AreFaultless, faultless}
+use Rattle.key_codec.specs.Draft.{IsDraft, longer, place_due, reference_due, place_of, IsDueOrMemory, open_fault}
+use Rattle.key_codec.specs.DraftLaws.{ends_open-more, closed_part-more, closed_part-whole, fault-closed, fault-pushed, fault-opened, AreFaultless, faultless}
 use Rattle.key_codec.specs.declared.draft.KeyDraft.{KeyDraft}
 use Rattle.key_codec.proofs.Reading.{keys-push}
 

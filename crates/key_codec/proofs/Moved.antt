@@ -7,10 +7,10 @@ use Rattle.std.specs.Prelude.{nat_eq, nat_lt}
 use Rattle.std.specs.List.{list_all}
 use Rattle.collation.specs.Reference.{Reference}
 use Rattle.collation.specs.Answers.{moved}
-use Rattle.key_codec.specs.Key.{IsReference, key_of, short_form, subscripts_key}
+use Rattle.key_codec.specs.Key.{IsReference, key_of, short_form, subscripts_key, AreSubscripts}
 use Rattle.key_codec.specs.Back.{reference_of}
 use Rattle.key_codec.specs.Kept.{Keeps}
-use Rattle.key_codec.specs.KeyLaws.{AreSubscripts, no_fault, not_over, fits_short, key_of-append}
+use Rattle.key_codec.specs.KeyLaws.{no_fault, not_over, fits_short, key_of-append}
 use Rattle.key_codec.proofs.Reading.{HasReference, has_reference}
 use Rattle.key_codec.proofs.Children.{Behind, behind, kept, reads_back}
 

@@ -20,13 +20,12 @@ use Rattle.canonic_number.specs.ClassLaws.{IsNumber, Zero, Below, Above, class_o
 use Rattle.collation.specs.Reference.{Reference}
 use Rattle.collation.specs.Name.{is_name}
 use Rattle.collation.specs.OrderLaws.{subscript_cmp-IsAntisymmetric}
-use Rattle.key_codec.specs.Key.{IsReference, key_of, short_form, subscript_key, subscripts_key, below_key, above_key, text_key, escape, escaped, IsSubscript}
-use Rattle.key_codec.specs.Form.{short_form_is}
+use Rattle.key_codec.specs.Key.{IsReference, key_of, short_form, subscript_key, subscripts_key, below_key, above_key, text_key, escape, escaped, IsSubscript, AreSubscripts}
+use Rattle.key_codec.specs.KeyLaws.{short_form_is, has_tag, one_subscript, lists_cmp, FitsForm, fits_short, name_above}
 use Rattle.key_codec.specs.Reading.{BeginsWithNone, tag_of, place_byte, digit_byte, digit_of, end_of, IsNumberOf, IsNumberKey, IsOtherText}
 use Rattle.key_codec.specs.ByteLaws.{escape_cmp, by_byte}
 use Rattle.key_codec.specs.SubscriptLaws.{zero_key, key_below, key_above, key_text, tied_lists, tied_same}
 use Rattle.key_codec.specs.BackLaws.{digits_back, no_end, no_zero, escaped_free}
-use Rattle.key_codec.specs.KeyLaws.{has_tag, AreSubscripts, one_subscript, lists_cmp, FitsForm, fits_short, name_above}
 
 -- the first end byte parts the bytes in one way
 pub record AreSame (xs ys u v : List ℕ) : Type 0 where

@@ -3,27 +3,23 @@ use Rattle.std.proofs.Common.{◌≡◌, subst, Option, Result, Ok, Err, cond, l
 use Rattle.std.proofs.lemmas.Option.{same_Some}
 use Rattle.std.proofs.Math.Seq.{take-append_seam}
 use Rattle.collation.specs.Name.{is_name}
-use Rattle.key_codec.specs.Key.{IsReference, key_of}
-use Rattle.key_codec.specs.KeyLaws.{fits_short, no_fault}
-use Rattle.key_codec.proofs.Children.{front_faultless}
+use Rattle.key_codec.specs.Key.{IsReference, key_of, short_form, subscript_key, subscripts_key, AreSubscripts}
+use Rattle.key_codec.specs.KeyLaws.{fits_short, no_fault, HasTag, has_tag}
+use Rattle.key_codec.proofs.Children.{front_faultless, Behind}
 use Rattle.key_codec.proofs.Moved.{few_subscripts}
-use Rattle.key_codec.proofs.Reading.{HasReference}
+use Rattle.key_codec.proofs.Reading.{HasReference, HasNumber, has_number, HasText, has_text, pointed_short, pointed_long}
 use Rattle.std.proofs.lemmas.List.{take-map, drop-map, length-map}
 use Rattle.std.proofs.lemmas.Bool.Decides.{nat_tests}
 use Rattle.std.specs.Prelude.{◌==◌, ◌||◌, nat_eq, nat_lt, replicate, IfSome, IfOk}
 use Rattle.std.specs.List.{list_all, list_any}
 use Rattle.canonic_number.specs.Number.{is_canonic}
 use Rattle.canonic_number.specs.Place.{pointed}
-use Rattle.key_codec.specs.Key.{short_form, subscript_key, subscripts_key}
 use Rattle.collation.specs.Reference.{Reference, Spot}
 use Rattle.collation.specs.Levels.{child_of, below, front, parent_of}
-use Rattle.key_codec.proofs.Children.{Behind}
-use Rattle.key_codec.specs.KeyLaws.{HasTag, has_tag, AreSubscripts}
 use Rattle.key_codec.specs.Back.{unescaped, number_from, first_number, first_of, FirstSubscript, subscripts_up_to}
 use Rattle.key_codec.specs.BackLaws.{front_back, rest_back, subscript_back, subscripts_back}
 use Rattle.key_codec.specs.Reading.{tag_of, end_of}
 use Rattle.key_codec.specs.Shown.{HasFirst, AreKeys, first}
-use Rattle.key_codec.proofs.Reading.{HasNumber, has_number, HasText, has_text, pointed_short, pointed_long}
 
 -- a number's parts
 pub number_front : (n : Bool) (byte : ℕ) (bytes behind digits rest : List ℕ) → bytes ≡ byte ∷ behind → list_all (λ b. not (nat_eq b (end_of n))) digits ≡ true → behind ≡ digits ++ end_of n ∷ rest →

@@ -12,11 +12,11 @@ use Rattle.canonic_number.specs.DigitLaws.{head_digit, tail_digits}
 use Rattle.canonic_number.specs.CanonicLaws.{IsPlaced}
 use Rattle.canonic_number.specs.ClassLaws.{IsNumber, Zero, Below, Above, class_of_text}
 use Rattle.collation.specs.Reference.{Reference}
-use Rattle.key_codec.specs.Key.{IsReference, key_of, short_form, subscript_key, subscripts_key, text_key, escape, escaped, IsSubscript}
+use Rattle.key_codec.specs.Key.{IsReference, key_of, short_form, subscript_key, subscripts_key, text_key, escape, escaped, IsSubscript, AreSubscripts}
 use Rattle.key_codec.specs.Reading.{place_byte, digit_byte, digit_of, end_of}
 use Rattle.key_codec.specs.ByteLaws.{by_byte}
 use Rattle.key_codec.specs.SubscriptLaws.{zero_key, key_below, key_above, key_text}
-use Rattle.key_codec.specs.KeyLaws.{has_tag, AreSubscripts, fits_short, name_above}
+use Rattle.key_codec.specs.KeyLaws.{has_tag, fits_short, name_above}
 use Rattle.key_codec.specs.Back.{before_end, behind_end, unescaped, place_from, number_from, first_number, first_of, subscripts_up_to, reference_of}
 
 -- the first end byte parts the bytes

@@ -8,9 +8,9 @@ use Rattle.std.specs.Cmp.Lexicographic.{slice_cmp}
 use Rattle.collation.specs.Reference.{Reference}
 use Rattle.collation.specs.Database.{IsUnder}
 use Rattle.key_codec.specs.Key.{KeyForm, short_form, subscript_key, subscripts_key, key_in, key_of, IsReference}
-use Rattle.key_codec.specs.Form.{IsKeyForm, short_form_is}
+use Rattle.key_codec.specs.Form.{IsKeyForm}
+use Rattle.key_codec.specs.KeyLaws.{short_form_is, FitsForm, fits_short, keys_cmp, one_key, one_subscript, begins_under, under_begins, has_tag}
 use Rattle.key_codec.specs.Bounds.{Begins, KeepsOrder, IsPrefixOf, AreBounds, IsBefore, IsUpTo, KeysCompareAsReferences, EqualKeysAreEqualReferences, NoSubscriptBeginsAnother, KeysBeginAsReferences}
-use Rattle.key_codec.specs.KeyLaws.{FitsForm, fits_short, keys_cmp, one_key, one_subscript, begins_under, under_begins, has_tag}
 
 pub same_front : (a u v : List ℕ) → slice_cmp nat_cmp (a ++ u) (a ++ v) ≡ slice_cmp nat_cmp u v
 same_front [] u v = refl

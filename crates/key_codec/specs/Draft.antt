@@ -1,7 +1,8 @@
 -- What a draft of a key keeps of the reference or place that is read.
-use Rattle.std.specs.Prelude.{◌≡◌, ◌⊎◌, ℕ, ◌<◌, ◌≤◌, true, if◌then◌else◌, Option, None, Some, List, [], ◌∷◌, ◌++◌, length}
+use Rattle.std.specs.Prelude.{◌≡◌, Bool, ◌⊎◌, ℕ, ◌<◌, ◌≤◌, true, if◌then◌else◌, Option, None, Some, List, [], ◌∷◌, ◌++◌, length}
 use Rattle.refusal.specs.declared.Refusal.{Refusal}
-use Rattle.refusal.specs.declared.Refusal.TheVariants.{BadName, OutOfMemory}
+use Rattle.refusal.specs.declared.Refusal.TheVariants.{BadName, EmptySubscript, OutOfMemory}
+use Rattle.collation.specs.Limits.{most_subscripts}
 use Rattle.collation.specs.Reference.{Reference, Spot}
 use Rattle.collation.specs.Name.{is_name}
 use Rattle.collation.specs.Faults.{subscripts_fault, reference_fault, place_fault, ends_open, closed_part}
@@ -12,14 +13,18 @@ use Rattle.key_codec.specs.declared.draft.KeyDraft.{KeyDraft}
 abbrev pub longer : Reference → List ℕ → Reference
 longer r s = record { name = r.name; subscripts = r.subscripts ++ s ∷ [] }
 
+-- an empty subscript that isn't the last is at fault
+abbrev pub open_fault : Bool → Option Refusal
+open_fault is_open = if is_open then Some EmptySubscript else None
+
 -- the draft of what is spelled so: an empty last subscript is told apart, and the bytes are there where nothing is at fault
 pub record IsDraft (d : KeyDraft) (r : Reference) : Type 0 where
   pub name : d.is_name ≡ is_name r.name
-  pub few : length r.subscripts ≤ 31 → d.count ≡ length r.subscripts
-  pub many : 31 < length r.subscripts → 31 < d.count
+  pub few : length r.subscripts ≤ most_subscripts → d.count ≡ length r.subscripts
+  pub many : most_subscripts < length r.subscripts → most_subscripts < d.count
   pub open_end : d.ends_open ≡ ends_open r.subscripts
   pub fault : d.fault ≡ subscripts_fault (closed_part r.subscripts)
-  pub bytes : is_name r.name ≡ true → length r.subscripts ≤ 31 → subscripts_fault (closed_part r.subscripts) ≡ None → d.bytes.items ≡ r.name ++ 0 ∷ subscripts_key short_form (closed_part r.subscripts)
+  pub bytes : is_name r.name ≡ true → length r.subscripts ≤ most_subscripts → subscripts_fault (closed_part r.subscripts) ≡ None → d.bytes.items ≡ r.name ++ 0 ∷ subscripts_key short_form (closed_part r.subscripts)
 
 -- why a place is refused, where it is: its name first
 abbrev pub place_due : Reference → Option Refusal

@@ -5,11 +5,8 @@ use Rattle.std.specs.Option.{option_or}
 use Rattle.canonic_number.specs.Number.{limit}
 use Rattle.refusal.specs.declared.Refusal.{Refusal}
 use Rattle.refusal.specs.declared.Refusal.TheVariants.{EmptySubscript, SubscriptTooLong}
+use Rattle.key_codec.specs.Draft.{open_fault}
 use Rattle.collation.specs.Faults.{subscripts_fault, ends_open, closed_part}
-
--- an empty subscript that isn't the last is at fault
-abbrev pub open_fault : Bool → Option Refusal
-open_fault is_open = cond is_open (Some EmptySubscript) None
 
 pub ends_open-more : (ss : List (List ℕ)) (s : List ℕ) → ends_open (ss ++ s ∷ []) ≡ (length s == 0)
 ends_open-more [] s = refl

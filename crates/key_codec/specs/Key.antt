@@ -68,6 +68,11 @@ pub record IsSubscript (form : KeyForm) (s : List ℕ) : Type 0 where
   pub some : 0 < length s
   pub short : length s ≤ form.fraction + 1
 
+-- subscripts within a form's limit
+abbrev pub AreSubscripts : KeyForm → List (List ℕ) → Type 0
+AreSubscripts form [] = Unit {0}
+AreSubscripts form (s ∷ ss) = IsSubscript form s × AreSubscripts form ss
+
 -- what a `Ref` keeps
 pub record IsReference (r : Reference) : Type 0 where
   pub name : is_name r.name ≡ true

@@ -11,13 +11,14 @@ use Rattle.canonic_number.specs.Number.{is_canonic, is_zero, is_negative, limit}
 use Rattle.canonic_number.specs.Place.{place_at, digits_of}
 use Rattle.canonic_number.specs.ClassLaws.{AreTied, both_tied}
 use Rattle.collation.specs.Reference.{Reference}
+use Rattle.collation.specs.Limits.{most_name_bytes, most_subscripts}
 use Rattle.collation.specs.Name.{is_name, is_letter_or_digit}
 use Rattle.collation.specs.Faults.{subscripts_fault, reference_fault}
 use Rattle.collation.specs.Database.{begins_with, is_under}
 use Rattle.collation.specs.Order.{subscript_cmp, ref_cmp}
 use Rattle.collation.specs.OrderLaws.{subscript_cmp-IsAntisymmetric, ref_cmp-IsAntisymmetric}
 use Rattle.refusal.specs.declared.Refusal.{Refusal}
-use Rattle.key_codec.specs.Key.{KeyForm, short_form, subscript_key, subscripts_key, key_in, key_of, IsSubscript, IsReference, below_key, above_key, text_key}
+use Rattle.key_codec.specs.Key.{KeyForm, short_form, subscript_key, subscripts_key, key_in, key_of, AreSubscripts, IsSubscript, IsReference, below_key, above_key, text_key}
 use Rattle.key_codec.specs.Form.{IsKeyForm}
 use Rattle.key_codec.specs.ByteLaws.{named_cmp}
 use Rattle.key_codec.specs.SubscriptLaws.{subscripts_cmp, tied_lists, tied_same}
@@ -34,12 +35,10 @@ letters_above (b ∷ bs) e = and_from _ _ (letter_above b (first_so _ _ e)) (let
 pub name_above : (bs : List ℕ) → is_name bs ≡ true → list_all (nat_lt 0) bs ≡ true
 name_above [] e = cc
 name_above (zero ∷ bs) e = cc
-name_above (suc b ∷ bs) e = and_from _ _ (grind (arith, nat_tests)) (letters_above bs (first_so _ _ (second_so _ (list_all is_letter_or_digit bs && nat_le (length bs) 30) e)))
+name_above (suc b ∷ bs) e = and_from _ _ (grind (arith, nat_tests)) (letters_above bs (first_so _ _ (second_so _ (list_all is_letter_or_digit bs && nat_le (length (suc b ∷ bs)) most_name_bytes) e)))
 
--- subscripts within a form's limit
-abbrev pub AreSubscripts : KeyForm → List (List ℕ) → Type 0
-AreSubscripts form [] = Unit {0}
-AreSubscripts form (s ∷ ss) = IsSubscript form s × AreSubscripts form ss
+pub short_form_is : IsKeyForm short_form
+short_form_is = record { places = λ m n u v _ _. refl; values = λ x y _ _ _ _. refl }
 
 -- a reference within it
 pub record FitsForm (form : KeyForm) (r : Reference) : Type 0 where
@@ -77,7 +76,7 @@ not_over true o e = absurd (cc)
 not_over false o e = (refl, e)
 
 pub not_too_many : (ss : List (List ℕ)) → reference_fault ss ≡ None → subscripts_fault ss ≡ None
-not_too_many ss e = (not_over (nat_lt 31 (length ss)) _ e).1
+not_too_many ss e = (not_over (nat_lt most_subscripts (length ss)) _ e).1
 
 -- what a `Ref` keeps lies within the short form's limit
 pub fits_short : (r : Reference) → IsReference r → FitsForm short_form r

@@ -1,8 +1,7 @@
 -- A subscript as the parts of its key show it. Read shown_text.
 use Rattle.std.specs.Prelude.{◌≡◌, ℕ, Bool, true, false, List, [], ◌∷◌, ◌++◌, Option, None, Some}
 use Rattle.canonic_number.specs.Number.{is_canonic}
-use Rattle.key_codec.specs.Key.{short_form, subscript_key, subscripts_key, IsSubscript}
-use Rattle.key_codec.specs.KeyLaws.{AreSubscripts}
+use Rattle.key_codec.specs.Key.{short_form, subscript_key, subscripts_key, IsSubscript, AreSubscripts}
 use Rattle.key_codec.specs.Back.{unescaped, number_from}
 use Rattle.key_codec.specs.declared.shown.Shown.{Shown}
 use Rattle.key_codec.specs.declared.shown.Shown.TheVariants.{Zero, Number, Other}

@@ -2,8 +2,7 @@
 ghost use Rattle.std.specs.Prelude.{◌≡◌, ◌<◌, ◌≤◌, ◌++◌, ◌∷◌, ℕ, List, IfSome, MatchOption, length, nat_eq, not, true};
 ghost use Rattle.std.specs.List.{list_all};
 ghost use Rattle.key_codec.specs.Key as spec;
-ghost use Rattle.key_codec.specs.Key.{short_form, IsSubscript};
-ghost use Rattle.key_codec.specs.KeyLaws.{AreSubscripts};
+ghost use Rattle.key_codec.specs.Key.{short_form, IsSubscript, AreSubscripts};
 ghost use Rattle.key_codec.specs.Reading as reading;
 
 use crate::read::split_at_end;

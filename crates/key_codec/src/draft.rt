@@ -1,11 +1,11 @@
 //! Keys while their references are read, subscript by subscript.
 ghost use Rattle.std.specs.Prelude.{◌≡◌, ◌==◌, ◌<◌, ◌≤◌, ◌++◌, ◌+◌, [], IfErr, IfOk, MatchResult, None, Some, OnOk, false, length, true};
 ghost use Rattle.std.specs.Option.{option_or};
+ghost use Rattle.collation.specs.Limits.{most_subscripts};
 ghost use Rattle.collation.specs.Reference.{Reference};
 ghost use Rattle.key_codec.specs.Key as spec;
 ghost use Rattle.key_codec.specs.Key.{short_form, IsSubscript};
-ghost use Rattle.key_codec.specs.Draft.{IsDraft, IsSpelled, IsDueOrMemory, longer, place_due, place_of, reference_due};
-ghost use Rattle.key_codec.specs.DraftLaws.{open_fault};
+ghost use Rattle.key_codec.specs.Draft.{IsDraft, IsSpelled, IsDueOrMemory, longer, place_due, place_of, reference_due, open_fault};
 
 use crate::write::push_subscript;
 use crate::{END, Key, Place};
@@ -58,8 +58,8 @@ impl KeyDraft {
     fn go_on(&mut self)
         ensures fault { self.new.fault ≡ option_or self.old.fault (open_fault self.old.ends_open) }
         ensures bytes { self.new.bytes ≡ self.old.bytes }
-        ensures few { self.old.count ≤ 31 → self.new.count ≡ self.old.count + 1 }
-        ensures many { 31 < self.old.count → self.new.count ≡ self.old.count }
+        ensures few { self.old.count ≤ most_subscripts → self.new.count ≡ self.old.count + 1 }
+        ensures many { most_subscripts < self.old.count → self.new.count ≡ self.old.count }
         ensures name { self.new.is_name ≡ self.old.is_name }
     {
         if self.ends_open && self.fault.is_none() {
@@ -85,7 +85,7 @@ impl KeyDraft {
     // Adds a subscript's key, where nothing is at fault.
     fn add(&mut self, subscript: &[u8]) -> Result<(), AllocError>
         requires { IsSubscript short_form subscript.now }
-        ensures bytes { OnOk result (self.old.is_name ≡ true → self.old.count ≤ 31 → self.old.fault ≡ None → self.new.bytes.items ≡ self.old.bytes.items ++ spec.subscript_key short_form subscript.now) }
+        ensures bytes { OnOk result (self.old.is_name ≡ true → self.old.count ≤ most_subscripts → self.old.fault ≡ None → self.new.bytes.items ≡ self.old.bytes.items ++ spec.subscript_key short_form subscript.now) }
         ensures fault { self.new.fault ≡ self.old.fault }
         ensures count { self.new.count ≡ self.old.count }
         ensures name { self.new.is_name ≡ self.old.is_name }

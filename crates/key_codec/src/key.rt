@@ -1,5 +1,6 @@
 //! Keys: references that are kept as their key bytes.
 ghost use Rattle.std.specs.Prelude.{◌≡◌, None, [], ◌∷◌, ◌++◌, ◌≢◌, ◌≤◌, ◌⊎◌, List, ℕ, IfErr, IfNone, IfOk, IfSome, OnOk, MatchResult, false, true, length, nat_lt};
+ghost use Rattle.collation.specs.Limits.{most_subscripts};
 ghost use Rattle.collation.specs.Reference.{Reference};
 ghost use Rattle.collation.specs.Faults.{reference_fault};
 ghost use Rattle.collation.specs.Name.{is_name};
@@ -136,7 +137,7 @@ impl Key {
     // How many subscripts the reference has.
     fn depth(&self) -> usize
         ensures depth { result ≡ length self.now.subscripts }
-        ensures few { result ≤ 31 }
+        ensures few { result ≤ most_subscripts }
     {
         match split_at_end(self.as_slice(), END) {
             Some((_, rest)) => count_subscripts(rest),
@@ -167,8 +168,8 @@ impl Key {
     pub fn moved(&self, alloc: Global, from: &Key, to: &Key) -> Result<Key, Refusal>
         requires { is_under_spec from.now self.now ≡ true }
         ensures { MatchResult result
-            (λ copy. (copy ≡ moved_spec to.now from.now self.now) × (nat_lt 31 (length copy.subscripts) ≡ false))
-            (λ refusal. (refusal ≡ Refusal.OutOfMemory) ⊎ ((refusal ≡ Refusal.TooManySubscripts) × (nat_lt 31 (length (moved_spec to.now from.now self.now).subscripts) ≡ true))) }
+            (λ copy. (copy ≡ moved_spec to.now from.now self.now) × (nat_lt most_subscripts (length copy.subscripts) ≡ false))
+            (λ refusal. (refusal ≡ Refusal.OutOfMemory) ⊎ ((refusal ≡ Refusal.TooManySubscripts) × (nat_lt most_subscripts (length (moved_spec to.now from.now self.now).subscripts) ≡ true))) }
     {
         let Some(rest) = self.behind(from) else {
             unreachable!()

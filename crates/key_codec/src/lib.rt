@@ -34,15 +34,15 @@ mod bounds;
 mod bytes;
 mod count;
 mod draft;
+mod escapes;
 mod key;
 mod laws;
+mod number_bytes;
 mod order;
 mod place;
 mod range;
 mod read;
-mod read_number;
 mod read_subscript;
-mod read_text;
 mod shown;
 mod write;
 
@@ -68,7 +68,7 @@ const END_ABOVE_ZERO: u8 = 0;
 const END_BELOW_ZERO: u8 = 255;
 
 // The most digits of a fraction: a point's place is counted from as many places before it.
-const FRACTION: usize = 126;
+const MOST_FRACTION_DIGITS: usize = 126;
 
 // Greater than the first byte of each subscript's key.
 const ABOVE_TAGS: u8 = 6;

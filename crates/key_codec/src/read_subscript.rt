@@ -6,9 +6,9 @@ ghost use Rattle.canonic_number.specs.Place.{signed, written_at};
 ghost use Rattle.key_codec.specs.Reading as reading;
 ghost use Rattle.key_codec.specs.Reading.{BeginsWith, BeginsWithNone, IsNumberKey, IsOtherText};
 
+use crate::escapes::unescape;
+use crate::number_bytes::{are_digit_bytes, is_number_of, place_of, push_digits, push_number};
 use crate::read::split_at_end;
-use crate::read_number::{are_digit_bytes, is_number_of, place_of, push_digits, push_number};
-use crate::read_text::unescape;
 use crate::{ABOVE_ZERO, BELOW_ZERO, END, END_ABOVE_ZERO, END_BELOW_ZERO, TEXT, ZERO};
 use canonic_number::{LONGEST_SUBSCRIPT, is_canonic};
 use collation::Text;

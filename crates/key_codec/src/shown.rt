@@ -2,16 +2,15 @@
 ghost use Rattle.std.specs.Prelude.{◌≡◌, ◌∷◌, ◌++◌, List, ℕ, IfOk, IfSome, OnOk, false, length};
 ghost use Rattle.canonic_number.specs.Number.{is_canonic};
 ghost use Rattle.collation.specs.Levels.{front};
-ghost use Rattle.key_codec.specs.Key.{short_form, subscripts_key};
-ghost use Rattle.key_codec.specs.KeyLaws.{AreSubscripts};
+ghost use Rattle.key_codec.specs.Key.{short_form, subscripts_key, AreSubscripts};
 ghost use Rattle.key_codec.specs.Back.{first_of, first_number as first_number_spec, subscripts_up_to, unescaped};
 ghost use Rattle.key_codec.specs.Reading.{tag_of};
 ghost use Rattle.key_codec.specs.Shown.{HasFirst, AreKeys, first};
 
+use crate::escapes::push_unescaped;
+use crate::number_bytes::{place_from, push_number};
 use crate::read::split_at_end;
-use crate::read_number::{place_from, push_number};
 use crate::read_subscript::{end_of, take_byte};
-use crate::read_text::push_unescaped;
 use crate::{ABOVE_ZERO, BELOW_ZERO, END, TEXT, ZERO};
 use collation::Text;
 use std::alloc::{AllocError, Global};

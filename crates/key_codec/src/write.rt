@@ -7,7 +7,9 @@ ghost use Rattle.key_codec.specs.Key as spec;
 ghost use Rattle.key_codec.specs.Key.{short_form, IsReference, IsSubscript};
 ghost use Rattle.key_codec.specs.PartsKey.{parts_key};
 
-use crate::{ABOVE_ZERO, BELOW_ZERO, END, END_ABOVE_ZERO, END_BELOW_ZERO, FRACTION, TEXT, ZERO};
+use crate::{
+    ABOVE_ZERO, BELOW_ZERO, END, END_ABOVE_ZERO, END_BELOW_ZERO, MOST_FRACTION_DIGITS, TEXT, ZERO,
+};
 use canonic_number::{NumberParts, parts};
 use collation::{Ref, Text};
 use refusal::Refusal;
@@ -93,12 +95,12 @@ fn push_number(key: &mut Vec<u8>, number: &NumberParts<'_>) -> Result<(), AllocE
     requires zeros_short { number.now.zeros ≤ scale }
     ensures { OnOk result (key.new.items ≡ key.old.items ++ parts_key number.now) }
 {
-    let place = number.whole + FRACTION - number.zeros;
+    let place = number.whole + MOST_FRACTION_DIGITS - number.zeros;
     if number.first.is_empty() && number.second.is_empty() {
         key.push(ZERO)?;
     } else if number.negative {
         key.push(BELOW_ZERO)?;
-        key.push((2 * FRACTION + 1 - place) as u8)?;
+        key.push((2 * MOST_FRACTION_DIGITS + 1 - place) as u8)?;
         push_falling(key, number.first)?;
         push_falling(key, number.second)?;
         key.push(END_BELOW_ZERO)?;

@@ -13,7 +13,7 @@ use Rattle.collation.specs.OrderLaws.{ref_cmp_total, ref_cmp-IsAntisymmetric}
 use Rattle.globals.specs.NearestLaws.{true_of}
 use Rattle.btree.specs.Order.{without, find_last as last_pair}
 use Rattle.btree.specs.Tree.{Content}
-use Rattle.collation.specs.Nearest.{nearest, find_last}
+use Rattle.globals.specs.Entries.{nearest_entry, find_last}
 
 module _ {X : Type 0} where
   pub map_none : from_sorted {X = X} {R = ref_cmp} [] ≡ empty
@@ -68,5 +68,5 @@ module _ {X : Type 0} where
   same_last P [] = refl
   same_last P (e ∷ es) = ap (λ o. option_or o (cond (P e.0) (Some e) None)) (same_last P es)
 
-  pub last_in : (P : Reference → Bool) (es : List (Reference × X)) → is_sorted ref_cmp es ≡ true → last_pair (λ e. P e.0) es ≡ nearest false P (from_sorted {R = ref_cmp} es)
+  pub last_in : (P : Reference → Bool) (es : List (Reference × X)) → is_sorted ref_cmp es ≡ true → last_pair (λ e. P e.0) es ≡ nearest_entry false P (from_sorted {R = ref_cmp} es)
   last_in P es h = same_last P es ∙ ap (find_last (λ e. P e.0)) (sym (map_entries es h))

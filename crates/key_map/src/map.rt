@@ -2,7 +2,7 @@
 ghost use Rattle.std.specs.Prelude.{◌≡◌, not, true, false, None, Some, IfOk, IfErr, OnErr};
 ghost use Rattle.std.specs.Option.{option_copied, option_map};
 ghost use Rattle.std.specs.FinMap as finmap;
-ghost use Rattle.collation.specs.Nearest.{nearest};
+ghost use Rattle.globals.specs.Entries.{nearest_entry};
 ghost use Rattle.globals.specs.Cuts.{stands_before};
 ghost use Rattle.key_map.specs.Members.{members_from};
 
@@ -53,14 +53,14 @@ impl<X> KeyMap<X> {
 
     /// The first key that doesn't stand before the cut, with its value.
     pub fn first_from(&self, cut: Cut<'_>) -> Option<(&Key, &X)>
-        ensures { option_map (λ e. (e.0.now, e.1.now)) result ≡ nearest true (λ x. not (stands_before cut.entry x)) self.now }
+        ensures { option_map (λ e. (e.0.now, e.1.now)) result ≡ nearest_entry true (λ x. not (stands_before cut.entry x)) self.now }
     {
         self.tree.first_from(&CutPoint { cut }).0
     }
 
     /// The last key that stands before the cut, with its value.
     pub fn last_before(&self, cut: Cut<'_>) -> Option<(&Key, &X)>
-        ensures { option_map (λ e. (e.0.now, e.1.now)) result ≡ nearest false (stands_before cut.entry) self.now }
+        ensures { option_map (λ e. (e.0.now, e.1.now)) result ≡ nearest_entry false (stands_before cut.entry) self.now }
     {
         self.tree.last_before(&CutPoint { cut }).0
     }

@@ -4,10 +4,10 @@ use Rattle.std.specs.Prelude.{cond, max, min, Option, Some, None, unwrap_or}
 use Rattle.std.specs.List.{list_any}
 use Rattle.std.specs.FinMap as finmap
 use Rattle.collation.specs.Reference.{Resource}
-use Rattle.collation.specs.Locks.{resource_cmp, Counts, count_of, more_of, fewer_of, JobLocks}
+use Rattle.collation.specs.Locks.{resource_cmp, Counts, count_of, more_of, fewer_of, JobLocks, HasNoZeros}
 use Rattle.collation.specs.LockLaws.{times}
 use Rattle.collation.specs.CountingLaws.{counts_tell}
-use Rattle.collation.specs.ZeroLaws.{HasNoZeros, none_empty, all_taken_back}
+use Rattle.collation.specs.ZeroLaws.{none_empty, all_taken_back}
 use Rattle.lock_trie.specs.Held.{Held, held_count}
 use Rattle.lock_table.specs.Counted.{AreCounts, AreRaised, AreLowered, is_named, is_over}
 use Rattle.lock_table.specs.Rows.{held_of, start_of, IsStartHeld, locks_in, in_its_mode, peak_of, AreWhole, AreAllRemembered, IsKept}

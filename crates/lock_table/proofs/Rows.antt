@@ -5,10 +5,10 @@ use Rattle.std.specs.List.{list_any}
 use Rattle.std.specs.Ordering.{eq_by_cmp}
 use Rattle.std.specs.FinMap as finmap
 use Rattle.collation.specs.Reference.{Resource}
-use Rattle.collation.specs.Locks.{resource_cmp, Counts, count_of, more_of, fewer_of, greater, JobLocks, job_commits}
+use Rattle.collation.specs.Locks.{resource_cmp, Counts, count_of, more_of, fewer_of, greater, JobLocks, job_commits, HasNoZeros}
 use Rattle.collation.specs.LockLaws.{times}
 use Rattle.collation.specs.CountingLaws.{counts_tell}
-use Rattle.collation.specs.ZeroLaws.{HasNoZeros, none_greater, none_more, none_fewer, same_counts, all_taken_back}
+use Rattle.collation.specs.ZeroLaws.{none_greater, none_more, none_fewer, same_counts, all_taken_back}
 use Rattle.lock_trie.specs.Held.{Held, held_count}
 use Rattle.lock_table.specs.Counted.{AreCounts, AreRaised, AreLowered, is_named, is_over}
 use Rattle.lock_table.proofs.Lists.{none_over}

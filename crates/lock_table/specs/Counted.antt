@@ -3,12 +3,13 @@ use Rattle.std.specs.Prelude.{◌≡◌, ◌≤◌, ◌<◌, ℕ, max, min, Bool
 use Rattle.std.specs.List.{list_any}
 use Rattle.std.specs.Ordering.{eq_by_cmp}
 use Rattle.std.specs.FinMap as finmap
+use Rattle.collation.specs.Limits.{most_locks}
 use Rattle.collation.specs.Reference.{Resource}
 use Rattle.collation.specs.Locks.{resource_cmp, Counts, count_of, more_of}
 
 -- no count is above 65,535, and a name that is had no time has no entry
 pub record AreCounts (counts : Counts) : Type 0 where
-  pub small : (n : Resource) → count_of counts n ≤ 65535
+  pub small : (n : Resource) → count_of counts n ≤ most_locks
   pub some : (n : Resource) (v : ℕ) → finmap.get counts n ≡ Some v → 0 < v
 
 -- none is lower than it was, nor higher than that or than the other
@@ -23,7 +24,7 @@ pub record AreLowered (old new target : Resource → ℕ) : Type 0 where
 
 -- a name that the list asks for has too high a count once all are added
 abbrev pub is_over : List Resource → Counts → Resource → Bool
-is_over ns counts n = nat_lt 65535 (count_of (more_of ns counts) n)
+is_over ns counts n = nat_lt most_locks (count_of (more_of ns counts) n)
 
 -- it stands in the list
 abbrev pub is_named : Resource → List Resource → Bool

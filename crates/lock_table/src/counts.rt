@@ -2,6 +2,7 @@
 ghost use Rattle.std.specs.Prelude.{true, ◌⊎◌, if◌then◌else◌, ◌≡◌, ◌≤◌, ◌<◌, ◌+◌, ◌-◌, max, ℕ, OnOk, OnErr, IfErr, IfOk};
 ghost use Rattle.std.specs.List.{list_any};
 ghost use Rattle.std.specs.FinMap as finmap;
+ghost use Rattle.collation.specs.Limits.{most_locks};
 ghost use Rattle.collation.specs.Reference.{Resource};
 ghost use Rattle.std.specs.Ordering.{eq_by_cmp};
 ghost use Rattle.collation.specs.Locks.{resource_cmp, count_of, one_fewer, more_of, fewer_of};
@@ -71,7 +72,7 @@ impl Counts {
     /// How many times this name is had.
     pub fn count(&self, name: &LockName) -> u32
         ensures count { result ≡ count_of self.now name.now }
-        ensures small { result ≤ 65535 }
+        ensures small { result ≤ most_locks }
     {
         match self.map.get(name) {
             Some(count) => *count,
@@ -92,7 +93,7 @@ impl Counts {
 
     /// This name is had n times. A refusal leaves the counts as they were.
     fn put(&mut self, name: &LockName, n: u32) -> Result<(), AllocError>
-        requires small { n ≤ 65535 }
+        requires small { n ≤ most_locks }
         requires some { 0 < n }
         ensures ok { OnOk result (self.new ≡ finmap.insert self.old name.now n) }
         ensures err { OnErr result (self.new ≡ self.old) }
@@ -116,7 +117,7 @@ impl Counts {
 
     /// This name, which is had, is had n times. Takes no memory.
     fn change(&mut self, name: &LockName, n: u32)
-        requires small { n ≤ 65535 }
+        requires small { n ≤ most_locks }
         requires some { 0 < n }
         requires had { 0 < count_of self.old name.now }
         ensures { self.new ≡ finmap.insert self.old name.now n }
@@ -128,7 +129,7 @@ impl Counts {
 
     /// This name, which is had count times, is had n times: only a name that wasn't had takes memory.
     fn set(&mut self, name: &LockName, count: u32, n: u32) -> Result<(), AllocError>
-        requires small { n ≤ 65535 }
+        requires small { n ≤ most_locks }
         requires some { 0 < n }
         requires is { count ≡ count_of self.old name.now }
         ensures ok { OnOk result (self.new ≡ finmap.insert self.old name.now n) }
@@ -146,7 +147,7 @@ impl Counts {
     fn add_one(&mut self, name: &LockName) -> Result<(), Refusal>
         ensures ok { OnOk result (self.new ≡ finmap.insert self.old name.now (count_of self.old name.now + 1)) }
         ensures err { OnErr result (self.new ≡ self.old) }
-        ensures full { IfErr result (λ refusal. (refusal ≡ Refusal.OutOfMemory) ⊎ ((refusal ≡ Refusal.LockCountFull) × (65535 ≤ count_of self.old name.now))) }
+        ensures full { IfErr result (λ refusal. (refusal ≡ Refusal.OutOfMemory) ⊎ ((refusal ≡ Refusal.LockCountFull) × (most_locks ≤ count_of self.old name.now))) }
     {
         let count = self.count(name);
         if count >= MOST {
@@ -202,7 +203,7 @@ impl Counts {
 
     /// This name is had at least as many times as in the others.
     fn raise(&mut self, name: &LockName, n: u32) -> Result<(), AllocError>
-        requires { n ≤ 65535 }
+        requires { n ≤ most_locks }
         ensures ok { OnOk result ((x : Resource) → count_of self.new x ≡ (if eq_by_cmp resource_cmp x name.now then max (count_of self.old name.now) n else count_of self.old x)) }
         ensures err { OnErr result (self.new ≡ self.old) }
     {

@@ -1,7 +1,7 @@
 //! What a job keeps in a transaction beside its wanted counts.
 ghost use Rattle.std.specs.Prelude.{◌≡◌, ◌≤◌, ℕ, max, None, Some, OnOk, OnErr};
-ghost use Rattle.collation.specs.Locks.{count_of};
-ghost use Rattle.collation.specs.ZeroLaws.{HasNoZeros};
+ghost use Rattle.collation.specs.Limits.{most_locks};
+ghost use Rattle.collation.specs.Locks.{count_of, HasNoZeros};
 ghost use Rattle.lock_table.specs.Counted.{AreRaised};
 ghost use Rattle.lock_table.specs.Rows.{held_of, start_of, peak_of, AreWhole, AreRemembered, AreAllRemembered};
 
@@ -20,7 +20,7 @@ pub struct Inside {
 /// How many times the job holds this name.
 pub fn held(want: &Counts, inside: &Option<Inside>, name: &LockName) -> u32
     ensures count { result ≡ count_of (held_of want.now inside.now) name.now }
-    ensures small { result ≤ 65535 }
+    ensures small { result ≤ most_locks }
 {
     match inside {
         Some(inside) => want.count(name).max(inside.peak.count(name)),

@@ -1,5 +1,6 @@
 //! What a job holds in the trie is brought up to its counts, or down to them.
 ghost use Rattle.std.specs.Prelude.{true, ◌≡◌, ◌≤◌, ◌<◌, max, min, ℕ, OnOk, OnErr};
+ghost use Rattle.collation.specs.Limits.{most_locks};
 ghost use Rattle.collation.specs.Reference.{Resource};
 ghost use Rattle.collation.specs.Locks.{count_of};
 ghost use Rattle.lock_trie.specs.Held.{held_count, IsRecounted, IsSame};
@@ -14,7 +15,7 @@ use std::alloc::AllocError;
 
 /// The job holds this name at least n times.
 fn raise(trie: &mut LockTrie, job: u16, name: &LockName, n: u32) -> Result<(), AllocError>
-    requires { n ≤ 65535 }
+    requires { n ≤ most_locks }
     ensures ok { OnOk result (IsRecounted trie.old trie.new job name.now (max (held_count trie.old job name.now) n)) }
     ensures err { OnErr result (IsSame trie.old trie.new) }
 {

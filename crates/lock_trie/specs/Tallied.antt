@@ -1,6 +1,7 @@
 -- How the counts at names stand to the counts at and below them.
 use Rattle.std.specs.Prelude.{◌≡◌, ◌≤◌, ◌<◌, ℕ, true, List, length, filter}
 use Rattle.std.specs.Ordering.{eq_by_cmp}
+use Rattle.collation.specs.Limits.{most_locks}
 use Rattle.collation.specs.Database.{begins_with}
 use Rattle.lock_trie.specs.declared.paths.Paths.{Paths}
 use Rattle.lock_trie.specs.Paths.{Path, path_cmp, marked_at}
@@ -19,4 +20,4 @@ pub record IsAlong (f : ℕ → ℕ) (old new : Path → ℕ → ℕ) (path : Pa
 -- what a root keeps: counts at each path, and counts at and below it; none at a path is above 65,535
 pub record IsRoot (own within : Paths) : Type 0 where
   pub tallied : (job : ℕ) → IsTallied (λ x. marked_at own x job) (λ x. marked_at within x job)
-  pub small : (x : Path) (job : ℕ) → marked_at own x job ≤ 65535
+  pub small : (x : Path) (job : ℕ) → marked_at own x job ≤ most_locks

@@ -1,5 +1,6 @@
 //! What is held under one name, and the counts at and below each path.
 ghost use Rattle.std.specs.Prelude.{true, false, ◌||◌, ◌≡◌, ◌≤◌, ◌<◌, ◌+◌, ◌-◌, ℕ, length, OnOk, OnErr};
+ghost use Rattle.collation.specs.Limits.{most_locks};
 ghost use Rattle.collation.specs.Database.{begins_with};
 ghost use Rattle.lock_trie.specs.Paths.{Path, marked_at, IsPutAt, AreKept};
 ghost use Rattle.lock_trie.specs.Tallied.{IsAlong};
@@ -73,14 +74,14 @@ impl Root {
     /// How many times the job holds the path. Takes no memory.
     pub fn count(&self, job: u16, path: &[Text]) -> u32
         ensures count { result ≡ marked_at self.now path.now job }
-        ensures small { result ≤ 65535 }
+        ensures small { result ≤ most_locks }
     {
         self.own.count(job, path) as u32
     }
 
     /// The job holds the path n times more. Refused where there is no memory: then all is as it was.
     pub fn add(&mut self, job: u16, path: &[Text], n: u32) -> Result<(), AllocError>
-        requires { marked_at self.old path.now job + n ≤ 65535 }
+        requires { marked_at self.old path.now job + n ≤ most_locks }
         ensures ok { OnOk result (IsPutAt (marked_at self.old) (marked_at self.new) path.now job (marked_at self.old path.now job + n)) }
         ensures err { OnErr result (AreKept (marked_at self.old) (marked_at self.new)) }
     {

@@ -1,5 +1,6 @@
 //! One root for each name.
 ghost use Rattle.std.specs.Prelude.{true, false, ◌||◌, ◌≡◌, ◌≤◌, ◌<◌, ◌+◌, ◌-◌, ℕ, List, OnOk, OnErr};
+ghost use Rattle.collation.specs.Limits.{most_locks};
 ghost use Rattle.collation.specs.Database.{begins_with};
 ghost use Rattle.lock_trie.specs.Paths.{Path};
 ghost use Rattle.lock_trie.specs.Roots.{held_at, IsHeldPut, AreHeldSame};
@@ -30,7 +31,7 @@ impl Roots {
     /// How many times the job holds the path under the name. Takes no memory.
     pub fn count(&self, job: u16, name: &[u8], path: &[Text]) -> u32
         ensures count { result ≡ held_at self.now name.now path.now job }
-        ensures small { result ≤ 65535 }
+        ensures small { result ≤ most_locks }
     {
         match self.map.get(name) {
             Some(root) => root.count(job, path),
@@ -41,7 +42,7 @@ impl Roots {
     /// The job holds the path n times; before, nothing was held under the name.
     fn put(&mut self, job: u16, name: &[u8], path: &[Text], n: u32) -> Result<(), AllocError>
         requires none { (x : Path) (other : ℕ) → held_at self.old name.now x other ≡ 0 }
-        requires small { n ≤ 65535 }
+        requires small { n ≤ most_locks }
         ensures ok { OnOk result (IsHeldPut (held_at self.old) (held_at self.new) name.now path.now job (held_at self.old name.now path.now job + n)) }
         ensures err { OnErr result (AreHeldSame (held_at self.old) (held_at self.new)) }
     {
@@ -68,7 +69,7 @@ impl Roots {
 
     /// The job holds the path n times more. Refused where there is no memory: then all is as it was.
     pub fn add(&mut self, job: u16, name: &[u8], path: &[Text], n: u32) -> Result<(), AllocError>
-        requires { held_at self.old name.now path.now job + n ≤ 65535 }
+        requires { held_at self.old name.now path.now job + n ≤ most_locks }
         ensures ok { OnOk result (IsHeldPut (held_at self.old) (held_at self.new) name.now path.now job (held_at self.old name.now path.now job + n)) }
         ensures err { OnErr result (AreHeldSame (held_at self.old) (held_at self.new)) }
     {

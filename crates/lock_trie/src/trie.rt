@@ -1,5 +1,6 @@
 //! Each job's held counts.
 ghost use Rattle.std.specs.Prelude.{true, false, ◌≡◌, ◌≤◌, ◌+◌, ◌-◌, ℕ, OnOk, OnErr};
+ghost use Rattle.collation.specs.Limits.{most_locks};
 ghost use Rattle.collation.specs.Reference.{Resource};
 ghost use Rattle.lock_trie.specs.Held.{held_count, roots_of, IsHeldByAnother, IsRecounted, IsSame};
 
@@ -39,7 +40,7 @@ impl LockTrie {
     /// How many times the job holds this one. Takes no memory.
     pub fn count(&self, job: u16, name: &LockName) -> u32
         ensures count { result ≡ held_count self.now job name.now }
-        ensures small { result ≤ 65535 }
+        ensures small { result ≤ most_locks }
     {
         let reference = name.reference();
         self.roots(name)
@@ -48,7 +49,7 @@ impl LockTrie {
 
     /// The job holds this one n times more. Where memory is refused nothing has changed.
     pub fn add(&mut self, job: u16, name: &LockName, n: u32) -> Result<(), AllocError>
-        requires { held_count self.old job name.now + n ≤ 65535 }
+        requires { held_count self.old job name.now + n ≤ most_locks }
         ensures ok { OnOk result (IsRecounted self.old self.new job name.now (held_count self.old job name.now + n)) }
         ensures err { OnErr result (IsSame self.old self.new) }
     {

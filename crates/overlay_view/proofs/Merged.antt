@@ -11,7 +11,7 @@ use Rattle.std.specs.FinMap as finmap
 use Rattle.collation.specs.Reference.{Reference}
 use Rattle.collation.specs.OrderLaws.{is_less}
 use Rattle.collation.specs.Database.{Database}
-use Rattle.collation.specs.Nearest.{nearest}
+use Rattle.globals.specs.Entries.{nearest_entry}
 use Rattle.globals.specs.NearestLaws.{IsNearest}
 use Rattle.workspace.specs.Layers.{Layer, is_killed, laid_over}
 use Rattle.workspace.specs.laws.Layering.{get_over}
@@ -89,7 +89,7 @@ module _ (w : Layer) (m : Database) where
         by_order Equal is n = subst (λ z. toward forward x z ≡ Less) (sym (toward_same forward f.0 e.0 is)) l
         by_order Greater is n = toward_trans forward x e.0 f.0 l (toward_turned forward f.0 e.0 is)
 
-    pub nearest_over : (own below : Option Node) → nearest forward P w.written ≡ own → nearest forward (λ x. P x && not (is_killed w.killed x)) m ≡ below → nearest forward P (laid_over w m) ≡ nearer forward own below
+    pub nearest_over : (own below : Option Node) → nearest_entry forward P w.written ≡ own → nearest_entry forward (λ x. P x && not (is_killed w.killed x)) m ≡ below → nearest_entry forward P (laid_over w m) ≡ nearer forward own below
     nearest_over None None a b = none_nearest forward P (laid_over w m) (λ x p h. elim (where_from x h) [
       | inl own ↦ none_found forward P w.written a x p own
       | inr below ↦ none_found forward (λ x. P x && not (is_killed w.killed x)) m b x (and_from _ _ p (ap not below.unkilled)) below.there
@@ -112,7 +112,7 @@ module _ (w : Layer) (m : Database) where
         f_is : IsNearest forward (λ x. P x && not (is_killed w.killed x)) m f
         f_is = found forward (λ x. P x && not (is_killed w.killed x)) m f b
 
-        by_test : (t : Bool) → is_lt (toward forward f.0 e.0) ≡ t → nearest forward P (laid_over w m) ≡ cond t (Some f) (Some e)
+        by_test : (t : Bool) → is_lt (toward forward f.0 e.0) ≡ t → nearest_entry forward P (laid_over w m) ≡ cond t (Some f) (Some e)
         by_test true t =
             let less = is_less (toward forward f.0 e.0) t in
             is_nearest forward P (laid_over w m) f (below_first f f_is (unwritten_before e f e_is (first_so (P f.0) _ f_is.passes) less) (λ x p own l. e_is.none_nearer x p own (toward_trans forward x f.0 e.0 l less)))
@@ -144,10 +144,10 @@ is_lent n None h = h
 is_lent n (Some e) h = h
 
 pub looked : (forward : Bool) (cut : Cut) (w : Layer) (m a : Database) (own below result : Lent) → a ≡ w.written
-    → MatchOption own (nearest forward (is_beyond forward cut) a ≡ None) (λ e. nearest forward (is_beyond forward cut) a ≡ Some (e.0.now, e.1.now))
-    → MatchOption below (nearest forward (is_left forward cut w.killed) m ≡ None) (λ e. nearest forward (is_left forward cut w.killed) m ≡ Some (e.0.now, e.1.now))
+    → MatchOption own (nearest_entry forward (is_beyond forward cut) a ≡ None) (λ e. nearest_entry forward (is_beyond forward cut) a ≡ Some (e.0.now, e.1.now))
+    → MatchOption below (nearest_entry forward (is_left forward cut w.killed) m ≡ None) (λ e. nearest_entry forward (is_left forward cut w.killed) m ≡ Some (e.0.now, e.1.now))
     → lent_node result ≡ nearer forward (lent_node own) (lent_node below)
-    → MatchOption result (nearest forward (is_beyond forward cut) (laid_over w m) ≡ None) (λ e. nearest forward (is_beyond forward cut) (laid_over w m) ≡ Some (e.0.now, e.1.now))
+    → MatchOption result (nearest_entry forward (is_beyond forward cut) (laid_over w m) ≡ None) (λ e. nearest_entry forward (is_beyond forward cut) (laid_over w m) ≡ Some (e.0.now, e.1.now))
 looked forward cut w m a own below result is h k n =
     is_lent _ result (nearest_over w m forward (is_beyond forward cut) (lent_node own) (lent_node below)
-    (ap (nearest forward (is_beyond forward cut)) (sym is) ∙ lent_is _ own h) (lent_is _ below k) ∙ sym n)
+    (ap (nearest_entry forward (is_beyond forward cut)) (sym is) ∙ lent_is _ own h) (lent_is _ below k) ∙ sym n)

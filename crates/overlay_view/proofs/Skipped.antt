@@ -12,7 +12,7 @@ use Rattle.collation.specs.Order.{ref_cmp}
 use Rattle.collation.specs.OrderLaws.{ref_cmp_total, ref_cmp-IsAntisymmetric, is_less, turned}
 use Rattle.collation.specs.Database.{Database, is_under}
 use Rattle.collation.specs.Levels.{is_before}
-use Rattle.collation.specs.Nearest.{nearest}
+use Rattle.globals.specs.Entries.{nearest_entry}
 use Rattle.globals.specs.NearestLaws.{IsNearest}
 use Rattle.globals.specs.CutLaws.{stands_before-earlier, before_end-earlier, under_between}
 use Rattle.globals.specs.declared.cut.Cut.{Cut}
@@ -77,7 +77,7 @@ has_left_so false r e x u n never = true_unless _ (λ l.
     by_order Greater is = absurd (never (turned ref_cmp_total x e Greater is))
 
 -- e is nearest beyond the cut, and killed with all under r: what is left beyond the cut is what is left beyond that range
-module _ (forward : Bool) (cut : Cut) (ks : List Reference) (m : Database) (e : Node) (r : Reference) (is : nearest forward (is_beyond forward cut) m ≡ Some e) (kills : IsKiller ks e.0 r) where
+module _ (forward : Bool) (cut : Cut) (ks : List Reference) (m : Database) (e : Node) (r : Reference) (is : nearest_entry forward (is_beyond forward cut) m ≡ Some e) (kills : IsKiller ks e.0 r) where
   e_is : IsNearest forward (is_beyond forward cut) m e
   e_is = found forward (is_beyond forward cut) m e is
 
@@ -94,7 +94,7 @@ module _ (forward : Bool) (cut : Cut) (ks : List Reference) (m : Database) (e : 
           let beside : is_under r x ≡ false = false_from_ne_true _ (λ u. let k = kills.all x u in absurd (cc)) in
           has_left_so forward r e.0 x kills.above beside (λ l. e_is.none_nearer x b there l)
 
-  pub skipped : nearest forward (is_left forward cut ks) m ≡ nearest forward (λ x. has_left forward r x && not (is_killed ks x)) m
+  pub skipped : nearest_entry forward (is_left forward cut ks) m ≡ nearest_entry forward (λ x. has_left forward r x && not (is_killed ks x)) m
   skipped = nearest_alike forward (is_left forward cut ks) (λ x. has_left forward r x && not (is_killed ks x)) m same_left
 
   gone : (f : Bool) → is_under r e.0 ≡ true → has_left f r e.0 ≡ false
@@ -105,11 +105,11 @@ module _ (forward : Bool) (cut : Cut) (ks : List Reference) (m : Database) (e : 
   fewer_left = fewer (is_beyond forward cut) (has_left forward r) within m e.0 e_is.passes (gone forward kills.above) (ap is_some e_is.there)
 
 -- where nothing is beyond the cut nothing is left there
-pub none_left : (forward : Bool) (cut : Cut) (ks : List Reference) (m : Database) → nearest forward (is_beyond forward cut) m ≡ None → nearest forward (is_left forward cut ks) m ≡ None
+pub none_left : (forward : Bool) (cut : Cut) (ks : List Reference) (m : Database) → nearest_entry forward (is_beyond forward cut) m ≡ None → nearest_entry forward (is_left forward cut ks) m ≡ None
 none_left forward cut ks m is = none_nearest forward (is_left forward cut ks) m (λ x p there. none_found forward (is_beyond forward cut) m is x (first_so (is_beyond forward cut x) _ p) there)
 
 -- the nearest beyond the cut is left, where it isn't killed
-pub first_left : (forward : Bool) (cut : Cut) (ks : List Reference) (m : Database) (e : Node) → nearest forward (is_beyond forward cut) m ≡ Some e → is_killed ks e.0 ≡ false → nearest forward (is_left forward cut ks) m ≡ Some e
+pub first_left : (forward : Bool) (cut : Cut) (ks : List Reference) (m : Database) (e : Node) → nearest_entry forward (is_beyond forward cut) m ≡ Some e → is_killed ks e.0 ≡ false → nearest_entry forward (is_left forward cut ks) m ≡ Some e
 first_left forward cut ks m e is free =
     let e_is = found forward (is_beyond forward cut) m e is in
     is_nearest forward (is_left forward cut ks) m e (record {

@@ -1,6 +1,6 @@
 //! The view of a workspace over a view.
 ghost use Rattle.std.specs.Prelude.{◌≡◌, true, false, None, Some, MatchOption};
-ghost use Rattle.collation.specs.Nearest.{nearest};
+ghost use Rattle.globals.specs.Entries.{nearest_entry};
 ghost use Rattle.collation.specs.Answers.{is_forward};
 ghost use Rattle.overlay_view.specs.Merging.{is_left, lent_node, nearer as nearer_spec};
 
@@ -33,8 +33,8 @@ fn first_left<'v, V: OrderedView>(
     view: &'v V,
     cut: Cut<'_>,
 ) -> Option<(&'v Key, &'v Text)>
-    ensures { MatchOption result (nearest true (is_left true cut.entry workspace.now.killed) (V.content view.now) ≡ None)
-        (λ e. nearest true (is_left true cut.entry workspace.now.killed) (V.content view.now) ≡ Some (e.0.now, e.1.now)) }
+    ensures { MatchOption result (nearest_entry true (is_left true cut.entry workspace.now.killed) (V.content view.now) ≡ None)
+        (λ e. nearest_entry true (is_left true cut.entry workspace.now.killed) (V.content view.now) ≡ Some (e.0.now, e.1.now)) }
 {
     let mut from = cut;
     while let Some((key, value)) = view.next(from) {
@@ -52,8 +52,8 @@ fn last_left<'v, V: OrderedView>(
     view: &'v V,
     cut: Cut<'_>,
 ) -> Option<(&'v Key, &'v Text)>
-    ensures { MatchOption result (nearest false (is_left false cut.entry workspace.now.killed) (V.content view.now) ≡ None)
-        (λ e. nearest false (is_left false cut.entry workspace.now.killed) (V.content view.now) ≡ Some (e.0.now, e.1.now)) }
+    ensures { MatchOption result (nearest_entry false (is_left false cut.entry workspace.now.killed) (V.content view.now) ≡ None)
+        (λ e. nearest_entry false (is_left false cut.entry workspace.now.killed) (V.content view.now) ≡ Some (e.0.now, e.1.now)) }
 {
     let mut from = cut;
     while let Some((key, value)) = view.prev(from) {

@@ -5,7 +5,8 @@ use Rattle.std.proofs.Math.Bool.{not-not}
 use Rattle.collation.specs.declared.direction.Direction.{Direction}
 use Rattle.collation.specs.declared.direction.Direction.TheVariants.{Forward, Backward}
 use Rattle.collation.specs.Reference.{Reference, Spot}
-use Rattle.collation.specs.Levels.{is_before, is_after, parent_of, has_level, has_name}
+use Rattle.collation.specs.Levels.{is_before, parent_of, has_level, has_name}
+use Rattle.globals.specs.Cuts.{is_after, stands_before}
 use Rattle.collation.specs.Answers.{follows, is_forward}
 use Rattle.command.specs.declared.access.DataCommand.{DataCommand}
 use Rattle.command.specs.declared.access.DataCommand.TheVariants.{Merge, Look}
@@ -15,7 +16,6 @@ use Rattle.command.specs.declared.access.Answer.{Answer}
 use Rattle.command.specs.declared.access.Answer.TheVariants.{Done, Value, Number, Found}
 use Rattle.journal.specs.Touching.{read_set, order_read, query_read}
 use Rattle.globals.specs.declared.cut.Cut.{Cut}
-use Rattle.globals.specs.Cuts.{stands_before}
 use Rattle.globals.specs.Fitting.{IsSiblingOrNone, IsOrderAnswer, IsQueryAnswer}
 use Rattle.serial.specs.ReadRanges.{is_from_level, level_end, root_of}
 use Rattle.serial.specs.laws.ReadRanges.{reads_range}

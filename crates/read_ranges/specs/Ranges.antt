@@ -3,14 +3,14 @@
 use Rattle.std.specs.Prelude.{◌≡◌, ⊤, Bool, true, false, not, ◌&&◌, ◌||◌, List, take, length}
 use Rattle.std.specs.List.{list_any}
 use Rattle.collation.specs.Reference.{Reference}
-use Rattle.collation.specs.Levels.{is_before, is_after}
+use Rattle.collation.specs.Levels.{is_before}
+use Rattle.globals.specs.Cuts.{is_after, stands_before}
 use Rattle.command.specs.declared.access.DataCommand.{DataCommand}
 use Rattle.command.specs.declared.access.DataCommand.TheVariants.{Set, Kill, Merge, Look}
 use Rattle.command.specs.declared.access.Look.{Look as LookCommand}
 use Rattle.command.specs.declared.access.Look.TheVariants.{Data, Get, Order, Query}
 use Rattle.command.specs.declared.access.Answer.{Answer}
 use Rattle.globals.specs.declared.cut.Cut.{Cut}
-use Rattle.globals.specs.Cuts.{stands_before}
 use Rattle.journal.specs.Touching.{read_set}
 use Rattle.read_ranges.specs.declared.edge.Edge.{Edge}
 use Rattle.read_ranges.specs.declared.edge.Edge.TheVariants.{Start, Before, After, Past}

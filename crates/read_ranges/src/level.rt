@@ -1,9 +1,9 @@
 //! Where what $ORDER and $QUERY read begins and ends.
 ghost use Rattle.std.specs.Prelude.{◌≡◌, not, IfOk};
 ghost use Rattle.collation.specs.Reference.{Reference};
-ghost use Rattle.collation.specs.Levels.{is_after, is_before, parent_of};
+ghost use Rattle.collation.specs.Levels.{is_before, parent_of};
+ghost use Rattle.globals.specs.Cuts.{is_after, stands_before};
 ghost use Rattle.globals.specs.Fitting.{IsSiblingOrNone};
-ghost use Rattle.globals.specs.Cuts.{stands_before};
 ghost use Rattle.serial.specs.ReadRanges.{is_from_level, level_end as level_end_spec};
 
 use collation::Text;

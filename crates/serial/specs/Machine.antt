@@ -2,6 +2,7 @@
 use Rattle.std.specs.Prelude.{◌≡◌, ◌⊎◌, ⊤, ℕ, ◌+◌, ◌-◌, ◌^◌, min, nat_lt, Bool, List, [], ◌∷◌, length, take, drop, Option, None, Some, if◌then◌else◌}
 use Rattle.refusal.specs.declared.Refusal.{Refusal}
 use Rattle.refusal.specs.declared.Refusal.TheVariants.{NoTransaction, LevelTooDeep, TransactionTooLong, StampsUsedUp, OutOfMemory}
+use Rattle.collation.specs.Limits.{most_commands, most_levels}
 use Rattle.collation.specs.declared.lock.LockCommand.{LockCommand}
 use Rattle.collation.specs.declared.lock.LockCommand.TheVariants.{Release, Only, More, Fewer}
 use Rattle.collation.specs.Database.{Database}
@@ -44,7 +45,7 @@ reply_on command m = refused_or (data_refusal command m) (Answered (data_reply c
 -- outside a transaction it sees what all units leave; a transaction holds at most 65,535 data commands
 abbrev pub reply_to_data : DataCommand → Option Transaction → List JournalUnit → Reply
 reply_to_data command None units = reply_on command (after units initial).map
-reply_to_data command (Some t) units = if nat_lt (length t.exchanges) 65535 then reply_on command (seen_by t units) else Refused TransactionTooLong
+reply_to_data command (Some t) units = if nat_lt (length t.exchanges) most_commands then reply_on command (seen_by t units) else Refused TransactionTooLong
 
 -- whether the names were had, where a LOCK has names
 abbrev pub told_had : LockCommand → Bool → Reply
@@ -56,10 +57,10 @@ told_had (Fewer names) had = Had had
 abbrev pub reply_to_lock : ℕ → LockCommand → LockState → Reply
 reply_to_lock job command s = refused_or (lock_refusal job command s) (told_had command (lock_reply job command s))
 
--- levels are at most 127
+-- levels are at most `most_levels`
 abbrev pub reply_to_start : Option Transaction → Reply
 reply_to_start None = AtLevel 1
-reply_to_start (Some t) = if nat_lt t.level 127 then AtLevel (t.level + 1) else Refused LevelTooDeep
+reply_to_start (Some t) = if nat_lt t.level most_levels then AtLevel (t.level + 1) else Refused LevelTooDeep
 
 -- restarts are counted up to 2^64 - 1
 abbrev pub restarted : Transaction → Reply

@@ -6,7 +6,8 @@ use Rattle.command.specs.declared.access.Look.TheVariants.{Data, Get, Order, Que
 use Rattle.command.specs.declared.access.Answer.{Answer}
 use Rattle.command.specs.declared.access.Answer.TheVariants.{Value, Found}
 use Rattle.collation.specs.Reference.{Reference, Spot}
-use Rattle.collation.specs.Levels.{parent_of, is_after, is_before, has_name, has_level, below}
+use Rattle.collation.specs.Levels.{parent_of, is_before, has_name, has_level, below}
+use Rattle.globals.specs.Cuts.{is_after}
 use Rattle.journal.specs.Touching.{look_read, read_set}
 
 -- up to the end of what stands under the answer, or of the level where there is none

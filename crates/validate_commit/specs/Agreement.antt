@@ -8,7 +8,8 @@ use Rattle.journal.specs.declared.unit.Unit.{Unit as JournalUnit}
 use Rattle.journal.specs.History.{State, initial, after, after_unit, IsLegal, IsLegalUnit}
 use Rattle.journal.specs.Touching.{touched}
 use Rattle.serial.specs.Machine.{state_at}
-use Rattle.version_store.specs.Versions.{Row, Stored, Change, content_at, versions_of, changed, AreApart}
+use Rattle.version_store.specs.Versions.{Row, Stored, content_at, versions_of, AreApart}
+use Rattle.collation.specs.Changes.{Change, changed}
 
 -- one of the versions has this stamp
 abbrev pub has_stamp : ℕ → Row → Bool

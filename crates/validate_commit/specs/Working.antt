@@ -1,12 +1,12 @@
 -- What an open transaction keeps, and what that has to do with the database that it began with.
 -- Read Working, then IsWorkOn.
-use Rattle.std.specs.Prelude.{◌≡◌, ◌⊎◌, ◌≤◌, ◌<◌, ℕ, Bool, ◌||◌, List, [], length, Some, if◌then◌else◌, refl}
+use Rattle.std.specs.Prelude.{◌≡◌, ◌⊎◌, ◌≤◌, ◌<◌, ℕ, Bool, ◌||◌, List, [], length, Some, refl}
 use Rattle.std.specs.Coded.{Coded, code_by, coded×, coded_ℕ, coded_list}
 use Rattle.std.specs.FinMap as finmap
 use Rattle.refusal.specs.declared.Refusal.{Refusal}
 use Rattle.refusal.specs.declared.Refusal.TheVariants.{OutOfMemory, TransactionTooLong}
+use Rattle.collation.specs.Limits.{most_commands}
 use Rattle.collation.specs.Reference.{Reference}
-use Rattle.collation.specs.Order.{ref_eq}
 use Rattle.collation.specs.Database.{Database}
 use Rattle.collation.specs.Answers.{set_all}
 use Rattle.command.specs.declared.access.DataCommand.{DataCommand}
@@ -50,18 +50,18 @@ seen w m = all_after w.exchanges m
 abbrev pub IsWritten : DataCommand → List (Reference × List ℕ) → Layer → Layer → Type 0
 IsWritten (Set r v) copies w n = n ≡ record w { written = finmap.insert w.written r v }
 IsWritten (Kill r) copies w n = KillsUnder r w n
-IsWritten (Merge a b) copies w n = n ≡ (if ref_eq a b then w else record w { written = set_all copies w.written })
+IsWritten (Merge a b) copies w n = n ≡ record w { written = set_all copies w.written }
 IsWritten (Look look) copies w n = n ≡ w
 
 -- the ranges after a command has been noted have what it has read too; what the transaction itself has set or killed is told by its writes
 abbrev pub IsReadBy : Layer → DataCommand → Answer → List ReadRange → List ReadRange → Type 0
 IsReadBy w command answer old new = (own : Reference → Bool) → ((x : Reference) → decides w x ≡ own x) → (x : Reference) → is_in_one new x ≡ (is_in_one old x || read_set command answer own x)
 
--- why a data command is refused in a transaction: it holds 65,535 of them; or by the command's own rule on what it sees; or memory was refused
+-- why a data command is refused in a transaction: it holds the most of them; or by the command's own rule on what it sees; or memory was refused
 abbrev pub IsCauseInside : Refusal → DataCommand → Working → Database → Type 0
 IsCauseInside refusal command w m =
-    ((refusal ≡ TransactionTooLong) × (65535 ≤ length w.exchanges))
-    ⊎ ((length w.exchanges < 65535) × ((data_refusal command (seen w m) ≡ Some refusal) ⊎ (refusal ≡ OutOfMemory)))
+    ((refusal ≡ TransactionTooLong) × (most_commands ≤ length w.exchanges))
+    ⊎ ((length w.exchanges < most_commands) × ((data_refusal command (seen w m) ≡ Some refusal) ⊎ (refusal ≡ OutOfMemory)))
 
 abbrev pub working_code : Coded Working
 working_code =

@@ -5,6 +5,7 @@ ghost use Rattle.command.specs.Data.{data_refusal, data_reply};
 ghost use Rattle.workspace.specs.Changes.{AreChanges};
 ghost use Rattle.journal.specs.Kept.{HasNoRoom};
 ghost use Rattle.journal.specs.declared.unit.Unit.TheVariants.{Whole};
+ghost use Rattle.collation.specs.Limits.{most_commands};
 ghost use Rattle.collation.specs.Reference.{Reference};
 ghost use Rattle.command.specs.declared.access.Look.{Look as LookView};
 ghost use Rattle.command.specs.declared.access.DataCommand.TheVariants.{Look as look_command};
@@ -19,7 +20,7 @@ ghost use Rattle.validate_commit.specs.Agreement.{Agreement};
 ghost use Rattle.validate_commit.specs.Verdicts.{has_been_overtaken};
 ghost use Rattle.validate_commit.specs.Newer.{HasNewerIn, NoneNewerIn, HasNewerRead, NoneNewerRead};
 
-use collation::{Job, Text};
+use collation::{Job, MOST_COMMANDS, Text};
 use command::{Answer, DataCommand, Look};
 use globals::OrderedView;
 use journal::{ExchangeLog, Journal};
@@ -31,9 +32,6 @@ use std::alloc::{AllocError, Global};
 use std::marker::Model;
 use version_store::Store;
 use workspace::Workspace;
-
-// How many data commands a transaction holds at most.
-const MOST_COMMANDS: u64 = 65535;
 
 /// What an open transaction has done since its start or last restart: its data commands with their answers, what they
 /// wrote, and the ranges that they have read.
@@ -81,13 +79,8 @@ fn write(
             workspace.kill(alloc, key)
         }
         DataCommand::Merge(target, source) => {
-            let itself = target == source;
             drop(target);
             drop(source);
-            if itself {
-                drop(copies);
-                return Ok(());
-            }
             workspace.set_all(alloc, copies)
         }
         DataCommand::Look(look) => {
@@ -188,8 +181,8 @@ impl Work {
         ensures job { self.new.job ≡ self.old.job }
         ensures start { self.new.start ≡ self.old.start }
         ensures refused { OnErr result (self.new ≡ self.old) }
-        ensures long { 65535 ≤ length self.old.exchanges → IsErrOf result Refusal.TransactionTooLong }
-        ensures early { (refusal : Refusal) → length self.old.exchanges < 65535 → early_refusal command ≡ Some refusal → IsErrOf result refusal }
+        ensures long { most_commands ≤ length self.old.exchanges → IsErrOf result Refusal.TransactionTooLong }
+        ensures early { (refusal : Refusal) → length self.old.exchanges < most_commands → early_refusal command ≡ Some refusal → IsErrOf result refusal }
         ensures cause { IfErr result (λ refusal. IsCauseInside refusal command self.old (V.content view.now)) }
     {
         if self.exchanges.len() >= MOST_COMMANDS {

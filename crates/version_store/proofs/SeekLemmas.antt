@@ -13,7 +13,7 @@ use Rattle.std.specs.FinMap.Entries.{below_all, is_sorted-where_key}
 use Rattle.collation.specs.Reference.{Reference}
 use Rattle.collation.specs.Order.{ref_cmp}
 use Rattle.collation.specs.OrderLaws.{ref_cmp_total, ref_cmp-IsAntisymmetric, is_equal}
-use Rattle.collation.specs.Nearest.{nearest, find_last}
+use Rattle.globals.specs.Entries.{nearest_entry, find_last}
 use Rattle.version_chain.specs.Versions.{at_of}
 use Rattle.version_chain.specs.Chains.{versions_at, IsOpen}
 use Rattle.version_store.specs.Versions.{Row, content_at, with_value, seen_at, first_of}
@@ -37,7 +37,7 @@ find_seen P c s (p ∷ ps) = by_case (P p.0) refl (at_of s (versions_at c p.1)) 
     by_case false b (Some x) v rest = ap (λ t. cond t (Some (p.0, x)) (find (λ e. P e.0) (seen_at s (rows c ps)))) b ∙ rest
 
 pub next_in : (B : Reference → Bool) (c : State) (ps : Pairs) (s : ℕ) → is_sorted ref_cmp ps ≡ true
-    → first_of (seen_at s (rows c (filter (λ p. not (B p.0)) ps))) ≡ nearest true (λ x. not (B x)) (content_at (versions_in c ps) s)
+    → first_of (seen_at s (rows c (filter (λ p. not (B p.0)) ps))) ≡ nearest_entry true (λ x. not (B x)) (content_at (versions_in c ps) s)
 next_in B c ps s h = sym (ap (find (λ e. not (B e.0))) (entries_content (versions_in c ps) s ∙ ap (seen_at s) (entries_in c ps h)) ∙ find_seen (λ x. not (B x)) c s ps)
 
 -- what is seen of the rows that pass a test
@@ -100,7 +100,7 @@ find_last_seen P c s (p ∷ ps) = by_case (P p.0) refl (at_of s (versions_at c p
         ∙ or_none (find_last (λ e. P e.0) (seen_at s (rows c ps))) ∙ rest
 
 pub prev_in : (B : Reference → Bool) (c : State) (ps : Pairs) (s : ℕ) → is_sorted ref_cmp ps ≡ true
-    → first_of (seen_at s (rows c (reverse (filter (λ p. B p.0) ps)))) ≡ nearest false B (content_at (versions_in c ps) s)
+    → first_of (seen_at s (rows c (reverse (filter (λ p. B p.0) ps)))) ≡ nearest_entry false B (content_at (versions_in c ps) s)
 prev_in B c ps s h = sym (ap (find_last (λ e. B e.0)) (entries_content (versions_in c ps) s ∙ ap (seen_at s) (entries_in c ps h)) ∙ find_last_seen B c s ps)
 
 -- ---- the ids that a walk passes are open
@@ -155,7 +155,7 @@ first_key None c = refl
 first_key (Some p) c = refl
 
 pub key_in : (B : Reference → Bool) (c : State) (ps : Pairs) → is_sorted ref_cmp ps ≡ true
-    → option_map (λ (r : Reference × Row). r.0) (nearest true (λ x. not (B x)) (versions_in c ps)) ≡ option_map (λ (p : Reference × ℕ). p.0) (find (λ p. not (B p.0)) ps)
+    → option_map (λ (r : Reference × Row). r.0) (nearest_entry true (λ x. not (B x)) (versions_in c ps)) ≡ option_map (λ (p : Reference × ℕ). p.0) (find (λ p. not (B p.0)) ps)
 key_in B c ps h =
     ap (λ es. option_map (λ (r : Reference × Row). r.0) (find (λ e. not (B e.0)) es)) (entries_in c ps h)
     ∙ ap (option_map (λ (r : Reference × Row). r.0)) (first_row c (λ x. not (B x)) ps)

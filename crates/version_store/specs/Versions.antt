@@ -1,5 +1,5 @@
 -- What a store is seen as: for each placed reference its versions, newest first.
--- Read Versions, content_at, written and changed; specs/laws/Content.antt has their laws.
+-- Read Versions, content_at, written and changed (of `collation`); specs/laws/Content.antt has their laws.
 use Rattle.std.specs.Prelude.{◌≡◌, ◌≤◌, ℕ, Bool, true, false, not, ◌&&◌, cond, max, List, [], ◌∷◌, ◌++◌, Option, Some, None, filter, map, take, refl}
 use Rattle.std.specs.Coded.{Coded, code_by, coded×, coded_ℕ, coded_list, coded_option}
 use Rattle.std.specs.FinMap as finmap
@@ -7,6 +7,8 @@ use Rattle.std.specs.FinMap.{FinMap, code}
 use Rattle.collation.specs.Reference.{Reference}
 use Rattle.collation.specs.Order.{ref_cmp}
 use Rattle.collation.specs.Database.{Database, reference_code}
+use Rattle.collation.specs.Changes.{Change}
+pub use Rattle.collation.specs.Changes.{changed}
 use Rattle.std.specs.Ordering.{is_lt}
 use Rattle.version_chain.specs.Versions.{Entry, newest_of, at_of, IsAbove}
 use Rattle.version_chain.specs.Chains.{listed}
@@ -80,10 +82,6 @@ all_placed (r ∷ rs) m = all_placed rs (placed r m)
 
 -- ---- changes
 
--- a reference, and its new value or absence
-abbrev pub Change : Type 0
-Change = Reference × Option (List ℕ)
-
 -- one more version, at the stamp
 abbrev pub with_version : ℕ → Change → Versions → Versions
 with_version stamp c m = finmap.insert m c.0 ((stamp, c.1) ∷ versions_of m c.0)
@@ -97,15 +95,6 @@ written stamp (c ∷ cs) m = written stamp cs (with_version stamp c m)
 abbrev pub row_after : ℕ → Option (Option (List ℕ)) → Row → Row
 row_after stamp None vs = vs
 row_after stamp (Some x) vs = (stamp, x) ∷ vs
-
-abbrev pub set_to : Reference → Option (List ℕ) → Database → Database
-set_to r None d = finmap.remove d r
-set_to r (Some v) d = finmap.insert d r v
-
--- the database with the changes done
-abbrev pub changed : List Change → Database → Database
-changed [] d = d
-changed (c ∷ cs) d = changed cs (set_to c.0 c.1 d)
 
 -- each change is of a placed reference
 abbrev pub ArePlaced : Versions → List Change → Type 0

@@ -3,7 +3,7 @@ ghost use Rattle.std.specs.Prelude.{◌≡◌, ℕ, ◌+◌, ◌<◌, ◌≤◌,
 ghost use Rattle.std.specs.Option.{option_copied, option_map};
 ghost use Rattle.std.specs.FinMap as finmap;
 ghost use Rattle.refusal.specs.declared.Refusal.{Refusal};
-ghost use Rattle.collation.specs.Nearest.{nearest};
+ghost use Rattle.globals.specs.Entries.{nearest_entry};
 ghost use Rattle.globals.specs.Cuts.{stands_before};
 ghost use Rattle.version_chain.specs.Cut.{left_after};
 ghost use Rattle.version_store.specs.Versions.{content_at, versions_of, is_behind, is_bare, tidied};
@@ -33,7 +33,7 @@ impl Store {
 
     // The first placed reference that doesn't stand before the cut.
     fn key_from(&self, cut: Cut<'_>) -> Option<&Key>
-        ensures { option_copied result ≡ option_map (λ e. e.0) (nearest true (λ x. not (stands_before cut.entry x)) self.now.versions) }
+        ensures { option_copied result ≡ option_map (λ e. e.0) (nearest_entry true (λ x. not (stands_before cut.entry x)) self.now.versions) }
     {
         match self.tree.first_from(&CutPoint { cut }).0 {
             Some((key, _)) => Some(key),
@@ -43,7 +43,7 @@ impl Store {
 
     /// The first placed reference after this one, or of all where none is given; also where it has no versions.
     pub fn key_after(&self, key: Option<&Key>) -> Option<&Key>
-        ensures { option_copied result ≡ option_map (λ e. e.0) (nearest true (is_behind (option_copied key.entry)) self.now.versions) }
+        ensures { option_copied result ≡ option_map (λ e. e.0) (nearest_entry true (is_behind (option_copied key.entry)) self.now.versions) }
     {
         match key {
             Some(key) => self.key_from(Cut::After(key)),

@@ -1,22 +1,13 @@
 -- The changes that a workspace's writes make to a database: each touched reference once, with its value or none.
-use Rattle.std.specs.Prelude.{◌≡◌, ⊤, ℕ, Bool, false, not, ◌&&◌, ◌||◌, List, [], ◌∷◌, ◌++◌, Option, Some, None, if◌then◌else◌}
+use Rattle.std.specs.Prelude.{◌≡◌, ⊤, ℕ, Bool, false, not, ◌&&◌, ◌||◌, List, [], ◌∷◌, ◌++◌, Some, None, if◌then◌else◌}
 use Rattle.std.specs.List.{list_any}
 use Rattle.std.specs.FinMap as finmap
 use Rattle.collation.specs.Reference.{Reference}
 use Rattle.collation.specs.Order.{ref_eq}
 use Rattle.collation.specs.Database.{Database}
 use Rattle.collation.specs.Answers.{subtree_of}
+use Rattle.collation.specs.Changes.{Change, changed}
 use Rattle.workspace.specs.Layers.{Layer, laid_over}
-
--- a reference, and the value that it gets, or none where it is removed
-abbrev pub Change : Type 0
-Change = Reference × Option (List ℕ)
-
--- the database after these changes, in turn
-abbrev pub changed : List Change → Database → Database
-changed [] m = m
-changed ((k, Some v) ∷ cs) m = changed cs (finmap.insert m k v)
-changed ((k, None) ∷ cs) m = changed cs (finmap.remove m k)
 
 -- x is written, or has a value below and none any more
 abbrev pub touches : Layer → Database → Reference → Bool

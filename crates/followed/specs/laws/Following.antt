@@ -3,7 +3,6 @@ use Rattle.std.proofs.Common.{◌≡◌, Bool, true, false, List, [], ◌∷◌,
 use Rattle.std.specs.Prelude.{cond, not, ◌&&◌, ◌||◌, is_some, Option, Some, None}
 use Rattle.std.specs.Option.{option_or}
 use Rattle.std.specs.FinMap as finmap
-use Rattle.command.specs.declared.access.DataCommand.{DataCommand}
 use Rattle.command.specs.declared.access.DataCommand.TheVariants.{Set, Kill, Merge, Look}
 use Rattle.collation.specs.Reference.{Reference}
 use Rattle.collation.specs.Order.{ref_cmp, ref_eq}
@@ -20,8 +19,7 @@ use Rattle.serial.specs.Committing.{GrowsBy}
 use Rattle.serial.specs.laws.Committing.{grows_by, commits_on}
 use Rattle.workspace.specs.Layers.{Layer, nothing_written, is_killed, laid_over, decides}
 use Rattle.workspace.specs.laws.Layering.{get_over, over_nothing, over_set, over_set_all, over_kill, decides_set, decides_kill}
-use Rattle.serial.specs.laws.Untouched.{not_set}
-use Rattle.followed.specs.Following.{Holds, HoldsAlways, writes, ChangesAreTouched}
+use Rattle.followed.specs.Following.{Holds, HoldsAlways, ChangesAreTouched}
 
 or_nothing : (a : Bool) → (a || false) ≡ a
 or_nothing true = refl
@@ -47,18 +45,6 @@ next_holds w n es m e was seen decided left_set =
       decided = λ x. let more = grows_by es e m x in decided x ∙ ap (λ b. b || (sets e.command (all_after es m) x || kills e.command x)) (was.decided x) ∙ sym more.written;
       left_set = λ x. let more = grows_by es e m x in left_set x ∙ ap (λ b. sets e.command (all_after es m) x || (b && not (kills e.command x))) (was.left_set x) ∙ sym more.left_set;
     }
-
--- a command that writes nothing sets nothing and kills nothing
-writes_none : (c : DataCommand) (m : Database) (x : Reference) → writes c ≡ false → (sets c m x ≡ false) × (kills c x ≡ false)
-writes_none (Set r v) m x h = absurd (cc)
-writes_none (Kill r) m x h = absurd (cc)
-writes_none (Merge a b) m x h = (ap (λ t. t && (is_under a x && finmap.contains_key m (moved b a x))) h, refl)
-writes_none (Look look) m x h = (refl, refl)
-
-nothing_done : (c : DataCommand) (m : Database) → writes c ≡ false → data_after c m ≡ m
-nothing_done c m h = finmap.same_map ref_cmp_total ref_cmp-IsAntisymmetric (data_after c m) m (λ q.
-    let none = writes_none c m q h in
-    not_set c m q none.0 ∙ ap (λ b. cond b None (finmap.get m q)) none.1)
 
 decided_none : (d : Bool) → d ≡ (d || (false || false))
 decided_none true = refl
@@ -87,10 +73,10 @@ copied_decides false false false = refl
 
 pub holds_always : HoldsAlways
 holds_always w es m was answer = record {
-  look = λ c h.
-      next_holds w w es m (record { command = c; answer = answer }) was (sym (nothing_done c (laid_over w m) h))
-      (λ x. let none = writes_none c (all_after es m) x h in decided_none (decides w x) ∙ (λ i. decides w x || (sym none.0 i || sym none.1 i)))
-      (λ x. let none = writes_none c (all_after es m) x h in left_none (finmap.contains_key w.written x) ∙ (λ i. sym none.0 i || (finmap.contains_key w.written x && not (sym none.1 i))));
+  look = λ l.
+      next_holds w w es m (record { command = Look l; answer = answer }) was refl
+      (λ x. decided_none (decides w x))
+      (λ x. left_none (finmap.contains_key w.written x));
   set = λ r v.
       next_holds w (record w { written = finmap.insert w.written r v }) es m (record { command = Set r v; answer = answer }) was (over_set w m r v)
       (λ x. decides_set w r v x ∙ ap (λ b. decides w x || b) (sym (or_nothing (ref_eq x r))))
@@ -99,10 +85,10 @@ holds_always w es m was answer = record {
       next_holds w n es m (record { command = Kill r; answer = answer }) was (over_kill r w n kills m)
       (λ x. decides_kill r w n kills x)
       (λ x. ap (λ a. finmap.contains_key a x) kills.written ∙ ap is_some (kill_subtree w.written r x) ∙ one_killed (is_under r x) (finmap.get w.written x));
-  merge = λ a b apart.
+  merge = λ a b.
       let copies = merged a b (laid_over w m) in
-      let set_by : (x : Reference) → (is_under a x && finmap.contains_key (laid_over w m) (moved b a x)) ≡ sets (Merge a b) (all_after es m) x =
-      λ x. ap (λ d. is_under a x && finmap.contains_key d (moved b a x)) was.seen ∙ ap (λ t. not t && (is_under a x && finmap.contains_key (all_after es m) (moved b a x))) (sym apart) in
+      let set_by : (x : Reference) → (not (ref_eq a b) && (is_under a x && finmap.contains_key (laid_over w m) (moved b a x))) ≡ sets (Merge a b) (all_after es m) x =
+      λ x. ap (λ d. not (ref_eq a b) && (is_under a x && finmap.contains_key d (moved b a x))) was.seen in
       let there : (x : Reference) → finmap.contains_key (set_all copies w.written) x ≡ (sets (Merge a b) (all_after es m) x || finmap.contains_key w.written x) =
       λ x. contains_merged a b x (laid_over w m) w.written ∙ ap (λ t. t || finmap.contains_key w.written x) (set_by x) in
       next_holds w (record w { written = set_all copies w.written }) es m (record { command = Merge a b; answer = answer }) was (over_set_all copies w m)

@@ -1,17 +1,18 @@
 -- What $ORDER and $QUERY answer on any database fits the command.
-use Rattle.std.proofs.Common.{◌≡◌, ℕ, Bool, true, List, [], refl, subst, inl, inr}
+use Rattle.std.proofs.Common.{◌≡◌, ℕ, Bool, true, List, [], refl, sym, subst, ◌∙◌, inl, inr}
 use Rattle.std.specs.Prelude.{Option, Some, None, IfSome, unwrap_or}
 use Rattle.std.specs.Option.{option_map}
 use Rattle.std.specs.Cmp.{first_so}
 use Rattle.collation.specs.Reference.{Reference, Spot}
 use Rattle.collation.specs.Order.{ref_cmp}
 use Rattle.collation.specs.Database.{Database}
-use Rattle.collation.specs.Nearest.{nearest}
+use Rattle.globals.specs.Entries.{nearest_entry}
 use Rattle.collation.specs.Levels.{parent_of, below, has_name}
 use Rattle.collation.specs.Answers.{follows, query_of}
 use Rattle.key_codec.specs.Key.{IsReference}
 use Rattle.command.specs.Data.{found_reply}
 use Rattle.globals.specs.NearestLaws.{nearest_passes}
+use Rattle.globals.specs.laws.Nearness.{query_is}
 use Rattle.globals.specs.Fitting.{IsSiblingOrNone, IsQueryAnswer}
 
 -- an answer of `order`, written as $ORDER's
@@ -21,9 +22,9 @@ sibling_or_none p (Some s) fits = inr fits
 
 -- what $QUERY finds has the name of the place
 pub query_named : (forward : Bool) (p : Spot) (m : Database) (r : Reference) → query_of forward p m ≡ Some r → has_name p.reference r ≡ true
-query_named forward p m r is = by_found (nearest forward (follows forward p) m) refl is
+query_named forward p m r is = by_found (nearest_entry forward (follows forward p) m) refl (sym (query_is forward p m) ∙ is)
   where
-    by_found : (o : Option (Reference × List ℕ)) → nearest forward (follows forward p) m ≡ o → option_map (λ e. e.0) o ≡ Some r → has_name p.reference r ≡ true
+    by_found : (o : Option (Reference × List ℕ)) → nearest_entry forward (follows forward p) m ≡ o → option_map (λ e. e.0) o ≡ Some r → has_name p.reference r ≡ true
     by_found None found is = absurd (cc)
     by_found (Some e) found is =
         let same : e.0 ≡ r = cc in

@@ -31,7 +31,8 @@ use Rattle.journal.specs.declared.unit.Exchange.{Exchange}
 use Rattle.journal.specs.declared.unit.Unit.{Unit as JournalUnit}
 use Rattle.journal.specs.declared.unit.Unit.TheVariants.{Lone, Whole, Lock, Back, End}
 use Rattle.journal.specs.Format.{number_bytes, string_bytes, reference_bytes, caret_byte, name_bytes, names_bytes, order_kind, query_kind, look_kind, look_bytes, command_kind, command_bytes, answer_kind, answer_bytes, exchange_bytes, lock_flags, lock_kind, lock_bytes, deed_bytes, unit_bytes}
-use Rattle.journal.specs.Reading.{number_at, wide_at, part_at, string_at, is_key, key_at, reference_at, name_at, list_at, names_at, looks_at, command_at, answer_at, answered_at, exchange_at, lock_at, exchanges_at, deed_at, deed_of, unit_at, is_inside, has_had, is_job}
+use Rattle.journal.specs.Reading.{number_at, wide_at, part_at, string_at, is_key, key_at, reference_at, name_at, list_at, names_at, looks_at, command_at, answer_at, answered_at, exchange_at, lock_at, exchanges_at, deed_at, deed_of, unit_at, is_inside, has_had}
+use Rattle.collation.specs.Limits.{is_job}
 use Rattle.journal.specs.Kept.{job_of}
 use Rattle.journal.specs.Stored.{FitsNumber, FitsString, FitsReference, FitsName, Each, FitNames, FitsLook, FitsCommand, FitsAnswer, FitsExchange, FitExchanges, FitsLock, FitsDeed, FitsUnit}
 

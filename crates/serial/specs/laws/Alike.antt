@@ -1,5 +1,5 @@
 -- Two databases that agree on what a command reads answer it alike.
-use Rattle.std.proofs.Common.{◌≡◌, ℕ, ◌+◌, Bool, true, false, List, [], ◌∷◌, length, refl, sym, ap, ◌∙◌}
+use Rattle.std.proofs.Common.{◌≡◌, ℕ, ◌+◌, Bool, true, false, List, [], ◌∷◌, length, refl, sym, ap, subst, ◌∙◌}
 use Rattle.std.specs.Prelude.{◌&&◌, ◌||◌, not, cond, nat_lt, map, filter, Option, Some, None, is_some, unwrap_or}
 use Rattle.std.specs.Option.{option_map, option_and_then}
 use Rattle.std.specs.List.{list_any}
@@ -10,14 +10,17 @@ use Rattle.std.specs.Cmp.{first_so}
 use Rattle.std.specs.Cmp.Lexicographic.{bytes_decides}
 use Rattle.std.proofs.lemmas.Bool.{and_from}
 use Rattle.std.specs.FinMap as finmap
+use Rattle.collation.specs.Limits.{most_subscripts}
 use Rattle.collation.specs.Reference.{Reference, Spot}
-use Rattle.collation.specs.Order.{subscript_cmp, ref_cmp}
+use Rattle.collation.specs.Order.{subscript_cmp, ref_cmp, ref_eq}
 use Rattle.collation.specs.OrderLaws.{ref_cmp_total, ref_cmp-IsAntisymmetric, is_less, turned}
 use Rattle.collation.specs.Database.{Database, is_under, begins_with}
-use Rattle.collation.specs.Nearest.{nearest}
+use Rattle.globals.specs.Entries.{nearest_entry, any_of, is_candidate}
 use Rattle.collation.specs.Levels.{child_of, is_below, parent_of}
-use Rattle.collation.specs.Answers.{any_of, data_of, is_beyond, counts, order_of, follows, query_of, moved, is_too_deep}
+use Rattle.collation.specs.Answers.{data_of, is_beyond, order_of, follows, query_of, moved, is_too_deep}
 use Rattle.globals.specs.NearestLaws.{nearest_is, nearest_none, any_nearest}
+use Rattle.globals.specs.Copies.{all_copies}
+use Rattle.globals.specs.laws.Nearness.{order_is, query_is}
 use Rattle.globals.specs.TellingLaws.{siblings_less, below_so}
 use Rattle.journal.specs.Touching.{is_beyond_answer}
 use Rattle.serial.specs.Agreeing.{Agree}
@@ -53,19 +56,19 @@ not_farther forward None x = true
 not_farther forward (Some e) x = not (is_lt (cond forward (ref_cmp e.0 x) (ref_cmp x e.0)))
 
 -- the nearest is the same in a database that agrees up to it
-pub same_nearest : (forward : Bool) (P : Reference → Bool) (m n : Database) (o : Option (Reference × List ℕ)) → nearest forward P m ≡ o → ((x : Reference) → P x ≡ true → not_farther forward o x ≡ true → Agree m n x) → nearest forward P n ≡ o
-same_nearest forward P m n None is agree = by_found (nearest forward P n) refl
+pub same_nearest : (forward : Bool) (P : Reference → Bool) (m n : Database) (o : Option (Reference × List ℕ)) → nearest_entry forward P m ≡ o → ((x : Reference) → P x ≡ true → not_farther forward o x ≡ true → Agree m n x) → nearest_entry forward P n ≡ o
+same_nearest forward P m n None is agree = by_found (nearest_entry forward P n) refl
   where
-    by_found : (o : Option (Reference × List ℕ)) → nearest forward P n ≡ o → nearest forward P n ≡ None
+    by_found : (o : Option (Reference × List ℕ)) → nearest_entry forward P n ≡ o → nearest_entry forward P n ≡ None
     by_found None was = was
     by_found (Some f) was =
         let found = nearest_is ref_cmp ref_cmp_total ref_cmp-IsAntisymmetric forward P n f was in
         let none = nearest_none ref_cmp ref_cmp_total ref_cmp-IsAntisymmetric forward P m is f.0 found.passes in
         let e : None ≡ Some f.1 = sym none ∙ agree f.0 found.passes refl ∙ found.there in
         absurd (cc)
-same_nearest forward P m n (Some e) is agree = by_found (nearest forward P n) refl
+same_nearest forward P m n (Some e) is agree = by_found (nearest_entry forward P n) refl
   where
-    by_found : (o : Option (Reference × List ℕ)) → nearest forward P n ≡ o → nearest forward P n ≡ Some e
+    by_found : (o : Option (Reference × List ℕ)) → nearest_entry forward P n ≡ o → nearest_entry forward P n ≡ Some e
     by_found None was =
         let found = nearest_is ref_cmp ref_cmp_total ref_cmp-IsAntisymmetric forward P m e is in
         let none = nearest_none ref_cmp ref_cmp_total ref_cmp-IsAntisymmetric forward P n was e.0 found.passes in
@@ -87,7 +90,7 @@ same_nearest forward P m n (Some e) is agree = by_found (nearest forward P n) re
 
 -- whether some key passes
 pub same_any : (P : Reference → Bool) (m n : Database) → ((x : Reference) → P x ≡ true → Agree m n x) → list_any P (finmap.keys m) ≡ list_any P (finmap.keys n)
-same_any P m n agree = any_nearest P m ∙ ap is_some (sym (same_nearest true P m n (nearest true P m) refl (λ x p _. agree x p))) ∙ sym (any_nearest P n)
+same_any P m n agree = any_nearest P m ∙ ap is_some (sym (same_nearest true P m n (nearest_entry true P m) refl (λ x p _. agree x p))) ∙ sym (any_nearest P n)
 
 -- ---- $DATA
 
@@ -110,21 +113,25 @@ same_data r m n agree =
 -- ---- MERGE
 
 deep_keys : (a b : Reference) (es : List (Reference × List ℕ)) →
-    list_any (λ (e : Reference × List ℕ). nat_lt 31 (length e.0.subscripts)) (map (λ (e : Reference × List ℕ). (moved a b e.0, e.1)) (filter (λ (e : Reference × List ℕ). is_under b e.0) es))
-    ≡ list_any (λ x. is_under b x && nat_lt 31 (length (moved a b x).subscripts)) (map (λ (e : Reference × List ℕ). e.0) es)
+    list_any (λ (e : Reference × List ℕ). nat_lt most_subscripts (length e.0.subscripts)) (map (λ (e : Reference × List ℕ). (moved a b e.0, e.1)) (filter (λ (e : Reference × List ℕ). is_under b e.0) es))
+    ≡ list_any (λ x. is_under b x && nat_lt most_subscripts (length (moved a b x).subscripts)) (map (λ (e : Reference × List ℕ). e.0) es)
 deep_keys a b [] = refl
 deep_keys a b (e ∷ es) = elim (is_under b e.0) as (λ u.
-    list_any (λ (e : Reference × List ℕ). nat_lt 31 (length e.0.subscripts)) (map (λ (e : Reference × List ℕ). (moved a b e.0, e.1)) (cond u (e ∷ filter (λ (e : Reference × List ℕ). is_under b e.0) es) (filter (λ (e : Reference × List ℕ). is_under b e.0) es)))
-    ≡ ((u && nat_lt 31 (length (moved a b e.0).subscripts)) || list_any (λ x. is_under b x && nat_lt 31 (length (moved a b x).subscripts)) (map (λ (e : Reference × List ℕ). e.0) es))) [
-      | true ↦ ap (λ d. nat_lt 31 (length (moved a b e.0).subscripts) || d) (deep_keys a b es)
+    list_any (λ (e : Reference × List ℕ). nat_lt most_subscripts (length e.0.subscripts)) (map (λ (e : Reference × List ℕ). (moved a b e.0, e.1)) (cond u (e ∷ filter (λ (e : Reference × List ℕ). is_under b e.0) es) (filter (λ (e : Reference × List ℕ). is_under b e.0) es)))
+    ≡ ((u && nat_lt most_subscripts (length (moved a b e.0).subscripts)) || list_any (λ x. is_under b x && nat_lt most_subscripts (length (moved a b x).subscripts)) (map (λ (e : Reference × List ℕ). e.0) es))) [
+      | true ↦ ap (λ d. nat_lt most_subscripts (length (moved a b e.0).subscripts) || d) (deep_keys a b es)
       | false ↦ deep_keys a b es
     ]
 
 pub same_depth : (a b : Reference) (m n : Database) → ((x : Reference) → is_under b x ≡ true → Agree m n x) → is_too_deep a b m ≡ is_too_deep a b n
-same_depth a b m n agree =
-    deep_keys a b (finmap.entries m)
-    ∙ same_any (λ x. is_under b x && nat_lt 31 (length (moved a b x).subscripts)) m n (λ x p. agree x (first_so (is_under b x) _ p))
-    ∙ sym (deep_keys a b (finmap.entries n))
+same_depth a b m n agree = by_same (ref_eq a b)
+  where
+    by_same : (t : Bool) → list_any (λ (e : Reference × List ℕ). nat_lt most_subscripts (length e.0.subscripts)) (cond t [] (all_copies a b m)) ≡ list_any (λ (e : Reference × List ℕ). nat_lt most_subscripts (length e.0.subscripts)) (cond t [] (all_copies a b n))
+    by_same true = refl
+    by_same false =
+        deep_keys a b (finmap.entries m)
+        ∙ same_any (λ x. is_under b x && nat_lt most_subscripts (length (moved a b x).subscripts)) m n (λ x p. agree x (first_so (is_under b x) _ p))
+        ∙ sym (deep_keys a b (finmap.entries n))
 
 -- ---- $ORDER
 
@@ -153,7 +160,7 @@ not_beyond_answer forward p (Some e) x s way near = by_child (child_of (parent_o
     by_child None is = refl
     by_child (Some t) is = true_or_false (is_beyond_answer forward t s) (λ b. less_not _ near (siblings_in forward (parent_of p) e.0 x t s is way (farther_less forward t s b)))
 
-counted : (forward : Bool) (p : Spot) (o : Option (Reference × List ℕ)) (x : Reference) → counts forward p x ≡ true → not_farther forward o x ≡ true →
+counted : (forward : Bool) (p : Spot) (o : Option (Reference × List ℕ)) (x : Reference) → is_candidate forward p x ≡ true → not_farther forward o x ≡ true →
     any_of (λ s. is_beyond forward p s && not (is_beyond_answer forward (sibling_of p o) s)) (child_of (parent_of p) x) ≡ true
 counted forward p o x c near = by_child (child_of (parent_of p) x) refl c
   where
@@ -164,11 +171,16 @@ counted forward p o x c near = by_child (child_of (parent_of p) x) refl c
 pub same_order : (forward : Bool) (p : Spot) (m n : Database) →
     ((x : Reference) → any_of (λ s. is_beyond forward p s && not (is_beyond_answer forward (order_of forward p m) s)) (child_of (parent_of p) x) ≡ true → Agree m n x) → order_of forward p m ≡ order_of forward p n
 same_order forward p m n agree =
-    ap (sibling_of p) (sym (same_nearest forward (counts forward p) m n (nearest forward (counts forward p) m) refl (λ x c near. agree x (counted forward p (nearest forward (counts forward p) m) x c near))))
+    let found = nearest_entry forward (is_candidate forward p) m in
+    let within : (x : Reference) → is_candidate forward p x ≡ true → not_farther forward found x ≡ true → Agree m n x =
+    λ x c near. agree x (subst (λ t. any_of (λ s. is_beyond forward p s && not (is_beyond_answer forward t s)) (child_of (parent_of p) x) ≡ true) (sym (order_is forward p m)) (counted forward p found x c near)) in
+    order_is forward p m ∙ ap (sibling_of p) (sym (same_nearest forward (is_candidate forward p) m n found refl within)) ∙ sym (order_is forward p n)
 
 -- ---- $QUERY
 
 pub same_query : (forward : Bool) (p : Spot) (m n : Database) →
-    ((x : Reference) → follows forward p x ≡ true → not_farther forward (nearest forward (follows forward p) m) x ≡ true → Agree m n x) → query_of forward p m ≡ query_of forward p n
+    ((x : Reference) → follows forward p x ≡ true → not_farther forward (nearest_entry forward (follows forward p) m) x ≡ true → Agree m n x) → query_of forward p m ≡ query_of forward p n
 same_query forward p m n agree =
-    ap (option_map (λ (e : Reference × List ℕ). e.0)) (sym (same_nearest forward (follows forward p) m n (nearest forward (follows forward p) m) refl agree))
+    query_is forward p m
+    ∙ ap (option_map (λ (e : Reference × List ℕ). e.0)) (sym (same_nearest forward (follows forward p) m n (nearest_entry forward (follows forward p) m) refl agree))
+    ∙ sym (query_is forward p n)

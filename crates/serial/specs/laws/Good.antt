@@ -12,6 +12,7 @@ use Rattle.command.specs.declared.access.Answer.{Answer}
 use Rattle.command.specs.declared.request.Command.{Command}
 use Rattle.command.specs.declared.request.Command.TheVariants.{Access, Lock as lock_command, Start, Commit, Rollback, Restart, Level, Restarts, Halt}
 use Rattle.command.specs.declared.request.Reply.TheVariants.{Answered, AtLevel, Committed, Refused}
+use Rattle.collation.specs.Limits.{most_commands, most_levels}
 use Rattle.collation.specs.declared.lock.LockCommand.{LockCommand}
 use Rattle.collation.specs.declared.lock.LockCommand.TheVariants.{Release, Only, More, Fewer}
 use Rattle.collation.specs.Database.{Database}
@@ -104,7 +105,7 @@ good_data job command s good = by_open (transaction_of job s) refl
 
     by_open : (o : Option Transaction) → transaction_of job s ≡ o → IsGood (told job (Access command) (reply_to_data command o s.units) s)
     by_open None is = good_lone job command s good is
-    by_open (Some t) is = by_room t (nat_lt (length t.exchanges) 65535) is
+    by_open (Some t) is = by_room t (nat_lt (length t.exchanges) most_commands) is
 
 -- ---- LOCK
 
@@ -175,7 +176,7 @@ good_commit job s good = by_open (transaction_of job s) refl
 
 pub good_start : (job : ℕ) (o : Option Transaction) (s : Machine) → IsGood s → IsGood (told job Start (reply_to_start o) s)
 good_start job None s good = good_level job 1 s good
-good_start job (Some t) s good = elim (nat_lt t.level 127) as (λ b. IsGood (told job Start (cond b (AtLevel (t.level + 1)) (Refused LevelTooDeep)) s)) [ true ↦ good_level job (t.level + 1) s good | false ↦ good ]
+good_start job (Some t) s good = elim (nat_lt t.level most_levels) as (λ b. IsGood (told job Start (cond b (AtLevel (t.level + 1)) (Refused LevelTooDeep)) s)) [ true ↦ good_level job (t.level + 1) s good | false ↦ good ]
 
 pub good_rollback : (job : ℕ) (o : Option Transaction) (s : Machine) → IsGood s → IsGood (told job Rollback (reply_to_rollback o) s)
 good_rollback job None s good = good

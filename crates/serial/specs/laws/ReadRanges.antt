@@ -1,6 +1,6 @@
 -- Read sets as ranges.
 use Rattle.std.proofs.Common.{◌≡◌, ℕ, Bool, true, false, List, [], ◌∷◌, refl, sym, ap, subst, ◌∙◌}
-use Rattle.std.specs.Prelude.{◌&&◌, ◌||◌, not, cond, nat_eq, Option, Some, None, is_some}
+use Rattle.std.specs.Prelude.{◌&&◌, ◌||◌, not, cond, nat_eq, nat_lt, length, Option, Some, None, is_some}
 use Rattle.std.proofs.Math.Bool.{not-not}
 use Rattle.std.proofs.lemmas.Bool.{and_from, or_left}
 use Rattle.std.specs.declared.cmp.Ordering.{Ordering}
@@ -12,8 +12,10 @@ use Rattle.collation.specs.Reference.{Reference, Spot}
 use Rattle.collation.specs.Order.{subscript_cmp, ref_cmp, ref_eq}
 use Rattle.collation.specs.OrderLaws.{subscript_cmp_total, subscript_cmp-IsAntisymmetric, ref_cmp_total, ref_cmp-IsAntisymmetric, ref_eq_decides, ref_ties, is_less, turned}
 use Rattle.collation.specs.Database.{is_under}
-use Rattle.collation.specs.Levels.{below, child, child_of, is_below, has_name, is_nil, front, parent_of, is_past, is_after, is_before, has_level}
-use Rattle.collation.specs.Answers.{any_of, is_beyond, counts}
+use Rattle.collation.specs.Levels.{below, child, child_of, is_below, has_name, front, parent_of, is_before, has_level}
+use Rattle.globals.specs.Cuts.{is_past, is_after}
+use Rattle.collation.specs.Answers.{is_beyond}
+use Rattle.globals.specs.Entries.{any_of, is_candidate}
 use Rattle.journal.specs.Touching.{is_beyond_answer}
 use Rattle.globals.specs.CutLaws.{not_before_end, before_end-earlier, under_between}
 use Rattle.globals.specs.PathLaws.{path, cmp_path, past_path}
@@ -58,21 +60,21 @@ below_parent : (n s : List ℕ) (ss : List (List ℕ)) → is_below (parent_of (
 below_parent n s ss = ap (λ b. is_some (cond b (child (front (s ∷ ss)) (s ∷ ss)) None)) ((bytes_decides n n).1 refl) ∙ child_last s ss
 
 -- a sibling beyond the start is a sibling where $ORDER looks
-counts_is : (forward : Bool) (p : Spot) (x : Reference) → has_level p ≡ true → counts forward p x ≡ (is_below (parent_of p) x && seek forward p x)
+counts_is : (forward : Bool) (p : Spot) (x : Reference) → has_level p ≡ true → is_candidate forward p x ≡ (is_below (parent_of p) x && seek forward p x)
 counts_is forward p x h = by_parts forward p.reference.name p.reference.subscripts p.is_open h
   where
-    by_parts : (forward : Bool) (n : List ℕ) (ss : List (List ℕ)) (b : Bool) → (b || not (is_nil ss)) ≡ true → counts forward (record { reference = record { name = n; subscripts = ss }; is_open = b }) x ≡ (is_below (parent_of (record { reference = record { name = n; subscripts = ss }; is_open = b })) x && seek forward (record { reference = record { name = n; subscripts = ss }; is_open = b }) x)
+    by_parts : (forward : Bool) (n : List ℕ) (ss : List (List ℕ)) (b : Bool) → (b || nat_lt 0 (length ss)) ≡ true → is_candidate forward (record { reference = record { name = n; subscripts = ss }; is_open = b }) x ≡ (is_below (parent_of (record { reference = record { name = n; subscripts = ss }; is_open = b })) x && seek forward (record { reference = record { name = n; subscripts = ss }; is_open = b }) x)
     by_parts true n ss true h = let r : Reference = record { name = n; subscripts = ss } in counts_opened true r x ∙ absorbed (is_below r x) (is_after false r x) (below_is_after r x)
     by_parts false n ss true h = let r : Reference = record { name = n; subscripts = ss } in counts_opened false r x ∙ absorbed (is_below r x) (is_before true r x) (below_is_before r x)
     by_parts forward n [] false h = absurd (cc)
     by_parts true n (s ∷ ss) false h =
         let r = deeper n s ss in
-        known (counts true (closed r) x) (is_below (parent_of (closed r)) x) (is_after true r x)
+        known (is_candidate true (closed r) x) (is_below (parent_of (closed r)) x) (is_after true r x)
         (λ c. past_path r x ∙ sibling_after subscript_cmp subscript_cmp_total (path r) (path x) (sym (counts_after n s ss x) ∙ c))
         (λ b. counts_after n s ss x ∙ sibling_known subscript_cmp subscript_cmp_total (path r) (path x) (sym (past_path r x) ∙ b) ∙ sym (counts_some n s ss x))
     by_parts false n (s ∷ ss) false h =
         let r = deeper n s ss in
-        known (counts false (closed r) x) (is_below (parent_of (closed r)) x) (is_before false r x)
+        known (is_candidate false (closed r) x) (is_below (parent_of (closed r)) x) (is_before false r x)
         (λ c. ap is_lt (cmp_path x r ∙ sibling_before subscript_cmp subscript_cmp_total (path r) (path x) (sym (counts_before n s ss x) ∙ c)))
         (λ b. counts_before n s ss x ∙ sibling_known_back subscript_cmp subscript_cmp_total (path r) (path x) (less_path x r b) ∙ sym (counts_some n s ss x))
 
@@ -137,7 +139,7 @@ between_below r x a b =
 after_parent : (p : Spot) (x : Reference) → has_level p ≡ true → seek true p x ≡ true → is_after false (parent_of p) x ≡ true
 after_parent p x h a = by_parts p.reference.name p.reference.subscripts p.is_open h a
   where
-    by_parts : (n : List ℕ) (ss : List (List ℕ)) (b : Bool) → (b || not (is_nil ss)) ≡ true → seek true (record { reference = record { name = n; subscripts = ss }; is_open = b }) x ≡ true → is_after false (parent_of (record { reference = record { name = n; subscripts = ss }; is_open = b })) x ≡ true
+    by_parts : (n : List ℕ) (ss : List (List ℕ)) (b : Bool) → (b || nat_lt 0 (length ss)) ≡ true → seek true (record { reference = record { name = n; subscripts = ss }; is_open = b }) x ≡ true → is_after false (parent_of (record { reference = record { name = n; subscripts = ss }; is_open = b })) x ≡ true
     by_parts n ss true h a = a
     by_parts n [] false h a = absurd (cc)
     by_parts n (s ∷ ss) false h a =
@@ -147,7 +149,7 @@ after_parent p x h a = by_parts p.reference.name p.reference.subscripts p.is_ope
 before_parent_end : (p : Spot) (x : Reference) → has_level p ≡ true → seek false p x ≡ true → is_before true (parent_of p) x ≡ true
 before_parent_end p x h a = by_parts p.reference.name p.reference.subscripts p.is_open h a
   where
-    by_parts : (n : List ℕ) (ss : List (List ℕ)) (b : Bool) → (b || not (is_nil ss)) ≡ true → seek false (record { reference = record { name = n; subscripts = ss }; is_open = b }) x ≡ true → is_before true (parent_of (record { reference = record { name = n; subscripts = ss }; is_open = b })) x ≡ true
+    by_parts : (n : List ℕ) (ss : List (List ℕ)) (b : Bool) → (b || nat_lt 0 (length ss)) ≡ true → seek false (record { reference = record { name = n; subscripts = ss }; is_open = b }) x ≡ true → is_before true (parent_of (record { reference = record { name = n; subscripts = ss }; is_open = b })) x ≡ true
     by_parts n ss true h a = a
     by_parts n [] false h a = absurd (cc)
     by_parts n (s ∷ ss) false h a =

@@ -17,7 +17,7 @@ use Rattle.collation.specs.Order.{ref_eq}
 use Rattle.collation.specs.OrderLaws.{ref_eq_decides}
 use Rattle.collation.specs.EntryLaws.{either}
 use Rattle.collation.specs.Database.{Database, is_under}
-use Rattle.collation.specs.Nearest.{nearest}
+use Rattle.globals.specs.Entries.{nearest_entry}
 use Rattle.collation.specs.Answers.{follows, moved, is_forward}
 use Rattle.collation.specs.Levels.{overlap}
 use Rattle.command.specs.Data.{data_after, found_reply, look_reply}
@@ -26,6 +26,7 @@ use Rattle.journal.specs.declared.unit.Exchange.{Exchange}
 use Rattle.journal.specs.History.{IsRight, AreRight}
 use Rattle.journal.specs.Touching.{sets, kills, look_read, read_set, own_after, is_read}
 use Rattle.serial.specs.Agreeing.{Agree}
+use Rattle.globals.specs.laws.Nearness.{query_is}
 use Rattle.serial.specs.laws.Alike.{same_data, same_depth, same_order, same_query, not_farther}
 
 -- ---- what a command leaves
@@ -94,8 +95,9 @@ looks_again (Order p direction) answer own m n reading owned is =
     let answered = subst (λ a. (y : Reference) → look_read (Order p direction) a own y ≡ true → Agree m n y) is reading in
     is ∙ ap Value (same_order (is_forward direction) p m n answered)
 looks_again (Query p direction) answer own m n reading owned is =
-    let answered = subst (λ a. (y : Reference) → look_read (Query p direction) a own y ≡ true → Agree m n y) is reading in
-    is ∙ ap found_reply (same_query (is_forward direction) p m n (λ x f near. answered x (sought p direction own (nearest (is_forward direction) (follows (is_forward direction) p) m) x f near)))
+    let found = ap found_reply (query_is (is_forward direction) p m) in
+    let answered = subst (λ a. (y : Reference) → look_read (Query p direction) a own y ≡ true → Agree m n y) (is ∙ found) reading in
+    is ∙ ap found_reply (same_query (is_forward direction) p m n (λ x f near. answered x (sought p direction own (nearest_entry (is_forward direction) (follows (is_forward direction) p) m) x f near)))
 
 -- where two databases agree on what a command reads, it is right on the second too
 right_again : (c : DataCommand) (answer : Answer) (own : Reference → Bool) (m n : Database) → ((y : Reference) → read_set c answer own y ≡ true → Agree m n y) → ((y : Reference) → own y ≡ true → Agree m n y) → IsRight c answer m → IsRight c answer n

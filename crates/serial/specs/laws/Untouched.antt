@@ -14,7 +14,7 @@ use Rattle.collation.specs.Reference.{Reference}
 use Rattle.collation.specs.Order.{ref_cmp, ref_eq}
 use Rattle.collation.specs.OrderLaws.{ref_cmp_total, ref_cmp-IsAntisymmetric, ref_eq_decides}
 use Rattle.collation.specs.Database.{Database, is_under}
-use Rattle.collation.specs.Nearest.{nearest}
+use Rattle.globals.specs.Entries.{nearest_entry}
 use Rattle.collation.specs.Answers.{moved}
 use Rattle.command.specs.Data.{data_after}
 use Rattle.globals.specs.NearestLaws.{any_nearest, nearest_none}
@@ -109,9 +109,9 @@ untouched_by_unit (End job) s x h = refl
 
 -- a test that holds of a member holds of some key
 pub any_there : (P : Reference → Bool) (m : Database) (x : Reference) → P x ≡ true → finmap.contains_key m x ≡ true → list_any P (finmap.keys m) ≡ true
-any_there P m x p there = any_nearest P m ∙ by_found (nearest true P m) refl
+any_there P m x p there = any_nearest P m ∙ by_found (nearest_entry true P m) refl
   where
-    by_found : (o : Option (Reference × List ℕ)) → nearest true P m ≡ o → is_some o ≡ true
+    by_found : (o : Option (Reference × List ℕ)) → nearest_entry true P m ≡ o → is_some o ≡ true
     by_found None is = let e : false ≡ true = sym (ap is_some (nearest_none ref_cmp ref_cmp_total ref_cmp-IsAntisymmetric true P m is x p)) ∙ there in absurd (cc)
     by_found (Some e) is = refl
 

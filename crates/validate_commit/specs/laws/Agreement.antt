@@ -21,7 +21,8 @@ use Rattle.version_chain.specs.Versions.{Entry, IsAbove, IsFalling, at_of}
 use Rattle.version_chain.specs.Cut.{left_after, cut_of, if_value}
 use Rattle.version_chain.specs.laws.Cut.{left_after-cut_of}
 use Rattle.version_chain.specs.laws.Versions.{below_of}
-use Rattle.version_store.specs.Versions.{Row, Stored, Change, content_at, versions_of, changed, row_after, row_cut}
+use Rattle.version_store.specs.Versions.{Row, Stored, content_at, versions_of, row_after, row_cut}
+use Rattle.collation.specs.Changes.{Change, changed}
 use Rattle.version_store.specs.laws.Content.{content_rows, get_content}
 use Rattle.validate_commit.specs.Agreement.{has_stamp, Agreement, IsNext}
 

@@ -6,7 +6,6 @@ use Rattle.std.specs.List.{list_any}
 use Rattle.std.specs.FinMap.{find}
 use Rattle.collation.specs.Reference.{Reference}
 use Rattle.collation.specs.Order.{ref_cmp, ref_eq}
-use Rattle.collation.specs.Database.{Database}
 use Rattle.journal.specs.declared.unit.Unit.{Unit as JournalUnit}
 use Rattle.journal.specs.declared.unit.Unit.TheVariants.{Whole}
 use Rattle.journal.specs.History.{State, initial, after}
@@ -17,13 +16,11 @@ use Rattle.serial.specs.Agreeing.{Agree}
 use Rattle.serial.specs.Machine.{state_at}
 use Rattle.serial.specs.laws.Good.{right_at_commit}
 use Rattle.serial.specs.laws.Untouched.{untouched_by_units}
-use Rattle.version_store.specs.Versions as versions
-use Rattle.version_store.specs.Versions.{Change, AreApart}
-use Rattle.workspace.specs.Changes as workspace
+use Rattle.version_store.specs.Versions.{AreApart, Stored, versions_of}
+use Rattle.collation.specs.Changes.{Change}
 use Rattle.workspace.specs.Changes.{AreChanges, IsOnce}
 use Rattle.followed.specs.laws.Following.{changes_are_touched}
 use Rattle.version_chain.specs.Versions.{IsAbove, IsFalling}
-use Rattle.version_store.specs.Versions.{Stored, versions_of}
 use Rattle.serial.specs.laws.Overtaken.{any_touched_tells}
 use Rattle.validate_commit.specs.Agreement.{Agreement, IsNext}
 use Rattle.validate_commit.specs.Newer.{HasNewerRead, NoneNewerRead}
@@ -31,12 +28,6 @@ use Rattle.validate_commit.specs.laws.Overtaking.{newer_touched, touched_newer}
 use Rattle.validate_commit.specs.laws.Agreement.{is_changed}
 use Rattle.validate_commit.specs.Working.{Working, IsWorkOn}
 use Rattle.validate_commit.specs.Verdicts.{has_been_overtaken}
-
--- changes do the same, whether they are told with versions or without
-same_changed : (cs : List Change) (m : Database) → versions.changed cs m ≡ workspace.changed cs m
-same_changed [] m = refl
-same_changed ((r, Some v) ∷ cs) m = same_changed cs _
-same_changed ((r, None) ∷ cs) m = same_changed cs _
 
 none_found : (x : Reference) (cs : List Change) → list_any (λ (c : Change). ref_eq x c.0) cs ≡ false → find ref_cmp x cs ≡ None
 none_found x cs h = by_found (find ref_cmp x cs) (is_changed x cs ∙ h)
@@ -69,7 +60,7 @@ whole_next w units cs begun work none changes =
     record {
       legal = right_at_commit t units (record { begun = begun; right = work.right }) none;
       changes = record {
-        leave = same_changed cs n ∙ touched.leave;
+        leave = touched.leave;
         references = touched.touched;
         once = once_apart cs touched.once;
       };

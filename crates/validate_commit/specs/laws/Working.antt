@@ -1,8 +1,7 @@
 -- What a transaction keeps goes on over one more command.
 use Rattle.std.proofs.Common.{◌≡◌, ℕ, List, [], ◌∷◌, ◌++◌, refl, sym, ap, subst, ◌∙◌, None}
-use Rattle.std.specs.Prelude.{Bool, true, false, not, ◌||◌, if◌then◌else◌}
+use Rattle.std.specs.Prelude.{◌||◌}
 use Rattle.collation.specs.Reference.{Reference}
-use Rattle.collation.specs.Order.{ref_eq}
 use Rattle.collation.specs.Database.{Database}
 use Rattle.collation.specs.Answers.{set_all}
 use Rattle.command.specs.declared.access.DataCommand.{DataCommand}
@@ -28,14 +27,10 @@ written_holds : (w n : Layer) (es : List Exchange) (m : Database) (answer : Answ
     → Holds n (es ++ record { command = c; answer = answer } ∷ []) m
 written_holds w n es m answer copies was (Set r v) cs written = let on = holds_always w es m was answer in subst (λ l. Holds l (es ++ record { command = Set r v; answer = answer } ∷ []) m) (sym written) (on.set r v)
 written_holds w n es m answer copies was (Kill r) cs written = let on = holds_always w es m was answer in on.kill r n written
-written_holds w n es m answer copies was (Merge a b) cs written = by_same (ref_eq a b) refl written
-  where
-    by_same : (t : Bool) → ref_eq a b ≡ t → n ≡ (if t then w else record w { written = set_all copies w.written }) → Holds n (es ++ record { command = Merge a b; answer = answer } ∷ []) m
-    by_same true same is = let on = holds_always w es m was answer in subst (λ l. Holds l (es ++ record { command = Merge a b; answer = answer } ∷ []) m) (sym is) (on.look (Merge a b) (ap not same))
-    by_same false apart is =
-        let on = holds_always w es m was answer in
-        subst (λ l. Holds l (es ++ record { command = Merge a b; answer = answer } ∷ []) m) (sym (is ∙ ap (λ (ns : List (Reference × List ℕ)). record w { written = set_all ns w.written }) cs)) (on.merge a b apart)
-written_holds w n es m answer copies was (Look look) cs written = let on = holds_always w es m was answer in subst (λ l. Holds l (es ++ record { command = Look look; answer = answer } ∷ []) m) (sym written) (on.look (Look look) refl)
+written_holds w n es m answer copies was (Merge a b) cs written =
+    let on = holds_always w es m was answer in
+    subst (λ l. Holds l (es ++ record { command = Merge a b; answer = answer } ∷ []) m) (sym (written ∙ ap (λ (ns : List (Reference × List ℕ)). record w { written = set_all ns w.written }) cs)) (on.merge a b)
+written_holds w n es m answer copies was (Look look) cs written = let on = holds_always w es m was answer in subst (λ l. Holds l (es ++ record { command = Look look; answer = answer } ∷ []) m) (sym written) (on.look look)
 
 -- one more command, answered on what the transaction sees
 pub work_next : (w n : Working) (m : Database) (command : DataCommand) (answer : Answer) (copies : List (Reference × List ℕ)) → IsWorkOn w m → data_refusal command (seen w m) ≡ None → answer ≡ data_reply command (seen w m)

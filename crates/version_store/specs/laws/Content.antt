@@ -20,7 +20,8 @@ use Rattle.version_chain.specs.laws.Versions.{at_head, at_of-before, at_settled}
 use Rattle.version_chain.specs.laws.Cut.{at_of-left_after}
 use Rattle.version_chain.specs.Cut.{left_after}
 use Rattle.version_chain.specs.Chains.{listed}
-use Rattle.version_store.specs.Versions.{Row, Versions, Change, with_value, seen_at, content_at, versions_of, with_version, written, set_to, changed, ArePlaced, AreApart, AreBelow, placed, all_placed, row_after}
+use Rattle.version_store.specs.Versions.{Row, Versions, with_value, seen_at, content_at, versions_of, with_version, written, ArePlaced, AreApart, AreBelow, placed, all_placed, row_after}
+use Rattle.collation.specs.Changes.{Change, set_to, changed}
 
 below_tied : {K X : Type 0} (R : K → K → Ordering) → IsTotalOrder R → (q x : K) (es : List (K × X)) → R q x ≡ Equal → below_all R x es ≡ true → below_all R q es ≡ true
 below_tied R o q x [] t h = refl

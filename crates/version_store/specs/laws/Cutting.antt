@@ -12,7 +12,8 @@ use Rattle.version_chain.specs.Versions.{at_of, IsAbove}
 use Rattle.version_chain.specs.Chains.{listed}
 use Rattle.version_chain.specs.Cut.{left_after}
 use Rattle.version_chain.specs.laws.Cut.{at_of-left_after}
-use Rattle.version_store.specs.Versions.{Row, Versions, Change, content_at, versions_of, with_version, written, ArePlaced, AreApart, AreBelow, row_after, is_bare, unless_bare, tidied, written_and_cut, row_cut}
+use Rattle.version_store.specs.Versions.{Row, Versions, content_at, versions_of, with_version, written, ArePlaced, AreApart, AreBelow, row_after, is_bare, unless_bare, tidied, written_and_cut, row_cut}
+use Rattle.collation.specs.Changes.{Change}
 use Rattle.version_store.specs.laws.Content.{get_same, content_alike, rows_written}
 
 -- ---- a reference that is tidied

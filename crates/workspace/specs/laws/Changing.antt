@@ -21,7 +21,8 @@ use Rattle.globals.specs.NearestLaws.{not_found_itself, none_pass, true_of}
 use Rattle.globals.specs.CutLaws.{under_between, before_end-earlier}
 use Rattle.workspace.specs.Layers.{Layer, is_killed, AreApart}
 use Rattle.workspace.specs.laws.Layering.{get_over, not_before, before_end}
-use Rattle.workspace.specs.Changes.{Change, changed, IsOnce, AreChanges, set_changes, removed, removed_by}
+use Rattle.workspace.specs.Changes.{IsOnce, AreChanges, set_changes, removed, removed_by}
+use Rattle.collation.specs.Changes.{Change, changed}
 
 abbrev Node : Type 0
 Node = Reference × List ℕ

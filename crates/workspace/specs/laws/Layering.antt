@@ -16,7 +16,7 @@ use Rattle.collation.specs.Order.{ref_cmp, ref_eq}
 use Rattle.collation.specs.OrderLaws.{ref_cmp_total, ref_cmp-IsAntisymmetric, ref_ties, ref_eq_decides, turned}
 use Rattle.collation.specs.Database.{Database, is_under, begins_with}
 use Rattle.collation.specs.Levels.{is_before}
-use Rattle.collation.specs.Nearest.{nearest}
+use Rattle.globals.specs.Entries.{nearest_entry}
 use Rattle.collation.specs.Answers.{set_all}
 use Rattle.globals.specs.NearestLaws.{IsNearest, any_nearest, nearest_is, nearest_none}
 use Rattle.globals.specs.CutLaws.{under_between, before_end-earlier}
@@ -152,16 +152,16 @@ pub record IsKilledBy {X : Type 0} (d : FinMap ref_cmp X) (x r : Reference) : Ty
   pub above : is_under r x ≡ true
 
 pub killer : {X : Type 0} (d : FinMap ref_cmp X) (x : Reference) → is_killed (finmap.keys d) x ≡ true → (r : Reference) × IsKilledBy d x r
-killer {X} d x is = by_found (nearest true (λ r. is_under r x) d) refl
+killer {X} d x is = by_found (nearest_entry true (λ r. is_under r x) d) refl
   where
-    by_found : (o : Option (Reference × X)) → nearest true (λ r. is_under r x) d ≡ o → (r : Reference) × IsKilledBy d x r
+    by_found : (o : Option (Reference × X)) → nearest_entry true (λ r. is_under r x) d ≡ o → (r : Reference) × IsKilledBy d x r
     by_found None e = let none : false ≡ true = sym (any_nearest (λ r. is_under r x) d ∙ ap is_some e) ∙ is in absurd (cc)
     by_found (Some f) e = let found = nearest_is ref_cmp ref_cmp_total ref_cmp-IsAntisymmetric true (λ r. is_under r x) d f e in (f.0, record { there = ap is_some found.there; above = found.passes })
 
 pub killed_by : {X : Type 0} (d : FinMap ref_cmp X) (x r : Reference) → IsKilledBy d x r → is_killed (finmap.keys d) x ≡ true
-killed_by {X} d x r by = any_nearest (λ r. is_under r x) d ∙ by_found (nearest true (λ r. is_under r x) d) refl
+killed_by {X} d x r by = any_nearest (λ r. is_under r x) d ∙ by_found (nearest_entry true (λ r. is_under r x) d) refl
   where
-    by_found : (o : Option (Reference × X)) → nearest true (λ r. is_under r x) d ≡ o → is_some o ≡ true
+    by_found : (o : Option (Reference × X)) → nearest_entry true (λ r. is_under r x) d ≡ o → is_some o ≡ true
     by_found None e = let none : false ≡ true = sym (ap is_some (nearest_none ref_cmp ref_cmp_total ref_cmp-IsAntisymmetric true (λ r. is_under r x) d e r by.above)) ∙ by.there in absurd (cc)
     by_found (Some f) e = refl
 
@@ -270,14 +270,14 @@ apart_more d r v was free = record { apart = λ a b p q u. by_old a b u (was_the
 
 -- ---- the killed reference at or above one
 
-pub none_killed : {X : Type 0} (d : FinMap ref_cmp X) (x : Reference) → nearest false (λ r. not (is_lt (ref_cmp x r))) d ≡ None → is_killed (finmap.keys d) x ≡ false
+pub none_killed : {X : Type 0} (d : FinMap ref_cmp X) (x : Reference) → nearest_entry false (λ r. not (is_lt (ref_cmp x r))) d ≡ None → is_killed (finmap.keys d) x ≡ false
 none_killed d x is = false_from_ne_true _ (λ h.
     let by = killer d x h in
     let none : false ≡ true = sym (ap is_some (nearest_none ref_cmp ref_cmp_total ref_cmp-IsAntisymmetric false (λ r. not (is_lt (ref_cmp x r))) d is by.0 (not_before by.0 x by.1.above))) ∙ by.1.there in
     absurd (cc))
 
 -- where killed references stand apart, the last that doesn't stand after x is the one above x, if there is one
-pub last_kills : {X : Type 0} (d : FinMap ref_cmp X) (x : Reference) (f : Reference × X) → AreApart d → nearest false (λ r. not (is_lt (ref_cmp x r))) d ≡ Some f → is_killed (finmap.keys d) x ≡ is_under f.0 x
+pub last_kills : {X : Type 0} (d : FinMap ref_cmp X) (x : Reference) (f : Reference × X) → AreApart d → nearest_entry false (λ r. not (is_lt (ref_cmp x r))) d ≡ Some f → is_killed (finmap.keys d) x ≡ is_under f.0 x
 last_kills d x f was is = both_ways _ _ onward (λ u. killed_by d x f.0 (record { there = ap is_some found.there; above = u }))
   where
     found : IsNearest false (λ r. not (is_lt (ref_cmp x r))) d f
@@ -302,5 +302,5 @@ last_kills d x f was is = both_ways _ _ onward (λ u. killed_by d x f.0 (record 
 pub kills_all : {X : Type 0} (d : FinMap ref_cmp X) (x r : Reference) → finmap.contains_key d r ≡ true → is_under r x ≡ true → IsKiller (finmap.keys d) x r
 kills_all d x r there u = record { above = u; all = λ y v. killed_by d y r (record { there = there; above = v }) }
 
-pub last_there : {X : Type 0} (d : FinMap ref_cmp X) (x : Reference) (f : Reference × X) → nearest false (λ r. not (is_lt (ref_cmp x r))) d ≡ Some f → finmap.contains_key d f.0 ≡ true
+pub last_there : {X : Type 0} (d : FinMap ref_cmp X) (x : Reference) (f : Reference × X) → nearest_entry false (λ r. not (is_lt (ref_cmp x r))) d ≡ Some f → finmap.contains_key d f.0 ≡ true
 last_there d x f is = let found = nearest_is ref_cmp ref_cmp_total ref_cmp-IsAntisymmetric false (λ r. not (is_lt (ref_cmp x r))) d f is in ap is_some found.there

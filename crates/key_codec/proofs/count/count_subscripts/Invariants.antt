@@ -1,6 +1,5 @@
 use Rattle.std.proofs.Common.{◌≡◌, ◌≤◌, ◌+◌, ℕ, List, length}
-use Rattle.key_codec.specs.Key.{short_form, subscripts_key}
-use Rattle.key_codec.specs.KeyLaws.{AreSubscripts}
+use Rattle.key_codec.specs.Key.{short_form, subscripts_key, AreSubscripts}
 use Rattle.key_codec.proofs.Counting.{IsLeft}
 use Rattle.key_codec.proofs.count.count_subscripts.Given as goal
 

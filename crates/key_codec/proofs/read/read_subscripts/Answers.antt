@@ -1,8 +1,7 @@
 use Rattle.std.proofs.Common.{◌≡◌, ◌++◌, ◌∷◌, [], ap, ◌∙◌, arith, length, false, subst}
 use Rattle.std.specs.Prelude.{◌==◌}
 use Rattle.std.proofs.lemmas.Grind.{common_steps}
-use Rattle.key_codec.specs.Key.{short_form, subscripts_key}
-use Rattle.key_codec.specs.KeyLaws.{AreSubscripts}
+use Rattle.key_codec.specs.Key.{short_form, subscripts_key, AreSubscripts}
 use Rattle.key_codec.proofs.Reading.{next_key, shorter, one_more, are_more}
 use Rattle.key_codec.proofs.read.read_subscripts.Goals as goal
 

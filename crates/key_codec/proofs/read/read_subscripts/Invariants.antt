@@ -1,6 +1,5 @@
 use Rattle.std.proofs.Common.{◌≡◌, ◌++◌, length}
-use Rattle.key_codec.specs.Key.{short_form, subscripts_key}
-use Rattle.key_codec.specs.KeyLaws.{AreSubscripts}
+use Rattle.key_codec.specs.Key.{short_form, subscripts_key, AreSubscripts}
 use Rattle.key_codec.proofs.read.read_subscripts.Given as goal
 
 -- the bytes are the keys of what has been found, and then the rest

@@ -1,6 +1,6 @@
 use Rattle.std.proofs.Common.{◌≡◌, ◌++◌, length}
 use Rattle.key_codec.specs.Back.{unescaped}
-use Rattle.key_codec.proofs.read_text.push_unescaped.Given as goal
+use Rattle.key_codec.proofs.escapes.push_unescaped.Given as goal
 
 -- with what is left it will be the text
 abbrev pub invariant-loop-byte : goal.invariant-loop-byte

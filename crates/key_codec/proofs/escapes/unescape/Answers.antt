@@ -3,7 +3,7 @@ use Rattle.std.specs.Prelude.{◌==◌}
 use Rattle.std.proofs.lemmas.Grind.{common_steps}
 use Rattle.key_codec.specs.Key.{escaped}
 use Rattle.key_codec.proofs.Reading.{GoesOnWith, left_of, next_left, read_more}
-use Rattle.key_codec.proofs.read_text.unescape.Goals as goal
+use Rattle.key_codec.proofs.escapes.unescape.Goals as goal
 
 pub returns-in_default-clause-none : goal.returns-in_default-clause-none
 returns-in_default-clause-none c = λ t e.

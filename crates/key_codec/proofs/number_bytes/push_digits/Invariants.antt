@@ -1,6 +1,6 @@
 use Rattle.std.proofs.Common.{◌≡◌, ◌++◌, drop, map}
 use Rattle.key_codec.specs.Reading.{digit_of}
-use Rattle.key_codec.proofs.read_number.push_digits.Given as goal
+use Rattle.key_codec.proofs.number_bytes.push_digits.Given as goal
 
 -- with the digits of the bytes that are left these will be all
 abbrev pub invariant-loop-byte : goal.invariant-loop-byte

@@ -1,7 +1,7 @@
 use Rattle.std.proofs.Common.{◌≡◌, ◌++◌, sym, ap, ◌∙◌}
 use Rattle.std.specs.Cmp.Lexicographic.{bytes_decides}
 use Rattle.key_codec.proofs.Reading.{joined_test, other_front}
-use Rattle.key_codec.proofs.read_number.is_joined.Goals as goal
+use Rattle.key_codec.proofs.number_bytes.is_joined.Goals as goal
 
 pub returns-then-eq : goal.returns-then-eq
 returns-then-eq c =

@@ -7,7 +7,7 @@ ghost use Rattle.key_codec.specs.Back as back;
 ghost use Rattle.key_codec.specs.Reading as reading;
 ghost use Rattle.key_codec.specs.Reading.{IsNumberOf};
 
-use crate::FRACTION;
+use crate::MOST_FRACTION_DIGITS;
 use canonic_number::{LONGEST_SUBSCRIPT, parts};
 use std::alloc::AllocError;
 
@@ -18,7 +18,7 @@ pub(crate) fn place_of(negative: bool, byte: u8) -> Option<usize>
 {
     let byte = byte as usize;
     if negative {
-        (2 * FRACTION + 1).checked_sub(byte)
+        (2 * MOST_FRACTION_DIGITS + 1).checked_sub(byte)
     } else {
         byte.checked_sub(2)
     }
@@ -30,7 +30,7 @@ pub(crate) fn place_from(negative: bool, byte: u8) -> usize
 {
     let byte = byte as usize;
     if negative {
-        (2 * FRACTION + 1).saturating_sub(byte)
+        (2 * MOST_FRACTION_DIGITS + 1).saturating_sub(byte)
     } else {
         byte.saturating_sub(2)
     }
@@ -53,6 +53,7 @@ pub(crate) fn push_digits(out: &mut Vec<u8>, negative: bool, bytes: &[u8]) -> Re
     Ok(())
 }
 
+// Above zero byte + 47, written so that no byte makes it overflow.
 fn digit_of(negative: bool, byte: u8) -> u8
     ensures { result ≡ reading.digit_of negative byte }
 {
@@ -89,11 +90,11 @@ fn push_magnitude(
 ) -> Result<(), AllocError>
     ensures { OnOk result (out.new.items ≡ out.old.items ++ written_at scale place (map (reading.digit_of negative) bytes.now)) }
 {
-    if place > FRACTION {
-        push_pointed(out, negative, place - FRACTION, bytes)
+    if place > MOST_FRACTION_DIGITS {
+        push_pointed(out, negative, place - MOST_FRACTION_DIGITS, bytes)
     } else {
         out.push(b'.')?;
-        push_zeros(out, FRACTION - place)?;
+        push_zeros(out, MOST_FRACTION_DIGITS - place)?;
         push_digits(out, negative, bytes)
     }
 }
@@ -136,7 +137,7 @@ pub(crate) fn is_number_of(text: &[u8], negative: bool, place: usize, digits: &[
     }
     match parts(text) {
         Some(number) => {
-            let same_place = number.whole + FRACTION - number.zeros == place;
+            let same_place = number.whole + MOST_FRACTION_DIGITS - number.zeros == place;
             number.negative == negative
                 && same_place
                 && is_joined(digits, number.first, number.second)

@@ -1,6 +1,6 @@
 use Rattle.std.proofs.Common.{◌≡◌, ◌∙◌, ◌-◌, ◌+◌, suc, arith}
 use Rattle.key_codec.proofs.Showing.{zeros_more}
-use Rattle.key_codec.proofs.read_number.push_zeros.Goals as goal
+use Rattle.key_codec.proofs.number_bytes.push_zeros.Goals as goal
 
 pub loop-preserved : goal.loop-preserved
 loop-preserved c =

@@ -1,6 +1,6 @@
 use Rattle.std.proofs.Common.{◌≡◌, ◌++◌, length}
 use Rattle.key_codec.specs.Key.{escaped}
-use Rattle.key_codec.proofs.read_text.unescape.Given as goal
+use Rattle.key_codec.proofs.escapes.unescape.Given as goal
 
 -- the bytes are those of what has been read, and then the rest
 abbrev pub invariant-loop-rest : goal.invariant-loop-rest

@@ -1,5 +1,5 @@
 use Rattle.std.proofs.Common.{◌≡◌, ◌++◌, ◌-◌, replicate}
-use Rattle.key_codec.proofs.read_number.push_zeros.Given as goal
+use Rattle.key_codec.proofs.number_bytes.push_zeros.Given as goal
 
 -- with the zeros that are left it will be the text
 abbrev pub invariant-loop : goal.invariant-loop

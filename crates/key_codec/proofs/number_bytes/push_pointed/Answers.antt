@@ -2,7 +2,7 @@ use Rattle.std.proofs.Common.{◌≡◌, ◌++◌, ◌∷◌, [], ◌-◌, ◌�
 use Rattle.canonic_number.specs.Place.{pointed}
 use Rattle.key_codec.specs.Reading.{digit_of}
 use Rattle.key_codec.proofs.Showing.{pointed_few, pointed_many}
-use Rattle.key_codec.proofs.read_number.push_pointed.Goals as goal
+use Rattle.key_codec.proofs.number_bytes.push_pointed.Goals as goal
 
 pub returns-in_ok-push_digits : goal.returns-in_ok-push_digits
 returns-in_ok-push_digits c =
