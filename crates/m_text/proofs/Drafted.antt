@@ -1,15 +1,13 @@
 -- Reading into a draft, one subscript after another.
-use Rattle.std.proofs.Common.{◌≡◌, ℕ, true, false, cond, List, [], drop, length, Option, Some, None, Result, Ok, Err, Bor, refl, sym, ap, ◌∙◌, Bool, inl, inr, subst}
-use Rattle.std.specs.Option.{option_map, option_or}
+use Rattle.std.proofs.Common.{◌≡◌, ℕ, true, false, cond, List, [], drop, length, Option, Some, None, Result, Ok, Err, Bor, refl, sym, ap, ◌∙◌}
+use Rattle.std.specs.Option.{option_map}
 use Rattle.refusal.specs.declared.Refusal.{Refusal}
-use Rattle.refusal.specs.declared.Refusal.TheVariants.{BadLine, BadName, OutOfMemory}
+use Rattle.refusal.specs.declared.Refusal.TheVariants.{BadLine, OutOfMemory}
 use Rattle.collation.specs.Reference.{Reference, Spot}
-use Rattle.collation.specs.Name.{is_name}
-use Rattle.collation.specs.Faults.{reference_fault, place_fault}
 use Rattle.key_codec.specs.Draft.{IsDraft, IsDueOrMemory, reference_due, place_due, place_of}
 use Rattle.key_codec.specs.declared.draft.KeyDraft.{KeyDraft}
 use Rattle.m_text.specs.Reading.{with_front, begins_with, some_at, parted_at, closed, IsRefused, IsDue}
-use Rattle.m_text.specs.Place.{subscript_at, subscripts_at, front_word, past_word, named_at, place_at, name_fault, ref_fault, spot_fault, spot_of, unless, without_fault, ref_at, spot_at}
+use Rattle.m_text.specs.Place.{subscript_at, subscripts_at, front_word, past_word, named_at, place_at, ref_fault, spot_fault, spot_of, unless, without_fault, ref_at, spot_at}
 use Rattle.m_text.specs.Drafts.{Drafts, DraftsSpelled}
 use Rattle.m_text.specs.FaultLaws.{ref_due, spot_due, due_or_memory}
 use Rattle.m_text.specs.ReadingLaws.{with_front-nil, refused_too}

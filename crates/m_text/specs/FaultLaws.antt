@@ -4,6 +4,7 @@ use Rattle.std.specs.Prelude.{nat_lt, ◌==◌, IfOk, IfErr}
 use Rattle.std.specs.Option.{option_or}
 use Rattle.refusal.specs.declared.Refusal.{Refusal}
 use Rattle.refusal.specs.declared.Refusal.TheVariants.{OutOfMemory, BadName, TooManySubscripts}
+use Rattle.collation.specs.Limits.{most_subscripts}
 use Rattle.collation.specs.Reference.{Reference, Spot}
 use Rattle.collation.specs.Name.{is_name}
 use Rattle.collation.specs.Faults.{reference_fault, place_fault, ends_open, closed_part}
@@ -45,8 +46,8 @@ count_of (s ∷ t ∷ ss) = more (ends_open (t ∷ ss)) (length (closed_part (t 
     more false n e = omega arith
 
 -- the fault of the subscripts of a place is that of the place
-place_fault_is : (ss : List (List ℕ)) → place_fault ss ≡ cond (nat_lt 31 (cond (ends_open ss) (length (closed_part ss) + 1) (length (closed_part ss)))) (Some TooManySubscripts) (reference_fault (closed_part ss))
-place_fault_is ss = ap (λ n. cond (nat_lt 31 n) (Some TooManySubscripts) (reference_fault (closed_part ss))) (count_of ss)
+place_fault_is : (ss : List (List ℕ)) → place_fault ss ≡ cond (nat_lt most_subscripts (cond (ends_open ss) (length (closed_part ss) + 1) (length (closed_part ss)))) (Some TooManySubscripts) (reference_fault (closed_part ss))
+place_fault_is ss = ap (λ n. cond (nat_lt most_subscripts n) (Some TooManySubscripts) (reference_fault (closed_part ss))) (count_of ss)
 
 -- the faults that a draft tells are those of the reference and of the place
 pub ref_due : (r : Reference) → ref_fault r ≡ reference_due r

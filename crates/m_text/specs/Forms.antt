@@ -3,6 +3,7 @@
 use Rattle.std.specs.Prelude.{◌≡◌, ◌⊎◌, ⊤, ◌<◌, ◌≤◌, ℕ, Bool, true, false, ◌||◌, ◌==◌, nat_le, List, [], ◌∷◌, ◌++◌, length}
 use Rattle.std.specs.List.{list_all}
 use Rattle.std.specs.Char.{is_ascii_digit}
+use Rattle.collation.specs.Bytes as byte
 use Rattle.canonic_number.specs.Grammar.{IsNumericLiteral}
 use Rattle.canonic_number.specs.Literal.{canonic_of}
 use Rattle.collation.specs.Name.{is_letter_or_digit}
@@ -28,8 +29,8 @@ pub record IsChars (text s : List ℕ) : Type 0 where
   pub word : List ℕ
   pub codes : List ℕ
   pub named : is_char_word word ≡ true
-  pub listed : IsParted IsCode 44 codes s
-  pub parts : text ≡ 36 ∷ (word ++ (40 ∷ (codes ++ 41 ∷ [])))
+  pub listed : IsParted IsCode byte.comma codes s
+  pub parts : text ≡ byte.dollar ∷ (word ++ (byte.opening ∷ (codes ++ byte.closing ∷ [])))
 
 -- in quotes, where a quote is written twice, or by codes
 abbrev pub IsPart : List ℕ → List ℕ → Type 0
@@ -41,7 +42,7 @@ IsNumber text s = IsNumericLiteral text × (s ≡ canonic_of text)
 
 -- the text is a literal that stands for the string
 abbrev pub IsLiteral : List ℕ → List ℕ → Type 0
-IsLiteral text s = IsNumber text s ⊎ IsParted IsPart 95 text s
+IsLiteral text s = IsNumber text s ⊎ IsParted IsPart byte.underscore text s
 
 -- a literal, for the list of its string
 pub record IsSubscript (text : List ℕ) (ss : List (List ℕ)) : Type 0 where
@@ -52,11 +53,11 @@ pub record IsSubscript (text : List ℕ) (ss : List (List ℕ)) : Type 0 where
 -- nothing, or literals in parentheses
 pub data AreSubscripts : List ℕ → List (List ℕ) → Type 0 where
   none : AreSubscripts [] []
-  listed : {texts : List ℕ} {ss : List (List ℕ)} → IsParted IsSubscript 44 texts ss → AreSubscripts (40 ∷ (texts ++ 41 ∷ [])) ss
+  listed : {texts : List ℕ} {ss : List (List ℕ)} → IsParted IsSubscript byte.comma texts ss → AreSubscripts (byte.opening ∷ (texts ++ byte.closing ∷ [])) ss
 
 -- a letter, a digit or '%'
 abbrev pub is_word_byte : ℕ → Bool
-is_word_byte b = is_letter_or_digit b || b == 37
+is_word_byte b = is_letter_or_digit b || b == byte.percent
 
 -- the text is a name word and subscripts, whatever faults they have
 pub record IsNamed (text : List ℕ) (r : Reference) : Type 0 where
@@ -70,11 +71,11 @@ pub record IsNamed (text : List ℕ) (r : Reference) : Type 0 where
 pub record IsReference (text : List ℕ) (r : Reference) : Type 0 where
   pub named : List ℕ
   pub spelled : IsNamed named r
-  pub parts : text ≡ 94 ∷ named
+  pub parts : text ≡ byte.caret ∷ named
 
 -- a byte with which a literal could go on: a digit, a point, a quote, '_'
 abbrev pub goes_on : ℕ → Bool
-goes_on b = is_ascii_digit b || (b == 46 || (b == 34 || b == 95))
+goes_on b = is_ascii_digit b || (b == byte.point || (b == byte.quote || b == byte.underscore))
 
 -- a literal ends before this
 abbrev pub IsBreak : List ℕ → Type 0
@@ -83,7 +84,7 @@ IsBreak (b ∷ bs) = goes_on b ≡ false
 
 -- a byte with which a reference could go on: one of its name, or '('
 abbrev pub reference_goes_on : ℕ → Bool
-reference_goes_on b = is_word_byte b || b == 40
+reference_goes_on b = is_word_byte b || b == byte.opening
 
 -- a reference ends before this
 abbrev pub IsReferenceBreak : List ℕ → Type 0

@@ -3,20 +3,21 @@
 use Rattle.std.specs.Prelude.{ℕ, ◌+◌, ◌-◌, ◌*◌, Bool, true, false, not, ◌&&◌, ◌||◌, ◌==◌, nat_le, nat_lt, if◌then◌else◌, List, [], ◌∷◌, length, drop, take, Option, None, Some, codes}
 use Rattle.std.specs.List.{before_first, position_or_len}
 use Rattle.std.specs.Char.{is_ascii_digit, is_ascii_alphabetic, to_ascii_uppercase}
+use Rattle.collation.specs.Bytes as byte
 use Rattle.canonic_number.specs.Number.{is_negative, magnitude}
 use Rattle.canonic_number.specs.Literal.{is_numeric, canonic_of}
 use Rattle.m_text.specs.Reading.{with_front, begins_with, parted_at, closed}
 
 abbrev pub is_quote : ℕ → Bool
-is_quote b = b == 34
+is_quote b = b == byte.quote
 
 -- after an opening quote: the string, in which a quote is written twice, and what follows the closing quote
 unfoldable pub quoted_at : List ℕ → Option (List ℕ × List ℕ)
 quoted_at [] = None
-quoted_at (b ∷ []) = if b == 34 then Some ([], []) else None
+quoted_at (b ∷ []) = if b == byte.quote then Some ([], []) else None
 quoted_at (b ∷ c ∷ bs) =
-    if b == 34
-    then (if c == 34 then with_front (34 ∷ []) (quoted_at bs) else Some ([], c ∷ bs))
+    if b == byte.quote
+    then (if c == byte.quote then with_front (byte.quote ∷ []) (quoted_at bs) else Some ([], c ∷ bs))
     else with_front (b ∷ []) (quoted_at (c ∷ bs))
 
 -- no digit
@@ -66,18 +67,18 @@ is_char_word letters = is_word (codes "C") letters || is_word (codes "CHAR") let
 -- after '$': C or CHAR, and codes in parentheses
 unfoldable pub chars_at : List ℕ → Option (List ℕ × List ℕ)
 chars_at text =
-    if is_char_word (front_letters text) && begins_with 40 (past_letters text)
-    then closed (parted_at code_at 44 (drop 1 (past_letters text)))
+    if is_char_word (front_letters text) && begins_with byte.opening (past_letters text)
+    then closed (parted_at code_at byte.comma (drop 1 (past_letters text)))
     else None
 
 -- a part of a string: a quoted text, or $C with codes
 unfoldable pub part_at : List ℕ → Option (List ℕ × List ℕ)
 part_at [] = None
-part_at (b ∷ bs) = if b == 34 then quoted_at bs else (if b == 36 then chars_at bs else None)
+part_at (b ∷ bs) = if b == byte.quote then quoted_at bs else (if b == byte.dollar then chars_at bs else None)
 
 -- neither digit nor point
 abbrev pub ends_number : ℕ → Bool
-ends_number b = not (is_ascii_digit b || b == 46)
+ends_number b = not (is_ascii_digit b || b == byte.point)
 
 -- how many bytes at the front a number could take: a '-', then digits and points
 abbrev pub number_len : List ℕ → ℕ
@@ -90,4 +91,4 @@ numeric_at text =
 
 -- a literal: the string that it stands for, and what follows it
 unfoldable pub literal_at : List ℕ → Option (List ℕ × List ℕ)
-literal_at text = if begins_with 34 text || begins_with 36 text then parted_at part_at 95 text else numeric_at text
+literal_at text = if begins_with byte.quote text || begins_with byte.dollar text then parted_at part_at byte.underscore text else numeric_at text

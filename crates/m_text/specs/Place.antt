@@ -5,6 +5,8 @@ use Rattle.std.specs.List.{before_first, position_or_len}
 use Rattle.std.specs.Option.{option_map, option_or}
 use Rattle.refusal.specs.declared.Refusal.{Refusal}
 use Rattle.refusal.specs.declared.Refusal.TheVariants.{BadLine, BadName, TooManySubscripts}
+use Rattle.collation.specs.Limits.{most_subscripts}
+use Rattle.collation.specs.Bytes as byte
 use Rattle.collation.specs.Reference.{Reference, Spot}
 use Rattle.collation.specs.Name.{is_letter_or_digit, is_name}
 use Rattle.collation.specs.Faults.{reference_fault, ends_open, closed_part}
@@ -13,7 +15,7 @@ use Rattle.m_text.specs.Literal.{literal_at}
 
 -- neither letter nor digit nor '%'
 abbrev pub ends_word : ℕ → Bool
-ends_word b = not (is_letter_or_digit b || b == 37)
+ends_word b = not (is_letter_or_digit b || b == byte.percent)
 
 -- the name word at the front, and what follows it
 abbrev pub front_word : List ℕ → List ℕ
@@ -28,7 +30,7 @@ subscript_at text = option_map (λ x. (x.0 ∷ [], x.1)) (literal_at text)
 
 -- subscripts in parentheses, or none
 unfoldable pub subscripts_at : List ℕ → Option (List (List ℕ) × List ℕ)
-subscripts_at text = if begins_with 40 text then closed (parted_at subscript_at 44 (drop 1 text)) else Some ([], text)
+subscripts_at text = if begins_with byte.opening text then closed (parted_at subscript_at byte.comma (drop 1 text)) else Some ([], text)
 
 -- a name word and subscripts, whatever faults they have
 unfoldable pub named_at : List ℕ → Option (Reference × List ℕ)
@@ -39,7 +41,7 @@ named_at text =
 
 -- the same after a caret
 unfoldable pub place_at : List ℕ → Option (Reference × List ℕ)
-place_at text = if begins_with 94 text then named_at (drop 1 text) else None
+place_at text = if begins_with byte.caret text then named_at (drop 1 text) else None
 
 -- the fault of a name word
 abbrev pub name_fault : List ℕ → Option Refusal
@@ -60,7 +62,7 @@ subscript_count p = if p.is_open then length p.reference.subscripts + 1 else len
 -- the first fault of a place: of its name, its number of subscripts, a subscript
 abbrev pub spot_fault : Spot → Option Refusal
 spot_fault p =
-    option_or (name_fault p.reference.name) (if nat_lt 31 (subscript_count p) then Some TooManySubscripts else reference_fault p.reference.subscripts)
+    option_or (name_fault p.reference.name) (if nat_lt most_subscripts (subscript_count p) then Some TooManySubscripts else reference_fault p.reference.subscripts)
 
 -- x, or the fault where there is one
 abbrev pub unless : {A : Type 0} → Option Refusal → A → Result A Refusal

@@ -3,6 +3,7 @@ use Rattle.std.specs.Prelude.{◌≡◌, ◌==◌, ⊤, ℕ, zero, suc, Bool, fa
 use Rattle.std.specs.Option.{option_map, option_and_then}
 use Rattle.refusal.specs.declared.Refusal.{Refusal}
 use Rattle.refusal.specs.declared.Refusal.TheVariants.{BadLine, OutOfMemory}
+use Rattle.collation.specs.Bytes as byte
 
 -- what is read, with what stands before it
 abbrev pub with_front : {A : Type 0} → List A → Option (List A × List ℕ) → Option (List A × List ℕ)
@@ -39,7 +40,7 @@ parted_at read b text = some_at read b (length text) text
 
 -- what is read, and a closing parenthesis
 abbrev pub closed : {A : Type 0} → Option (A × List ℕ) → Option (A × List ℕ)
-closed read = option_and_then (λ x. if begins_with 41 x.1 then Some (x.0, drop 1 x.1) else None) read
+closed read = option_and_then (λ x. if begins_with byte.closing x.1 then Some (x.0, drop 1 x.1) else None) read
 
 -- a function is refused where nothing is read, or memory ran out
 abbrev pub IsRefused : {Y : Type 0} → Refusal → Option Y → Type 0

@@ -3,6 +3,7 @@
 use Rattle.std.specs.Prelude.{ℕ, Bool, not, ◌&&◌, ◌==◌, nat_le, if◌then◌else◌, List, [], ◌∷◌, ◌++◌, codes, decimal}
 use Rattle.std.specs.List.{flat_map}
 use Rattle.std.specs.Bool.{beq}
+use Rattle.collation.specs.Bytes as byte
 use Rattle.canonic_number.specs.Number.{is_canonic}
 use Rattle.collation.specs.Reference.{Reference}
 
@@ -16,10 +17,10 @@ ends_run plain b = not (beq (is_plain b) plain)
 
 -- a quote is written twice
 abbrev pub doubled : ℕ → List ℕ
-doubled b = if b == 34 then 34 ∷ 34 ∷ [] else b ∷ []
+doubled b = if b == byte.quote then byte.quote ∷ byte.quote ∷ [] else b ∷ []
 
 abbrev pub quoted : List ℕ → List ℕ
-quoted s = 34 ∷ (flat_map doubled s ++ 34 ∷ [])
+quoted s = byte.quote ∷ (flat_map doubled s ++ byte.quote ∷ [])
 
 -- the texts of some things, with the byte b between two
 abbrev pub parted : {A : Type 0} → ℕ → (A → List ℕ) → List A → List ℕ
@@ -28,7 +29,7 @@ parted b text (x ∷ xs) = text x ++ flat_map (λ y. b ∷ text y) xs
 
 -- $C with the codes of the bytes
 abbrev pub char_text : List ℕ → List ℕ
-char_text s = codes "$C(" ++ (parted 44 decimal s ++ 41 ∷ [])
+char_text s = codes "$C(" ++ (parted byte.comma decimal s ++ byte.closing ∷ [])
 
 -- a byte before runs joins the first of them where that is of its kind
 abbrev pub put_before : ℕ → List (List ℕ) → List (List ℕ)
@@ -49,13 +50,13 @@ run_text (b ∷ bs) = if is_plain b then quoted (b ∷ bs) else char_text (b ∷
 -- the one way in which a string is written
 abbrev pub literal_text : List ℕ → List ℕ
 literal_text [] = quoted []
-literal_text (b ∷ bs) = if is_canonic (b ∷ bs) then b ∷ bs else parted 95 run_text (runs (b ∷ bs))
+literal_text (b ∷ bs) = if is_canonic (b ∷ bs) then b ∷ bs else parted byte.underscore run_text (runs (b ∷ bs))
 
 -- literals in parentheses, or nothing
 abbrev pub subscripts_text : List (List ℕ) → List ℕ
 subscripts_text [] = []
-subscripts_text (s ∷ ss) = 40 ∷ (parted 44 literal_text (s ∷ ss) ++ 41 ∷ [])
+subscripts_text (s ∷ ss) = byte.opening ∷ (parted byte.comma literal_text (s ∷ ss) ++ byte.closing ∷ [])
 
 -- a caret, the name and the subscripts
 abbrev pub reference_text : Reference → List ℕ
-reference_text r = 94 ∷ (r.name ++ subscripts_text r.subscripts)
+reference_text r = byte.caret ∷ (r.name ++ subscripts_text r.subscripts)

@@ -6,6 +6,8 @@ use Rattle.std.specs.Option.{option_map, option_and_then, option_or}
 use Rattle.std.specs.Cmp.Lexicographic.{pointwise}
 use Rattle.refusal.specs.declared.Refusal.{Refusal}
 use Rattle.refusal.specs.declared.Refusal.TheVariants.{ValueTooLong}
+use Rattle.collation.specs.Limits.{most_value_bytes}
+use Rattle.collation.specs.Bytes as byte
 use Rattle.collation.specs.Reference.{Reference}
 use Rattle.collation.specs.declared.direction.Direction.{Direction}
 use Rattle.collation.specs.declared.direction.Direction.TheVariants.{Forward, Backward}
@@ -30,7 +32,7 @@ use Rattle.script.specs.Locking.{locking_at, lock_fault}
 
 -- byte 32 or byte 9
 abbrev pub is_blank : ℕ → Bool
-is_blank b = b == 32 || b == 9
+is_blank b = b == byte.blank || b == byte.tab
 
 abbrev pub ends_blank : ℕ → Bool
 ends_blank b = not (is_blank b)
@@ -56,23 +58,23 @@ direction_of s =
 -- an equals sign and a literal
 unfoldable pub value_at : List ℕ → Option (List ℕ × List ℕ)
 value_at text = do
-  rest ← after 61 text
+  rest ← after byte.equals_sign text
   literal_at rest
 
 -- an equals sign and a reference
 unfoldable pub source_at : List ℕ → Option (Reference × List ℕ)
 source_at text = do
-  rest ← after 61 text
+  rest ← after byte.equals_sign text
   place_at rest
 
 -- a comma and a literal, or nothing
 unfoldable pub default_at : List ℕ → Option (Option (List ℕ) × List ℕ)
-default_at text = if begins_with 44 text then option_map (λ x. (Some x.0, x.1)) (literal_at (drop 1 text)) else Some (None, text)
+default_at text = if begins_with byte.comma text then option_map (λ x. (Some x.0, x.1)) (literal_at (drop 1 text)) else Some (None, text)
 
 -- a comma and a direction, or nothing, which is forward
 unfoldable pub direction_at : List ℕ → Option (Direction × List ℕ)
 direction_at text =
-    if begins_with 44 text
+    if begins_with byte.comma text
     then (do
       x ← literal_at (drop 1 text)
       direction ← direction_of x.0
@@ -127,9 +129,9 @@ behind_act (words.Alone word) text = Some (command_of word, text)
 -- what a function wants behind its word: operands in parentheses, or nothing; LOCK is none
 abbrev pub behind_function : Word → List ℕ → Option (Command × List ℕ)
 behind_function (words.Access word) text = do
-  rest ← after 40 text
+  rest ← after byte.opening text
   command ← operands_at word rest
-  rest ← after 41 command.1
+  rest ← after byte.closing command.1
   Some (Access command.0, rest)
 behind_function words.Lock text = None
 behind_function (words.Alone word) text = Some (command_of word, text)
@@ -148,11 +150,11 @@ functions_at text = do
 
 -- a command, whatever faults it has
 unfoldable pub command_at : List ℕ → Option (Command × List ℕ)
-command_at text = if begins_with 36 text then functions_at (drop 1 text) else acts_at text
+command_at text = if begins_with byte.dollar text then functions_at (drop 1 text) else acts_at text
 
 -- a value over 32,767 bytes
 abbrev pub value_fault : List ℕ → Option Refusal
-value_fault value = if nat_lt 32767 (length value) then Some ValueTooLong else None
+value_fault value = if nat_lt most_value_bytes (length value) then Some ValueTooLong else None
 
 -- the first fault of a command that looks, from left to right
 abbrev pub look_fault : LookCommand → Option Refusal

@@ -3,6 +3,7 @@
 use Rattle.std.specs.Prelude.{◌≡◌, ◌<◌, ◌≤◌, ℕ, true, false, List, [], ◌∷◌, ◌++◌, length, Option, None, Some}
 use Rattle.std.specs.List.{list_all}
 use Rattle.std.specs.Char.{is_ascii_digit}
+use Rattle.collation.specs.Bytes as byte
 use Rattle.collation.specs.Reference.{Reference, Resource}
 use Rattle.collation.specs.declared.direction.Direction.{Direction}
 use Rattle.collation.specs.declared.direction.Direction.TheVariants.{Forward}
@@ -39,18 +40,18 @@ pub record IsWord (word : Word) (letters : List ℕ) : Type 0 where
 -- nothing, or a comma and a literal
 pub data IsDefault : List ℕ → Option (List ℕ) → Type 0 where
   no_default : IsDefault [] None
-  default : {text value : List ℕ} → IsLiteral text value → IsDefault (44 ∷ text) (Some value)
+  default : {text value : List ℕ} → IsLiteral text value → IsDefault (byte.comma ∷ text) (Some value)
 
 -- nothing, which is forward, or a comma and a literal of 1 or -1
 pub data IsDirection : List ℕ → Direction → Type 0 where
   no_direction : IsDirection [] Forward
-  direction : {text value : List ℕ} {d : Direction} → IsLiteral text value → direction_of value ≡ Some d → IsDirection (44 ∷ text) d
+  direction : {text value : List ℕ} {d : Direction} → IsLiteral text value → direction_of value ≡ Some d → IsDirection (byte.comma ∷ text) d
 
 -- what a word wants behind its reference r
 pub data IsTail : DataWord → Reference → List ℕ → DataCommand → Type 0 where
-  set : {r : Reference} {text value : List ℕ} → IsLiteral text value → IsTail data_words.Set r (61 ∷ text) (Set r value)
+  set : {r : Reference} {text value : List ℕ} → IsLiteral text value → IsTail data_words.Set r (byte.equals_sign ∷ text) (Set r value)
   kill : {r : Reference} → IsTail data_words.Kill r [] (Kill r)
-  merge : {r s : Reference} {text : List ℕ} → IsReference text s → IsTail data_words.Merge r (61 ∷ text) (Merge r s)
+  merge : {r s : Reference} {text : List ℕ} → IsReference text s → IsTail data_words.Merge r (byte.equals_sign ∷ text) (Merge r s)
   data_of : {r : Reference} → IsTail data_words.Data r [] (Look (Data r))
   get_of : {r : Reference} {text : List ℕ} {value : Option (List ℕ)} → IsDefault text value → IsTail data_words.Get r text (Look (Get r value))
   order_of : {r : Reference} {text : List ℕ} {d : Direction} → IsDirection text d → IsTail data_words.Order r text (Look (Order (spot_of r) d))
@@ -79,18 +80,18 @@ pub record IsOneName (text : List ℕ) (ns : List Resource) : Type 0 where
 -- a lock name, or several in parentheses with a comma between two
 pub data AreLockNames : List ℕ → List Resource → Type 0 where
   one_name : {text : List ℕ} {ns : List Resource} → IsOneName text ns → AreLockNames text ns
-  names : {texts : List ℕ} {ns : List Resource} → IsParted IsOneName 44 texts ns → AreLockNames (40 ∷ (texts ++ 41 ∷ [])) ns
+  names : {texts : List ℕ} {ns : List Resource} → IsParted IsOneName byte.comma texts ns → AreLockNames (byte.opening ∷ (texts ++ byte.closing ∷ [])) ns
 
 -- nothing, '+' or '-'
 pub data IsSign : List ℕ → Form → Type 0 where
   no_sign : IsSign [] forms.Only
-  plus : IsSign (43 ∷ []) forms.More
-  minus : IsSign (45 ∷ []) forms.Fewer
+  plus : IsSign (byte.plus ∷ []) forms.More
+  minus : IsSign (byte.minus ∷ []) forms.Fewer
 
 -- nothing, or ':' and one to nine digits
 pub data IsTimeout : List ℕ → Type 0 where
   no_timeout : IsTimeout []
-  timeout : {digits : List ℕ} → list_all is_ascii_digit digits ≡ true → 0 < length digits → length digits ≤ 9 → IsTimeout (58 ∷ digits)
+  timeout : {digits : List ℕ} → list_all is_ascii_digit digits ≡ true → 0 < length digits → length digits ≤ 9 → IsTimeout (byte.colon ∷ digits)
 
 -- a sign, lock names and a timeout, which means nothing
 pub record IsLocking (text : List ℕ) (c : LockCommand) : Type 0 where
@@ -108,11 +109,11 @@ pub record IsLocking (text : List ℕ) (c : LockCommand) : Type 0 where
 -- a word, a blank and what the word wants, or a word alone; a function stands behind '$', its operands in parentheses
 pub data IsCommand : List ℕ → Command → Type 0 where
   act : {word : DataWord} {letters blank text : List ℕ} {c : DataCommand} → is_function (words.Access word) ≡ false → IsWord (words.Access word) letters → IsBlank blank → IsOperands word text c → IsCommand (letters ++ (blank ++ text)) (Access c)
-  function : {word : DataWord} {letters text : List ℕ} {c : DataCommand} → is_function (words.Access word) ≡ true → IsWord (words.Access word) letters → IsOperands word text c → IsCommand (36 ∷ (letters ++ (40 ∷ (text ++ 41 ∷ [])))) (Access c)
+  function : {word : DataWord} {letters text : List ℕ} {c : DataCommand} → is_function (words.Access word) ≡ true → IsWord (words.Access word) letters → IsOperands word text c → IsCommand (byte.dollar ∷ (letters ++ (byte.opening ∷ (text ++ byte.closing ∷ [])))) (Access c)
   release : {letters : List ℕ} → IsWord words.Lock letters → IsCommand letters (Lock Release)
   lock : {letters blank text : List ℕ} {c : LockCommand} → IsWord words.Lock letters → IsBlank blank → IsLocking text c → IsCommand (letters ++ (blank ++ text)) (Lock c)
   alone : {word : AloneWord} {letters : List ℕ} → is_function (words.Alone word) ≡ false → IsWord (words.Alone word) letters → IsCommand letters (command_of word)
-  function_alone : {word : AloneWord} {letters : List ℕ} → is_function (words.Alone word) ≡ true → IsWord (words.Alone word) letters → IsCommand (36 ∷ letters) (command_of word)
+  function_alone : {word : AloneWord} {letters : List ℕ} → is_function (words.Alone word) ≡ true → IsWord (words.Alone word) letters → IsCommand (byte.dollar ∷ letters) (command_of word)
 
 -- digits, a blank, a command, and perhaps a blank
 pub record IsLine (line : List ℕ) (job : ℕ) (c : Command) : Type 0 where

@@ -1,6 +1,6 @@
 -- What a line asks. Source: docs/FORMATS.md, "Lines" and "Which refusal a line gets".
 -- Read reading_of and job_of, then IsReading; what a command is stands in Commands.
-use Rattle.std.specs.Prelude.{◌≡◌, ⊤, ℕ, Bool, ◌&&◌, ◌||◌, ◌==◌, nat_le, if◌then◌else◌, List, length, Option, None, Some, Result, Ok, Err}
+use Rattle.std.specs.Prelude.{◌≡◌, ⊤, ℕ, Bool, ◌&&◌, ◌||◌, ◌==◌, if◌then◌else◌, List, length, Option, None, Some, Result, Ok, Err}
 use Rattle.refusal.specs.declared.Refusal.{Refusal}
 use Rattle.refusal.specs.declared.Refusal.TheVariants.{BadLine, BadJob, OutOfMemory}
 use Rattle.command.specs.declared.request.Command.{Command}
@@ -8,11 +8,8 @@ use Rattle.m_text.specs.Reading.{◌>>=◌}
 use Rattle.m_text.specs.Literal.{front_digits, past_digits, number_from}
 use Rattle.m_text.specs.Place.{unless}
 use Rattle.script.specs.Commands.{begins_blank, past_blank, blank_at, command_at, fault_of}
+pub use Rattle.collation.specs.Limits.{is_job}
 use Rattle.script.specs.declared.line.LineFault.{LineFault}
-
--- a number of a job, 1 to 4,096
-abbrev pub is_job : ℕ → Bool
-is_job n = nat_le 1 n && nat_le n 4096
 
 -- the end of a line: a blank or nothing
 abbrev pub end_of : Command × List ℕ → Option Command

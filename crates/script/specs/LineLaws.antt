@@ -11,6 +11,7 @@ use Rattle.std.specs.Option.{option_or, option_and_then}
 use Rattle.std.specs.Char.{is_ascii_alphabetic, is_ascii_digit}
 use Rattle.refusal.specs.declared.Refusal.{Refusal}
 use Rattle.refusal.specs.declared.Refusal.TheVariants.{BadLine, BadJob, BadName, TooManySubscripts, ValueTooLong, EmptySubscript, SubscriptTooLong}
+use Rattle.collation.specs.Limits.{most_subscripts, most_value_bytes}
 use Rattle.collation.specs.Name.{is_name}
 use Rattle.collation.specs.Reference.{Reference, Spot, Resource}
 use Rattle.collation.specs.Faults.{subscripts_fault, reference_fault}
@@ -429,17 +430,17 @@ name_none name = at (is_name name)
     at false = λ e. cc
 
 ref_none : (r : Reference) → IsNone (ref_fault r)
-ref_none r = or_none (name_fault r.name) (reference_fault r.subscripts) (name_none r.name) (reference_none (nat_lt 31 (length r.subscripts)) r.subscripts)
+ref_none r = or_none (name_fault r.name) (reference_fault r.subscripts) (name_none r.name) (reference_none (nat_lt most_subscripts (length r.subscripts)) r.subscripts)
 
 spot_none : (p : Spot) → IsNone (spot_fault p)
-spot_none p = or_none (name_fault p.reference.name) _ (name_none p.reference.name) (at (nat_lt 31 (subscript_count p)))
+spot_none p = or_none (name_fault p.reference.name) _ (name_none p.reference.name) (at (nat_lt most_subscripts (subscript_count p)))
   where
     at : (t : Bool) → IsNone (cond t (Some TooManySubscripts) (reference_fault p.reference.subscripts))
     at true = λ e. cc
-    at false = reference_none (nat_lt 31 (length p.reference.subscripts)) p.reference.subscripts
+    at false = reference_none (nat_lt most_subscripts (length p.reference.subscripts)) p.reference.subscripts
 
 value_none : (value : List ℕ) → IsNone (value_fault value)
-value_none value = at (nat_lt 32767 (length value))
+value_none value = at (nat_lt most_value_bytes (length value))
   where
     at : (t : Bool) → IsNone (cond t (Some ValueTooLong) None)
     at true = λ e. cc

@@ -3,6 +3,7 @@
 use Rattle.std.specs.Prelude.{ℕ, Bool, ◌&&◌, ◌==◌, nat_le, nat_lt, if◌then◌else◌, List, [], ◌∷◌, length, drop, Option, None, Some}
 use Rattle.std.specs.Option.{option_map, option_or}
 use Rattle.refusal.specs.declared.Refusal.{Refusal}
+use Rattle.collation.specs.Bytes as byte
 use Rattle.collation.specs.Reference.{Resource}
 use Rattle.collation.specs.declared.lock.LockCommand.{LockCommand}
 use Rattle.collation.specs.declared.lock.LockCommand.TheVariants.{Release, Only, More, Fewer}
@@ -21,24 +22,24 @@ locking forms.Fewer ns = Fewer ns
 -- '+', '-' or neither
 abbrev pub form_of : List ℕ → Form
 form_of [] = forms.Only
-form_of (b ∷ bs) = if b == 43 then forms.More else (if b == 45 then forms.Fewer else forms.Only)
+form_of (b ∷ bs) = if b == byte.plus then forms.More else (if b == byte.minus then forms.Fewer else forms.Only)
 
 -- what follows it
 abbrev pub past_form : List ℕ → List ℕ
 past_form [] = []
-past_form (b ∷ bs) = if b == 43 then bs else (if b == 45 then bs else b ∷ bs)
+past_form (b ∷ bs) = if b == byte.plus then bs else (if b == byte.minus then bs else b ∷ bs)
 
 -- what follows a caret, where there is one
 abbrev pub past_caret : List ℕ → List ℕ
-past_caret text = if begins_with 94 text then drop 1 text else text
+past_caret text = if begins_with byte.caret text then drop 1 text else text
 
 -- a lock name, as a list of it: a reference, or one without its caret
 unfoldable pub lock_name_at : List ℕ → Option (List Resource × List ℕ)
-lock_name_at text = option_map (λ x. (record { has_caret = begins_with 94 text; reference = x.0 } ∷ [], x.1)) (named_at (past_caret text))
+lock_name_at text = option_map (λ x. (record { has_caret = begins_with byte.caret text; reference = x.0 } ∷ [], x.1)) (named_at (past_caret text))
 
 -- a lock name, or several in parentheses
 unfoldable pub lock_names_at : List ℕ → Option (List Resource × List ℕ)
-lock_names_at text = if begins_with 40 text then closed (parted_at lock_name_at 44 (drop 1 text)) else lock_name_at text
+lock_names_at text = if begins_with byte.opening text then closed (parted_at lock_name_at byte.comma (drop 1 text)) else lock_name_at text
 
 -- one to nine digits
 abbrev pub is_timeout : List ℕ → Bool
@@ -47,7 +48,7 @@ is_timeout ds = nat_lt 0 (length ds) && nat_le (length ds) 9
 -- what follows a timeout, ':' and its digits, or nothing
 unfoldable pub timeout_at : List ℕ → Option (List ℕ)
 timeout_at text =
-    if begins_with 58 text then (if is_timeout (front_digits (drop 1 text)) then Some (past_digits (drop 1 text)) else None) else Some text
+    if begins_with byte.colon text then (if is_timeout (front_digits (drop 1 text)) then Some (past_digits (drop 1 text)) else None) else Some text
 
 -- a sign, lock names, a timeout that means nothing
 unfoldable pub locking_at : List ℕ → Option (LockCommand × List ℕ)

@@ -2,6 +2,7 @@
 -- Read reply_text, then reply_words and answer_words.
 use Rattle.std.specs.Prelude.{ℕ, List, [], ◌∷◌, ◌++◌, Option, if◌then◌else◌, codes, decimal, unwrap_or}
 use Rattle.refusal.specs.Refusal.{refusal_text}
+use Rattle.collation.specs.Bytes as byte
 use Rattle.command.specs.declared.access.Answer.{Answer}
 use Rattle.command.specs.declared.access.Answer.TheVariants.{Done, Value, Number, Found}
 use Rattle.command.specs.declared.request.Reply.{Reply}
@@ -28,4 +29,4 @@ reply_words (Refused refusal) = codes "error " ++ refusal_text refusal
 
 -- a reply's line: the job, or 0, a space, the reply, and byte 10
 abbrev pub reply_text : Option ℕ → Reply → List ℕ
-reply_text job reply = decimal (unwrap_or job 0) ++ (32 ∷ (reply_words reply ++ 10 ∷ []))
+reply_text job reply = decimal (unwrap_or job 0) ++ (byte.blank ∷ (reply_words reply ++ byte.line_feed ∷ []))

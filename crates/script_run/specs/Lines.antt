@@ -2,6 +2,7 @@
 use Rattle.std.specs.Prelude.{◌≡◌, ℕ, Bool, true, not, List, [], ◌∷◌, ◌++◌, ◌==◌, if◌then◌else◌}
 use Rattle.std.specs.List.{list_all, flat_map}
 use Rattle.std.specs.Io.BufRead.{strip_last}
+use Rattle.collation.specs.Bytes as byte
 
 -- an empty line is passed over
 abbrev pub kept : List ℕ → List (List ℕ)
@@ -11,7 +12,7 @@ kept (b ∷ bs) = (b ∷ bs) ∷ []
 -- a line has begun: it ends at byte 10, and a byte 13 directly before that isn't part of it, or it ends with the text
 abbrev pub lines_from : List ℕ → List ℕ → List (List ℕ)
 lines_from line [] = kept line
-lines_from line (b ∷ bs) = if b == 10 then kept (strip_last 13 line) ++ lines_from [] bs else lines_from (line ++ b ∷ []) bs
+lines_from line (b ∷ bs) = if b == byte.line_feed then kept (strip_last byte.carriage_return line) ++ lines_from [] bs else lines_from (line ++ b ∷ []) bs
 
 -- the lines that aren't empty
 abbrev pub lines_of : List ℕ → List (List ℕ)
@@ -19,14 +20,14 @@ lines_of text = lines_from [] text
 
 -- no byte 10
 abbrev pub has_no_end : List ℕ → Bool
-has_no_end text = list_all (λ b. not (b == 10)) text
+has_no_end text = list_all (λ b. not (b == byte.line_feed)) text
 
 -- a text of lines, each ended by a byte 10, and of what follows the last of them
 abbrev pub text_of_lines : List (List ℕ) → List ℕ → List ℕ
 text_of_lines [] last = last
-text_of_lines (l ∷ ls) last = l ++ 10 ∷ text_of_lines ls last
+text_of_lines (l ∷ ls) last = l ++ byte.line_feed ∷ text_of_lines ls last
 
 -- its lines are those, less a byte 13 before an end, and the last, of which the empty ones are passed over
 abbrev pub LinesAreCutAtTheirEnds : Type 0
 LinesAreCutAtTheirEnds =
-    (ls : List (List ℕ)) (last : List ℕ) → list_all has_no_end ls ≡ true → has_no_end last ≡ true → lines_of (text_of_lines ls last) ≡ flat_map (λ l. kept (strip_last 13 l)) ls ++ kept last
+    (ls : List (List ℕ)) (last : List ℕ) → list_all has_no_end ls ≡ true → has_no_end last ≡ true → lines_of (text_of_lines ls last) ≡ flat_map (λ l. kept (strip_last byte.carriage_return l)) ls ++ kept last
