@@ -12,6 +12,8 @@ pub mod Reading
 pub mod Back
 pub mod BackLaws
 pub mod Kept
+pub mod Grown
+pub mod GrownLaws
 pub mod Held
 pub mod Shown
 pub mod Draft

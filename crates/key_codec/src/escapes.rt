@@ -1,5 +1,6 @@
 //! A text from its escaped bytes.
 ghost use Rattle.std.specs.Prelude.{◌≡◌, ◌<◌, ◌++◌, ◌∷◌, ℕ, List, [], IfNone, IfOk, IfSome, MatchOption, OnOk, length};
+ghost use Rattle.key_codec.specs.Grown.{GoesOnFrom};
 ghost use Rattle.key_codec.specs.Key.{escape, escaped};
 ghost use Rattle.key_codec.specs.Back.{unescaped};
 
@@ -24,7 +25,8 @@ pub(crate) fn unescape(alloc: Global, bytes: &[u8]) -> Result<Option<Vec<u8>>, A
 
 // Writes the text with these escaped bytes at the end of `out`.
 pub(crate) fn push_unescaped(out: &mut Vec<u8>, bytes: &[u8]) -> Result<(), AllocError>
-    ensures { OnOk result (out.new.items ≡ out.old.items ++ unescaped bytes.now) }
+    ensures ok { OnOk result (out.new.items ≡ out.old.items ++ unescaped bytes.now) }
+    ensures kept { GoesOnFrom out.old.items out.new.items }
 {
     let mut rest = bytes;
     while let Some((byte, more)) = next_unescaped(rest) {

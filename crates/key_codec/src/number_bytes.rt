@@ -3,6 +3,7 @@ ghost use Rattle.std.specs.Prelude.{◌≡◌, ◌<◌, ◌≤◌, ◌↔◌, �
 ghost use Rattle.std.specs.List.{list_all};
 ghost use Rattle.canonic_number.specs.Number.{scale};
 ghost use Rattle.canonic_number.specs.Place.{pointed, signed, written_at};
+ghost use Rattle.key_codec.specs.Grown.{GoesOnFrom};
 ghost use Rattle.key_codec.specs.Back as back;
 ghost use Rattle.key_codec.specs.Reading as reading;
 ghost use Rattle.key_codec.specs.Reading.{IsNumberOf};
@@ -45,7 +46,8 @@ pub(crate) fn are_digit_bytes(bytes: &[u8]) -> bool
 
 // Writes the digits of these bytes at the end of `out`.
 pub(crate) fn push_digits(out: &mut Vec<u8>, negative: bool, bytes: &[u8]) -> Result<(), AllocError>
-    ensures { OnOk result (out.new.items ≡ out.old.items ++ map (reading.digit_of negative) bytes.now) }
+    ensures ok { OnOk result (out.new.items ≡ out.old.items ++ map (reading.digit_of negative) bytes.now) }
+    ensures kept { GoesOnFrom out.old.items out.new.items }
 {
     for byte in bytes {
         out.push(digit_of(negative, *byte))?;
@@ -71,7 +73,8 @@ pub(crate) fn push_number(
     place: usize,
     bytes: &[u8],
 ) -> Result<(), AllocError>
-    ensures { OnOk result (out.new.items ≡ out.old.items ++ signed negative (written_at scale place (map (reading.digit_of negative) bytes.now))) }
+    ensures ok { OnOk result (out.new.items ≡ out.old.items ++ signed negative (written_at scale place (map (reading.digit_of negative) bytes.now))) }
+    ensures kept { GoesOnFrom out.old.items out.new.items }
 {
     if negative {
         out.push(b'-')?;
@@ -88,7 +91,8 @@ fn push_magnitude(
     place: usize,
     bytes: &[u8],
 ) -> Result<(), AllocError>
-    ensures { OnOk result (out.new.items ≡ out.old.items ++ written_at scale place (map (reading.digit_of negative) bytes.now)) }
+    ensures ok { OnOk result (out.new.items ≡ out.old.items ++ written_at scale place (map (reading.digit_of negative) bytes.now)) }
+    ensures kept { GoesOnFrom out.old.items out.new.items }
 {
     if place > MOST_FRACTION_DIGITS {
         push_pointed(out, negative, place - MOST_FRACTION_DIGITS, bytes)
@@ -106,7 +110,8 @@ fn push_pointed(
     whole: usize,
     bytes: &[u8],
 ) -> Result<(), AllocError>
-    ensures { OnOk result (out.new.items ≡ out.old.items ++ pointed whole (map (reading.digit_of negative) bytes.now)) }
+    ensures ok { OnOk result (out.new.items ≡ out.old.items ++ pointed whole (map (reading.digit_of negative) bytes.now)) }
+    ensures kept { GoesOnFrom out.old.items out.new.items }
 {
     if bytes.len() <= whole {
         push_digits(out, negative, bytes)?;
@@ -120,7 +125,8 @@ fn push_pointed(
 }
 
 fn push_zeros(out: &mut Vec<u8>, count: usize) -> Result<(), AllocError>
-    ensures { OnOk result (out.new.items ≡ out.old.items ++ replicate count 48) }
+    ensures ok { OnOk result (out.new.items ≡ out.old.items ++ replicate count 48) }
+    ensures kept { GoesOnFrom out.old.items out.new.items }
 {
     for _ in 0..count {
         out.push(b'0')?;

@@ -2,6 +2,7 @@
 ghost use Rattle.std.specs.Prelude.{◌≡◌, ◌∷◌, ◌++◌, List, ℕ, IfOk, IfSome, OnOk, false, length};
 ghost use Rattle.canonic_number.specs.Number.{is_canonic};
 ghost use Rattle.collation.specs.Levels.{front};
+ghost use Rattle.key_codec.specs.Grown.{GoesOnFrom};
 ghost use Rattle.key_codec.specs.Key.{short_form, subscripts_key, AreSubscripts};
 ghost use Rattle.key_codec.specs.Back.{first_of, first_number as first_number_spec, subscripts_up_to, unescaped};
 ghost use Rattle.key_codec.specs.Reading.{tag_of};
@@ -73,9 +74,10 @@ impl KeySubscript<'_> {
 
     /// Writes it at the end of `out`.
     ///
-    /// Where memory is refused a part may be written.
+    /// Where memory is refused a part may stand behind what stood in `out`.
     pub fn push_to(&self, out: &mut Vec<u8>) -> Result<(), AllocError>
-        ensures { OnOk result (out.new.items ≡ out.old.items ++ self.now) }
+        ensures ok { OnOk result (out.new.items ≡ out.old.items ++ self.now) }
+        ensures kept { GoesOnFrom out.old.items out.new.items }
     {
         match self.shown {
             Shown::Zero => {

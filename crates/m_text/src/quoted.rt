@@ -3,6 +3,7 @@ ghost use Rattle.std.specs.Prelude.{◌≡◌, ◌||◌, ◌<◌, ◌∷◌, ◌
 ghost use Rattle.std.specs.List.{flat_map, position};
 ghost use Rattle.m_text.specs.Reading.{Gives, Skips, begins_with, rest_of, with_front};
 ghost use Rattle.m_text.specs.Literal.{quoted_at, is_quote, literal_at};
+ghost use Rattle.key_codec.specs.Grown.{GoesOnFrom};
 ghost use Rattle.m_text.specs.Written.{doubled, quoted};
 
 use crate::front::after;
@@ -103,7 +104,8 @@ fn split_doubled(text: &[u8]) -> Option<(&[u8], &[u8])>
 
 // Writes a quoted text.
 pub(crate) fn write_quoted(text: &[u8], out: &mut Vec<u8>) -> Result<(), AllocError>
-    ensures { OnOk result (out.new.items ≡ out.old.items ++ quoted text.now) }
+    ensures ok { OnOk result (out.new.items ≡ out.old.items ++ quoted text.now) }
+    ensures kept { GoesOnFrom out.old.items out.new.items }
 {
     out.push(b'"')?;
     let mut rest = text;

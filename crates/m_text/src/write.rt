@@ -1,7 +1,8 @@
 //! Strings, references and keys as text.
-ghost use Rattle.std.specs.Prelude.{◌≡◌, ◌<◌, ◌++◌, ◌∷◌, length, decimal, OnOk};
+ghost use Rattle.std.specs.Prelude.{◌≡◌, ◌<◌, ◌++◌, ◌∷◌, length, decimal, OnOk, OnErr};
 ghost use Rattle.std.specs.Bool.{beq};
 ghost use Rattle.std.specs.List.{flat_map, position};
+ghost use Rattle.key_codec.specs.Grown.{GoesOnFrom};
 ghost use Rattle.m_text.specs.Written as written;
 
 use crate::quoted::write_quoted;
@@ -37,14 +38,16 @@ fn split_run(text: &[u8]) -> (&[u8], &[u8])
 }
 
 fn write_code(byte: u8, out: &mut Vec<u8>) -> Result<(), AllocError>
-    ensures { OnOk result (out.new.items ≡ out.old.items ++ decimal byte) }
+    ensures ok { OnOk result (out.new.items ≡ out.old.items ++ decimal byte) }
+    ensures kept { GoesOnFrom out.old.items out.new.items }
 {
     let mut buffer = Buffer::new();
     out.extend_from_slice(buffer.format(byte).as_bytes())
 }
 
 fn write_more_codes(bytes: &[u8], out: &mut Vec<u8>) -> Result<(), AllocError>
-    ensures { OnOk result (out.new.items ≡ out.old.items ++ flat_map (λ b. 44 ∷ decimal b) bytes.now) }
+    ensures ok { OnOk result (out.new.items ≡ out.old.items ++ flat_map (λ b. 44 ∷ decimal b) bytes.now) }
+    ensures kept { GoesOnFrom out.old.items out.new.items }
 {
     'codes: for byte in bytes {
         out.push(b',')?;
@@ -54,7 +57,8 @@ fn write_more_codes(bytes: &[u8], out: &mut Vec<u8>) -> Result<(), AllocError>
 }
 
 fn write_codes(bytes: &[u8], out: &mut Vec<u8>) -> Result<(), AllocError>
-    ensures { OnOk result (out.new.items ≡ out.old.items ++ written.parted 44 decimal bytes.now) }
+    ensures ok { OnOk result (out.new.items ≡ out.old.items ++ written.parted 44 decimal bytes.now) }
+    ensures kept { GoesOnFrom out.old.items out.new.items }
 {
     match bytes {
         [] => Ok(()),
@@ -66,7 +70,8 @@ fn write_codes(bytes: &[u8], out: &mut Vec<u8>) -> Result<(), AllocError>
 }
 
 fn write_chars(bytes: &[u8], out: &mut Vec<u8>) -> Result<(), AllocError>
-    ensures { OnOk result (out.new.items ≡ out.old.items ++ written.char_text bytes.now) }
+    ensures ok { OnOk result (out.new.items ≡ out.old.items ++ written.char_text bytes.now) }
+    ensures kept { GoesOnFrom out.old.items out.new.items }
 {
     out.extend_from_slice(b"$C(")?;
     write_codes(bytes, out)?;
@@ -75,7 +80,8 @@ fn write_chars(bytes: &[u8], out: &mut Vec<u8>) -> Result<(), AllocError>
 }
 
 fn write_run(run: &[u8], out: &mut Vec<u8>) -> Result<(), AllocError>
-    ensures { OnOk result (out.new.items ≡ out.old.items ++ written.run_text run.now) }
+    ensures ok { OnOk result (out.new.items ≡ out.old.items ++ written.run_text run.now) }
+    ensures kept { GoesOnFrom out.old.items out.new.items }
 {
     match run {
         [] => write_quoted(run, out),
@@ -90,7 +96,8 @@ fn write_run(run: &[u8], out: &mut Vec<u8>) -> Result<(), AllocError>
 }
 
 fn write_runs(text: &[u8], out: &mut Vec<u8>) -> Result<(), AllocError>
-    ensures { OnOk result (out.new.items ≡ out.old.items ++ written.parted 95 written.run_text (written.runs text.now)) }
+    ensures ok { OnOk result (out.new.items ≡ out.old.items ++ written.parted 95 written.run_text (written.runs text.now)) }
+    ensures kept { GoesOnFrom out.old.items out.new.items }
 {
     let mut rest = text;
     'runs: while !rest.is_empty() {
@@ -105,12 +112,9 @@ fn write_runs(text: &[u8], out: &mut Vec<u8>) -> Result<(), AllocError>
     Ok(())
 }
 
-/// Writes a string at the end of `out`, as a literal, in the one way in which it is written.
-///
-/// A canonic number is written bare; another string as its longest runs of bytes 32 to 126, in quotes, and
-/// of other bytes, as `$C` with their codes, joined by `_`. Where memory is refused a part may be written.
-pub fn write_literal(string: &[u8], out: &mut Vec<u8>) -> Result<(), AllocError>
-    ensures { OnOk result (out.new.items ≡ out.old.items ++ written.literal_text string.now) }
+fn push_literal(string: &[u8], out: &mut Vec<u8>) -> Result<(), AllocError>
+    ensures ok { OnOk result (out.new.items ≡ out.old.items ++ written.literal_text string.now) }
+    ensures kept { GoesOnFrom out.old.items out.new.items }
 {
     match string {
         [] => write_quoted(string, out),
@@ -124,34 +128,56 @@ pub fn write_literal(string: &[u8], out: &mut Vec<u8>) -> Result<(), AllocError>
     }
 }
 
+/// Writes a string at the end of `out`, as a literal, in the one way in which it is written.
+///
+/// A canonic number is written bare; another string as its longest runs of bytes 32 to 126, in quotes, and
+/// of other bytes, as `$C` with their codes, joined by `_`. Where memory is refused `out` is as it was.
+#[tactic(auto, using(key_codec::specs::GrownLaws::back_to))]
+pub fn write_literal(string: &[u8], out: &mut Vec<u8>) -> Result<(), AllocError>
+    ensures ok { OnOk result (out.new.items ≡ out.old.items ++ written.literal_text string.now) }
+    ensures err { OnErr result (out.new.items ≡ out.old.items) }
+{
+    let before = out.len();
+    match push_literal(string, out) {
+        Ok(()) => Ok(()),
+        Err(error) => {
+            out.truncate(before);
+            Err(error)
+        }
+    }
+}
+
 // Writes a subscript that stands in its key with escapes.
 fn write_escaped(
     alloc: Global,
     subscript: &KeySubscript<'_>,
     out: &mut Vec<u8>,
 ) -> Result<(), AllocError>
-    ensures { OnOk result (out.new.items ≡ out.old.items ++ written.literal_text subscript.now) }
+    ensures ok { OnOk result (out.new.items ≡ out.old.items ++ written.literal_text subscript.now) }
+    ensures kept { GoesOnFrom out.old.items out.new.items }
 {
     let mut draft = Vec::new(alloc);
     subscript.push_to(&mut draft)?;
-    write_literal(draft.as_slice(), out)
+    push_literal(draft.as_slice(), out)
 }
 
 // Writes a subscript of a key as a literal.
 fn write_subscript(subscript: &KeySubscript<'_>, out: &mut Vec<u8>) -> Result<(), AllocError>
-    ensures { OnOk result (out.new.items ≡ out.old.items ++ written.literal_text subscript.now) }
+    ensures ok { OnOk result (out.new.items ≡ out.old.items ++ written.literal_text subscript.now) }
+    ensures kept { GoesOnFrom out.old.items out.new.items }
 {
     if subscript.is_number() {
         return subscript.push_to(out);
     }
     match subscript.as_slice() {
-        Some(text) => write_literal(text, out),
+        Some(text) => push_literal(text, out),
         None => write_escaped(*out.allocator(), subscript, out),
     }
 }
 
 fn write_more_subscripts(subscripts: KeySubscripts<'_>, out: &mut Vec<u8>) -> Result<(), AllocError>
-    ensures { OnOk result (out.new.items ≡ out.old.items ++ flat_map (λ s. 44 ∷ written.literal_text s) subscripts.entry) }
+    ensures ok { OnOk result (out.new.items ≡ out.old.items ++ flat_map (λ s. 44 ∷ written.literal_text s) subscripts.entry) }
+    ensures kept { GoesOnFrom out.old.items out.new.items }
 {
     'subscripts: for subscript in subscripts {
         out.push(b',')?;
@@ -161,7 +187,8 @@ fn write_more_subscripts(subscripts: KeySubscripts<'_>, out: &mut Vec<u8>) -> Re
 }
 
 fn write_subscripts(mut subscripts: KeySubscripts<'_>, out: &mut Vec<u8>) -> Result<(), AllocError>
-    ensures { OnOk result (out.new.items ≡ out.old.items ++ written.subscripts_text subscripts.entry) }
+    ensures ok { OnOk result (out.new.items ≡ out.old.items ++ written.subscripts_text subscripts.entry) }
+    ensures kept { GoesOnFrom out.old.items out.new.items }
 {
     match subscripts.next() {
         Some(first) => {
@@ -175,13 +202,29 @@ fn write_subscripts(mut subscripts: KeySubscripts<'_>, out: &mut Vec<u8>) -> Res
     }
 }
 
-/// Writes the reference of a key at the end of `out`: a caret, the name, and the subscripts as literals.
-///
-/// Where memory is refused a part may be written.
-pub fn write_key(key: &Key, out: &mut Vec<u8>) -> Result<(), AllocError>
-    ensures { OnOk result (out.new.items ≡ out.old.items ++ written.reference_text key.now) }
+fn push_key(key: &Key, out: &mut Vec<u8>) -> Result<(), AllocError>
+    ensures ok { OnOk result (out.new.items ≡ out.old.items ++ written.reference_text key.now) }
+    ensures kept { GoesOnFrom out.old.items out.new.items }
 {
     out.push(b'^')?;
     out.extend_from_slice(key.name())?;
     write_subscripts(key.subscripts(), out)
+}
+
+/// Writes the reference of a key at the end of `out`: a caret, the name, and the subscripts as literals.
+///
+/// Where memory is refused `out` is as it was.
+#[tactic(auto, using(key_codec::specs::GrownLaws::back_to))]
+pub fn write_key(key: &Key, out: &mut Vec<u8>) -> Result<(), AllocError>
+    ensures ok { OnOk result (out.new.items ≡ out.old.items ++ written.reference_text key.now) }
+    ensures err { OnErr result (out.new.items ≡ out.old.items) }
+{
+    let before = out.len();
+    match push_key(key, out) {
+        Ok(()) => Ok(()),
+        Err(error) => {
+            out.truncate(before);
+            Err(error)
+        }
+    }
 }

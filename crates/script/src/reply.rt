@@ -1,5 +1,6 @@
 //! Replies.
-ghost use Rattle.std.specs.Prelude.{◌≡◌, ◌++◌, ◌∷◌, OnOk, decimal, unwrap_or};
+ghost use Rattle.std.specs.Prelude.{◌≡◌, ◌++◌, ◌∷◌, OnOk, OnErr, decimal, unwrap_or};
+ghost use Rattle.key_codec.specs.Grown.{GoesOnFrom};
 ghost use Rattle.script.specs.Text as text;
 
 use collation::Job;
@@ -10,14 +11,16 @@ use refusal::Refusal;
 use std::alloc::AllocError;
 
 fn write_number(n: u64, out: &mut Vec<u8>) -> Result<(), AllocError>
-    ensures { OnOk result (out.new.items ≡ out.old.items ++ decimal n) }
+    ensures ok { OnOk result (out.new.items ≡ out.old.items ++ decimal n) }
+    ensures kept { GoesOnFrom out.old.items out.new.items }
 {
     let mut buffer = Buffer::new();
     out.extend_from_slice(buffer.format(n).as_bytes())
 }
 
 fn write_refusal(refusal: Refusal, out: &mut Vec<u8>) -> Result<(), AllocError>
-    ensures { OnOk result (out.new.items ≡ out.old.items ++ text.reply_words (Reply.Refused refusal)) }
+    ensures ok { OnOk result (out.new.items ≡ out.old.items ++ text.reply_words (Reply.Refused refusal)) }
+    ensures kept { GoesOnFrom out.old.items out.new.items }
 {
     out.extend_from_slice(b"error ")?;
     write_number(refusal.number() as u64, out)?;
@@ -27,7 +30,8 @@ fn write_refusal(refusal: Refusal, out: &mut Vec<u8>) -> Result<(), AllocError>
 
 // A word, a space and a number.
 fn write_counted(word: &[u8], n: u64, out: &mut Vec<u8>) -> Result<(), AllocError>
-    ensures { OnOk result (out.new.items ≡ out.old.items ++ (word.now ++ 32 ∷ decimal n)) }
+    ensures ok { OnOk result (out.new.items ≡ out.old.items ++ (word.now ++ 32 ∷ decimal n)) }
+    ensures kept { GoesOnFrom out.old.items out.new.items }
 {
     out.extend_from_slice(word)?;
     out.push(b' ')?;
@@ -35,7 +39,8 @@ fn write_counted(word: &[u8], n: u64, out: &mut Vec<u8>) -> Result<(), AllocErro
 }
 
 fn write_answer(answer: &Answer, out: &mut Vec<u8>) -> Result<(), AllocError>
-    ensures { OnOk result (out.new.items ≡ out.old.items ++ text.answer_words answer.now) }
+    ensures ok { OnOk result (out.new.items ≡ out.old.items ++ text.answer_words answer.now) }
+    ensures kept { GoesOnFrom out.old.items out.new.items }
 {
     match answer {
         Answer::Done => out.extend_from_slice(b"ok"),
@@ -46,7 +51,8 @@ fn write_answer(answer: &Answer, out: &mut Vec<u8>) -> Result<(), AllocError>
 }
 
 fn write_words(reply: &Reply, out: &mut Vec<u8>) -> Result<(), AllocError>
-    ensures { OnOk result (out.new.items ≡ out.old.items ++ text.reply_words reply.now) }
+    ensures ok { OnOk result (out.new.items ≡ out.old.items ++ text.reply_words reply.now) }
+    ensures kept { GoesOnFrom out.old.items out.new.items }
 {
     match reply {
         Reply::Answered(answer) => write_answer(answer, out),
@@ -70,16 +76,32 @@ fn job_number(job: Option<Job>) -> u64
     }
 }
 
-/// Writes a reply's line at the end of `out`: the job, or 0 where there is none, a space, the reply, and a
-/// byte 10.
-///
-/// Where memory is refused a part may be written.
-pub fn write_reply(job: Option<Job>, reply: &Reply, out: &mut Vec<u8>) -> Result<(), AllocError>
-    ensures { OnOk result (out.new.items ≡ out.old.items ++ text.reply_text job reply.now) }
+fn push_reply(job: Option<Job>, reply: &Reply, out: &mut Vec<u8>) -> Result<(), AllocError>
+    ensures ok { OnOk result (out.new.items ≡ out.old.items ++ text.reply_text job reply.now) }
+    ensures kept { GoesOnFrom out.old.items out.new.items }
 {
     write_number(job_number(job), out)?;
     out.push(b' ')?;
     write_words(reply, out)?;
     out.push(b'\n')?;
     Ok(())
+}
+
+/// Writes a reply's line at the end of `out`: the job, or 0 where there is none, a space, the reply, and a
+/// byte 10.
+///
+/// Where memory is refused `out` is as it was.
+#[tactic(auto, using(key_codec::specs::GrownLaws::back_to))]
+pub fn write_reply(job: Option<Job>, reply: &Reply, out: &mut Vec<u8>) -> Result<(), AllocError>
+    ensures ok { OnOk result (out.new.items ≡ out.old.items ++ text.reply_text job reply.now) }
+    ensures err { OnErr result (out.new.items ≡ out.old.items) }
+{
+    let before = out.len();
+    match push_reply(job, reply, out) {
+        Ok(()) => Ok(()),
+        Err(error) => {
+            out.truncate(before);
+            Err(error)
+        }
+    }
 }
