@@ -1,10 +1,11 @@
 //! A reader or a writer that fails at each call in turn, input in pieces, and what is written when.
 use crate::scripts::output_of;
-use crate::streams::{Pieces, Taken};
+use crate::streams::{Heard, Pieces, Taken, Watching};
 use listing::Counted;
 use refusal::Refusal;
 use script_run::{Fault, NoLog, Outcome, RefusalLog, run_script, run_with};
 use std::alloc::Global;
+use std::cell::Cell;
 use std::test::Fail;
 
 const SCRIPT: &[u8] =
@@ -175,6 +176,34 @@ fn each_write_that_takes_nothing_is_a_fault(rt: HostRuntime) -> Result<(), Fail>
     Ok(())
 }
 
+// How many reads came before the replies of the lines that had ended were written, or after more than these were.
+fn reads_out_of_turn(alloc: Global, size: usize) -> Result<u64, Fail> {
+    let written = Cell::new(0);
+    let mut reader = Counted::new(Watching {
+        text: b"1 SET ^A=1\n1 SET ^B=2\n1 KILL ^A\n1 SET ^C(1)=3\n1 KILL ^B\n",
+        size,
+        ended: 0,
+        written: &written,
+        out_of_turn: 0,
+    });
+    let mut writer = Counted::new(Heard { written: &written });
+    let outcome = run_script(alloc, 0, &mut reader, &mut writer);
+    Ok(if outcome.is_ok() {
+        reader.inner().out_of_turn
+    } else {
+        u64::MAX
+    })
+}
+
+#[test]
+fn replies_come_before_the_next_read(rt: HostRuntime) -> Result<(), Fail> {
+    for size in [1, 7, 4096] {
+        let out_of_turn = reads_out_of_turn(rt.alloc(), size)?;
+        assert!(rt; out_of_turn == 0, "{out_of_turn} reads in pieces of {size}");
+    }
+    Ok(())
+}
+
 // One value of 32,767 bytes, and 60 times its text in one read: the most that is written at once.
 fn largest_write(alloc: Global) -> Result<usize, Fail> {
     let mut script = Vec::from_slice(alloc, b"1 SET ^A=\"")?;
@@ -207,24 +236,27 @@ fn replies_are_written_before_the_buffer_grows(rt: HostRuntime) -> Result<(), Fa
 #[derive(Drop)]
 struct Told {
     lines: u64,
+    bytes: usize,
     refusals: u64,
 }
 
 impl RefusalLog for Told {
-    fn refused(&mut self, line: u64, refusal: Refusal) {
-        self.lines = line;
+    fn refused(&mut self, number: u64, line: &[u8], refusal: Refusal) {
+        self.lines = number;
+        self.bytes = line.len();
         if refusal == Refusal::BadLine {
             self.refusals = self.refusals.saturating_add(1);
         }
     }
 }
 
-// The text of a run without a listing, the last line that was told of, and how many were.
-fn unlisted(alloc: Global) -> Result<(Vec<u8>, u64, u64), Fail> {
+// The text of a run without a listing, the last line that was told of and its length, and how many were.
+fn unlisted(alloc: Global) -> Result<(Vec<u8>, u64, usize, u64), Fail> {
     let mut reader = reader_of(b"1 SET ^A=1\n\n1 FOO\r\n2 $GET(^A)", 7, NONE);
     let mut writer = writer_of(alloc, 7, NONE);
     let mut told = Told {
         lines: 0,
+        bytes: 0,
         refusals: 0,
     };
     let outcome = run_with(alloc, false, 0, &mut reader, &mut writer, &mut told);
@@ -233,17 +265,17 @@ fn unlisted(alloc: Global) -> Result<(Vec<u8>, u64, u64), Fail> {
     } else {
         Vec::new(alloc)
     };
-    Ok((text, told.lines, told.refusals))
+    Ok((text, told.lines, told.bytes, told.refusals))
 }
 
 #[test]
 fn run_without_listing_prints_replies_alone(rt: HostRuntime) -> Result<(), Fail> {
-    let (text, line, refusals) = unlisted(rt.alloc())?;
+    let (text, line, bytes, refusals) = unlisted(rt.alloc())?;
     assert_eq!(rt;
         text.as_slice(),
         b"1 ok\n1 error 1 BadLine\n2 1\n".as_slice()
     );
-    assert_eq!(rt; (line, refusals), (3, 1));
+    assert_eq!(rt; (line, bytes, refusals), (3, 5, 1));
     Ok(())
 }
 

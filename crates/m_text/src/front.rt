@@ -97,8 +97,8 @@ fn word_end(text: &[u8]) -> Option<usize>
     })
 }
 
-// The name word at the front, and what follows it.
-pub(crate) fn split_word(text: &[u8]) -> (&[u8], &[u8])
+/// The name word at the front, and what follows it.
+pub fn split_word(text: &[u8]) -> (&[u8], &[u8])
     ensures word { result.0.now ≡ place.front_word text.now }
     ensures rest { result.1.now ≡ place.past_word text.now }
 {

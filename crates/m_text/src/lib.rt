@@ -15,7 +15,7 @@
 //! Lemmas for the crates above stand in `specs/*Laws.antt`. Strings have no limit here; subscripts have theirs.
 #![tactic(auto)]
 
-pub use front::{after, is_word, number_up_to, split_digits, split_letters};
+pub use front::{after, is_word, number_up_to, split_digits, split_letters, split_word};
 pub use laws::{literals_are_read_as_spelled, references_are_read_as_spelled};
 pub use literal::{read_literal, skip_literal};
 pub use place::{read_draft, read_named, read_place, read_reference, skip_place};

@@ -12,6 +12,7 @@ use clap::error::ErrorKind;
 use listing::Counted;
 use mrun_args::{Args, args_of};
 use refusal::Refusal;
+use script::locate_fault;
 use script_run::{Fault, Outcome, RefusalLog, run_with, status_of};
 use std::alloc::AllocError;
 use std::env::FillError;
@@ -20,7 +21,8 @@ use std::process::ExitCode;
 use std::rt::{Env, Files};
 use std::{fs, io};
 
-// Tells refused lines on standard error, where that is asked for. What can't be printed there is left out.
+// Tells refused lines on standard error, where that is asked for: the line, the column, the refusal and what was
+// expected there. What can't be printed there is left out.
 struct ErrorLog<'a, P> {
     rt: &'a P,
     told: bool,
@@ -32,10 +34,15 @@ impl<'a, P> Drop for ErrorLog<'a, P> {
     }
 }
 
-impl<'a, P: Eprint> RefusalLog for ErrorLog<'a, P> {
-    fn refused(&mut self, line: u64, refusal: Refusal) {
+impl<'a, P: Eprint + AllocGlobal> RefusalLog for ErrorLog<'a, P> {
+    fn refused(&mut self, number: u64, line: &[u8], refusal: Refusal) {
         if self.told {
-            let _ = eprintln!(self.rt; "mrun: line {line}: error {refusal}");
+            let found = locate_fault(self.rt.alloc(), line, refusal);
+            let column = found.column;
+            let expected = found.expected.text();
+            let _ = eprintln!(self.rt;
+                "mrun: line {number}, column {column}: error {refusal}: expected {expected}"
+            );
         }
     }
 }

@@ -24,7 +24,7 @@ A reply is printed for each line that isn't empty: its job, and `ok`, a value or
 At the end of input follow `--` and the listing of the database, which starts empty and is kept in memory.
 Lines can be typed: each gets its reply at once, and Ctrl-D on an empty line ends the input.
 
---errors tells a refused line's number and refusal; it can't tell the column, nor what was expected there.
+--errors tells a refused line's number, the column of its fault, the refusal and what was expected there.
 --collect-every drops old versions of values that no transaction can see any more; what is printed doesn't depend on it.
 
 Exit status: 0, all replies are accepted; 1, a reply is an `error`; 2, input can't be read, output can't be
@@ -54,7 +54,7 @@ fn command<'a>(alloc: Global) -> Result<Command<'a>, Error> {
     let errors = Arg::new(alloc, "errors")
         .long("errors")
         .action(ArgAction::SetTrue)
-        .help("Tell each refused line's number and refusal on standard error");
+        .help("Tell each refused line's number, column and fault on standard error");
     let collect_every = Arg::new(alloc, "collect-every")
         .long("collect-every")
         .action(ArgAction::Set)

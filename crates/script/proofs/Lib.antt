@@ -1,4 +1,5 @@
 pub mod Due
+pub mod Behind
 pub mod Judging
 pub mod Naming
 pub mod Sentences

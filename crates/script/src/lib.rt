@@ -16,19 +16,25 @@
 //! a list up to the first that is at fault, the rest of it into a sentence; where line and job are good, these make the
 //! command. What a timeout says is read and kept nowhere.
 //!
+//! A refused line is looked at once more by who wants to know its fault's column (`locate_fault`).
+//!
 //! Read `specs/Line.antt`, `specs/Grammar.antt`, `specs/Laws.antt`, `specs/Text.antt`, then `line.rt`,
 //! `sentence.rt`, `lock.rt`, `finish.rt`, `reply.rt`.
 #![tactic(auto)]
 
+pub use expected::Expected;
 pub use laws::lines_are_read_as_spelled;
 pub use line::{LineFault, read_line};
+pub use locate::{LocatedFault, locate_fault};
 pub use reply::write_reply;
 pub use sentence::Drafts;
 
 mod blank;
+mod expected;
 mod finish;
 mod laws;
 mod line;
+mod locate;
 mod lock;
 mod names;
 mod reply;

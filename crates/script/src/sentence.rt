@@ -97,7 +97,7 @@ fn read_default(alloc: Global, text: &[u8]) -> Result<(Option<Text>, &[u8]), Ref
     }
 }
 
-fn direction_of(text: &[u8]) -> Option<Direction>
+pub(crate) fn direction_of(text: &[u8]) -> Option<Direction>
     ensures { result ≡ commands.direction_of text.now }
 {
     if text == b"1".as_slice() {

@@ -1,4 +1,5 @@
 pub mod Cut
 pub mod Exact
+pub mod Flags
 pub mod Runs
 pub mod Stands

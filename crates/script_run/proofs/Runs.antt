@@ -1,5 +1,5 @@
 -- Lines that were answered, one after the other.
-use Rattle.std.proofs.Common.{◌≡◌, ℕ, suc, ◌+◌, ◌-◌, ◌≤◌, take, Bool, true, false, cond, ◌||◌, List, [], ◌∷◌, ◌++◌, map, length, drop, Option, Result, Ok, Err, inr, refl, sym, ap, subst, ◌∙◌, append_assoc, arith, length-drop, drop-drop}
+use Rattle.std.proofs.Common.{◌≡◌, ℕ, suc, ◌+◌, ◌-◌, ◌<◌, ◌≤◌, take, Bool, true, false, cond, ◌||◌, List, [], ◌∷◌, ◌++◌, map, length, drop, Option, Result, Ok, Err, inr, refl, sym, ap, subst, ◌∙◌, append_assoc, arith, length-drop, drop-drop}
 use Rattle.std.proofs.lemmas.List.{append-nil, map-append}
 use Rattle.std.proofs.lemmas.Grind.{flat_map-append}
 use Rattle.std.proofs.lemmas.List.Folds.{list_any-append}
@@ -35,7 +35,7 @@ one-text line reply job old out j t = t ∙ ap (λ (k : Option ℕ). old.out.ite
 
 -- one line was answered, and its reply gathered
 pub Ran-one : (line : List ℕ) (reply : Reply) (job : Option ℕ) (old new : Script) (before now : Option (List ℕ)) (out : List ℕ) → job ≡ job_of line → IsAnswer old.core (asked_by line) reply → new.core ≡ told_by (asked_by line) reply old.core
-    → out ≡ old.out.items ++ reply_text job reply → Passes before now out new.out.items → new.refused ≡ (old.refused || is_refused reply) → new.jobs.items ≡ open_after job (ends_session line reply) old.jobs.items
+    → out ≡ old.out.items ++ reply_text job reply → Passes before now out new.out.items → new.refused ≡ (old.refused || is_refused reply) → new.jobs ≡ open_after job (ends_session line reply) old.jobs
     → (IsLegal old.core.units initial → IsLegal new.core.units initial) → Ran (line ∷ []) old new before now
 Ran-one line reply job old new before now out j a u t p r o l = record {
   answers = (line, reply) ∷ [];
@@ -44,7 +44,7 @@ Ran-one line reply job old new before now out j a u t p r o l = record {
   machine = u;
   passes = subst (λ (ts : List ℕ). Passes before now ts new.out.items) (one-text line reply job old out j t) p;
   refused = r ∙ ap (λ (b : Bool). old.refused || b) (sym (or-false _));
-  jobs = o ∙ ap (λ (k : Option ℕ). open_after k (ends_session line reply) old.jobs.items) j;
+  jobs = o ∙ ap (λ (k : Option ℕ). open_after k (ends_session line reply) old.jobs) j;
   legal = l;
 }
 
@@ -64,7 +64,7 @@ pub nothing_begun : (a : Option (List ℕ)) (x : List ℕ) → WritesBeginning a
 nothing_begun a x = WritesBeginning-longer a a [] x (WritesBeginning-all a a [] (Appends-nothing a))
 
 -- an empty line has no answer
-pub Ran-none : (old new : Script) (a : Option (List ℕ)) → new.core ≡ old.core → new.out.items ≡ old.out.items → new.refused ≡ old.refused → new.jobs.items ≡ old.jobs.items → Ran [] old new a a
+pub Ran-none : (old new : Script) (a : Option (List ℕ)) → new.core ≡ old.core → new.out.items ≡ old.out.items → new.refused ≡ old.refused → new.jobs ≡ old.jobs → Ran [] old new a a
 Ran-none old new a u o r j = record {
   answers = [];
   of_lines = refl;
@@ -75,6 +75,10 @@ Ran-none old new a u o r j = record {
   jobs = j;
   legal = λ h. subst (λ (s : Machine). IsLegal s.units initial) (sym u) h;
 }
+
+pub Ran-empty : (line : List ℕ) (old new : Script) (a : Option (List ℕ)) → length line < 1 → new.core ≡ old.core → new.out.items ≡ old.out.items → new.refused ≡ old.refused → new.jobs ≡ old.jobs → Ran (kept line) old new a a
+Ran-empty [] old new a lt u o r j = Ran-none old new a u o r j
+Ran-empty (b ∷ bs) old new a lt u o r j = absurd (omega (arith, lt))
 
 -- answers at their places, and then answers after them
 pub AreAnswers-append : (s t : Machine) (xs ys : List Answer) → AreAnswers s xs → t ≡ left_by xs s → AreAnswers t ys → AreAnswers s (xs ++ ys)
@@ -114,7 +118,7 @@ Ran-then ls ms a b c p q r h k = record {
       (Passes-then p q r ((a.out.items ++ text_of h.answers) ++ text_of k.answers) (b.out.items ++ text_of k.answers) c.out.items (Passes-more p q (a.out.items ++ text_of h.answers) b.out.items (text_of k.answers) h.passes) k.passes);
   refused = k.refused ∙ ap (λ (x : Bool). x || some_refused k.answers) h.refused ∙ or_assoc a.refused (some_refused h.answers) (some_refused k.answers)
       ∙ ap (λ (x : Bool). a.refused || x) (sym (list_any-append _ h.answers k.answers));
-  jobs = k.jobs ∙ open-then a.jobs.items b.jobs.items h.answers k.answers h.jobs;
+  jobs = k.jobs ∙ open-then a.jobs b.jobs h.answers k.answers h.jobs;
   legal = λ l. k.legal (h.legal l);
 }
 
@@ -182,7 +186,7 @@ pub BrokeFront-after : (text rest : List ℕ) (a b : Script) (p q r : Option (Li
 BrokeFront-after text rest a b p q r h w = record { lines = h.lines; rest = rest; broke = Broke-after h.lines a b p q r h.ran w; split = h.split }
 
 -- all that was gathered was written then
-pub RanFront-written : (text rest : List ℕ) (a b c : Script) (p q r : Option (List ℕ)) → RanFront text rest a b p q → Appends q r b.out.items → c.core ≡ b.core → c.refused ≡ b.refused → c.jobs.items ≡ b.jobs.items → c.out.items ≡ [] → RanFront text rest a c p r
+pub RanFront-written : (text rest : List ℕ) (a b c : Script) (p q r : Option (List ℕ)) → RanFront text rest a b p q → Appends q r b.out.items → c.core ≡ b.core → c.refused ≡ b.refused → c.jobs ≡ b.jobs → c.out.items ≡ [] → RanFront text rest a c p r
 RanFront-written text rest a b c p q r h w u d j o = record {
   lines = h.lines;
   ran = record {
@@ -203,7 +207,7 @@ pub RanFront-is : (text rest same : List ℕ) (a b : Script) (p q : Option (List
 RanFront-is text rest same a b p q e h = subst (λ (t : List ℕ). RanFront text t a b p q) (sym e) h
 
 -- nothing of the text is answered yet
-pub RanFront-none : (text : List ℕ) (a b : Script) (p : Option (List ℕ)) → b.core ≡ a.core → b.out.items ≡ a.out.items → b.refused ≡ a.refused → b.jobs.items ≡ a.jobs.items → RanFront text text a b p p
+pub RanFront-none : (text : List ℕ) (a b : Script) (p : Option (List ℕ)) → b.core ≡ a.core → b.out.items ≡ a.out.items → b.refused ≡ a.refused → b.jobs ≡ a.jobs → RanFront text text a b p p
 RanFront-none text a b p u o r j = record { lines = []; ran = Ran-none a b p u o r j; split = λ more. refl }
 
 pub RanFront-more : (text rest after : List ℕ) (ls : List (List ℕ)) (a b c : Script) (p q r : Option (List ℕ)) → RanFront text rest a b p q → Ran ls b c q r
@@ -303,14 +307,14 @@ halts-legal [] s l = l
 halts-legal (job ∷ jobs) s l = halts-legal jobs (step_of job Halt s) (halt-legal job s _ l)
 
 -- the open jobs were halted after the last line
-halted : (ls : List (List ℕ)) (a b : Script) (core : Machine) (p q : Option (List ℕ)) (h : Ran ls a b p q) → core ≡ run_of (halts_of b.jobs.items) b.core → core ≡ left_at_end h.answers a.jobs.items a.core
+halted : (ls : List (List ℕ)) (a b : Script) (core : Machine) (p q : Option (List ℕ)) (h : Ran ls a b p q) → core ≡ run_of (halts_of b.jobs) b.core → core ≡ left_at_end h.answers a.jobs a.core
 halted ls a b core p q h e = e ∙ (λ i. run_of (halts_of (h.jobs i)) (h.machine i))
 
-halted-legal : (ls : List (List ℕ)) (a b : Script) (p q : Option (List ℕ)) (h : Ran ls a b p q) → IsLegal a.core.units initial → IsLegal (left_at_end h.answers a.jobs.items a.core).units initial
-halted-legal ls a b p q h l = halts-legal (left_open h.answers a.jobs.items) (left_by h.answers a.core) (subst (λ (s : Machine). IsLegal s.units initial) h.machine (h.legal l))
+halted-legal : (ls : List (List ℕ)) (a b : Script) (p q : Option (List ℕ)) (h : Ran ls a b p q) → IsLegal a.core.units initial → IsLegal (left_at_end h.answers a.jobs a.core).units initial
+halted-legal ls a b p q h l = halts-legal (left_open h.answers a.jobs) (left_by h.answers a.core) (subst (λ (s : Machine). IsLegal s.units initial) h.machine (h.legal l))
 
 -- and then the ending was written
-pub ended : (listed : Bool) (begun : List ℕ) (a b c : Script) (core : Machine) (p q r : Option (List ℕ)) → Ran (kept begun) a b p q → core ≡ run_of (halts_of b.jobs.items) b.core → Appends q r (b.out.items ++ ending listed (after_units core.units initial).map)
+pub ended : (listed : Bool) (begun : List ℕ) (a b c : Script) (core : Machine) (p q r : Option (List ℕ)) → Ran (kept begun) a b p q → core ≡ run_of (halts_of b.jobs) b.core → Appends q r (b.out.items ++ ending listed (after_units core.units initial).map)
     → c.refused ≡ b.refused → RanEnd listed begun a c p r
 ended listed begun a b c core p q r h e w d = record {
   answers = h.answers;
@@ -323,7 +327,7 @@ ended listed begun a b c core p q r h e w d = record {
 }
 
 -- or a beginning of it
-pub broke_ending : (listed : Bool) (begun : List ℕ) (a b : Script) (core : Machine) (p q r : Option (List ℕ)) → Ran (kept begun) a b p q → core ≡ run_of (halts_of b.jobs.items) b.core
+pub broke_ending : (listed : Bool) (begun : List ℕ) (a b : Script) (core : Machine) (p q r : Option (List ℕ)) → Ran (kept begun) a b p q → core ≡ run_of (halts_of b.jobs) b.core
     → WritesBeginning q r (b.out.items ++ ending listed (after_units core.units initial).map) → BrokeEnd listed begun a p r
 broke_ending listed begun a b core p q r h e w = record {
   answers = h.answers;
@@ -340,7 +344,7 @@ broke_last listed begun a p r h = record {
   answers = h.answers;
   of_lines = h.of_lines;
   each = h.each;
-  legal = λ l. halts-legal (left_open h.answers a.jobs.items) (left_by h.answers a.core) (h.legal l);
+  legal = λ l. halts-legal (left_open h.answers a.jobs) (left_by h.answers a.core) (h.legal l);
   begun = WritesBeginning-longer p r (a.out.items ++ text_of h.answers) _ h.begun;
 }
 

@@ -32,7 +32,7 @@ pub record Stands (all left : Option (List ℕ)) (begun : List ℕ) (old new : O
   pub answers : List Answer
   pub each : AreAnswers nothing_done answers
   pub machine : script.core ≡ left_by answers nothing_done
-  pub jobs : script.jobs.items ≡ left_open answers []
+  pub jobs : script.jobs ≡ left_open answers []
   pub legal : IsLegal script.core.units initial
   pub out : script.out.items ≡ []
   pub refused : script.refused ≡ some_refused answers
@@ -44,7 +44,7 @@ Follows-start : (all : Option (List ℕ)) → Follows all all [] []
 Follows-start None = tt
 Follows-start (Some xs) = refl
 
-pub stands_first : (all old : Option (List ℕ)) (begun : List ℕ) (script : Script) → script.core ≡ nothing_done → script.jobs.items ≡ [] → script.out.items ≡ [] → script.refused ≡ false → begun ≡ [] → Stands all all begun old old script
+pub stands_first : (all old : Option (List ℕ)) (begun : List ℕ) (script : Script) → script.core ≡ nothing_done → script.jobs ≡ [] → script.out.items ≡ [] → script.refused ≡ false → begun ≡ [] → Stands all all begun old old script
 stands_first all old begun script u j o r b = record {
   answers = [];
   each = tt;
@@ -93,7 +93,7 @@ stands_next all left left' old new new' begun piece rest a b h r f w o = record 
   answers = h.answers ++ f.ran.answers;
   each = AreAnswers-append nothing_done a.core h.answers f.ran.answers h.each h.machine f.ran.each;
   machine = f.ran.machine ∙ left-then nothing_done a.core h.answers f.ran.answers h.machine;
-  jobs = f.ran.jobs ∙ open-then [] a.jobs.items h.answers f.ran.answers h.jobs;
+  jobs = f.ran.jobs ∙ open-then [] a.jobs h.answers f.ran.answers h.jobs;
   legal = f.ran.legal h.legal;
   out = o;
   refused = f.ran.refused ∙ ap (λ (x : Bool). x || some_refused f.ran.answers) h.refused ∙ sym (list_any-append _ h.answers f.ran.answers);
@@ -164,14 +164,14 @@ at_end bytes (Some more) (Some more') ls begun piece h k p e =
 
 -- the whole output, of the answers before the end of input and of that to the last line
 whole_output : (listed : Bool) (bytes : List ℕ) (left left' old new : Option (List ℕ)) (begun piece : List ℕ) (a : Script) (last : List Answer) (h : Stands (Some bytes) left begun old new a) → HasRead left left' piece → length piece ≡ 0
-    → lines_in last ≡ kept begun → AreAnswers a.core last → (IsLegal a.core.units initial → IsLegal (left_at_end last a.jobs.items a.core).units initial)
-    → IsOutput listed bytes (text_of h.answers ++ ((a.out.items ++ text_of last) ++ ending listed (after (left_at_end last a.jobs.items a.core).units initial).map)) (a.refused || some_refused last)
+    → lines_in last ≡ kept begun → AreAnswers a.core last → (IsLegal a.core.units initial → IsLegal (left_at_end last a.jobs a.core).units initial)
+    → IsOutput listed bytes (text_of h.answers ++ ((a.out.items ++ text_of last) ++ ending listed (after (left_at_end last a.jobs a.core).units initial).map)) (a.refused || some_refused last)
 whole_output listed bytes left left' old new begun piece a last h r none of_lines each legal =
     let whole : List Answer = h.answers ++ last in
     let left-is : left_by last a.core ≡ left_by whole nothing_done = left-then nothing_done a.core h.answers last h.machine in
-    let open-is : left_open last a.jobs.items ≡ left_open whole [] = open-then [] a.jobs.items h.answers last h.jobs in
-    let end-is : left_at_end last a.jobs.items a.core ≡ left_at_end whole [] nothing_done = λ i. run_of (halts_of (open-is i)) (left-is i) in
-    let tail : List ℕ = ending listed (after (left_at_end last a.jobs.items a.core).units initial).map in
+    let open-is : left_open last a.jobs ≡ left_open whole [] = open-then [] a.jobs h.answers last h.jobs in
+    let end-is : left_at_end last a.jobs a.core ≡ left_at_end whole [] nothing_done = λ i. run_of (halts_of (open-is i)) (left-is i) in
+    let tail : List ℕ = ending listed (after (left_at_end last a.jobs a.core).units initial).map in
     record {
       answers = whole;
       of_lines = lines-append h.answers last ∙ ap (λ (l : List (List ℕ)). lines_in h.answers ++ l) (of_lines ∙ sym (last_line begun h.whole)) ∙ sym (at_end bytes left left' (lines_in h.answers) begun piece h.split r.consumed (nil_from_length piece none) (r.ended none));
@@ -186,7 +186,7 @@ pub wrote_all : (listed : Bool) (all left left' old new last : Option (List ℕ)
     → IfSome all (λ bytes. Wrote listed bytes b.refused old last)
 wrote_all listed None left left' old new last begun piece a b h r none e = tt
 wrote_all listed (Some bytes) left left' old new last begun piece a b h r none e =
-    let end : List ℕ = (a.out.items ++ text_of e.answers) ++ ending listed (after (left_at_end e.answers a.jobs.items a.core).units initial).map in
+    let end : List ℕ = (a.out.items ++ text_of e.answers) ++ ending listed (after (left_at_end e.answers a.jobs a.core).units initial).map in
     let output : IsOutput listed bytes (text_of h.answers ++ end) b.refused = subst (IsOutput listed bytes (text_of h.answers ++ end)) (sym e.refused) (whole_output listed bytes left left' old new begun piece a e.answers h r none e.of_lines e.each e.legal) in
     record {
       text = text_of h.answers ++ end;
@@ -200,7 +200,7 @@ pub begun_end : (listed : Bool) (all left left' old new last : Option (List ℕ)
     → IfSome all (λ bytes. IsBegun listed bytes old last)
 begun_end listed None left left' old new last begun piece a h r none e = tt
 begun_end listed (Some bytes) left left' old new last begun piece a h r none e =
-    let end : List ℕ = (a.out.items ++ text_of e.answers) ++ ending listed (after (left_at_end e.answers a.jobs.items a.core).units initial).map in
+    let end : List ℕ = (a.out.items ++ text_of e.answers) ++ ending listed (after (left_at_end e.answers a.jobs a.core).units initial).map in
     record {
       text = text_of h.answers ++ end;
       refused = a.refused || some_refused e.answers;

@@ -1,10 +1,14 @@
 -- Which jobs have a session that is open, in order of first appearance. Source: docs/RULES.md, "Jobs".
-use Rattle.std.specs.Prelude.{ℕ, Bool, not, List, [], ◌∷◌, ◌++◌, ◌==◌, Option, None, Some, if◌then◌else◌}
+use Rattle.std.specs.Prelude.{◌≡◌, ◌<◌, ◌≤◌, ◌+◌, ℕ, Bool, false, not, List, [], ◌∷◌, ◌++◌, ◌==◌, length, get_or, Option, None, Some, if◌then◌else◌}
 use Rattle.std.specs.List.{filter, list_any}
+
+-- the job is among those that are open
+abbrev pub is_open : ℕ → List ℕ → Bool
+is_open job jobs = list_any (λ j. j == job) jobs
 
 -- the job is open, from its first line on
 abbrev pub has_joined : ℕ → List ℕ → List ℕ
-has_joined job jobs = if list_any (λ j. j == job) jobs then jobs else jobs ++ job ∷ []
+has_joined job jobs = if is_open job jobs then jobs else jobs ++ job ∷ []
 
 -- the others
 abbrev pub without : ℕ → List ℕ → List ℕ
@@ -14,3 +18,15 @@ without job jobs = filter (λ j. not (j == job)) jobs
 abbrev pub open_after : Option ℕ → Bool → List ℕ → List ℕ
 open_after None ended jobs = jobs
 open_after (Some job) ended jobs = if ended then without job jobs else has_joined job jobs
+
+-- how many flags are set
+abbrev pub tally : List Bool → ℕ
+tally [] = 0
+tally (flag ∷ flags) = if flag then 1 + tally flags else tally flags
+
+-- the flag at each number that a job may have tells whether it is open, and there is room for all jobs
+pub record AreFlagged (jobs : List ℕ) (flags : List Bool) (room : ℕ) : Type 0 where
+  pub numbers : length flags ≡ 4097
+  pub each : (n : ℕ) → n < 4097 → get_or flags n false ≡ is_open n jobs
+  pub counted : length jobs ≤ tally flags
+  pub roomy : 4097 ≤ room

@@ -15,7 +15,7 @@ pub record Ran (lines : List (List ℕ)) (old new : Script) (before now : Option
   pub machine : new.core ≡ left_by answers old.core
   pub passes : Passes before now (old.out.items ++ text_of answers) new.out.items
   pub refused : new.refused ≡ (old.refused || some_refused answers)
-  pub jobs : new.jobs.items ≡ left_open answers old.jobs.items
+  pub jobs : new.jobs ≡ left_open answers old.jobs
   pub legal : IsLegal old.core.units initial → IsLegal new.core.units initial
 
 -- the run broke off: the lines have answers of whose text a beginning was written
@@ -44,17 +44,17 @@ pub record RanEnd (listed : Bool) (line : List ℕ) (old new : Script) (before n
   pub answers : List Answer
   pub of_lines : map (λ a. a.0) answers ≡ kept line
   pub each : AreAnswers old.core answers
-  pub legal : IsLegal old.core.units initial → IsLegal (left_at_end answers old.jobs.items old.core).units initial
+  pub legal : IsLegal old.core.units initial → IsLegal (left_at_end answers old.jobs old.core).units initial
   pub refused : new.refused ≡ (old.refused || some_refused answers)
-  pub written : Appends before now ((old.out.items ++ text_of answers) ++ ending listed (after (left_at_end answers old.jobs.items old.core).units initial).map)
+  pub written : Appends before now ((old.out.items ++ text_of answers) ++ ending listed (after (left_at_end answers old.jobs old.core).units initial).map)
 
 -- a beginning of that was written
 pub record BrokeEnd (listed : Bool) (line : List ℕ) (old : Script) (before now : Option (List ℕ)) : Type 0 where
   pub answers : List Answer
   pub of_lines : map (λ a. a.0) answers ≡ kept line
   pub each : AreAnswers old.core answers
-  pub legal : IsLegal old.core.units initial → IsLegal (left_at_end answers old.jobs.items old.core).units initial
-  pub begun : WritesBeginning before now ((old.out.items ++ text_of answers) ++ ending listed (after (left_at_end answers old.jobs.items old.core).units initial).map)
+  pub legal : IsLegal old.core.units initial → IsLegal (left_at_end answers old.jobs old.core).units initial
+  pub begun : WritesBeginning before now ((old.out.items ++ text_of answers) ++ ending listed (after (left_at_end answers old.jobs old.core).units initial).map)
 
 -- the piece was read, or there was none left
 pub record HasRead (old new : Option (List ℕ)) (piece : List ℕ) : Type 0 where

@@ -9,7 +9,7 @@ ghost use Rattle.script_run.specs.Runs.{Ran, Broke};
 
 use crate::RefusalLog;
 use crate::collecting::{Countdown, collect_when_due};
-use crate::open_jobs::note_line;
+use crate::open_jobs::OpenJobs;
 use collation::Job;
 use command::{Command, Reply};
 use job_core::JobCore;
@@ -24,7 +24,7 @@ use std::io::Write;
 #[derive(Drop)]
 pub(crate) struct Script {
     pub(crate) core: JobCore,
-    pub(crate) jobs: Vec<Job>,
+    pub(crate) jobs: OpenJobs,
     pub(crate) drafts: Drafts,
     pub(crate) out: Vec<u8>,
     pub(crate) refused: bool,
@@ -75,12 +75,12 @@ fn answer_line(
 }
 
 // Tells the log of a refusal, and answers whether it is one.
-fn log_reply(log: &mut impl RefusalLog, line: u64, reply: &Reply) -> bool
+fn log_reply(log: &mut impl RefusalLog, number: u64, line: &[u8], reply: &Reply) -> bool
     ensures { result ≡ refused_of reply.now }
 {
     match reply {
         Reply::Refused(refusal) => {
-            log.refused(line, *refusal);
+            log.refused(number, line, *refusal);
             true
         }
         _ => false,
@@ -93,7 +93,7 @@ fn either(a: bool, b: bool) -> bool
     a || b
 }
 
-// Room for one open job more is made first. The reply is gathered, and what is gathered written once it is enough. Then
+// The reply is gathered, and what is gathered written once it is enough. Then
 // comes the collector's pass, where one is due.
 fn run_line<W: Write>(
     alloc: Global,
@@ -108,10 +108,9 @@ fn run_line<W: Write>(
     ensures counted { IsErrOf result ListingFault.Write → Counts writer.old.failures writer.new.failures }
     ensures memory { IsErrOf result ListingFault.Memory → writer.new.failures ≡ writer.old.failures }
 {
-    script.jobs.reserve(1)?;
     let (job, ended, reply) = answer_line(alloc, &mut script.core, &mut script.drafts, line);
-    note_line(&mut script.jobs, &job, ended);
-    let refused = log_reply(log, script.lines, &reply);
+    script.jobs.note_line(&job, ended);
+    let refused = log_reply(log, script.lines, line, &reply);
     script.refused = either(script.refused, refused);
     write_reply(job, &reply, &mut script.out)?;
     writer.write_full(&mut script.out)?;

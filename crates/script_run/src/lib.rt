@@ -12,7 +12,7 @@
 //! so that a person or a program at the other end of a pipe gets its replies at once; where a read fails, just the
 //! lines that had ended are answered. Replies are gathered in one buffer, which is taken before the first line and
 //! written whenever it holds 16,384 bytes, and the listing is gathered in it too. A line is copied only where it goes
-//! on from one piece to the next.
+//! on from one piece to the next. The room that a long one took is given back when it is done.
 //!
 //! After each so many replies as the caller says the collector passes over the store (`collecting.rt`). That leaves the
 //! machine, so no clause names it.

@@ -13,6 +13,9 @@ use listing::{Counted, ListingFault};
 use std::alloc::{AllocError, Global};
 use std::io::Write;
 
+// A line that took more room than this gives it back.
+const LONG_LINE_BYTES: usize = 1048576;
+
 fn strip_return(line: &[u8]) -> &[u8]
     ensures { result.now ≡ strip_last 13 line.now }
 {
@@ -65,6 +68,17 @@ fn extend_line(begun: &mut Vec<u8>, text: &[u8]) -> Result<(), AllocError>
     begun.extend_from_slice(text)
 }
 
+// The line that had begun is done. What a long one took is given back.
+fn end_begun(alloc: Global, begun: &mut Vec<u8>)
+    ensures { begun.new.items ≡ [] }
+{
+    if begun.capacity() > LONG_LINE_BYTES {
+        *begun = Vec::new(alloc);
+    } else {
+        begun.clear();
+    }
+}
+
 // The line that had begun ends here: its rest is `front`.
 fn end_line<W: Write>(
     alloc: Global,
@@ -86,7 +100,7 @@ fn end_line<W: Write>(
     }
     extend_line(begun, front)?;
     run_kept(alloc, script, strip_return(begun), writer, log)?;
-    begun.clear();
+    end_begun(alloc, begun);
     Ok(())
 }
 

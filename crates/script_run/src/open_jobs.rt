@@ -1,46 +1,96 @@
 //! The jobs whose sessions are open, in order of first appearance.
-ghost use Rattle.std.specs.Prelude.{◌≡◌, ◌<◌, vec_len, vec_capacity, OnOk, OnErr};
+ghost use Rattle.std.specs.Prelude.{◌≡◌, ◌==◌, [], IfOk, OnOk};
+ghost use Rattle.std.specs.List.{list_any};
 ghost use Rattle.command.specs.declared.request.Command.TheVariants.{Halt};
-ghost use Rattle.serial.specs.Machine.{IsReply, step_of, run_of};
-ghost use Rattle.script_run.specs.OpenJobs.{has_joined, without, open_after};
+ghost use Rattle.serial.specs.Machine.{step_of, run_of};
+ghost use Rattle.script_run.specs.OpenJobs.{has_joined, without, open_after, is_open as is_open_spec};
 ghost use Rattle.script_run.specs.Output.{halts_of};
 
 use collation::Job;
 use command::{Command, Reply};
 use job_core::JobCore;
 use refusal::Refusal;
-use std::alloc::AllocError;
+use std::alloc::{AllocError, Global};
+use std::marker::Model;
 
-fn join(jobs: &mut Vec<Job>, job: Job)
-    requires { vec_len jobs.old < vec_capacity jobs.old }
-    ensures { jobs.new.items ≡ has_joined job jobs.old.items }
-{
-    if !jobs.contains(&job) {
-        jobs.push_reserved(job);
+// One more than the greatest number of a job.
+const JOB_FLAGS: usize = 4097;
+
+// The open jobs. Contracts see their numbers. Beside them stands a flag for each number that a job may have, so that a
+// line is noted without a look at the other jobs; a HALT that is done looks at all. There is room for all jobs.
+#[derive(Drop)]
+pub(crate) struct OpenJobs {
+    order: Vec<Job>,
+    flags: Vec<bool>,
+}
+
+impl Model for OpenJobs {
+    ghost use Rattle.std.specs.Prelude.{List, ℕ, vec_capacity};
+    ghost use Rattle.script_run.specs.OpenJobs.{AreFlagged};
+
+    ghost Value = { List ℕ };
+
+    ghost view = { λ j. j.order.items };
+
+    ghost invariant = { λ j. AreFlagged j.order.items j.flags.items (vec_capacity j.order) };
+}
+
+impl OpenJobs {
+    // None, with room for all.
+    pub(crate) fn new(alloc: Global) -> Result<OpenJobs, AllocError>
+        ensures { IfOk result (λ jobs. jobs ≡ []) }
+    {
+        let order = Vec::with_capacity(alloc, JOB_FLAGS)?;
+        let flags = Vec::from_elem(alloc, false, JOB_FLAGS)?;
+        Ok(OpenJobs { order, flags })
     }
-}
 
-fn leave(jobs: &mut Vec<Job>, job: Job)
-    ensures { jobs.new.items ≡ without job jobs.old.items }
-{
-    jobs.retain(|other| *other != job);
-}
+    // The jobs in order of first appearance.
+    pub(crate) fn as_slice(&self) -> &[Job]
+        ensures { result.now ≡ self.now }
+    {
+        self.order.as_slice()
+    }
 
-// After a line of the job: its session is open, unless it has ended with the line. A line whose job can't be read opens
-// none.
-pub(crate) fn note_line(jobs: &mut Vec<Job>, job: &Option<Job>, ended: bool)
-    requires { vec_len jobs.old < vec_capacity jobs.old }
-    ensures { jobs.new.items ≡ open_after job.now ended jobs.old.items }
-{
-    match job {
-        Some(job) => {
-            if ended {
-                leave(jobs, *job);
-            } else {
-                join(jobs, *job);
-            }
+    fn is_open(&self, job: Job) -> bool
+        ensures { result ≡ is_open_spec job self.now }
+    {
+        self.flags[job.number() as usize]
+    }
+
+    fn join(&mut self, job: Job)
+        ensures { self.new ≡ has_joined job self.old }
+    {
+        if !self.is_open(job) {
+            self.flags[job.number() as usize] = true;
+            self.order.push_reserved(job);
         }
-        None => {}
+    }
+
+    fn leave(&mut self, job: Job)
+        ensures { self.new ≡ without job self.old }
+    {
+        if self.is_open(job) {
+            self.flags[job.number() as usize] = false;
+            self.order.retain(|other| *other != job);
+        }
+    }
+
+    // After a line of the job: its session is open, unless it has ended with the line. A line whose job can't be read
+    // opens none.
+    pub(crate) fn note_line(&mut self, job: &Option<Job>, ended: bool)
+        ensures { self.new ≡ open_after job.now ended self.old }
+    {
+        match job {
+            Some(job) => {
+                if ended {
+                    self.leave(*job);
+                } else {
+                    self.join(*job);
+                }
+            }
+            None => {}
+        }
     }
 }
 

@@ -11,7 +11,7 @@ ghost use Rattle.script_run.specs.Runs.{RanFront, BrokeFront, RanEnd, BrokeEnd, 
 use crate::answers::{Script, run_kept};
 use crate::collecting::Countdown;
 use crate::lines::run_piece;
-use crate::open_jobs::halt_open;
+use crate::open_jobs::{OpenJobs, halt_open};
 use crate::{Fault, NoLog, RefusalLog};
 use job_core::JobCore;
 use listing::{Counted, ListingFault, ReadFault, write_listing_after};
@@ -51,14 +51,15 @@ fn read_piece<'a, R: Read>(
 // A script that holds its buffer, before its first line.
 fn new_script(alloc: Global, collect_every: u64) -> Result<Script, AllocError>
     ensures core { IfOk result (λ script. script.core ≡ nothing_done) }
-    ensures jobs { IfOk result (λ script. script.jobs.items ≡ []) }
+    ensures jobs { IfOk result (λ script. script.jobs ≡ []) }
     ensures out { IfOk result (λ script. script.out.items ≡ []) }
     ensures refused { IfOk result (λ script. script.refused ≡ false) }
 {
+    let jobs = OpenJobs::new(alloc)?;
     let out = Vec::with_capacity(alloc, OUT_BYTES)?;
     Ok(Script {
         core: JobCore::new(alloc),
-        jobs: Vec::new(alloc),
+        jobs,
         drafts: Drafts::new(alloc),
         out,
         refused: false,
@@ -130,7 +131,7 @@ fn finish<W: Write>(
     ensures memory { IsErrOf result ListingFault.Memory → writer.new.failures ≡ writer.old.failures }
 {
     run_kept(alloc, script, begun, writer, log)?;
-    halt_open(&mut script.core, &script.jobs)?;
+    halt_open(&mut script.core, script.jobs.as_slice())?;
     write_ending(alloc, listed, script, writer)?;
     Ok(())
 }
@@ -145,7 +146,7 @@ fn run_pieces<R: Read, W: Write>(
     log: &mut impl RefusalLog,
 ) -> Result<(), Fault>
     requires core { script.old.core ≡ nothing_done }
-    requires jobs { script.old.jobs.items ≡ [] }
+    requires jobs { script.old.jobs ≡ [] }
     requires out { script.old.out.items ≡ [] }
     requires refused { script.old.refused ≡ false }
     ensures output { OnOk result (IfSome (R.remaining reader.old.inner)
@@ -220,10 +221,11 @@ pub fn run_with<R: Read, W: Write>(
 ///
 /// On `Ok` the text is whole and all input was read; where no reply in it is `OutOfMemory`, it is a function of the
 /// bytes read (`output_of`). After a fault the text is a beginning of a whole one, without a
-/// listing unless the fault came while that was written; after `Read` it is the replies of the lines that had ended.
+/// listing unless the fault came while that was written; after `Read` it is the replies of the lines that had ended;
+/// after `Memory` those may be missing that were gathered since the last write.
 /// `Read` and `Write` are answered only where a call of the reader or the writer failed, `Memory` where none did, but
-/// memory was refused and no reply could say so: for the buffer, before the first line, for a line longer than a
-/// piece, for the list of open jobs, for a reply or a listing's line, or for an open job's HALT at the end of input.
+/// memory was refused and no reply could say so: for the buffer and the list of open jobs, before the first line, for a
+/// line longer than a piece, for a reply or a listing's line, or for an open job's HALT at the end of input.
 pub fn run_script<R: Read, W: Write>(
     alloc: Global,
     collect_every: u64,
