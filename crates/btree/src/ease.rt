@@ -1,13 +1,15 @@
 //! A full kid eased: a kid beside it, where that has places, takes a run of its pairs.
-ghost use Rattle.std.specs.Prelude.{◌≡◌, ◌<◌, length};
+ghost use Rattle.std.specs.Prelude.{◌≡◌, ◌<◌, length, nat_lt};
 ghost use Rattle.btree.specs.Rows.{weave, height_of, IsNode, HasRoom};
 
 use crate::mend::rejoin_kids;
 use crate::node::Node;
 
 // Whether a node has places enough to take pairs from a full one. With fewer the same pairs would be moved too often.
-fn has_places<K, V>(node: &Node<K, V>) -> bool {
-    node.count() <= 28
+fn has_places<K, V>(node: &Node<K, V>) -> bool
+    ensures { result ≡ nat_lt node.now.count 29 }
+{
+    node.count() < 29
 }
 
 /// Eases a node of which one kid may be full: the kid before it or the one after it gets half of what it has more.
