@@ -13,7 +13,7 @@
 //! `^A(10,0)` has the key 41 00 04 82 02 00 03: the name and its end; a number above zero whose point stands
 //! behind two digits, its digit 1, its end; zero.
 //!
-//! Read `specs/Key.antt`, `specs/Back.antt` and `specs/Bounds.antt`, then `write.rt`, `read.rt`, `key.rt`,
+//! Read `specs/Key.antt`, `specs/Back.antt` and `specs/Bounds.antt`, then `write.rt`, `read.rt`, `key.rt`, `order.rt`,
 //! `bounds.rt`, `range.rt`. The laws of order, beginnings and bounds hold over any limit of subscripts and any width
 //! of a point's place (`KeyForm`, `specs/Form.antt`); the form in use, which alone is read back, has subscripts of at
 //! most 127 bytes and a place of one byte. Lemmas for the crates above: `specs/KeyLaws.antt`, `specs/BackLaws.antt`,
