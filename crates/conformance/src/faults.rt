@@ -1,5 +1,4 @@
 //! A reader or a writer that fails at each call in turn, input in pieces, and what is written when.
-use crate::scripts::output_of;
 use crate::streams::{Heard, Pieces, Taken, Watching};
 use listing::Counted;
 use refusal::Refusal;
@@ -7,9 +6,7 @@ use script_run::{Fault, NoLog, Outcome, RefusalLog, run_script, run_with};
 use std::alloc::Global;
 use std::cell::Cell;
 use std::test::Fail;
-
-const SCRIPT: &[u8] =
-    b"1 SET ^A(1)=1\n2 SET ^A(2)=\"two\"\n1 $ORDER(^A(\"\"),-1)\n1 FOO\n\n2 KILL ^A(1)\n1 $DATA(^A)";
+use worked_rows::{ANSWERED, COMMITS, INSIDE, LEVELS, OUTSIDE, REFUSED, Row};
 
 // How a script went, what was written, and how many reads and writes there were.
 #[derive(Drop)]
@@ -56,8 +53,8 @@ fn writer_of(alloc: Global, size: usize, failing: Failing) -> Counted<Taken> {
     })
 }
 
-fn run_pieces(alloc: Global, size: usize, failing: Failing) -> Result<Went, Fail> {
-    let mut reader = reader_of(SCRIPT, size, failing);
+fn run_pieces(alloc: Global, script: &str, size: usize, failing: Failing) -> Result<Went, Fail> {
+    let mut reader = reader_of(script.as_bytes(), size, failing);
     let mut writer = writer_of(alloc, size, failing);
     let outcome = run_script(alloc, 0, &mut reader, &mut writer);
     let text = Vec::from_slice(alloc, &writer.inner().text)?;
@@ -71,108 +68,130 @@ fn run_pieces(alloc: Global, size: usize, failing: Failing) -> Result<Went, Fail
     })
 }
 
-fn is_whole(alloc: Global, size: usize, whole: &[u8]) -> Result<bool, Fail> {
-    let went = run_pieces(alloc, size, NONE)?;
-    Ok(went.outcome == Ok(Outcome { refused: true }) && went.text.as_slice() == whole)
+fn is_whole(alloc: Global, row: &Row, size: usize) -> Result<bool, Fail> {
+    let (script, output) = *row;
+    let went = run_pieces(alloc, script, size, NONE)?;
+    let refused = output.contains("error");
+    Ok(went.outcome == Ok(Outcome { refused }) && went.text.as_slice() == output.as_bytes())
 }
 
 // A read that fails is the last call of the reader, is counted once, and leaves just the replies of lines that ended.
-fn ends_at_read(alloc: Global, size: usize, call: u64, whole: &[u8]) -> Result<bool, Fail> {
+fn ends_at_read(alloc: Global, row: &Row, size: usize, call: u64) -> Result<bool, Fail> {
+    let (script, output) = *row;
     let failing = Failing { read: call, ..NONE };
-    let went = run_pieces(alloc, size, failing)?;
+    let went = run_pieces(alloc, script, size, failing)?;
     Ok(
         went.outcome == Err(Fault::Read)
             && went.reads == call
             && went.read_failures == 1
             && went.write_failures == 0
-            && whole.starts_with(&went.text)
-            && went.text.len() + 3 <= whole.len(),
+            && output.as_bytes().starts_with(&went.text)
+            && went.text.len() + 3 <= output.len(),
     )
 }
 
-fn ends_at_write(alloc: Global, size: usize, call: u64, whole: &[u8]) -> Result<bool, Fail> {
-    let failing = Failing {
-        write: call,
-        ..NONE
-    };
-    let went = run_pieces(alloc, size, failing)?;
+// A write that fails, or takes nothing, is the last call of the writer, and is counted once.
+fn ends_at_write(alloc: Global, row: &Row, size: usize, failing: Failing) -> Result<bool, Fail> {
+    let (script, output) = *row;
+    let went = run_pieces(alloc, script, size, failing)?;
     Ok(
         went.outcome == Err(Fault::Write)
-            && went.writes == call
+            && went.writes == failing.write.max(failing.nothing_at)
             && went.write_failures == 1
             && went.read_failures == 0
-            && whole.starts_with(&went.text),
-    )
-}
-
-fn ends_at_nothing(alloc: Global, size: usize, call: u64, whole: &[u8]) -> Result<bool, Fail> {
-    let failing = Failing {
-        nothing_at: call,
-        ..NONE
-    };
-    let went = run_pieces(alloc, size, failing)?;
-    Ok(
-        went.outcome == Err(Fault::Write)
-            && went.writes == call
-            && went.write_failures == 1
-            && whole.starts_with(&went.text),
+            && output.as_bytes().starts_with(&went.text),
     )
 }
 
 // How many reads and writes there are where none fails.
-fn calls_of(alloc: Global, size: usize) -> Result<(u64, u64), Fail> {
-    let went = run_pieces(alloc, size, NONE)?;
+fn calls_of(alloc: Global, row: &Row, size: usize) -> Result<(u64, u64), Fail> {
+    let (script, _) = *row;
+    let went = run_pieces(alloc, script, size, NONE)?;
     Ok((went.reads, went.writes))
 }
 
-#[test]
-fn pieces_of_any_size_give_the_same_text(rt: HostRuntime) -> Result<(), Fail> {
-    let (whole, _) = output_of(rt.alloc(), SCRIPT)?;
-    for size in [1, 7, 4096] {
-        let same = is_whole(rt.alloc(), size, &whole)?;
-        assert!(rt; same, "in pieces of {size}");
+// The first read whose failing ends the run otherwise; or none.
+fn first_other_read(
+    alloc: Global,
+    row: &Row,
+    size: usize,
+    reads: u64,
+) -> Result<Option<u64>, Fail> {
+    for call in 1..=reads {
+        if !ends_at_read(alloc, row, size, call)? {
+            return Ok(Some(call));
+        }
     }
+    Ok(None)
+}
+
+// The first write whose failing, or taking nothing, ends the run otherwise; or none.
+fn first_other_write(
+    alloc: Global,
+    row: &Row,
+    size: usize,
+    writes: u64,
+) -> Result<Option<u64>, Fail> {
+    for call in 1..=writes {
+        let fails = Failing {
+            write: call,
+            ..NONE
+        };
+        let takes_nothing = Failing {
+            nothing_at: call,
+            ..NONE
+        };
+        if !ends_at_write(alloc, row, size, fails)?
+            || !ends_at_write(alloc, row, size, takes_nothing)?
+        {
+            return Ok(Some(call));
+        }
+    }
+    Ok(None)
+}
+
+fn bears_pieces(alloc: Global, row: &Row, size: usize) -> Result<bool, Fail> {
+    let (reads, writes) = calls_of(alloc, row, size)?;
+    Ok(
+        reads > 0
+            && writes > 0
+            && is_whole(alloc, row, size)?
+            && first_other_read(alloc, row, size, reads)?.is_none()
+            && first_other_write(alloc, row, size, writes)?.is_none(),
+    )
+}
+
+// The number of the first script that writes something else than its output in pieces of 1, 7 or 4,096 bytes, or whose
+// run, when one of its reads or writes fails, doesn't end there with a beginning written; or none.
+fn first_failing(alloc: Global, rows: &[Row]) -> Result<Option<usize>, Fail> {
+    for (i, row) in rows.iter().enumerate() {
+        for size in [1, 7, 4096] {
+            if !bears_pieces(alloc, row, size)? {
+                return Ok(Some(i));
+            }
+        }
+    }
+    Ok(None)
+}
+
+#[test]
+fn scripts_end_at_each_failing_call(rt: HostRuntime) -> Result<(), Fail> {
+    assert_eq!(rt; first_failing(rt.alloc(), &ANSWERED)?, None);
+    assert_eq!(rt; first_failing(rt.alloc(), &REFUSED)?, None);
     Ok(())
 }
 
 #[test]
-fn each_failing_read_ends_the_run_there(rt: HostRuntime) -> Result<(), Fail> {
-    let (whole, _) = output_of(rt.alloc(), SCRIPT)?;
-    for size in [1, 7, 4096] {
-        let (reads, _) = calls_of(rt.alloc(), size)?;
-        assert!(rt; reads > 1, "in pieces of {size}");
-        for call in 1..=reads {
-            let ends = ends_at_read(rt.alloc(), size, call, &whole)?;
-            assert!(rt; ends, "at read {call} of {size}");
-        }
-    }
+fn transactions_end_at_each_failing_call(rt: HostRuntime) -> Result<(), Fail> {
+    assert_eq!(rt; first_failing(rt.alloc(), &COMMITS)?, None);
+    assert_eq!(rt; first_failing(rt.alloc(), &LEVELS)?, None);
     Ok(())
 }
 
 #[test]
-fn each_failing_write_leaves_a_beginning(rt: HostRuntime) -> Result<(), Fail> {
-    let (whole, _) = output_of(rt.alloc(), SCRIPT)?;
-    for size in [1, 7, 4096] {
-        let (_, writes) = calls_of(rt.alloc(), size)?;
-        assert!(rt; writes > 0, "in pieces of {size}");
-        for call in 1..=writes {
-            let ends = ends_at_write(rt.alloc(), size, call, &whole)?;
-            assert!(rt; ends, "at write {call} of {size}");
-        }
-    }
-    Ok(())
-}
-
-#[test]
-fn each_write_that_takes_nothing_is_a_fault(rt: HostRuntime) -> Result<(), Fail> {
-    let (whole, _) = output_of(rt.alloc(), SCRIPT)?;
-    for size in [1, 7, 4096] {
-        let (_, writes) = calls_of(rt.alloc(), size)?;
-        for call in 1..=writes {
-            let ends = ends_at_nothing(rt.alloc(), size, call, &whole)?;
-            assert!(rt; ends, "at write {call} of {size}");
-        }
-    }
+fn locks_end_at_each_failing_call(rt: HostRuntime) -> Result<(), Fail> {
+    assert_eq!(rt; first_failing(rt.alloc(), &OUTSIDE)?, None);
+    assert_eq!(rt; first_failing(rt.alloc(), &INSIDE)?, None);
     Ok(())
 }
 

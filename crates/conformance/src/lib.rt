@@ -17,6 +17,8 @@ mod lines;
 #[cfg(test)]
 mod locks;
 #[cfg(test)]
+mod malformed;
+#[cfg(test)]
 mod readings;
 #[cfg(test)]
 mod scripts;

@@ -3,8 +3,8 @@ use crate::scripts::output_of;
 use std::alloc::Global;
 use std::test::Fail;
 
-// Whether the line, alone on an empty database, gets this reply.
-fn is_answered(alloc: Global, line: &[u8], reply: &[u8]) -> Result<bool, Fail> {
+/// Whether the line, alone on an empty database, gets this reply.
+pub fn is_answered(alloc: Global, line: &[u8], reply: &[u8]) -> Result<bool, Fail> {
     let (text, _) = output_of(alloc, line)?;
     match text.strip_prefix(reply) {
         Some(listing) => Ok(listing.starts_with(b"\n--\n".as_slice())),
@@ -99,8 +99,8 @@ fn words_are_read_in_any_case_and_short(rt: HostRuntime) -> Result<(), Fail> {
     Ok(())
 }
 
-// A line with a stretch of one byte in its midst.
-fn stretched(
+/// A line with a stretch of one byte in its midst.
+pub fn stretched(
     alloc: Global,
     front: &[u8],
     byte: u8,

@@ -1,52 +1,116 @@
-//! The lists that are run. A text of over 16 bytes doesn't lie in its value.
+//! The lists that are run beside the worked rows. A text of over 16 bytes doesn't lie in its value, nor a key of over
+//! 38.
 
-/// A list with every data command. The last, a copy of ^B into ^B("x"), is refused by its own rule.
-pub const DATA_COMMANDS: [&str; 10] = [
-    "1 SET ^A(1,2,3,4)=\"a text that is too long to lie inline\"",
-    "1 SET ^A(1)=\"a text that is too long to lie inline\"",
-    "1 SET ^A(\"a text that is too long to lie inline\")=\"a text that is too long to lie inline\"",
-    "1 MERGE ^B(\"x\")=^A",
-    "1 $GET(^A(1))",
-    "1 $ORDER(^A(\"\"),-1)",
-    "1 $QUERY(^A(1))",
-    "1 KILL ^A(1)",
-    "1 $DATA(^B)",
-    "1 MERGE ^B(\"x\")=^B",
-];
+/// Each is a script.
+pub const LISTS: [&str; 4] = [DATA_COMMANDS, PLAIN, TRANSACTIONS, COMMIT];
 
-/// SET and $GET in turn, in which store and journal grow more than once.
-pub const PLAIN: [&str; 10] = [
-    "1 SET ^A(10)=\"a text that is too long to lie inline\"",
-    "1 $GET(^A(10))",
-    "1 SET ^A(9)=\"a text that is too long to lie inline\"",
-    "1 $GET(^A(9))",
-    "1 SET ^A(-1)=\"a text that is too long to lie inline\"",
-    "1 $GET(^A(-1))",
-    "1 SET ^A(\"a text that is too long to lie inline\")=\"a text that is too long to lie inline\"",
-    "1 $GET(^A(\"a text that is too long to lie inline\"))",
-    "1 SET ^A(\"007\")=\"a text that is too long to lie inline\"",
-    "1 $GET(^A(\"007\"))",
-];
+// A list with every data command. The last, a copy of ^B into ^B("x"), is refused by its own rule.
+const DATA_COMMANDS: &str = concat!(
+    "1 SET ^A(1,2,3,4)=\"a text that is too long to lie inline\"\n",
+    "1 SET ^A(1)=\"a text that is too long to lie inline\"\n",
+    "1 SET ^A(\"a text that is too long to lie inline\")=\"a text that is too long to lie inline\"\n",
+    "1 MERGE ^B(\"x\")=^A\n",
+    "1 $GET(^A(1))\n",
+    "1 $ORDER(^A(\"\"),-1)\n",
+    "1 $QUERY(^A(1))\n",
+    "1 KILL ^A(1)\n",
+    "1 $DATA(^B)\n",
+    "1 MERGE ^B(\"x\")=^B\n",
+);
 
-/// Two transactions with locks, of which one is overtaken and goes back. In the end job 1 halts.
-pub const TRANSACTIONS: [&str; 19] = [
-    "1 LOCK (^A(1,2),Desk)",
-    "1 TSTART",
-    "2 TSTART",
-    "1 SET ^A(1,2,3,4)=\"a text that is too long to lie inline\"",
-    "1 $GET(^A(1,2,3,4))",
-    "1 MERGE ^B(\"a text that is too long to lie inline\")=^A",
-    "1 $ORDER(^B(\"\"))",
-    "2 $QUERY(^B(1))",
-    "1 LOCK +(^A(1),^B(\"a text that is too long to lie inline\"))",
-    "1 KILL ^A(1)",
-    "2 LOCK +^A",
-    "1 TCOMMIT",
-    "2 SET ^C=1",
-    "2 TCOMMIT",
-    "2 SET ^C=2",
-    "2 LOCK",
-    "2 TROLLBACK",
-    "1 LOCK -(^A(1),Desk)",
-    "1 HALT",
-];
+// SET and $GET in turn, in which store and journal grow more than once.
+const PLAIN: &str = concat!(
+    "1 SET ^A(10)=\"a text that is too long to lie inline\"\n",
+    "1 $GET(^A(10))\n",
+    "1 SET ^A(9)=\"a text that is too long to lie inline\"\n",
+    "1 $GET(^A(9))\n",
+    "1 SET ^A(-1)=\"a text that is too long to lie inline\"\n",
+    "1 $GET(^A(-1))\n",
+    "1 SET ^A(\"a text that is too long to lie inline\")=\"a text that is too long to lie inline\"\n",
+    "1 $GET(^A(\"a text that is too long to lie inline\"))\n",
+    "1 SET ^A(\"007\")=\"a text that is too long to lie inline\"\n",
+    "1 $GET(^A(\"007\"))\n",
+);
+
+// Two transactions with locks, of which one is overtaken and goes back. In the end job 1 halts.
+const TRANSACTIONS: &str = concat!(
+    "1 LOCK (^A(1,2),Desk)\n",
+    "1 TSTART\n",
+    "2 TSTART\n",
+    "1 SET ^A(1,2,3,4)=\"a text that is too long to lie inline\"\n",
+    "1 $GET(^A(1,2,3,4))\n",
+    "1 MERGE ^B(\"a text that is too long to lie inline\")=^A\n",
+    "1 $ORDER(^B(\"\"))\n",
+    "2 $QUERY(^B(1))\n",
+    "1 LOCK +(^A(1),^B(\"a text that is too long to lie inline\"))\n",
+    "1 KILL ^A(1)\n",
+    "2 LOCK +^A\n",
+    "1 TCOMMIT\n",
+    "2 SET ^C=1\n",
+    "2 TCOMMIT\n",
+    "2 SET ^C=2\n",
+    "2 LOCK\n",
+    "2 TROLLBACK\n",
+    "1 LOCK -(^A(1),Desk)\n",
+    "1 HALT\n",
+);
+
+// One commit of 40 keys, 20 of them new: those of ^B. After it job 2 looks, and job 1 goes on in the transaction, where
+// it was refused, and commits.
+const COMMIT: &str = concat!(
+    "1 SET ^A(1)=\"old 1\"\n",
+    "1 SET ^A(2)=\"old 2\"\n",
+    "1 SET ^A(3)=\"old 3\"\n",
+    "1 SET ^A(4)=\"old 4\"\n",
+    "1 SET ^A(5)=\"old 5\"\n",
+    "1 SET ^A(6)=\"old 6\"\n",
+    "1 SET ^A(7)=\"old 7\"\n",
+    "1 SET ^A(8)=\"old 8\"\n",
+    "1 SET ^A(9)=\"old 9\"\n",
+    "1 SET ^A(10)=\"old 10\"\n",
+    "1 SET ^A(11)=\"old 11\"\n",
+    "1 SET ^A(12)=\"old 12\"\n",
+    "1 SET ^A(13)=\"old 13\"\n",
+    "1 SET ^A(14)=\"old 14\"\n",
+    "1 SET ^A(\"a text that is too long to lie inline\",15)=\"old 15\"\n",
+    "1 SET ^A(\"a text that is too long to lie inline\",16)=\"old 16\"\n",
+    "1 SET ^A(\"a text that is too long to lie inline\",17)=\"old 17\"\n",
+    "1 SET ^A(\"a text that is too long to lie inline\",18)=\"old 18\"\n",
+    "1 SET ^A(\"a text that is too long to lie inline\",19)=\"old 19\"\n",
+    "1 SET ^A(\"a text that is too long to lie inline\",20)=\"old 20\"\n",
+    "1 TSTART\n",
+    "1 LOCK +(^A,Desk)\n",
+    "1 SET ^A(1)=\"new 1\"\n",
+    "1 SET ^A(2)=\"new 2\"\n",
+    "1 SET ^A(3)=\"new 3\"\n",
+    "1 SET ^A(4)=\"a text that is too long to lie inline\"\n",
+    "1 SET ^A(5)=\"new 5\"\n",
+    "1 SET ^A(6)=\"new 6\"\n",
+    "1 SET ^A(7)=\"new 7\"\n",
+    "1 SET ^A(8)=\"a text that is too long to lie inline\"\n",
+    "1 SET ^A(9)=\"new 9\"\n",
+    "1 SET ^A(10)=\"new 10\"\n",
+    "1 SET ^A(11)=\"new 11\"\n",
+    "1 SET ^A(12)=\"a text that is too long to lie inline\"\n",
+    "1 SET ^A(13)=\"new 13\"\n",
+    "1 SET ^A(14)=\"new 14\"\n",
+    "1 SET ^A(\"a text that is too long to lie inline\",15)=\"new 15\"\n",
+    "1 SET ^A(\"a text that is too long to lie inline\",16)=\"a text that is too long to lie inline\"\n",
+    "1 SET ^A(\"a text that is too long to lie inline\",17)=\"new 17\"\n",
+    "1 SET ^A(\"a text that is too long to lie inline\",18)=\"new 18\"\n",
+    "1 SET ^A(\"a text that is too long to lie inline\",19)=\"new 19\"\n",
+    "1 SET ^A(\"a text that is too long to lie inline\",20)=\"a text that is too long to lie inline\"\n",
+    "1 MERGE ^B=^A\n",
+    "1 $ORDER(^A(2))\n",
+    "1 TCOMMIT\n",
+    "2 $GET(^A(1))\n",
+    "2 LOCK +^A(1)\n",
+    "1 $TLEVEL\n",
+    "1 $GET(^A(1))\n",
+    "1 $QUERY(^B(14))\n",
+    "1 SET ^A(1)=\"last\"\n",
+    "1 TCOMMIT\n",
+    "1 TCOMMIT\n",
+    "2 $GET(^B(1))\n",
+    "2 LOCK +^A(1)\n",
+);

@@ -1,0 +1,94 @@
+//! A thousand units of all five kinds, pushed to a journal and had back from its bytes: it prints `alike` where each is
+//! the one that was pushed. Their keys have from 2 to 64 bytes, and the longest there is.
+//!
+//! Where standard input asks for part 1 it is 60 units, after allocations that are taken before (`allocation_turns`);
+//! so `tests/refused_allocations` has each allocation of these refused in turn. After a refusal the journal is as it
+//! was, and the unit is pushed when it is tried again.
+#![tactic(auto)]
+
+use allocation_turns::{asked_by, granted, take};
+use journal::Journal;
+use made::push_unit_to;
+use read_back::is_made;
+use refusal::Refusal;
+use std::alloc::Global;
+use std::io;
+use std::io::Read;
+
+mod lines;
+mod made;
+mod read_back;
+
+// Pushes the nth unit, at once or, where memory is refused, at the second try. Whether a refusal left all as it was.
+fn is_pushed(
+    alloc: Global,
+    journal: &mut Journal,
+    n: u64,
+    refused: &mut u64,
+) -> Result<bool, Refusal> {
+    let before = (journal.len(), journal.size());
+    if push_unit_to(alloc, journal, n).is_ok() {
+        return Ok(true);
+    }
+    *refused = refused.saturating_add(1);
+    let is_same = before == (journal.len(), journal.size());
+    push_unit_to(alloc, journal, n)?;
+    Ok(is_same)
+}
+
+fn all_are_pushed(
+    alloc: Global,
+    journal: &mut Journal,
+    count: u64,
+    refused: &mut u64,
+) -> Result<bool, Refusal> {
+    for n in 0..count {
+        if !is_pushed(alloc, journal, n, refused)? {
+            return Ok(false);
+        }
+    }
+    Ok(journal.len() == count)
+}
+
+fn all_are_had_back(alloc: Global, journal: &Journal) -> Result<bool, Refusal> {
+    let mut n: u64 = 0;
+    for unit in journal.units() {
+        if !is_made(alloc, unit, n)? {
+            return Ok(false);
+        }
+        n = n.wrapping_add(1);
+    }
+    Ok(n == journal.len())
+}
+
+fn run(alloc: Global, count: u64, refused: &mut u64) -> Result<bool, Refusal> {
+    let mut journal = Journal::new(alloc);
+    let pushed = all_are_pushed(alloc, &mut journal, count, refused);
+    let had_back = all_are_had_back(alloc, &journal);
+    drop(journal);
+    Ok(pushed? && had_back?)
+}
+
+fn main(rt: HostRuntime) -> io::Result<()> {
+    let mut digits = [0; 8];
+    rt.reader().read(&mut digits)?;
+    let asked = asked_by(&digits);
+    take(rt.alloc(), asked.taken)?;
+    let count = if asked.part == 0 { 1000 } else { 60 };
+    let mut refused: u64 = 0;
+    let outcome = run(rt.alloc(), count, &mut refused);
+    let left = if asked.part == 0 {
+        None
+    } else {
+        granted(rt.alloc())
+    };
+    match (outcome, left) {
+        _ if asked.part > 1 => println!(rt; "no such list"),
+        (Ok(true), None) => println!(rt; "alike, steps refused: {refused}"),
+        (Ok(true), Some(left)) => println!(rt; "alike, granted after it: {left}"),
+        (Ok(false), _) => println!(rt; "they differ"),
+        // Memory was refused as the units were had back.
+        (Err(Refusal::OutOfMemory), _) => println!(rt; "nothing to compare"),
+        (Err(refusal), _) => println!(rt; "a line is refused: {refusal}"),
+    }
+}
