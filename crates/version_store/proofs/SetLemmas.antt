@@ -82,6 +82,12 @@ set_fresh h stamp k v m none =
     ∙ ap (λ vs. finmap.insert m k (left_after h ((stamp, Some v) ∷ vs))) (sym (ap listed none))
     ∙ sym (tidied_value h stamp k v m)
 
+-- a version that is pushed to an empty chain is left by the cut
+pub pushed_fresh : (d e : State) (id stamp h : ℕ) (v : List ℕ) → chain_at d id ≡ Some [] → Updates d e id (Some (left_after h ((stamp, Some v) ∷ versions_at d id))) → Updates d e id (Some ((stamp, Some v) ∷ versions_at d id))
+pushed_fresh d e id stamp h v fresh updates =
+    subst (λ (vs : Row). Updates d e id (Some vs))
+    (ap (λ (us : Row). left_after h ((stamp, Some v) ∷ us)) (ap listed fresh) ∙ value_alone h stamp v ∙ sym (ap (λ (us : Row). (stamp, Some v) ∷ us) (ap listed fresh))) updates
+
 -- the key that was put is found
 pub found_put : (k : Reference) (id : ℕ) (ps : Pairs) → Some id ≡ find ref_cmp k (put ref_cmp k id ps)
 found_put k id ps = sym (find-put ref_cmp ref_cmp_total k k id ps ∙ ap (λ b. cond b (Some id) (find ref_cmp k ps)) (itself k))

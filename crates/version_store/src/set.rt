@@ -24,8 +24,7 @@ impl Store {
                 let id = *id;
                 self.present = stamp;
                 self.cut = cut;
-                self.chains.push_reserved(id, stamp, Some(value));
-                let _count = self.chains.cut(id, cut);
+                self.chains.push_and_cut(id, stamp, Some(value), cut);
                 None
             }
             None => Some(value),
@@ -59,7 +58,7 @@ impl Store {
             Ok(_) => {
                 self.present = stamp;
                 self.cut = cut;
-                self.chains.push_reserved(id, stamp, Some(value));
+                self.chains.push_and_cut(id, stamp, Some(value), cut);
                 Ok(())
             }
             Err(back) => {

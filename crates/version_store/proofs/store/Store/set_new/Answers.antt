@@ -3,7 +3,7 @@ use Rattle.std.specs.FinMap.{put}
 use Rattle.collation.specs.Order.{ref_cmp}
 use Rattle.version_store.specs.Tied.{versions_in}
 use Rattle.version_store.proofs.TiedLemmas.{versions_put, tied_put, tied_back, tied_later, not_in}
-use Rattle.version_store.proofs.SetLemmas.{versions_set, tied_set}
+use Rattle.version_store.proofs.SetLemmas.{versions_set, tied_set, pushed_fresh}
 use Rattle.version_store.proofs.store.Store.set_new.Goals as goal
 
 pub invariant_of-self-in-Ok-insert : goal.invariant_of-self-in-Ok-insert
@@ -14,7 +14,7 @@ invariant_of-self-in-Ok-insert c =
     let later : s.present < c.args.stamp = rw (← c.self.view_is) at c.requires.stamp in
     let now = tied_put s.chains c.open.new.self s.tree.pairs s.present c.in-Ok.id c.args.key c.self.invariant.0 none c.in-Ok.ensures.vacant c.in-Ok.ensures.chains in
     let tied = tied_later c.open.new.self (put ref_cmp c.args.key c.in-Ok.id s.tree.pairs) s.present c.args.stamp now (omega (arith, later)) in
-    rw all (tied_set c.open.new.self c.push_reserved.new.self s.tree.pairs c.args.stamp c.in-Ok.id c.args.stamp c.args.cut c.args.key c.args.value tied c.push_reserved.ensures.chains (omega arith) c.in-Ok.ensures.chains.changed, c.requires.cut)
+    rw all (tied_set c.open.new.self c.push_and_cut.new.self s.tree.pairs c.args.stamp c.in-Ok.id c.args.stamp c.args.cut c.args.key c.args.value tied (pushed_fresh c.open.new.self c.push_and_cut.new.self c.in-Ok.id c.args.stamp c.args.cut c.args.value c.in-Ok.ensures.chains.changed c.push_and_cut.ensures.chains) (omega arith) c.in-Ok.ensures.chains.changed, c.requires.cut)
 
 pub invariant_of-self-in-Err-insert : goal.invariant_of-self-in-Err-insert
 invariant_of-self-in-Err-insert c =
@@ -32,7 +32,7 @@ returns-in-Ok-insert-clause-ok c =
     let now = tied_put s.chains c.open.new.self s.tree.pairs s.present c.in-Ok.id c.args.key c.self.invariant.0 none c.in-Ok.ensures.vacant c.in-Ok.ensures.chains in
     let placed = versions_put s.chains c.open.new.self s.tree.pairs s.present c.in-Ok.id c.args.key c.self.invariant.0 c.in-Ok.ensures.vacant c.in-Ok.ensures.chains in
     rw (all, ← c.self.view_is) (record {
-      versions = versions_set c.open.new.self c.push_reserved.new.self s.tree.pairs s.present c.in-Ok.id c.args.stamp c.args.cut c.args.key c.args.value now c.push_reserved.ensures.chains (versions_in s.chains s.tree.pairs) placed vacant;
+      versions = versions_set c.open.new.self c.push_and_cut.new.self s.tree.pairs s.present c.in-Ok.id c.args.stamp c.args.cut c.args.key c.args.value now (pushed_fresh c.open.new.self c.push_and_cut.new.self c.in-Ok.id c.args.stamp c.args.cut c.args.value c.in-Ok.ensures.chains.changed c.push_and_cut.ensures.chains) (versions_in s.chains s.tree.pairs) placed vacant;
       present = refl;
       cut_is = refl;
       mark = refl;

@@ -2,12 +2,12 @@ use Rattle.std.proofs.Common.{◌<◌, refl, sym, arith}
 use Rattle.std.specs.Prelude.{Some}
 use Rattle.version_store.specs.Tied.{versions_in, IsTied}
 use Rattle.version_store.proofs.TiedLemmas.{low_in, tied_later, none_in}
-use Rattle.version_store.proofs.CutLemmas.{cut_chain}
+use Rattle.version_store.proofs.CutLemmas.{cut_at_once}
 use Rattle.version_store.proofs.SetLemmas.{above_at, set_there}
 use Rattle.version_store.proofs.store.Store.set_placed.Goals as goal
 
-pub push_reserved-requires-clause-newest : goal.push_reserved-requires-clause-newest
-push_reserved-requires-clause-newest c =
+pub push_and_cut-requires-clause-newest : goal.push_and_cut-requires-clause-newest
+push_and_cut-requires-clause-newest c =
     let s = c.self.inside in
     let at = rw c.in-Some.is at c.get.ensures.found in
     let later = rw (← c.self.view_is) at c.requires.stamp in
@@ -20,7 +20,7 @@ invariant_of-self c =
     let later : s.present < c.args.stamp = rw (← c.self.view_is) at c.requires.stamp in
     let low = low_in s.chains s.tree.pairs s.present c.self.invariant.0 c.args.key.now in
     let tied : IsTied s.tree.pairs s.chains c.args.stamp = tied_later s.chains s.tree.pairs s.present c.args.stamp c.self.invariant.0 (omega (arith, later)) in
-    let is = cut_chain s.chains c.push_reserved.new.self c.cut-count.new.self s.tree.pairs c.args.stamp c.in-Some.id.now c.args.stamp c.args.cut c.args.key.now (Some c.args.value) tied at c.push_reserved.ensures.chains c.cut-count.ensures.chains (omega arith) (above_at s.present c.args.stamp _ later low) in
+    let is = cut_at_once s.chains c.push_and_cut.new.self s.tree.pairs c.args.stamp c.in-Some.id.now c.args.stamp c.args.cut c.args.key.now (Some c.args.value) tied at c.push_and_cut.ensures.chains (omega arith) (above_at s.present c.args.stamp _ later low) in
     (is.tied, c.requires.cut)
 
 pub returns-in-Some : goal.returns-in-Some
@@ -30,7 +30,7 @@ returns-in-Some c =
     let later : s.present < c.args.stamp = rw (← c.self.view_is) at c.requires.stamp in
     let low = low_in s.chains s.tree.pairs s.present c.self.invariant.0 c.args.key.now in
     let tied : IsTied s.tree.pairs s.chains c.args.stamp = tied_later s.chains s.tree.pairs s.present c.args.stamp c.self.invariant.0 (omega (arith, later)) in
-    let is = cut_chain s.chains c.push_reserved.new.self c.cut-count.new.self s.tree.pairs c.args.stamp c.in-Some.id.now c.args.stamp c.args.cut c.args.key.now (Some c.args.value) tied at c.push_reserved.ensures.chains c.cut-count.ensures.chains (omega arith) (above_at s.present c.args.stamp _ later low) in
+    let is = cut_at_once s.chains c.push_and_cut.new.self s.tree.pairs c.args.stamp c.in-Some.id.now c.args.stamp c.args.cut c.args.key.now (Some c.args.value) tied at c.push_and_cut.ensures.chains (omega arith) (above_at s.present c.args.stamp _ later low) in
     rw (← c.self.view_is) (record {
       versions = set_there c.args.cut c.args.stamp c.args.key.now c.args.value (versions_in s.chains s.tree.pairs) _ is.versions;
       present = refl;
