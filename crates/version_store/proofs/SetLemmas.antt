@@ -13,7 +13,8 @@ use Rattle.version_chain.specs.Versions.{IsAbove}
 use Rattle.version_chain.specs.Cut.{left_after, cut_of}
 use Rattle.version_chain.specs.laws.Cut.{left_after-cut_of}
 use Rattle.version_chain.specs.Chains.{listed, chain_at, versions_at, Updates}
-use Rattle.version_store.specs.Versions.{Row, Versions, Stored, Change, versions_of, content_at, with_version, set_to, changed, row_cut, is_bare, tidied, IsSetAt}
+use Rattle.collation.specs.Changes.{Change, set_to, changed}
+use Rattle.version_store.specs.Versions.{Row, Versions, Stored, versions_of, content_at, with_version, row_cut, is_bare, tidied, IsSetAt}
 use Rattle.version_store.specs.laws.Content.{content_written, content_before, content_settled}
 use Rattle.version_store.specs.laws.Cutting.{rows_cut, content_cut_at}
 use Rattle.version_store.specs.Tied.{versions_in, IsTied}

@@ -2,7 +2,8 @@ use Rattle.std.proofs.Common.{◌≡◌, ◌+◌, ◌≤◌, [], ◌∷◌, List
 use Rattle.std.specs.Prelude.{Some, unwrap_or}
 use Rattle.std.specs.FinMap.{find}
 use Rattle.collation.specs.Order.{ref_cmp}
-use Rattle.version_store.specs.Versions.{Change, versions_of}
+use Rattle.collation.specs.Changes.{Change}
+use Rattle.version_store.specs.Versions.{versions_of}
 use Rattle.validate_commit.specs.Agreement.{has_stamp}
 use Rattle.validate_commit.specs.laws.Agreement.{HasWritten, agreed_prepared, has_stamp-row, one_more}
 use Rattle.validate_commit.proofs.Horizon.{least_within}

@@ -16,15 +16,16 @@ pub invariant_of-self : goal.invariant_of-self
 invariant_of-self g c =
     let falls = (line_at c.self.inside.pool.pages c.self.inside.pool.out c.self.inside.lines c.id.inside.number c.replace-line.result c.replace-line.ensures.value c.self.invariant.0).1 in
     let made = put_back c.self.inside.lines c.replace-line.new.self c.put.new.lines c.id.inside.number (Some None) (Some c.cut-line.result.0) c.replace-line.ensures.slots c.put.ensures in
-    let was = tidy_there c.self.inside.horizon c.self.inside.since c.self.inside.latest c.self.inside.lines c.id.inside.number c.replace-line.result c.replace-line.ensures.value c.self.inside.pool.spare c.self.invariant.1 in
-    (line_changed c.self.inside.lines c.put.new.lines c.id.inside.number (Some c.cut-line.result.0) c.replace-line.result c.replace-line.ensures.value
-    (put_back c.self.inside.lines c.replace-line.new.self c.put.new.lines c.id.inside.number (Some None) (Some c.cut-line.result.0) c.replace-line.ensures.slots c.put.ensures)
-    c.self.inside.pool.pages c.cut-line.new.pool.pages c.self.inside.pool.out c.cut-line.new.pool.out c.self.invariant.0 c.cut-line.ensures.counts.0
-    (c.cut-line.ensures.theirs, subst IsFalling (sym c.cut-line.ensures.left) (IsFalling-cut_of c.args.horizon (line_versions c.replace-line.result) falls))
-    c.cut-line.ensures.counts.1,
-    tidy_line c.self.inside.horizon c.self.inside.since c.self.inside.latest c.self.inside.lines c.put.new.lines c.id.inside.number (Some c.cut-line.result.0) c.replace-line.result c.replace-line.ensures.value made c.self.inside.pool.spare c.cut-line.new.pool.spare c.self.invariant.1
-    (subst (IsTidy c.self.inside.horizon c.self.inside.since c.self.inside.latest) (left_after-cut_of c.args.horizon (line_versions c.replace-line.result) ∙ sym c.cut-line.ensures.left) (tidy_cut c.args.horizon c.self.inside.horizon c.self.inside.since c.self.inside.latest (line_versions c.replace-line.result) was)),
-    c.self.invariant.2)
+    let was = tidy_there c.self.inside.horizon c.self.inside.since c.self.inside.latest c.self.inside.lines c.id.inside.number c.replace-line.result c.replace-line.ensures.value c.self.inside.pool.spare c.self.invariant.1 in (
+      line_changed c.self.inside.lines c.put.new.lines c.id.inside.number (Some c.cut-line.result.0) c.replace-line.result c.replace-line.ensures.value
+          (put_back c.self.inside.lines c.replace-line.new.self c.put.new.lines c.id.inside.number (Some None) (Some c.cut-line.result.0) c.replace-line.ensures.slots c.put.ensures)
+          c.self.inside.pool.pages c.cut-line.new.pool.pages c.self.inside.pool.out c.cut-line.new.pool.out c.self.invariant.0 c.cut-line.ensures.counts.0
+          (c.cut-line.ensures.theirs, subst IsFalling (sym c.cut-line.ensures.left) (IsFalling-cut_of c.args.horizon (line_versions c.replace-line.result) falls))
+          c.cut-line.ensures.counts.1,
+      tidy_line c.self.inside.horizon c.self.inside.since c.self.inside.latest c.self.inside.lines c.put.new.lines c.id.inside.number (Some c.cut-line.result.0) c.replace-line.result c.replace-line.ensures.value made c.self.inside.pool.spare c.cut-line.new.pool.spare c.self.invariant.1
+          (subst (IsTidy c.self.inside.horizon c.self.inside.since c.self.inside.latest) (left_after-cut_of c.args.horizon (line_versions c.replace-line.result) ∙ sym c.cut-line.ensures.left) (tidy_cut c.args.horizon c.self.inside.horizon c.self.inside.since c.self.inside.latest (line_versions c.replace-line.result) was)),
+      c.self.invariant.2,
+    )
 
 pub returns-clause-chains : goal.returns-clause-chains
 returns-clause-chains g c =

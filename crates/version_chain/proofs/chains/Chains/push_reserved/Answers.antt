@@ -14,17 +14,18 @@ invariant_of-self g c =
     let there = versions_there c.self.inside.lines c.id.inside.number c.replace-line.result c.replace-line.ensures.value c.args.self.now c.self.inside.pool.spare c.self.view_is in
     let made = put_back c.self.inside.lines c.replace-line.new.self c.put.new.lines c.id.inside.number (Some None) (Some c.push-line.result) c.replace-line.ensures.slots c.put.ensures in
     let since = c.max-self-inside.result in
-    let latest = c.max-self-inside-2.result in
-    (line_changed c.self.inside.lines c.put.new.lines c.id.inside.number (Some c.push-line.result) c.replace-line.result c.replace-line.ensures.value
-    (put_back c.self.inside.lines c.replace-line.new.self c.put.new.lines c.id.inside.number (Some None) (Some c.push-line.result) c.replace-line.ensures.slots c.put.ensures)
-    c.self.inside.pool.pages c.push-line.new.pool.pages c.self.inside.pool.out c.push-line.new.pool.out c.self.invariant.0 c.push-line.ensures.counts.0
-    (c.push-line.ensures.theirs line.0, subst IsFalling (sym c.push-line.ensures.entry) (subst (IsAbove c.args.stamp) (ap (versions_at c.args.self.now) (sym c.id.view_is) ∙ there) c.requires.newest, line.1))
-    c.push-line.ensures.counts.1,
-    tidy_line c.self.inside.horizon since latest c.self.inside.lines c.put.new.lines c.id.inside.number (Some c.push-line.result) c.replace-line.result c.replace-line.ensures.value made c.self.inside.pool.spare c.push-line.new.pool.spare
-    (λ i. tidy_wider c.self.inside.horizon c.self.inside.since c.self.inside.latest since latest (versions_at (state_of c.self.inside.lines c.self.inside.pool.spare) i) (omega (arith, c.max-self-inside.ensures)) (omega (arith, c.max-self-inside-2.ensures)) (c.self.invariant.1 i))
-    (subst (IsTidy c.self.inside.horizon since latest) (sym c.push-line.ensures.entry)
-    (tidy_new c.self.inside.horizon since latest c.args.stamp c.args.value (line_versions c.replace-line.result) (omega (arith, c.max-self-inside.ensures)) (omega (arith, c.max-self-inside-2.ensures)))),
-    omega (arith, c.self.invariant.2, c.max-self-inside.ensures))
+    let latest = c.max-self-inside-2.result in (
+      line_changed c.self.inside.lines c.put.new.lines c.id.inside.number (Some c.push-line.result) c.replace-line.result c.replace-line.ensures.value
+          (put_back c.self.inside.lines c.replace-line.new.self c.put.new.lines c.id.inside.number (Some None) (Some c.push-line.result) c.replace-line.ensures.slots c.put.ensures)
+          c.self.inside.pool.pages c.push-line.new.pool.pages c.self.inside.pool.out c.push-line.new.pool.out c.self.invariant.0 c.push-line.ensures.counts.0
+          (c.push-line.ensures.theirs line.0, subst IsFalling (sym c.push-line.ensures.entry) (subst (IsAbove c.args.stamp) (ap (versions_at c.args.self.now) (sym c.id.view_is) ∙ there) c.requires.newest, line.1))
+          c.push-line.ensures.counts.1,
+      tidy_line c.self.inside.horizon since latest c.self.inside.lines c.put.new.lines c.id.inside.number (Some c.push-line.result) c.replace-line.result c.replace-line.ensures.value made c.self.inside.pool.spare c.push-line.new.pool.spare
+          (λ i. tidy_wider c.self.inside.horizon c.self.inside.since c.self.inside.latest since latest (versions_at (state_of c.self.inside.lines c.self.inside.pool.spare) i) (omega (arith, c.max-self-inside.ensures)) (omega (arith, c.max-self-inside-2.ensures)) (c.self.invariant.1 i))
+          (subst (IsTidy c.self.inside.horizon since latest) (sym c.push-line.ensures.entry)
+          (tidy_new c.self.inside.horizon since latest c.args.stamp c.args.value (line_versions c.replace-line.result) (omega (arith, c.max-self-inside.ensures)) (omega (arith, c.max-self-inside-2.ensures)))),
+      omega (arith, c.self.invariant.2, c.max-self-inside.ensures),
+    )
 
 pub returns-clause-chains : goal.returns-clause-chains
 returns-clause-chains g c =
