@@ -117,7 +117,8 @@ fn push_and_cut(
     }
     chains.push_and_cut(seat.id, stamp, value, horizon);
     seat.versions.push((stamp, value))?;
-    drop_oldest(seat, plain_dropped(&seat.versions, horizon));
+    let dropped = plain_dropped(&seat.versions, horizon);
+    drop_oldest(seat, dropped);
     Ok(true)
 }
 
