@@ -1,7 +1,10 @@
 -- What a draft of a key keeps of the reference or place that is read.
-use Rattle.std.specs.Prelude.{◌≡◌, Bool, ◌⊎◌, ℕ, ◌<◌, ◌≤◌, true, if◌then◌else◌, Option, None, Some, List, [], ◌∷◌, ◌++◌, length}
+use Rattle.std.specs.Prelude.{◌≡◌, Bool, ◌⊎◌, ℕ, ◌<◌, ◌≤◌, true, if◌then◌else◌, Option, None, Some, is_some, IfSome, List, [], ◌∷◌, ◌++◌, length}
 use Rattle.refusal.specs.declared.Refusal.{Refusal}
 use Rattle.refusal.specs.declared.Refusal.TheVariants.{BadName, EmptySubscript, OutOfMemory}
+use Rattle.canonic_number.specs.Number.{is_canonic}
+use Rattle.canonic_number.specs.PartsOf.{IsPartsOf}
+use Rattle.canonic_number.specs.declared.place.NumberParts.{NumberParts}
 use Rattle.collation.specs.Limits.{most_subscripts}
 use Rattle.collation.specs.Reference.{Reference, Spot}
 use Rattle.collation.specs.Name.{is_name}
@@ -25,6 +28,11 @@ pub record IsDraft (d : KeyDraft) (r : Reference) : Type 0 where
   pub open_end : d.ends_open ≡ ends_open r.subscripts
   pub fault : d.fault ≡ subscripts_fault (closed_part r.subscripts)
   pub bytes : is_name r.name ≡ true → length r.subscripts ≤ most_subscripts → subscripts_fault (closed_part r.subscripts) ≡ None → d.bytes.items ≡ r.name ++ 0 ∷ subscripts_key short_form (closed_part r.subscripts)
+
+-- what was judged of a subscript: its parts where it is a canonic number, else none
+pub record IsJudged (subscript : List ℕ) (number : Option NumberParts) : Type 0 where
+  pub test : is_some number ≡ is_canonic subscript
+  pub parts : IfSome number (IsPartsOf subscript)
 
 -- why a place is refused, where it is: its name first
 abbrev pub place_due : Reference → Option Refusal

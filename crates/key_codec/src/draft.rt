@@ -5,11 +5,11 @@ ghost use Rattle.collation.specs.Limits.{most_subscripts};
 ghost use Rattle.collation.specs.Reference.{Reference};
 ghost use Rattle.key_codec.specs.Key as spec;
 ghost use Rattle.key_codec.specs.Key.{short_form, IsSubscript};
-ghost use Rattle.key_codec.specs.Draft.{IsDraft, IsSpelled, IsDueOrMemory, longer, place_due, place_of, reference_due, open_fault};
+ghost use Rattle.key_codec.specs.Draft.{IsDraft, IsSpelled, IsJudged, IsDueOrMemory, longer, place_due, place_of, reference_due, open_fault};
 
-use crate::write::push_subscript;
+use crate::write::push_judged;
 use crate::{END, Key, Place};
-use canonic_number::LONGEST_SUBSCRIPT;
+use canonic_number::{LONGEST_SUBSCRIPT, NumberParts, parts};
 use collation::{MOST_SUBSCRIPTS, is_name};
 use refusal::Refusal;
 use std::alloc::{AllocError, Global};
@@ -83,8 +83,9 @@ impl KeyDraft {
     }
 
     // Adds a subscript's key, where nothing is at fault.
-    fn add(&mut self, subscript: &[u8]) -> Result<(), AllocError>
-        requires { IsSubscript short_form subscript.now }
+    fn add(&mut self, subscript: &[u8], number: Option<NumberParts<'_>>) -> Result<(), AllocError>
+        requires form { IsSubscript short_form subscript.now }
+        requires judged { IsJudged subscript.now number }
         ensures bytes { OnOk result (self.old.is_name ≡ true → self.old.count ≤ most_subscripts → self.old.fault ≡ None → self.new.bytes.items ≡ self.old.bytes.items ++ spec.subscript_key short_form subscript.now) }
         ensures fault { self.new.fault ≡ self.old.fault }
         ensures count { self.new.count ≡ self.old.count }
@@ -92,13 +93,25 @@ impl KeyDraft {
         ensures open_end { self.new.ends_open ≡ self.old.ends_open }
     {
         if self.is_name && self.count <= MOST_SUBSCRIPTS && self.fault.is_none() {
-            push_subscript(&mut self.bytes, subscript)?;
+            push_judged(&mut self.bytes, subscript, number)?;
         }
         Ok(())
     }
 
     /// Puts one subscript behind the others.
     pub fn push(&mut self, subscript: &[u8]) -> Result<(), AllocError>
+        ensures { (r : Reference) → IsDraft self.old r → OnOk result (IsDraft self.new (longer r subscript.now)) }
+    {
+        self.push_judged(subscript, parts(subscript))
+    }
+
+    /// The same, of a subscript that was judged: its parts where it is a canonic number, else none.
+    pub fn push_judged(
+        &mut self,
+        subscript: &[u8],
+        number: Option<NumberParts<'_>>,
+    ) -> Result<(), AllocError>
+        requires { IsJudged subscript.now number }
         ensures { (r : Reference) → IsDraft self.old r → OnOk result (IsDraft self.new (longer r subscript.now)) }
     {
         self.go_on();
@@ -110,7 +123,7 @@ impl KeyDraft {
             self.note(Refusal::SubscriptTooLong);
             return Ok(());
         }
-        self.add(subscript)
+        self.add(subscript, number)
     }
 
     // Why the place that is spelled is refused, where it is.

@@ -3,6 +3,7 @@ ghost use Rattle.std.specs.Prelude.{◌≡◌, ◌≤◌, ◌++◌, ◌-◌, IfE
 ghost use Rattle.canonic_number.specs.Number.{limit, scale};
 ghost use Rattle.collation.specs.Faults.{reference_fault, subscripts_fault};
 ghost use Rattle.key_codec.specs.Bounds.{KeepsOrder, IsPrefixOf};
+ghost use Rattle.key_codec.specs.Draft.{IsJudged};
 ghost use Rattle.key_codec.specs.Key as spec;
 ghost use Rattle.key_codec.specs.Key.{short_form, IsReference, IsSubscript};
 ghost use Rattle.key_codec.specs.PartsKey.{parts_key};
@@ -84,7 +85,20 @@ pub(crate) fn push_subscript(key: &mut Vec<u8>, subscript: &[u8]) -> Result<(), 
     requires { IsSubscript short_form subscript.now }
     ensures { OnOk result (key.new.items ≡ key.old.items ++ spec.subscript_key short_form subscript.now) }
 {
-    match parts(subscript) {
+    push_judged(key, subscript, parts(subscript))
+}
+
+// The same of a subscript that was judged.
+pub(crate) fn push_judged(
+    key: &mut Vec<u8>,
+    subscript: &[u8],
+    number: Option<NumberParts<'_>>,
+) -> Result<(), AllocError>
+    requires form { IsSubscript short_form subscript.now }
+    requires judged { IsJudged subscript.now number }
+    ensures { OnOk result (key.new.items ≡ key.old.items ++ spec.subscript_key short_form subscript.now) }
+{
+    match number {
         Some(number) => push_number(key, &number),
         None => push_text(key, subscript),
     }

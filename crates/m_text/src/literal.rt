@@ -1,5 +1,6 @@
 //! Literals.
 ghost use Rattle.std.specs.Prelude.{◌≡◌, ◌||◌, IfSome, Some, false};
+ghost use Rattle.key_codec.specs.Draft.{IsJudged};
 ghost use Rattle.m_text.specs.Reading.{Gives, Skips, begins_with, rest_of, with_front, parted_at};
 ghost use Rattle.m_text.specs.Literal.{part_at, literal_at};
 
@@ -7,7 +8,7 @@ use crate::chars::{read_chars, skip_chars};
 use crate::front::after;
 use crate::numeral::{read_number, skip_number, split_number};
 use crate::quoted::{lend_quoted, read_quoted, skip_quoted};
-use canonic_number::is_canonic;
+use canonic_number::{NumberParts, is_canonic, parts};
 use collation::Text;
 use refusal::Refusal;
 use std::alloc::Global;
@@ -94,6 +95,23 @@ pub(crate) fn lend_literal(text: &[u8]) -> Option<(&[u8], &[u8])>
         lend_quoted(text)
     } else {
         lend_number(text)
+    }
+}
+
+// The same of a subscript: with its parts, where it is a canonic number, so that its grammar is judged once.
+#[tactic(auto, using(crate::proofs::Numbers::canonic_texts), unfolding(crate::specs::Literal::literal_at, crate::specs::Literal::numeric_at))]
+pub(crate) fn lend_judged(text: &[u8]) -> Option<(&[u8], Option<NumberParts<'_>>, &[u8])>
+    ensures string { IfSome result (λ x. literal_at text.now ≡ Some (x.0.now, x.2.now)) }
+    ensures judged { IfSome result (λ x. IsJudged x.0.now x.1) }
+{
+    if begins_part(text) {
+        let (string, rest) = lend_quoted(text)?;
+        return Some((string, parts(string), rest));
+    }
+    let (number, rest) = split_number(text);
+    match parts(number) {
+        Some(known) => Some((number, Some(known), rest)),
+        None => None,
     }
 }
 

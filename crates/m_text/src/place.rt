@@ -7,7 +7,7 @@ ghost use Rattle.m_text.specs.Reading.{Answers, Skips, rest_of, with_front, part
 ghost use Rattle.m_text.specs.Place.{subscript_at, subscripts_at, named_at, place_at, ref_at, spot_at};
 
 use crate::front::{after, split_word};
-use crate::literal::{lend_literal, make_literal, skip_literal};
+use crate::literal::{lend_judged, make_literal, skip_literal};
 use key_codec::{Key, KeyDraft, Place};
 use refusal::Refusal;
 use std::alloc::Global;
@@ -32,9 +32,9 @@ fn read_subscript<'a>(
 ) -> Result<&'a [u8], Refusal>
     ensures { (r : Reference) → IsDraft draft.old r → Drafts draft.new r.name result (with_front r.subscripts (subscript_at text.now)) }
 {
-    match lend_literal(text) {
-        Some((string, rest)) => {
-            draft.push(string)?;
+    match lend_judged(text) {
+        Some((string, number, rest)) => {
+            draft.push_judged(string, number)?;
             Ok(rest)
         }
         None => read_made(alloc, text, draft),

@@ -3,7 +3,7 @@ use Rattle.key_codec.specs.Key.{short_form, subscript_key}
 use Rattle.std.specs.Option.{option_or}
 use Rattle.refusal.specs.declared.Refusal.TheVariants.{SubscriptTooLong}
 use Rattle.key_codec.proofs.Drafting.{drafted_empty, drafted_long, drafted_good, on_ok}
-use Rattle.key_codec.proofs.draft.KeyDraft.push.Goals as goal
+use Rattle.key_codec.proofs.draft.KeyDraft.push_judged.Goals as goal
 
 pub returns-then-is_empty : goal.returns-then-is_empty
 returns-then-is_empty c = λ r is.
