@@ -2,6 +2,7 @@ pub mod Moving
 pub mod Smalls
 pub mod Lists
 pub mod Trie
+pub mod Less
+pub mod Kept
 pub mod Rows
-pub mod Releases
 pub mod Tables

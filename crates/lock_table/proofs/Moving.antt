@@ -1,6 +1,6 @@
 -- Counts are raised or lowered, name by name.
 use Rattle.std.proofs.Common.{zero, suc, ◌≡◌, ◌<◌, ◌≤◌, ℕ, List, [], ◌∷◌, length, drop, Bool, true, false, refl, sym, ap, subst, ◌∙◌, ◌⊎◌, inl, inr, arith}
-use Rattle.std.specs.Prelude.{cond, ◌||◌, max, min, Some, unwrap_or}
+use Rattle.std.specs.Prelude.{cond, ◌||◌, ◌-◌, max, min, Some, unwrap_or}
 use Rattle.std.specs.List.{All, list_any}
 use Rattle.std.specs.Ordering.{is_eq, eq_by_cmp}
 use Rattle.std.specs.Cmp.{tied_itself}
@@ -13,7 +13,7 @@ use Rattle.collation.specs.Reference.{Resource}
 use Rattle.collation.specs.Locks.{resource_cmp, Counts, count_of}
 use Rattle.collation.specs.CountingLaws.{resource_cmp_total, resource_cmp-IsAntisymmetric, same_resource}
 use Rattle.lock_trie.specs.laws.Conflicts.{left_first, entry_counted, AreThere, all_there}
-use Rattle.lock_table.specs.Counted.{AreCounts, AreRaised, AreLowered, is_named}
+use Rattle.lock_table.specs.Counted.{AreRaised, AreLowered, is_named}
 
 abbrev pub is_key : Resource → Resource × ℕ → Bool
 is_key x e = eq_by_cmp resource_cmp x e.0
@@ -164,45 +164,6 @@ low_names_done now target ns i h left x named = elim (left x named) [
 
 -- ---- over the entries of counts
 
-pub record Rising (old now : Resource → ℕ) (others : Counts) (rest : List (Resource × ℕ)) : Type 0 where
-  pub raised : AreRaised old now (count_of others)
-  pub there : AreThere others rest
-  pub reaching : (x : Resource) → (count_of others x ≤ now x) ⊎ (list_any (is_key x) rest ≡ true)
-
-pub rising_first : (es : List (Resource × ℕ)) (old : Resource → ℕ) (others : Counts) → finmap.from_entries es ≡ others → All (λ e. lookup (is_at (resource_cmp e.0)) es ≡ Some e.1) es → Rising old old others es
-rising_first es old others was all = record {
-  raised = raised_first old (count_of others);
-  there = all_there resource_cmp_total es es others was all;
-  reaching = λ x. by_count x (count_of others x) refl;
-}
-  where
-    by_count : (x : Resource) (n : ℕ) → count_of others x ≡ n → (count_of others x ≤ old x) ⊎ (list_any (is_key x) es ≡ true)
-    by_count x zero e = inl (omega arith)
-    by_count x (suc n) e = inr (key_among es others was all x (omega arith))
-
-pub rising_next : (old now next : Resource → ℕ) (others : Counts) (e : Resource × ℕ) (fs rest : List (Resource × ℕ)) → rest ≡ e ∷ fs → RaisedOne now next e.0 e.1 → Rising old now others rest → Rising old next others fs
-rising_next old now next others e fs rest is one rising =
-    let here : Rising old now others (e ∷ fs) = subst (Rising old now others) is rising in
-    let v_is : e.1 ≡ count_of others e.0 = sym (ap (λ z. unwrap_or z 0) here.there.0) in
-    record {
-      raised = raised_next old now next (count_of others) e.0 e.1 v_is one here.raised;
-      there = here.there.1;
-      reaching = λ x. reached_next now next (count_of others) e.0 e.1 v_is one x (list_any (is_key x) fs) (here.reaching x);
-    }
-
-pub risen : (old now : Resource → ℕ) (others : Counts) (rest : List (Resource × ℕ)) → rest ≡ [] → Rising old now others rest → (x : Resource) → count_of others x ≤ now x
-risen old now others rest is rising x = elim (rising.reaching x) [
-  | inl high ↦ high
-  | inr any ↦ let none : false ≡ true = ap (list_any (is_key x)) (sym is) ∙ any in absurd (cc)
-]
-
-pub risen_small : (others : Counts) (e : Resource × ℕ) (fs rest : List (Resource × ℕ)) → rest ≡ e ∷ fs → AreCounts others → AreThere others rest → e.1 ≤ 65535
-risen_small others e fs rest is are there =
-    let here : AreThere others (e ∷ fs) = subst (AreThere others) is there in
-    let count : count_of others e.0 ≡ e.1 = ap (λ z. unwrap_or z 0) here.0 in
-    let h : count_of others e.0 ≤ 65535 = are.small e.0 in
-    omega arith
-
 pub record Sinking (old now target : Resource → ℕ) (over : Counts) (rest : List (Resource × ℕ)) : Type 0 where
   pub lowered : AreLowered old now target
   pub reaching : (x : Resource) → 0 < count_of over x → (now x ≤ target x) ⊎ (list_any (is_key x) rest ≡ true)
@@ -221,3 +182,25 @@ sunk old now target over rest is sinking x h = elim (sinking.reaching x h) [
   | inl low ↦ low
   | inr any ↦ let none : false ≡ true = ap (list_any (is_key x)) (sym is) ∙ any in absurd (cc)
 ]
+
+-- as many fewer as the others have, which is told by what was there before
+abbrev pub given_to : (Resource → ℕ) → Counts → Resource → ℕ
+given_to before others x = before x - count_of others x
+
+pub gives_next : (others : Counts) (e : Resource × ℕ) (fs rest : List (Resource × ℕ)) → rest ≡ e ∷ fs → AreThere others rest → AreThere others fs
+gives_next others e fs rest is there = (subst (AreThere others) is there).1
+
+pub gives : (before : Resource → ℕ) (others : Counts) (e : Resource × ℕ) (fs rest : List (Resource × ℕ)) (b v : ℕ) → rest ≡ e ∷ fs → AreThere others rest → b ≡ before e.0 → v ≡ b - e.1 → v ≡ given_to before others e.0
+gives before others e fs rest b v is there b_is v_is =
+    let here : AreThere others (e ∷ fs) = subst (AreThere others) is there in
+    let count : count_of others e.0 ≡ e.1 = ap (λ z. unwrap_or z 0) here.0 in
+    v_is ∙ ap (λ z. z - e.1) b_is ∙ ap (λ z. before e.0 - z) (sym count)
+
+pub given_all : (before old now : Resource → ℕ) (others : Counts) (rest : List (Resource × ℕ)) → ((x : Resource) → before x ≡ old x) → rest ≡ [] → Sinking old now (given_to before others) others rest → (x : Resource) → now x ≡ old x - count_of others x
+given_all before old now others rest same is sinking x =
+    let low = sinking.lowered in
+    by_count (count_of others x) refl (same x) (low.below x) (low.least x) (sunk old now (given_to before others) others rest is sinking x)
+  where
+    by_count : (n : ℕ) → count_of others x ≡ n → before x ≡ old x → now x ≤ old x → min (old x) (given_to before others x) ≤ now x → (0 < count_of others x → now x ≤ given_to before others x) → now x ≡ old x - count_of others x
+    by_count zero e same below least reached = omega arith
+    by_count (suc n) e same below least reached = let low = reached (omega arith) in omega arith

@@ -1,6 +1,6 @@
 -- Counts as std's map keeps them.
-use Rattle.std.proofs.Common.{◌≡◌, ◌≤◌, ◌<◌, ℕ, List, Bool, true, false, refl, sym, ap, subst, ◌∙◌, arith}
-use Rattle.std.specs.Prelude.{cond, max, Option, Some, None, IsSome, unwrap_or, Result, Ok, Err, OnOk, OnErr}
+use Rattle.std.proofs.Common.{◌≡◌, ◌≤◌, ◌<◌, ℕ, List, [], ◌∷◌, length, Bool, true, false, refl, sym, ap, subst, ◌∙◌, arith}
+use Rattle.std.specs.Prelude.{cond, max, min, Option, Some, None, IsSome, unwrap_or, Result, Ok, Err, OnOk, OnErr}
 use Rattle.std.specs.Ordering.{eq_by_cmp}
 use Rattle.std.specs.Map.{lookup}
 use Rattle.std.specs.BTreeMap.{is_at}
@@ -10,7 +10,7 @@ use Rattle.collation.specs.Locks.{resource_cmp, Counts, count_of}
 use Rattle.collation.specs.CountingLaws.{resource_cmp_total, resource_cmp-IsAntisymmetric, count_insert, count_remove, same_resource}
 use Rattle.collation.specs.ZeroLaws.{none_empty, none_insert, none_remove}
 use Rattle.lock_table.specs.Counted.{AreCounts}
-use Rattle.lock_table.proofs.Moving.{RaisedOne}
+use Rattle.lock_table.proofs.Moving.{RaisedOne, LoweredOne}
 use Rattle.lock_trie.specs.laws.Mapped.{seen, is_inserted, is_removed}
 
 by_test_small : (b : Bool) (v w : ℕ) → v ≤ 65535 → w ≤ 65535 → cond b v w ≤ 65535
@@ -69,6 +69,33 @@ raised_not old n count v is less x = by_test (eq_by_cmp resource_cmp x n) refl
     by_test : (b : Bool) → eq_by_cmp resource_cmp x n ≡ b → count_of old x ≡ cond b (max (count_of old n) v) (count_of old x)
     by_test true e = let same : count_of old x ≡ count_of old n = ap (count_of old) (same_resource x n e) in omega arith
     by_test false e = refl
+
+pub lowered_not : (old : Counts) (n : Resource) (count v : ℕ) → count ≡ count_of old n → count ≤ v → LoweredOne (count_of old) (count_of old) n v
+lowered_not old n count v is less x = by_test (eq_by_cmp resource_cmp x n) refl
+  where
+    by_test : (b : Bool) → eq_by_cmp resource_cmp x n ≡ b → count_of old x ≡ cond b (min (count_of old n) v) (count_of old x)
+    by_test true e = let same : count_of old x ≡ count_of old n = ap (count_of old) (same_resource x n e) in omega arith
+    by_test false e = refl
+
+pub lowered_by : (old new : Counts) (n : Resource) (count v : ℕ) → count ≡ count_of old n → v < count → new ≡ finmap.insert old n v → LoweredOne (count_of old) (count_of new) n v
+lowered_by old new n count v is less put x = ap (λ m. count_of m x) put ∙ count_insert old n v x ∙ ap (λ z. cond (eq_by_cmp resource_cmp x n) z (count_of old x)) lower
+  where
+    lower : v ≡ min (count_of old n) v
+    lower = omega arith
+
+pub lowered_out : (old new : Counts) (n : Resource) (v : ℕ) → v ≡ 0 → new ≡ finmap.remove old n → LoweredOne (count_of old) (count_of new) n v
+lowered_out old new n v none put x = ap (λ m. count_of m x) put ∙ count_remove old n x ∙ ap (λ z. cond (eq_by_cmp resource_cmp x n) z (count_of old x)) lower
+  where
+    lower : 0 ≡ min (count_of old n) v
+    lower = omega arith
+
+unentried : (es : List (Resource × ℕ)) → length es ≡ 0 → es ≡ []
+unentried [] e = refl
+unentried (x ∷ es) e = absurd (omega arith)
+
+-- a map without entries
+pub empty_counted : (es : List (Resource × ℕ)) (m : Counts) → finmap.from_entries es ≡ m → length es ≡ 0 → (x : Resource) → count_of m x ≡ 0
+empty_counted es m was none x = ap (λ c. count_of c x) (sym was ∙ ap finmap.from_entries (unentried es none)) ∙ ap (λ o. unwrap_or o 0) (finmap.get-empty resource_cmp x)
 
 pub onward : {A E P Q : Type 0} (r : Result A E) → (P → Q) → OnOk r P → OnOk r Q
 onward (Ok a) f p = f p

@@ -1,5 +1,5 @@
 -- Counts that a job has, and how they are raised.
-use Rattle.std.specs.Prelude.{◌≡◌, ◌≤◌, ◌<◌, ℕ, max, min, Bool, nat_lt, List, Some}
+use Rattle.std.specs.Prelude.{◌≡◌, ◌≤◌, ◌<◌, ℕ, zero, suc, ◌-◌, max, min, Bool, nat_lt, List, [], ◌∷◌, Some}
 use Rattle.std.specs.List.{list_any}
 use Rattle.std.specs.Ordering.{eq_by_cmp}
 use Rattle.std.specs.FinMap as finmap
@@ -29,3 +29,17 @@ is_over ns counts n = nat_lt most_locks (count_of (more_of ns counts) n)
 -- it stands in the list
 abbrev pub is_named : Resource → List Resource → Bool
 is_named x ns = list_any (eq_by_cmp resource_cmp x) ns
+
+-- this name is had so many times
+abbrev pub put_count : Counts → Resource → ℕ → Counts
+put_count counts n zero = finmap.remove counts n
+put_count counts n (suc v) = finmap.insert counts n (suc v)
+
+-- of each name in the list so many fewer
+abbrev pub taken_from : Counts → List (Resource × ℕ) → Counts
+taken_from counts [] = counts
+taken_from counts (e ∷ es) = put_count (taken_from counts es) e.0 (count_of counts e.0 - e.1)
+
+-- of each name as many fewer as the others have, and none where they have as many or more
+abbrev pub less : Counts → Counts → Counts
+less counts others = taken_from counts (finmap.entries others)

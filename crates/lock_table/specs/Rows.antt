@@ -1,31 +1,45 @@
 -- One job's counts as the table keeps them, and what the trie has of them.
-use Rattle.std.specs.Prelude.{◌≡◌, ◌≤◌, ℕ, max, Bool, true, false, List, Option, None, Some, unwrap_or, is_some, if◌then◌else◌}
+use Rattle.std.specs.Prelude.{◌≡◌, ◌≤◌, ℕ, Bool, true, false, List, Option, None, Some, unwrap_or, is_some, if◌then◌else◌}
 use Rattle.std.specs.List.{list_any}
 use Rattle.std.specs.FinMap as finmap
 use Rattle.collation.specs.Reference.{Resource}
-use Rattle.collation.specs.Locks.{Counts, count_of, more_of, fewer_of, greater, JobLocks, job_wants, HasNoZeros}
+use Rattle.collation.specs.Locks.{Counts, count_of, more_of, fewer_of, JobLocks, job_wants}
 use Rattle.lock_trie.specs.Held.{Held, held_count}
 use Rattle.lock_table.specs.declared.inside.Inside.{Inside}
 use Rattle.lock_table.specs.declared.row.Form.{Form}
 use Rattle.lock_table.specs.declared.row.Form.TheVariants.{Only, More, Fewer}
-use Rattle.lock_table.specs.Counted.{is_over, is_named}
+use Rattle.lock_table.specs.Counted.{less, is_over}
 
--- outside a transaction a job holds what it wants; inside, what was released there too
-abbrev pub held_of : Counts → Option Inside → Counts
-held_of want None = want
-held_of want (Some i) = greater want i.peak
+-- outside a transaction a job wants what it holds; inside, what was given back there is held still
+abbrev pub want_in : Counts → Option Inside → Counts
+want_in held None = held
+want_in held (Some i) = less held i.fewer
 
-abbrev pub start_of : Option Inside → Option Counts
-start_of None = None
-start_of (Some i) = Some i.start
+-- what was added inside wasn't wanted at the start
+abbrev pub start_in : Counts → Option Inside → Option Counts
+start_in held None = None
+start_in held (Some i) = Some (less held i.added)
 
--- what was wanted at the start is held
-abbrev pub IsStartHeld : Counts → Option Inside → Type 0
-IsStartHeld want None = Unit {0}
-IsStartHeld want (Some i) = (x : Resource) → count_of i.start x ≤ max (count_of want x) (count_of i.peak x)
+-- no more was given back or added than is held
+pub record AreWithin (held fewer added : Counts) : Type 0 where
+  pub fewer_held : (x : Resource) → count_of fewer x ≤ count_of held x
+  pub added_held : (x : Resource) → count_of added x ≤ count_of held x
+
+abbrev pub IsWithin : Counts → Option Inside → Type 0
+IsWithin held None = Unit {0}
+IsWithin held (Some i) = AreWithin held i.fewer i.added
 
 abbrev pub locks_in : Counts → Option Inside → JobLocks
-locks_in want inside = record { want = want; held = held_of want inside; start = start_of inside }
+locks_in held inside = record { want = want_in held inside; held = held; start = start_in held inside }
+
+-- a job that took a LOCK in its transaction
+abbrev pub inside_locks : Counts → Inside → JobLocks
+inside_locks held i = record { want = less held i.fewer; held = held; start = Some (less held i.added) }
+
+-- what was given back and what was added is what it was
+pub record IsInsideSame (old new : Inside) : Type 0 where
+  pub fewer_same : new.fewer ≡ old.fewer
+  pub added_same : new.added ≡ old.added
 
 -- the job comes to want these counts, inside where it took a LOCK in its transaction
 abbrev pub in_its_mode : Counts → JobLocks → JobLocks
@@ -35,32 +49,17 @@ in_its_mode want l = job_wants (is_some l.start) want l
 abbrev pub enters : JobLocks → JobLocks
 enters l = record { want = l.want; held = l.held; start = Some (unwrap_or l.start l.want) }
 
+-- the trie has these counts of the job
+abbrev pub IsHeldIn : Held → ℕ → Counts → Type 0
+IsHeldIn trie job held = (x : Resource) → held_count trie job x ≡ count_of held x
+
 -- the trie has the job's held counts
 abbrev pub IsKept : Held → ℕ → JobLocks → Type 0
-IsKept trie job l = (x : Resource) → held_count trie job x ≡ count_of l.held x
+IsKept trie job l = IsHeldIn trie job l.held
 
 -- other jobs hold what they held
 abbrev pub AreOthersSame : Held → Held → ℕ → Type 0
 AreOthersSame old new job = (other : ℕ) (x : Resource) → (other ≡ job → ⊥) → held_count new other x ≡ held_count old other x
-
--- the peak of a name: none outside a transaction
-abbrev pub peak_of : Option Inside → Resource → ℕ
-peak_of None x = 0
-peak_of (Some i) x = count_of i.peak x
-
--- peaks have no zeros
-abbrev pub AreWhole : Option Inside → Type 0
-AreWhole None = Unit {0}
-AreWhole (Some i) = HasNoZeros i.peak
-
--- in a transaction the peaks of these names are no lower than what is wanted
-abbrev pub AreRemembered : List Resource → Counts → Option Inside → Type 0
-AreRemembered ns want None = Unit {0}
-AreRemembered ns want (Some i) = (x : Resource) → is_named x ns ≡ true → count_of want x ≤ count_of i.peak x
-
-abbrev pub AreAllRemembered : Counts → Option Inside → Type 0
-AreAllRemembered want None = Unit {0}
-AreAllRemembered want (Some i) = (x : Resource) → count_of want x ≤ count_of i.peak x
 
 -- the forms of LOCK with names, and whether none of them is blocked
 abbrev pub want_by : Form → List Resource → Counts → Counts

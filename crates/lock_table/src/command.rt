@@ -29,7 +29,7 @@ impl LockTable {
         ensures allowed { OnOk result (list_any (is_over names.now (let l = locks_of job self.now in l.want)) names.now ≡ false) }
         ensures full { IfErr result (λ refusal. (refusal ≡ Refusal.OutOfMemory) ⊎ ((refusal ≡ Refusal.LockCountFull) × (list_any (is_over names.now (let l = locks_of job self.now in l.want)) names.now ≡ true))) }
     {
-        match self.wanted(job) {
+        match self.wanted(job, names) {
             Ok(want) => bear(want, names),
             Err(_) => Err(Refusal::OutOfMemory),
         }

@@ -1,5 +1,5 @@
 //! Counts by lock name.
-ghost use Rattle.std.specs.Prelude.{true, ◌⊎◌, if◌then◌else◌, ◌≡◌, ◌≤◌, ◌<◌, ◌+◌, ◌-◌, max, ℕ, OnOk, OnErr, IfErr, IfOk};
+ghost use Rattle.std.specs.Prelude.{true, ◌⊎◌, if◌then◌else◌, ◌≡◌, ◌≤◌, ◌<◌, ◌+◌, ◌-◌, max, min, ℕ, OnOk, OnErr, IfErr, IfOk};
 ghost use Rattle.std.specs.List.{list_any};
 ghost use Rattle.std.specs.FinMap as finmap;
 ghost use Rattle.collation.specs.Limits.{most_locks};
@@ -7,10 +7,10 @@ ghost use Rattle.collation.specs.Reference.{Resource};
 ghost use Rattle.std.specs.Ordering.{eq_by_cmp};
 ghost use Rattle.collation.specs.Locks.{resource_cmp, count_of, one_fewer, more_of, fewer_of};
 ghost use Rattle.lock_trie.specs.Held.{held_count};
-ghost use Rattle.lock_table.specs.Counted.{AreCounts, AreRaised, AreLowered, is_over, is_named};
-ghost use Rattle.lock_table.specs.Rows.{held_of, AreOthersSame};
+ghost use Rattle.lock_table.specs.Counted.{AreCounts, AreRaised, AreLowered, less, is_over, is_named};
+ghost use Rattle.lock_table.specs.Rows.{IsHeldIn, AreOthersSame};
 
-use crate::inside::{Inside, held};
+use crate::inside::{Inside, wanted};
 use crate::moves::lower;
 use collation::LockName;
 use lock_trie::LockTrie;
@@ -53,13 +53,6 @@ impl Counts {
             map: BTreeMap::new(alloc),
             alloc,
         }
-    }
-
-    /// No name is had; memory comes from where these counts have theirs.
-    pub fn none(&self) -> Counts
-        ensures { result ≡ finmap.empty }
-    {
-        Counts::new(self.alloc)
     }
 
     /// No count is above the highest, and none that has an entry is 0.
@@ -160,7 +153,7 @@ impl Counts {
     }
 
     /// One fewer of this name. Takes no memory.
-    fn take_one(&mut self, name: &LockName)
+    pub fn take_one(&mut self, name: &LockName)
         ensures { self.new ≡ one_fewer self.old name.now }
     {
         let count = self.count(name);
@@ -226,25 +219,71 @@ impl Counts {
         Ok(())
     }
 
-    /// Of each name at least as many as in the others. Where memory is refused some may be raised.
-    pub fn raise_all(&mut self, others: &Counts) -> Result<(), AllocError>
-        ensures raised { AreRaised (count_of self.old) (count_of self.new) (count_of others.now) }
-        ensures ok { OnOk result ((x : Resource) → count_of others.now x ≤ count_of self.new x) }
+    /// Of these names as many as here, and of no other.
+    pub fn among(&self, names: &[LockName]) -> Result<Counts, AllocError>
+        ensures { IfOk result (λ some. (x : Resource) → is_named x names.now ≡ true → count_of some x ≡ count_of self.now x) }
     {
-        for (name, count) in others.map.iter() {
-            self.raise(name, *count)?;
+        let mut some = Counts::new(self.alloc);
+        some.raise_names(names, self)?;
+        Ok(some)
+    }
+
+    /// Of each of these names at least as many as the job wants. Where memory is refused some may be raised.
+    pub fn raise_wanted(
+        &mut self,
+        names: &[LockName],
+        held: &Counts,
+        inside: &Inside,
+    ) -> Result<(), AllocError>
+        ensures raised { AreRaised (count_of self.old) (count_of self.new) (count_of (less held.now inside.now.fewer)) }
+        ensures ok { OnOk result ((x : Resource) → is_named x names.now ≡ true → count_of (less held.now inside.now.fewer) x ≤ count_of self.new x) }
+    {
+        for name in names {
+            self.raise(name, wanted(held, inside, name))?;
         }
         Ok(())
     }
 
-    /// The job holds each name that is had here at most as many times as its counts say. Takes no memory.
-    pub fn lower_in(&self, trie: &mut LockTrie, job: u16, want: &Counts, inside: &Option<Inside>)
+    /// This name is had at most n times. Takes no memory.
+    fn lower(&mut self, name: &LockName, n: u32)
+        ensures { (x : Resource) → count_of self.new x ≡ (if eq_by_cmp resource_cmp x name.now then min (count_of self.old name.now) n else count_of self.old x) }
+    {
+        let count = self.count(name);
+        if count <= n {
+            return;
+        }
+        if n == 0 {
+            self.remove(name);
+            return;
+        }
+        self.change(name, n);
+    }
+
+    /// Of what the job holds, which these counts say, as many fewer as the others have. Takes no memory.
+    pub fn give(&mut self, trie: &LockTrie, job: u16, others: &Counts)
+        requires { IsHeldIn trie.now job self.old }
+        ensures { (x : Resource) → count_of self.new x ≡ count_of self.old x - count_of others.now x }
+    {
+        for (name, count) in others.map.iter() {
+            self.lower(name, trie.count(job, name).saturating_sub(*count));
+        }
+    }
+
+    /// Whether no name is had.
+    pub fn is_empty(&self) -> bool
+        ensures { result ≡ true → (x : Resource) → count_of self.now x ≡ 0 }
+    {
+        self.map.is_empty()
+    }
+
+    /// The job holds each name that is had here at most as many times as it is to hold it. Takes no memory.
+    pub fn lower_in(&self, trie: &mut LockTrie, job: u16, held: &Counts)
         ensures others { AreOthersSame trie.old trie.new job }
-        ensures lowered { AreLowered (held_count trie.old job) (held_count trie.new job) (count_of (held_of want.now inside.now)) }
-        ensures reached { (x : Resource) → 0 < count_of self.now x → held_count trie.new job x ≤ count_of (held_of want.now inside.now) x }
+        ensures lowered { AreLowered (held_count trie.old job) (held_count trie.new job) (count_of held.now) }
+        ensures reached { (x : Resource) → 0 < count_of self.now x → held_count trie.new job x ≤ count_of held.now x }
     {
         for (name, _) in self.map.iter() {
-            lower(trie, job, name, held(want, inside, name));
+            lower(trie, job, name, held.count(name));
         }
     }
 }

@@ -19,25 +19,33 @@
 //! `plus`, `minus` or `clear`; `reply` and `check` change nothing.
 //!
 //! Invariants:
-//! (1) a row keeps what is wanted and, inside, the peaks: for names that were released there the highest count wanted
-//!     before. Held is the greater of the two, so that nothing else has to change when a name is released inside
-//!     (`specs/Rows.antt`);
-//! (2) what was wanted at the start is held, so that a rollback only gives back, and takes no memory;
-//! (3) the trie has of each job what its row holds (`specs/Tables.antt`);
-//! (4) no count is above 65,535, and a name that is had no time has no entry (`specs/Counted.antt`).
+//! (1) a row keeps what is held and, inside, two differences to it: how many times fewer each name is wanted, and how many
+//!     times more it is held than it was wanted at the start; neither is above what is held (`specs/Rows.antt`);
+//! (2) the trie has of each job what its row holds (`specs/Tables.antt`);
+//! (3) no count is above 65,535, and a name that is had no time has no entry (`specs/Counted.antt`).
 //!
-//! What may be refused comes first and changes no held count: peaks are raised no higher than what is wanted, and the
-//! trie is brought back to what the row holds. A LOCK with + or - costs what it names, one that releases all what the
-//! job wants, and the first in a transaction a copy of what is wanted.
+//! So a commit takes away the first difference and a rollback the second: both only give back, and take no memory. With
+//! 1 `^A` wanted at the start:
 //!
-//! `check` copies what the job wants; `reply` takes no memory.
+//! | LOCK inside | Held | Fewer | Added | Wanted | Start |
+//! |---|---|---|---|---|---|
+//! | | 1 `^A` | | | 1 `^A` | 1 `^A` |
+//! | `-^A` | 1 `^A` | 1 `^A` | | none | 1 `^A` |
+//! | `+(^A,^B)` | 1 `^A`, 1 `^B` | | 1 `^B` | 1 `^A`, 1 `^B` | 1 `^A` |
 //!
-//! Read `specs/Rows.antt`, then `table.rt`, `command.rt`, `row.rt`, `moves.rt`.
+//! What may be refused comes first and is taken back. A LOCK outside a transaction is one inside that is committed at once.
+//! A LOCK with + or - costs what it names, one that releases all what the job holds, a commit what was given back in the
+//! transaction, a rollback what was added.
+//!
+//! `check` looks at the counts of the names that are asked for; `reply` takes no memory.
+//!
+//! Read `specs/Rows.antt`, then `table.rt`, `command.rt`, `row.rt`, `inside.rt`, `moves.rt`.
 //! Not promised: any time.
 #![tactic(auto)]
 
 pub use table::LockTable;
 
+mod chosen;
 mod command;
 mod counts;
 mod inside;

@@ -3,7 +3,9 @@ ghost use Rattle.std.specs.Prelude.{true, false, not, ◌⊎◌, if◌then◌els
 ghost use Rattle.std.specs.List.{list_any};
 ghost use Rattle.std.specs.FinMap as finmap;
 ghost use Rattle.collation.specs.declared.lock.LockCommand.TheVariants.{Release, Only, More, Fewer};
-ghost use Rattle.collation.specs.Locks.{no_locks, locks_of, changed, job_wants, is_blocked, lock_reply, lock_refusal, locks_after, locks_after_commit, locks_after_back, locks_after_end};
+ghost use Rattle.collation.specs.Reference.{Resource};
+ghost use Rattle.collation.specs.Locks.{no_locks, count_of, locks_of, changed, job_wants, is_blocked, lock_reply, lock_refusal, locks_after, locks_after_commit, locks_after_back, locks_after_end};
+ghost use Rattle.lock_table.specs.Counted.{is_named};
 ghost use Rattle.lock_table.specs.Rows.{want_by, is_full_by};
 ghost use Rattle.lock_table.specs.Tables.{nothing};
 
@@ -76,12 +78,12 @@ impl LockTable {
         Counts::new(self.alloc)
     }
 
-    /// A copy of what the job wants.
-    pub(crate) fn wanted(&self, job: u16) -> Result<Counts, AllocError>
-        ensures { IfOk result (λ want. want ≡ (let l = locks_of job self.now in l.want)) }
+    /// Of these names as many as the job wants, and of no other.
+    pub(crate) fn wanted(&self, job: u16, names: &[LockName]) -> Result<Counts, AllocError>
+        ensures { IfOk result (λ want. (x : Resource) → is_named x names.now ≡ true → count_of want x ≡ count_of (let l = locks_of job self.now in l.want) x) }
     {
         match self.rows.get(&job) {
-            Some(row) => row.wanted(),
+            Some(row) => row.named(names),
             None => Ok(self.nothing()),
         }
     }

@@ -1,7 +1,6 @@
 use Rattle.std.proofs.Common.{refl}
 use Rattle.collation.specs.Locks.{count_of}
 use Rattle.lock_trie.specs.Held.{held_count}
-use Rattle.lock_table.specs.Rows.{held_of}
 use Rattle.lock_table.proofs.Moving.{sinking_first, sinking_next, sunk}
 use Rattle.lock_table.proofs.Trie.{at_job, at_other}
 use Rattle.lock_table.proofs.counts.Counts.lower_in.Goals as goal
@@ -11,7 +10,7 @@ loop-name-init c = record {
   can = tt;
   finite = tt;
   others = λ other x apart. refl;
-  sinking = rw (c.into_iter-name-iterator.ensures.into_iter_gives, c.iter-name-items.ensures.rest) (sinking_first c.self.inside.map.entries (held_count c.args.trie.now c.args.job) (count_of (held_of c.args.want.now c.args.inside.now)) c.args.self.now c.self.view_is c.iter-name-items.ensures.found);
+  sinking = rw (c.into_iter-name-iterator.ensures.into_iter_gives, c.iter-name-items.ensures.rest) (sinking_first c.self.inside.map.entries (held_count c.args.trie.now c.args.job) (count_of c.args.held.now) c.args.self.now c.self.view_is c.iter-name-items.ensures.found);
 }
 
 pub loop-name-preserved : goal.loop-name-preserved
@@ -19,12 +18,12 @@ loop-name-preserved c = record {
   can = tt;
   finite = tt;
   others = at_other c.args.trie.now c.loop-name.trie c.lower.new.trie c.args.job c.in-Some.name.now _ c.lower.ensures c.loop-name.invariant.others;
-  sinking = sinking_next (held_count c.args.trie.now c.args.job) (held_count c.loop-name.trie c.args.job) (held_count c.lower.new.trie c.args.job) (count_of (held_of c.args.want.now c.args.inside.now)) c.args.self.now (c.in-Some.name.now, c.in-Some.field-0-1.now) c.next.new.self c.loop-name.name-iterator
-      c.held.result c.in-Some.ensures.steps c.held.ensures.count (at_job c.loop-name.trie c.lower.new.trie c.args.job c.in-Some.name.now _ c.lower.ensures) c.loop-name.invariant.sinking;
+  sinking = sinking_next (held_count c.args.trie.now c.args.job) (held_count c.loop-name.trie c.args.job) (held_count c.lower.new.trie c.args.job) (count_of c.args.held.now) c.args.self.now (c.in-Some.name.now, c.in-Some.field-0-1.now) c.next.new.self c.loop-name.name-iterator
+      c.count.result c.in-Some.ensures.steps c.count.ensures.count (at_job c.loop-name.trie c.lower.new.trie c.args.job c.in-Some.name.now _ c.lower.ensures) c.loop-name.invariant.sinking;
 }
 
 pub returns-clause-lowered : goal.returns-clause-lowered
 returns-clause-lowered c = let s = c.loop-name.invariant.sinking in s.lowered
 
 pub returns-clause-reached : goal.returns-clause-reached
-returns-clause-reached c = sunk (held_count c.args.trie.now c.args.job) (held_count c.loop-name.trie c.args.job) (count_of (held_of c.args.want.now c.args.inside.now)) c.args.self.now c.loop-name.name-iterator c.in-None.ensures.steps.0 c.loop-name.invariant.sinking
+returns-clause-reached c = sunk (held_count c.args.trie.now c.args.job) (held_count c.loop-name.trie c.args.job) (count_of c.args.held.now) c.args.self.now c.loop-name.name-iterator c.in-None.ensures.steps.0 c.loop-name.invariant.sinking

@@ -1,0 +1,12 @@
+use Rattle.std.proofs.Common.{◌≡◌, ◌≤◌, ◌+◌, length, drop}
+use Rattle.std.specs.Prelude.{◌-◌}
+use Rattle.collation.specs.Reference.{Resource}
+use Rattle.collation.specs.Locks.{count_of}
+use Rattle.collation.specs.LockLaws.{times}
+use Rattle.lock_table.proofs.chosen.beyond.Given as goal
+
+abbrev pub invariant-loop-name : goal.invariant-loop-name
+invariant-loop-name l = record {
+  in_range : l.name-index ≤ length l.names;
+  whole : (x : Resource) → times x l.kept.items + (times x (drop l.name-index l.names) - count_of l.left x) ≡ times x l.names - count_of l.initial.left x;
+}
