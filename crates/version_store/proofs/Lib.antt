@@ -1,6 +1,7 @@
 pub mod CutLemmas
 pub mod DropLemmas
 pub mod NewestLemmas
+pub mod PlaceLemmas
 pub mod RangeLemmas
 pub mod SeekLemmas
 pub mod SetLemmas

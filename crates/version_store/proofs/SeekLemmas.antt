@@ -1,7 +1,7 @@
 -- What stands next to a cut in the content, from what a walk over the tree passes.
 use Rattle.std.proofs.Common.{◌≡◌, ℕ, List, [], ◌∷◌, ◌++◌, refl, sym, ap, ◌∙◌, subst}
 use Rattle.std.proofs.lemmas.List.{reverse-append}
-use Rattle.std.specs.Prelude.{Bool, true, false, not, cond, filter, reverse, Option, Some, None}
+use Rattle.std.specs.Prelude.{Bool, true, false, not, cond, filter, reverse, Option, Some, None, is_some}
 use Rattle.std.specs.Ordering.{eq_by_cmp}
 use Rattle.std.specs.Cmp.{second_so, first_so, eq_by_cmp_equiv}
 use Rattle.std.specs.Bool.{passes}
@@ -16,11 +16,11 @@ use Rattle.collation.specs.OrderLaws.{ref_cmp_total, ref_cmp-IsAntisymmetric, is
 use Rattle.globals.specs.Entries.{nearest_entry, find_last}
 use Rattle.version_chain.specs.Versions.{at_of}
 use Rattle.version_chain.specs.Chains.{versions_at, IsOpen}
-use Rattle.version_store.specs.Versions.{Row, content_at, with_value, seen_at, first_of}
-use Rattle.version_store.specs.Tied.{rows, versions_in, AreOpen, IsTied}
+use Rattle.version_store.specs.Versions.{Row, Versions, content_at, with_value, seen_at, first_of}
+use Rattle.version_store.specs.Tied.{rows, versions_in, AreOpen, AreKeysOf, IsTied}
 use Rattle.globals.specs.NearestLaws.{true_of, not_found_itself}
 use Rattle.version_store.specs.laws.Content.{entries_content}
-use Rattle.version_store.proofs.TiedLemmas.{State, Pairs, entries_in}
+use Rattle.version_store.proofs.TiedLemmas.{State, Pairs, entries_in, get_at}
 
 -- ---- forward
 
@@ -105,20 +105,24 @@ prev_in B c ps s h = sym (ap (find_last (λ e. B e.0)) (entries_content (version
 
 -- ---- the ids that a walk passes are open
 
-all_open : (c : State) (ps : Pairs) → is_sorted ref_cmp ps ≡ true → ((q : Reference) (id : ℕ) → finmap.find ref_cmp q ps ≡ Some id → IsOpen c id) → AreOpen c ps
-all_open c [] h is = tt
-all_open c (p ∷ ps) h is =
-    (is p.0 p.1 here, all_open c ps (second_so (below_all ref_cmp p.0 ps) _ h) (λ q id at. is q id (behind q id (eq_by_cmp ref_cmp q p.0) refl at)))
-  where
-    here : finmap.find ref_cmp p.0 (p ∷ ps) ≡ Some p.1
-    here = ap (λ r. cond r (Some p.1) (finmap.find ref_cmp p.0 ps)) (let laws = eq_by_cmp_equiv ref_cmp_total in laws.refl p.0)
+-- the first pair is found by its key, and those behind it by theirs
+first_found : (p : Reference × ℕ) (ps : Pairs) → finmap.find ref_cmp p.0 (p ∷ ps) ≡ Some p.1
+first_found p ps = ap (λ r. cond r (Some p.1) (finmap.find ref_cmp p.0 ps)) (let laws = eq_by_cmp_equiv ref_cmp_total in laws.refl p.0)
 
-    behind : (q : Reference) (id : ℕ) (t : Bool) → eq_by_cmp ref_cmp q p.0 ≡ t → finmap.find ref_cmp q ps ≡ Some id → finmap.find ref_cmp q (p ∷ ps) ≡ Some id
-    behind q id true t at =
+found_behind : (p : Reference × ℕ) (ps : Pairs) (q : Reference) (id : ℕ) → is_sorted ref_cmp (p ∷ ps) ≡ true → finmap.find ref_cmp q ps ≡ Some id → finmap.find ref_cmp q (p ∷ ps) ≡ Some id
+found_behind p ps q id h at = by_tie (eq_by_cmp ref_cmp q p.0) refl
+  where
+    by_tie : (t : Bool) → eq_by_cmp ref_cmp q p.0 ≡ t → cond t (Some p.1) (finmap.find ref_cmp q ps) ≡ Some id
+    by_tie true t =
         let same = ref_cmp-IsAntisymmetric q p.0 (is_equal _ t) in
         let none = sym at ∙ ap (λ x. finmap.find ref_cmp x ps) same ∙ not_found_itself ref_cmp ref_cmp_total ref_cmp-IsAntisymmetric p.0 ps (first_so (below_all ref_cmp p.0 ps) _ h) in
         absurd (cc)
-    behind q id false t at = ap (λ r. cond r (Some p.1) (finmap.find ref_cmp q ps)) t ∙ at
+    by_tie false t = at
+
+all_open : (c : State) (ps : Pairs) → is_sorted ref_cmp ps ≡ true → ((q : Reference) (id : ℕ) → finmap.find ref_cmp q ps ≡ Some id → IsOpen c id) → AreOpen c ps
+all_open c [] h is = tt
+all_open c (p ∷ ps) h is =
+    (is p.0 p.1 (first_found p ps), all_open c ps (second_so (below_all ref_cmp p.0 ps) _ h) (λ q id at. is q id (found_behind p ps q id h at)))
 
 pub open_in : (c : State) (ps : Pairs) (now : ℕ) → IsTied ps c now → AreOpen c ps
 open_in c ps now tied = all_open c ps tied.sorted tied.opened
@@ -130,6 +134,25 @@ open_filter c P (p ∷ ps) opened = by_test (P p) (open_filter c P ps opened.1)
     by_test : (b : Bool) → AreOpen c (filter P ps) → AreOpen c (cond b (p ∷ filter P ps) (filter P ps))
     by_test true rest = (opened.0, rest)
     by_test false rest = rest
+
+-- ---- the keys that a walk passes are placed
+
+keys_filter : (m : Versions) (P : Reference × ℕ → Bool) (ps : Pairs) → AreKeysOf m ps → AreKeysOf m (filter P ps)
+keys_filter m P [] keys = tt
+keys_filter m P (p ∷ ps) keys = by_test (P p) (keys_filter m P ps keys.1)
+  where
+    by_test : (b : Bool) → AreKeysOf m (filter P ps) → AreKeysOf m (cond b (p ∷ filter P ps) (filter P ps))
+    by_test true rest = (keys.0, rest)
+    by_test false rest = rest
+
+-- each pair of a part of the tree is found there
+found_in : (c : State) (ps qs : Pairs) → is_sorted ref_cmp ps ≡ true → is_sorted ref_cmp qs ≡ true → ((q : Reference) (id : ℕ) → finmap.find ref_cmp q qs ≡ Some id → finmap.find ref_cmp q ps ≡ Some id) → AreKeysOf (versions_in c ps) qs
+found_in c ps [] h k is = tt
+found_in c ps (q ∷ qs) h k is =
+    (ap is_some (get_at c ps q.0 q.1 h (is q.0 q.1 (first_found q qs))), found_in c ps qs h (second_so (below_all ref_cmp q.0 qs) _ k) (λ r id at. is r id (found_behind q qs r id k at)))
+
+pub keys_walked : (c : State) (P : Reference × ℕ → Bool) (ps : Pairs) → is_sorted ref_cmp ps ≡ true → AreKeysOf (versions_in c ps) (filter P ps)
+keys_walked c P ps h = keys_filter (versions_in c ps) P ps (found_in c ps ps h h (λ q id at. at))
 
 open_append : (c : State) (xs ys : Pairs) → AreOpen c xs → AreOpen c ys → AreOpen c (xs ++ ys)
 open_append c [] ys first second = second

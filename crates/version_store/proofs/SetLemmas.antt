@@ -4,12 +4,13 @@ use Rattle.std.specs.Prelude.{Bool, true, false, cond, leb, Option, Some, None, 
 use Rattle.std.specs.Ordering.{eq_by_cmp}
 use Rattle.std.specs.Cmp.{eq_by_cmp_equiv}
 use Rattle.std.specs.FinMap as finmap
-use Rattle.std.specs.FinMap.{find, put, get, get-insert, same_map}
+use Rattle.std.specs.FinMap.{find, put, get, get-insert, get-remove, same_map}
 use Rattle.std.specs.FinMap.Entries.{find-put}
 use Rattle.collation.specs.Reference.{Reference}
 use Rattle.collation.specs.Order.{ref_cmp}
 use Rattle.collation.specs.OrderLaws.{ref_cmp_total, ref_cmp-IsAntisymmetric}
 use Rattle.version_chain.specs.Versions.{IsAbove}
+use Rattle.version_chain.specs.laws.Versions.{leb_yes}
 use Rattle.version_chain.specs.Cut.{left_after, cut_of}
 use Rattle.version_chain.specs.laws.Cut.{left_after-cut_of}
 use Rattle.version_chain.specs.Chains.{listed, chain_at, versions_at, Updates}
@@ -67,6 +68,33 @@ tidied_value h stamp k v m =
     ∙ ap (λ o. cond (is_bare o) (finmap.remove (finmap.insert (finmap.insert m k new) k (left_after h new)) k) (finmap.insert (finmap.insert m k new) k (left_after h new))) (get_put (finmap.insert m k new) k (left_after h new))
     ∙ ap (λ b. cond b (finmap.remove (finmap.insert (finmap.insert m k new) k (left_after h new)) k) (finmap.insert (finmap.insert m k new) k (left_after h new))) (value_left h stamp v (versions_of m k))
     ∙ put_twice m k new (left_after h new)
+
+-- nothing is left where an absence is newest and nobody asks for older versions
+absence_left : (h stamp : ℕ) (vs : Row) → stamp ≤ h → left_after h ((stamp, None) ∷ vs) ≡ []
+absence_left h stamp vs le =
+    left_after-cut_of h ((stamp, None) ∷ vs) ∙ ap (λ b. cond {A = Row} b [] ((stamp, None) ∷ cut_of h vs)) (leb_yes stamp h le)
+
+-- what was put there is taken out as what stood there
+remove_put : (m : Versions) (k : Reference) (vs : Row) → finmap.remove (finmap.insert m k vs) k ≡ finmap.remove m k
+remove_put m k vs = same_map ref_cmp_total ref_cmp-IsAntisymmetric _ _ (λ q.
+    get-remove ref_cmp_total (finmap.insert m k vs) k q
+    ∙ ap (cond (eq_by_cmp ref_cmp q k) None) (get-insert ref_cmp_total m k vs q)
+    ∙ by_tie (eq_by_cmp ref_cmp q k) (get m q) ∙ sym (get-remove ref_cmp_total m k q))
+  where
+    by_tie : (t : Bool) (o : Option Row) → cond t None (cond t (Some vs) o) ≡ cond t None o
+    by_tie true o = refl
+    by_tie false o = refl
+
+-- the rows once an absence is written that nobody asks for
+pub tidied_absence : (h stamp : ℕ) (k : Reference) (m : Versions) → stamp ≤ h → tidied h k (with_version stamp (k, None) m) ≡ finmap.remove m k
+tidied_absence h stamp k m le =
+    let new : Row = (stamp, None) ∷ versions_of m k in
+    let both = finmap.insert (finmap.insert m k new) k [] in
+    ap (λ vs. cond (is_bare (get (finmap.insert (finmap.insert m k new) k (left_after h vs)) k)) (finmap.remove (finmap.insert (finmap.insert m k new) k (left_after h vs)) k) (finmap.insert (finmap.insert m k new) k (left_after h vs))) (ap listed (get_put m k new))
+    ∙ ap (λ vs. cond (is_bare (get (finmap.insert (finmap.insert m k new) k vs) k)) (finmap.remove (finmap.insert (finmap.insert m k new) k vs) k) (finmap.insert (finmap.insert m k new) k vs)) (absence_left h stamp (versions_of m k) le)
+    ∙ ap (λ o. cond (is_bare o) (finmap.remove both k) both) (get_put (finmap.insert m k new) k [])
+    ∙ remove_put (finmap.insert m k new) k []
+    ∙ remove_put m k new
 
 -- a placed reference
 pub set_there : (h stamp : ℕ) (k : Reference) (v : List ℕ) (m n : Versions) → n ≡ finmap.insert (with_version stamp (k, Some v) m) k (left_after h (versions_of (with_version stamp (k, Some v) m) k)) → n ≡ tidied h k (with_version stamp (k, Some v) m)

@@ -1,7 +1,7 @@
 -- How a tree of ids and chains hold the versions together.
 use Rattle.std.specs.Prelude.{◌≡◌, ℕ, suc, true, List, [], ◌∷◌, Option, Some, map, filter, length}
 use Rattle.std.specs.Ordering.{eq_by_cmp}
-use Rattle.std.specs.FinMap.{find, is_sorted, from_sorted}
+use Rattle.std.specs.FinMap.{find, is_sorted, from_sorted, contains_key}
 use Rattle.collation.specs.Reference.{Reference}
 use Rattle.collation.specs.Order.{ref_cmp}
 use Rattle.globals.specs.declared.cut.Cut.{Cut}
@@ -25,6 +25,11 @@ newest_below high chains pairs = newest_among (filter (λ e. stands_before high 
 abbrev pub AreOpen : ChainsState (List ℕ) → List (Reference × ℕ) → Type 0
 AreOpen chains [] = Unit {0}
 AreOpen chains (p ∷ ps) = IsOpen chains p.1 × AreOpen chains ps
+
+-- the key of each pair is placed
+abbrev pub AreKeysOf : Versions → List (Reference × ℕ) → Type 0
+AreKeysOf m [] = Unit {0}
+AreKeysOf m (p ∷ ps) = (contains_key m p.0 ≡ true) × AreKeysOf m ps
 
 -- the keys rise, each has an open chain, no chain is named twice, no other is open, no version is after now, and stamps fall
 pub record IsTied (pairs : List (Reference × ℕ)) (chains : ChainsState (List ℕ)) (now : ℕ) : Type 0 where

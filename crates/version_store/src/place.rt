@@ -1,13 +1,41 @@
 //! Room for changes: chains for references, and cells for versions.
-ghost use Rattle.std.specs.Prelude.{◌≡◌, ℕ, ◌≤◌, [], None, OnOk, OnErr, length, true, map};
+ghost use Rattle.std.specs.Prelude.{◌≡◌, ℕ, ◌≤◌, [], None, OnOk, OnErr, length, true, map, drop};
 ghost use Rattle.std.specs.FinMap as finmap;
 ghost use Rattle.collation.specs.Reference.{Reference};
-ghost use Rattle.version_store.specs.Versions.{content_at, versions_of, placed, all_placed};
+ghost use Rattle.version_store.specs.Versions.{Versions, content_at, versions_of, placed, all_placed};
+ghost use Rattle.version_store.specs.Tied.{AreKeysOf};
 
+use crate::point::CutPoint;
 use crate::store::Store;
+use btree::Walk;
 use collation::Text;
+use globals::Cut;
 use key_codec::Key;
 use std::alloc::{AllocError, Global};
+use std::cmp::Ordering;
+use version_chain::ChainId;
+
+// With fewer changes a walk beside them doesn't pay.
+const FEW: usize = 8;
+
+// How many of the changes, from the first on, are of just the references that a walk passes.
+fn count_along(walk: Walk<'_, Key, ChainId>, changes: &[(Key, Option<Text>)]) -> usize
+    ensures few { result ≤ length changes.now }
+    ensures placed { (m : Versions) → AreKeysOf m walk.entry → all_placed (map (λ c. c.0) (drop result changes.now)) m ≡ all_placed (map (λ c. c.0) changes.now) m }
+{
+    let mut walk = walk;
+    let mut count = 0;
+    for (key, _) in changes {
+        let Some((placed, _)) = walk.next() else {
+            return count;
+        };
+        match key.cmp(placed) {
+            Ordering::Equal => count += 1,
+            _ => return count,
+        }
+    }
+    count
+}
 
 impl Store {
     // Gives a reference without a chain an empty one.
@@ -46,6 +74,39 @@ impl Store {
         self.place_new(alloc, copy)
     }
 
+    // Gives the reference of each change an empty chain, if it has none.
+    fn place_each(
+        &mut self,
+        alloc: Global,
+        changes: &[(Key, Option<Text>)],
+    ) -> Result<(), AllocError>
+        ensures placed { OnOk result (self.new.versions ≡ all_placed (map (λ c. c.0) changes.now) self.old.versions) }
+        ensures rows { (r : Reference) → versions_of self.new.versions r ≡ versions_of self.old.versions r }
+        ensures content { (s : ℕ) → content_at self.new.versions s ≡ content_at self.old.versions s }
+        ensures present { self.new.present ≡ self.old.present }
+        ensures cut { self.new.cut ≡ self.old.cut }
+        ensures mark { self.new.mark ≡ self.old.mark }
+        ensures spare { self.new.spare ≡ self.old.spare }
+    {
+        for (key, _) in changes {
+            self.place(alloc, key)?;
+        }
+        Ok(())
+    }
+
+    // How many of the changes, from the first on, are known to be of placed references, by one look-up and a walk from
+    // there. A KILL's are all.
+    fn count_placed(&self, changes: &[(Key, Option<Text>)]) -> usize
+        ensures few { result ≤ length changes.now }
+        ensures placed { all_placed (map (λ c. c.0) (drop result changes.now)) self.now.versions ≡ all_placed (map (λ c. c.0) changes.now) self.now.versions }
+    {
+        if changes.len() < FEW {
+            return 0;
+        }
+        let cut = Cut::Before(&changes[0].0);
+        count_along(self.tree.from(&CutPoint { cut }), changes)
+    }
+
     /// Reserves cells, so that there are at least `cells`, and keeps those there are.
     pub(crate) fn reserve(&mut self, cells: usize) -> Result<(), AllocError>
         ensures kept { self.new ≡ record self.old { spare = self.new.spare } }
@@ -74,9 +135,7 @@ impl Store {
         ensures spare { self.old.spare ≤ self.new.spare }
     {
         self.reserve(changes.len())?;
-        for (key, _) in changes {
-            self.place(alloc, key)?;
-        }
-        Ok(())
+        let placed = self.count_placed(changes);
+        self.place_each(alloc, &changes[placed..])
     }
 }

@@ -98,7 +98,46 @@ impl Store {
         }
     }
 
-    // Adds a version for each change, and cuts its reference.
+    // Takes out a reference with all its versions.
+    fn take_out(&mut self, key: &Key)
+        requires placed { finmap.contains_key self.old.versions key.now ≡ true }
+        ensures versions { self.new.versions ≡ finmap.remove self.old.versions key.now }
+        ensures present { self.new.present ≡ self.old.present }
+        ensures cut { self.new.cut ≡ self.old.cut }
+        ensures mark { self.new.mark ≡ self.old.mark }
+        ensures spare { self.old.spare ≤ self.new.spare }
+    {
+        match self.tree.remove(key) {
+            Some(id) => self.chains.close(id),
+            None => unreachable!(),
+        }
+    }
+
+    // Writes one change as `push_and_cut` does. An absence that nobody asks for takes out its reference at once.
+    fn write_one(&mut self, stamp: u64, horizon: u64, key: &Key, value: Option<Text>)
+        requires placed { finmap.contains_key self.old.versions key.now ≡ true }
+        requires newest { IsAbove stamp (versions_of self.old.versions key.now) }
+        requires stamp { stamp ≤ self.old.present }
+        requires reserved { 0 < self.old.spare }
+        ensures versions { self.new.versions ≡ tidied horizon key.now (with_version stamp (key.now, value) self.old.versions) }
+        ensures present { self.new.present ≡ self.old.present }
+        ensures cut { self.new.cut ≡ self.old.cut }
+        ensures mark { self.new.mark ≡ self.old.mark }
+        ensures spare { self.old.spare ≤ self.new.spare + 1 }
+    {
+        match value {
+            Some(text) => self.push_and_cut(stamp, horizon, key, Some(text)),
+            None => {
+                if stamp <= horizon {
+                    self.take_out(key);
+                } else {
+                    self.push_and_cut(stamp, horizon, key, None);
+                }
+            }
+        }
+    }
+
+    // Writes each change, and cuts its reference.
     fn push_and_cut_all(&mut self, stamp: u64, horizon: u64, changes: Vec<(Key, Option<Text>)>)
         requires placed { ArePlaced self.old.versions changes.items }
         requires apart { AreApart changes.items }
@@ -112,7 +151,7 @@ impl Store {
         ensures spare { self.old.spare ≤ self.new.spare + vec_len changes }
     {
         for (key, value) in changes {
-            self.push_and_cut(stamp, horizon, &key, value);
+            self.write_one(stamp, horizon, &key, value);
             drop(key);
         }
     }

@@ -14,16 +14,16 @@ loop-key-preserved c =
     let room = rw steps at now.room in
     let spare = rw steps at now.spare in
     let m = c.loop-key.self.versions in
-    rw c.push_and_cut.ensures.versions (record {
+    rw c.write_one.ensures.versions (record {
       can_next = tt;
       is_finite = tt;
       placed = placed_cut c.args.stamp c.args.horizon (c.in-Some.key, c.in-Some.value) m _ apart.0 placed.1;
       apart = apart.1;
       newest = below_cut c.args.stamp c.args.horizon (c.in-Some.key, c.in-Some.value) m _ apart.0 newest.1;
       versions = versions;
-      present = c.push_and_cut.ensures.present ∙ now.present;
-      cut = c.push_and_cut.ensures.cut ∙ now.cut;
-      mark = c.push_and_cut.ensures.mark ∙ now.mark;
-      room = omega (arith, room, c.push_and_cut.ensures.spare);
-      spare = omega (arith, spare, room, c.push_and_cut.ensures.spare);
+      present = c.write_one.ensures.present ∙ now.present;
+      cut = c.write_one.ensures.cut ∙ now.cut;
+      mark = c.write_one.ensures.mark ∙ now.mark;
+      room = omega (arith, room, c.write_one.ensures.spare);
+      spare = omega (arith, spare, room, c.write_one.ensures.spare);
     })

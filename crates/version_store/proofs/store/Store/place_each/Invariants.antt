@@ -1,7 +1,7 @@
 use Rattle.std.proofs.Common.{◌≡◌, ℕ, drop, map}
 use Rattle.collation.specs.Reference.{Reference}
 use Rattle.version_store.specs.Versions.{all_placed, versions_of, content_at}
-use Rattle.version_store.proofs.store.Store.place_keys.Given as goal
+use Rattle.version_store.proofs.store.Store.place_each.Given as goal
 
 abbrev pub invariant-loop-key : goal.invariant-loop-key
 invariant-loop-key l = record {
