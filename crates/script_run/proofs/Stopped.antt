@@ -1,12 +1,11 @@
 -- Runs that end for want of memory: which lines have their replies.
-use Rattle.std.proofs.Common.{◌≡◌, ℕ, ◌≤◌, ◌<◌, ◌+◌, ◌-◌, Bool, true, false, List, [], ◌∷◌, ◌++◌, map, length, take, drop, Option, Some, None, IfSome, inl, inr, ◌⊎◌, refl, sym, ap, subst, ◌∙◌, append_assoc, arith, length-drop}
-use Rattle.std.proofs.lemmas.List.{append-nil, map-append, nil_from_length}
+use Rattle.std.proofs.Common.{◌≡◌, ℕ, ◌≤◌, ◌+◌, ◌-◌, Bool, true, List, [], ◌∷◌, ◌++◌, length, take, drop, Option, Some, None, IfSome, inl, inr, ◌⊎◌, refl, sym, ap, subst, ◌∙◌, append_assoc, arith}
+use Rattle.std.proofs.lemmas.List.{append-nil, nil_from_length}
 use Rattle.std.proofs.lemmas.Grind.{flat_map-append}
 use Rattle.std.specs.Prelude.{codes, suc, Result, Ok, Err, IsErrOf}
 use Rattle.std.specs.Result.{IsErrAnd}
 use Rattle.std.specs.List.{flat_map}
-use Rattle.std.specs.FinMap as finmap
-use Rattle.std.specs.Io.KnownBytes.{Appends, IsAtEnd, Keeps}
+use Rattle.std.specs.Io.KnownBytes.{Appends}
 use Rattle.std.specs.Io.BufRead.{strip_last}
 use Rattle.bstr.specs.Find.{IsFirstByte, is_byte}
 use Rattle.collation.specs.Database.{Database}
@@ -17,17 +16,17 @@ use Rattle.serial.specs.Machine.{run_of}
 use Rattle.listing.specs.Bytes.{WritesBeginning, Passes}
 use Rattle.listing.specs.declared.nodes.ListingFault.{ListingFault}
 use Rattle.listing.specs.declared.nodes.ListingFault.TheVariants.{Write as ListingWrite, Memory as ListingMemory}
-use Rattle.listing.specs.Listing.{node_text, listing_text, IsListedFront, HasListed}
+use Rattle.listing.specs.Listing.{node_text, IsListedFront, HasListed}
 use Rattle.listing.specs.BytesLaws.{Appends-nothing, Appends-more, WritesBeginning-longer, Passes-none, Passes-all, Passes-more, Passes-then, Passes-Appends, Passes-begun}
 use Rattle.script_run.specs.declared.fault.Fault.{Fault}
 use Rattle.script_run.specs.declared.fault.Fault.TheVariants.{Memory}
 use Rattle.script_run.specs.Faults.{fault_of}
 use Rattle.script_run.specs.Lines.{kept, lines_of, has_no_end}
-use Rattle.script_run.specs.Output.{Answer, asked_by, IsAnswer, AreAnswers, told_by, left_by, left_open, left_at_end, halts_of, text_of, some_refused, ending, IsOutput, IsBegun, IsEndingFront, HasKept}
+use Rattle.script_run.specs.Output.{Answer, asked_by, IsAnswer, AreAnswers, told_by, left_by, left_open, left_at_end, halts_of, text_of, some_refused, ending, IsBegun, IsEndingFront, HasKept}
 use Rattle.script_run.specs.Runs.{Ran, RanFront, HasRead, Stopped, StoppedFront, EndedFront, StoppedEnd, HasGathered}
 use Rattle.script_run.specs.declared.answers.Script.{Script}
 use Rattle.script_run.specs.LineLaws.{last_line}
-use Rattle.script_run.proofs.Runs.{AreAnswers-append, left-then, left-append, open-then, next-line, joined-split, joined_first, halted, halts-legal}
+use Rattle.script_run.proofs.Runs.{AreAnswers-append, left-then, open-then, next-line, joined-split, joined_first, halted, halts-legal}
 use Rattle.script_run.proofs.Stands.{Stands, Follows, Follows-more, Follows-lines, lines_in, lines-append, at_end, goes_on}
 
 -- ---- faults that are passed on
