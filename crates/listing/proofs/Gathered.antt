@@ -9,7 +9,9 @@ use Rattle.std.specs.Io.KnownBytes.{Appends}
 use Rattle.collation.specs.Reference.{Reference}
 use Rattle.listing.specs.Bytes.{WritesBeginning, Passes}
 use Rattle.listing.specs.BytesLaws.{Appends-nothing, Appends-more, Passes-then, WritesBeginning-all, WritesBeginning-longer, WritesBeginning-then}
-use Rattle.listing.specs.Listing.{node_text}
+use Rattle.std.specs.FinMap as finmap
+use Rattle.collation.specs.Database.{Database}
+use Rattle.listing.specs.Listing.{node_text, HasListed}
 
 abbrev pub Entry : Type 0
 Entry = Reference × List ℕ
@@ -59,6 +61,14 @@ whole old now front all done left out h =
 pub begun : (old now : Option (List ℕ)) (front : List ℕ) (all done left : List Entry) (out : List ℕ) → Stands old now front all done left out → WritesBeginning old now (front ++ lines_of all)
 begun old now front all done left out h =
     subst (WritesBeginning old now) (sym (whole old now front all done left out h)) (WritesBeginning-longer old now h.passes.written (out ++ lines_of left) (WritesBeginning-all old now h.passes.written h.passes.appended))
+
+-- and no more of it is gathered
+pub listed_so_far : (old now : Option (List ℕ)) (front : List ℕ) (m : Database) (done left : List Entry) (out same : List ℕ) → Stands old now front (finmap.entries m) done left out → same ≡ out → HasListed old now front m same
+listed_so_far old now front m done left out same h e = record {
+  text = lines_of done;
+  listed = record { done = done; left = left; parts = h.parts; lines = refl };
+  passes = subst (Passes old now (front ++ lines_of done)) (sym e) h.passes;
+}
 
 -- a beginning of what was gathered was written
 pub begun_out : (old now last : Option (List ℕ)) (front : List ℕ) (all done left : List Entry) (out : List ℕ) → Stands old now front all done left out → WritesBeginning now last out → WritesBeginning old last (front ++ lines_of all)

@@ -1,8 +1,9 @@
 //! The listing of a view.
 ghost use Rattle.std.specs.Prelude.{◌≡◌, ◌++◌, [], OnOk, OnErr, IsErrOf};
 ghost use Rattle.std.specs.Io.KnownBytes.{Appends};
+ghost use Rattle.key_codec.specs.Grown.{GoesOnFrom};
 ghost use Rattle.listing.specs.Bytes.{WritesBeginning, Counts};
-ghost use Rattle.listing.specs.Listing.{node_text, listing_text};
+ghost use Rattle.listing.specs.Listing.{node_text, listing_text, HasListed};
 
 use crate::{Counted, WriteFault};
 use collation::Text;
@@ -24,9 +25,9 @@ pub enum ListingFault {
     Memory,
 }
 
-// A node's line at the end of `out`.
-fn push_node(key: &Key, value: &Text, out: &mut Vec<u8>) -> Result<(), AllocError>
-    ensures { OnOk result (out.new.items ≡ out.old.items ++ node_text (key.now, value.now)) }
+fn push_parts(key: &Key, value: &Text, out: &mut Vec<u8>) -> Result<(), AllocError>
+    ensures ok { OnOk result (out.new.items ≡ out.old.items ++ node_text (key.now, value.now)) }
+    ensures kept { GoesOnFrom out.old.items out.new.items }
 {
     write_key(key, out)?;
     out.push(b'=')?;
@@ -35,11 +36,28 @@ fn push_node(key: &Key, value: &Text, out: &mut Vec<u8>) -> Result<(), AllocErro
     Ok(())
 }
 
+// A node's line at the end of `out`, which is as it was where memory is refused.
+#[tactic(auto, using(key_codec::specs::GrownLaws::back_to))]
+fn push_node(key: &Key, value: &Text, out: &mut Vec<u8>) -> Result<(), AllocError>
+    ensures ok { OnOk result (out.new.items ≡ out.old.items ++ node_text (key.now, value.now)) }
+    ensures err { OnErr result (out.new.items ≡ out.old.items) }
+{
+    let before = out.len();
+    match push_parts(key, value, out) {
+        Ok(()) => Ok(()),
+        Err(error) => {
+            out.truncate(before);
+            Err(error)
+        }
+    }
+}
+
 /// Writes what stands in `out` and then the listing of a view: a line for each reference with a value, in order.
 /// Lines are gathered in `out`, which is empty at the end.
 ///
 /// After a fault a beginning of both was written: `Write` only where a call of the writer failed, else `Memory`,
-/// where memory was refused.
+/// where memory was refused. After `Memory` what was written and what stands in `out` are together what stood there and
+/// the whole lines of the nodes before the one that was refused: a caller loses none by writing `out`.
 pub fn write_listing_after<V: OrderedView, W: Write>(
     view: &V,
     out: &mut Vec<u8>,
@@ -51,6 +69,7 @@ pub fn write_listing_after<V: OrderedView, W: Write>(
     ensures counted { IsErrOf result ListingFault.Write → Counts writer.old.failures writer.new.failures }
     ensures kept { OnOk result (writer.new.failures ≡ writer.old.failures) }
     ensures memory { IsErrOf result ListingFault.Memory → writer.new.failures ≡ writer.old.failures }
+    ensures listed { IsErrOf result ListingFault.Memory → HasListed (W.contents writer.old.inner) (W.contents writer.new.inner) out.old.items (V.content view.now) out.new.items }
 {
     'nodes: for (key, value) in walk_from(view, Cut::Start) {
         push_node(key, value, out)?;

@@ -1,14 +1,11 @@
 -- Where no reply tells of a want of memory, the text is a function of the bytes read.
-use Rattle.std.proofs.Common.{◌≡◌, ℕ, Bool, true, false, ◌||◌, List, [], ◌∷◌, map, refl, sym, ap, ◌∙◌, inl, inr, ◌⊎◌}
+use Rattle.std.proofs.Common.{◌≡◌, ℕ, Bool, true, false, ◌||◌, List, [], ◌∷◌, map, refl, ap, ◌∙◌, inl, inr}
 use Rattle.std.specs.Prelude.{Result, Ok, Err}
 use Rattle.refusal.specs.declared.Refusal.{Refusal}
-use Rattle.refusal.specs.declared.Refusal.TheVariants.{OutOfMemory}
 use Rattle.command.specs.declared.request.Command.{Command}
 use Rattle.command.specs.declared.request.Reply.{Reply}
-use Rattle.command.specs.declared.request.Reply.TheVariants.{Refused}
 use Rattle.journal.specs.Story.{Machine, nothing_done}
 use Rattle.serial.specs.Memory.{is_out_of_memory}
-use Rattle.script_run.specs.Lines.{lines_of}
 use Rattle.script_run.specs.Output.{Answer, asked_by, told_by, IsAnswer, AreAnswers, IsOutput, exact_reply, exact_answers, text_with_ending, output_of, some_wanting}
 
 -- a reply that tells of no want of memory is the machine's

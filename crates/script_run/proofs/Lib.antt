@@ -3,3 +3,4 @@ pub mod Exact
 pub mod Flags
 pub mod Runs
 pub mod Stands
+pub mod Stopped

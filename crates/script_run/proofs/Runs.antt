@@ -228,7 +228,7 @@ BrokeFront-more text rest after ls a b p q r h k e = record {
 }
 
 -- the next line of a text from place `at` on
-next-line : (text line : List ℕ) (at end : ℕ) → at ≤ length text → IsFirstByte (is_byte 10) (take (length text - at) (drop at text)) (Some end) → line ≡ strip_last 13 (take end (take (length text - at) (drop at text)))
+pub next-line : (text line : List ℕ) (at end : ℕ) → at ≤ length text → IsFirstByte (is_byte 10) (take (length text - at) (drop at text)) (Some end) → line ≡ strip_last 13 (take end (take (length text - at) (drop at text)))
     → (more : List ℕ) → lines_of (drop at text ++ more) ≡ kept line ++ lines_of (drop (at + (end + 1)) text ++ more)
 next-line text line at end le first e more =
     let whole : take (length text - at) (drop at text) ≡ drop at text = rest_of text at in
@@ -260,12 +260,12 @@ pub no_end_piece : (begun piece after : List ℕ) → has_no_end begun ≡ true 
 no_end_piece begun piece after h none e = ap has_no_end e ∙ has_no_end-append begun piece h (no_end piece (λ k low high p. none k low high p))
 
 -- the line that had begun ends in the piece
-joined-split : (begun piece line rest : List ℕ) (end : ℕ) → has_no_end begun ≡ true → IsFirstByte (is_byte 10) piece (Some end) → line ≡ strip_last 13 (begun ++ take end piece) → rest ≡ drop (suc end) piece
+pub joined-split : (begun piece line rest : List ℕ) (end : ℕ) → has_no_end begun ≡ true → IsFirstByte (is_byte 10) piece (Some end) → line ≡ strip_last 13 (begun ++ take end piece) → rest ≡ drop (suc end) piece
     → (more : List ℕ) → lines_of ((begun ++ piece) ++ more) ≡ kept line ++ lines_of (rest ++ more)
 joined-split begun piece line rest end none found line-is rest-is more =
     joined_line begun piece more end none (end_of piece end found) ∙ ap (λ (l : List ℕ). kept l ++ lines_of (drop (suc end) piece ++ more)) (sym line-is) ∙ ap (λ (r : List ℕ). kept line ++ lines_of (r ++ more)) (sym rest-is)
 
-joined_first : (begun piece line rest : List ℕ) (end : ℕ) (a b : Script) (p q : Option (List ℕ)) → has_no_end begun ≡ true → IsFirstByte (is_byte 10) piece (Some end) → line ≡ strip_last 13 (begun ++ take end piece)
+pub joined_first : (begun piece line rest : List ℕ) (end : ℕ) (a b : Script) (p q : Option (List ℕ)) → has_no_end begun ≡ true → IsFirstByte (is_byte 10) piece (Some end) → line ≡ strip_last 13 (begun ++ take end piece)
     → rest ≡ drop (suc end) piece → Ran (kept line) a b p q → RanFront (begun ++ piece) rest a b p q
 joined_first begun piece line rest end a b p q none found line-is rest-is ran = record {
   lines = kept line;
@@ -307,7 +307,7 @@ halts-legal [] s l = l
 halts-legal (job ∷ jobs) s l = halts-legal jobs (step_of job Halt s) (halt-legal job s _ l)
 
 -- the open jobs were halted after the last line
-halted : (ls : List (List ℕ)) (a b : Script) (core : Machine) (p q : Option (List ℕ)) (h : Ran ls a b p q) → core ≡ run_of (halts_of b.jobs) b.core → core ≡ left_at_end h.answers a.jobs a.core
+pub halted : (ls : List (List ℕ)) (a b : Script) (core : Machine) (p q : Option (List ℕ)) (h : Ran ls a b p q) → core ≡ run_of (halts_of b.jobs) b.core → core ≡ left_at_end h.answers a.jobs a.core
 halted ls a b core p q h e = e ∙ (λ i. run_of (halts_of (h.jobs i)) (h.machine i))
 
 halted-legal : (ls : List (List ℕ)) (a b : Script) (p q : Option (List ℕ)) (h : Ran ls a b p q) → IsLegal a.core.units initial → IsLegal (left_at_end h.answers a.jobs a.core).units initial

@@ -58,18 +58,18 @@ stands_first all old begun script u j o r b = record {
   whole = subst (λ (l : List ℕ). has_no_end l ≡ true) (sym b) refl;
 }
 
-Follows-more : (all left left' : Option (List ℕ)) (ls : List (List ℕ)) (begun piece : List ℕ) → Follows all left ls begun → Consumes left left' piece → Follows all left' ls (begun ++ piece)
+pub Follows-more : (all left left' : Option (List ℕ)) (ls : List (List ℕ)) (begun piece : List ℕ) → Follows all left ls begun → Consumes left left' piece → Follows all left' ls (begun ++ piece)
 Follows-more None left left' ls begun piece h k = tt
 Follows-more (Some all) None left' ls begun piece h k = absurd h
 Follows-more (Some all) (Some more) None ls begun piece h k = absurd k
 Follows-more (Some all) (Some more) (Some more') ls begun piece h k = h ∙ ap (λ (m : List ℕ). ls ++ lines_of (begun ++ m)) k ∙ ap (λ (t : List ℕ). ls ++ lines_of t) (sym (append_assoc begun piece more'))
 
-Follows-lines : (all left : Option (List ℕ)) (ls ms : List (List ℕ)) (begun rest : List ℕ) → Follows all left ls begun → ((more : List ℕ) → lines_of (begun ++ more) ≡ ms ++ lines_of (rest ++ more)) → Follows all left (ls ++ ms) rest
+pub Follows-lines : (all left : Option (List ℕ)) (ls ms : List (List ℕ)) (begun rest : List ℕ) → Follows all left ls begun → ((more : List ℕ) → lines_of (begun ++ more) ≡ ms ++ lines_of (rest ++ more)) → Follows all left (ls ++ ms) rest
 Follows-lines None left ls ms begun rest h k = tt
 Follows-lines (Some all) None ls ms begun rest h k = absurd h
 Follows-lines (Some all) (Some more) ls ms begun rest h k = h ∙ ap (λ (l : List (List ℕ)). ls ++ l) (k more) ∙ sym (append_assoc ls ms (lines_of (rest ++ more)))
 
-lines-append : (xs ys : List Answer) → lines_in (xs ++ ys) ≡ lines_in xs ++ lines_in ys
+pub lines-append : (xs ys : List Answer) → lines_in (xs ++ ys) ≡ lines_in xs ++ lines_in ys
 lines-append xs ys = map-append (λ (x : Answer). x.0) xs ys
 
 -- the lines of a piece, after those before it
@@ -155,7 +155,7 @@ begun_piece listed all left left' old new new' begun piece a h r f =
     (subst (WritesBeginning old new') (ap (λ (t : List ℕ). text_of h.answers ++ (t ++ text_of k.answers)) h.out ∙ sym (flat_map-append _ h.answers k.answers))
     (WritesBeginning-then old new new' (text_of h.answers) (a.out.items ++ text_of k.answers) h.written k.begun))
 
-at_end : (bytes : List ℕ) (left left' : Option (List ℕ)) (ls : List (List ℕ)) (begun piece : List ℕ) → Follows (Some bytes) left ls begun → Consumes left left' piece → piece ≡ [] → IsAtEnd left' → lines_of bytes ≡ ls ++ lines_of begun
+pub at_end : (bytes : List ℕ) (left left' : Option (List ℕ)) (ls : List (List ℕ)) (begun piece : List ℕ) → Follows (Some bytes) left ls begun → Consumes left left' piece → piece ≡ [] → IsAtEnd left' → lines_of bytes ≡ ls ++ lines_of begun
 at_end bytes None left' ls begun piece h k p e = absurd h
 at_end bytes (Some more) None ls begun piece h k p e = absurd k
 at_end bytes (Some more) (Some more') ls begun piece h k p e =

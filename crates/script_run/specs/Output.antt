@@ -1,5 +1,5 @@
 -- What a script writes.
--- Read IsOutput, output_of, Wrote, IsBegun and HasAnswered; the contract of run_script cites these.
+-- Read IsOutput, output_of, Wrote, IsBegun, HasAnswered and HasKept; the contract of run_script cites these.
 use Rattle.std.specs.Prelude.{◌≡◌, ◌⊎◌, ⊤, ℕ, Bool, true, false, not, ◌&&◌, List, [], ◌∷◌, ◌++◌, map, Option, Result, Ok, Err, codes}
 use Rattle.std.specs.List.{flat_map, list_any}
 use Rattle.std.specs.Io.KnownBytes.{Appends}
@@ -16,7 +16,7 @@ use Rattle.serial.specs.Machine.{IsReply, reply_of, run_of}
 use Rattle.serial.specs.Memory.{is_out_of_memory}
 use Rattle.script.specs.Line.{reading_of, job_of}
 use Rattle.script.specs.Text.{reply_text}
-use Rattle.listing.specs.Listing.{listing_text}
+use Rattle.listing.specs.Listing.{listing_text, IsListedFront}
 use Rattle.listing.specs.Bytes.{WritesBeginning}
 use Rattle.script_run.specs.Lines.{lines_of, has_no_end}
 use Rattle.script_run.specs.OpenJobs.{open_after}
@@ -163,3 +163,21 @@ pub record HasAnswered (bytes more : List ℕ) (old new : Option (List ℕ)) : T
   pub split : lines_of bytes ≡ map (λ a. a.0) answers ++ lines_of (begun ++ more)
   pub whole : has_no_end begun ≡ true
   pub written : Appends old new (text_of answers)
+
+-- "--" and the whole lines of some nodes, in order from the first: the front of what follows the replies, where no line is unanswered
+pub record IsEndingFront (listed : Bool) (unanswered : List (List ℕ)) (m : Database) (text : List ℕ) : Type 0 where
+  pub asked : listed ≡ true
+  pub none_left : unanswered ≡ []
+  pub nodes : List ℕ
+  pub front : IsListedFront m nodes
+  pub headed : text ≡ codes "--\n" ++ nodes
+
+-- the first lines were answered, each of their replies was written, and none in part; where they are all, a front of what follows may stand behind
+pub record HasKept (listed : Bool) (bytes : List ℕ) (old new : Option (List ℕ)) : Type 0 where
+  pub answers : List Answer
+  pub unanswered : List (List ℕ)
+  pub behind : List ℕ
+  pub each : AreAnswers nothing_done answers
+  pub split : lines_of bytes ≡ map (λ a. a.0) answers ++ unanswered
+  pub front : (behind ≡ []) ⊎ IsEndingFront listed unanswered (after (left_at_end answers [] nothing_done).units initial).map behind
+  pub written : Appends old new (text_of answers ++ behind)

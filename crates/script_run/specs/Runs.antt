@@ -1,10 +1,12 @@
 -- What the private functions of a run do to its state and to the writer.
-use Rattle.std.specs.Prelude.{◌≡◌, ℕ, Bool, ◌||◌, List, ◌++◌, map, Option, length}
+use Rattle.std.specs.Prelude.{◌≡◌, ◌≤◌, ◌⊎◌, ℕ, Bool, ◌||◌, List, [], ◌++◌, map, Option, length}
 use Rattle.std.specs.Io.KnownBytes.{Appends, Consumes, IsAtEnd}
+use Rattle.collation.specs.Database.{Database}
 use Rattle.journal.specs.History.{initial, after, IsLegal}
+use Rattle.journal.specs.Story.{nothing_done}
 use Rattle.listing.specs.Bytes.{WritesBeginning, Passes}
 use Rattle.script_run.specs.Lines.{kept, lines_of}
-use Rattle.script_run.specs.Output.{Answer, AreAnswers, left_by, left_open, left_at_end, text_of, some_refused, ending}
+use Rattle.script_run.specs.Output.{Answer, AreAnswers, left_by, left_open, left_at_end, text_of, some_refused, ending, IsEndingFront}
 use Rattle.script_run.specs.declared.answers.Script.{Script}
 
 -- the lines were answered, one after the other, and each reply was written or is gathered
@@ -60,3 +62,58 @@ pub record BrokeEnd (listed : Bool) (line : List ℕ) (old : Script) (before now
 pub record HasRead (old new : Option (List ℕ)) (piece : List ℕ) : Type 0 where
   pub consumed : Consumes old new piece
   pub ended : length piece ≡ 0 → IsAtEnd new
+
+-- ---- where memory was refused
+
+-- some lines were answered, and each of their replies was written or is gathered; the next may have been done, and its reply is lost; the others weren't begun
+pub record Stopped (lines : List (List ℕ)) (old new : Script) (before now : Option (List ℕ)) : Type 0 where
+  pub answers : List Answer
+  pub lost : List Answer
+  pub unread : List (List ℕ)
+  pub few : length lost ≤ 1
+  pub of_lines : map (λ a. a.0) answers ++ (map (λ a. a.0) lost ++ unread) ≡ lines
+  pub each : AreAnswers old.core (answers ++ lost)
+  pub machine : new.core ≡ left_by (answers ++ lost) old.core
+  pub legal : IsLegal old.core.units initial → IsLegal (left_by answers old.core).units initial
+  pub passes : Passes before now (old.out.items ++ text_of answers) new.out.items
+
+-- so at the front of the text
+pub record StoppedFront (text : List ℕ) (old new : Script) (before now : Option (List ℕ)) : Type 0 where
+  pub lines : List (List ℕ)
+  pub rest : List ℕ
+  pub stopped : Stopped lines old new before now
+  pub split : (more : List ℕ) → lines_of (text ++ more) ≡ lines ++ lines_of (rest ++ more)
+
+-- what was gathered, and a front of what follows the replies, was written or is gathered
+pub record EndedFront (listed : Bool) (m : Database) (gathered left : List ℕ) (before now : Option (List ℕ)) : Type 0 where
+  pub behind : List ℕ
+  pub front : (behind ≡ []) ⊎ IsEndingFront listed [] m behind
+  pub passes : Passes before now (gathered ++ behind) left
+
+-- so in the last line, in the open jobs' HALTs, or in what follows the replies
+pub record StoppedEnd (listed : Bool) (line : List ℕ) (old new : Script) (before now : Option (List ℕ)) : Type 0 where
+  pub answers : List Answer
+  pub lost : List Answer
+  pub unread : List (List ℕ)
+  pub behind : List ℕ
+  pub few : length lost ≤ 1
+  pub of_lines : map (λ a. a.0) answers ++ (map (λ a. a.0) lost ++ unread) ≡ kept line
+  pub each : AreAnswers old.core (answers ++ lost)
+  pub machine : (map (λ a. a.0) lost ++ unread ≡ []) ⊎ (new.core ≡ left_by (answers ++ lost) old.core)
+  pub legal : IsLegal old.core.units initial → IsLegal (left_by answers old.core).units initial
+  pub front : (behind ≡ []) ⊎ IsEndingFront listed (map (λ a. a.0) lost ++ unread) (after (left_at_end answers old.jobs old.core).units initial).map behind
+  pub passes : Passes before now ((old.out.items ++ text_of answers) ++ behind) new.out.items
+
+-- so in a whole script. Where a line has no reply, the machine is what the answered lines and the one whose reply is lost leave
+pub record HasGathered (listed : Bool) (bytes : List ℕ) (new : Script) (before now : Option (List ℕ)) : Type 0 where
+  pub answers : List Answer
+  pub lost : List Answer
+  pub unread : List (List ℕ)
+  pub behind : List ℕ
+  pub few : length lost ≤ 1
+  pub of_lines : lines_of bytes ≡ map (λ a. a.0) answers ++ (map (λ a. a.0) lost ++ unread)
+  pub each : AreAnswers nothing_done (answers ++ lost)
+  pub machine : (map (λ a. a.0) lost ++ unread ≡ []) ⊎ (new.core ≡ left_by (answers ++ lost) nothing_done)
+  pub legal : IsLegal (left_by answers nothing_done).units initial
+  pub front : (behind ≡ []) ⊎ IsEndingFront listed (map (λ a. a.0) lost ++ unread) (after (left_at_end answers [] nothing_done).units initial).map behind
+  pub passes : Passes before now (text_of answers ++ behind) new.out.items

@@ -5,7 +5,7 @@ ghost use Rattle.journal.specs.History.{initial, IsLegal};
 ghost use Rattle.listing.specs.Bytes.{Counts};
 ghost use Rattle.script_run.specs.Lines.{kept};
 ghost use Rattle.script_run.specs.Output.{asked_by, ends_session, is_halt as is_halt_command, IsAnswer, told_by, is_refused as refused_of};
-ghost use Rattle.script_run.specs.Runs.{Ran, Broke};
+ghost use Rattle.script_run.specs.Runs.{Ran, Broke, Stopped};
 
 use crate::RefusalLog;
 use crate::collecting::{Countdown, collect_when_due};
@@ -107,6 +107,7 @@ fn run_line<W: Write>(
     ensures kept { OnOk result (writer.new.failures ≡ writer.old.failures) }
     ensures counted { IsErrOf result ListingFault.Write → Counts writer.old.failures writer.new.failures }
     ensures memory { IsErrOf result ListingFault.Memory → writer.new.failures ≡ writer.old.failures }
+    ensures stopped { IsErrOf result ListingFault.Memory → Stopped (line.now ∷ []) script.old script.new (W.contents writer.old.inner) (W.contents writer.new.inner) }
 {
     let (job, ended, reply) = answer_line(alloc, &mut script.core, &mut script.drafts, line);
     script.jobs.note_line(&job, ended);
@@ -131,6 +132,7 @@ pub(crate) fn run_kept<W: Write>(
     ensures counts { OnOk result (writer.new.failures ≡ writer.old.failures) }
     ensures counted { IsErrOf result ListingFault.Write → Counts writer.old.failures writer.new.failures }
     ensures memory { IsErrOf result ListingFault.Memory → writer.new.failures ≡ writer.old.failures }
+    ensures stopped { IsErrOf result ListingFault.Memory → Stopped (kept line.now) script.old script.new (W.contents writer.old.inner) (W.contents writer.new.inner) }
 {
     script.lines = script.lines.saturating_add(1);
     match line {

@@ -4,7 +4,7 @@ ghost use Rattle.std.specs.Io.BufRead.{strip_last};
 ghost use Rattle.bstr.specs.Find.{IsFirstByte, is_byte};
 ghost use Rattle.listing.specs.Bytes.{Counts};
 ghost use Rattle.script_run.specs.Lines.{kept, has_no_end};
-ghost use Rattle.script_run.specs.Runs.{Ran, Broke, RanFront, BrokeFront};
+ghost use Rattle.script_run.specs.Runs.{Ran, Broke, RanFront, BrokeFront, Stopped, StoppedFront};
 
 use crate::RefusalLog;
 use crate::answers::{Script, run_kept};
@@ -46,6 +46,7 @@ fn run_lines<W: Write>(
     ensures counts { OnOk result (writer.new.failures ≡ writer.old.failures) }
     ensures counted { IsErrOf result ListingFault.Write → Counts writer.old.failures writer.new.failures }
     ensures memory { IsErrOf result ListingFault.Memory → writer.new.failures ≡ writer.old.failures }
+    ensures stopped { IsErrOf result ListingFault.Memory → StoppedFront text.now script.old script.new (W.contents writer.old.inner) (W.contents writer.new.inner) }
 {
     let mut at = 0;
     'lines: while let Some(end) = line_end(&text[at..]) {
@@ -94,6 +95,7 @@ fn end_line<W: Write>(
     ensures counts { OnOk result (writer.new.failures ≡ writer.old.failures) }
     ensures counted { IsErrOf result ListingFault.Write → Counts writer.old.failures writer.new.failures }
     ensures memory { IsErrOf result ListingFault.Memory → writer.new.failures ≡ writer.old.failures }
+    ensures stopped { IsErrOf result ListingFault.Memory → Stopped (kept (strip_last 13 (begun.old.items ++ front.now))) script.old script.new (W.contents writer.old.inner) (W.contents writer.new.inner) }
 {
     if begun.is_empty() {
         return run_kept(alloc, script, strip_return(front), writer, log);
@@ -120,6 +122,7 @@ pub(crate) fn run_piece<W: Write>(
     ensures counts { OnOk result (writer.new.failures ≡ writer.old.failures) }
     ensures counted { IsErrOf result ListingFault.Write → Counts writer.old.failures writer.new.failures }
     ensures memory { IsErrOf result ListingFault.Memory → writer.new.failures ≡ writer.old.failures }
+    ensures stopped { IsErrOf result ListingFault.Memory → StoppedFront (begun.old.items ++ piece.now) script.old script.new (W.contents writer.old.inner) (W.contents writer.new.inner) }
 {
     let Some(end) = line_end(piece) else {
         extend_line(begun, piece)?;

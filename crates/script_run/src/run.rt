@@ -5,8 +5,8 @@ ghost use Rattle.journal.specs.History.{initial, after};
 ghost use Rattle.journal.specs.Story.{nothing_done};
 ghost use Rattle.listing.specs.Bytes.{Counts, WritesBeginning};
 ghost use Rattle.script_run.specs.Lines.{has_no_end};
-ghost use Rattle.script_run.specs.Output.{ending, Wrote, IsBegun, HasAnswered};
-ghost use Rattle.script_run.specs.Runs.{RanFront, BrokeFront, RanEnd, BrokeEnd, HasRead};
+ghost use Rattle.script_run.specs.Output.{ending, Wrote, IsBegun, HasAnswered, HasKept};
+ghost use Rattle.script_run.specs.Runs.{RanFront, BrokeFront, RanEnd, BrokeEnd, HasRead, StoppedFront, EndedFront, StoppedEnd, HasGathered};
 
 use crate::answers::{Script, run_kept};
 use crate::collecting::Countdown;
@@ -85,6 +85,7 @@ fn take_piece<W: Write>(
     ensures counts { OnOk result (writer.new.failures ≡ writer.old.failures) }
     ensures counted { IsErrOf result ListingFault.Write → Counts writer.old.failures writer.new.failures }
     ensures memory { IsErrOf result ListingFault.Memory → writer.new.failures ≡ writer.old.failures }
+    ensures stopped { IsErrOf result ListingFault.Memory → StoppedFront (begun.old.items ++ piece.now) script.old script.new (W.contents writer.old.inner) (W.contents writer.new.inner) }
 {
     run_piece(alloc, script, begun, piece, writer, log)?;
     writer.write_gathered(&mut script.out)?;
@@ -104,6 +105,7 @@ fn write_ending<W: Write>(
     ensures counts { OnOk result (writer.new.failures ≡ writer.old.failures) }
     ensures counted { IsErrOf result ListingFault.Write → Counts writer.old.failures writer.new.failures }
     ensures memory { IsErrOf result ListingFault.Memory → writer.new.failures ≡ writer.old.failures }
+    ensures stopped { IsErrOf result ListingFault.Memory → EndedFront listed (after script.old.core.units initial).map script.old.out.items script.new.out.items (W.contents writer.old.inner) (W.contents writer.new.inner) }
 {
     if listed {
         script.out.extend_from_slice(b"--\n")?;
@@ -129,6 +131,7 @@ fn finish<W: Write>(
     ensures counts { OnOk result (writer.new.failures ≡ writer.old.failures) }
     ensures counted { IsErrOf result ListingFault.Write → Counts writer.old.failures writer.new.failures }
     ensures memory { IsErrOf result ListingFault.Memory → writer.new.failures ≡ writer.old.failures }
+    ensures stopped { IsErrOf result ListingFault.Memory → StoppedEnd listed begun.now script.old script.new (W.contents writer.old.inner) (W.contents writer.new.inner) }
 {
     run_kept(alloc, script, begun, writer, log)?;
     halt_open(&mut script.core, script.jobs.as_slice())?;
@@ -160,6 +163,8 @@ fn run_pieces<R: Read, W: Write>(
     ensures write { IsErrOf result Fault.Write → Counts writer.old.failures writer.new.failures × (reader.new.failures ≡ reader.old.failures) }
     ensures kept { OnOk result ((reader.new.failures ≡ reader.old.failures) × (writer.new.failures ≡ writer.old.failures)) }
     ensures memory { IsErrOf result Fault.Memory → (reader.new.failures ≡ reader.old.failures) × (writer.new.failures ≡ writer.old.failures) }
+    ensures gathered { IsErrOf result Fault.Memory → IfSome (R.remaining reader.old.inner)
+        (λ bytes. HasGathered listed bytes script.new (W.contents writer.old.inner) (W.contents writer.new.inner)) }
 {
     let mut begun = Vec::new(alloc);
     let mut buffer = [0; PIECE_BYTES];
@@ -197,6 +202,8 @@ pub fn run_with<R: Read, W: Write>(
     ensures write { IsErrOf result Fault.Write → Counts writer.old.failures writer.new.failures × (reader.new.failures ≡ reader.old.failures) }
     ensures kept { OnOk result ((reader.new.failures ≡ reader.old.failures) × (writer.new.failures ≡ writer.old.failures)) }
     ensures memory { IsErrOf result Fault.Memory → (reader.new.failures ≡ reader.old.failures) × (writer.new.failures ≡ writer.old.failures) }
+    ensures unlost { IsErrOf result Fault.Memory → IfSome (R.remaining reader.old.inner)
+        (λ bytes. HasKept listed bytes (W.contents writer.old.inner) (W.contents writer.new.inner)) }
 {
     let mut script = new_script(alloc, collect_every)?;
     match run_pieces(alloc, listed, &mut script, reader, writer, log) {
@@ -204,6 +211,14 @@ pub fn run_with<R: Read, W: Write>(
             let refused = script.refused;
             drop(script);
             Ok(Outcome { refused })
+        }
+        Err(Fault::Memory) => {
+            let written = writer.write_gathered(&mut script.out);
+            drop(script);
+            match written {
+                Ok(()) => Err(Fault::Memory),
+                Err(_) => Err(Fault::Write),
+            }
         }
         Err(fault) => {
             drop(script);
@@ -222,7 +237,9 @@ pub fn run_with<R: Read, W: Write>(
 /// On `Ok` the text is whole and all input was read; where no reply in it is `OutOfMemory`, it is a function of the
 /// bytes read (`output_of`). After a fault the text is a beginning of a whole one, without a
 /// listing unless the fault came while that was written; after `Read` it is the replies of the lines that had ended;
-/// after `Memory` those may be missing that were gathered since the last write.
+/// after `Memory` it is the replies of the lines before one of them, each whole, or of all lines and then `--` and whole lines
+/// of the listing. What was done is then just those lines and at most one more: where memory is refused for a reply's own text,
+/// that line's step is done and its reply is lost. No reply that was gathered is lost, unless its write fails, which is `Write`.
 /// `Read` and `Write` are answered only where a call of the reader or the writer failed, `Memory` where none did, but
 /// memory was refused and no reply could say so: for the buffer and the list of open jobs, before the first line, for a
 /// line longer than a piece, for a reply or a listing's line, or for an open job's HALT at the end of input.
@@ -243,6 +260,8 @@ pub fn run_script<R: Read, W: Write>(
     ensures write { IsErrOf result Fault.Write → Counts writer.old.failures writer.new.failures × (reader.new.failures ≡ reader.old.failures) }
     ensures kept { OnOk result ((reader.new.failures ≡ reader.old.failures) × (writer.new.failures ≡ writer.old.failures)) }
     ensures memory { IsErrOf result Fault.Memory → (reader.new.failures ≡ reader.old.failures) × (writer.new.failures ≡ writer.old.failures) }
+    ensures unlost { IsErrOf result Fault.Memory → IfSome (R.remaining reader.old.inner)
+        (λ bytes. HasKept true bytes (W.contents writer.old.inner) (W.contents writer.new.inner)) }
 {
     run_with(alloc, true, collect_every, reader, writer, &mut NoLog)
 }

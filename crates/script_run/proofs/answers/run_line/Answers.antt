@@ -4,6 +4,7 @@ use Rattle.journal.specs.History.{initial, IsLegal}
 use Rattle.journal.specs.Story.{Machine}
 use Rattle.script_run.specs.OpenJobs.{open_after}
 use Rattle.script_run.proofs.Runs.{Ran-one, Broke-one, nothing_begun}
+use Rattle.script_run.proofs.Stopped.{Stopped-one}
 use Rattle.script_run.proofs.answers.run_line.Goals as goal
 
 -- nothing was written
@@ -26,3 +27,9 @@ returns-clause-ran g c =
     let stays = c.collect_when_due.ensures in
     let jobs = c.note_line.ensures ∙ ap (λ (b : Bool). open_after c.answer_line-job.result.0 b c.args.script.now.jobs) said.ended in
     Ran-one c.args.line.now c.answer_line-job.result.2 c.answer_line-job.result.0 c.args.script.now _ _ _ _ said.job said.answer (◌∙◌ {A = Machine} stays said.machine) c.in_ok-write_reply.ensures.ok c.in_ok-write_full.ensures.ok refused jobs (λ h. subst (λ (s : Machine). IsLegal s.units initial) (sym stays) (said.legal h))
+
+-- the line was done, and its reply found no memory
+pub returns-in_err-write_reply-clause-stopped : goal.returns-in_err-write_reply-clause-stopped
+returns-in_err-write_reply-clause-stopped g c =
+    let said = c.answer_line-job.ensures in
+    λ _. Stopped-one c.args.line.now c.answer_line-job.result.2 c.args.script.now _ _ said.answer said.machine c.in_err-write_reply.ensures.err

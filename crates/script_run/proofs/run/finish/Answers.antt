@@ -1,5 +1,7 @@
 use Rattle.listing.specs.BytesLaws.{on_err}
 use Rattle.script_run.proofs.Runs.{broke_last, broke_halts, broke_ending, ended}
+use Rattle.std.proofs.Common.{refl}
+use Rattle.script_run.proofs.Stopped.{passed_on, stopped_last, stopped_halts, stopped_ending}
 use Rattle.script_run.proofs.run.finish.Goals as goal
 
 pub returns-in_err-run_kept-clause-err : goal.returns-in_err-run_kept-clause-err
@@ -13,3 +15,15 @@ returns-in_err-write_ending-clause-err g c = on_err _ _ (broke_ending _ _ _ _ _ 
 
 pub returns-clause-ran : goal.returns-clause-ran
 returns-clause-ran g c = ended _ _ _ _ _ _ _ _ _ c.in_ok-run_kept.ensures.ran (rw c.as_slice.ensures at c.in_ok-halt_open.ensures) c.in_ok-write_ending.ensures.ok c.in_ok-write_ending.ensures.refused
+
+-- ---- where memory was refused
+
+pub returns-in_err-run_kept-clause-stopped : goal.returns-in_err-run_kept-clause-stopped
+returns-in_err-run_kept-clause-stopped g c = λ memory. stopped_last _ _ _ _ _ _ (c.in_err-run_kept.ensures.stopped (passed_on _ _ c.from_residual.ensures.1 memory))
+
+pub returns-in_err-halt_open-clause-stopped : goal.returns-in_err-halt_open-clause-stopped
+returns-in_err-halt_open-clause-stopped g c = λ _. stopped_halts _ _ _ _ _ _ _ c.in_ok-run_kept.ensures.ran refl
+
+pub returns-in_err-write_ending-clause-stopped : goal.returns-in_err-write_ending-clause-stopped
+returns-in_err-write_ending-clause-stopped g c =
+    λ memory. stopped_ending _ _ _ _ _ _ _ _ _ c.in_ok-run_kept.ensures.ran (rw c.as_slice.ensures at c.in_ok-halt_open.ensures) (c.in_err-write_ending.ensures.stopped (passed_on _ _ c.from_residual-in_err-write_ending.ensures.1 memory))

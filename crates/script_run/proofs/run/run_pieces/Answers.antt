@@ -2,6 +2,7 @@ use Rattle.std.proofs.Common.{◌≡◌, length, refl, ◌∙◌, arith}
 use Rattle.std.proofs.lemmas.Bool.Decides.{nat_tests}
 use Rattle.script_run.proofs.Stands.{answered, begun_at, begun_piece, begun_end, wrote_all, stands_first, stands_next}
 use Rattle.listing.specs.BytesLaws.{on_err}
+use Rattle.script_run.proofs.Stopped.{is_memory, gathered_at, gathered_piece, gathered_end}
 use Rattle.script_run.proofs.run.run_pieces.Goals as goal
 
 pub pieces-init : goal.pieces-init
@@ -44,3 +45,16 @@ pieces-preserved g c =
       reads = c.in_ok-piece.ensures.kept ∙ c.pieces.invariant.reads;
       writes = ran.counts ∙ c.pieces.invariant.writes;
     }
+
+-- ---- where memory was refused
+
+pub returns-clause-gathered : goal.returns-clause-gathered
+returns-clause-gathered g c = λ _. gathered_at _ _ _ _ _ _ _ c.pieces.invariant.stands
+
+pub returns-in_err-take_piece-clause-gathered : goal.returns-in_err-take_piece-clause-gathered
+returns-in_err-take_piece-clause-gathered g c = λ memory. gathered_piece _ _ _ _ _ _ _ _ _ _ _ c.pieces.invariant.stands c.in_ok-piece.ensures.read (c.in_err-take_piece.ensures.stopped (is_memory _ _ c.from_residual-in_err-take_piece.ensures.1 memory))
+
+pub returns-in_err-finish-clause-gathered : goal.returns-in_err-finish-clause-gathered
+returns-in_err-finish-clause-gathered g c =
+    let none : length c.in_ok-piece.piece.now ≡ 0 = grind (arith, nat_tests, c.is_empty.ensures, c.if-is_empty.true) in
+    λ memory. gathered_end _ _ _ _ _ _ _ _ _ _ _ c.pieces.invariant.stands c.in_ok-piece.ensures.read none (rw c.deref.ensures.value at c.in_err-finish.ensures.stopped (is_memory _ _ c.from_residual-in_err-finish.ensures.1 memory))

@@ -1,0 +1,371 @@
+-- Runs that end for want of memory: which lines have their replies.
+use Rattle.std.proofs.Common.{◌≡◌, ℕ, ◌≤◌, ◌+◌, ◌-◌, Bool, true, List, [], ◌∷◌, ◌++◌, length, take, drop, Option, Some, None, IfSome, inl, inr, ◌⊎◌, refl, sym, ap, subst, ◌∙◌, append_assoc, arith}
+use Rattle.std.proofs.lemmas.List.{append-nil, nil_from_length}
+use Rattle.std.proofs.lemmas.Grind.{flat_map-append}
+use Rattle.std.specs.Prelude.{codes, suc, Result, Ok, Err, IsErrOf}
+use Rattle.std.specs.Result.{IsErrAnd}
+use Rattle.std.specs.List.{flat_map}
+use Rattle.std.specs.Io.KnownBytes.{Appends}
+use Rattle.std.specs.Io.BufRead.{strip_last}
+use Rattle.bstr.specs.Find.{IsFirstByte, is_byte}
+use Rattle.collation.specs.Database.{Database}
+use Rattle.command.specs.declared.request.Reply.{Reply}
+use Rattle.journal.specs.History.{initial, after, IsLegal}
+use Rattle.journal.specs.Story.{Machine, nothing_done}
+use Rattle.serial.specs.Machine.{run_of}
+use Rattle.listing.specs.Bytes.{WritesBeginning, Passes}
+use Rattle.listing.specs.declared.nodes.ListingFault.{ListingFault}
+use Rattle.listing.specs.declared.nodes.ListingFault.TheVariants.{Write as ListingWrite, Memory as ListingMemory}
+use Rattle.listing.specs.Listing.{node_text, IsListedFront, HasListed}
+use Rattle.listing.specs.BytesLaws.{Appends-nothing, Appends-more, WritesBeginning-longer, Passes-none, Passes-all, Passes-more, Passes-then, Passes-Appends, Passes-begun}
+use Rattle.script_run.specs.declared.fault.Fault.{Fault}
+use Rattle.script_run.specs.declared.fault.Fault.TheVariants.{Memory}
+use Rattle.script_run.specs.Faults.{fault_of}
+use Rattle.script_run.specs.Lines.{kept, lines_of, has_no_end}
+use Rattle.script_run.specs.Output.{Answer, asked_by, IsAnswer, AreAnswers, told_by, left_by, left_open, left_at_end, halts_of, text_of, some_refused, ending, IsBegun, IsEndingFront, HasKept}
+use Rattle.script_run.specs.Runs.{Ran, RanFront, HasRead, Stopped, StoppedFront, EndedFront, StoppedEnd, HasGathered}
+use Rattle.script_run.specs.declared.answers.Script.{Script}
+use Rattle.script_run.specs.LineLaws.{last_line}
+use Rattle.script_run.proofs.Runs.{AreAnswers-append, left-then, open-then, next-line, joined-split, joined_first, halted, halts-legal}
+use Rattle.script_run.proofs.Stands.{Stands, Follows, Follows-more, Follows-lines, lines_in, lines-append, at_end, goes_on}
+
+-- ---- faults that are passed on
+
+error_is : {T E : Type 0} (f m : E) → IsErrOf {T = T} (Err f) m → f ≡ m
+error_is f m k = cc
+
+pub is_error : {T E : Type 0} (f m : E) → f ≡ m → IsErrOf {T = T} (Err f) m
+is_error f m h = cc
+
+pub passed_on : {T U : Type 0} (r : Result T ListingFault) (e : ListingFault) → IsErrAnd r (λ f. f ≡ e) → IsErrOf r ListingMemory → IsErrOf {T = U} (Err e) ListingMemory
+passed_on (Ok x) e h k = absurd h
+passed_on {T = T} (Err f) e h k = is_error e ListingMemory (sym h ∙ error_is {T = T} f ListingMemory k)
+
+of_memory : {T : Type 0} (e : ListingFault) → fault_of e ≡ Memory → IsErrOf {T = T} (Err e) ListingMemory
+of_memory ListingMemory h = refl
+of_memory ListingWrite h = absurd cc
+
+pub is_memory : {T U : Type 0} (r : Result T Fault) (e : ListingFault) → IsErrAnd r (λ f. f ≡ fault_of e) → IsErrOf r Memory → IsErrOf {T = U} (Err e) ListingMemory
+is_memory (Ok x) e h k = absurd h
+is_memory {T = T} (Err f) e h k = of_memory e (sym h ∙ error_is {T = T} f Memory k)
+
+-- ---- lines
+
+-- a line was done, and its reply found no memory
+pub Stopped-one : (line : List ℕ) (reply : Reply) (old new : Script) (a : Option (List ℕ)) → IsAnswer old.core (asked_by line) reply → new.core ≡ told_by (asked_by line) reply old.core → new.out.items ≡ old.out.items
+    → Stopped (line ∷ []) old new a a
+Stopped-one line reply old new a h u o = record {
+  answers = [];
+  lost = (line, reply) ∷ [];
+  unread = [];
+  few = omega arith;
+  of_lines = refl;
+  each = (h, tt);
+  machine = u;
+  legal = λ l. l;
+  passes = subst (λ (ts : List ℕ). Passes a a ts new.out.items) (o ∙ sym (append-nil old.out.items)) (Passes-none a new.out.items);
+}
+
+-- none of the lines was begun
+pub Stopped-before : (ls : List (List ℕ)) (old new : Script) (a : Option (List ℕ)) → new.core ≡ old.core → new.out.items ≡ old.out.items → Stopped ls old new a a
+Stopped-before ls old new a u o = record {
+  answers = [];
+  lost = [];
+  unread = ls;
+  few = omega arith;
+  of_lines = refl;
+  each = tt;
+  machine = u;
+  legal = λ l. l;
+  passes = subst (λ (ts : List ℕ). Passes a a ts new.out.items) (o ∙ sym (append-nil old.out.items)) (Passes-none a new.out.items);
+}
+
+-- answers, those of which one is lost, and the lines behind them
+each-then : (s t : Machine) (xs ys lost : List Answer) → AreAnswers s xs → t ≡ left_by xs s → AreAnswers t (ys ++ lost) → AreAnswers s ((xs ++ ys) ++ lost)
+each-then s t xs ys lost h e k = subst (AreAnswers s) (sym (append_assoc xs ys lost)) (AreAnswers-append s t xs (ys ++ lost) h e k)
+
+machine-then : (s t u : Machine) (xs ys lost : List Answer) → t ≡ left_by xs s → u ≡ left_by (ys ++ lost) t → u ≡ left_by ((xs ++ ys) ++ lost) s
+machine-then s t u xs ys lost e k = k ∙ left-then s t xs (ys ++ lost) e ∙ ap (λ (zs : List Answer). left_by zs s) (sym (append_assoc xs ys lost))
+
+text-then : (out : List ℕ) (xs ys : List Answer) → (out ++ text_of xs) ++ text_of ys ≡ out ++ text_of (xs ++ ys)
+text-then out xs ys = append_assoc out (text_of xs) (text_of ys) ∙ ap (λ (ts : List ℕ). out ++ ts) (sym (flat_map-append _ xs ys))
+
+lines-then : (xs ys : List Answer) (ls ms more : List (List ℕ)) → lines_in xs ≡ ls → lines_in ys ++ more ≡ ms → lines_in (xs ++ ys) ++ more ≡ ls ++ ms
+lines-then xs ys ls ms more h k = ap (λ (l : List (List ℕ)). l ++ more) (lines-append xs ys) ∙ append_assoc (lines_in xs) (lines_in ys) more ∙ ap (λ (l : List (List ℕ)). lines_in xs ++ l) k ∙ ap (λ (l : List (List ℕ)). l ++ ms) h
+
+-- lines were answered, and then a run of others stopped
+pub Stopped-then : (ls ms : List (List ℕ)) (a b c : Script) (p q r : Option (List ℕ)) → Ran ls a b p q → Stopped ms b c q r → Stopped (ls ++ ms) a c p r
+Stopped-then ls ms a b c p q r h k = record {
+  answers = h.answers ++ k.answers;
+  lost = k.lost;
+  unread = k.unread;
+  few = k.few;
+  of_lines = lines-then h.answers k.answers ls ms (lines_in k.lost ++ k.unread) h.of_lines k.of_lines;
+  each = each-then a.core b.core h.answers k.answers k.lost h.each h.machine k.each;
+  machine = machine-then a.core b.core c.core h.answers k.answers k.lost h.machine k.machine;
+  legal = λ l. subst (λ (s : Machine). IsLegal s.units initial) (left-then a.core b.core h.answers k.answers h.machine) (k.legal (h.legal l));
+  passes = subst (λ (ts : List ℕ). Passes p r ts c.out.items) (text-then a.out.items h.answers k.answers)
+      (Passes-then p q r ((a.out.items ++ text_of h.answers) ++ text_of k.answers) (b.out.items ++ text_of k.answers) c.out.items (Passes-more p q (a.out.items ++ text_of h.answers) b.out.items (text_of k.answers) h.passes) k.passes);
+}
+
+-- ---- the front of a text
+
+pub StoppedFront-before : (text : List ℕ) (a b : Script) (p : Option (List ℕ)) → b.core ≡ a.core → b.out.items ≡ a.out.items → StoppedFront text a b p p
+StoppedFront-before text a b p u o = record { lines = []; rest = text; stopped = Stopped-before [] a b p u o; split = λ more. refl }
+
+pub StoppedFront-after : (text rest : List ℕ) (a b c : Script) (p q : Option (List ℕ)) → RanFront text rest a b p q → c.core ≡ b.core → c.out.items ≡ b.out.items → StoppedFront text a c p q
+StoppedFront-after text rest a b c p q h u o = record {
+  lines = h.lines;
+  rest = rest;
+  stopped = subst (λ (l : List (List ℕ)). Stopped l a c p q) (append-nil h.lines) (Stopped-then h.lines [] a b c p q q h.ran (Stopped-before [] b c q u o));
+  split = h.split;
+}
+
+StoppedFront-more : (text rest after : List ℕ) (ls : List (List ℕ)) (a b c : Script) (p q r : Option (List ℕ)) → RanFront text rest a b p q → Stopped ls b c q r
+    → ((more : List ℕ) → lines_of (rest ++ more) ≡ ls ++ lines_of (after ++ more)) → StoppedFront text a c p r
+StoppedFront-more text rest after ls a b c p q r h k e = record {
+  lines = h.lines ++ ls;
+  rest = after;
+  stopped = Stopped-then h.lines ls a b c p q r h.ran k;
+  split = λ more. h.split more ∙ ap (λ (l : List (List ℕ)). h.lines ++ l) (e more) ∙ sym (append_assoc h.lines ls (lines_of (after ++ more)));
+}
+
+pub stopped_lines : (text line : List ℕ) (at end : ℕ) (old mid new : Script) (p q r : Option (List ℕ)) → at ≤ length text → RanFront text (drop at text) old mid p q → IsFirstByte (is_byte 10) (take (length text - at) (drop at text)) (Some end)
+    → line ≡ strip_last 13 (take end (take (length text - at) (drop at text))) → Stopped (kept line) mid new q r → StoppedFront text old new p r
+stopped_lines text line at end old mid new p q r le so_far first e stopped =
+    StoppedFront-more text (drop at text) (drop (at + (end + 1)) text) (kept line) old mid new p q r so_far stopped (next-line text line at end le first e)
+
+-- in the lines behind the one that had begun
+pub joined_stopped : (begun piece line rest : List ℕ) (end : ℕ) (a b c : Script) (p q r : Option (List ℕ)) → has_no_end begun ≡ true → IsFirstByte (is_byte 10) piece (Some end) → line ≡ strip_last 13 (begun ++ take end piece)
+    → rest ≡ drop (suc end) piece → Ran (kept line) a b p q → StoppedFront rest b c q r → StoppedFront (begun ++ piece) a c p r
+joined_stopped begun piece line rest end a b c p q r none found line-is rest-is ran front =
+    StoppedFront-more (begun ++ piece) rest front.rest front.lines a b c p q r (joined_first begun piece line rest end a b p q none found line-is rest-is ran) front.stopped front.split
+
+-- in that one
+pub joined_stopped_first : (begun piece line : List ℕ) (end : ℕ) (a b : Script) (p q : Option (List ℕ)) → has_no_end begun ≡ true → IsFirstByte (is_byte 10) piece (Some end) → line ≡ strip_last 13 (begun ++ take end piece)
+    → Stopped (kept line) a b p q → StoppedFront (begun ++ piece) a b p q
+joined_stopped_first begun piece line end a b p q none found line-is stopped = record {
+  lines = kept line;
+  rest = drop (suc end) piece;
+  stopped = stopped;
+  split = joined-split begun piece line (drop (suc end) piece) end none found line-is refl;
+}
+
+-- ---- what follows the replies
+
+-- "--" found no memory
+pub ended_before : (listed : Bool) (m : Database) (out same : List ℕ) (p : Option (List ℕ)) → same ≡ out → EndedFront listed m out same p p
+ended_before listed m out same p e = record { behind = []; front = inl refl; passes = subst (λ (ts : List ℕ). Passes p p ts same) (e ∙ sym (append-nil out)) (Passes-none p same) }
+
+-- a node's line found none
+pub ended_listed : (listed : Bool) (m content : Database) (out headed left : List ℕ) (p q : Option (List ℕ)) → listed ≡ true → content ≡ m → headed ≡ out ++ codes "--\n" → HasListed p q headed content left → EndedFront listed m out left p q
+ended_listed listed m content out headed left p q asked same e h = record {
+  behind = codes "--\n" ++ h.text;
+  front = inr (record { asked = asked; none_left = refl; nodes = h.text; front = subst (λ (d : Database). IsListedFront d h.text) same h.listed; headed = refl });
+  passes = subst (λ (ts : List ℕ). Passes p q ts left) (ap (λ (ts : List ℕ). ts ++ h.text) e ∙ append_assoc out (codes "--\n") h.text) h.passes;
+}
+
+pub stopped_last : (listed : Bool) (line : List ℕ) (a b : Script) (p q : Option (List ℕ)) → Stopped (kept line) a b p q → StoppedEnd listed line a b p q
+stopped_last listed line a b p q h = record {
+  answers = h.answers;
+  lost = h.lost;
+  unread = h.unread;
+  behind = [];
+  few = h.few;
+  of_lines = h.of_lines;
+  each = h.each;
+  machine = inr h.machine;
+  legal = h.legal;
+  front = inl refl;
+  passes = subst (λ (ts : List ℕ). Passes p q ts b.out.items) (sym (append-nil (a.out.items ++ text_of h.answers))) h.passes;
+}
+
+-- all lines were answered, and then a front of what follows was gathered
+pub stopped_ending : (listed : Bool) (line : List ℕ) (a b c : Script) (core : Machine) (p q r : Option (List ℕ)) → Ran (kept line) a b p q → core ≡ run_of (halts_of b.jobs) b.core
+    → EndedFront listed (after core.units initial).map b.out.items c.out.items q r → StoppedEnd listed line a c p r
+stopped_ending listed line a b c core p q r h e k = record {
+  answers = h.answers;
+  lost = [];
+  unread = [];
+  behind = k.behind;
+  few = omega arith;
+  of_lines = append-nil _ ∙ h.of_lines;
+  each = subst (AreAnswers a.core) (sym (append-nil h.answers)) h.each;
+  machine = inl refl;
+  legal = λ l. subst (λ (s : Machine). IsLegal s.units initial) h.machine (h.legal l);
+  front = subst (λ (s : Machine). (k.behind ≡ []) ⊎ IsEndingFront listed [] (after s.units initial).map k.behind) (halted (kept line) a b core p q h e) k.front;
+  passes = Passes-then p q r _ (b.out.items ++ k.behind) c.out.items (Passes-more p q (a.out.items ++ text_of h.answers) b.out.items k.behind h.passes) k.passes;
+}
+
+-- all lines were answered, and a HALT found no memory
+pub stopped_halts : (listed : Bool) (line : List ℕ) (a b c : Script) (p q : Option (List ℕ)) → Ran (kept line) a b p q → c.out.items ≡ b.out.items → StoppedEnd listed line a c p q
+stopped_halts listed line a b c p q h o =
+    stopped_ending listed line a b c (run_of (halts_of b.jobs) b.core) p q q h refl (ended_before listed _ b.out.items c.out.items q o)
+
+-- ---- a whole script
+
+-- at a place between two reads
+gathered_known : (listed : Bool) (bytes : List ℕ) (left old new : Option (List ℕ)) (begun : List ℕ) (script : Script) → Stands (Some bytes) left begun old new script → HasGathered listed bytes script old new
+gathered_known listed bytes None old new begun script h = absurd h.split
+gathered_known listed bytes (Some more) old new begun script h = record {
+  answers = h.answers;
+  lost = [];
+  unread = lines_of (begun ++ more);
+  behind = [];
+  few = omega arith;
+  of_lines = h.split;
+  each = subst (AreAnswers nothing_done) (sym (append-nil h.answers)) h.each;
+  machine = inr (h.machine ∙ ap (λ (xs : List Answer). left_by xs nothing_done) (sym (append-nil h.answers)));
+  legal = subst (λ (s : Machine). IsLegal s.units initial) h.machine h.legal;
+  front = inl refl;
+  passes = Passes-all old new (text_of h.answers ++ []) script.out.items (subst (Appends old new) (sym (append-nil (text_of h.answers))) h.written) h.out;
+}
+
+pub gathered_at : (listed : Bool) (all left old new : Option (List ℕ)) (begun : List ℕ) (script : Script) → Stands all left begun old new script → IfSome all (λ bytes. HasGathered listed bytes script old new)
+gathered_at listed None left old new begun script h = tt
+gathered_at listed (Some bytes) left old new begun script h = gathered_known listed bytes left old new begun script h
+
+-- what was written before, and then some more
+passes-first : (a b c : Option (List ℕ)) (x y z : List ℕ) → Appends a b x → Passes b c y z → Passes a c (x ++ y) z
+passes-first a b c x y z h k = record {
+  written = x ++ k.written;
+  appended = Appends-more a b c x k.written h k.appended;
+  rest = ap (λ (l : List ℕ). x ++ l) k.rest ∙ sym (append_assoc x k.written z);
+}
+
+-- the text of the answers before, of those after, and of what follows
+passes-next : (old new last : Option (List ℕ)) (before more : List Answer) (out behind left : List ℕ) → Appends old new (text_of before) → out ≡ [] → Passes new last ((out ++ text_of more) ++ behind) left
+    → Passes old last (text_of (before ++ more) ++ behind) left
+passes-next old new last before more out behind left w o k =
+    subst (λ (ts : List ℕ). Passes old last ts left)
+    (ap (λ (o : List ℕ). text_of before ++ ((o ++ text_of more) ++ behind)) o ∙ sym (append_assoc (text_of before) (text_of more) behind) ∙ ap (λ (ts : List ℕ). ts ++ behind) (sym (flat_map-append _ before more)))
+    (passes-first old new last (text_of before) ((out ++ text_of more) ++ behind) left w k)
+
+-- the lines before a piece, those answered in it, those that weren't, and those behind it
+lines-known : (before more lost : List (List ℕ)) (unread behind all : List (List ℕ)) → all ≡ (before ++ (more ++ (lost ++ unread))) ++ behind → all ≡ (before ++ more) ++ (lost ++ (unread ++ behind))
+lines-known before more lost unread behind all e =
+    e ∙ append_assoc before (more ++ (lost ++ unread)) behind ∙ ap (λ (l : List (List ℕ)). before ++ l) (append_assoc more (lost ++ unread) behind ∙ ap (λ (l : List (List ℕ)). more ++ l) (append_assoc lost unread behind))
+    ∙ sym (append_assoc before more (lost ++ (unread ++ behind)))
+
+gathered_known_piece : (listed : Bool) (bytes : List ℕ) (left left' old new last : Option (List ℕ)) (begun piece : List ℕ) (a b : Script) (h : Stands (Some bytes) left begun old new a) (k : StoppedFront (begun ++ piece) a b new last)
+    → Follows (Some bytes) left' (lines_in h.answers ++ k.lines) k.rest → HasGathered listed bytes b old last
+gathered_known_piece listed bytes left None old new last begun piece a b h k f = absurd f
+gathered_known_piece listed bytes left (Some more) old new last begun piece a b h k f = record {
+  answers = h.answers ++ k.stopped.answers;
+  lost = k.stopped.lost;
+  unread = k.stopped.unread ++ lines_of (k.rest ++ more);
+  behind = [];
+  few = k.stopped.few;
+  of_lines = lines-known (lines_in h.answers) (lines_in k.stopped.answers) (lines_in k.stopped.lost) k.stopped.unread (lines_of (k.rest ++ more)) (lines_of bytes)
+      (f ∙ ap (λ (l : List (List ℕ)). (lines_in h.answers ++ l) ++ lines_of (k.rest ++ more)) (sym k.stopped.of_lines))
+      ∙ ap (λ (l : List (List ℕ)). l ++ (lines_in k.stopped.lost ++ (k.stopped.unread ++ lines_of (k.rest ++ more)))) (sym (lines-append h.answers k.stopped.answers));
+  each = each-then nothing_done a.core h.answers k.stopped.answers k.stopped.lost h.each h.machine k.stopped.each;
+  machine = inr (machine-then nothing_done a.core b.core h.answers k.stopped.answers k.stopped.lost h.machine k.stopped.machine);
+  legal = subst (λ (s : Machine). IsLegal s.units initial) (left-then nothing_done a.core h.answers k.stopped.answers h.machine) (k.stopped.legal h.legal);
+  front = inl refl;
+  passes = passes-next old new last h.answers k.stopped.answers a.out.items [] b.out.items h.written h.out
+      (subst (λ (ts : List ℕ). Passes new last ts b.out.items) (sym (append-nil (a.out.items ++ text_of k.stopped.answers))) k.stopped.passes);
+}
+
+-- in a piece
+pub gathered_piece : (listed : Bool) (all left left' old new last : Option (List ℕ)) (begun piece : List ℕ) (a b : Script) → Stands all left begun old new a → HasRead left left' piece → StoppedFront (begun ++ piece) a b new last
+    → IfSome all (λ bytes. HasGathered listed bytes b old last)
+gathered_piece listed None left left' old new last begun piece a b h r k = tt
+gathered_piece listed (Some bytes) left left' old new last begun piece a b h r k =
+    gathered_known_piece listed bytes left left' old new last begun piece a b h k
+    (Follows-lines (Some bytes) left' (lines_in h.answers) k.lines (begun ++ piece) k.rest (Follows-more (Some bytes) left left' (lines_in h.answers) begun piece h.split r.consumed) k.split)
+
+machine-end : (s t u : Machine) (xs ys lost : List Answer) (more : List (List ℕ)) → t ≡ left_by xs s → (more ≡ []) ⊎ (u ≡ left_by (ys ++ lost) t) → (more ≡ []) ⊎ (u ≡ left_by ((xs ++ ys) ++ lost) s)
+machine-end s t u xs ys lost more e (inl none) = inl none
+machine-end s t u xs ys lost more e (inr is) = inr (machine-then s t u xs ys lost e is)
+
+-- at the end of input
+pub gathered_end : (listed : Bool) (all left left' old new last : Option (List ℕ)) (begun piece : List ℕ) (a b : Script) → Stands all left begun old new a → HasRead left left' piece → length piece ≡ 0 → StoppedEnd listed begun a b new last
+    → IfSome all (λ bytes. HasGathered listed bytes b old last)
+gathered_end listed None left left' old new last begun piece a b h r none k = tt
+gathered_end listed (Some bytes) left left' old new last begun piece a b h r none k =
+    let left-is : left_by k.answers a.core ≡ left_by (h.answers ++ k.answers) nothing_done = left-then nothing_done a.core h.answers k.answers h.machine in
+    let open-is : left_open k.answers a.jobs ≡ left_open (h.answers ++ k.answers) [] = open-then [] a.jobs h.answers k.answers h.jobs in
+    let end-is : left_at_end k.answers a.jobs a.core ≡ left_at_end (h.answers ++ k.answers) [] nothing_done = λ i. run_of (halts_of (open-is i)) (left-is i) in
+    let all-lines : lines_of bytes ≡ lines_in h.answers ++ kept begun =
+    at_end bytes left left' (lines_in h.answers) begun piece h.split r.consumed (nil_from_length piece none) (r.ended none) ∙ ap (λ (l : List (List ℕ)). lines_in h.answers ++ l) (last_line begun h.whole) in
+    record {
+      answers = h.answers ++ k.answers;
+      lost = k.lost;
+      unread = k.unread;
+      behind = k.behind;
+      few = k.few;
+      of_lines = all-lines ∙ sym (lines-then h.answers k.answers (lines_in h.answers) (kept begun) (lines_in k.lost ++ k.unread) refl k.of_lines);
+      each = each-then nothing_done a.core h.answers k.answers k.lost h.each h.machine k.each;
+      machine = machine-end nothing_done a.core b.core h.answers k.answers k.lost (lines_in k.lost ++ k.unread) h.machine k.machine;
+      legal = subst (λ (s : Machine). IsLegal s.units initial) left-is (k.legal h.legal);
+      front = subst (λ (s : Machine). (k.behind ≡ []) ⊎ IsEndingFront listed (lines_in k.lost ++ k.unread) (after s.units initial).map k.behind) end-is k.front;
+      passes = passes-next old new last h.answers k.answers a.out.items k.behind b.out.items h.written h.out k.passes;
+    }
+
+-- ---- and what is gathered is written
+
+each-front : (s : Machine) (xs ys : List Answer) → AreAnswers s (xs ++ ys) → AreAnswers s xs
+each-front s [] ys h = tt
+each-front s (x ∷ xs) ys h = (h.0, each-front (told_by (asked_by x.0) x.1 s) xs ys h.1)
+
+kept_known : (listed : Bool) (bytes : List ℕ) (script : Script) (old new last : Option (List ℕ)) → HasGathered listed bytes script old new → Appends new last script.out.items → HasKept listed bytes old last
+kept_known listed bytes script old new last h w = record {
+  answers = h.answers;
+  unanswered = lines_in h.lost ++ h.unread;
+  behind = h.behind;
+  each = each-front nothing_done h.answers h.lost h.each;
+  split = h.of_lines;
+  front = h.front;
+  written = Passes-Appends old new last (text_of h.answers ++ h.behind) script.out.items h.passes w;
+}
+
+pub kept_all : (listed : Bool) (all : Option (List ℕ)) (script : Script) (old new last : Option (List ℕ)) → IfSome all (λ bytes. HasGathered listed bytes script old new) → Appends new last script.out.items → IfSome all (λ bytes. HasKept listed bytes old last)
+kept_all listed None script old new last h w = tt
+kept_all listed (Some bytes) script old new last h w = kept_known listed bytes script old new last h w
+
+-- before the first line
+pub kept_first : (listed : Bool) (all old : Option (List ℕ)) → IfSome all (λ bytes. HasKept listed bytes old old)
+kept_first listed None old = tt
+kept_first listed (Some bytes) old = record { answers = []; unanswered = lines_of bytes; behind = []; each = tt; split = refl; front = inl refl; written = Appends-nothing old }
+
+begun_known : (listed : Bool) (bytes : List ℕ) (script : Script) (old new last : Option (List ℕ)) → HasGathered listed bytes script old new → WritesBeginning new last script.out.items → IsBegun listed bytes old last
+begun_known listed bytes script old new last h w = by_front h.front
+  where
+    begun : WritesBeginning old last (text_of h.answers ++ h.behind)
+    begun = Passes-begun old new last (text_of h.answers ++ h.behind) script.out.items h.passes w
+
+    by_front : (h.behind ≡ []) ⊎ IsEndingFront listed (lines_in h.lost ++ h.unread) (after (left_at_end h.answers [] nothing_done).units initial).map h.behind → IsBegun listed bytes old last
+    by_front (inl none) =
+        let g = goes_on listed bytes h.answers (lines_in h.lost ++ h.unread) h.of_lines (each-front nothing_done h.answers h.lost h.each) h.legal in
+        record {
+          text = text_of h.answers ++ g.more;
+          refused = g.refused;
+          output = g.output;
+          written = WritesBeginning-longer old last (text_of h.answers) g.more (subst (WritesBeginning old last) (ap (λ (ts : List ℕ). text_of h.answers ++ ts) none ∙ append-nil (text_of h.answers)) begun);
+        }
+    by_front (inr front) =
+        let m : Database = (after (left_at_end h.answers [] nothing_done).units initial).map in
+        let more : List ℕ = flat_map node_text front.front.left in
+        let whole : ending listed m ≡ h.behind ++ more =
+        ap (λ (b : Bool). ending b m) front.asked ∙ ap (λ (es : List _). codes "--\n" ++ flat_map node_text es) (sym front.front.parts)
+        ∙ ap (λ (ts : List ℕ). codes "--\n" ++ ts) (flat_map-append node_text front.front.done front.front.left ∙ ap (λ (ts : List ℕ). ts ++ more) (sym front.front.lines))
+        ∙ sym (append_assoc (codes "--\n") front.nodes more) ∙ ap (λ (ts : List ℕ). ts ++ more) (sym front.headed) in
+        record {
+          text = (text_of h.answers ++ h.behind) ++ more;
+          refused = some_refused h.answers;
+          output = record {
+            answers = h.answers;
+            of_lines = sym (h.of_lines ∙ ap (λ (l : List (List ℕ)). lines_in h.answers ++ l) front.none_left ∙ append-nil (lines_in h.answers));
+            each = each-front nothing_done h.answers h.lost h.each;
+            legal = halts-legal (left_open h.answers []) (left_by h.answers nothing_done) h.legal;
+            written = append_assoc (text_of h.answers) h.behind more ∙ ap (λ (ts : List ℕ). text_of h.answers ++ ts) (sym whole);
+            told = refl;
+          };
+          written = WritesBeginning-longer old last (text_of h.answers ++ h.behind) more begun;
+        }
+
+-- a beginning of what is gathered was written, or all of it
+pub begun_left : (listed : Bool) (all : Option (List ℕ)) (script : Script) (old new last : Option (List ℕ)) → IfSome all (λ bytes. HasGathered listed bytes script old new) → WritesBeginning new last script.out.items → IfSome all (λ bytes. IsBegun listed bytes old last)
+begun_left listed None script old new last h w = tt
+begun_left listed (Some bytes) script old new last h w = begun_known listed bytes script old new last h w
