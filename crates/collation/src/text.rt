@@ -62,7 +62,8 @@ impl Text {
         self.len() == 0
     }
 
-    /// Puts these bytes at its end. Where memory is refused it stays as it was.
+    /// Puts these bytes at its end. Where memory is refused it stays as it was. It may be refused for a short text too, since
+    /// how much room there is isn't shown.
     pub fn extend_from_slice(&mut self, more: &[u8]) -> Result<(), AllocError>
         ensures ok { OnOk result (self.new ≡ self.old ++ more.now) }
         ensures err { OnErr result (self.new ≡ self.old) }
@@ -92,10 +93,13 @@ impl MadeWith<Global> for Text {
 }
 
 impl Clone for Text {
-    ghost use Rattle.std.specs.Prelude.{◌≡◌};
+    ghost use Rattle.std.specs.Prelude.{◌≡◌, ◌≤◌, length};
 
     ghost is_clone = { λ a b. a ≡ b };
 
+    ghost is_infallible = { λ t. length t ≤ 16 };
+
+    /// A copy. Fails only for want of memory, and never at 16 bytes or fewer.
     fn clone(&self) -> Result<Text, AllocError> {
         let bytes = SmallVec::from_slice(*self.bytes.allocator(), self.as_slice())?;
         Ok(Text { bytes })

@@ -33,7 +33,7 @@ pub use run::Run;
 pub use sibling::order;
 pub use traversal::query;
 pub use view::OrderedView;
-pub use walk::{Descent, Walk, subtree, walk_from};
+pub use walk::{SubtreeWalk, Walk, subtree, walk_from};
 
 mod ahead;
 mod answering;

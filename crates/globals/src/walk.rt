@@ -62,14 +62,14 @@ impl<'v, V: OrderedView> Iterator for Walk<'v, V> {
 
 /// A walk over what is at and under a reference. It is seen as the list of members that are left.
 #[derive(Drop)]
-pub struct Descent<'v, V: OrderedView> {
+pub struct SubtreeWalk<'v, V: OrderedView> {
     view: &'v V,
     root: &'v Key,
     cut: Cut<'v>,
     ahead: Ahead<'v>,
 }
 
-impl<'v, V: OrderedView> Model for Descent<'v, V> {
+impl<'v, V: OrderedView> Model for SubtreeWalk<'v, V> {
     ghost use Rattle.std.specs.Prelude.{List, ℕ};
     ghost use Rattle.collation.specs.Reference.{Reference};
     ghost use Rattle.globals.specs.Cuts.{entries_from, front_under, IsFront};
@@ -82,10 +82,10 @@ impl<'v, V: OrderedView> Model for Descent<'v, V> {
 }
 
 /// The walk over the members at and under the reference, in order.
-pub fn subtree<'v, V: OrderedView>(view: &'v V, root: &'v Key) -> Descent<'v, V>
+pub fn subtree<'v, V: OrderedView>(view: &'v V, root: &'v Key) -> SubtreeWalk<'v, V>
     ensures { result ≡ subtree_of root.now (V.content view.now) }
 {
-    Descent {
+    SubtreeWalk {
         view,
         root,
         cut: Cut::Before(root),
@@ -93,7 +93,7 @@ pub fn subtree<'v, V: OrderedView>(view: &'v V, root: &'v Key) -> Descent<'v, V>
     }
 }
 
-impl<'v, V: OrderedView> Iterator for Descent<'v, V> {
+impl<'v, V: OrderedView> Iterator for SubtreeWalk<'v, V> {
     type Item = (&'v Key, &'v Text);
 
     ghost next_gives = { YieldsFirstBy (λ e. (e.0.now, e.1.now)) (λ s. s) };

@@ -13,14 +13,11 @@ ghost use Rattle.script.specs.Sentence.{Spells, SpellsData, SpellsSome, SomeData
 use crate::lock::locking;
 use crate::sentence::{DataSentence, Drafts, Sentence};
 use crate::word::AloneWord;
-use collation::{Direction, LockCommand, Text};
+use collation::{Direction, LONGEST_VALUE, LockCommand, Text};
 use command::{Command, DataCommand, Look};
 use key_codec::{Key, KeyDraft, Place};
 use refusal::Refusal;
 use std::alloc::Global;
-
-/// The most bytes that a value or a default may have.
-const LONGEST_VALUE: usize = 32767;
 
 fn key_of(alloc: Global, draft: &KeyDraft) -> Result<Key, Refusal>
     requires { IsSpelled draft.now }

@@ -7,7 +7,7 @@ ghost use Rattle.script.specs.Line.{IsReading, IsRefusalOf, is_job, ends_digits 
 use crate::blank::{begins_blank, past_blank, skip_blank};
 use crate::finish::finish;
 use crate::sentence::{Drafts, Sentence, read_sentence};
-use collation::Job;
+use collation::{Job, MOST_JOBS};
 use command::Command;
 use m_text::{number_up_to, split_digits};
 use refusal::Refusal;
@@ -24,7 +24,7 @@ pub struct LineFault {
 fn job_at(digits: &[u8]) -> Option<Job>
     ensures { result ≡ (if is_job (number_from 0 digits.now) then Some (number_from 0 digits.now) else None) }
 {
-    let number = number_up_to(4096, digits)?;
+    let number = number_up_to(MOST_JOBS as u16, digits)?;
     match Job::new(number as u64) {
         Ok(job) => Some(job),
         Err(_) => None,

@@ -2,7 +2,7 @@ use Rattle.std.proofs.Common.{◌≡◌, true, false, sym, ap, ◌∙◌}
 use Rattle.collation.specs.Database.{is_under}
 use Rattle.globals.specs.Cuts.{front_under}
 use Rattle.globals.proofs.Walks.{descent_step, descent_stop, taken, passed, shorter}
-use Rattle.globals.proofs.walk.DescentIterator.next.Goals as goal
+use Rattle.globals.proofs.walk.SubtreeWalkIterator.next.Goals as goal
 
 pub returns-then-not-is_under-clause-steps : goal.returns-then-not-is_under-clause-steps
 returns-then-not-is_under-clause-steps g c =
