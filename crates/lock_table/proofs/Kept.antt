@@ -1,9 +1,9 @@
 -- What the trie has of a job after each change.
 use Rattle.std.proofs.Common.{zero, suc, ◌≡◌, ◌<◌, ◌≤◌, ◌+◌, ℕ, List, Bool, true, false, refl, sym, ap, subst, ◌∙◌, arith}
-use Rattle.std.specs.Prelude.{cond, max, min}
+use Rattle.std.specs.Prelude.{◌-◌, cond, max, min}
 use Rattle.std.specs.FinMap as finmap
 use Rattle.collation.specs.Reference.{Resource}
-use Rattle.collation.specs.Locks.{Counts, count_of, more_of}
+use Rattle.collation.specs.Locks.{Counts, count_of, more_of, fewer_of}
 use Rattle.collation.specs.LockLaws.{times}
 use Rattle.collation.specs.CountingLaws.{counts_tell}
 use Rattle.lock_trie.specs.Held.{Held, held_count}
@@ -58,3 +58,16 @@ pub none_kept : (old t : Held) (job : ℕ) (held others new : Counts) → others
 none_kept old t job held others new is new_is kept lowered reached = kept_less old t job held new others
     (λ x. let z : count_of new x ≡ 0 = ap (λ c. count_of c x) new_is ∙ no_count x in omega arith)
     (λ x h. ap (λ c. count_of c x) new_is ∙ no_count x ∙ sym h ∙ ap (λ c. count_of c x) is) kept lowered reached
+
+-- a trie that is lowered for names
+pub kept_fewer : (old t : Held) (job : ℕ) (held new : Counts) (ns : List Resource) → new ≡ fewer_of ns held → IsHeldIn old job held
+    → AreLowered (held_count old job) (held_count t job) (count_of new) → ((x : Resource) → is_named x ns ≡ true → held_count t job x ≤ count_of new x) → IsHeldIn t job new
+kept_fewer old t job held new ns is kept lowered named x =
+    let laws = counts_tell x in
+    let less : count_of new x ≡ count_of held x - times x ns = ap (λ c. count_of c x) is ∙ laws.fewer ns held in
+    by_test (is_named x ns) refl (kept x) less (lowered.below x) (lowered.least x) (named x)
+  where
+    by_test : (b : Bool) → is_named x ns ≡ b → held_count old job x ≡ count_of held x → count_of new x ≡ count_of held x - times x ns → held_count t job x ≤ held_count old job x → min (held_count old job x) (count_of new x) ≤ held_count t job x
+        → (b ≡ true → held_count t job x ≤ count_of new x) → held_count t job x ≡ count_of new x
+    by_test true e was less below least named = let n = named refl in omega arith
+    by_test false e was less below least named = let none : times x ns ≡ 0 = unnamed_times x ns e in omega arith

@@ -9,7 +9,9 @@ use Rattle.collation.specs.LockLaws.{times}
 use Rattle.collation.specs.CountingLaws.{counts_tell}
 use Rattle.collation.specs.ZeroLaws.{none_empty, none_greater, none_more, none_fewer, same_counts, all_taken_back}
 use Rattle.lock_table.specs.Counted.{less, is_over}
-use Rattle.lock_table.specs.Rows.{AreWithin, IsWithin, locks_in, enters}
+use Rattle.lock_table.specs.Rows.{AreWithin, locks_in, enters, is_full_by}
+use Rattle.lock_table.specs.declared.row.Form.{Form}
+use Rattle.lock_table.specs.declared.row.Form.TheVariants.{More}
 use Rattle.lock_table.specs.declared.inside.Inside.{Inside}
 use Rattle.lock_table.proofs.Lists.{borne, over_along}
 use Rattle.lock_table.proofs.Less.{no_count, counted_less, none_less}
@@ -198,6 +200,9 @@ within_none held f a f_is a_is = record {
   added_held = λ x. let z : count_of a x ≡ 0 = ap (λ c. count_of c x) a_is ∙ no_count x in omega arith;
 }
 
-pub was_inside : (self : JobLocks) (held : Counts) (inside : Option Inside) → locks_in held inside ≡ self → true ≡ is_some inside → self ≡ enters self
-was_inside self held None view e = absurd (cc)
-was_inside self held (Some i) view e = subst (λ s. s ≡ enters s) view refl
+-- ---- LOCK with + outside a transaction
+
+pub outside_allowed : (self : JobLocks) (held : Counts) (inside : Option Inside) (form : Form) (had : Bool) (ns : List Resource) → locks_in held inside ≡ self → inside ≡ None → form ≡ More had → ((x : Resource) → count_of held x + times x ns ≤ 65535) → is_full_by form ns self.want ≡ false
+outside_allowed self held inside form had ns view out is small =
+    let same : locks_in held None ≡ self = ap (locks_in held) (sym out) ∙ view in
+    ap (λ f. is_full_by f ns self.want) is ∙ subst (λ (s : JobLocks). list_any (is_over ns s.want) ns ≡ false) same (borne held ns small)

@@ -33,8 +33,8 @@
 //! | `-^A` | 1 `^A` | 1 `^A` | | none | 1 `^A` |
 //! | `+(^A,^B)` | 1 `^A`, 1 `^B` | | 1 `^B` | 1 `^A`, 1 `^B` | 1 `^A` |
 //!
-//! What may be refused comes first and is taken back. A LOCK outside a transaction is one inside that is committed at once.
-//! A LOCK with + or - costs what it names, one that releases all what the job holds, a commit what was given back in the
+//! What may be refused comes first and is taken back. Outside, a LOCK that releases all is one inside that is
+//! committed at once. A LOCK with + or - costs what it names, one that releases all what the job holds, a commit what was given back in the
 //! transaction, a rollback what was added.
 //!
 //! `check` looks at the counts of the names that are asked for; `reply` takes no memory.

@@ -3,7 +3,7 @@ ghost use Rattle.std.specs.Prelude.{true, false, ◌⊎◌, if◌then◌else◌,
 ghost use Rattle.std.specs.List.{list_any};
 ghost use Rattle.collation.specs.Limits.{most_locks};
 ghost use Rattle.collation.specs.Reference.{Resource};
-ghost use Rattle.collation.specs.Locks.{count_of, more_of};
+ghost use Rattle.collation.specs.Locks.{count_of, more_of, fewer_of};
 ghost use Rattle.collation.specs.LockLaws.{times};
 ghost use Rattle.lock_trie.specs.Held.{held_count, IsRecounted, IsSame};
 ghost use Rattle.lock_table.specs.Counted.{AreRaised, AreLowered, less, is_over, is_named};
@@ -103,6 +103,17 @@ pub fn hold_more(
             Err(Refusal::OutOfMemory)
         }
     }
+}
+
+/// The job, which holds what its counts say, holds each of these names once fewer. Takes no memory.
+pub fn hold_fewer(trie: &mut LockTrie, job: u16, held: &mut Counts, names: &[LockName])
+    requires { IsHeldIn trie.old job held.old }
+    ensures held { held.new ≡ fewer_of names.now held.old }
+    ensures kept { IsHeldIn trie.new job held.new }
+    ensures others { AreOthersSame trie.old trie.new job }
+{
+    held.take_all(names);
+    lower_names(trie, job, names, held);
 }
 
 /// Of what the job holds, which its counts say, as many fewer as the others have. Takes no memory.

@@ -9,7 +9,7 @@ ghost use Rattle.lock_table.specs.Rows.{AreWithin, inside_locks, in_its_mode, en
 
 use crate::counts::Counts;
 use crate::inside::{Inside, fewer, more, only, wanted_among};
-use crate::moves::give_back;
+use crate::moves::{give_back, hold_fewer, hold_more};
 use collation::LockName;
 use lock_trie::LockTrie;
 use refusal::Refusal;
@@ -206,8 +206,8 @@ impl Row {
         }
     }
 
-    /// One form of LOCK outside a transaction: one that is done at once.
-    fn outside(
+    /// One form of LOCK that is done at once: as in a transaction that commits.
+    fn at_once(
         &mut self,
         trie: &mut LockTrie,
         job: u16,
@@ -228,6 +228,35 @@ impl Row {
                 Ok(())
             }
             Err(refusal) => Err(refusal),
+        }
+    }
+
+    /// One form of LOCK outside a transaction. A job that took no LOCK inside wants what it holds.
+    fn outside(
+        &mut self,
+        trie: &mut LockTrie,
+        job: u16,
+        form: Form,
+        names: &[LockName],
+    ) -> Result<(), Refusal>
+        requires { IsKept trie.old job self.old }
+        ensures ok { OnOk result (self.new ≡ job_wants false (want_by form names.now self.old.want) self.old) }
+        ensures err { OnErr result (self.new ≡ self.old) }
+        ensures kept { IsKept trie.new job self.new }
+        ensures others { AreOthersSame trie.old trie.new job }
+        ensures allowed { OnOk result (is_full_by form names.now self.old.want ≡ false) }
+        ensures full { IfErr result (λ refusal. (refusal ≡ Refusal.OutOfMemory) ⊎ ((refusal ≡ Refusal.LockCountFull) × (is_full_by form names.now self.old.want ≡ true))) }
+    {
+        if self.inside.is_some() {
+            return self.at_once(trie, job, form, names);
+        }
+        match form {
+            Form::Only(_) => self.at_once(trie, job, form, names),
+            Form::More(had) => hold_more(trie, job, &mut self.held, names, had),
+            Form::Fewer => {
+                hold_fewer(trie, job, &mut self.held, names);
+                Ok(())
+            }
         }
     }
 
