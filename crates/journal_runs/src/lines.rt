@@ -11,19 +11,24 @@ fn push_letters(line: &mut Vec<u8>, count: u64) -> Result<(), AllocError> {
     Ok(())
 }
 
-// A reference with the longest key: a name of 31 bytes, and 31 subscripts of 127 bytes that take two bytes each.
-fn push_longest(line: &mut Vec<u8>) -> Result<(), AllocError> {
-    line.extend_from_slice(b"^abcdefghijklmnopqrstuvwxyzabcde")?;
-    for at in 0..31 {
-        line.push(if at == 0 { b'(' } else { b',' })?;
-        line.extend_from_slice(b"$C(0")?;
-        for _ in 1..127 {
-            line.extend_from_slice(b",1")?;
-        }
-        line.push(b')')?;
+// A subscript of 127 bytes that take two bytes each.
+fn push_longest_subscript(line: &mut Vec<u8>) -> Result<(), AllocError> {
+    line.extend_from_slice(b"$C(0")?;
+    for _ in 1..127 {
+        line.extend_from_slice(b",1")?;
     }
-    line.push(b')')?;
-    Ok(())
+    line.extend_from_slice(b")")
+}
+
+// A reference with the longest key: a name of 31 bytes, and 31 of these subscripts.
+fn push_longest(line: &mut Vec<u8>) -> Result<(), AllocError> {
+    line.extend_from_slice(b"^abcdefghijklmnopqrstuvwxyzabcde(")?;
+    for _ in 1..31 {
+        push_longest_subscript(line)?;
+        line.extend_from_slice(b",")?;
+    }
+    push_longest_subscript(line)?;
+    line.extend_from_slice(b")")
 }
 
 /// The nth reference: a key of 2 to 32 bytes is a name alone, one of up to 64 has a text as subscript; each 97th is the
@@ -64,19 +69,27 @@ fn word(n: u64) -> &'static [u8] {
     }
 }
 
+// The reference or the place of the nth data command.
+fn push_place(line: &mut Vec<u8>, n: u64) -> Result<(), AllocError> {
+    match n % 18 {
+        6 => line.extend_from_slice(b"^A(1,\"\")"),
+        15 => line.extend_from_slice(b"^A(\"x\",-2)"),
+        8 => line.extend_from_slice(b"^A(\"\")"),
+        17 => line.extend_from_slice(b"^A"),
+        _ => push_reference(line, n),
+    }
+}
+
 /// The nth data command's line. Places are in both directions, the last subscript of some empty.
 pub fn push_access(line: &mut Vec<u8>, n: u64) -> Result<(), AllocError> {
     line.clear();
     line.extend_from_slice(word(n))?;
-    match n % 9 {
-        6 => line.extend_from_slice(if n % 2 == 0 {
-            b"^A(1,\"\")"
-        } else {
-            b"^A(\"x\",-2)"
-        })?,
-        8 => line.extend_from_slice(if n % 2 == 0 { b"^A(\"\")" } else { b"^A" })?,
-        _ => push_reference(line, n)?,
-    }
+    push_place(line, n)?;
+    push_rest(line, n)
+}
+
+// What stands behind it.
+fn push_rest(line: &mut Vec<u8>, n: u64) -> Result<(), AllocError> {
     match n % 9 {
         0 => {
             line.push(b'=')?;

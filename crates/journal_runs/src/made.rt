@@ -34,7 +34,10 @@ pub fn access_of(alloc: Global, n: u64) -> Result<DataCommand, Refusal> {
     push_access(&mut line, n)?;
     match read(alloc, &line) {
         Ok(Command::Access(command)) => Ok(command),
-        Ok(_) => Err(Refusal::BadLine),
+        Ok(other) => {
+            drop(other);
+            Err(Refusal::BadLine)
+        }
         Err(refusal) => Err(refusal),
     }
 }
@@ -45,7 +48,10 @@ pub fn lock_of(alloc: Global, n: u64) -> Result<LockCommand, Refusal> {
     push_lock(&mut line, n)?;
     match read(alloc, &line) {
         Ok(Command::Lock(command)) => Ok(command),
-        Ok(_) => Err(Refusal::BadLine),
+        Ok(other) => {
+            drop(other);
+            Err(Refusal::BadLine)
+        }
         Err(refusal) => Err(refusal),
     }
 }

@@ -3,18 +3,39 @@
 
 use job_core::JobCore;
 use script::{Drafts, read_line, write_reply};
+use std::alloc::{AllocError, Global};
 use std::io;
 use std::io::Write;
 
+// Does a line on the core, and appends its reply to the text.
+fn answer(
+    alloc: Global,
+    core: &mut JobCore,
+    line: &str,
+    text: &mut Vec<u8>,
+) -> Result<(), AllocError> {
+    let mut drafts = Drafts::new(alloc);
+    match read_line(alloc, line.as_bytes(), &mut drafts) {
+        Ok((job, command)) => {
+            let reply = core.step(job, command);
+            let written = write_reply(Some(job), &reply, text);
+            drop(reply);
+            written
+        }
+        Err(_) => Ok(()),
+    }
+}
+
+fn answers(alloc: Global, core: &mut JobCore) -> Result<Vec<u8>, AllocError> {
+    let mut text = Vec::new(alloc);
+    answer(alloc, core, "1 SET ^Stock(\"apples\")=3", &mut text)?;
+    answer(alloc, core, "2 $GET(^Stock(\"apples\"))", &mut text)?;
+    Ok(text)
+}
+
 fn main(rt: HostRuntime) -> io::Result<()> {
     let mut core = JobCore::new(rt.alloc());
-    let mut drafts = Drafts::new(rt.alloc());
-    let mut text = Vec::new(rt.alloc());
-    for line in ["1 SET ^Stock(\"apples\")=3", "2 $GET(^Stock(\"apples\"))"] {
-        if let Ok((job, command)) = read_line(rt.alloc(), line.as_bytes(), &mut drafts) {
-            let reply = core.step(job, command);
-            write_reply(Some(job), &reply, &mut text)?;
-        }
-    }
-    io::writer(&rt).write_all(&text)
+    let text = answers(rt.alloc(), &mut core);
+    drop(core);
+    io::writer(&rt).write_all(&text?)
 }

@@ -61,7 +61,18 @@ impl<'v, V: OrderedView> OrderedView for Counting<'v, V> {
 }
 
 // ^A(0,0,0) to ^A(9,9,9), in order, each with its last subscript.
-fn thousand(alloc: Global, map: &mut KeyMap<Text>) -> Result<(), Refusal> {
+fn thousand(alloc: Global) -> Result<KeyMap<Text>, Refusal> {
+    let mut map = KeyMap::new(alloc);
+    match fill(alloc, &mut map) {
+        Ok(()) => Ok(map),
+        Err(refusal) => {
+            drop(map);
+            Err(refusal)
+        }
+    }
+}
+
+fn fill(alloc: Global, map: &mut KeyMap<Text>) -> Result<(), Refusal> {
     for first in b'0'..=b'9' {
         for second in b'0'..=b'9' {
             for third in b'0'..=b'9' {
@@ -111,19 +122,33 @@ fn is_few(counts: (u64, u64)) -> bool {
     counts.1 <= counts.0 / 32 + 6
 }
 
+// Of walks over all nodes and over what is at and under ^A(4), ^A(4,4,4) and ^B.
+type FourCounts = ((u64, u64), (u64, u64), (u64, u64), (u64, u64));
+
+fn four_counts(alloc: Global, map: &KeyMap<Text>) -> Result<FourCounts, Refusal> {
+    let view = Counting::new(map);
+    let all = walk_counts(&view);
+    let hundred = subtree_counts(alloc, &view, b"A4")?;
+    let one = subtree_counts(alloc, &view, b"A444")?;
+    Ok((all, hundred, one, subtree_counts(alloc, &view, b"B")?))
+}
+
+fn four_counts_of_thousand(alloc: Global) -> Result<FourCounts, Refusal> {
+    let map = thousand(alloc)?;
+    let counts = four_counts(alloc, &map);
+    drop(map);
+    counts
+}
+
 #[test]
 fn walks_look_up_one_node_in_32(rt: HostRuntime) -> Result<(), Fail> {
-    let mut map = KeyMap::new(rt.alloc());
-    thousand(rt.alloc(), &mut map)?;
-    let view = Counting::new(&map);
-    let all = walk_counts(&view);
+    let (all, hundred, one, none) = four_counts_of_thousand(rt.alloc())?;
     assert_eq!(rt; all.0, 1000);
     assert!(rt; is_few(all));
-    let hundred = subtree_counts(rt.alloc(), &view, b"A4")?;
     assert_eq!(rt; hundred.0, 100);
     assert!(rt; is_few(hundred));
-    assert_eq!(rt; subtree_counts(rt.alloc(), &view, b"A444")?, (1, 1));
-    assert_eq!(rt; subtree_counts(rt.alloc(), &view, b"B")?, (0, 1));
+    assert_eq!(rt; one, (1, 1));
+    assert_eq!(rt; none, (0, 1));
     Ok(())
 }
 
@@ -152,14 +177,17 @@ fn answers_counts_at<V: OrderedView>(
     counts
 }
 
+fn answers_counts_in_thousand(alloc: Global, spelled: &[u8]) -> Result<(u64, u64, u64), Refusal> {
+    let map = thousand(alloc)?;
+    let counts = answers_counts_at(alloc, &Counting::new(&map), spelled);
+    drop(map);
+    counts
+}
+
 #[test]
-fn data_takes_two_look_ups_order_and_query_one(rt: HostRuntime) -> Result<(), Fail> {
-    let mut map = KeyMap::new(rt.alloc());
-    thousand(rt.alloc(), &mut map)?;
-    let view = Counting::new(&map);
-    assert_eq!(rt; answers_counts_at(rt.alloc(), &view, b"A44")?, (2, 1, 1));
-    assert_eq!(rt; answers_counts_at(rt.alloc(), &view, b"A999")?, (2, 1, 1));
-    Ok(())
+fn data_takes_two_look_ups_order_and_query_one(rt: HostRuntime) {
+    assert!(rt; answers_counts_in_thousand(rt.alloc(), b"A44") == Ok((2, 1, 1)));
+    assert!(rt; answers_counts_in_thousand(rt.alloc(), b"A999") == Ok((2, 1, 1)));
 }
 
 // What a transaction does over the thousand: `+A111` sets a value, `-A1` kills.
@@ -255,24 +283,47 @@ fn is_walked_as<V: OrderedView>(view: &V, plain: &KeyMap<Text>) -> bool {
 }
 
 // Whether a walk over the overlay meets what the plain map has, and by how many look-ups of what is below.
-fn overlay_counts(alloc: Global, start: &KeyMap<Text>) -> Result<(bool, u64), Refusal> {
-    let mut plain = KeyMap::new(alloc);
-    thousand(alloc, &mut plain)?;
-    let mut own = Workspace::new(alloc);
-    act_all(alloc, &mut own, &mut plain)?;
+fn overlay_counts(
+    alloc: Global,
+    start: &KeyMap<Text>,
+    own: &mut Workspace,
+    plain: &mut KeyMap<Text>,
+) -> Result<(bool, u64), Refusal> {
+    act_all(alloc, own, plain)?;
     let below = Counting::new(start);
-    let same = is_walked_as(&Overlay::new(&own, &below), &plain);
-    drop(plain);
-    drop(own);
+    let same = is_walked_as(&Overlay::new(own, &below), plain);
     Ok((same, below.taken()))
+}
+
+fn overlay_counts_beside(
+    alloc: Global,
+    start: &KeyMap<Text>,
+    plain: &mut KeyMap<Text>,
+) -> Result<(bool, u64), Refusal> {
+    let mut own = Workspace::new(alloc);
+    let counts = overlay_counts(alloc, start, &mut own, plain);
+    drop(own);
+    counts
+}
+
+fn overlay_counts_over(alloc: Global, start: &KeyMap<Text>) -> Result<(bool, u64), Refusal> {
+    let mut plain = thousand(alloc)?;
+    let counts = overlay_counts_beside(alloc, start, &mut plain);
+    drop(plain);
+    counts
+}
+
+fn overlay_counts_of_thousand(alloc: Global) -> Result<(bool, u64), Refusal> {
+    let start = thousand(alloc)?;
+    let counts = overlay_counts_over(alloc, &start);
+    drop(start);
+    counts
 }
 
 // Ten killed ranges; what was written ends once.
 #[test]
 fn overlay_of_a_thousand_looks_up_one_node_in_32(rt: HostRuntime) -> Result<(), Fail> {
-    let mut start = KeyMap::new(rt.alloc());
-    thousand(rt.alloc(), &mut start)?;
-    let counts = overlay_counts(rt.alloc(), &start)?;
+    let counts = overlay_counts_of_thousand(rt.alloc())?;
     assert!(rt; counts.0);
     assert!(rt; counts.1 <= 1000 / 32 + 6 + 10 + 1);
     Ok(())
@@ -303,10 +354,14 @@ fn gathers(alloc: Global, map: &KeyMap<Text>) -> Result<bool, Refusal> {
     Ok(of_map && of_overlay)
 }
 
+fn thousand_gathers(alloc: Global) -> Result<bool, Refusal> {
+    let map = thousand(alloc)?;
+    let told = gathers(alloc, &map);
+    drop(map);
+    told
+}
+
 #[test]
-fn maps_and_overlays_gather_what_was_asked_for(rt: HostRuntime) -> Result<(), Fail> {
-    let mut map = KeyMap::new(rt.alloc());
-    thousand(rt.alloc(), &mut map)?;
-    assert!(rt; gathers(rt.alloc(), &map)?);
-    Ok(())
+fn maps_and_overlays_gather_what_was_asked_for(rt: HostRuntime) {
+    assert!(rt; thousand_gathers(rt.alloc()) == Ok(true));
 }

@@ -198,13 +198,16 @@ fn alike(chains: &mut Chains<u64>, alloc: Global, acts: u64) -> Result<(u64, boo
     Ok((count, chains.spare() > 0 && chains.spare() % 64 == 0))
 }
 
+fn alike_in_new_chains(alloc: Global, acts: u64) -> Result<(u64, bool), AllocError> {
+    let mut chains = Chains::new(alloc);
+    let told = alike(&mut chains, alloc, acts);
+    drop(chains);
+    told
+}
+
 #[test]
-fn ten_thousand_random_acts_agree_with_plain_vectors(rt: HostRuntime) -> Result<(), Fail> {
-    let mut chains = Chains::new(rt.alloc());
-    let (count, are_back) = alike(&mut chains, rt.alloc(), 10_000)?;
-    assert_eq!(rt; count, 10_000);
-    assert!(rt; are_back);
-    Ok(())
+fn ten_thousand_random_acts_agree_with_plain_vectors(rt: HostRuntime) {
+    assert!(rt; alike_in_new_chains(rt.alloc(), 10_000) == Ok((10_000, true)));
 }
 
 // Opens a chain of versions 9 "x", 7 absent, 4 "y", 2 "x". The first takes no cell.
@@ -237,19 +240,48 @@ fn cut_at(chains: &mut Chains<&'static str>, id: ChainId, horizon: u64) -> usize
     }
 }
 
+// What is seen before a cut at 6, between it and one at 8, and after both; and how many versions each drops.
+#[derive(Drop)]
+struct Cuts {
+    before: [Option<&'static str>; 5],
+    at_6: usize,
+    between: [Option<&'static str>; 5],
+    at_8: usize,
+    after: [Option<&'static str>; 5],
+}
+
+fn cut_twice(chains: &mut Chains<&'static str>) -> Result<Cuts, AllocError> {
+    let id = worked(chains)?;
+    let before = seen(chains, id);
+    let at_6 = cut_at(chains, id, 6);
+    let between = seen(chains, id);
+    let at_8 = cut_at(chains, id, 8);
+    let after = seen(chains, id);
+    Ok(Cuts {
+        before,
+        at_6,
+        between,
+        at_8,
+        after,
+    })
+}
+
+fn worked_cuts(alloc: Global) -> Result<Cuts, AllocError> {
+    let mut chains = Chains::new(alloc);
+    let cuts = cut_twice(&mut chains);
+    drop(chains);
+    cuts
+}
+
 // A cut at 6 leaves 9, 7, 4, and one at 8 leaves 9.
 #[test]
 fn cut_of_worked_chain_leaves_what_its_horizon_needs(rt: HostRuntime) -> Result<(), Fail> {
-    let mut chains = Chains::new(rt.alloc());
-    let id = worked(&mut chains)?;
-    assert_eq!(rt;
-        seen(&chains, id),
-        [None, Some("x"), Some("y"), None, Some("x")]
-    );
-    assert_eq!(rt; cut_at(&mut chains, id, 6), 1);
-    assert_eq!(rt; seen(&chains, id), [None, None, Some("y"), None, Some("x")]);
-    assert_eq!(rt; cut_at(&mut chains, id, 8), 2);
-    assert_eq!(rt; seen(&chains, id), [None, None, None, None, Some("x")]);
+    let cuts = worked_cuts(rt.alloc())?;
+    assert_eq!(rt; cuts.before, [None, Some("x"), Some("y"), None, Some("x")]);
+    assert_eq!(rt; cuts.at_6, 1);
+    assert_eq!(rt; cuts.between, [None, None, Some("y"), None, Some("x")]);
+    assert_eq!(rt; cuts.at_8, 2);
+    assert_eq!(rt; cuts.after, [None, None, None, None, Some("x")]);
     Ok(())
 }
 
@@ -293,15 +325,21 @@ fn cut_and_close(
     (dropped, seen)
 }
 
+fn three_long_ones(chains: &mut Chains<u64>) -> Result<(usize, Option<u64>), AllocError> {
+    let first = long(chains, 1_000_000)?;
+    let second = long(chains, 1_000_000)?;
+    long(chains, 1_000_000)?;
+    Ok(cut_and_close(chains, first, second))
+}
+
+fn long_ones_in_new_chains(alloc: Global) -> Result<(usize, Option<u64>), AllocError> {
+    let mut chains = Chains::new(alloc);
+    let told = three_long_ones(&mut chains);
+    drop(chains);
+    told
+}
+
 #[test]
-fn chain_of_a_million_versions_is_cut_read_closed_and_dropped(rt: HostRuntime) -> Result<(), Fail> {
-    let mut chains = Chains::new(rt.alloc());
-    let first = long(&mut chains, 1_000_000)?;
-    let second = long(&mut chains, 1_000_000)?;
-    long(&mut chains, 1_000_000)?;
-    assert_eq!(rt;
-        cut_and_close(&mut chains, first, second),
-        (499_999, Some(499_999))
-    );
-    Ok(())
+fn chain_of_a_million_versions_is_cut_read_closed_and_dropped(rt: HostRuntime) {
+    assert!(rt; long_ones_in_new_chains(rt.alloc()) == Ok((499_999, Some(499_999))));
 }

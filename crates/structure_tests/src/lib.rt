@@ -8,4 +8,5 @@ mod cells;
 mod chains;
 #[cfg(test)]
 mod locks;
+#[cfg(test)]
 mod tree_sequences;

@@ -5,7 +5,6 @@ use lock_table::LockTable;
 use refusal::Refusal;
 use smallvec::SmallVec;
 use std::alloc::Global;
-use std::test::Fail;
 
 const NAMES: usize = 26;
 
@@ -77,9 +76,9 @@ fn lock_names(alloc: Global, numbers: &[usize]) -> Result<LockNames, Refusal> {
 
 #[derive(Drop)]
 struct Plain {
-    want: Vec<u32>,
-    held: Vec<u32>,
-    start: Vec<u32>,
+    want: [u32; JOBS * NAMES],
+    held: [u32; JOBS * NAMES],
+    start: [u32; JOBS * NAMES],
     is_open: [bool; JOBS],
     has_start: [bool; JOBS],
 }
@@ -174,6 +173,20 @@ fn add(plain: &mut Plain, job: usize, names: &[usize]) {
 
 // ---- steps on both
 
+// A LOCK that asks for names, on the plain counts; whether they are had.
+fn wants(plain: &mut Plain, number: usize, numbers: &[usize], plus: bool) -> bool {
+    let before = wanted(plain, number);
+    let had = are_free(plain, number, numbers);
+    if !plus {
+        release(plain, number);
+    }
+    if had {
+        add(plain, number, numbers);
+    }
+    settle(plain, number, &before);
+    had
+}
+
 // A LOCK that asks for names; whether both answer alike.
 fn asks(
     table: &mut LockTable,
@@ -185,21 +198,13 @@ fn asks(
     plus: bool,
 ) -> Result<bool, Refusal> {
     let inside = plain.is_open[number % JOBS];
-    let before = wanted(plain, number);
-    let had = are_free(plain, number, numbers);
-    if !plus {
-        release(plain, number);
-    }
-    if had {
-        add(plain, number, numbers);
-    }
-    settle(plain, number, &before);
+    let had = wants(plain, number, numbers, plus);
     let answer = if plus {
-        table.plus(job, inside, names)?
+        table.plus(job, inside, names)
     } else {
-        table.lock_all(job, inside, names)?
+        table.lock_all(job, inside, names)
     };
-    Ok(answer == had)
+    Ok(answer? == had)
 }
 
 fn gives_back(
@@ -279,33 +284,41 @@ fn is_step_alike(
 }
 
 // The first step at which they differ.
-fn first_difference(alloc: Global, steps: u64) -> Result<Option<u64>, Refusal> {
-    let mut table = LockTable::new(alloc);
-    let mut plain = Plain {
-        want: vec![in alloc; 0; JOBS * NAMES]?,
-        held: vec![in alloc; 0; JOBS * NAMES]?,
-        start: vec![in alloc; 0; JOBS * NAMES]?,
-        is_open: [false; JOBS],
-        has_start: [false; JOBS],
-    };
+fn first_difference(
+    alloc: Global,
+    table: &mut LockTable,
+    plain: &mut Plain,
+    steps: u64,
+) -> Result<Option<u64>, Refusal> {
     let mut random: u64 = 1;
     for step in 0..steps {
         random = random
             .wrapping_mul(6_364_136_223_846_793_005)
             .wrapping_add(1_442_695_040_888_963_407);
-        if !is_step_alike(alloc, &mut table, &mut plain, random >> 33)? {
+        if !is_step_alike(alloc, table, plain, random >> 33)? {
             return Ok(Some(step));
         }
     }
     Ok(None)
 }
 
+fn difference_of_new_ones(alloc: Global, steps: u64) -> Result<Option<u64>, Refusal> {
+    let mut table = LockTable::new(alloc);
+    let mut plain = Plain {
+        want: [0; JOBS * NAMES],
+        held: [0; JOBS * NAMES],
+        start: [0; JOBS * NAMES],
+        is_open: [false; JOBS],
+        has_start: [false; JOBS],
+    };
+    let difference = first_difference(alloc, &mut table, &mut plain, steps);
+    drop(table);
+    difference
+}
+
 #[test]
-fn twenty_thousand_locks_of_twenty_jobs_answer_as_plain_counts(
-    rt: HostRuntime,
-) -> Result<(), Fail> {
-    assert!(rt; first_difference(rt.alloc(), 20_000) == Ok(None));
-    Ok(())
+fn twenty_thousand_locks_of_twenty_jobs_answer_as_plain_counts(rt: HostRuntime) {
+    assert!(rt; difference_of_new_ones(rt.alloc(), 20_000) == Ok(None));
 }
 
 // ---- full counts: 13 is ^A, 0 is A without the caret
@@ -344,22 +357,33 @@ fn gives_one(alloc: Global, table: &mut LockTable) -> Result<(), Refusal> {
     table.minus(Job::new(1)?, false, &names)
 }
 
-// Whether a full count refuses one more, alone and in a list of which nothing is taken, and is 1 after a plain LOCK.
-fn is_full_count_told(alloc: Global) -> Result<bool, Refusal> {
+// Whether a full count refuses one more, alone and in a list of which nothing is taken.
+fn is_full_count_told(alloc: Global, table: &mut LockTable) -> Result<bool, Refusal> {
+    let filled = fills(alloc, table)?;
+    let alone = takes(alloc, table, 1, &[13], true) == Err(Refusal::LockCountFull);
+    let listed = takes(alloc, table, 1, &[0, 13], true) == Err(Refusal::LockCountFull);
+    let free = takes(alloc, table, 2, &[0], true)?;
+    let kept = !takes(alloc, table, 2, &[14], true)?;
+    Ok(filled && alone && listed && free && kept)
+}
+
+// Whether the count is 1 after a plain LOCK.
+fn is_one_after_plain_lock(alloc: Global, table: &mut LockTable) -> Result<bool, Refusal> {
+    let plain = takes(alloc, table, 1, &[13], false)?;
+    gives_one(alloc, table)?;
+    let once = takes(alloc, table, 2, &[14], true)?;
+    Ok(plain && once)
+}
+
+fn full_count(alloc: Global) -> [Result<bool, Refusal>; 2] {
     let mut table = LockTable::new(alloc);
-    let filled = fills(alloc, &mut table)?;
-    let alone = takes(alloc, &mut table, 1, &[13], true) == Err(Refusal::LockCountFull);
-    let listed = takes(alloc, &mut table, 1, &[0, 13], true) == Err(Refusal::LockCountFull);
-    let free = takes(alloc, &mut table, 2, &[0], true)?;
-    let kept = !takes(alloc, &mut table, 2, &[14], true)?;
-    let plain = takes(alloc, &mut table, 1, &[13], false)?;
-    gives_one(alloc, &mut table)?;
-    let once = takes(alloc, &mut table, 2, &[14], true)?;
-    Ok(filled && alone && listed && free && kept && plain && once)
+    let told = is_full_count_told(alloc, &mut table);
+    let one = is_one_after_plain_lock(alloc, &mut table);
+    drop(table);
+    [told, one]
 }
 
 #[test]
-fn plus_at_a_full_count_is_refused_and_takes_nothing(rt: HostRuntime) -> Result<(), Fail> {
-    assert!(rt; is_full_count_told(rt.alloc()) == Ok(true));
-    Ok(())
+fn plus_at_a_full_count_is_refused_and_takes_nothing(rt: HostRuntime) {
+    assert!(rt; full_count(rt.alloc()) == [Ok(true); 2]);
 }

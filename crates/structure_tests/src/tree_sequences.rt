@@ -174,67 +174,73 @@ fn are_refusals_whole(alloc: Global) -> Result<bool, AllocError> {
     Ok(tree.len() == 1_100 && tree.depth() == 3)
 }
 
-#[cfg(test)]
-mod tests {
-    use super::{
-        Before, Order, are_refusals_whole, are_walks_whole, depth_of, is_alike, number_of, threes,
-    };
-    use std::alloc::AllocError;
+// The nearest numbers from 1,000 on, before 1,002, from 2,998 on and before 0.
+fn nearest(tree: &Tree<u64, u64>) -> [Option<u64>; 4] {
+    [
+        number_of(tree.first_from(&Before(1_000))),
+        number_of(tree.last_before(&Before(1_002))),
+        number_of(tree.first_from(&Before(2_998))),
+        number_of(tree.last_before(&Before(0))),
+    ]
+}
 
-    #[test]
-    fn tree_of_rising_keys_answers_as_std_map(rt: HostRuntime) -> Result<(), AllocError> {
-        assert!(rt; is_alike(rt.alloc(), Order::Rising)?);
-        Ok(())
-    }
+fn nearest_of_threes(alloc: Global) -> Result<[Option<u64>; 4], AllocError> {
+    let tree = threes(alloc)?;
+    Ok(nearest(&tree))
+}
 
-    #[test]
-    fn tree_of_falling_keys_answers_as_std_map(rt: HostRuntime) -> Result<(), AllocError> {
-        assert!(rt; is_alike(rt.alloc(), Order::Falling)?);
-        Ok(())
-    }
+fn are_walks_of_threes_whole(alloc: Global) -> Result<[bool; 3], AllocError> {
+    let tree = threes(alloc)?;
+    Ok([
+        are_walks_whole(&tree, 1_000, 1_002, 1_000),
+        are_walks_whole(&tree, 0, 0, 1_000),
+        are_walks_whole(&tree, 3_000, 3_000, 1_000),
+    ])
+}
 
-    #[test]
-    fn tree_of_mixed_keys_answers_as_std_map(rt: HostRuntime) -> Result<(), AllocError> {
-        assert!(rt; is_alike(rt.alloc(), Order::Mixed)?);
-        Ok(())
-    }
+#[test]
+fn tree_of_rising_keys_answers_as_std_map(rt: HostRuntime) -> Result<(), AllocError> {
+    assert!(rt; is_alike(rt.alloc(), Order::Rising)?);
+    Ok(())
+}
 
-    #[test]
-    fn seeks_answer_the_nearest_pairs(rt: HostRuntime) -> Result<(), AllocError> {
-        let tree = threes(rt.alloc())?;
-        assert_eq!(rt; number_of(tree.first_from(&Before(1_000))), Some(1_002));
-        assert_eq!(rt; number_of(tree.last_before(&Before(1_002))), Some(999));
-        assert_eq!(rt; number_of(tree.first_from(&Before(2_998))), None);
-        assert_eq!(rt; number_of(tree.last_before(&Before(0))), None);
-        Ok(())
-    }
+#[test]
+fn tree_of_falling_keys_answers_as_std_map(rt: HostRuntime) -> Result<(), AllocError> {
+    assert!(rt; is_alike(rt.alloc(), Order::Falling)?);
+    Ok(())
+}
 
-    #[test]
-    fn walks_from_a_point_pass_all_pairs(rt: HostRuntime) -> Result<(), AllocError> {
-        let tree = threes(rt.alloc())?;
-        assert!(rt; are_walks_whole(&tree, 1_000, 1_002, 1_000));
-        assert!(rt; are_walks_whole(&tree, 0, 0, 1_000));
-        assert!(rt; are_walks_whole(&tree, 3_000, 3_000, 1_000));
-        Ok(())
-    }
+#[test]
+fn tree_of_mixed_keys_answers_as_std_map(rt: HostRuntime) -> Result<(), AllocError> {
+    assert!(rt; is_alike(rt.alloc(), Order::Mixed)?);
+    Ok(())
+}
 
-    #[test]
-    fn tree_of_100000_keys_has_at_most_4_levels(rt: HostRuntime) -> Result<(), AllocError> {
-        assert!(rt; depth_of(rt.alloc(), 100_000, true)? <= 4);
-        Ok(())
-    }
+#[test]
+fn seeks_answer_the_nearest_pairs(rt: HostRuntime) {
+    assert!(rt; nearest_of_threes(rt.alloc()) == Ok([Some(1_002), Some(999), None, None]));
+}
 
-    // 900 in two levels are at least 28 a leaf: halves of leaves that were cut would need three.
-    #[test]
-    fn keys_in_order_leave_nodes_nearly_full(rt: HostRuntime) -> Result<(), AllocError> {
-        assert_eq!(rt; depth_of(rt.alloc(), 900, true)?, 2);
-        assert_eq!(rt; depth_of(rt.alloc(), 900, false)?, 2);
-        Ok(())
-    }
+#[test]
+fn walks_from_a_point_pass_all_pairs(rt: HostRuntime) {
+    assert!(rt; are_walks_of_threes_whole(rt.alloc()) == Ok([true; 3]));
+}
 
-    #[test]
-    fn refused_insert_leaves_content_and_depth(rt: HostRuntime) -> Result<(), AllocError> {
-        assert!(rt; are_refusals_whole(rt.alloc())?);
-        Ok(())
-    }
+#[test]
+fn tree_of_100000_keys_has_at_most_4_levels(rt: HostRuntime) -> Result<(), AllocError> {
+    assert!(rt; depth_of(rt.alloc(), 100_000, true)? <= 4);
+    Ok(())
+}
+
+// 900 in two levels are at least 28 a leaf: halves of leaves that were cut would need three.
+#[test]
+fn keys_in_order_leave_nodes_nearly_full(rt: HostRuntime) {
+    assert!(rt; depth_of(rt.alloc(), 900, true) == Ok(2));
+    assert!(rt; depth_of(rt.alloc(), 900, false) == Ok(2));
+}
+
+#[test]
+fn refused_insert_leaves_content_and_depth(rt: HostRuntime) -> Result<(), AllocError> {
+    assert!(rt; are_refusals_whole(rt.alloc())?);
+    Ok(())
 }

@@ -1,59 +1,17 @@
 //! Loops over nodes: however many steps they take, what they read is one range.
-use collation::{Direction, Name, Ref, Subscripts, Text};
+use crate::keys::{key_of, put};
+use collation::{Direction, Text};
 use command::{DataCommand, Look};
-use key_codec::{Key, Place};
+use key_codec::Place;
 use key_map::KeyMap;
 use read_ranges::Ranges;
 use refusal::Refusal;
 use std::alloc::Global;
 use std::test::*;
 
-fn push_digit(alloc: Global, texts: &mut Subscripts, digit: u8) -> Result<(), Refusal> {
-    let text = Text::from_slice(alloc, &[digit])?;
-    texts.push(text)?;
-    Ok(())
-}
-
-fn subscripts(alloc: Global, digits: &[u8]) -> Result<Subscripts, Refusal> {
-    let mut texts = Subscripts::new(alloc);
-    for digit in digits {
-        push_digit(alloc, &mut texts, *digit)?;
-    }
-    Ok(texts)
-}
-
-fn name(alloc: Global, letter: u8) -> Result<Name, Refusal> {
-    Name::new(Text::from_slice(alloc, &[letter])?)
-}
-
-fn reference(alloc: Global, letter: u8, digits: &[u8]) -> Result<Ref, Refusal> {
-    let texts = subscripts(alloc, digits)?;
-    Ref::new(name(alloc, letter)?, texts)
-}
-
-// `A13` is `^A(1,3)`.
-fn key_of(alloc: Global, spelled: &[u8]) -> Result<Key, Refusal> {
-    let [letter, digits @ ..] = spelled else {
-        return Err(Refusal::BadName);
-    };
-    let reference = reference(alloc, *letter, digits)?;
-    match Key::of(alloc, &reference) {
-        Ok(key) => Ok(key),
-        Err(_) => Err(Refusal::OutOfMemory),
-    }
-}
-
-fn put(alloc: Global, map: &mut KeyMap<Text>, spelled: &[u8]) -> Result<(), Refusal> {
-    let key = key_of(alloc, spelled)?;
-    match map.insert(alloc, key, Text::new(alloc)) {
-        Ok(_) => Ok(()),
-        Err(_) => Err(Refusal::OutOfMemory),
-    }
-}
-
 fn put_all(alloc: Global, map: &mut KeyMap<Text>, spelled: &[&[u8]]) -> Result<(), Refusal> {
     for one in spelled {
-        put(alloc, map, one)?;
+        put(alloc, map, one, b'x')?;
     }
     Ok(())
 }
