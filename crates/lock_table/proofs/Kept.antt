@@ -1,6 +1,6 @@
 -- What the trie has of a job after each change.
 use Rattle.std.proofs.Common.{zero, suc, ◌≡◌, ◌<◌, ◌≤◌, ◌+◌, ℕ, List, Bool, true, false, refl, sym, ap, subst, ◌∙◌, arith}
-use Rattle.std.specs.Prelude.{◌-◌, cond, max, min}
+use Rattle.std.specs.Prelude.{◌-◌, max, min}
 use Rattle.std.specs.FinMap as finmap
 use Rattle.collation.specs.Reference.{Resource}
 use Rattle.collation.specs.Locks.{Counts, count_of, more_of, fewer_of}

@@ -12,7 +12,7 @@ use Rattle.std.proofs.Math.ListN.{get_or}
 use Rattle.collation.specs.Reference.{Resource}
 use Rattle.collation.specs.Locks.{resource_cmp, Counts, count_of}
 use Rattle.collation.specs.CountingLaws.{resource_cmp_total, resource_cmp-IsAntisymmetric, same_resource}
-use Rattle.lock_trie.specs.laws.Conflicts.{left_first, entry_counted, AreThere, all_there}
+use Rattle.lock_trie.specs.laws.Conflicts.{left_first, entry_counted, AreThere}
 use Rattle.lock_table.specs.Counted.{AreRaised, AreLowered, is_named}
 
 abbrev pub is_key : Resource → Resource × ℕ → Bool

@@ -1,10 +1,10 @@
 -- One job's counts after each form of LOCK, a commit and a rollback.
-use Rattle.std.proofs.Common.{◌≡◌, ◌<◌, ◌≤◌, ◌+◌, ℕ, List, Bool, true, false, refl, sym, ap, subst, ◌∙◌, arith}
-use Rattle.std.specs.Prelude.{◌-◌, cond, max, min, Option, Some, None, is_some, unwrap_or}
+use Rattle.std.proofs.Common.{◌≡◌, ◌≤◌, ◌+◌, ℕ, List, Bool, true, false, refl, sym, ap, subst, ◌∙◌, arith}
+use Rattle.std.specs.Prelude.{◌-◌, cond, max, min, Option, Some, None, is_some}
 use Rattle.std.specs.List.{list_any}
 use Rattle.std.specs.FinMap as finmap
 use Rattle.collation.specs.Reference.{Resource}
-use Rattle.collation.specs.Locks.{Counts, count_of, more_of, fewer_of, greater, JobLocks, job_wants, job_commits, job_goes_back, HasNoZeros}
+use Rattle.collation.specs.Locks.{Counts, count_of, more_of, fewer_of, greater, JobLocks, job_wants, job_commits, HasNoZeros}
 use Rattle.collation.specs.LockLaws.{times}
 use Rattle.collation.specs.CountingLaws.{counts_tell}
 use Rattle.collation.specs.ZeroLaws.{none_empty, none_greater, none_more, none_fewer, same_counts, all_taken_back}

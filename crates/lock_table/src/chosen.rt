@@ -17,7 +17,11 @@ fn keep(kept: &mut Vec<LockName>, name: &LockName) -> Result<(), AllocError>
 }
 
 /// The name is taken from the counts where they have it, and is kept where they haven't.
-fn keep_beyond(kept: &mut Vec<LockName>, left: &mut Counts, name: &LockName) -> Result<(), AllocError>
+fn keep_beyond(
+    kept: &mut Vec<LockName>,
+    left: &mut Counts,
+    name: &LockName,
+) -> Result<(), AllocError>
     ensures { OnOk result ((x : Resource) (k : ℕ) → times x kept.new.items + (k - count_of left.new x) ≡ times x kept.old.items + ((if eq_by_cmp resource_cmp x name.now then suc k else k) - count_of left.old x)) }
 {
     if left.count(name) > 0 {
@@ -28,7 +32,11 @@ fn keep_beyond(kept: &mut Vec<LockName>, left: &mut Counts, name: &LockName) -> 
 }
 
 /// The names that the counts haven't: of each so many fewer as are left of it there.
-pub fn beyond(names: &[LockName], left: &mut Counts, alloc: Global) -> Result<Vec<LockName>, AllocError>
+pub fn beyond(
+    names: &[LockName],
+    left: &mut Counts,
+    alloc: Global,
+) -> Result<Vec<LockName>, AllocError>
     ensures { IfOk result (λ kept. (x : Resource) → times x kept.items ≡ times x names.now - count_of left.old x) }
 {
     let mut kept = Vec::new(alloc);
@@ -39,7 +47,11 @@ pub fn beyond(names: &[LockName], left: &mut Counts, alloc: Global) -> Result<Ve
 }
 
 /// The name is taken from the counts, and kept, where they have it.
-fn keep_within(kept: &mut Vec<LockName>, left: &mut Counts, name: &LockName) -> Result<(), AllocError>
+fn keep_within(
+    kept: &mut Vec<LockName>,
+    left: &mut Counts,
+    name: &LockName,
+) -> Result<(), AllocError>
     ensures { OnOk result ((x : Resource) (k : ℕ) → times x kept.new.items + min k (count_of left.new x) ≡ times x kept.old.items + min (if eq_by_cmp resource_cmp x name.now then suc k else k) (count_of left.old x)) }
 {
     if left.count(name) == 0 {
@@ -50,7 +62,11 @@ fn keep_within(kept: &mut Vec<LockName>, left: &mut Counts, name: &LockName) -> 
 }
 
 /// The names that the counts have, each as often as it is left there.
-pub fn within(names: &[LockName], left: &mut Counts, alloc: Global) -> Result<Vec<LockName>, AllocError>
+pub fn within(
+    names: &[LockName],
+    left: &mut Counts,
+    alloc: Global,
+) -> Result<Vec<LockName>, AllocError>
     ensures { IfOk result (λ kept. (x : Resource) → times x kept.items ≡ min (times x names.now) (count_of left.old x)) }
 {
     let mut kept = Vec::new(alloc);

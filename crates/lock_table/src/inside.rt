@@ -9,8 +9,8 @@ ghost use Rattle.collation.specs.LockLaws.{times};
 ghost use Rattle.lock_table.specs.Counted.{less, is_named, is_over};
 ghost use Rattle.lock_table.specs.Rows.{AreWithin, inside_locks, IsInsideSame, IsHeldIn, AreOthersSame};
 
-use crate::counts::Counts;
 use crate::chosen::{beyond, within};
+use crate::counts::Counts;
 use crate::moves::hold_more;
 use collation::LockName;
 use lock_trie::LockTrie;

@@ -19,8 +19,8 @@
 //! `plus`, `minus` or `clear`; `reply` and `check` change nothing.
 //!
 //! Invariants:
-//! (1) a row keeps what is held and, inside, two differences to it: how many times fewer each name is wanted, and how many
-//!     times more it is held than it was wanted at the start; neither is above what is held (`specs/Rows.antt`);
+//! (1) a row keeps what is held and, inside, two differences to it: how many times fewer each name is wanted, and how
+//!     many times more it is held than it was wanted at the start; neither is above what is held (`specs/Rows.antt`);
 //! (2) the trie has of each job what its row holds (`specs/Tables.antt`);
 //! (3) no count is above 65,535, and a name that is had no time has no entry (`specs/Counted.antt`).
 //!
@@ -33,9 +33,9 @@
 //! | `-^A` | 1 `^A` | 1 `^A` | | none | 1 `^A` |
 //! | `+(^A,^B)` | 1 `^A`, 1 `^B` | | 1 `^B` | 1 `^A`, 1 `^B` | 1 `^A` |
 //!
-//! What may be refused comes first and is taken back. Outside, a LOCK that releases all is one inside that is
-//! committed at once. A LOCK with + or - costs what it names, one that releases all what the job holds, a commit what was given back in the
-//! transaction, a rollback what was added.
+//! What may be refused comes first and is taken back. Outside, a LOCK that releases all is one inside that is committed
+//! at once. A LOCK with + or - costs what it names, one that releases all what the job holds, a commit what was given
+//! back in the transaction, a rollback what was added.
 //!
 //! `check` looks at the counts of the names that are asked for; `reply` takes no memory.
 //!

@@ -68,8 +68,8 @@ pub fn lower_names(trie: &mut LockTrie, job: u16, names: &[LockName], held: &Cou
     }
 }
 
-/// The job, which holds what its counts say, holds these names once more each; where it can't have them all, only whether
-/// a count would pass the highest matters.
+/// The job, which holds what its counts say, holds these names once more each; where it can't have them all, only
+/// whether a count would pass the highest matters.
 pub fn hold_more(
     trie: &mut LockTrie,
     job: u16,

@@ -1,4 +1,3 @@
-use Rattle.std.proofs.Common.{arith}
 use Rattle.lock_table.proofs.Smalls.{lowered_not, lowered_by, lowered_out}
 use Rattle.lock_table.proofs.counts.Counts.lower.Goals as goal
 
