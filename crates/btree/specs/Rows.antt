@@ -59,8 +59,8 @@ pub record IsNode {K V : Type 0} (es : List (K × V)) (ks : List (Branch K V)) :
   pub kids : AreKids (height_of ks) ks
 
 -- the rows of a leaf with more than 14 pairs, and of an inner node, never have to grow
-abbrev pub HasRoom : {K V : Type 0} → Vec (K × V) Global → Vec (Branch K V) Global → Type 0
-HasRoom es ks = (14 < length es.items → 33 ≤ vec_capacity es) × (0 < length ks.items → 33 ≤ vec_capacity es) × (0 < length ks.items → 34 ≤ vec_capacity ks)
+abbrev pub RowsHaveRoom : {K V : Type 0} → Vec (K × V) Global → Vec (Branch K V) Global → Type 0
+RowsHaveRoom es ks = (14 < length es.items → 33 ≤ vec_capacity es) × (0 < length ks.items → 33 ≤ vec_capacity es) × (0 < length ks.items → 34 ≤ vec_capacity ks)
 
 -- the kid at a place, if there is one, is full
 abbrev pub IsFullAt : {K V : Type 0} → ℕ → List (Branch K V) → Type 0

@@ -1,6 +1,6 @@
 //! A full kid eased: a kid beside it, where that has places, takes a run of its pairs.
 ghost use Rattle.std.specs.Prelude.{◌≡◌, ◌<◌, length, nat_lt};
-ghost use Rattle.btree.specs.Rows.{weave, height_of, IsNode, HasRoom};
+ghost use Rattle.btree.specs.Rows.{weave, height_of, IsNode, RowsHaveRoom};
 
 use crate::mend::rejoin_kids;
 use crate::node::Node;
@@ -18,12 +18,12 @@ fn has_places<K, V>(node: &Node<K, V>) -> bool
 pub fn ease<K: Drop, V: Drop>(entries: &mut Vec<(K, V)>, kids: &mut Vec<Node<K, V>>, at: usize)
     requires in_range { at < length kids.old.items }
     requires node { IsNode entries.old.items kids.old.items }
-    requires room { HasRoom entries.old kids.old }
+    requires room { RowsHaveRoom entries.old kids.old }
     ensures pairs { weave entries.new.items kids.new.items ≡ weave entries.old.items kids.old.items }
     ensures node { IsNode entries.new.items kids.new.items }
     ensures height { height_of kids.new.items ≡ height_of kids.old.items }
     ensures kept { length entries.new.items ≡ length entries.old.items }
-    ensures room { HasRoom entries.new kids.new }
+    ensures room { RowsHaveRoom entries.new kids.new }
 {
     if kids[at].count() < 32 {
         return;

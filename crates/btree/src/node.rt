@@ -3,7 +3,7 @@ ghost use Rattle.std.specs.Prelude.{IfOk, IfErr, OnErr, IsSome, None, Some, ◌�
 ghost use Rattle.std.specs.Option.{option_map};
 ghost use Rattle.std.specs.FinMap.Entries.{find, put};
 ghost use Rattle.btree.specs.Order.{Ascends, first_from, last_before, without};
-ghost use Rattle.btree.specs.Rows.{branch_of, sizes_of, IsNode, HasRoom, HasBecome, IsKid, IsFull, IsSpare, HasShrunk};
+ghost use Rattle.btree.specs.Rows.{branch_of, sizes_of, IsNode, RowsHaveRoom, HasBecome, IsKid, IsFull, IsSpare, HasShrunk};
 
 use crate::ease::ease;
 use crate::mend::{append_reserved, mend, take_at};
@@ -24,8 +24,8 @@ pub struct Node<K, V> {
 impl<K, V> Model for Node<K, V> {
     ghost use Rattle.std.proofs.Common.{arith};
     ghost use Rattle.btree.specs.Branch.{Branch, branch_code};
-    ghost use Rattle.btree.specs.Rows.{branch_of, sizes_of, IsNode, HasRoom};
-    ghost use Rattle.btree.specs.Falls.{most_le-height};
+    ghost use Rattle.btree.specs.Rows.{branch_of, sizes_of, IsNode, RowsHaveRoom};
+    ghost use Rattle.btree.specs.laws.Falls.{most_le-height};
 
     ghost Value = { Branch K V };
 
@@ -33,7 +33,7 @@ impl<K, V> Model for Node<K, V> {
 
     ghost view = { λ n. branch_of n.entries.items n.kids.items };
 
-    ghost invariant = { λ n. IsNode n.entries.items n.kids.items × HasRoom n.entries n.kids };
+    ghost invariant = { λ n. IsNode n.entries.items n.kids.items × RowsHaveRoom n.entries n.kids };
 
     ghost size = { λ b. b.height };
 
@@ -44,7 +44,7 @@ impl<K, V> Node<K, V> {
     /// A node of these rows.
     pub fn new(entries: Vec<(K, V)>, kids: Vec<Node<K, V>>) -> Node<K, V>
         requires node { IsNode entries.items kids.items }
-        requires room { HasRoom entries kids }
+        requires room { RowsHaveRoom entries kids }
         ensures { result ≡ branch_of entries.items kids.items }
     {
         Node { entries, kids }

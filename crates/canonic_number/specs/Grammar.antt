@@ -18,8 +18,8 @@ pub data IsDigits : List ℕ → Type 0 where
   digit : {d : ℕ} {ds : List ℕ} → IsDigit d → IsDigits ds → IsDigits (d ∷ ds)
 
 -- 1 to 9, then digits
-pub data IsWhole : List ℕ → Type 0 where
-  whole : {d : ℕ} {ds : List ℕ} → IsDigitAbove0 d → IsDigits ds → IsWhole (d ∷ ds)
+pub data IsWholePart : List ℕ → Type 0 where
+  whole : {d : ℕ} {ds : List ℕ} → IsDigitAbove0 d → IsDigits ds → IsWholePart (d ∷ ds)
 
 -- digits, the last of them 1 to 9
 pub data IsFraction : List ℕ → Type 0 where
@@ -28,9 +28,9 @@ pub data IsFraction : List ℕ → Type 0 where
 
 -- a whole part, a point (46) and a fraction, or both
 pub data IsMagnitude : List ℕ → Type 0 where
-  only_whole : {w : List ℕ} → IsWhole w → IsMagnitude w
+  only_whole : {w : List ℕ} → IsWholePart w → IsMagnitude w
   only_fraction : {f : List ℕ} → IsFraction f → IsMagnitude (46 ∷ f)
-  whole_and_fraction : {w f : List ℕ} → IsWhole w → IsFraction f → IsMagnitude (w ++ 46 ∷ f)
+  whole_and_fraction : {w f : List ℕ} → IsWholePart w → IsFraction f → IsMagnitude (w ++ 46 ∷ f)
 
 -- '0' (48), or such a number, with a '-' (45) before it or without
 pub data IsCanonic : List ℕ → Type 0 where

@@ -1,5 +1,5 @@
-//! Laws of canonic numbers and numeric literals, stated in `specs/Laws.antt`. Calling them does nothing.
-ghost use Rattle.canonic_number.specs.Laws.{EqualValuesAreEqualTexts, AnswersAreCanonic, AnswersKeepTheValue, EqualLiteralsHaveEqualAnswers, CanonicTextsAreLiterals, CanonicTextsStay};
+//! Laws of canonic numbers and numeric literals, stated in `specs/Statements.antt`. Calling them does nothing.
+ghost use Rattle.canonic_number.specs.Statements.{EqualValuesAreEqualTexts, AnswersAreCanonic, AnswersKeepTheValue, EqualLiteralsHaveEqualAnswers, CanonicTextsAreLiterals, CanonicTextsStay};
 
 /// Two canonic texts of equal value are equal, so that comparing by value never ties two texts.
 pub fn equal_values_are_equal_texts()

@@ -4,7 +4,7 @@
 //! number (`value_at` in `specs/Number.antt`). Only `canonic_of` takes memory.
 //!
 //! (1) A text is canonic where the grammar spells it (`IsCanonic` in `specs/Grammar.antt`); `is_canonic` tests it.
-//! (2) Canonic texts of one value are one text, at any length (`EqualValuesAreEqualTexts` in `specs/Laws.antt`).
+//! (2) Canonic texts of one value are one text, at any length (`EqualValuesAreEqualTexts` in `specs/Statements.antt`).
 //! (3) Each numeric literal has one canonic text: that of its value (`canonic_of` in `specs/Literal.antt`).
 //! (4) A number's place and digits tell its value and its text (`specs/Place.antt`).
 //!
@@ -12,7 +12,7 @@
 //! `parts` of `-1.5` are: negative, 1 digit before the point, the digits `1` and `5`; of `.05`: 1 zero, `5`.
 //!
 //! Read `specs/Number.antt` and `specs/Grammar.antt`, then `read.rt`; `specs/Place.antt`, then `place.rt`;
-//! `specs/Literal.antt`, then `literal.rt`. Lemmas for the crates above stand in `specs/*Laws.antt`: digits,
+//! `specs/Literal.antt`, then `literal.rt`. Lemmas for the crates above stand in `specs/laws/`: digits,
 //! places, canonic texts, and the three classes of numbers (zero, below it, above it) with their order.
 //! Not promised: numbers with an exponent.
 #![tactic(auto)]

@@ -2,7 +2,7 @@
 ghost use Rattle.std.specs.Prelude.{◌≡◌};
 ghost use denote.RawPtr.{Ptr};
 ghost use denote.Struct.Lending.{lent_at};
-ghost use Rattle.cell_pool.specs.Ownership.{room_owns, cell_owns, value_of};
+ghost use Rattle.cell_pool.specs.Ownership.{room_owns, cell_owns, value_place};
 
 use std::marker::Model;
 
@@ -32,7 +32,7 @@ pub struct Cell<T> {
 impl<T> Model for Cell<T> {
     ghost also_owns = { λ c. cell_owns T.row c.page c.ptr c.value };
 
-    ghost also_shares = { λ c _ κ. lent_at T.row (value_of T.row c.ptr) c.value κ };
+    ghost also_shares = { λ c _ κ. lent_at T.row (value_place T.row c.ptr) c.value κ };
 }
 
 impl<T> Room<T> {

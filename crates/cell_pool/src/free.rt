@@ -1,7 +1,7 @@
 //! The free cells, each linked to the next.
 ghost use Rattle.std.specs.Prelude.{◌≡◌, List, [], ◌∷◌};
 ghost use denote.RawPtr.{Ptr};
-ghost use Rattle.cell_pool.specs.Ownership.{spares, Spot, FitIn};
+ghost use Rattle.cell_pool.specs.Ownership.{spares, CellPlace, FitIn};
 
 use crate::cell::{Room, Slot};
 use std::marker::Model;
@@ -10,7 +10,7 @@ use std::marker::Model;
 #[derive(Drop)]
 pub struct Free<T> {
     pub(crate) head: *mut Slot<T>,
-    ghost spots: { List Spot },
+    ghost spots: { List CellPlace },
 }
 
 impl<T> Model for Free<T> {

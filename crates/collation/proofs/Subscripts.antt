@@ -6,10 +6,10 @@ use Rattle.std.specs.Ordering.{nat_cmp, int_cmp, ordering_then}
 use Rattle.std.specs.Cmp.Lexicographic.{slice_cmp, nat_list_cmp_total}
 use Rattle.std.specs.Cmp.{tied_itself}
 use Rattle.std.specs.FinMap.{int_cmp-IsAntisymmetric}
-use Rattle.canonic_number.specs.ClassLaws.{equal_texts}
+use Rattle.canonic_number.specs.laws.Classes.{equal_texts}
 use Rattle.canonic_number.specs.Number.{is_canonic, value_of, limit, scale}
 use Rattle.collation.specs.Order.{subscript_cmp}
-use Rattle.collation.specs.OrderLaws.{numbers}
+use Rattle.collation.specs.laws.Order.{numbers}
 
 -- a second order that ties where the first does adds nothing
 adds_nothing : (o p : Ordering) → (o ≡ Equal → p ≡ Equal) → ordering_then o p ≡ o

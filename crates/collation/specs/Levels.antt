@@ -25,10 +25,10 @@ abbrev pub has_name : Reference → Reference → Bool
 has_name r x = pointwise nat_eq r.name x.name
 
 -- all but the last
-abbrev pub front : List (List ℕ) → List (List ℕ)
-front [] = []
-front (x ∷ []) = []
-front (x ∷ y ∷ ys) = x ∷ front (y ∷ ys)
+abbrev pub without_last : List (List ℕ) → List (List ℕ)
+without_last [] = []
+without_last (x ∷ []) = []
+without_last (x ∷ y ∷ ys) = x ∷ without_last (y ∷ ys)
 
 abbrev pub last : List (List ℕ) → List ℕ
 last [] = []
@@ -37,7 +37,7 @@ last (x ∷ y ∷ ys) = last (y ∷ ys)
 
 -- one level up from a place: an open one stands one level below its reference
 abbrev pub parent_of : Spot → Reference
-parent_of p = if p.is_open then p.reference else record { name = p.reference.name; subscripts = front p.reference.subscripts }
+parent_of p = if p.is_open then p.reference else record { name = p.reference.name; subscripts = without_last p.reference.subscripts }
 
 -- x stands before r, or (whole) before the end of all that is under r
 abbrev pub is_before : Bool → Reference → Reference → Bool

@@ -1,5 +1,4 @@
 pub mod Order
-pub mod OrderLaws
 pub mod Reference
 pub mod Limits
 pub mod Bytes
@@ -11,9 +10,5 @@ pub mod Nearest
 pub mod Levels
 pub mod Answers
 pub mod Locks
-pub mod LockLaws
-pub mod EntryLaws
-pub mod CountingLaws
-pub mod BlockingLaws
-pub mod ResourceLaws
-pub mod ZeroLaws
+pub mod LockStatements
+pub mod laws

@@ -23,7 +23,7 @@ impl Model for LockName {
 
 impl PartialEq for LockName {
     ghost use Rattle.collation.specs.Locks.{resource_eq};
-    ghost use Rattle.collation.specs.ResourceLaws.{resource_eq_laws};
+    ghost use Rattle.collation.specs.laws.Resources.{resource_eq_laws};
     ghost use Rattle.std.specs.Cmp.{partial_equiv_from_equiv};
 
     ghost eq = { resource_eq };
@@ -36,7 +36,7 @@ impl PartialEq for LockName {
 }
 
 impl Eq for LockName {
-    ghost use Rattle.collation.specs.ResourceLaws.{resource_eq_laws};
+    ghost use Rattle.collation.specs.laws.Resources.{resource_eq_laws};
 
     ghost laws = { resource_eq_laws };
 }
@@ -44,8 +44,8 @@ impl Eq for LockName {
 impl Ord for LockName {
     ghost use Rattle.std.specs.Prelude.{refl};
     ghost use Rattle.collation.specs.Locks.{resource_cmp};
-    ghost use Rattle.collation.specs.CountingLaws.{resource_cmp_total};
-    ghost use Rattle.collation.specs.ResourceLaws.{resource_ties};
+    ghost use Rattle.collation.specs.laws.Counting.{resource_cmp_total};
+    ghost use Rattle.collation.specs.laws.Resources.{resource_ties};
 
     ghost cmp = { resource_cmp };
 
@@ -67,8 +67,8 @@ impl PartialOrd for LockName {
     ghost use Rattle.std.specs.Ordering.{as_partial_cmp};
     ghost use Rattle.std.specs.Cmp.{partial_order_from_agreeing_total};
     ghost use Rattle.collation.specs.Locks.{resource_cmp};
-    ghost use Rattle.collation.specs.CountingLaws.{resource_cmp_total};
-    ghost use Rattle.collation.specs.ResourceLaws.{resource_ties};
+    ghost use Rattle.collation.specs.laws.Counting.{resource_cmp_total};
+    ghost use Rattle.collation.specs.laws.Resources.{resource_ties};
 
     ghost partial_cmp = { as_partial_cmp resource_cmp };
 
@@ -138,7 +138,7 @@ impl Model for LockNames {
 impl PartialEq for LockNames {
     ghost use Rattle.std.specs.Cmp.Lexicographic.{pointwise, lists_equiv};
     ghost use Rattle.collation.specs.Locks.{resource_eq};
-    ghost use Rattle.collation.specs.ResourceLaws.{resource_eq_laws};
+    ghost use Rattle.collation.specs.laws.Resources.{resource_eq_laws};
     ghost use Rattle.std.specs.Cmp.{partial_equiv_from_equiv};
 
     ghost eq = { pointwise resource_eq };
@@ -152,7 +152,7 @@ impl PartialEq for LockNames {
 
 impl Eq for LockNames {
     ghost use Rattle.std.specs.Cmp.Lexicographic.{lists_equiv};
-    ghost use Rattle.collation.specs.ResourceLaws.{resource_eq_laws};
+    ghost use Rattle.collation.specs.laws.Resources.{resource_eq_laws};
 
     ghost laws = { lists_equiv resource_eq_laws };
 }

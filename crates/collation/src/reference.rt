@@ -120,7 +120,7 @@ pub fn cmp_ref(a: &Ref, b: &Ref) -> Ordering
 
 impl PartialEq for Ref {
     ghost use Rattle.collation.specs.Order.{ref_eq};
-    ghost use Rattle.collation.specs.OrderLaws.{ref_eq_laws};
+    ghost use Rattle.collation.specs.laws.Order.{ref_eq_laws};
     ghost use Rattle.std.specs.Cmp.{partial_equiv_from_equiv};
 
     ghost eq = { ref_eq };
@@ -133,7 +133,7 @@ impl PartialEq for Ref {
 }
 
 impl Eq for Ref {
-    ghost use Rattle.collation.specs.OrderLaws.{ref_eq_laws};
+    ghost use Rattle.collation.specs.laws.Order.{ref_eq_laws};
 
     ghost laws = { ref_eq_laws };
 }
@@ -141,7 +141,7 @@ impl Eq for Ref {
 impl Ord for Ref {
     ghost use Rattle.std.specs.Prelude.{refl};
     ghost use Rattle.collation.specs.Order.{ref_cmp};
-    ghost use Rattle.collation.specs.OrderLaws.{ref_cmp_total, ref_ties};
+    ghost use Rattle.collation.specs.laws.Order.{ref_cmp_total, ref_ties};
 
     ghost cmp = { ref_cmp };
 
@@ -163,7 +163,7 @@ impl PartialOrd for Ref {
     ghost use Rattle.std.specs.Ordering.{as_partial_cmp};
     ghost use Rattle.std.specs.Cmp.{partial_order_from_agreeing_total};
     ghost use Rattle.collation.specs.Order.{ref_cmp};
-    ghost use Rattle.collation.specs.OrderLaws.{ref_cmp_total, ref_ties};
+    ghost use Rattle.collation.specs.laws.Order.{ref_cmp_total, ref_ties};
 
     ghost partial_cmp = { as_partial_cmp ref_cmp };
 
@@ -177,7 +177,7 @@ impl PartialOrd for Ref {
 impl Hash for Ref {
     ghost use Rattle.std.specs.Prelude.{◌++◌};
     ghost use Rattle.std.specs.Hash as fed;
-    ghost use Rattle.collation.specs.OrderLaws.{ref_eq_decides};
+    ghost use Rattle.collation.specs.laws.Order.{ref_eq_decides};
     ghost use Rattle.std.specs.Hash.{same_Alike};
 
     ghost hash_input = { λ r. fed.slice fed.u8 r.name ++ fed.slice (fed.slice fed.u8) r.subscripts };

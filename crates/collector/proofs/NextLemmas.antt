@@ -11,8 +11,8 @@ use Rattle.std.specs.FinMap.{is_sorted, entries_sorted, contains_key-keys, len-e
 use Rattle.std.specs.FinMap.Entries.{below_all}
 use Rattle.collation.specs.Reference.{Reference}
 use Rattle.collation.specs.Order.{ref_cmp}
-use Rattle.collation.specs.OrderLaws.{is_less}
-use Rattle.globals.specs.NearestLaws.{true_of}
+use Rattle.collation.specs.laws.Order.{is_less}
+use Rattle.globals.specs.laws.Nearest.{true_of}
 use Rattle.version_store.specs.Versions.{Row, Versions, Stored, keys_of, is_behind, in_turn, next_in_turn}
 use Rattle.collector.specs.Turn.{is_among, AreAllPlaced, AreDistinct}
 use Rattle.collector.proofs.TurnLemmas.{same_key}

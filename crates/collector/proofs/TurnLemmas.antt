@@ -8,7 +8,7 @@ use Rattle.std.specs.FinMap as finmap
 use Rattle.std.specs.FinMap.{get, get-insert, get-remove, len-insert, len-remove, len-entries, contains_key-keys}
 use Rattle.collation.specs.Reference.{Reference}
 use Rattle.collation.specs.Order.{ref_cmp}
-use Rattle.collation.specs.OrderLaws.{ref_cmp_total, ref_cmp-IsAntisymmetric, is_equal}
+use Rattle.collation.specs.laws.Order.{ref_cmp_total, ref_cmp-IsAntisymmetric, is_equal}
 use Rattle.version_chain.specs.Chains.{listed}
 use Rattle.version_chain.specs.Cut.{left_after}
 use Rattle.version_store.specs.Versions.{Row, Versions, versions_of, is_bare, tidied}

@@ -1,2 +1,2 @@
-pub mod Laws
 pub mod Turn
+pub mod Statements

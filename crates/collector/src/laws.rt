@@ -1,5 +1,5 @@
-//! Laws of turns, stated in `specs/Laws.antt`. Calling them does nothing.
-ghost use Rattle.collector.specs.Laws.{PlacedAreInTurn, NoneIsInTurnTwice, LargeTurnsArePasses, LateVersionsStand};
+//! Laws of turns, stated in `specs/Statements.antt`. Calling them does nothing.
+ghost use Rattle.collector.specs.Statements.{PlacedAreInTurn, NoneIsInTurnTwice, LargeTurnsArePasses, LateVersionsStand};
 
 /// In turn are just the placed references, each once.
 pub fn placed_references_are_in_turn_once()

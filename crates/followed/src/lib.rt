@@ -1,6 +1,6 @@
 //! A workspace follows the commands of its transaction: laws for the commit.
 //!
-//! A workspace holds what commands wrote (`Holds` of `specs/Following.antt`) where it decides just what they set or
+//! A workspace holds what commands wrote (`HoldsWrites` of `specs/Following.antt`) where it decides just what they set or
 //! killed, has written just what they leave set, and its writes over the database of the start are what they leave.
 //! (1) With nothing written it holds the writes of no commands.
 //! (2) Each command keeps that: a set, a kill or the copies of a MERGE in the workspace, and a look that leaves it as it is.
@@ -17,11 +17,11 @@
 ghost use Rattle.std.specs.Prelude.{[]};
 ghost use Rattle.collation.specs.Database.{Database};
 ghost use Rattle.workspace.specs.Layers.{nothing_written};
-ghost use Rattle.followed.specs.Following.{Holds, HoldsAlways, ChangesAreTouched};
+ghost use Rattle.followed.specs.Following.{HoldsWrites, HoldsAlways, ChangesAreTouched};
 
 /// A workspace in which nothing is written holds the writes of no commands.
 pub fn an_empty_workspace_holds_nothing()
-    ensures { (m : Database) → Holds nothing_written [] m }
+    ensures { (m : Database) → HoldsWrites nothing_written [] m }
 {}
 
 /// After one more command a workspace holds its writes too.

@@ -16,10 +16,10 @@ use Rattle.collation.specs.Database.{Database, is_under}
 use Rattle.collation.specs.Levels.{is_before}
 use Rattle.collation.specs.Answers.{subtree_of}
 use Rattle.globals.specs.declared.cut.Cut.{Cut}
-use Rattle.globals.specs.Cuts.{stands_before, first_from, entries_from, front_under, IsFront}
-use Rattle.globals.specs.NearestLaws.{none_pass, still_fails, true_of}
+use Rattle.globals.specs.Cuts.{stands_before, first_from_cut, entries_from, front_under, IsFront}
+use Rattle.globals.specs.laws.Nearest.{none_pass, still_fails, true_of}
 use Rattle.globals.specs.laws.Steps.{walk_step, head_found, tails}
-use Rattle.globals.specs.CutLaws.{before_end-earlier, under_between}
+use Rattle.globals.specs.laws.Cuts.{before_end-earlier, under_between}
 
 module _ {K X : Type 0} (R : K → K → Ordering) where
   -- what passes U stands together, after all that passes L
@@ -55,10 +55,10 @@ same_front r (e ∷ es) = ap (λ l. cond (is_under r e.0) (e ∷ l) []) (same_fr
 pub subtree_start : (r : Reference) (m : Database) → front_under r (filter (λ e. not (is_lt (ref_cmp e.0 r))) (finmap.entries m)) ≡ subtree_of r m
 subtree_start r m = same_front r _ ∙ block ref_cmp (is_under r) (λ x. is_lt (ref_cmp x r)) (apart r) (later r) (finmap.entries m) (true_of _ (finmap.entries_sorted m))
 
-pub descent_step : (r : Reference) (cut : Cut) (m : Database) (e : Reference × List ℕ) → first_from cut m ≡ Some e → is_under r e.0 ≡ true → front_under r (entries_from cut m) ≡ e ∷ front_under r (filter (λ f. not (not (is_lt (ref_cmp e.0 f.0)))) (finmap.entries m))
+pub descent_step : (r : Reference) (cut : Cut) (m : Database) (e : Reference × List ℕ) → first_from_cut cut m ≡ Some e → is_under r e.0 ≡ true → front_under r (entries_from cut m) ≡ e ∷ front_under r (filter (λ f. not (not (is_lt (ref_cmp e.0 f.0)))) (finmap.entries m))
 descent_step r cut m e is u = ap (front_under r) (walk_step cut m e is) ∙ ap (λ b. cond b (e ∷ front_under r (filter (λ f. not (not (is_lt (ref_cmp e.0 f.0)))) (finmap.entries m))) []) u
 
-pub descent_stop : (r : Reference) (cut : Cut) (m : Database) (e : Reference × List ℕ) → first_from cut m ≡ Some e → is_under r e.0 ≡ false → front_under r (entries_from cut m) ≡ []
+pub descent_stop : (r : Reference) (cut : Cut) (m : Database) (e : Reference × List ℕ) → first_from_cut cut m ≡ Some e → is_under r e.0 ≡ false → front_under r (entries_from cut m) ≡ []
 descent_stop r cut m e is u = ap (front_under r) (walk_step cut m e is) ∙ ap (λ b. cond b (e ∷ front_under r (filter (λ f. not (not (is_lt (ref_cmp e.0 f.0)))) (finmap.entries m))) []) u
 
 -- the first of a list is one less left
@@ -68,10 +68,10 @@ shorter xs ys x e = let n : length xs ≡ length (x ∷ ys) = ap length e in ome
 -- ---- what is at hand
 
 -- the first at hand is the first from the cut on, and the others are at hand after it
-pub taken : (cut : Cut) (m : Database) (run rest : List (Reference × List ℕ)) (e : Bor Reference × Bor (List ℕ)) → IsFront run (entries_from cut m) → run ≡ (e.0.now, e.1.now) ∷ rest → (first_from cut m ≡ Some (e.0.now, e.1.now)) × IsFront rest (entries_from (After e.0) m)
+pub taken : (cut : Cut) (m : Database) (run rest : List (Reference × List ℕ)) (e : Bor Reference × Bor (List ℕ)) → IsFront run (entries_from cut m) → run ≡ (e.0.now, e.1.now) ∷ rest → (first_from_cut cut m ≡ Some (e.0.now, e.1.now)) × IsFront rest (entries_from (After e.0) m)
 taken cut m run rest x front h =
     let all : entries_from cut m ≡ (x.0.now, x.1.now) ∷ (rest ++ front.rest) = front.parts ∙ ap (λ (l : List (Reference × List ℕ)). l ++ front.rest) h in
-    let first : first_from cut m ≡ Some (x.0.now, x.1.now) = head_found (λ e. not (stands_before cut e.0)) (finmap.entries m) (rest ++ front.rest) (x.0.now, x.1.now) all in
+    let first : first_from_cut cut m ≡ Some (x.0.now, x.1.now) = head_found (λ e. not (stands_before cut e.0)) (finmap.entries m) (rest ++ front.rest) (x.0.now, x.1.now) all in
     (first, record { rest = front.rest; parts = tails _ _ _ _ (sym (walk_step cut m (x.0.now, x.1.now) first) ∙ all) })
 
 pub passed : (cut : Cut) (m : Database) (run rest : List (Reference × List ℕ)) (e : Bor Reference × Bor (List ℕ)) → IsFront run (entries_from cut m) → run ≡ (e.0.now, e.1.now) ∷ drop 1 run → rest ≡ drop 1 run → IsFront rest (entries_from (After e.0) m)

@@ -26,17 +26,17 @@ stands_before (After r) x = not (is_lt (ref_cmp r.now x))
 stands_before (Past r) x = is_before true r.now x
 
 -- the first member that doesn't stand before the cut
-abbrev pub first_from : Cut → Database → Option (Reference × List ℕ)
-first_from cut m = nearest_entry true (λ x. not (stands_before cut x)) m
+abbrev pub first_from_cut : Cut → Database → Option (Reference × List ℕ)
+first_from_cut cut m = nearest_entry true (λ x. not (stands_before cut x)) m
 
 -- the last member that stands before the cut
-abbrev pub last_before : Cut → Database → Option (Reference × List ℕ)
-last_before cut m = nearest_entry false (stands_before cut) m
+abbrev pub last_before_cut : Cut → Database → Option (Reference × List ℕ)
+last_before_cut cut m = nearest_entry false (stands_before cut) m
 
 -- the first of these, or (not forward) the last
 abbrev pub next_to : Bool → Cut → Database → Option (Reference × List ℕ)
-next_to true cut m = first_from cut m
-next_to false cut m = last_before cut m
+next_to true cut m = first_from_cut cut m
+next_to false cut m = last_before_cut cut m
 
 -- x stands before the cut at which $ORDER starts: an open place's descendants are its level, a closed one's are passed over
 abbrev pub order_start : Bool → Spot → Reference → Bool

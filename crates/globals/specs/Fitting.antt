@@ -2,7 +2,7 @@
 use Rattle.std.specs.Prelude.{◌≡◌, ◌⊎◌, ⊤, ℕ, true, List, []}
 use Rattle.collation.specs.Reference.{Spot}
 use Rattle.collation.specs.Levels.{parent_of, below, has_level, has_name}
-use Rattle.key_codec.specs.Key.{IsReference}
+use Rattle.key_codec.specs.Key.{IsFaultless}
 use Rattle.command.specs.declared.access.DataCommand.{DataCommand}
 use Rattle.command.specs.declared.access.DataCommand.TheVariants.{Set, Kill, Merge, Look}
 use Rattle.command.specs.declared.access.Look.{Look as LookCommand}
@@ -12,7 +12,7 @@ use Rattle.command.specs.declared.access.Answer.TheVariants.{Done, Value, Number
 
 -- t is empty, or the subscript of a reference at the place's level
 abbrev pub IsSiblingOrNone : Spot → List ℕ → Type 0
-IsSiblingOrNone p t = (t ≡ []) ⊎ IsReference (below (parent_of p) t)
+IsSiblingOrNone p t = (t ≡ []) ⊎ IsFaultless (below (parent_of p) t)
 
 -- $ORDER answers a sibling's subscript or the empty string, and the place has a level
 abbrev pub IsOrderAnswer : Spot → Answer → Type 0

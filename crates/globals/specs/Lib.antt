@@ -4,14 +4,6 @@ pub mod Cuts
 pub mod Runs
 pub mod Entries
 pub mod Copies
-pub mod CutLaws
-pub mod NearestLaws
-pub mod SequenceLaws
-pub mod PathLaws
-pub mod AnswerLaws
-pub mod ChangeLaws
-pub mod MergingLaws
-pub mod TellingLaws
-pub mod ChangingLaws
-pub mod SeekLaws
 pub mod laws
+pub mod AnswerStatements
+pub mod ChangeStatements

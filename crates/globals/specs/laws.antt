@@ -3,3 +3,11 @@ pub mod Under
 pub mod Steps
 pub mod Runs
 pub mod Nearness
+pub mod Changing
+pub mod Cuts
+pub mod Merging
+pub mod Nearest
+pub mod Paths
+pub mod Seeks
+pub mod Sequences
+pub mod Telling

@@ -2,8 +2,8 @@
 ghost use Rattle.std.specs.Prelude.{Bool};
 ghost use Rattle.collation.specs.Reference.{Reference, Spot};
 ghost use Rattle.collation.specs.Database.{Database};
-ghost use Rattle.globals.specs.AnswerLaws.{DescendantsAreUnder, DataTells, OrderTells, QueryTells};
-ghost use Rattle.globals.specs.ChangeLaws.{SetSetsOne, KillKillsSubtree, MergeCopiesSubtree};
+ghost use Rattle.globals.specs.AnswerStatements.{DescendantsAreUnder, DataTells, OrderTells, QueryTells};
+ghost use Rattle.globals.specs.ChangeStatements.{SetSetsOne, KillKillsSubtree, MergeCopiesSubtree};
 
 /// A descendant of a reference is what is under it and isn't the reference itself.
 pub fn descendants_are_under()

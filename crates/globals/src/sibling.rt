@@ -3,7 +3,7 @@ ghost use Rattle.std.specs.Prelude.{◌≡◌, ◌⊎◌, true, false, Some, Non
 ghost use Rattle.collation.specs.Reference.{Reference};
 ghost use Rattle.collation.specs.Levels.{below, has_level as has_level_spec, parent_of};
 ghost use Rattle.collation.specs.Answers.{is_forward, order_of};
-ghost use Rattle.key_codec.specs.Key.{IsReference};
+ghost use Rattle.key_codec.specs.Key.{IsFaultless};
 ghost use Rattle.command.specs.Data.{look_refusal};
 ghost use Rattle.command.specs.declared.access.Look.TheVariants.{Order as order_command};
 ghost use Rattle.globals.specs.Cuts.{stands_before, order_start};
@@ -47,7 +47,7 @@ fn nearest_sibling<V: OrderedView>(
 ) -> Result<Option<Text>, AllocError>
     requires { has_level_spec place.now ≡ true }
     ensures answer { IfOk result (λ answer. unwrap_or answer [] ≡ order_of (is_forward direction) place.now (V.content view.now)) }
-    ensures fits { IfOk result (λ answer. IfSome answer (λ s. IsReference (below (parent_of place.now) s))) }
+    ensures fits { IfOk result (λ answer. IfSome answer (λ s. IsFaultless (below (parent_of place.now) s))) }
 {
     match key_at(view, cut_of(place, direction), direction) {
         Some(key) => place.child_toward(alloc, key),
@@ -70,7 +70,7 @@ pub fn order<V: OrderedView>(
     direction: Direction,
 ) -> Result<Option<Text>, Refusal>
     ensures answer { IfOk result (λ answer. unwrap_or answer [] ≡ order_of (is_forward direction) place.now (V.content view.now)) }
-    ensures fits { IfOk result (λ answer. IfSome answer (λ s. IsReference (below (parent_of place.now) s))) }
+    ensures fits { IfOk result (λ answer. IfSome answer (λ s. IsFaultless (below (parent_of place.now) s))) }
     ensures bare { has_level_spec place.now ≡ false → IsErrOf result Refusal.NeedSubscript }
     ensures refused { MatchResult result (λ _. look_refusal (order_command place.now direction) ≡ None)
         (λ refusal. (refusal ≡ Refusal.OutOfMemory) ⊎ (look_refusal (order_command place.now direction) ≡ Some refusal)) }

@@ -4,7 +4,7 @@ ghost use Rattle.std.specs.Option.{option_copied, option_map};
 ghost use Rattle.std.specs.FinMap as map;
 ghost use Rattle.collation.specs.Database.{Database};
 ghost use Rattle.collation.specs.Answers.{is_forward};
-ghost use Rattle.globals.specs.Cuts.{entries_from, first_from, last_before, next_to, IsRun};
+ghost use Rattle.globals.specs.Cuts.{entries_from, first_from_cut, last_before_cut, next_to, IsRun};
 
 use crate::{Cut, Run};
 use collation::{Direction, Text};
@@ -14,7 +14,7 @@ use key_codec::Key;
 ///
 /// An implementor says what it contains, and owes four answers about just that; there are no further laws. What
 /// stands before a cut is always a beginning of the members in order (`stands_before-earlier` of
-/// `specs/CutLaws.antt`), so a partition point serves `next` and `prev` both. Members are held and looked up by their
+/// `specs/laws/Cuts.antt`), so a partition point serves `next` and `prev` both. Members are held and looked up by their
 /// keys, whose bytes compare as the references do, and contracts see the references. Keys and values are lent for as
 /// long as the view is.
 pub trait OrderedView {
@@ -27,8 +27,8 @@ pub trait OrderedView {
 
     /// The first reference with a value that doesn't stand before the cut, with its value.
     fn next(&self, cut: Cut<'_>) -> Option<(&Key, &Text)>
-        ensures { MatchOption result (first_from cut.entry (content self.now) ≡ None)
-            (λ e. first_from cut.entry (content self.now) ≡ Some (e.0.now, e.1.now)) };
+        ensures { MatchOption result (first_from_cut cut.entry (content self.now) ≡ None)
+            (λ e. first_from_cut cut.entry (content self.now) ≡ Some (e.0.now, e.1.now)) };
 
     /// Some of the first members that don't stand before the cut, in order, each with its value: at most `most`, which is 1
     /// to 32, and none only where there is none. A view may give fewer than it is asked for. Takes no memory.
@@ -39,8 +39,8 @@ pub trait OrderedView {
 
     /// The last reference with a value that stands before the cut, with its value.
     fn prev(&self, cut: Cut<'_>) -> Option<(&Key, &Text)>
-        ensures { MatchOption result (last_before cut.entry (content self.now) ≡ None)
-            (λ e. last_before cut.entry (content self.now) ≡ Some (e.0.now, e.1.now)) };
+        ensures { MatchOption result (last_before_cut cut.entry (content self.now) ≡ None)
+            (λ e. last_before_cut cut.entry (content self.now) ≡ Some (e.0.now, e.1.now)) };
 }
 
 // The first key from the cut on, or backward the last before it.

@@ -6,7 +6,7 @@ use Rattle.std.specs.Ordering.{nat_cmp, eq_by_cmp}
 use Rattle.std.specs.Cmp.{nat_cmp_total}
 use Rattle.std.specs.FinMap as finmap
 use Rattle.std.specs.FinMap.{nat_cmp-IsAntisymmetric}
-use Rattle.collation.specs.OrderLaws.{is_equal}
+use Rattle.collation.specs.laws.Order.{is_equal}
 use Rattle.refusal.specs.declared.Refusal.{Refusal}
 use Rattle.refusal.specs.declared.Refusal.TheVariants.{TransactionTooLong, MergeOverlap, TooManySubscripts}
 use Rattle.command.specs.declared.access.DataCommand.{DataCommand}
@@ -29,9 +29,9 @@ use Rattle.validate_commit.specs.laws.Agreement.{agreed_now}
 use Rattle.job_core.specs.declared.sessions.Session.{Session}
 use Rattle.job_core.specs.declared.engine.Engine.{Engine}
 use Rattle.globals.specs.Answering.{early_refusal}
-use Rattle.job_core.specs.Causes.{IsCause}
+use Rattle.job_core.specs.Causes.{IsCauseOf}
 use Rattle.job_core.specs.Sessions.{Sessions, shown, machine_of, IsReadable, IsAnswered, HasAnsweredAt}
-use Rattle.job_core.specs.Joined.{IsOpen, IsJoined, IsWhole, IsStep, machine_shown, early_of}
+use Rattle.job_core.specs.Joined.{IsOpenTransaction, IsJoined, IsWhole, IsStep, machine_shown, early_of}
 use Rattle.job_core.proofs.Machines.{machine_put}
 use Rattle.job_core.proofs.Joined.{joined_put, joined_unit, joined_store}
 use Rattle.job_core.proofs.Replies.{step_done, step_kept, exact_rule, exact_full}
@@ -73,7 +73,7 @@ module _ (job : ℕ) (command : DataCommand) (old : Engine) (whole : IsWhole old
       → (r : Refusal) → early_of (Access command) (transaction_of job (machine_shown old)) ≡ Some r → Refused refusal ≡ Refused r
   refused_early refusal early none r is = let told = early r (sym (ap (early_of (Access command)) (shows old job None none)) ∙ is) in let same : refusal ≡ r = cc in ap Refused same
 
-  exact_outside : (refusal : Refusal) → finmap.get old.sessions job ≡ None → IsCause refusal command (content_now old.store) (length old.journal.units) → IsReply job (Access command) (Refused refusal) (machine_shown old)
+  exact_outside : (refusal : Refusal) → finmap.get old.sessions job ≡ None → IsCauseOf refusal command (content_now old.store) (length old.journal.units) → IsReply job (Access command) (Refused refusal) (machine_shown old)
   exact_outside refusal none (inl (inl rule)) = exact_rule (machine_shown old) job (Access command) refusal (outside_reply none ∙ ap (λ o. refused_or o (Answered (data_reply command (content_now old.store)))) rule) (let agreed = whole.agreed in agreed.counted)
   exact_outside refusal none (inl (inr memory)) = inr (ap Refused memory)
   exact_outside refusal none (inr full) =
@@ -82,7 +82,7 @@ module _ (job : ℕ) (command : DataCommand) (old : Engine) (whole : IsWhole old
       let long : length (told job (Access command) (Answered answer) (machine_shown old)).units ≡ length old.journal.units + 1 = ap (λ o. length (told_answer job command answer o (machine_shown old)).units) (shows old job None none) ∙ omega (arith, length-append old.journal.units (Lone job command answer ∷ [])) in
       exact_full (machine_shown old) job (Access command) refusal (Answered answer) full.0 reply (omega (arith, full.2, long))
 
-  pub refused_outside : {A : Type 0} (refusal : Refusal) (store : Stored) (j : Kept) → finmap.get old.sessions job ≡ None → IsCause refusal command (content_now old.store) (length old.journal.units) → j.units ≡ old.journal.units → Agreement store j.units
+  pub refused_outside : {A : Type 0} (refusal : Refusal) (store : Stored) (j : Kept) → finmap.get old.sessions job ≡ None → IsCauseOf refusal command (content_now old.store) (length old.journal.units) → j.units ≡ old.journal.units → Agreement store j.units
       → ((q : ℕ) (v : Session) → finmap.get old.sessions q ≡ Some v → store.cut ≤ v.work.start) → ((r : Refusal) → early_refusal command ≡ Some r → IsErrOf {T = A} (Err refusal) r) → IsStep job (Access command) (Refused refusal) old (record old { store = store; journal = j })
   refused_outside {A} refusal store j none cause units agreed kept early =
       step_kept job (Access command) old (record old { store = store; journal = j })
@@ -110,7 +110,7 @@ module _ (job : ℕ) (command : DataCommand) (old : Engine) (whole : IsWhole old
   early_inside : (s : Session) (short : Bool) → finmap.get old.sessions job ≡ Some s → nat_lt (length s.work.exchanges) 65535 ≡ short → early_of (Access command) (transaction_of job (machine_shown old)) ≡ cond short (early_refusal command) (Some TransactionTooLong)
   early_inside s short is test = ap (early_of (Access command)) (shows old job (Some s) is) ∙ ap (λ b. cond b (early_refusal command) (Some TransactionTooLong)) test
 
-  open_next : (s w : Session) (answer : Answer) → finmap.get old.sessions job ≡ Some s → IsAnswered command answer (content_at old.store.versions s.work.start) s w → IsOpen old.store old.journal.units job w
+  open_next : (s w : Session) (answer : Answer) → finmap.get old.sessions job ≡ Some s → IsAnswered command answer (content_at old.store.versions s.work.start) s w → IsOpenTransaction old.store old.journal.units job w
   open_next s w answer is done =
       let o = whole.opened job s is in
       record {

@@ -14,7 +14,7 @@ use Rattle.command.specs.declared.access.DataCommand.{DataCommand}
 use Rattle.command.specs.declared.access.Answer.{Answer}
 use Rattle.version_store.specs.Versions.{Stored}
 use Rattle.job_core.specs.declared.sessions.Session.{Session}
-use Rattle.job_core.specs.Sessions.{Sessions, changed_at, with_session, AreFrom, least_from, HasAnswered, HasAnsweredAt}
+use Rattle.job_core.specs.Sessions.{Sessions, changed_at, with_session, AreFrom, least_from, IsAnsweredOrRefused, HasAnsweredAt}
 
 abbrev pub Rows : Type 0
 Rows = List (ℕ × Session)
@@ -87,13 +87,13 @@ from_insert stamp es fs m job start s w was from puts is begins low =
 
 -- ---- a data command of a session
 
-pub answered_at : (command : DataCommand) (result : Result Answer Refusal) (store : Stored) (job : ℕ) (old new : Sessions) (s w : Session) (o : Option Session) → o ≡ Some s → HasAnswered command result store s w → new ≡ finmap.insert old job w → HasAnsweredAt command result store job old new o
+pub answered_at : (command : DataCommand) (result : Result Answer Refusal) (store : Stored) (job : ℕ) (old new : Sessions) (s w : Session) (o : Option Session) → o ≡ Some s → IsAnsweredOrRefused command result store s w → new ≡ finmap.insert old job w → HasAnsweredAt command result store job old new o
 answered_at command result store job old new s w o is answered put = subst (HasAnsweredAt command result store job old new) (sym is) (record { session = w; answered = answered; put = put })
 
 pub answered_nowhere : (command : DataCommand) (result : Result Answer Refusal) (store : Stored) (job : ℕ) (old new : Sessions) (o : Option Session) → o ≡ None → new ≡ old → result ≡ Err NoTransaction → HasAnsweredAt command result store job old new o
 answered_nowhere command result store job old new o is same refused = subst (HasAnsweredAt command result store job old new) (sym is) (same, refused)
 
-pub answered_start : (command : DataCommand) (result : Result Answer Refusal) (store : Stored) (s w : Session) → HasAnswered command result store s w → s.work.start ≤ w.work.start
+pub answered_start : (command : DataCommand) (result : Result Answer Refusal) (store : Stored) (s w : Session) → IsAnsweredOrRefused command result store s w → s.work.start ≤ w.work.start
 answered_start command (Ok answer) store s w is = omega (arith, is.start)
 answered_start command (Err refusal) store s w is = omega (arith, ap (λ (x : Session). x.work.start) is.same)
 

@@ -5,7 +5,7 @@ use Rattle.std.specs.Ordering.{nat_cmp, eq_by_cmp}
 use Rattle.std.specs.Cmp.{nat_cmp_total}
 use Rattle.std.specs.FinMap as finmap
 use Rattle.std.specs.FinMap.{nat_cmp-IsAntisymmetric}
-use Rattle.collation.specs.OrderLaws.{is_equal}
+use Rattle.collation.specs.laws.Order.{is_equal}
 use Rattle.collation.specs.Locks.{LockState}
 use Rattle.journal.specs.declared.unit.Unit.{Unit as JournalUnit}
 use Rattle.journal.specs.History.{State, initial, after, after_unit}
@@ -20,10 +20,10 @@ use Rattle.job_core.specs.declared.sessions.Session.{Session}
 use Rattle.job_core.specs.Sessions.{Sessions}
 use Rattle.journal.specs.Kept.{Kept}
 use Rattle.job_core.specs.declared.engine.Engine.{Engine}
-use Rattle.job_core.specs.Joined.{IsOpen, IsJoined, IsHorizon, IsPushed}
+use Rattle.job_core.specs.Joined.{IsOpenTransaction, IsJoined, IsHorizon, IsPushed}
 
 -- a session stays open where the store keeps its start and units are only joined behind
-open_later : (store new : Stored) (units more : List JournalUnit) (job : ℕ) (s : Session) → IsOpen store units job s → new.cut ≤ s.work.start → IsOpen new (units ++ more) job s
+open_later : (store new : Stored) (units more : List JournalUnit) (job : ℕ) (s : Session) → IsOpenTransaction store units job s → new.cut ≤ s.work.start → IsOpenTransaction new (units ++ more) job s
 open_later store new units more job s is kept = record {
   whose = is.whose;
   kept = kept;
@@ -37,7 +37,7 @@ pub joined_unit : (store new : Stored) (units after_it : List JournalUnit) (lock
 joined_unit store new units after_it locks left ss u is more agreed locks_are kept = record {
   agreed = agreed;
   locks = locks_are ∙ ap (λ (t : State). t.locks) (sym (after-unit units u initial) ∙ ap (λ us. after us initial) (sym more));
-  opened = λ job s there. subst (λ us. IsOpen new us job s) (sym more) (open_later store new units (u ∷ []) job s (is.opened job s there) (kept job s there));
+  opened = λ job s there. subst (λ us. IsOpenTransaction new us job s) (sym more) (open_later store new units (u ∷ []) job s (is.opened job s there) (kept job s there));
 }
 
 -- the store is another that agrees
@@ -49,18 +49,18 @@ joined_store store new units locks ss is agreed kept = record {
 }
 
 -- a session is put that is open
-pub joined_put : (store : Stored) (units : List JournalUnit) (locks : LockState) (ss : Sessions) (job : ℕ) (s : Session) → IsJoined store units locks ss → IsOpen store units job s → IsJoined store units locks (finmap.insert ss job s)
+pub joined_put : (store : Stored) (units : List JournalUnit) (locks : LockState) (ss : Sessions) (job : ℕ) (s : Session) → IsJoined store units locks ss → IsOpenTransaction store units job s → IsJoined store units locks (finmap.insert ss job s)
 joined_put store units locks ss job s is new = record {
   agreed = is.agreed;
   locks = is.locks;
   opened = λ q t there. by_key q t (eq_by_cmp nat_cmp q job) refl (sym (finmap.get-insert nat_cmp_total ss job s q) ∙ there);
 }
   where
-    by_key : (q : ℕ) (t : Session) (b : Bool) → eq_by_cmp nat_cmp q job ≡ b → cond b (Some s) (finmap.get ss q) ≡ Some t → IsOpen store units q t
+    by_key : (q : ℕ) (t : Session) (b : Bool) → eq_by_cmp nat_cmp q job ≡ b → cond b (Some s) (finmap.get ss q) ≡ Some t → IsOpenTransaction store units q t
     by_key q t true e there =
         let same : s ≡ t = cc in
         let key : q ≡ job = nat_cmp-IsAntisymmetric q job (is_equal (nat_cmp q job) e) in
-        subst (λ k. IsOpen store units k t) (sym key) (subst (IsOpen store units job) same new)
+        subst (λ k. IsOpenTransaction store units k t) (sym key) (subst (IsOpenTransaction store units job) same new)
     by_key q t false e there = is.opened q t there
 
 -- one is taken out
@@ -71,12 +71,12 @@ joined_closed store units locks ss job is = record {
   opened = λ q t there. by_key q t (eq_by_cmp nat_cmp q job) (sym (finmap.get-remove nat_cmp_total ss job q) ∙ there);
 }
   where
-    by_key : (q : ℕ) (t : Session) (b : Bool) → cond b None (finmap.get ss q) ≡ Some t → IsOpen store units q t
+    by_key : (q : ℕ) (t : Session) (b : Bool) → cond b None (finmap.get ss q) ≡ Some t → IsOpenTransaction store units q t
     by_key q t true there = absurd (cc)
     by_key q t false there = is.opened q t there
 
 -- a session with the same work
-pub open_same : (store : Stored) (units : List JournalUnit) (job : ℕ) (s t : Session) → IsOpen store units job s → t.work ≡ s.work → IsOpen store units job t
+pub open_same : (store : Stored) (units : List JournalUnit) (job : ℕ) (s t : Session) → IsOpenTransaction store units job s → t.work ≡ s.work → IsOpenTransaction store units job t
 open_same store units job s t is same = record {
   whose = ap (λ (w : Working). w.job) same ∙ is.whose;
   kept = subst (λ (w : Working). store.cut ≤ w.start) (sym same) is.kept;
@@ -85,7 +85,7 @@ open_same store units job s t is same = record {
 }
 
 -- a session that begins where all units stand
-pub open_anew : (store : Stored) (units : List JournalUnit) (job : ℕ) (s : Session) → Agreement store units → s.work ≡ just_begun job (length units) → IsOpen store units job s
+pub open_anew : (store : Stored) (units : List JournalUnit) (job : ℕ) (s : Session) → Agreement store units → s.work ≡ just_begun job (length units) → IsOpenTransaction store units job s
 open_anew store units job s is same = record {
   whose = ap (λ (w : Working). w.job) same;
   kept = subst (λ (w : Working). store.cut ≤ w.start) (sym same) is.cut;

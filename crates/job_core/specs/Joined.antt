@@ -25,7 +25,7 @@ use Rattle.job_core.specs.Sessions.{Sessions, machine_of, AreFrom}
 use Rattle.globals.specs.Answering.{early_refusal}
 
 -- the transaction is its job's, the store has kept the content of its start, and what it has done is right there
-pub record IsOpen (store : Stored) (units : List JournalUnit) (job : ℕ) (s : Session) : Type 0 where
+pub record IsOpenTransaction (store : Stored) (units : List JournalUnit) (job : ℕ) (s : Session) : Type 0 where
   pub whose : s.work.job ≡ job
   pub kept : store.cut ≤ s.work.start
   pub begun : s.work.start ≤ length units
@@ -35,7 +35,7 @@ pub record IsOpen (store : Stored) (units : List JournalUnit) (job : ℕ) (s : S
 pub record IsJoined (store : Stored) (units : List JournalUnit) (table : LockState) (ss : Sessions) : Type 0 where
   pub agreed : Agreement store units
   pub locks : table ≡ (after units initial).locks
-  pub opened : (job : ℕ) (s : Session) → finmap.get ss job ≡ Some s → IsOpen store units job s
+  pub opened : (job : ℕ) (s : Session) → finmap.get ss job ≡ Some s → IsOpenTransaction store units job s
 
 abbrev pub IsWhole : Engine → Type 0
 IsWhole e = IsJoined e.store e.journal.units e.locks e.sessions

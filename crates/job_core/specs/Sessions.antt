@@ -90,16 +90,16 @@ pub record IsRefused (command : DataCommand) (refusal : Refusal) (m : Database) 
   pub long : most_commands ≤ length old.work.exchanges → refusal ≡ TransactionTooLong
   pub early : (rule : Refusal) → length old.work.exchanges < most_commands → early_refusal command ≡ Some rule → refusal ≡ rule
 
-abbrev pub HasAnswered : DataCommand → Result Answer Refusal → Stored → Session → Session → Type 0
-HasAnswered command (Ok answer) store old new = IsAnswered command answer (content_at store.versions old.work.start) old new
-HasAnswered command (Err refusal) store old new = IsRefused command refusal (content_at store.versions old.work.start) old new
+abbrev pub IsAnsweredOrRefused : DataCommand → Result Answer Refusal → Stored → Session → Session → Type 0
+IsAnsweredOrRefused command (Ok answer) store old new = IsAnswered command answer (content_at store.versions old.work.start) old new
+IsAnsweredOrRefused command (Err refusal) store old new = IsRefused command refusal (content_at store.versions old.work.start) old new
 
 -- the same at a job
-pub record IsPut (command : DataCommand) (result : Result Answer Refusal) (store : Stored) (job : ℕ) (old new : Sessions) (s : Session) : Type 0 where
+pub record IsSessionPut (command : DataCommand) (result : Result Answer Refusal) (store : Stored) (job : ℕ) (old new : Sessions) (s : Session) : Type 0 where
   pub session : Session
-  pub answered : HasAnswered command result store s session
+  pub answered : IsAnsweredOrRefused command result store s session
   pub put : new ≡ finmap.insert old job session
 
 abbrev pub HasAnsweredAt : DataCommand → Result Answer Refusal → Stored → ℕ → Sessions → Sessions → Option Session → Type 0
 HasAnsweredAt command result store job old new None = (new ≡ old) × (result ≡ Err NoTransaction)
-HasAnsweredAt command result store job old new (Some s) = IsPut command result store job old new s
+HasAnsweredAt command result store job old new (Some s) = IsSessionPut command result store job old new s

@@ -7,7 +7,7 @@ ghost use Rattle.journal.specs.Kept.{job_of};
 ghost use Rattle.version_store.specs.Versions.{content_now};
 ghost use Rattle.validate_commit.specs.Agreement.{Agreement, IsNext};
 ghost use Rattle.globals.specs.Answering.{early_refusal};
-ghost use Rattle.job_core.specs.Causes.{IsCause};
+ghost use Rattle.job_core.specs.Causes.{IsCauseOf};
 ghost use Rattle.job_core.specs.Changes.{found_changes, own_change};
 
 use crate::changes::work_out;
@@ -46,7 +46,7 @@ pub fn lone(
     ensures database { OnOk result (content_now store.new ≡ data_after command (content_now store.old)) }
     ensures refused { OnErr result ((journal.new.units ≡ journal.old.units) × (content_now store.new ≡ content_now store.old)) }
     ensures early { (refusal : Refusal) → early_refusal command ≡ Some refusal → IsErrOf result refusal }
-    ensures cause { IfErr result (λ refusal. IsCause refusal command (content_now store.old) (length journal.old.units)) }
+    ensures cause { IfErr result (λ refusal. IsCauseOf refusal command (content_now store.old) (length journal.old.units)) }
     ensures agreed { Agreement store.new journal.new.units }
     ensures cut { store.new.cut ≤ max store.old.cut (unwrap_or oldest (length journal.new.units)) }
 {
@@ -80,7 +80,7 @@ fn prepare(
     ensures counted { OnOk result (length journal.old.units < 2 ^ 64 - 1) }
     ensures units { journal.new.units ≡ journal.old.units }
     ensures early { (refusal : Refusal) → early_refusal command.now ≡ Some refusal → IsErrOf result refusal }
-    ensures cause { IfErr result (λ refusal. IsCause refusal command.now (content_now store.now) (length journal.old.units)) }
+    ensures cause { IfErr result (λ refusal. IsCauseOf refusal command.now (content_now store.now) (length journal.old.units)) }
 {
     let view = store.view_now();
     match work_out(alloc, &view, command) {

@@ -6,7 +6,7 @@ ghost use Rattle.refusal.specs.declared.Refusal.{Refusal};
 ghost use Rattle.command.specs.Data.{data_refusal, data_reply};
 ghost use Rattle.version_store.specs.Versions.{content_at};
 ghost use Rattle.validate_commit.specs.Working.{IsWorkOn, IsCauseInside, seen};
-ghost use Rattle.job_core.specs.Sessions.{Sessions as SessionMap, at_level, after_lock, anew, just_opened, with_session, AreFrom, least_from, IsReadable, HasAnswered, HasAnsweredAt};
+ghost use Rattle.job_core.specs.Sessions.{Sessions as SessionMap, at_level, after_lock, anew, just_opened, with_session, AreFrom, least_from, IsReadable, IsAnsweredOrRefused, HasAnsweredAt};
 
 use collation::Job;
 use command::{Answer, DataCommand};
@@ -53,7 +53,7 @@ impl Session {
     // A data command on what the transaction sees. The store still has the content of its start.
     fn access(&mut self, store: &Store, command: DataCommand) -> Result<Answer, Refusal>
         requires { IsReadable store.now self.old }
-        ensures { HasAnswered command result store.now self.old self.new }
+        ensures { IsAnsweredOrRefused command result store.now self.old self.new }
     {
         match store.view_at(self.work.start()) {
             Ok(view) => self.work.access(&view, command),

@@ -7,7 +7,7 @@ use Rattle.std.proofs.lemmas.Option.{some_pair_parts}
 use Rattle.journal.specs.declared.unit.Unit.{Unit as JournalUnit}
 use Rattle.journal.specs.Format.{unit_bytes}
 use Rattle.journal.specs.Kept.{job_of}
-use Rattle.journal.specs.Log.{units_in, unit_in, drafted, Stands, IsWritten, IsDraft, IsLast, EndsAt}
+use Rattle.journal.specs.Log.{units_in, unit_in, drafted, Stands, IsDraftOf, IsUnitDraft, IsLast, EndsAt}
 use Rattle.journal.specs.Reading.{unit_at}
 use Rattle.journal.specs.Stored.{FitsUnit}
 use Rattle.journal.specs.laws.Log.{units_again, unit_again, stands_none, stands_more}
@@ -24,22 +24,22 @@ stands_empty bytes e = subst (Stands bytes 0) (sym (none_in bytes)) (subst (λ t
 -- ---- drafts
 
 -- what was written on a blank draft
-pub written_is : (draft blank : List ℕ) (job : ℕ) (u : JournalUnit) → blank ≡ [] → draft ≡ blank ++ unit_bytes u → FitsUnit u → job ≡ job_of u → IsWritten draft job u
+pub written_is : (draft blank : List ℕ) (job : ℕ) (u : JournalUnit) → blank ≡ [] → draft ≡ blank ++ unit_bytes u → FitsUnit u → job ≡ job_of u → IsDraftOf draft job u
 written_is draft blank job u e w fits owner =
     let written : draft ≡ unit_bytes u = w ∙ ap (λ t. t ++ unit_bytes u) e in
     record { is = ap unit_in written ∙ unit_again u fits; written = written; fits = fits; owner = owner }
 
 -- a draft's job is that of its unit
-pub owner_of : (job : Option ℕ) (draft : List ℕ) → IsDraft job draft → job ≡ option_map job_of (drafted job draft)
+pub owner_of : (job : Option ℕ) (draft : List ℕ) → IsUnitDraft job draft → job ≡ option_map job_of (drafted job draft)
 owner_of None draft h = refl
 owner_of (Some job) draft h = ap (λ j. Some j) h.1.owner ∙ ap (option_map job_of) (sym h.1.is)
 
 -- and its bytes are those of its unit
-pub bytes_of : (job : Option ℕ) (draft : List ℕ) → IsDraft job draft → IfSome (drafted job draft) (λ u. draft ≡ unit_bytes u)
+pub bytes_of : (job : Option ℕ) (draft : List ℕ) → IsUnitDraft job draft → IfSome (drafted job draft) (λ u. draft ≡ unit_bytes u)
 bytes_of None draft h = tt
 bytes_of (Some job) draft h = subst (λ o. IfSome o (λ u. draft ≡ unit_bytes u)) (sym h.1.is) h.1.written
 
-pub fits_of : (job : Option ℕ) (draft : List ℕ) → IsDraft job draft → IfSome (drafted job draft) FitsUnit
+pub fits_of : (job : Option ℕ) (draft : List ℕ) → IsUnitDraft job draft → IfSome (drafted job draft) FitsUnit
 fits_of None draft h = tt
 fits_of (Some job) draft h = subst (λ o. IfSome o FitsUnit) (sym h.1.is) h.1.fits
 

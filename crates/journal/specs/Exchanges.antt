@@ -12,7 +12,7 @@ unfoldable pub exchanges_in : ℕ → List ℕ → List Exchange
 exchanges_in count bytes = unwrap_or (option_map (λ p. p.0) (list_at exchange_at count bytes)) []
 
 -- bytes that stand for these exchanges, so many
-pub record Tells (bytes : List ℕ) (count : ℕ) (es : List Exchange) : Type 0 where
+pub record AreExchangeBytes (bytes : List ℕ) (count : ℕ) (es : List Exchange) : Type 0 where
   pub written : bytes ≡ flat_map exchange_bytes es
   pub number : count ≡ length es
   pub few : count < 2 ^ 64

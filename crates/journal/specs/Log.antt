@@ -43,16 +43,16 @@ drafted None draft = None
 drafted (Some job) draft = unit_in draft
 
 -- a draft that is the unit of this job
-pub record IsWritten (draft : List ℕ) (job : ℕ) (u : JournalUnit) : Type 0 where
+pub record IsDraftOf (draft : List ℕ) (job : ℕ) (u : JournalUnit) : Type 0 where
   pub is : unit_in draft ≡ Some u
   pub written : draft ≡ unit_bytes u
   pub fits : FitsUnit u
   pub owner : job ≡ job_of u
 
 -- what a draft keeps
-abbrev pub IsDraft : Option ℕ → List ℕ → Type 0
-IsDraft None draft = ⊤
-IsDraft (Some job) draft = (u : JournalUnit) × IsWritten draft job u
+abbrev pub IsUnitDraft : Option ℕ → List ℕ → Type 0
+IsUnitDraft None draft = ⊤
+IsUnitDraft (Some job) draft = (u : JournalUnit) × IsDraftOf draft job u
 
 -- there is room for this unit, if there is one, and a number
 abbrev pub HasRoom : Option JournalUnit → Logged → Type 0

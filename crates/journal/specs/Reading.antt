@@ -37,11 +37,11 @@ number_at [] = None
 number_at (b ∷ bytes) = if nat_lt b 254 then Some (b, bytes) else (if b == 254 then wide_at w16 bytes else wide_at w64 bytes)
 
 -- so many bytes
-abbrev pub part_at : ℕ → List ℕ → Option (List ℕ × List ℕ)
-part_at n bytes = if nat_le n (length bytes) then Some (take n bytes, drop n bytes) else None
+abbrev pub bytes_at : ℕ → List ℕ → Option (List ℕ × List ℕ)
+bytes_at n bytes = if nat_le n (length bytes) then Some (take n bytes, drop n bytes) else None
 
 unfoldable pub string_at : List ℕ → Option (List ℕ × List ℕ)
-string_at bytes = number_at bytes >>= λ n. part_at n.0 n.1
+string_at bytes = number_at bytes >>= λ n. bytes_at n.0 n.1
 
 -- the bytes are the key of a reference within the limits
 unfoldable pub is_key : List ℕ → Bool
@@ -117,15 +117,15 @@ looks_at kind bytes =
 abbrev pub looking_at : ℕ → List ℕ → Option (DataCommand × List ℕ)
 looking_at kind bytes = looks_at kind bytes >>= λ l. Some (Look l.0, l.1)
 
-unfoldable pub command_at : ℕ → List ℕ → Option (DataCommand × List ℕ)
-command_at kind bytes =
+unfoldable pub data_command_at : ℕ → List ℕ → Option (DataCommand × List ℕ)
+data_command_at kind bytes =
     if kind == 0 then set_at bytes
     else (if kind == 1 then kill_at bytes
     else (if kind == 2 then merge_at bytes
     else looking_at kind bytes))
 
-abbrev pub value_at : List ℕ → Option (Answer × List ℕ)
-value_at bytes = string_at bytes >>= λ t. Some (Value t.0, t.1)
+abbrev pub value_answer_at : List ℕ → Option (Answer × List ℕ)
+value_answer_at bytes = string_at bytes >>= λ t. Some (Value t.0, t.1)
 
 abbrev pub count_at : List ℕ → Option (Answer × List ℕ)
 count_at bytes = number_at bytes >>= λ n. Some (Number n.0, n.1)
@@ -136,13 +136,13 @@ found_at bytes = reference_at bytes >>= λ r. Some (Found r.0, r.1)
 unfoldable pub answer_at : ℕ → List ℕ → Option (Answer × List ℕ)
 answer_at kind bytes =
     if kind == 0 then Some (Done, bytes)
-    else (if kind == 1 then value_at bytes
+    else (if kind == 1 then value_answer_at bytes
     else (if kind == 2 then count_at bytes
     else found_at bytes))
 
 -- a command with its answer, behind their tag
 unfoldable pub answered_at : ℕ → List ℕ → Option (Exchange × List ℕ)
-answered_at tag bytes = command_at (tag / 4) bytes >>= λ c. answer_at (tag % 4) c.1 >>= λ a. Some (record { command = c.0; answer = a.0 }, a.1)
+answered_at tag bytes = data_command_at (tag / 4) bytes >>= λ c. answer_at (tag % 4) c.1 >>= λ a. Some (record { command = c.0; answer = a.0 }, a.1)
 
 unfoldable pub exchange_at : List ℕ → Option (Exchange × List ℕ)
 exchange_at [] = None
@@ -154,11 +154,11 @@ exchange_at (tag ∷ bytes) = answered_at tag bytes
 abbrev pub named : ℕ → List Resource → LockCommand
 named kind ns = if kind == 16 then Only ns else (if kind == 17 then More ns else Fewer ns)
 
-abbrev pub named_at : ℕ → List ℕ → Option (LockCommand × List ℕ)
-named_at kind bytes = names_at bytes >>= λ ns. Some (named kind ns.0, ns.1)
+abbrev pub named_lock_at : ℕ → List ℕ → Option (LockCommand × List ℕ)
+named_lock_at kind bytes = names_at bytes >>= λ ns. Some (named kind ns.0, ns.1)
 
-unfoldable pub lock_at : ℕ → List ℕ → Option (LockCommand × List ℕ)
-lock_at kind bytes = if kind == 15 then Some (Release, bytes) else named_at kind bytes
+unfoldable pub lock_command_at : ℕ → List ℕ → Option (LockCommand × List ℕ)
+lock_command_at kind bytes = if kind == 15 then Some (Release, bytes) else named_lock_at kind bytes
 
 -- ---- units
 
@@ -179,7 +179,7 @@ abbrev pub has_had : ℕ → Bool
 has_had flags = flags % 2 == 1
 
 abbrev pub locked_at : ℕ → ℕ → List ℕ → Option (JournalUnit × List ℕ)
-locked_at job tag bytes = lock_at (tag / 4) bytes >>= λ l. Some (Lock job (is_inside (tag % 4)) l.0 (has_had (tag % 4)), l.1)
+locked_at job tag bytes = lock_command_at (tag / 4) bytes >>= λ l. Some (Lock job (is_inside (tag % 4)) l.0 (has_had (tag % 4)), l.1)
 
 -- what stands behind the job, after its tag
 unfoldable pub deed_at : ℕ → ℕ → List ℕ → Option (JournalUnit × List ℕ)

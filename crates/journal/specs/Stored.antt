@@ -10,7 +10,7 @@ use Rattle.collation.specs.Limits.{most_jobs}
 use Rattle.collation.specs.declared.lock.LockCommand.{LockCommand}
 use Rattle.collation.specs.declared.lock.LockCommand.TheVariants.{Release, Only, More, Fewer}
 use Rattle.collation.specs.Reference.{Reference, Resource}
-use Rattle.key_codec.specs.Key.{key_of, IsReference}
+use Rattle.key_codec.specs.Key.{key_of, IsFaultless}
 use Rattle.journal.specs.declared.unit.Exchange.{Exchange}
 use Rattle.journal.specs.declared.unit.Unit.{Unit as JournalUnit}
 use Rattle.journal.specs.declared.unit.Unit.TheVariants.{Lone, Whole, Lock, Back, End}
@@ -25,7 +25,7 @@ pub record FitsString (s : List ℕ) : Type 0 where
 
 -- what a `Ref` keeps, and a key that isn't too long
 pub record FitsReference (r : Reference) : Type 0 where
-  pub form : IsReference r
+  pub form : IsFaultless r
   pub fits : length (key_of r) < 2 ^ 64
 
 pub record FitsName (n : Resource) : Type 0 where

@@ -25,13 +25,13 @@ pub(crate) struct Draft {
 impl Model for Draft {
     ghost use Rattle.std.specs.Prelude.{Option};
     ghost use Rattle.journal.specs.declared.unit.Unit.{Unit as JournalUnit};
-    ghost use Rattle.journal.specs.Log.{drafted, IsDraft};
+    ghost use Rattle.journal.specs.Log.{drafted, IsUnitDraft};
 
     ghost Value = { Option JournalUnit };
 
     ghost view = { λ d. drafted d.job d.bytes.items };
 
-    ghost invariant = { λ d. IsDraft d.job d.bytes.items };
+    ghost invariant = { λ d. IsUnitDraft d.job d.bytes.items };
 }
 
 // No bytes; the memory that only a large unit needed is given back.

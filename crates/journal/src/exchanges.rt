@@ -21,13 +21,13 @@ pub struct ExchangeLog {
 impl Model for ExchangeLog {
     ghost use Rattle.std.specs.Prelude.{List};
     ghost use Rattle.journal.specs.declared.unit.Exchange.{Exchange};
-    ghost use Rattle.journal.specs.Exchanges.{exchanges_in, Tells};
+    ghost use Rattle.journal.specs.Exchanges.{exchanges_in, AreExchangeBytes};
 
     ghost Value = { List Exchange };
 
     ghost view = { λ l. exchanges_in l.count l.bytes.items };
 
-    ghost invariant = { λ l. Tells l.bytes.items l.count (exchanges_in l.count l.bytes.items) };
+    ghost invariant = { λ l. AreExchangeBytes l.bytes.items l.count (exchanges_in l.count l.bytes.items) };
 }
 
 /// How far a log of exchanges went at some moment.

@@ -64,8 +64,8 @@ fn read_number(bytes: &[u8]) -> Result<(u64, &[u8]), Unread>
 }
 
 fn read_part(count: u64, bytes: &[u8]) -> Result<(&[u8], &[u8]), Unread>
-    ensures some { IfOk result (λ p. reading.part_at count bytes.now ≡ Some (p.0.now, p.1.now)) }
-    ensures none { IfErr result (λ e. reading.part_at count bytes.now ≡ None) }
+    ensures some { IfOk result (λ p. reading.bytes_at count bytes.now ≡ Some (p.0.now, p.1.now)) }
+    ensures none { IfErr result (λ e. reading.bytes_at count bytes.now ≡ None) }
 {
     if count <= bytes.len() as u64 {
         Ok(bytes.split_at(count as usize))
@@ -309,10 +309,10 @@ fn read_looking(alloc: Global, kind: u8, bytes: &[u8]) -> Result<(DataCommand, &
     Ok((DataCommand::Look(look), rest))
 }
 
-#[tactic(auto, unfolding(crate::specs::Reading::command_at))]
+#[tactic(auto, unfolding(crate::specs::Reading::data_command_at))]
 fn read_command(alloc: Global, kind: u8, bytes: &[u8]) -> Result<(DataCommand, &[u8]), Unread>
-    ensures some { IfOk result (λ p. reading.command_at kind bytes.now ≡ Some (p.0, p.1.now)) }
-    ensures none { IfErr result (λ e. e ≡ Unread.Form → reading.command_at kind bytes.now ≡ None) }
+    ensures some { IfOk result (λ p. reading.data_command_at kind bytes.now ≡ Some (p.0, p.1.now)) }
+    ensures none { IfErr result (λ e. e ≡ Unread.Form → reading.data_command_at kind bytes.now ≡ None) }
 {
     match kind {
         0 => read_set(alloc, bytes),
@@ -323,8 +323,8 @@ fn read_command(alloc: Global, kind: u8, bytes: &[u8]) -> Result<(DataCommand, &
 }
 
 fn read_value(alloc: Global, bytes: &[u8]) -> Result<(Answer, &[u8]), Unread>
-    ensures some { IfOk result (λ p. reading.value_at bytes.now ≡ Some (p.0, p.1.now)) }
-    ensures none { IfErr result (λ e. e ≡ Unread.Form → reading.value_at bytes.now ≡ None) }
+    ensures some { IfOk result (λ p. reading.value_answer_at bytes.now ≡ Some (p.0, p.1.now)) }
+    ensures none { IfErr result (λ e. e ≡ Unread.Form → reading.value_answer_at bytes.now ≡ None) }
 {
     let (text, rest) = read_text(alloc, bytes)?;
     Ok((Answer::Value(text), rest))
@@ -430,17 +430,17 @@ fn named(kind: u8, names: LockNames) -> LockCommand
 }
 
 fn read_named(alloc: Global, kind: u8, bytes: &[u8]) -> Result<(LockCommand, &[u8]), Unread>
-    ensures some { IfOk result (λ p. reading.named_at kind bytes.now ≡ Some (p.0, p.1.now)) }
-    ensures none { IfErr result (λ e. e ≡ Unread.Form → reading.named_at kind bytes.now ≡ None) }
+    ensures some { IfOk result (λ p. reading.named_lock_at kind bytes.now ≡ Some (p.0, p.1.now)) }
+    ensures none { IfErr result (λ e. e ≡ Unread.Form → reading.named_lock_at kind bytes.now ≡ None) }
 {
     let (names, rest) = read_names(alloc, bytes)?;
     Ok((named(kind, names), rest))
 }
 
-#[tactic(auto, unfolding(crate::specs::Reading::lock_at))]
+#[tactic(auto, unfolding(crate::specs::Reading::lock_command_at))]
 fn read_lock(alloc: Global, kind: u8, bytes: &[u8]) -> Result<(LockCommand, &[u8]), Unread>
-    ensures some { IfOk result (λ p. reading.lock_at kind bytes.now ≡ Some (p.0, p.1.now)) }
-    ensures none { IfErr result (λ e. e ≡ Unread.Form → reading.lock_at kind bytes.now ≡ None) }
+    ensures some { IfOk result (λ p. reading.lock_command_at kind bytes.now ≡ Some (p.0, p.1.now)) }
+    ensures none { IfErr result (λ e. e ≡ Unread.Form → reading.lock_command_at kind bytes.now ≡ None) }
 {
     match kind {
         15 => Ok((LockCommand::Release, bytes)),

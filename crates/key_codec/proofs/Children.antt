@@ -9,18 +9,18 @@ use Rattle.std.specs.Prelude.{is_some, ◌&&◌, nat_eq, nat_lt, IfSome, IfNone,
 use Rattle.collation.specs.Name.{is_name}
 use Rattle.collation.specs.Faults.{reference_fault}
 use Rattle.collation.specs.Order.{ref_eq}
-use Rattle.collation.specs.OrderLaws.{ref_eq_decides}
+use Rattle.collation.specs.laws.Order.{ref_eq_decides}
 use Rattle.std.specs.Cmp.{first_so, second_so}
 use Rattle.std.specs.Cmp.Lexicographic.{pointwise, bytes_decides}
 use Rattle.collation.specs.Reference.{Reference}
 use Rattle.collation.specs.Database.{begins_with, is_under}
-use Rattle.collation.specs.Levels.{child, child_of, front}
-use Rattle.key_codec.specs.Key.{IsReference, IsSubscript, key_of, short_form, subscript_key, subscripts_key, AreSubscripts}
-use Rattle.key_codec.specs.KeyLaws.{short_form_is, are_subscripts, no_fault, not_over, not_too_many, fits_short, begins_under, has_tag, key_of-append, one_subscript, under_begins}
+use Rattle.collation.specs.Levels.{child, child_of, without_last}
+use Rattle.key_codec.specs.Key.{IsFaultless, IsSubscriptWithin, key_of, short_form, subscript_key, subscripts_key, AreSubscriptsWithin}
+use Rattle.key_codec.specs.laws.Key.{short_form_is, are_subscripts, no_fault, not_over, not_too_many, fits_short, begins_under, has_tag, key_of-append, one_subscript, under_begins}
 use Rattle.key_codec.specs.Reading.{BeginsWith, BeginsWithNone}
-use Rattle.key_codec.specs.BoundLaws.{equal_keys}
+use Rattle.key_codec.specs.laws.Bounds.{equal_keys}
 use Rattle.key_codec.specs.Back.{reference_of}
-use Rattle.key_codec.specs.BackLaws.{key_again, is_reference_again, reference_of_key}
+use Rattle.key_codec.specs.laws.Back.{key_again, is_reference_again, reference_of_key}
 use Rattle.key_codec.specs.Kept.{Keeps}
 use Rattle.key_codec.specs.Shown.{first}
 
@@ -43,7 +43,7 @@ more_behind (x ∷ xs) (r ∷ rs) e =
     let on = more_behind xs rs (second_so (pointwise nat_eq x r) _ e) in
     record { more = on.more; all = λ i. same i ∷ on.all i; child = ap (λ b. cond b (child rs xs) None) tied ∙ on.child }
 
-behind_some : (rs more : List (List ℕ)) → AreSubscripts short_form (rs ++ more) → AreSubscripts short_form more
+behind_some : (rs more : List (List ℕ)) → AreSubscriptsWithin short_form (rs ++ more) → AreSubscriptsWithin short_form more
 behind_some [] more a = a
 behind_some (r ∷ rs) more a = behind_some rs more a.1
 
@@ -51,12 +51,12 @@ behind_some (r ∷ rs) more a = behind_some rs more a.1
 pub record Behind (r x : Reference) (rest : List ℕ) : Type 0 where
   pub name : r.name ≡ x.name
   pub more : List (List ℕ)
-  pub bounds : AreSubscripts short_form more
+  pub bounds : AreSubscriptsWithin short_form more
   pub bytes : rest ≡ subscripts_key short_form more
   pub all : x.subscripts ≡ r.subscripts ++ more
   pub child : child_of r x ≡ first more
 
-pub behind : (r x : Reference) (rest : List ℕ) → IsReference r → IsReference x → key_of x ≡ key_of r ++ rest → Behind r x rest
+pub behind : (r x : Reference) (rest : List ℕ) → IsFaultless r → IsFaultless x → key_of x ≡ key_of r ++ rest → Behind r x rest
 behind r x rest a b e =
     let under : is_under r x ≡ true = begins_under short_form short_form_is r x rest (fits_short r a) (fits_short x b) e in
     let named : pointwise nat_eq r.name x.name ≡ true = first_so _ _ under in
@@ -67,7 +67,7 @@ behind r x rest a b e =
     record {
       name = sym names;
       more = on.more;
-      bounds = behind_some r.subscripts on.more (subst (AreSubscripts short_form) on.all fits.subscripts);
+      bounds = behind_some r.subscripts on.more (subst (AreSubscriptsWithin short_form) on.all fits.subscripts);
       bytes = append_cancel_left (key_of r) rest (subscripts_key short_form on.more) (sym e ∙ whole);
       all = on.all;
       child = ap (λ t. cond t (child r.subscripts x.subscripts) None) named ∙ on.child;
@@ -77,7 +77,7 @@ behind r x rest a b e =
 pub child_read : (r x : Reference) (rest s u : List ℕ) → Behind r x rest → BeginsWith rest s u → Some s ≡ child_of r x
 child_read r x rest s u is begins = at is.more is.bounds is.bytes is.child
   where
-    at : (more : List (List ℕ)) → AreSubscripts short_form more → rest ≡ subscripts_key short_form more → child_of r x ≡ first more → Some s ≡ child_of r x
+    at : (more : List (List ℕ)) → AreSubscriptsWithin short_form more → rest ≡ subscripts_key short_form more → child_of r x ≡ first more → Some s ≡ child_of r x
     at [] a e c = let key = has_tag short_form s in let none : [] ≡ (key.tag ∷ key.rest) ++ u = sym e ∙ begins.1 ∙ ap (λ t. t ++ u) key.is in absurd (cc)
     at (m ∷ more) a e c =
         let one = one_subscript short_form short_form_is s m u (subscripts_key short_form more) begins.0 a.0 (sym begins.1 ∙ e) in
@@ -86,7 +86,7 @@ child_read r x rest s u is begins = at is.more is.bounds is.bytes is.child
 pub child_unread : (r x : Reference) (rest : List ℕ) → Behind r x rest → BeginsWithNone rest → None ≡ child_of r x
 child_unread r x rest is none = at is.more is.bounds is.bytes is.child
   where
-    at : (more : List (List ℕ)) → AreSubscripts short_form more → rest ≡ subscripts_key short_form more → child_of r x ≡ first more → None ≡ child_of r x
+    at : (more : List (List ℕ)) → AreSubscriptsWithin short_form more → rest ≡ subscripts_key short_form more → child_of r x ≡ first more → None ≡ child_of r x
     at [] a e c = sym c
     at (m ∷ more) a e c = absurd (none m (subscripts_key short_form more) a.0 e)
 
@@ -139,13 +139,13 @@ stripped_none s p k q None e f m = λ rest h. strip_prefix_is bytes_tell s p Non
 stripped_none s p k q (Some x) e f m = tt
 
 -- what begins with a key is under its reference, and nothing else
-pub under_tested : (r x : Reference) (o : Option (Bor (List ℕ))) (b : Bool) → IsReference r → IsReference x
+pub under_tested : (r x : Reference) (o : Option (Bor (List ℕ))) (b : Bool) → IsFaultless r → IsFaultless x
     → IfSome o (λ rest. key_of x ≡ key_of r ++ rest.now) → IfNone o ((rest : List ℕ) → key_of x ≢ key_of r ++ rest) → b ≡ is_some o → b ≡ is_under r x
 under_tested r x None b p q some none e = e ∙ sym (apart r x none)
 under_tested r x (Some rest) b p q some none e = e ∙ sym (begins_under short_form short_form_is r x rest.now (fits_short r p) (fits_short x q) some)
 
 -- the equality of keys is that of references
-pub equal_tested : (x y : Reference) (s t : List ℕ) (b : Bool) → IsReference x → IsReference y → s ≡ key_of x → t ≡ key_of y → b ≡ pointwise nat_eq s t → b ≡ ref_eq x y
+pub equal_tested : (x y : Reference) (s t : List ℕ) (b : Bool) → IsFaultless x → IsFaultless y → s ≡ key_of x → t ≡ key_of y → b ≡ pointwise nat_eq s t → b ≡ ref_eq x y
 equal_tested x y s t b p q e f h =
     h ∙ one_answer _ _ (bytes_decides s t) (
       λ r. e ∙ ap key_of ((ref_eq_decides x y).0 r) ∙ sym f,
@@ -153,45 +153,45 @@ equal_tested x y s t b p q e f h =
     )
 
 -- what is written as a reference's key keeps it
-pub kept : (bytes : List ℕ) (r : Reference) → IsReference r → bytes ≡ key_of r → Keeps bytes (reference_of bytes)
+pub kept : (bytes : List ℕ) (r : Reference) → IsFaultless r → bytes ≡ key_of r → Keeps bytes (reference_of bytes)
 kept bytes r is e = record { key = sym (key_again bytes r is e); form = is_reference_again bytes r is e }
 
-pub reads_back : (bytes : List ℕ) (r : Reference) → IsReference r → bytes ≡ key_of r → reference_of bytes ≡ r
+pub reads_back : (bytes : List ℕ) (r : Reference) → IsFaultless r → bytes ≡ key_of r → reference_of bytes ≡ r
 reads_back bytes r is e = ap reference_of e ∙ reference_of_key r is
 
 -- all but the last of a reference's subscripts
-take_all_but_last : (n : ℕ) (xs : List (List ℕ)) → n + 1 ≡ length xs → take n xs ≡ front xs
+take_all_but_last : (n : ℕ) (xs : List (List ℕ)) → n + 1 ≡ length xs → take n xs ≡ without_last xs
 take_all_but_last n [] e = absurd (omega arith)
 take_all_but_last zero (x ∷ []) e = refl
 take_all_but_last (suc n) (x ∷ []) e = absurd (omega arith)
 take_all_but_last zero (x ∷ y ∷ ys) e = absurd (omega arith)
 take_all_but_last (suc n) (x ∷ y ∷ ys) e = ap (λ zs. x ∷ zs) (take_all_but_last n (y ∷ ys) (omega arith))
 
-pub take_front : (xs : List (List ℕ)) → 1 ≤ length xs → take (length xs - 1) xs ≡ front xs
+pub take_front : (xs : List (List ℕ)) → 1 ≤ length xs → take (length xs - 1) xs ≡ without_last xs
 take_front xs l = take_all_but_last (length xs - 1) xs (omega arith)
 
-front_shorter : (xs : List (List ℕ)) → length (front xs) ≤ length xs
+front_shorter : (xs : List (List ℕ)) → length (without_last xs) ≤ length xs
 front_shorter [] = omega arith
 front_shorter (x ∷ []) = omega arith
 front_shorter (x ∷ y ∷ ys) = omega (arith, front_shorter (y ∷ ys))
 
-front_some : (xs : List (List ℕ)) → AreSubscripts short_form xs → AreSubscripts short_form (front xs)
+front_some : (xs : List (List ℕ)) → AreSubscriptsWithin short_form xs → AreSubscriptsWithin short_form (without_last xs)
 front_some [] a = tt
 front_some (x ∷ []) a = tt
 front_some (x ∷ y ∷ ys) a = (a.0, front_some (y ∷ ys) a.1)
 
-pub front_faultless : (xs : List (List ℕ)) → reference_fault xs ≡ None → reference_fault (front xs) ≡ None
+pub front_faultless : (xs : List (List ℕ)) → reference_fault xs ≡ None → reference_fault (without_last xs) ≡ None
 front_faultless xs e =
     let few : nat_lt 31 (length xs) ≡ false = (not_over (nat_lt 31 (length xs)) _ e).0 in
-    let fewer : nat_lt 31 (length (front xs)) ≡ false = grind (arith, nat_tests, front_shorter xs) in
-    rw fewer (no_fault (front xs) (front_some xs (are_subscripts xs (not_too_many xs e))))
+    let fewer : nat_lt 31 (length (without_last xs)) ≡ false = grind (arith, nat_tests, front_shorter xs) in
+    rw fewer (no_fault (without_last xs) (front_some xs (are_subscripts xs (not_too_many xs e))))
 
 -- one level up from a reference
 pub record IsAbove (r a : Reference) : Type 0 where
-  pub same : a ≡ record { name = r.name; subscripts = front r.subscripts }
-  pub form : IsReference (record { name = r.name; subscripts = front r.subscripts })
+  pub same : a ≡ record { name = r.name; subscripts = without_last r.subscripts }
+  pub form : IsFaultless (record { name = r.name; subscripts = without_last r.subscripts })
 
-pub above_is : (r : Reference) (name : List ℕ) (subscripts : List (List ℕ)) → name ≡ r.name → is_name r.name ≡ true → subscripts ≡ front r.subscripts → reference_fault subscripts ≡ None → IsAbove r (record { name = name; subscripts = subscripts })
+pub above_is : (r : Reference) (name : List ℕ) (subscripts : List (List ℕ)) → name ≡ r.name → is_name r.name ≡ true → subscripts ≡ without_last r.subscripts → reference_fault subscripts ≡ None → IsAbove r (record { name = name; subscripts = subscripts })
 above_is r name subscripts n is s f = record {
   same = λ i. record { name = n i; subscripts = s i };
   form = record { name = is; subscripts = ap reference_fault (sym s) ∙ f };
@@ -199,16 +199,16 @@ above_is r name subscripts n is s f = record {
 
 -- ---- one level below
 
-last_is : (xs : List (List ℕ)) (t : List ℕ) → AreSubscripts short_form (xs ++ t ∷ []) → IsSubscript short_form t
+last_is : (xs : List (List ℕ)) (t : List ℕ) → AreSubscriptsWithin short_form (xs ++ t ∷ []) → IsSubscriptWithin short_form t
 last_is [] t a = a.0
 last_is (x ∷ xs) t a = last_is xs t a.1
 
-pub last_fits : (r : Reference) (t : List ℕ) → IsReference (record { name = r.name; subscripts = r.subscripts ++ t ∷ [] }) → IsSubscript short_form t
+pub last_fits : (r : Reference) (t : List ℕ) → IsFaultless (record { name = r.name; subscripts = r.subscripts ++ t ∷ [] }) → IsSubscriptWithin short_form t
 last_fits r t is = let fits = fits_short (record { name = r.name; subscripts = r.subscripts ++ t ∷ [] }) is in last_is r.subscripts t fits.subscripts
 
 pub below_key_is : (r : Reference) (t level bytes : List ℕ) → level ≡ key_of r → bytes ≡ level ++ subscript_key short_form t → bytes ≡ key_of (record { name = r.name; subscripts = r.subscripts ++ t ∷ [] })
 below_key_is r t level bytes l e =
     e ∙ (λ i. l i ++ sym (append-nil (subscript_key short_form t)) i) ∙ sym (key_of-append r (t ∷ []))
 
-pub root_is : (r : Reference) → is_name r.name ≡ true → IsReference (record { name = r.name; subscripts = [] })
+pub root_is : (r : Reference) → is_name r.name ≡ true → IsFaultless (record { name = r.name; subscripts = [] })
 root_is r is = record { name = is; subscripts = refl }

@@ -9,9 +9,9 @@ use Rattle.refusal.specs.declared.Refusal.TheVariants.{EmptySubscript, Subscript
 use Rattle.collation.specs.Reference.{Reference, Spot}
 use Rattle.collation.specs.Name.{is_name}
 use Rattle.collation.specs.Faults.{subscripts_fault, reference_fault, ends_open, closed_part}
-use Rattle.key_codec.specs.Key.{short_form, subscript_key, subscripts_key, key_of, IsReference}
+use Rattle.key_codec.specs.Key.{short_form, subscript_key, subscripts_key, key_of, IsFaultless}
 use Rattle.key_codec.specs.Draft.{IsDraft, longer, place_due, reference_due, place_of, IsDueOrMemory, open_fault}
-use Rattle.key_codec.specs.DraftLaws.{ends_open-more, closed_part-more, closed_part-whole, fault-closed, fault-pushed, fault-opened, AreFaultless, faultless}
+use Rattle.key_codec.specs.laws.Draft.{ends_open-more, closed_part-more, closed_part-whole, fault-closed, fault-pushed, fault-opened, AreFaultless, faultless}
 use Rattle.key_codec.specs.declared.draft.KeyDraft.{KeyDraft}
 use Rattle.key_codec.proofs.Reading.{keys-push}
 
@@ -157,7 +157,7 @@ good r e = at (is_name r.name) (nat_lt 31 (length r.subscripts)) refl refl e
     at true true p q e = cc
     at true false p q e = record { name = p; few = q; form = e; fault = sym (ap (λ t. cond t (Some TooManySubscripts) (subscripts_fault (closed_part r.subscripts))) (few_so r.subscripts q)) ∙ e }
 
-pub good_form : (r : Reference) → IsGood r → IsReference (place_of r).reference
+pub good_form : (r : Reference) → IsGood r → IsFaultless (place_of r).reference
 good_form r is = record { name = is.name; subscripts = is.form }
 
 pub good_bytes : (d : KeyDraft) (r : Reference) → IsDraft d r → IsGood r → d.bytes.items ≡ key_of (place_of r).reference

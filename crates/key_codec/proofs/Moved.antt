@@ -7,24 +7,24 @@ use Rattle.std.specs.Prelude.{nat_eq, nat_lt}
 use Rattle.std.specs.List.{list_all}
 use Rattle.collation.specs.Reference.{Reference}
 use Rattle.collation.specs.Answers.{moved}
-use Rattle.key_codec.specs.Key.{IsReference, key_of, short_form, subscripts_key, AreSubscripts}
+use Rattle.key_codec.specs.Key.{IsFaultless, key_of, short_form, subscripts_key, AreSubscriptsWithin}
 use Rattle.key_codec.specs.Back.{reference_of}
 use Rattle.key_codec.specs.Kept.{Keeps}
-use Rattle.key_codec.specs.KeyLaws.{no_fault, not_over, fits_short, key_of-append}
+use Rattle.key_codec.specs.laws.Key.{no_fault, not_over, fits_short, key_of-append}
 use Rattle.key_codec.proofs.Reading.{HasReference, has_reference}
 use Rattle.key_codec.proofs.Children.{Behind, behind, kept, reads_back}
 
 -- what counting subscripts by their keys says
 abbrev pub IsCount : List ℕ → ℕ → Type 0
-IsCount bytes n = (ss : List (List ℕ)) → AreSubscripts short_form ss → bytes ≡ subscripts_key short_form ss → n ≡ length ss
+IsCount bytes n = (ss : List (List ℕ)) → AreSubscriptsWithin short_form ss → bytes ≡ subscripts_key short_form ss → n ≡ length ss
 
 -- a reference has as many subscripts as are counted behind its name's end
-pub depth_is : (bytes front rest : List ℕ) (x : Reference) (n : ℕ) → IsReference x → bytes ≡ front ++ 0 ∷ rest → list_all (λ b. not (nat_eq b 0)) front ≡ true → bytes ≡ key_of x → IsCount rest n → n ≡ length x.subscripts
+pub depth_is : (bytes front rest : List ℕ) (x : Reference) (n : ℕ) → IsFaultless x → bytes ≡ front ++ 0 ∷ rest → list_all (λ b. not (nat_eq b 0)) front ≡ true → bytes ≡ key_of x → IsCount rest n → n ≡ length x.subscripts
 depth_is bytes front rest x n is b free e counted =
     let has : HasReference front rest x = has_reference bytes front rest x is b free e in
     counted x.subscripts has.subscripts has.keys
 
-pub few_subscripts : (x : Reference) → IsReference x → length x.subscripts ≤ 31
+pub few_subscripts : (x : Reference) → IsFaultless x → length x.subscripts ≤ 31
 few_subscripts x is = ltb-false _ _ (not_over (nat_lt 31 (length x.subscripts)) _ is.subscripts).0
 
 -- what stands behind a reference is moved behind another
@@ -41,17 +41,17 @@ moved_depth a b x rest n k is e counted =
     omega (arith, e, more, length-append a.subscripts (drop (length b.subscripts) x.subscripts))
 
 -- subscripts within the limit, one list behind the other
-both_some : (xs ys : List (List ℕ)) → AreSubscripts short_form xs → AreSubscripts short_form ys → AreSubscripts short_form (xs ++ ys)
+both_some : (xs ys : List (List ℕ)) → AreSubscriptsWithin short_form xs → AreSubscriptsWithin short_form ys → AreSubscriptsWithin short_form (xs ++ ys)
 both_some [] ys p q = q
 both_some (x ∷ xs) ys p q = (p.0, both_some xs ys p.1 q)
 
-moved_form : (a b x : Reference) (rest : List ℕ) → IsReference a → Behind b x rest → nat_lt 31 (length (moved a b x).subscripts) ≡ false → IsReference (moved a b x)
+moved_form : (a b x : Reference) (rest : List ℕ) → IsFaultless a → Behind b x rest → nat_lt 31 (length (moved a b x).subscripts) ≡ false → IsFaultless (moved a b x)
 moved_form a b x rest form is few =
     let fits = fits_short a form in
-    let all : AreSubscripts short_form (a.subscripts ++ drop (length b.subscripts) x.subscripts) = both_some a.subscripts _ fits.subscripts (subst (AreSubscripts short_form) (sym (left_behind b x rest is)) is.bounds) in
+    let all : AreSubscriptsWithin short_form (a.subscripts ++ drop (length b.subscripts) x.subscripts) = both_some a.subscripts _ fits.subscripts (subst (AreSubscriptsWithin short_form) (sym (left_behind b x rest is)) is.bounds) in
     record { name = form.name; subscripts = rw few (no_fault _ all) }
 
-pub too_many : (a b x : Reference) (rest : List ℕ) (n k : ℕ) → IsReference b → IsReference x → key_of x ≡ key_of b ++ rest → n ≡ length a.subscripts → IsCount rest k → 31 < n + k → nat_lt 31 (length (moved a b x).subscripts) ≡ true
+pub too_many : (a b x : Reference) (rest : List ℕ) (n k : ℕ) → IsFaultless b → IsFaultless x → key_of x ≡ key_of b ++ rest → n ≡ length a.subscripts → IsCount rest k → 31 < n + k → nat_lt 31 (length (moved a b x).subscripts) ≡ true
 too_many a b x rest n k p q e d counted over =
     let depth : n + k ≡ length (moved a b x).subscripts = moved_depth a b x rest n k (behind b x rest p q e) d counted in
     let more : 31 < length (moved a b x).subscripts = subst (λ m. 31 < m) depth over in
@@ -63,13 +63,13 @@ pub record IsMoved (a b x : Reference) (bytes : List ℕ) : Type 0 where
   pub same : reference_of bytes ≡ moved a b x
   pub few : nat_lt 31 (length (reference_of bytes).subscripts) ≡ false
 
-pub is_moved : (a b x : Reference) (to rest bytes : List ℕ) (n k : ℕ) → IsReference a → IsReference b → IsReference x → key_of x ≡ key_of b ++ rest → to ≡ key_of a → bytes ≡ to ++ rest → n ≡ length a.subscripts → IsCount rest k → n + k ≤ 31 → IsMoved a b x bytes
+pub is_moved : (a b x : Reference) (to rest bytes : List ℕ) (n k : ℕ) → IsFaultless a → IsFaultless b → IsFaultless x → key_of x ≡ key_of b ++ rest → to ≡ key_of a → bytes ≡ to ++ rest → n ≡ length a.subscripts → IsCount rest k → n + k ≤ 31 → IsMoved a b x bytes
 is_moved a b x to rest bytes n k form p q e t joined d counted within =
     let is : Behind b x rest = behind b x rest p q e in
     let depth : n + k ≡ length (moved a b x).subscripts = moved_depth a b x rest n k is d counted in
     let less : length (moved a b x).subscripts ≤ 31 = subst (λ m. m ≤ 31) depth within in
     let few : nat_lt 31 (length (moved a b x).subscripts) ≡ false = grind (arith, nat_tests) in
-    let fits : IsReference (moved a b x) = moved_form a b x rest form is few in
+    let fits : IsFaultless (moved a b x) = moved_form a b x rest form is few in
     let key : bytes ≡ key_of (moved a b x) = joined ∙ ap (λ u. u ++ rest) t ∙ moved_key a b x rest is in
     let same : reference_of bytes ≡ moved a b x = reads_back bytes (moved a b x) fits key in
     record { keeps = kept bytes (moved a b x) fits key; same = same; few = ap (λ r. nat_lt 31 (length r.subscripts)) same ∙ few }

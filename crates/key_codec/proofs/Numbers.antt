@@ -6,11 +6,11 @@ use Rattle.std.specs.Prelude.{◌==◌, ◌&&◌}
 use Rattle.canonic_number.specs.Number.{is_canonic, scale}
 use Rattle.canonic_number.specs.Place.{digits_of}
 use Rattle.canonic_number.specs.PartsOf.{IsPartsOf}
-use Rattle.canonic_number.specs.ClassLaws.{IsNumber, Zero, Below, Above, class_of_text}
+use Rattle.canonic_number.specs.laws.Classes.{IsOfClass, Zero, Below, Above, class_of_text}
 use Rattle.canonic_number.specs.declared.place.NumberParts.{NumberParts}
-use Rattle.key_codec.specs.Key.{short_form, subscript_key, IsSubscript}
+use Rattle.key_codec.specs.Key.{short_form, subscript_key, IsSubscriptWithin}
 use Rattle.key_codec.specs.PartsKey.{parts_key}
-use Rattle.key_codec.specs.SubscriptLaws.{zero_key, key_below, key_above}
+use Rattle.key_codec.specs.laws.Subscripts.{zero_key, key_below, key_above}
 
 some_digits : (a b : List ℕ) → 0 < length (a ++ b) → ((length a == 0) && (length b == 0)) ≡ false
 some_digits [] [] h = absurd (omega arith)
@@ -22,7 +22,7 @@ no_digits [] [] e = refl
 no_digits [] (y ∷ b) e = cc
 no_digits (x ∷ a) b e = cc
 
-by_class : (s : List ℕ) (n : NumberParts) → is_canonic s ≡ true → IsPartsOf s n → IsNumber scale s → parts_key n ≡ subscript_key short_form s
+by_class : (s : List ℕ) (n : NumberParts) → is_canonic s ≡ true → IsPartsOf s n → IsOfClass scale s → parts_key n ≡ subscript_key short_form s
 by_class s n is of (Zero e) =
     let none = no_digits n.first.now n.second.now (of.digits ∙ ap digits_of e) in
     rw none (sym (zero_key short_form s e))
@@ -35,5 +35,5 @@ by_class s n is of (Above p z m) =
     let sign : n.negative ≡ false = of.sign ∙ m in
     rw (some, sign, of.digits, of.place scale) (sym (key_above short_form s is z m))
 
-pub parts_key_is : (s : List ℕ) (n : NumberParts) → is_canonic s ≡ true → IsSubscript short_form s → IsPartsOf s n → parts_key n ≡ subscript_key short_form s
+pub parts_key_is : (s : List ℕ) (n : NumberParts) → is_canonic s ≡ true → IsSubscriptWithin short_form s → IsPartsOf s n → parts_key n ≡ subscript_key short_form s
 parts_key_is s n is bounds of = by_class s n is of (class_of_text scale s is bounds.short)

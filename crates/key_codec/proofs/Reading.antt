@@ -13,19 +13,19 @@ use Rattle.std.specs.Cmp.Lexicographic.{slice_cmp, pointwise, bytes_decides}
 use Rattle.std.specs.Ordering.{nat_cmp}
 use Rattle.std.specs.FinMap.{nat_cmp-IsAntisymmetric, slice_cmp-IsAntisymmetric}
 use Rattle.canonic_number.specs.Number.{is_canonic, is_zero, is_negative, scale}
-use Rattle.canonic_number.specs.Place.{place_at, digits_of, written_at, pointed, signed}
-use Rattle.canonic_number.specs.DigitLaws.{head_digit, tail_digits}
-use Rattle.canonic_number.specs.CanonicLaws.{IsPlaced, is_zero_text}
-use Rattle.canonic_number.specs.ClassLaws.{IsNumber, Zero, Below, Above, class_of_text, AreTied, both_tied}
+use Rattle.canonic_number.specs.Place.{point_at, digits_of, written_at, pointed, signed}
+use Rattle.canonic_number.specs.laws.Digits.{head_digit, tail_digits}
+use Rattle.canonic_number.specs.laws.Canonic.{IsPlaced, is_zero_text}
+use Rattle.canonic_number.specs.laws.Classes.{IsOfClass, Zero, Below, Above, class_of_text, AreTied, both_tied}
 use Rattle.collation.specs.Reference.{Reference}
 use Rattle.collation.specs.Name.{is_name}
-use Rattle.collation.specs.OrderLaws.{subscript_cmp-IsAntisymmetric}
-use Rattle.key_codec.specs.Key.{IsReference, key_of, short_form, subscript_key, subscripts_key, below_key, above_key, text_key, escape, escaped, IsSubscript, AreSubscripts}
-use Rattle.key_codec.specs.KeyLaws.{short_form_is, has_tag, one_subscript, lists_cmp, FitsForm, fits_short, name_above}
-use Rattle.key_codec.specs.Reading.{BeginsWithNone, tag_of, place_byte, digit_byte, digit_of, end_of, IsNumberOf, IsNumberKey, IsOtherText}
-use Rattle.key_codec.specs.ByteLaws.{escape_cmp, by_byte}
-use Rattle.key_codec.specs.SubscriptLaws.{zero_key, key_below, key_above, key_text, tied_lists, tied_same}
-use Rattle.key_codec.specs.BackLaws.{digits_back, no_end, no_zero, escaped_free}
+use Rattle.collation.specs.laws.Order.{subscript_cmp-IsAntisymmetric}
+use Rattle.key_codec.specs.Key.{IsFaultless, key_of, short_form, subscript_key, subscripts_key, below_key, above_key, text_key, escape, escaped, IsSubscriptWithin, AreSubscriptsWithin}
+use Rattle.key_codec.specs.laws.Key.{short_form_is, has_tag, one_subscript, lists_cmp, FitsForm, fits_short, name_above}
+use Rattle.key_codec.specs.Reading.{BeginsWithNone, tag_of, place_byte, digit_byte, digit_of, number_end, IsNumberOf, IsNumberKey, IsOtherText}
+use Rattle.key_codec.specs.laws.Bytes.{escape_cmp, by_byte}
+use Rattle.key_codec.specs.laws.Subscripts.{zero_key, key_below, key_above, key_text, tied_lists, tied_same}
+use Rattle.key_codec.specs.laws.Back.{digits_back, no_end, no_zero, escaped_free}
 
 -- the first end byte parts the bytes in one way
 pub record AreSame (xs ys u v : List ℕ) : Type 0 where
@@ -69,7 +69,7 @@ number_not_zero s n place ds is =
       | false ↦ λ e. refl
     ] refl
 
-pub number_key_is : (s : List ℕ) (n : Bool) (place : ℕ) (ds : List ℕ) → IsNumberOf s n place ds → subscript_key short_form s ≡ tag_of n ∷ place_byte n place ∷ (map (digit_byte n) ds ++ end_of n ∷ [])
+pub number_key_is : (s : List ℕ) (n : Bool) (place : ℕ) (ds : List ℕ) → IsNumberOf s n place ds → subscript_key short_form s ≡ tag_of n ∷ place_byte n place ∷ (map (digit_byte n) ds ++ number_end n ∷ [])
 number_key_is s true place ds is =
     key_below short_form s is.canonic (number_not_zero s true place ds is) (sym is.sign)
     ∙ ap (λ p. 2 ∷ (2 * scale + 1 - p) ∷ (map (digit_byte true) (digits_of s) ++ 255 ∷ [])) (sym is.point) ∙ ap (λ t. 2 ∷ (2 * scale + 1 - place) ∷ (map (digit_byte true) t ++ 255 ∷ [])) (sym is.digits)
@@ -84,7 +84,7 @@ filled (c ∷ s) e = omega arith
 pub found_number : (n : Bool) (byte place : ℕ) (front ds s : List ℕ) → IsNumberOf s n place ds → place_byte n place ≡ byte → list_all (λ b. nat_le b 10) front ≡ true → ds ≡ map (digit_of n) front → IsNumberKey n byte front s
 found_number n byte place front ds s is p low d = (
   record { some = filled s is.canonic; short = is.short },
-  number_key_is s n place ds is ∙ (λ i. tag_of n ∷ p i ∷ ((ap (map (digit_byte n)) d ∙ bytes_back n front low) i ++ end_of n ∷ [])),
+  number_key_is s n place ds is ∙ (λ i. tag_of n ∷ p i ∷ ((ap (map (digit_byte n)) d ∙ bytes_back n front low) i ++ number_end n ∷ [])),
 )
 
 -- where a number's key stands in front, its parts
@@ -92,7 +92,7 @@ pub record HasNumber (n : Bool) (bytes s u : List ℕ) : Type 0 where
   pub canonic : is_canonic s ≡ true
   pub placed : IsPlaced scale s
   pub sign : is_negative s ≡ n
-  pub behind : bytes ≡ place_byte n (place_at scale s) ∷ (map (digit_byte n) (digits_of s) ++ end_of n ∷ u)
+  pub behind : bytes ≡ place_byte n (point_at scale s) ∷ (map (digit_byte n) (digits_of s) ++ number_end n ∷ u)
 
 -- a list has one first element
 pub tails : (a b : ℕ) (xs ys : List ℕ) → a ∷ xs ≡ b ∷ ys → xs ≡ ys
@@ -101,25 +101,25 @@ tails a b xs ys e = cc
 heads : (a b : ℕ) (xs ys : List ℕ) → a ∷ xs ≡ b ∷ ys → a ≡ b
 heads a b xs ys e = cc
 
-number_at : (n : Bool) (bytes s u : List ℕ) → is_canonic s ≡ true → IsNumber scale s → tag_of n ∷ bytes ≡ subscript_key short_form s ++ u → HasNumber n bytes s u
+number_at : (n : Bool) (bytes s u : List ℕ) → is_canonic s ≡ true → IsOfClass scale s → tag_of n ∷ bytes ≡ subscript_key short_form s ++ u → HasNumber n bytes s u
 number_at true bytes s u is (Zero e) h = let f : 2 ∷ bytes ≡ 3 ∷ u = h ∙ ap (λ t. t ++ u) (zero_key short_form s e) in cc
 number_at false bytes s u is (Zero e) h = let f : 4 ∷ bytes ≡ 3 ∷ u = h ∙ ap (λ t. t ++ u) (zero_key short_form s e) in cc
-number_at true bytes s u is (Above p z m) h = let f : 2 ∷ bytes ≡ above_key short_form (place_at scale s) (digits_of s) ++ u = h ∙ ap (λ t. t ++ u) (key_above short_form s is z m) in cc
-number_at false bytes s u is (Below p z m) h = let f : 4 ∷ bytes ≡ below_key short_form (place_at scale s) (digits_of s) ++ u = h ∙ ap (λ t. t ++ u) (key_below short_form s is z m) in cc
+number_at true bytes s u is (Above p z m) h = let f : 2 ∷ bytes ≡ above_key short_form (point_at scale s) (digits_of s) ++ u = h ∙ ap (λ t. t ++ u) (key_above short_form s is z m) in cc
+number_at false bytes s u is (Below p z m) h = let f : 4 ∷ bytes ≡ below_key short_form (point_at scale s) (digits_of s) ++ u = h ∙ ap (λ t. t ++ u) (key_below short_form s is z m) in cc
 number_at true bytes s u is (Below p z m) h = record {
   canonic = is;
   placed = p;
   sign = m;
-  behind = tails _ _ _ _ (h ∙ ap (λ t. t ++ u) (key_below short_form s is z m)) ∙ ap (λ t. (2 * scale + 1 - place_at scale s) ∷ t) (append_assoc (map (digit_byte true) (digits_of s)) (255 ∷ []) u);
+  behind = tails _ _ _ _ (h ∙ ap (λ t. t ++ u) (key_below short_form s is z m)) ∙ ap (λ t. (2 * scale + 1 - point_at scale s) ∷ t) (append_assoc (map (digit_byte true) (digits_of s)) (255 ∷ []) u);
 }
 number_at false bytes s u is (Above p z m) h = record {
   canonic = is;
   placed = p;
   sign = m;
-  behind = tails _ _ _ _ (h ∙ ap (λ t. t ++ u) (key_above short_form s is z m)) ∙ ap (λ t. (place_at scale s + 2) ∷ t) (append_assoc (map (digit_byte false) (digits_of s)) (0 ∷ []) u);
+  behind = tails _ _ _ _ (h ∙ ap (λ t. t ++ u) (key_above short_form s is z m)) ∙ ap (λ t. (point_at scale s + 2) ∷ t) (append_assoc (map (digit_byte false) (digits_of s)) (0 ∷ []) u);
 }
 
-pub has_number : (n : Bool) (bytes s u : List ℕ) → IsSubscript short_form s → tag_of n ∷ bytes ≡ subscript_key short_form s ++ u → HasNumber n bytes s u
+pub has_number : (n : Bool) (bytes s u : List ℕ) → IsSubscriptWithin short_form s → tag_of n ∷ bytes ≡ subscript_key short_form s ++ u → HasNumber n bytes s u
 has_number n bytes s u bounds h =
     elim (is_canonic s) as (λ t. is_canonic s ≡ t → HasNumber n bytes s u) [
       | true ↦ λ e. number_at n bytes s u e (class_of_text scale s e bounds.short) h
@@ -131,7 +131,7 @@ has_number n bytes s u bounds h =
     no_text false e = cc
 
 -- its place and digits are its own
-pub number_of_itself : (n : Bool) (bytes s u : List ℕ) → IsSubscript short_form s → HasNumber n bytes s u → IsNumberOf s n (place_at scale s) (digits_of s)
+pub number_of_itself : (n : Bool) (bytes s u : List ℕ) → IsSubscriptWithin short_form s → HasNumber n bytes s u → IsNumberOf s n (point_at scale s) (digits_of s)
 number_of_itself n bytes s u bounds has =
     let form = has.placed.form in
     record { canonic = has.canonic; short = bounds.short; some = form.some; sign = sym has.sign; point = refl; digits = refl }
@@ -143,42 +143,42 @@ one_place false p q h k e = omega arith
 
 -- the parts of a number's key
 pub record HasKeyParts (n : Bool) (byte : ℕ) (front s : List ℕ) : Type 0 where
-  pub number : HasNumber n (byte ∷ (front ++ end_of n ∷ [])) s []
-  pub point : byte ≡ place_byte n (place_at scale s)
+  pub number : HasNumber n (byte ∷ (front ++ number_end n ∷ [])) s []
+  pub point : byte ≡ place_byte n (point_at scale s)
   pub digits : front ≡ map (digit_byte n) (digits_of s)
-  pub above : 0 < place_at scale s
-  pub within : place_at scale s ≤ 2 * scale + 1
+  pub above : 0 < point_at scale s
+  pub within : point_at scale s ≤ 2 * scale + 1
 
-pub key_parts : (n : Bool) (byte : ℕ) (front s : List ℕ) → list_all (λ b. not (nat_eq b (end_of n))) front ≡ true → IsNumberKey n byte front s → HasKeyParts n byte front s
+pub key_parts : (n : Bool) (byte : ℕ) (front s : List ℕ) → list_all (λ b. not (nat_eq b (number_end n))) front ≡ true → IsNumberKey n byte front s → HasKeyParts n byte front s
 key_parts n byte front s free is =
-    let has : HasNumber n (byte ∷ (front ++ end_of n ∷ [])) s [] = has_number n (byte ∷ (front ++ end_of n ∷ [])) s [] is.0 (sym is.1 ∙ sym (append-nil (subscript_key short_form s))) in
+    let has : HasNumber n (byte ∷ (front ++ number_end n ∷ [])) s [] = has_number n (byte ∷ (front ++ number_end n ∷ [])) s [] is.0 (sym is.1 ∙ sym (append-nil (subscript_key short_form s))) in
     let form = has.placed.form in
     let bounds = is.0 in
-    let parted : AreSame front (map (digit_byte n) (digits_of s)) [] [] = one_split (end_of n) front (map (digit_byte n) (digits_of s)) [] [] free (no_end n (digits_of s) form.digits) (tails _ _ _ _ has.behind) in
+    let parted : AreSame front (map (digit_byte n) (digits_of s)) [] [] = one_split (number_end n) front (map (digit_byte n) (digits_of s)) [] [] free (no_end n (digits_of s) form.digits) (tails _ _ _ _ has.behind) in
     record { number = has; point = heads _ _ _ _ has.behind; digits = parted.front; above = omega (arith, form.some, form.within); within = omega (arith, has.placed.bound, bounds.short) }
 
 -- what is read of a number's key is that number
-pub read_back : (n : Bool) (byte place : ℕ) (front ds text s : List ℕ) → list_all (λ b. not (nat_eq b (end_of n))) front ≡ true → IsNumberKey n byte front s → place_byte n place ≡ byte → place ≤ 2 * scale + 1 → ds ≡ map (digit_of n) front → text ≡ signed n (written_at scale place ds) → IsNumberOf text n place ds
+pub read_back : (n : Bool) (byte place : ℕ) (front ds text s : List ℕ) → list_all (λ b. not (nat_eq b (number_end n))) front ≡ true → IsNumberKey n byte front s → place_byte n place ≡ byte → place ≤ 2 * scale + 1 → ds ≡ map (digit_of n) front → text ≡ signed n (written_at scale place ds) → IsNumberOf text n place ds
 read_back n byte place front ds text s free is p within d t =
     let has : HasKeyParts n byte front s = key_parts n byte front s free is in
-    let number : HasNumber n (byte ∷ (front ++ end_of n ∷ [])) s [] = has.number in
+    let number : HasNumber n (byte ∷ (front ++ number_end n ∷ [])) s [] = has.number in
     let form = number.placed.form in
-    let place_same : place ≡ place_at scale s = one_place n place (place_at scale s) within has.within (p ∙ has.point) in
+    let place_same : place ≡ point_at scale s = one_place n place (point_at scale s) within has.within (p ∙ has.point) in
     let digits_same : ds ≡ digits_of s = d ∙ ap (map (digit_of n)) has.digits ∙ digits_back n (digits_of s) form.digits in
-    let text_same : text ≡ s = t ∙ ap (λ q. signed n (written_at scale q ds)) place_same ∙ ap (λ x. signed n (written_at scale (place_at scale s) x)) digits_same ∙ ap (λ m. signed m (written_at scale (place_at scale s) (digits_of s))) (sym number.sign) ∙ sym number.placed.text in
-    let own : IsNumberOf s n (place_at scale s) (digits_of s) = number_of_itself n (byte ∷ (front ++ end_of n ∷ [])) s [] is.0 number in
-    subst (λ x. IsNumberOf x n place ds) (sym text_same) (subst (λ q. IsNumberOf s n q ds) (sym place_same) (subst (λ x. IsNumberOf s n (place_at scale s) x) (sym digits_same) own))
+    let text_same : text ≡ s = t ∙ ap (λ q. signed n (written_at scale q ds)) place_same ∙ ap (λ x. signed n (written_at scale (point_at scale s) x)) digits_same ∙ ap (λ m. signed m (written_at scale (point_at scale s) (digits_of s))) (sym number.sign) ∙ sym number.placed.text in
+    let own : IsNumberOf s n (point_at scale s) (digits_of s) = number_of_itself n (byte ∷ (front ++ number_end n ∷ [])) s [] is.0 number in
+    subst (λ x. IsNumberOf x n place ds) (sym text_same) (subst (λ q. IsNumberOf s n q ds) (sym place_same) (subst (λ x. IsNumberOf s n (point_at scale s) x) (sym digits_same) own))
 
-pub key_in_front : (n : Bool) (byte : ℕ) (bytes behind front rest s u : List ℕ) → IsSubscript short_form s → tag_of n ∷ bytes ≡ subscript_key short_form s ++ u → bytes ≡ byte ∷ behind → behind ≡ front ++ end_of n ∷ rest → list_all (λ b. not (nat_eq b (end_of n))) front ≡ true → IsNumberKey n byte front s
+pub key_in_front : (n : Bool) (byte : ℕ) (bytes behind front rest s u : List ℕ) → IsSubscriptWithin short_form s → tag_of n ∷ bytes ≡ subscript_key short_form s ++ u → bytes ≡ byte ∷ behind → behind ≡ front ++ number_end n ∷ rest → list_all (λ b. not (nat_eq b (number_end n))) front ≡ true → IsNumberKey n byte front s
 key_in_front n byte bytes behind front rest s u bounds h e b free =
     let has : HasNumber n bytes s u = has_number n bytes s u bounds h in
     let form = has.placed.form in
-    let both : byte ∷ (front ++ end_of n ∷ rest) ≡ place_byte n (place_at scale s) ∷ (map (digit_byte n) (digits_of s) ++ end_of n ∷ u) = (λ i. byte ∷ sym b i) ∙ sym e ∙ has.behind in
-    let parted : AreSame front (map (digit_byte n) (digits_of s)) rest u = one_split (end_of n) front (map (digit_byte n) (digits_of s)) rest u free (no_end n (digits_of s) form.digits) (tails _ _ _ _ both) in
-    let first : byte ≡ place_byte n (place_at scale s) = heads _ _ _ _ both in
-    (bounds, number_key_is s n (place_at scale s) (digits_of s) (number_of_itself n bytes s u bounds has) ∙ (λ i. tag_of n ∷ sym first i ∷ (sym parted.front i ++ end_of n ∷ [])))
+    let both : byte ∷ (front ++ number_end n ∷ rest) ≡ place_byte n (point_at scale s) ∷ (map (digit_byte n) (digits_of s) ++ number_end n ∷ u) = (λ i. byte ∷ sym b i) ∙ sym e ∙ has.behind in
+    let parted : AreSame front (map (digit_byte n) (digits_of s)) rest u = one_split (number_end n) front (map (digit_byte n) (digits_of s)) rest u free (no_end n (digits_of s) form.digits) (tails _ _ _ _ both) in
+    let first : byte ≡ place_byte n (point_at scale s) = heads _ _ _ _ both in
+    (bounds, number_key_is s n (point_at scale s) (digits_of s) (number_of_itself n bytes s u bounds has) ∙ (λ i. tag_of n ∷ sym first i ∷ (sym parted.front i ++ number_end n ∷ [])))
 
-pub has_end : (n : Bool) (byte : ℕ) (bytes behind s u : List ℕ) → IsSubscript short_form s → tag_of n ∷ bytes ≡ subscript_key short_form s ++ u → bytes ≡ byte ∷ behind → ((xs v : List ℕ) → behind ≡ xs ++ end_of n ∷ v → ⊥) → ⊥
+pub has_end : (n : Bool) (byte : ℕ) (bytes behind s u : List ℕ) → IsSubscriptWithin short_form s → tag_of n ∷ bytes ≡ subscript_key short_form s ++ u → bytes ≡ byte ∷ behind → ((xs v : List ℕ) → behind ≡ xs ++ number_end n ∷ v → ⊥) → ⊥
 has_end n byte bytes behind s u bounds h e none =
     let has : HasNumber n bytes s u = has_number n bytes s u bounds h in none (map (digit_byte n) (digits_of s)) u (tails _ _ _ _ (sym e ∙ has.behind))
 
@@ -285,12 +285,12 @@ pub record HasText (bytes s u : List ℕ) : Type 0 where
   pub other : is_canonic s ≡ false
   pub behind : bytes ≡ escaped s ++ 0 ∷ u
 
-no_number : (s : List ℕ) (bytes u : List ℕ) → is_canonic s ≡ true → IsNumber scale s → 5 ∷ bytes ≡ subscript_key short_form s ++ u → ⊥
+no_number : (s : List ℕ) (bytes u : List ℕ) → is_canonic s ≡ true → IsOfClass scale s → 5 ∷ bytes ≡ subscript_key short_form s ++ u → ⊥
 no_number s bytes u is (Zero e) h = let f : 5 ∷ bytes ≡ 3 ∷ u = h ∙ ap (λ t. t ++ u) (zero_key short_form s e) in cc
-no_number s bytes u is (Below p z m) h = let f : 5 ∷ bytes ≡ below_key short_form (place_at scale s) (digits_of s) ++ u = h ∙ ap (λ t. t ++ u) (key_below short_form s is z m) in cc
-no_number s bytes u is (Above p z m) h = let f : 5 ∷ bytes ≡ above_key short_form (place_at scale s) (digits_of s) ++ u = h ∙ ap (λ t. t ++ u) (key_above short_form s is z m) in cc
+no_number s bytes u is (Below p z m) h = let f : 5 ∷ bytes ≡ below_key short_form (point_at scale s) (digits_of s) ++ u = h ∙ ap (λ t. t ++ u) (key_below short_form s is z m) in cc
+no_number s bytes u is (Above p z m) h = let f : 5 ∷ bytes ≡ above_key short_form (point_at scale s) (digits_of s) ++ u = h ∙ ap (λ t. t ++ u) (key_above short_form s is z m) in cc
 
-pub has_text : (bytes s u : List ℕ) → IsSubscript short_form s → 5 ∷ bytes ≡ subscript_key short_form s ++ u → HasText bytes s u
+pub has_text : (bytes s u : List ℕ) → IsSubscriptWithin short_form s → 5 ∷ bytes ≡ subscript_key short_form s ++ u → HasText bytes s u
 has_text bytes s u bounds h =
     elim (is_canonic s) as (λ t. is_canonic s ≡ t → HasText bytes s u) [
       | true ↦ λ e. absurd (no_number s bytes u e (class_of_text scale s e bounds.short) h)
@@ -301,10 +301,10 @@ has_text bytes s u bounds h =
 pub record GoesOnAfter (found : List (List ℕ)) (rest : List ℕ) (ss : List (List ℕ)) : Type 0 where
   pub more : List (List ℕ)
   pub all : ss ≡ found ++ more
-  pub bounds : AreSubscripts short_form more
+  pub bounds : AreSubscriptsWithin short_form more
   pub left : rest ≡ subscripts_key short_form more
 
-pub left_after : (found : List (List ℕ)) (rest : List ℕ) (ss : List (List ℕ)) → AreSubscripts short_form found → AreSubscripts short_form ss → subscripts_key short_form found ++ rest ≡ subscripts_key short_form ss → GoesOnAfter found rest ss
+pub left_after : (found : List (List ℕ)) (rest : List ℕ) (ss : List (List ℕ)) → AreSubscriptsWithin short_form found → AreSubscriptsWithin short_form ss → subscripts_key short_form found ++ rest ≡ subscripts_key short_form ss → GoesOnAfter found rest ss
 left_after [] rest ss p q e = record { more = ss; all = refl; bounds = q; left = e }
 left_after (f ∷ found) rest [] p q e =
     let key = has_tag short_form f in
@@ -314,7 +314,7 @@ left_after (f ∷ found) rest (s ∷ ss) p q e =
     let on : GoesOnAfter found rest ss = left_after found rest ss p.1 q.1 one.1 in
     record { more = on.more; all = (λ i. sym one.0 i ∷ on.all i); bounds = on.bounds; left = on.left }
 
-pub are_more : (found : List (List ℕ)) (s : List ℕ) → AreSubscripts short_form found → IsSubscript short_form s → AreSubscripts short_form (found ++ s ∷ [])
+pub are_more : (found : List (List ℕ)) (s : List ℕ) → AreSubscriptsWithin short_form found → IsSubscriptWithin short_form s → AreSubscriptsWithin short_form (found ++ s ∷ [])
 are_more [] s a is = (is, tt)
 are_more (f ∷ found) s a is = (a.0, are_more found s a.1 is)
 
@@ -341,7 +341,7 @@ pub read_more : (text rest more bytes : List ℕ) (b : ℕ) → escaped text ++ 
 read_more text rest more bytes b i e = ap (λ t. t ++ more) (escaped-push text b) ∙ append_assoc (escaped text) (escape b) more ∙ ap (λ t. escaped text ++ t) (sym e) ∙ i
 
 -- the text of escaped bytes is the subscript whose key stands in front
-pub text_in_front : (bytes front rest s u : List ℕ) → IsSubscript short_form s → 5 ∷ bytes ≡ subscript_key short_form s ++ u → list_all (λ b. not (nat_eq b 0)) front ≡ true → bytes ≡ front ++ 0 ∷ rest → front ≡ escaped s
+pub text_in_front : (bytes front rest s u : List ℕ) → IsSubscriptWithin short_form s → 5 ∷ bytes ≡ subscript_key short_form s ++ u → list_all (λ b. not (nat_eq b 0)) front ≡ true → bytes ≡ front ++ 0 ∷ rest → front ≡ escaped s
 text_in_front bytes front rest s u bounds h free e =
     let has : HasText bytes s u = has_text bytes s u bounds h in
     let parted : AreSame front (escaped s) rest u = one_split 0 front (escaped s) rest u free (escaped_free s) (sym e ∙ has.behind) in
@@ -356,19 +356,19 @@ one_text s t e =
     at [] f g = sym (f ∙ append-nil s)
     at (b ∷ more) f g = absurd (some_escape b (escaped more) g)
 
-pub is_other : (bytes front rest text s u : List ℕ) → IsSubscript short_form s → 5 ∷ bytes ≡ subscript_key short_form s ++ u → list_all (λ b. not (nat_eq b 0)) front ≡ true → bytes ≡ front ++ 0 ∷ rest → escaped text ≡ front → IsOtherText text
+pub is_other : (bytes front rest text s u : List ℕ) → IsSubscriptWithin short_form s → 5 ∷ bytes ≡ subscript_key short_form s ++ u → list_all (λ b. not (nat_eq b 0)) front ≡ true → bytes ≡ front ++ 0 ∷ rest → escaped text ≡ front → IsOtherText text
 is_other bytes front rest text s u bounds h free e t =
     let same : s ≡ text = one_text s text (sym (text_in_front bytes front rest s u bounds h free e) ∙ sym t) in
     let has : HasText bytes s u = has_text bytes s u bounds h in
     subst IsOtherText same (record { bounds = bounds; other = has.other })
 
 -- a next subscript stands in what is left of the keys
-pub next_key : (found : List (List ℕ)) (rest bytes : List ℕ) (ss : List (List ℕ)) → AreSubscripts short_form found → bytes ≡ subscripts_key short_form found ++ rest → (length rest == 0) ≡ false → BeginsWithNone rest → AreSubscripts short_form ss → bytes ≡ subscripts_key short_form ss → ⊥
+pub next_key : (found : List (List ℕ)) (rest bytes : List ℕ) (ss : List (List ℕ)) → AreSubscriptsWithin short_form found → bytes ≡ subscripts_key short_form found ++ rest → (length rest == 0) ≡ false → BeginsWithNone rest → AreSubscriptsWithin short_form ss → bytes ≡ subscripts_key short_form ss → ⊥
 next_key found rest bytes ss a i full none b e =
     let on : GoesOnAfter found rest ss = left_after found rest ss a b (sym i ∙ e) in
     at on.more on.bounds on.left
   where
-    at : (more : List (List ℕ)) → AreSubscripts short_form more → rest ≡ subscripts_key short_form more → ⊥
+    at : (more : List (List ℕ)) → AreSubscriptsWithin short_form more → rest ≡ subscripts_key short_form more → ⊥
     at [] c f = let n : length rest ≡ 0 = ap length f in absurd (grind (arith, nat_tests))
     at (s ∷ more) c f = none s (subscripts_key short_form more) c.0 f
 
@@ -378,17 +378,17 @@ shorter rest more s e = let key = has_tag short_form s in omega (arith, ap lengt
 pub one_more : (found : List (List ℕ)) (rest more bytes s : List ℕ) → bytes ≡ subscripts_key short_form found ++ rest → rest ≡ subscript_key short_form s ++ more → bytes ≡ subscripts_key short_form (found ++ s ∷ []) ++ more
 one_more found rest more bytes s i e = i ∙ ap (λ t. subscripts_key short_form found ++ t) e ∙ sym (append_assoc (subscripts_key short_form found) (subscript_key short_form s) more) ∙ ap (λ t. t ++ more) (sym (keys-push found s))
 
-pub same_subscripts : (a b : List (List ℕ)) → AreSubscripts short_form a → AreSubscripts short_form b → subscripts_key short_form a ≡ subscripts_key short_form b → a ≡ b
+pub same_subscripts : (a b : List (List ℕ)) → AreSubscriptsWithin short_form a → AreSubscriptsWithin short_form b → subscripts_key short_form a ≡ subscripts_key short_form b → a ≡ b
 same_subscripts a b p q e = slice_cmp-IsAntisymmetric subscript_cmp-IsAntisymmetric a b (sym (lists_cmp short_form short_form_is a b p q) ∙ tied_same _ _ e)
 
 -- the name and the subscripts of a key
 pub record HasReference (front rest : List ℕ) (x : Reference) : Type 0 where
   pub name : front ≡ x.name
   pub is_name : is_name front ≡ true
-  pub subscripts : AreSubscripts short_form x.subscripts
+  pub subscripts : AreSubscriptsWithin short_form x.subscripts
   pub keys : rest ≡ subscripts_key short_form x.subscripts
 
-pub has_reference : (bytes front rest : List ℕ) (x : Reference) → IsReference x → bytes ≡ front ++ 0 ∷ rest → list_all (λ b. not (nat_eq b 0)) front ≡ true → bytes ≡ key_of x → HasReference front rest x
+pub has_reference : (bytes front rest : List ℕ) (x : Reference) → IsFaultless x → bytes ≡ front ++ 0 ∷ rest → list_all (λ b. not (nat_eq b 0)) front ≡ true → bytes ≡ key_of x → HasReference front rest x
 has_reference bytes front rest x is b free e =
     let fits : FitsForm short_form x = fits_short x is in
     let parted : AreSame front x.name rest (subscripts_key short_form x.subscripts) = one_split 0 front x.name rest (subscripts_key short_form x.subscripts) free (no_zero x.name (name_above x.name is.name)) (sym b ∙ e) in

@@ -1,10 +1,10 @@
 -- Key bytes read back as the reference. Source: docs/FORMATS.md, "Key bytes".
--- Read reference_of, then first_of tag by tag. Bytes that are no key also read as something, which means nothing. That each key reads back: specs/BackLaws.antt.
+-- Read reference_of, then first_subscript_of tag by tag. Bytes that are no key also read as something, which means nothing. That each key reads back: specs/laws/Back.antt.
 use Rattle.std.specs.Prelude.{ℕ, ◌+◌, ◌-◌, ◌*◌, ◌==◌, Bool, true, false, zero, suc, if◌then◌else◌, List, [], ◌∷◌, length, map}
 use Rattle.canonic_number.specs.Number.{scale}
 use Rattle.canonic_number.specs.Place.{written_at, signed}
 use Rattle.collation.specs.Reference.{Reference}
-use Rattle.key_codec.specs.Reading.{digit_of, end_of}
+use Rattle.key_codec.specs.Reading.{digit_of, number_end}
 
 -- what stands before the first end byte
 abbrev pub before_end : ℕ → List ℕ → List ℕ
@@ -27,8 +27,8 @@ abbrev pub place_from : Bool → ℕ → ℕ
 place_from negative byte = if negative then 2 * scale + 1 - byte else byte - 2
 
 -- the text of a number from its sign, the byte of its place and the bytes of its digits
-abbrev pub number_from : Bool → ℕ → List ℕ → List ℕ
-number_from negative byte bytes = signed negative (written_at scale (place_from negative byte) (map (digit_of negative) bytes))
+abbrev pub number_text_from : Bool → ℕ → List ℕ → List ℕ
+number_text_from negative byte bytes = signed negative (written_at scale (place_from negative byte) (map (digit_of negative) bytes))
 
 -- a subscript, and the bytes behind its key
 pub record FirstSubscript : Type 0 where
@@ -38,12 +38,12 @@ pub record FirstSubscript : Type 0 where
 -- a number from the bytes behind its first
 abbrev pub first_number : Bool → List ℕ → FirstSubscript
 first_number negative [] = record { subscript = []; rest = [] }
-first_number negative (byte ∷ bytes) = record { subscript = number_from negative byte (before_end (end_of negative) bytes); rest = behind_end (end_of negative) bytes }
+first_number negative (byte ∷ bytes) = record { subscript = number_text_from negative byte (before_end (number_end negative) bytes); rest = behind_end (number_end negative) bytes }
 
 -- the first subscript, by its first byte: 2 below zero, 3 zero, 4 above zero, 5 any other text
-abbrev pub first_of : List ℕ → FirstSubscript
-first_of [] = record { subscript = []; rest = [] }
-first_of (tag ∷ bytes) =
+abbrev pub first_subscript_of : List ℕ → FirstSubscript
+first_subscript_of [] = record { subscript = []; rest = [] }
+first_subscript_of (tag ∷ bytes) =
     if tag == 2 then first_number true bytes
     else (if tag == 3 then record { subscript = 48 ∷ []; rest = bytes }
     else (if tag == 4 then first_number false bytes else record { subscript = unescaped (before_end 0 bytes); rest = behind_end 0 bytes }))
@@ -52,7 +52,7 @@ first_of (tag ∷ bytes) =
 abbrev pub subscripts_up_to : ℕ → List ℕ → List (List ℕ)
 subscripts_up_to zero bytes = []
 subscripts_up_to (suc n) [] = []
-subscripts_up_to (suc n) (b ∷ bytes) = (first_of (b ∷ bytes)).subscript ∷ subscripts_up_to n (first_of (b ∷ bytes)).rest
+subscripts_up_to (suc n) (b ∷ bytes) = (first_subscript_of (b ∷ bytes)).subscript ∷ subscripts_up_to n (first_subscript_of (b ∷ bytes)).rest
 
 -- the name is what stands before the first 0, and the subscripts stand behind it, each in at least one byte
 unfoldable pub reference_of : List ℕ → Reference

@@ -6,11 +6,11 @@ use Rattle.std.specs.Cmp.Lexicographic.{slice_cmp}
 use Rattle.collation.specs.Reference.{Reference}
 use Rattle.collation.specs.Database.{IsUnder}
 use Rattle.collation.specs.Order.{ref_cmp}
-use Rattle.key_codec.specs.Key.{short_form, subscript_key, key_of, IsSubscript, IsReference}
+use Rattle.key_codec.specs.Key.{short_form, subscript_key, key_of, IsSubscriptWithin, IsFaultless}
 
 -- byte by byte, a beginning first
-abbrev pub IsBefore : List ℕ → List ℕ → Type 0
-IsBefore a b = slice_cmp nat_cmp a b ≡ Less
+abbrev pub BytesAreBefore : List ℕ → List ℕ → Type 0
+BytesAreBefore a b = slice_cmp nat_cmp a b ≡ Less
 
 -- the first isn't after the second
 abbrev pub IsUpTo : List ℕ → List ℕ → Type 0
@@ -22,28 +22,28 @@ Begins bytes front = (rest : List ℕ) × (bytes ≡ front ++ rest)
 
 -- a key stands to the keys of references as its reference to them
 abbrev pub KeepsOrder : Reference → List ℕ → Type 0
-KeepsOrder r key = (x : Reference) → IsReference x → slice_cmp nat_cmp key (key_of x) ≡ ref_cmp r x
+KeepsOrder r key = (x : Reference) → IsFaultless x → slice_cmp nat_cmp key (key_of x) ≡ ref_cmp r x
 
 -- the keys that begin with this one are those of what lies under the reference
 abbrev pub IsPrefixOf : Reference → List ℕ → Type 0
-IsPrefixOf r key = (x : Reference) → IsReference x → IsUnder r x ↔ Begins (key_of x) key
+IsPrefixOf r key = (x : Reference) → IsFaultless x → IsUnder r x ↔ Begins (key_of x) key
 
 -- from the one, and before the other, stand the keys of what lies under the reference, and no others
 abbrev pub AreBounds : Reference → List ℕ → List ℕ → Type 0
-AreBounds r low high = (x : Reference) → IsReference x → IsUnder r x ↔ (IsUpTo low (key_of x) × IsBefore (key_of x) high)
+AreBounds r low high = (x : Reference) → IsFaultless x → IsUnder r x ↔ (IsUpTo low (key_of x) × BytesAreBefore (key_of x) high)
 
 -- keys compare as references do
 abbrev pub KeysCompareAsReferences : Type 0
-KeysCompareAsReferences = (x y : Reference) → IsReference x → IsReference y → slice_cmp nat_cmp (key_of x) (key_of y) ≡ ref_cmp x y
+KeysCompareAsReferences = (x y : Reference) → IsFaultless x → IsFaultless y → slice_cmp nat_cmp (key_of x) (key_of y) ≡ ref_cmp x y
 
 -- a key is one reference's
 abbrev pub EqualKeysAreEqualReferences : Type 0
-EqualKeysAreEqualReferences = (x y : Reference) → IsReference x → IsReference y → key_of x ≡ key_of y → x ≡ y
+EqualKeysAreEqualReferences = (x y : Reference) → IsFaultless x → IsFaultless y → key_of x ≡ key_of y → x ≡ y
 
 -- the bytes of a subscript begin no other subscript's bytes
 abbrev pub NoSubscriptBeginsAnother : Type 0
-NoSubscriptBeginsAnother = (s t : List ℕ) → IsSubscript short_form s → IsSubscript short_form t → Begins (subscript_key short_form t) (subscript_key short_form s) → s ≡ t
+NoSubscriptBeginsAnother = (s t : List ℕ) → IsSubscriptWithin short_form s → IsSubscriptWithin short_form t → Begins (subscript_key short_form t) (subscript_key short_form s) → s ≡ t
 
 -- a key begins with another exactly where its reference lies under the other's
 abbrev pub KeysBeginAsReferences : Type 0
-KeysBeginAsReferences = (r x : Reference) → IsReference r → IsReference x → IsUnder r x ↔ Begins (key_of x) (key_of r)
+KeysBeginAsReferences = (r x : Reference) → IsFaultless r → IsFaultless x → IsUnder r x ↔ Begins (key_of x) (key_of r)

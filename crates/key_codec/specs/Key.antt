@@ -2,7 +2,7 @@
 -- Read key_of, then key_in and subscript_key, tag by tag: 2 below zero, 3 zero, 4 above zero, 5 any other text.
 use Rattle.std.specs.Prelude.{◌≡◌, ℕ, ◌+◌, ◌-◌, ◌*◌, ◌<◌, ◌≤◌, ◌==◌, if◌then◌else◌, true, None, List, [], ◌∷◌, ◌++◌, length, map}
 use Rattle.canonic_number.specs.Number.{is_canonic, is_zero, is_negative, scale}
-use Rattle.canonic_number.specs.Place.{place_at, digits_of}
+use Rattle.canonic_number.specs.Place.{point_at, digits_of}
 use Rattle.collation.specs.Reference.{Reference}
 use Rattle.collation.specs.Name.{is_name}
 use Rattle.collation.specs.Faults.{reference_fault}
@@ -36,7 +36,7 @@ above_key form place ds = 4 ∷ (form.place_bytes (place + 2) ++ rising ds)
 abbrev pub number_key : KeyForm → List ℕ → List ℕ
 number_key form s =
     if is_zero s then 3 ∷ []
-    else (if is_negative s then below_key form (place_at form.fraction s) (digits_of s) else above_key form (place_at form.fraction s) (digits_of s))
+    else (if is_negative s then below_key form (point_at form.fraction s) (digits_of s) else above_key form (point_at form.fraction s) (digits_of s))
 
 -- a byte of a text, never 0, so that 0 can end the text
 abbrev pub escape : ℕ → List ℕ
@@ -64,16 +64,16 @@ abbrev pub key_of : Reference → List ℕ
 key_of r = key_in short_form r
 
 -- a subscript within a form's limit
-pub record IsSubscript (form : KeyForm) (s : List ℕ) : Type 0 where
+pub record IsSubscriptWithin (form : KeyForm) (s : List ℕ) : Type 0 where
   pub some : 0 < length s
   pub short : length s ≤ form.fraction + 1
 
 -- subscripts within a form's limit
-abbrev pub AreSubscripts : KeyForm → List (List ℕ) → Type 0
-AreSubscripts form [] = Unit {0}
-AreSubscripts form (s ∷ ss) = IsSubscript form s × AreSubscripts form ss
+abbrev pub AreSubscriptsWithin : KeyForm → List (List ℕ) → Type 0
+AreSubscriptsWithin form [] = Unit {0}
+AreSubscriptsWithin form (s ∷ ss) = IsSubscriptWithin form s × AreSubscriptsWithin form ss
 
 -- what a `Ref` keeps
-pub record IsReference (r : Reference) : Type 0 where
+pub record IsFaultless (r : Reference) : Type 0 where
   pub name : is_name r.name ≡ true
   pub subscripts : reference_fault r.subscripts ≡ None

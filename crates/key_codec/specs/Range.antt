@@ -9,10 +9,10 @@ pub record Range : Type 0 where
   pub high : Option (List ℕ)
 
 -- the bytes lie before this bound, or there is none
-abbrev pub is_before : List ℕ → Option (List ℕ) → Bool
-is_before bytes None = true
-is_before bytes (Some high) = is_lt (slice_cmp nat_cmp bytes high)
+abbrev pub is_below_bound : List ℕ → Option (List ℕ) → Bool
+is_below_bound bytes None = true
+is_below_bound bytes (Some high) = is_lt (slice_cmp nat_cmp bytes high)
 
 -- from the least key on, and before the first beyond
 abbrev pub is_within : Range → List ℕ → Bool
-is_within range bytes = not (is_lt (slice_cmp nat_cmp bytes range.low)) && is_before bytes range.high
+is_within range bytes = not (is_lt (slice_cmp nat_cmp bytes range.low)) && is_below_bound bytes range.high

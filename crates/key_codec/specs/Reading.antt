@@ -1,16 +1,16 @@
 -- What reading a key finds: the one subscript whose key stands in front, by its parts.
 use Rattle.std.specs.Prelude.{◌≡◌, ℕ, ◌+◌, ◌-◌, ◌*◌, ◌<◌, ◌≤◌, Bool, true, false, if◌then◌else◌, List, [], ◌∷◌, ◌++◌, length}
 use Rattle.canonic_number.specs.Number.{is_canonic, is_negative, scale, limit}
-use Rattle.canonic_number.specs.Place.{place_at, digits_of}
-use Rattle.key_codec.specs.Key.{short_form, subscript_key, IsSubscript}
+use Rattle.canonic_number.specs.Place.{point_at, digits_of}
+use Rattle.key_codec.specs.Key.{short_form, subscript_key, IsSubscriptWithin}
 
 -- the bytes are the key of this subscript, and then the rest
 abbrev pub BeginsWith : List ℕ → List ℕ → List ℕ → Type 0
-BeginsWith bytes s rest = IsSubscript short_form s × (bytes ≡ subscript_key short_form s ++ rest)
+BeginsWith bytes s rest = IsSubscriptWithin short_form s × (bytes ≡ subscript_key short_form s ++ rest)
 
 -- no subscript's key stands in front
 abbrev pub BeginsWithNone : List ℕ → Type 0
-BeginsWithNone bytes = (s u : List ℕ) → IsSubscript short_form s → bytes ≡ subscript_key short_form s ++ u → ⊥
+BeginsWithNone bytes = (s u : List ℕ) → IsSubscriptWithin short_form s → bytes ≡ subscript_key short_form s ++ u → ⊥
 
 -- the first byte, the byte of a place, the byte of a digit, and the last, below zero and above it
 abbrev pub tag_of : Bool → ℕ
@@ -22,8 +22,8 @@ place_byte negative place = if negative then 2 * scale + 1 - place else place + 
 abbrev pub digit_byte : Bool → ℕ → ℕ
 digit_byte negative d = if negative then 58 - d else d - 47
 
-abbrev pub end_of : Bool → ℕ
-end_of negative = if negative then 255 else 0
+abbrev pub number_end : Bool → ℕ
+number_end negative = if negative then 255 else 0
 
 -- the digit of a byte up to 10
 abbrev pub digit_of : Bool → ℕ → ℕ
@@ -35,14 +35,14 @@ pub record IsNumberOf (text : List ℕ) (negative : Bool) (place : ℕ) (ds : Li
   pub short : length text ≤ limit
   pub some : 0 < length ds
   pub sign : negative ≡ is_negative text
-  pub point : place ≡ place_at scale text
+  pub point : place ≡ point_at scale text
   pub digits : ds ≡ digits_of text
 
 -- a subscript whose key is this first byte, this byte of its place, these bytes of its digits, and their end
 abbrev pub IsNumberKey : Bool → ℕ → List ℕ → List ℕ → Type 0
-IsNumberKey negative byte front s = IsSubscript short_form s × (subscript_key short_form s ≡ tag_of negative ∷ byte ∷ (front ++ end_of negative ∷ []))
+IsNumberKey negative byte front s = IsSubscriptWithin short_form s × (subscript_key short_form s ≡ tag_of negative ∷ byte ∷ (front ++ number_end negative ∷ []))
 
 -- a subscript that is no canonic number
 pub record IsOtherText (s : List ℕ) : Type 0 where
-  pub bounds : IsSubscript short_form s
+  pub bounds : IsSubscriptWithin short_form s
   pub other : is_canonic s ≡ false

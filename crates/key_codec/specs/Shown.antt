@@ -1,15 +1,15 @@
 -- A subscript as the parts of its key show it. Read shown_text.
 use Rattle.std.specs.Prelude.{◌≡◌, ℕ, Bool, true, false, List, [], ◌∷◌, ◌++◌, Option, None, Some}
 use Rattle.canonic_number.specs.Number.{is_canonic}
-use Rattle.key_codec.specs.Key.{short_form, subscript_key, subscripts_key, IsSubscript, AreSubscripts}
-use Rattle.key_codec.specs.Back.{unescaped, number_from}
+use Rattle.key_codec.specs.Key.{short_form, subscript_key, subscripts_key, IsSubscriptWithin, AreSubscriptsWithin}
+use Rattle.key_codec.specs.Back.{unescaped, number_text_from}
 use Rattle.key_codec.specs.declared.shown.Shown.{Shown}
 use Rattle.key_codec.specs.declared.shown.Shown.TheVariants.{Zero, Number, Other}
 
 -- the subscript
 abbrev pub shown_text : Shown → List ℕ
 shown_text Zero = 48 ∷ []
-shown_text (Number negative byte digits) = number_from negative byte digits.now
+shown_text (Number negative byte digits) = number_text_from negative byte digits.now
 shown_text (Other bytes) = unescaped bytes.now
 
 abbrev pub shows_number : Shown → Bool
@@ -25,13 +25,13 @@ pub record IsShown (shown : Shown) : Type 0 where
 pub record HasFirst (bytes : List ℕ) : Type 0 where
   pub subscript : List ℕ
   pub rest : List ℕ
-  pub form : IsSubscript short_form subscript
+  pub form : IsSubscriptWithin short_form subscript
   pub key : bytes ≡ subscript_key short_form subscript ++ rest
 
 -- the keys of some subscripts, one behind the other
 pub record AreKeys (bytes : List ℕ) : Type 0 where
   pub subscripts : List (List ℕ)
-  pub form : AreSubscripts short_form subscripts
+  pub form : AreSubscriptsWithin short_form subscripts
   pub keys : bytes ≡ subscripts_key short_form subscripts
 
 -- the first of these

@@ -2,7 +2,7 @@
 ghost use Rattle.std.specs.Prelude.{◌≡◌, ◌<◌, ◌≤◌, ◌++◌, ◌∷◌, ℕ, List, IfSome, MatchOption, length, nat_eq, not, true};
 ghost use Rattle.std.specs.List.{list_all};
 ghost use Rattle.key_codec.specs.Key as spec;
-ghost use Rattle.key_codec.specs.Key.{short_form, IsSubscript, AreSubscripts};
+ghost use Rattle.key_codec.specs.Key.{short_form, IsSubscriptWithin, AreSubscriptsWithin};
 ghost use Rattle.key_codec.specs.Reading as reading;
 
 use crate::read::split_at_end;
@@ -11,7 +11,7 @@ use crate::{ABOVE_ZERO, BELOW_ZERO, END, TEXT, ZERO};
 
 // How many subscripts these keys are, one behind the other.
 pub(crate) fn count_subscripts(bytes: &[u8]) -> usize
-    ensures count { (ss : List (List ℕ)) → AreSubscripts short_form ss → bytes.now ≡ spec.subscripts_key short_form ss → result ≡ length ss }
+    ensures count { (ss : List (List ℕ)) → AreSubscriptsWithin short_form ss → bytes.now ≡ spec.subscripts_key short_form ss → result ≡ length ss }
     ensures few { result ≤ length bytes.now }
 {
     let mut count = 0;
@@ -25,7 +25,7 @@ pub(crate) fn count_subscripts(bytes: &[u8]) -> usize
 
 // What follows the subscript whose key stands in front.
 fn skip_subscript(bytes: &[u8]) -> Option<&[u8]>
-    ensures behind { (s u : List ℕ) → IsSubscript short_form s → bytes.now ≡ spec.subscript_key short_form s ++ u → MatchOption result ⊥ (λ rest. rest.now ≡ u) }
+    ensures behind { (s u : List ℕ) → IsSubscriptWithin short_form s → bytes.now ≡ spec.subscript_key short_form s ++ u → MatchOption result ⊥ (λ rest. rest.now ≡ u) }
     ensures shorter { IfSome result (λ rest. length rest.now < length bytes.now) }
 {
     let (tag, behind) = take_byte(bytes)?;
@@ -40,7 +40,7 @@ fn skip_subscript(bytes: &[u8]) -> Option<&[u8]>
 
 // What follows the number whose key stands in front, less its first byte.
 fn skip_number(negative: bool, bytes: &[u8]) -> Option<&[u8]>
-    ensures behind { (s u : List ℕ) → IsSubscript short_form s → reading.tag_of negative ∷ bytes.now ≡ spec.subscript_key short_form s ++ u → MatchOption result ⊥ (λ rest. rest.now ≡ u) }
+    ensures behind { (s u : List ℕ) → IsSubscriptWithin short_form s → reading.tag_of negative ∷ bytes.now ≡ spec.subscript_key short_form s ++ u → MatchOption result ⊥ (λ rest. rest.now ≡ u) }
     ensures shorter { IfSome result (λ rest. length rest.now ≤ length bytes.now) }
 {
     let (_, digits) = take_byte(bytes)?;

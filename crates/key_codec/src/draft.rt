@@ -4,7 +4,7 @@ ghost use Rattle.std.specs.Option.{option_or};
 ghost use Rattle.collation.specs.Limits.{most_subscripts};
 ghost use Rattle.collation.specs.Reference.{Reference};
 ghost use Rattle.key_codec.specs.Key as spec;
-ghost use Rattle.key_codec.specs.Key.{short_form, IsSubscript};
+ghost use Rattle.key_codec.specs.Key.{short_form, IsSubscriptWithin};
 ghost use Rattle.key_codec.specs.Draft.{IsDraft, IsSpelled, IsJudged, IsDueOrMemory, longer, place_due, place_of, reference_due, open_fault};
 
 use crate::write::push_judged;
@@ -84,7 +84,7 @@ impl KeyDraft {
 
     // Adds a subscript's key, where nothing is at fault.
     fn add(&mut self, subscript: &[u8], number: Option<NumberParts<'_>>) -> Result<(), AllocError>
-        requires form { IsSubscript short_form subscript.now }
+        requires form { IsSubscriptWithin short_form subscript.now }
         requires judged { IsJudged subscript.now number }
         ensures bytes { OnOk result (self.old.is_name ≡ true → self.old.count ≤ most_subscripts → self.old.fault ≡ None → self.new.bytes.items ≡ self.old.bytes.items ++ spec.subscript_key short_form subscript.now) }
         ensures fault { self.new.fault ≡ self.old.fault }

@@ -6,11 +6,11 @@ ghost use Rattle.collation.specs.Faults.{reference_fault};
 ghost use Rattle.collation.specs.Name.{is_name};
 ghost use Rattle.collation.specs.Database.{is_under as is_under_spec};
 ghost use Rattle.collation.specs.Answers.{moved as moved_spec};
-ghost use Rattle.collation.specs.Levels.{child_of, front as front_spec};
+ghost use Rattle.collation.specs.Levels.{child_of, without_last as front_spec};
 ghost use Rattle.key_codec.specs.Back.{reference_of};
 ghost use Rattle.key_codec.specs.Kept.{Keeps};
 ghost use Rattle.key_codec.specs.Key as spec;
-ghost use Rattle.key_codec.specs.Key.{IsReference};
+ghost use Rattle.key_codec.specs.Key.{IsFaultless};
 
 use crate::END;
 use crate::bytes::KeyBytes;
@@ -74,7 +74,7 @@ impl Key {
 
     /// The key one level below this one, by this subscript.
     pub fn below(&self, alloc: Global, subscript: &Text) -> Result<Key, AllocError>
-        requires { IsReference (record { name = self.now.name; subscripts = self.now.subscripts ++ subscript.now ∷ [] }) }
+        requires { IsFaultless (record { name = self.now.name; subscripts = self.now.subscripts ++ subscript.now ∷ [] }) }
         ensures { IfOk result (λ key. key ≡ record { name = self.now.name; subscripts = self.now.subscripts ++ subscript.now ∷ [] }) }
     {
         let mut bytes = Vec::new(alloc);
@@ -88,7 +88,7 @@ impl Key {
     /// Its bytes: the key of the reference, as `encode` writes it.
     pub fn as_slice(&self) -> &[u8]
         ensures value { result.now ≡ spec.key_of self.now }
-        ensures form { IsReference self.now }
+        ensures form { IsFaultless self.now }
     {
         self.bytes.as_slice()
     }
@@ -128,8 +128,8 @@ impl Key {
     fn behind(&self, root: &Key) -> Option<&[u8]>
         ensures some { IfSome result (λ rest. spec.key_of self.now ≡ spec.key_of root.now ++ rest.now) }
         ensures none { IfNone result ((rest : List ℕ) → spec.key_of self.now ≢ spec.key_of root.now ++ rest) }
-        ensures form { IsReference self.now }
-        ensures root_form { IsReference root.now }
+        ensures form { IsFaultless self.now }
+        ensures root_form { IsFaultless root.now }
     {
         self.as_slice().strip_prefix(root.as_slice())
     }
@@ -196,7 +196,7 @@ impl Clone for Key {
 
 impl PartialEq for Key {
     ghost use Rattle.collation.specs.Order.{ref_eq};
-    ghost use Rattle.collation.specs.OrderLaws.{ref_eq_laws};
+    ghost use Rattle.collation.specs.laws.Order.{ref_eq_laws};
     ghost use Rattle.std.specs.Cmp.{partial_equiv_from_equiv};
 
     ghost eq = { ref_eq };
@@ -209,7 +209,7 @@ impl PartialEq for Key {
 }
 
 impl Eq for Key {
-    ghost use Rattle.collation.specs.OrderLaws.{ref_eq_laws};
+    ghost use Rattle.collation.specs.laws.Order.{ref_eq_laws};
 
     ghost laws = { ref_eq_laws };
 }
@@ -217,7 +217,7 @@ impl Eq for Key {
 impl Ord for Key {
     ghost use Rattle.std.specs.Prelude.{refl};
     ghost use Rattle.collation.specs.Order.{ref_cmp};
-    ghost use Rattle.collation.specs.OrderLaws.{ref_cmp_total, ref_ties};
+    ghost use Rattle.collation.specs.laws.Order.{ref_cmp_total, ref_ties};
 
     ghost cmp = { ref_cmp };
 
@@ -237,7 +237,7 @@ impl PartialOrd for Key {
     ghost use Rattle.std.specs.Ordering.{as_partial_cmp};
     ghost use Rattle.std.specs.Cmp.{partial_order_from_agreeing_total};
     ghost use Rattle.collation.specs.Order.{ref_cmp};
-    ghost use Rattle.collation.specs.OrderLaws.{ref_cmp_total, ref_ties};
+    ghost use Rattle.collation.specs.laws.Order.{ref_cmp_total, ref_ties};
 
     ghost partial_cmp = { as_partial_cmp ref_cmp };
 

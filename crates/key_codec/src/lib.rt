@@ -16,8 +16,8 @@
 //! Read `specs/Key.antt`, `specs/Back.antt` and `specs/Bounds.antt`, then `write.rt`, `read.rt`, `key.rt`, `order.rt`,
 //! `bounds.rt`, `range.rt`. The laws of order, beginnings and bounds hold over any limit of subscripts and any width
 //! of a point's place (`KeyForm`, `specs/Form.antt`); the form in use, which alone is read back, has subscripts of at
-//! most 127 bytes and a place of one byte. Lemmas for the crates above: `specs/KeyLaws.antt`, `specs/BackLaws.antt`,
-//! `specs/BoundLaws.antt`, `specs/RangeLaws.antt`.
+//! most 127 bytes and a place of one byte. Lemmas for the crates above: `specs/laws/Key.antt`, `specs/laws/Back.antt`,
+//! `specs/laws/Bounds.antt`, `specs/laws/Range.antt`.
 #![tactic(auto)]
 
 pub use bounds::{sibling_after, sibling_before, subtree_prefix};

@@ -2,7 +2,7 @@
 ghost use Rattle.std.specs.Prelude.{◌≡◌, IfOk, IfSome, MatchResult, false, true};
 ghost use Rattle.collation.specs.Levels.{below, child_of, parent_of};
 ghost use Rattle.key_codec.specs.Key as spec;
-ghost use Rattle.key_codec.specs.Key.{IsReference};
+ghost use Rattle.key_codec.specs.Key.{IsFaultless};
 
 use crate::read::split_at_end;
 use crate::shown::{first_child, last_key};
@@ -29,7 +29,7 @@ impl Model for Place {
 
 impl PartialEq for Place {
     ghost use Rattle.collation.specs.Order.{spot_eq};
-    ghost use Rattle.collation.specs.OrderLaws.{spot_eq_laws};
+    ghost use Rattle.collation.specs.laws.Order.{spot_eq_laws};
     ghost use Rattle.std.specs.Cmp.{partial_equiv_from_equiv};
 
     ghost eq = { spot_eq };
@@ -42,7 +42,7 @@ impl PartialEq for Place {
 }
 
 impl Eq for Place {
-    ghost use Rattle.collation.specs.OrderLaws.{spot_eq_laws};
+    ghost use Rattle.collation.specs.laws.Order.{spot_eq_laws};
 
     ghost laws = { spot_eq_laws };
 }
@@ -85,7 +85,7 @@ impl Place {
     // The key bytes of the level of the last subscript: one level up, or where it is open the reference itself.
     fn level(&self) -> &[u8]
         ensures value { result.now ≡ spec.key_of (parent_of self.now) }
-        ensures form { IsReference (parent_of self.now) }
+        ensures form { IsFaultless (parent_of self.now) }
     {
         let bytes = self.key.as_slice();
         if self.is_open {
@@ -108,7 +108,7 @@ impl Place {
     /// The subscript at the level of the place's last one on the way to this key; none where it isn't below that level.
     pub fn child_toward(&self, alloc: Global, key: &Key) -> Result<Option<Text>, AllocError>
         ensures child { IfOk result (λ child. child ≡ child_of (parent_of self.now) key.now) }
-        ensures fits { IfOk result (λ child. IfSome child (λ s. IsReference (below (parent_of self.now) s))) }
+        ensures fits { IfOk result (λ child. IfSome child (λ s. IsFaultless (below (parent_of self.now) s))) }
     {
         match key.as_slice().strip_prefix(self.level()) {
             Some(rest) => first_child(alloc, rest),

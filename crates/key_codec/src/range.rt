@@ -3,7 +3,7 @@ ghost use Rattle.std.specs.Prelude.{◌≡◌, ◌↔◌, ◌∷◌, ◌++◌, [
 ghost use Rattle.std.specs.Option.{option_map};
 ghost use Rattle.collation.specs.Reference.{Reference};
 ghost use Rattle.collation.specs.Database.{IsUnder};
-ghost use Rattle.key_codec.specs.Key.{key_of, IsReference};
+ghost use Rattle.key_codec.specs.Key.{key_of, IsFaultless};
 ghost use Rattle.key_codec.specs.Range as spec;
 
 use crate::bounds::{sibling_after, sibling_before};
@@ -44,7 +44,7 @@ impl KeyRange {
     /// Refusals: `OutOfMemory`.
     pub fn under(alloc: Global, reference: &Ref) -> Result<KeyRange, Refusal>
         ensures bounds { IfOk result (λ range. (range.low ≡ key_of reference.now) × (range.high ≡ Some (key_of reference.now ++ 6 ∷ []))) }
-        ensures members { IfOk result (λ range. (x : Reference) → IsReference x → IsUnder reference.now x ↔ (spec.is_within range (key_of x) ≡ true)) }
+        ensures members { IfOk result (λ range. (x : Reference) → IsFaultless x → IsUnder reference.now x ↔ (spec.is_within range (key_of x) ≡ true)) }
         ensures refused { IfErr result (λ refusal. refusal ≡ Refusal.OutOfMemory) }
     {
         let low = sibling_before(alloc, reference)?;
@@ -77,7 +77,7 @@ impl KeyRange {
     }
 
     fn is_before_high(&self, key: &[u8]) -> bool
-        ensures { result ≡ spec.is_before key.now self.now.high }
+        ensures { result ≡ spec.is_below_bound key.now self.now.high }
     {
         match self.high() {
             Some(high) => key.cmp(&high).is_lt(),

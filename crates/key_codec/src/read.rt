@@ -3,7 +3,7 @@ ghost use Rattle.std.specs.Prelude.{◌≡◌, ◌++◌, ◌∷◌, IfErr, IfNon
 ghost use Rattle.std.specs.List.{list_all, position};
 ghost use Rattle.collation.specs.Reference.{Reference};
 ghost use Rattle.key_codec.specs.Key as spec;
-ghost use Rattle.key_codec.specs.Key.{short_form, IsReference, IsSubscript, AreSubscripts};
+ghost use Rattle.key_codec.specs.Key.{short_form, IsFaultless, IsSubscriptWithin, AreSubscriptsWithin};
 
 use crate::END;
 use crate::read_subscript::read_subscript;
@@ -18,8 +18,8 @@ use std::alloc::{AllocError, Global};
 /// Refusals: `OutOfMemory`.
 pub fn decode(alloc: Global, bytes: &[u8]) -> Result<Option<Ref>, Refusal>
     ensures some { IfOk result (λ found. IfSome found (λ r. spec.key_of r ≡ bytes.now)) }
-    ensures form { IfOk result (λ found. IfSome found IsReference) }
-    ensures none { IfOk result (λ found. IfNone found ((x : Reference) → IsReference x → bytes.now ≡ spec.key_of x → ⊥)) }
+    ensures form { IfOk result (λ found. IfSome found IsFaultless) }
+    ensures none { IfOk result (λ found. IfNone found ((x : Reference) → IsFaultless x → bytes.now ≡ spec.key_of x → ⊥)) }
     ensures refused { IfErr result (λ refusal. refusal ≡ Refusal.OutOfMemory) }
 {
     let found = read_reference(alloc, bytes)?;
@@ -29,8 +29,8 @@ pub fn decode(alloc: Global, bytes: &[u8]) -> Result<Option<Ref>, Refusal>
 // The reference with these key bytes, where there is one.
 pub(crate) fn read_reference(alloc: Global, bytes: &[u8]) -> Result<Option<Ref>, AllocError>
     ensures some { IfOk result (λ found. IfSome found (λ r. spec.key_of r ≡ bytes.now)) }
-    ensures form { IfOk result (λ found. IfSome found IsReference) }
-    ensures none { IfOk result (λ found. IfNone found ((x : Reference) → IsReference x → bytes.now ≡ spec.key_of x → ⊥)) }
+    ensures form { IfOk result (λ found. IfSome found IsFaultless) }
+    ensures none { IfOk result (λ found. IfNone found ((x : Reference) → IsFaultless x → bytes.now ≡ spec.key_of x → ⊥)) }
 {
     let Some((front, rest)) = split_at_end(bytes, END) else {
         return Ok(None);
@@ -66,8 +66,8 @@ pub(crate) fn split_at_end(bytes: &[u8], end: u8) -> Option<(&[u8], &[u8])>
 }
 
 fn read_subscripts(alloc: Global, bytes: &[u8]) -> Result<Option<Subscripts>, AllocError>
-    ensures some { IfOk result (λ found. IfSome found (λ ss. AreSubscripts short_form ss.items × (bytes.now ≡ spec.subscripts_key short_form ss.items))) }
-    ensures none { IfOk result (λ found. IfNone found ((ss : List (List ℕ)) → AreSubscripts short_form ss → bytes.now ≡ spec.subscripts_key short_form ss → ⊥)) }
+    ensures some { IfOk result (λ found. IfSome found (λ ss. AreSubscriptsWithin short_form ss.items × (bytes.now ≡ spec.subscripts_key short_form ss.items))) }
+    ensures none { IfOk result (λ found. IfNone found ((ss : List (List ℕ)) → AreSubscriptsWithin short_form ss → bytes.now ≡ spec.subscripts_key short_form ss → ⊥)) }
 {
     let mut found = SmallVec::new(alloc);
     let mut rest = bytes;

@@ -38,7 +38,7 @@ pub(crate) fn read_subscript(
 }
 
 pub(crate) fn end_of(negative: bool) -> u8
-    ensures { result ≡ reading.end_of negative }
+    ensures { result ≡ reading.number_end negative }
 {
     if negative {
         END_BELOW_ZERO
@@ -106,7 +106,7 @@ fn number_of(
     byte: u8,
     front: &[u8],
 ) -> Result<Option<Text>, AllocError>
-    requires { list_all (λ b. not (nat_eq b (reading.end_of negative))) front.now ≡ true }
+    requires { list_all (λ b. not (nat_eq b (reading.number_end negative))) front.now ≡ true }
     ensures some { IfOk result (λ found. IfSome found (IsNumberKey negative byte front.now)) }
     ensures none { IfOk result (λ found. IfNone found ((s : List ℕ) → IsNumberKey negative byte front.now s → ⊥)) }
 {

@@ -1,10 +1,10 @@
 //! The subscripts of a key, one after another, as its bytes show them.
 ghost use Rattle.std.specs.Prelude.{◌≡◌, ◌∷◌, ◌++◌, List, ℕ, IfOk, IfSome, OnOk, false, length};
 ghost use Rattle.canonic_number.specs.Number.{is_canonic};
-ghost use Rattle.collation.specs.Levels.{front};
+ghost use Rattle.collation.specs.Levels.{without_last};
 ghost use Rattle.key_codec.specs.Grown.{GoesOnFrom};
-ghost use Rattle.key_codec.specs.Key.{short_form, subscripts_key, AreSubscripts};
-ghost use Rattle.key_codec.specs.Back.{first_of, first_number as first_number_spec, subscripts_up_to, unescaped};
+ghost use Rattle.key_codec.specs.Key.{short_form, subscripts_key, AreSubscriptsWithin};
+ghost use Rattle.key_codec.specs.Back.{first_subscript_of, first_number as first_number_spec, subscripts_up_to, unescaped};
 ghost use Rattle.key_codec.specs.Reading.{tag_of};
 ghost use Rattle.key_codec.specs.Shown.{HasFirst, AreKeys, first};
 
@@ -137,8 +137,8 @@ fn first_number(negative: bool, bytes: &[u8]) -> (KeySubscript<'_>, &[u8])
 // The same of another text.
 fn first_other(bytes: &[u8]) -> (KeySubscript<'_>, &[u8])
     requires { HasFirst (5 ∷ bytes.now) }
-    ensures subscript { result.0 ≡ (first_of (5 ∷ bytes.now)).subscript }
-    ensures rest { result.1.now ≡ (first_of (5 ∷ bytes.now)).rest }
+    ensures subscript { result.0 ≡ (first_subscript_of (5 ∷ bytes.now)).subscript }
+    ensures rest { result.1.now ≡ (first_subscript_of (5 ∷ bytes.now)).rest }
 {
     let Some((escaped, rest)) = split_at_end(bytes, END) else {
         unreachable!()
@@ -150,8 +150,8 @@ fn first_other(bytes: &[u8]) -> (KeySubscript<'_>, &[u8])
 // The subscript whose key stands in front, and what follows it.
 fn first_subscript(bytes: &[u8]) -> (KeySubscript<'_>, &[u8])
     requires { HasFirst bytes.now }
-    ensures subscript { result.0 ≡ (first_of bytes.now).subscript }
-    ensures rest { result.1.now ≡ (first_of bytes.now).rest }
+    ensures subscript { result.0 ≡ (first_subscript_of bytes.now).subscript }
+    ensures rest { result.1.now ≡ (first_subscript_of bytes.now).rest }
 {
     let Some((tag, behind)) = take_byte(bytes) else {
         unreachable!()
@@ -230,7 +230,7 @@ pub(crate) fn first_child(alloc: Global, keys: &[u8]) -> Result<Option<Text>, Al
 // The key of the last subscript, and nothing where there is none.
 pub(crate) fn last_key(keys: &[u8]) -> &[u8]
     requires { AreKeys keys.now }
-    ensures { (ss : List (List ℕ)) → AreSubscripts short_form ss → keys.now ≡ subscripts_key short_form ss → keys.now ≡ subscripts_key short_form (front ss) ++ result.now }
+    ensures { (ss : List (List ℕ)) → AreSubscriptsWithin short_form ss → keys.now ≡ subscripts_key short_form ss → keys.now ≡ subscripts_key short_form (without_last ss) ++ result.now }
 {
     if keys.is_empty() {
         return keys;

@@ -5,7 +5,7 @@ ghost use Rattle.collation.specs.Faults.{reference_fault, subscripts_fault};
 ghost use Rattle.key_codec.specs.Bounds.{KeepsOrder, IsPrefixOf};
 ghost use Rattle.key_codec.specs.Draft.{IsJudged};
 ghost use Rattle.key_codec.specs.Key as spec;
-ghost use Rattle.key_codec.specs.Key.{short_form, IsReference, IsSubscript};
+ghost use Rattle.key_codec.specs.Key.{short_form, IsFaultless, IsSubscriptWithin};
 ghost use Rattle.key_codec.specs.PartsKey.{parts_key};
 
 use crate::{
@@ -33,7 +33,7 @@ pub fn encode(alloc: Global, reference: &Ref) -> Result<Vec<u8>, Refusal>
 // The key, with room for as many bytes more.
 pub(crate) fn write_key(alloc: Global, reference: &Ref, more: usize) -> Result<Vec<u8>, AllocError>
     ensures key { IfOk result (λ key. key.items ≡ spec.key_of reference.now) }
-    ensures form { OnOk result (IsReference reference.now) }
+    ensures form { OnOk result (IsFaultless reference.now) }
 {
     write_parts(alloc, reference.name(), reference.subscripts(), more)
 }
@@ -82,7 +82,7 @@ fn push_subscripts(key: &mut Vec<u8>, subscripts: &[Text]) -> Result<(), AllocEr
 }
 
 pub(crate) fn push_subscript(key: &mut Vec<u8>, subscript: &[u8]) -> Result<(), AllocError>
-    requires { IsSubscript short_form subscript.now }
+    requires { IsSubscriptWithin short_form subscript.now }
     ensures { OnOk result (key.new.items ≡ key.old.items ++ spec.subscript_key short_form subscript.now) }
 {
     push_judged(key, subscript, parts(subscript))
@@ -94,7 +94,7 @@ pub(crate) fn push_judged(
     subscript: &[u8],
     number: Option<NumberParts<'_>>,
 ) -> Result<(), AllocError>
-    requires form { IsSubscript short_form subscript.now }
+    requires form { IsSubscriptWithin short_form subscript.now }
     requires judged { IsJudged subscript.now number }
     ensures { OnOk result (key.new.items ≡ key.old.items ++ spec.subscript_key short_form subscript.now) }
 {

@@ -12,8 +12,8 @@ use Rattle.collation.specs.Reference.{Reference}
 use Rattle.collation.specs.Order.{ref_cmp}
 use Rattle.collation.specs.Database.{is_under}
 use Rattle.collation.specs.Levels.{is_before}
-use Rattle.globals.specs.NearestLaws.{true_of, none_pass}
-use Rattle.globals.specs.CutLaws.{under_between, before_end-earlier}
+use Rattle.globals.specs.laws.Nearest.{true_of, none_pass}
+use Rattle.globals.specs.laws.Cuts.{under_between, before_end-earlier}
 use Rattle.key_map.specs.Members.{keys_under}
 
 module _ (r : Reference) where

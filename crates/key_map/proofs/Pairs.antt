@@ -9,8 +9,8 @@ use Rattle.std.specs.FinMap.{is_sorted, find, get, insert, remove, empty, entrie
 use Rattle.std.specs.FinMap.Entries.{put, is_sorted-put, find-where_key, is_sorted-where_key}
 use Rattle.collation.specs.Reference.{Reference}
 use Rattle.collation.specs.Order.{ref_cmp}
-use Rattle.collation.specs.OrderLaws.{ref_cmp_total, ref_cmp-IsAntisymmetric}
-use Rattle.globals.specs.NearestLaws.{true_of}
+use Rattle.collation.specs.laws.Order.{ref_cmp_total, ref_cmp-IsAntisymmetric}
+use Rattle.globals.specs.laws.Nearest.{true_of}
 use Rattle.btree.specs.Order.{without, find_last as last_pair}
 use Rattle.btree.specs.Tree.{Content}
 use Rattle.globals.specs.Entries.{nearest_entry, find_last}

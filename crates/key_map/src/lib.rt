@@ -13,6 +13,7 @@
 #![tactic(auto)]
 
 pub use map::KeyMap;
+pub use point::CutPoint;
 
 mod map;
 mod point;

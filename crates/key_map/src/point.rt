@@ -5,7 +5,7 @@ use btree::Point;
 use globals::{Cut, stands_before};
 use key_codec::Key;
 
-// A cut between references, as a point of the tree.
+/// A cut between references, as a point of a tree of keys.
 #[derive(Clone, Copy)]
 pub struct CutPoint<'a> {
     pub cut: Cut<'a>,
@@ -13,7 +13,7 @@ pub struct CutPoint<'a> {
 
 impl<'a> Point<Key> for CutPoint<'a> {
     ghost use Rattle.globals.specs.Cuts.{stands_before};
-    ghost use Rattle.globals.specs.CutLaws.{stands_before-earlier};
+    ghost use Rattle.globals.specs.laws.Cuts.{stands_before-earlier};
 
     ghost before = { λ p x. stands_before p.cut x };
 

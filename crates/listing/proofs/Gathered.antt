@@ -7,8 +7,8 @@ use Rattle.globals.specs.Cuts.{stands_before}
 use Rattle.globals.specs.declared.cut.Cut.TheVariants.{Start}
 use Rattle.std.specs.Io.KnownBytes.{Appends}
 use Rattle.collation.specs.Reference.{Reference}
-use Rattle.listing.specs.Bytes.{WritesBeginning, Passes}
-use Rattle.listing.specs.BytesLaws.{Appends-nothing, Appends-more, Passes-then, WritesBeginning-all, WritesBeginning-longer, WritesBeginning-then}
+use Rattle.listing.specs.Bytes.{WritesBeginning, WritesFront}
+use Rattle.listing.specs.laws.Bytes.{Appends-nothing, Appends-more, Passes-then, WritesBeginning-all, WritesBeginning-longer, WritesBeginning-then}
 use Rattle.std.specs.FinMap as finmap
 use Rattle.collation.specs.Database.{Database}
 use Rattle.listing.specs.Listing.{node_text, HasListed}
@@ -22,7 +22,7 @@ lines_of es = flat_map node_text es
 -- a text and the lines of some entries were written or are gathered, and the others are left
 pub record Stands (old now : Option (List ℕ)) (front : List ℕ) (all done left : List Entry) (out : List ℕ) : Type 0 where
   pub parts : done ++ left ≡ all
-  pub passes : Passes old now (front ++ lines_of done) out
+  pub passes : WritesFront old now (front ++ lines_of done) out
 
 pub stands_first : (old : Option (List ℕ)) (front : List ℕ) (all left : List Entry) → left ≡ all → Stands old old front all [] left front
 stands_first old front all left e = record { parts = e; passes = record { written = []; appended = Appends-nothing old; rest = append-nil front } }
@@ -47,7 +47,7 @@ gathered_more old now front all done left e out more nodes h f m = record {
 
 -- one node more, and what was gathered may have been written
 pub stands_next : (old now next : Option (List ℕ)) (front : List ℕ) (all done left : List Entry) (e : Entry) (out more kept : List ℕ) (nodes : List Entry) → Stands old now front all done nodes out → nodes ≡ e ∷ left
-    → more ≡ out ++ node_text e → Passes now next more kept → Stands old next front all (done ++ e ∷ []) left kept
+    → more ≡ out ++ node_text e → WritesFront now next more kept → Stands old next front all (done ++ e ∷ []) left kept
 stands_next old now next front all done left e out more kept nodes h f m p =
     let g = gathered_more old now front all done left e out more nodes h f m in
     record { parts = g.parts; passes = Passes-then old now next (front ++ lines_of (done ++ e ∷ [])) more kept g.passes p }
@@ -67,7 +67,7 @@ pub listed_so_far : (old now : Option (List ℕ)) (front : List ℕ) (m : Databa
 listed_so_far old now front m done left out same h e = record {
   text = lines_of done;
   listed = record { done = done; left = left; parts = h.parts; lines = refl };
-  passes = subst (Passes old now (front ++ lines_of done)) (sym e) h.passes;
+  passes = subst (WritesFront old now (front ++ lines_of done)) (sym e) h.passes;
 }
 
 -- a beginning of what was gathered was written

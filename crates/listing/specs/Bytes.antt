@@ -9,11 +9,11 @@ pub record WritesBeginning (old new : Option (List ℕ)) (text : List ℕ) : Typ
   pub bytes : Appends old new (take count text)
 
 -- one more failure, where the count isn't full
-abbrev pub Counts : ℕ → ℕ → Type 0
-Counts old new = new ≡ min (old + 1) (2 ^ 64 - 1)
+abbrev pub IsOneMore : ℕ → ℕ → Type 0
+IsOneMore old new = new ≡ min (old + 1) (2 ^ 64 - 1)
 
 -- what was gathered has been written in part, and the rest is gathered still
-pub record Passes (old new : Option (List ℕ)) (gathered left : List ℕ) : Type 0 where
+pub record WritesFront (old new : Option (List ℕ)) (gathered left : List ℕ) : Type 0 where
   pub written : List ℕ
   pub appended : Appends old new written
   pub rest : gathered ≡ written ++ left

@@ -6,7 +6,7 @@ use Rattle.collation.specs.Bytes as byte
 use Rattle.collation.specs.Reference.{Reference}
 use Rattle.collation.specs.Database.{Database}
 use Rattle.m_text.specs.Written.{literal_text, reference_text}
-use Rattle.listing.specs.Bytes.{Passes}
+use Rattle.listing.specs.Bytes.{WritesFront}
 
 -- a line of a node: its reference, '=', its value as a literal, byte 10
 abbrev pub node_text : Reference × List ℕ → List ℕ
@@ -27,4 +27,4 @@ pub record IsListedFront (m : Database) (text : List ℕ) : Type 0 where
 pub record HasListed (old new : Option (List ℕ)) (front : List ℕ) (m : Database) (gathered : List ℕ) : Type 0 where
   pub text : List ℕ
   pub listed : IsListedFront m text
-  pub passes : Passes old new (front ++ text) gathered
+  pub passes : WritesFront old new (front ++ text) gathered

@@ -1,7 +1,7 @@
 //! A reader or writer whose failed calls are counted.
 ghost use Rattle.std.specs.Prelude.{◌≡◌, ◌+◌, ◌≤◌, ◌<◌, ◌^◌, ◌-◌, [], length, take, IfOk, OnOk, OnErr};
 ghost use Rattle.std.specs.Io.KnownBytes.{Appends, Consumes, IsAtEnd, Keeps};
-ghost use Rattle.listing.specs.Bytes.{WritesBeginning, Passes, Counts};
+ghost use Rattle.listing.specs.Bytes.{WritesBeginning, WritesFront, IsOneMore};
 
 use std::io::{Read, Write};
 use thiserror::Error;
@@ -51,7 +51,7 @@ impl<T> Counted<T> {
 
     fn count_failure(&mut self)
         ensures inner { self.new.inner ≡ self.old.inner }
-        ensures failures { Counts self.old.failures self.new.failures }
+        ensures failures { IsOneMore self.old.failures self.new.failures }
     {
         self.failures = self.failures.saturating_add(1);
     }
@@ -65,7 +65,7 @@ impl<W: Write> Counted<W> {
         ensures ok { IfOk result (λ n. Appends (W.contents self.old.inner) (W.contents self.new.inner) (take n text.now)) }
         ensures err { OnErr result (Keeps (W.contents self.old.inner) (W.contents self.new.inner)) }
         ensures kept { OnOk result (self.new.failures ≡ self.old.failures) }
-        ensures counted { OnErr result (Counts self.old.failures self.new.failures) }
+        ensures counted { OnErr result (IsOneMore self.old.failures self.new.failures) }
     {
         match self.inner.write(text) {
             Ok(n) if n > 0 => Ok(n),
@@ -81,7 +81,7 @@ impl<W: Write> Counted<W> {
         ensures ok { OnOk result (Appends (W.contents self.old.inner) (W.contents self.new.inner) text.now) }
         ensures err { OnErr result (WritesBeginning (W.contents self.old.inner) (W.contents self.new.inner) text.now) }
         ensures kept { OnOk result (self.new.failures ≡ self.old.failures) }
-        ensures counted { OnErr result (Counts self.old.failures self.new.failures) }
+        ensures counted { OnErr result (IsOneMore self.old.failures self.new.failures) }
     {
         let mut done = 0;
         while done < text.len() {
@@ -99,7 +99,7 @@ impl<W: Write> Counted<W> {
         ensures err { OnErr result (WritesBeginning (W.contents self.old.inner) (W.contents self.new.inner) out.old.items) }
         ensures left { OnErr result (out.new.items ≡ out.old.items) }
         ensures kept { OnOk result (self.new.failures ≡ self.old.failures) }
-        ensures counted { OnErr result (Counts self.old.failures self.new.failures) }
+        ensures counted { OnErr result (IsOneMore self.old.failures self.new.failures) }
     {
         self.write_text(out)?;
         out.clear();
@@ -110,12 +110,12 @@ impl<W: Write> Counted<W> {
     ///
     /// After a fault a beginning of it was written, one more failure is counted, and `out` is as it was.
     pub fn write_full(&mut self, out: &mut Vec<u8>) -> Result<(), WriteFault>
-        ensures ok { OnOk result (Passes (W.contents self.old.inner) (W.contents self.new.inner) out.old.items out.new.items) }
+        ensures ok { OnOk result (WritesFront (W.contents self.old.inner) (W.contents self.new.inner) out.old.items out.new.items) }
         ensures bounded { OnOk result (length out.new.items < GATHERED_BYTES) }
         ensures err { OnErr result (WritesBeginning (W.contents self.old.inner) (W.contents self.new.inner) out.old.items) }
         ensures left { OnErr result (out.new.items ≡ out.old.items) }
         ensures kept { OnOk result (self.new.failures ≡ self.old.failures) }
-        ensures counted { OnErr result (Counts self.old.failures self.new.failures) }
+        ensures counted { OnErr result (IsOneMore self.old.failures self.new.failures) }
     {
         if out.len() < GATHERED_BYTES {
             return Ok(());
@@ -135,7 +135,7 @@ impl<R: Read> Counted<R> {
         ensures end { IfOk result (λ n. n ≡ 0 → IsAtEnd (R.remaining self.new.inner)) }
         ensures err { OnErr result (Keeps (R.remaining self.old.inner) (R.remaining self.new.inner)) }
         ensures kept { OnOk result (self.new.failures ≡ self.old.failures) }
-        ensures counted { OnErr result (Counts self.old.failures self.new.failures) }
+        ensures counted { OnErr result (IsOneMore self.old.failures self.new.failures) }
     {
         match self.inner.read(piece) {
             Ok(n) => Ok(n),

@@ -2,7 +2,7 @@
 ghost use Rattle.std.specs.Prelude.{◌≡◌, ◌++◌, [], OnOk, OnErr, IsErrOf};
 ghost use Rattle.std.specs.Io.KnownBytes.{Appends};
 ghost use Rattle.key_codec.specs.Grown.{GoesOnFrom};
-ghost use Rattle.listing.specs.Bytes.{WritesBeginning, Counts};
+ghost use Rattle.listing.specs.Bytes.{WritesBeginning, IsOneMore};
 ghost use Rattle.listing.specs.Listing.{node_text, listing_text, HasListed};
 
 use crate::{Counted, WriteFault};
@@ -37,7 +37,7 @@ fn push_parts(key: &Key, value: &Text, out: &mut Vec<u8>) -> Result<(), AllocErr
 }
 
 // A node's line at the end of `out`, which is as it was where memory is refused.
-#[tactic(auto, using(key_codec::specs::GrownLaws::back_to))]
+#[tactic(auto, using(key_codec::specs::laws::Grown::back_to))]
 fn push_node(key: &Key, value: &Text, out: &mut Vec<u8>) -> Result<(), AllocError>
     ensures ok { OnOk result (out.new.items ≡ out.old.items ++ node_text (key.now, value.now)) }
     ensures err { OnErr result (out.new.items ≡ out.old.items) }
@@ -66,7 +66,7 @@ pub fn write_listing_after<V: OrderedView, W: Write>(
     ensures ok { OnOk result (Appends (W.contents writer.old.inner) (W.contents writer.new.inner) (out.old.items ++ listing_text (V.content view.now))) }
     ensures empty { OnOk result (out.new.items ≡ []) }
     ensures err { OnErr result (WritesBeginning (W.contents writer.old.inner) (W.contents writer.new.inner) (out.old.items ++ listing_text (V.content view.now))) }
-    ensures counted { IsErrOf result ListingFault.Write → Counts writer.old.failures writer.new.failures }
+    ensures counted { IsErrOf result ListingFault.Write → IsOneMore writer.old.failures writer.new.failures }
     ensures kept { OnOk result (writer.new.failures ≡ writer.old.failures) }
     ensures memory { IsErrOf result ListingFault.Memory → writer.new.failures ≡ writer.old.failures }
     ensures listed { IsErrOf result ListingFault.Memory → HasListed (W.contents writer.old.inner) (W.contents writer.new.inner) out.old.items (V.content view.now) out.new.items }
@@ -90,7 +90,7 @@ pub fn write_listing<V: OrderedView, W: Write>(
 ) -> Result<(), ListingFault>
     ensures ok { OnOk result (Appends (W.contents writer.old.inner) (W.contents writer.new.inner) (listing_text (V.content view.now))) }
     ensures err { OnErr result (WritesBeginning (W.contents writer.old.inner) (W.contents writer.new.inner) (listing_text (V.content view.now))) }
-    ensures counted { IsErrOf result ListingFault.Write → Counts writer.old.failures writer.new.failures }
+    ensures counted { IsErrOf result ListingFault.Write → IsOneMore writer.old.failures writer.new.failures }
     ensures kept { OnOk result (writer.new.failures ≡ writer.old.failures) }
     ensures memory { IsErrOf result ListingFault.Memory → writer.new.failures ≡ writer.old.failures }
 {

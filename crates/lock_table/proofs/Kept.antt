@@ -4,10 +4,10 @@ use Rattle.std.specs.Prelude.{◌-◌, max, min}
 use Rattle.std.specs.FinMap as finmap
 use Rattle.collation.specs.Reference.{Resource}
 use Rattle.collation.specs.Locks.{Counts, count_of, more_of, fewer_of}
-use Rattle.collation.specs.LockLaws.{times}
-use Rattle.collation.specs.CountingLaws.{counts_tell}
+use Rattle.collation.specs.LockStatements.{times}
+use Rattle.collation.specs.laws.Counting.{counts_tell}
 use Rattle.lock_trie.specs.Held.{Held, held_count}
-use Rattle.lock_table.specs.Counted.{AreCounts, AreRaised, AreLowered, is_named}
+use Rattle.lock_table.specs.Counted.{AreCounts, AreRaised, AreLowered, is_listed}
 use Rattle.lock_table.specs.Rows.{IsHeldIn}
 use Rattle.lock_table.proofs.Lists.{unnamed_times}
 use Rattle.lock_table.proofs.Less.{no_count}
@@ -23,10 +23,10 @@ pub borne_by : (old new : Counts) (ns : List Resource) → new ≡ more_of ns ol
 borne_by old new ns is are x = let sum = sum_is old new ns is x in let small : count_of new x ≤ 65535 = are.small x in omega arith
 
 pub kept_more : (old t : Held) (job : ℕ) (held new : Counts) (ns : List Resource) → new ≡ more_of ns held → IsHeldIn old job held
-    → AreRaised (held_count old job) (held_count t job) (count_of new) → ((x : Resource) → is_named x ns ≡ true → count_of new x ≤ held_count t job x) → IsHeldIn t job new
-kept_more old t job held new ns is kept raised named x = by_test (is_named x ns) refl (kept x) (sum_is held new ns is x) (raised.above x) (raised.most x) (named x)
+    → AreRaised (held_count old job) (held_count t job) (count_of new) → ((x : Resource) → is_listed x ns ≡ true → count_of new x ≤ held_count t job x) → IsHeldIn t job new
+kept_more old t job held new ns is kept raised named x = by_test (is_listed x ns) refl (kept x) (sum_is held new ns is x) (raised.above x) (raised.most x) (named x)
   where
-    by_test : (b : Bool) → is_named x ns ≡ b → held_count old job x ≡ count_of held x → count_of new x ≡ count_of held x + times x ns → held_count old job x ≤ held_count t job x → held_count t job x ≤ max (held_count old job x) (count_of new x)
+    by_test : (b : Bool) → is_listed x ns ≡ b → held_count old job x ≡ count_of held x → count_of new x ≡ count_of held x + times x ns → held_count old job x ≤ held_count t job x → held_count t job x ≤ max (held_count old job x) (count_of new x)
         → (b ≡ true → count_of new x ≤ held_count t job x) → held_count t job x ≡ count_of new x
     by_test true e was sum above most named = let n = named refl in omega arith
     by_test false e was sum above most named = let none : times x ns ≡ 0 = unnamed_times x ns e in omega arith
@@ -34,11 +34,11 @@ kept_more old t job held new ns is kept raised named x = by_test (is_named x ns)
 -- a trie that was raised for names, and lowered for them again
 pub kept_undone : (old mid t : Held) (job : ℕ) (held target new : Counts) (ns : List Resource) → new ≡ held → target ≡ more_of ns held → IsHeldIn old job held
     → AreRaised (held_count old job) (held_count mid job) (count_of target) → AreLowered (held_count mid job) (held_count t job) (count_of new)
-    → ((x : Resource) → is_named x ns ≡ true → held_count t job x ≤ count_of new x) → IsHeldIn t job new
+    → ((x : Resource) → is_listed x ns ≡ true → held_count t job x ≤ count_of new x) → IsHeldIn t job new
 kept_undone old mid t job held target new ns is target_is kept raised lowered named x =
-    by_test (is_named x ns) refl (kept x ∙ sym (ap (λ c. count_of c x) is)) (ap (λ c. count_of c x) is) (sum_is held target ns target_is x) (raised.above x) (raised.most x) (lowered.below x) (lowered.least x) (named x)
+    by_test (is_listed x ns) refl (kept x ∙ sym (ap (λ c. count_of c x) is)) (ap (λ c. count_of c x) is) (sum_is held target ns target_is x) (raised.above x) (raised.most x) (lowered.below x) (lowered.least x) (named x)
   where
-    by_test : (b : Bool) → is_named x ns ≡ b → held_count old job x ≡ count_of new x → count_of new x ≡ count_of held x → count_of target x ≡ count_of held x + times x ns → held_count old job x ≤ held_count mid job x → held_count mid job x ≤ max (held_count old job x) (count_of target x)
+    by_test : (b : Bool) → is_listed x ns ≡ b → held_count old job x ≡ count_of new x → count_of new x ≡ count_of held x → count_of target x ≡ count_of held x + times x ns → held_count old job x ≤ held_count mid job x → held_count mid job x ≤ max (held_count old job x) (count_of target x)
         → held_count t job x ≤ held_count mid job x → min (held_count mid job x) (count_of new x) ≤ held_count t job x → (b ≡ true → held_count t job x ≤ count_of new x) → held_count t job x ≡ count_of new x
     by_test true e was same sum above most below least named = let n = named refl in omega arith
     by_test false e was same sum above most below least named = let none : times x ns ≡ 0 = unnamed_times x ns e in omega arith
@@ -61,13 +61,13 @@ none_kept old t job held others new is new_is kept lowered reached = kept_less o
 
 -- a trie that is lowered for names
 pub kept_fewer : (old t : Held) (job : ℕ) (held new : Counts) (ns : List Resource) → new ≡ fewer_of ns held → IsHeldIn old job held
-    → AreLowered (held_count old job) (held_count t job) (count_of new) → ((x : Resource) → is_named x ns ≡ true → held_count t job x ≤ count_of new x) → IsHeldIn t job new
+    → AreLowered (held_count old job) (held_count t job) (count_of new) → ((x : Resource) → is_listed x ns ≡ true → held_count t job x ≤ count_of new x) → IsHeldIn t job new
 kept_fewer old t job held new ns is kept lowered named x =
     let laws = counts_tell x in
     let less : count_of new x ≡ count_of held x - times x ns = ap (λ c. count_of c x) is ∙ laws.fewer ns held in
-    by_test (is_named x ns) refl (kept x) less (lowered.below x) (lowered.least x) (named x)
+    by_test (is_listed x ns) refl (kept x) less (lowered.below x) (lowered.least x) (named x)
   where
-    by_test : (b : Bool) → is_named x ns ≡ b → held_count old job x ≡ count_of held x → count_of new x ≡ count_of held x - times x ns → held_count t job x ≤ held_count old job x → min (held_count old job x) (count_of new x) ≤ held_count t job x
+    by_test : (b : Bool) → is_listed x ns ≡ b → held_count old job x ≡ count_of held x → count_of new x ≡ count_of held x - times x ns → held_count t job x ≤ held_count old job x → min (held_count old job x) (count_of new x) ≤ held_count t job x
         → (b ≡ true → held_count t job x ≤ count_of new x) → held_count t job x ≡ count_of new x
     by_test true e was less below least named = let n = named refl in omega arith
     by_test false e was less below least named = let none : times x ns ≡ 0 = unnamed_times x ns e in omega arith

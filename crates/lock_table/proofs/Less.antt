@@ -5,10 +5,10 @@ use Rattle.std.specs.Ordering.{eq_by_cmp}
 use Rattle.std.specs.FinMap as finmap
 use Rattle.collation.specs.Reference.{Resource}
 use Rattle.collation.specs.Locks.{resource_cmp, Counts, count_of, one_fewer, HasNoZeros}
-use Rattle.collation.specs.LockLaws.{times}
-use Rattle.collation.specs.CountingLaws.{count_insert, count_remove, counts_tell, same_resource}
-use Rattle.collation.specs.ZeroLaws.{none_insert, none_remove, same_counts}
-use Rattle.lock_table.specs.Counted.{AreRaised, is_named, put_count, taken_from, less}
+use Rattle.collation.specs.LockStatements.{times}
+use Rattle.collation.specs.laws.Counting.{count_insert, count_remove, counts_tell, same_resource}
+use Rattle.collation.specs.laws.Zeros.{none_insert, none_remove, same_counts}
+use Rattle.lock_table.specs.Counted.{AreRaised, is_listed, put_count, taken_from, less}
 use Rattle.lock_table.proofs.Lists.{unnamed_times}
 
 pub no_count : (x : Resource) → count_of finmap.empty x ≡ 0
@@ -93,22 +93,22 @@ within_kept ks ks2 left left2 n count count_is some is added_is x k = by_test (e
     by_test false e taken added = omega arith
 
 -- counts of the names in a list, gathered
-pub gathered : (none left others : Counts) (ns : List Resource) → none ≡ finmap.empty → AreRaised (count_of none) (count_of left) (count_of others) → ((x : Resource) → is_named x ns ≡ true → count_of others x ≤ count_of left x) → (x : Resource) → is_named x ns ≡ true → count_of left x ≡ count_of others x
+pub gathered : (none left others : Counts) (ns : List Resource) → none ≡ finmap.empty → AreRaised (count_of none) (count_of left) (count_of others) → ((x : Resource) → is_listed x ns ≡ true → count_of others x ≤ count_of left x) → (x : Resource) → is_listed x ns ≡ true → count_of left x ≡ count_of others x
 gathered none left others ns is raised named x h =
     let zero_is : count_of none x ≡ 0 = ap (λ c. count_of c x) is ∙ no_count x in
     let most : count_of left x ≤ _ = raised.most x in
     let least = named x h in
     omega arith
 
-by_named : (x : Resource) (ns : List Resource) (P : Type 0) → (is_named x ns ≡ true → P) → (times x ns ≡ 0 → P) → P
-by_named x ns P there out = by_test (is_named x ns) refl
+by_named : (x : Resource) (ns : List Resource) (P : Type 0) → (is_listed x ns ≡ true → P) → (times x ns ≡ 0 → P) → P
+by_named x ns P there out = by_test (is_listed x ns) refl
   where
-    by_test : (b : Bool) → is_named x ns ≡ b → P
+    by_test : (b : Bool) → is_listed x ns ≡ b → P
     by_test true e = there e
     by_test false e = out (unnamed_times x ns e)
 
-pub raised_list : (left others : Counts) (ns over : List Resource) → ((x : Resource) → is_named x ns ≡ true → count_of left x ≡ count_of others x) → ((x : Resource) → times x over ≡ times x ns - count_of left x) → (x : Resource) → times x over ≡ times x ns - count_of others x
+pub raised_list : (left others : Counts) (ns over : List Resource) → ((x : Resource) → is_listed x ns ≡ true → count_of left x ≡ count_of others x) → ((x : Resource) → times x over ≡ times x ns - count_of left x) → (x : Resource) → times x over ≡ times x ns - count_of others x
 raised_list left others ns over same is x = by_named x ns _ (λ e. is x ∙ ap (λ c. times x ns - c) (same x e)) (λ none. let t = is x in omega arith)
 
-pub lowered_list : (left others : Counts) (ns gone : List Resource) → ((x : Resource) → is_named x ns ≡ true → count_of left x ≡ count_of others x) → ((x : Resource) → times x gone ≡ min (times x ns) (count_of left x)) → (x : Resource) → times x gone ≡ min (times x ns) (count_of others x)
+pub lowered_list : (left others : Counts) (ns gone : List Resource) → ((x : Resource) → is_listed x ns ≡ true → count_of left x ≡ count_of others x) → ((x : Resource) → times x gone ≡ min (times x ns) (count_of left x)) → (x : Resource) → times x gone ≡ min (times x ns) (count_of others x)
 lowered_list left others ns gone same is x = by_named x ns _ (λ e. is x ∙ ap (λ c. min (times x ns) c) (same x e)) (λ none. let t = is x in omega arith)

@@ -9,9 +9,9 @@ use Rattle.std.proofs.Math.Seq.{drop-cons}
 use Rattle.std.proofs.Math.ListN.{get_or}
 use Rattle.collation.specs.Reference.{Resource}
 use Rattle.collation.specs.Locks.{resource_cmp, Counts, count_of, more_of}
-use Rattle.collation.specs.LockLaws.{times}
-use Rattle.collation.specs.CountingLaws.{resource_cmp_total, same_resource, counts_tell}
-use Rattle.lock_table.specs.Counted.{is_over, is_named}
+use Rattle.collation.specs.LockStatements.{times}
+use Rattle.collation.specs.laws.Counting.{resource_cmp_total, same_resource, counts_tell}
+use Rattle.lock_table.specs.Counted.{is_over, is_listed}
 
 once_itself : (n : Resource) (ns : List Resource) → 1 ≤ times n (n ∷ ns)
 once_itself n ns = subst (λ b. 1 ≤ length (cond b (n ∷ filter (eq_by_cmp resource_cmp n) ns) (filter (eq_by_cmp resource_cmp n) ns))) (sym (ap is_eq (tied_itself resource_cmp_total n))) (omega arith)
@@ -49,18 +49,18 @@ over_at ns old now i n h is whole full =
 
 -- ---- names that stand in a list
 
-pub unnamed_times : (x : Resource) (ns : List Resource) → is_named x ns ≡ false → times x ns ≡ 0
+pub unnamed_times : (x : Resource) (ns : List Resource) → is_listed x ns ≡ false → times x ns ≡ 0
 unnamed_times x [] h = refl
 unnamed_times x (n ∷ ns) h = by_test (eq_by_cmp resource_cmp x n) h (unnamed_times x ns)
   where
-    by_test : (b : Bool) → (b || is_named x ns) ≡ false → (is_named x ns ≡ false → times x ns ≡ 0) → length (cond b (n ∷ filter (eq_by_cmp resource_cmp x) ns) (filter (eq_by_cmp resource_cmp x) ns)) ≡ 0
+    by_test : (b : Bool) → (b || is_listed x ns) ≡ false → (is_listed x ns ≡ false → times x ns ≡ 0) → length (cond b (n ∷ filter (eq_by_cmp resource_cmp x) ns) (filter (eq_by_cmp resource_cmp x) ns)) ≡ 0
     by_test true h rest = absurd (cc)
     by_test false h rest = rest h
 
-pub times_named : (x : Resource) (ns : List Resource) → 0 < times x ns → is_named x ns ≡ true
-times_named x ns h = by_test (is_named x ns) refl
+pub times_named : (x : Resource) (ns : List Resource) → 0 < times x ns → is_listed x ns ≡ true
+times_named x ns h = by_test (is_listed x ns) refl
   where
-    by_test : (b : Bool) → is_named x ns ≡ b → is_named x ns ≡ true
+    by_test : (b : Bool) → is_listed x ns ≡ b → is_listed x ns ≡ true
     by_test true e = e
     by_test false e = let none : times x ns ≡ 0 = unnamed_times x ns e in absurd (omega arith)
 
@@ -106,7 +106,7 @@ borne w ns small = none_over (more_of ns w) ns (λ x.
     omega arith)
 
 -- counts that tell the same of the names in the list
-pub over_same : (b w : Counts) (ns : List Resource) (t : Bool) → ((x : Resource) → is_named x ns ≡ true → count_of b x ≡ count_of w x) → list_any (is_over ns b) ns ≡ t → list_any (is_over ns w) ns ≡ t
+pub over_same : (b w : Counts) (ns : List Resource) (t : Bool) → ((x : Resource) → is_listed x ns ≡ true → count_of b x ≡ count_of w x) → list_any (is_over ns b) ns ≡ t → list_any (is_over ns w) ns ≡ t
 over_same b w ns true same any = over_along b w ns ns (λ x h high. let e : count_of b x ≡ count_of w x = same x (times_named x ns h) in (h, omega arith)) any
 over_same b w ns false same none = by_test (list_any (is_over ns w) ns) refl
   where

@@ -11,9 +11,9 @@ use Rattle.std.proofs.Math.Seq.{drop-cons}
 use Rattle.std.proofs.Math.ListN.{get_or}
 use Rattle.collation.specs.Reference.{Resource}
 use Rattle.collation.specs.Locks.{resource_cmp, Counts, count_of}
-use Rattle.collation.specs.CountingLaws.{resource_cmp_total, resource_cmp-IsAntisymmetric, same_resource}
+use Rattle.collation.specs.laws.Counting.{resource_cmp_total, resource_cmp-IsAntisymmetric, same_resource}
 use Rattle.lock_trie.specs.laws.Conflicts.{left_first, entry_counted, AreThere}
-use Rattle.lock_table.specs.Counted.{AreRaised, AreLowered, is_named}
+use Rattle.lock_table.specs.Counted.{AreRaised, AreLowered, is_listed}
 
 abbrev pub is_key : Resource → Resource × ℕ → Bool
 is_key x e = eq_by_cmp resource_cmp x e.0
@@ -135,31 +135,31 @@ nothing_left (n ∷ ns) zero h = absurd (omega arith)
 nothing_left (n ∷ ns) (suc i) h = nothing_left ns i (omega arith)
 
 abbrev pub HighLeft : (Resource → ℕ) → (Resource → ℕ) → List Resource → ℕ → Type 0
-HighLeft now others ns i = (x : Resource) → is_named x ns ≡ true → (others x ≤ now x) ⊎ (is_named x (drop i ns) ≡ true)
+HighLeft now others ns i = (x : Resource) → is_listed x ns ≡ true → (others x ≤ now x) ⊎ (is_listed x (drop i ns) ≡ true)
 
 pub high_next : (now next others : Resource → ℕ) (ns : List Resource) (i k : ℕ) (n : Resource) (v : ℕ) → suc i ≡ k → i < length ns → n ≡ get_or ns i n → v ≡ others n → RaisedOne now next n v → HighLeft now others ns i → HighLeft next others ns k
 high_next now next others ns i k n v k_is h is v_is one left x named =
-    subst (λ j. (others x ≤ next x) ⊎ (is_named x (drop j ns) ≡ true)) k_is
-    (reached_next now next others n v v_is one x (is_named x (drop (suc i) ns)) (subst (λ z. (others x ≤ now x) ⊎ (is_named x z ≡ true)) (front ns i n h is) (left x named)))
+    subst (λ j. (others x ≤ next x) ⊎ (is_listed x (drop j ns) ≡ true)) k_is
+    (reached_next now next others n v v_is one x (is_listed x (drop (suc i) ns)) (subst (λ z. (others x ≤ now x) ⊎ (is_listed x z ≡ true)) (front ns i n h is) (left x named)))
 
-pub high_done : (now others : Resource → ℕ) (ns : List Resource) (i : ℕ) → length ns ≤ i → HighLeft now others ns i → (x : Resource) → is_named x ns ≡ true → others x ≤ now x
+pub high_done : (now others : Resource → ℕ) (ns : List Resource) (i : ℕ) → length ns ≤ i → HighLeft now others ns i → (x : Resource) → is_listed x ns ≡ true → others x ≤ now x
 high_done now others ns i h left x named = elim (left x named) [
   | inl high ↦ high
-  | inr any ↦ let none : false ≡ true = sym (ap (is_named x) (nothing_left ns i h)) ∙ any in absurd (cc)
+  | inr any ↦ let none : false ≡ true = sym (ap (is_listed x) (nothing_left ns i h)) ∙ any in absurd (cc)
 ]
 
 abbrev pub LowLeft : (Resource → ℕ) → (Resource → ℕ) → List Resource → ℕ → Type 0
-LowLeft now target ns i = (x : Resource) → is_named x ns ≡ true → (now x ≤ target x) ⊎ (is_named x (drop i ns) ≡ true)
+LowLeft now target ns i = (x : Resource) → is_listed x ns ≡ true → (now x ≤ target x) ⊎ (is_listed x (drop i ns) ≡ true)
 
 pub low_names_next : (now next target : Resource → ℕ) (ns : List Resource) (i k : ℕ) (n : Resource) (v : ℕ) → suc i ≡ k → i < length ns → n ≡ get_or ns i n → v ≡ target n → LoweredOne now next n v → LowLeft now target ns i → LowLeft next target ns k
 low_names_next now next target ns i k n v k_is h is v_is one left x named =
-    subst (λ j. (next x ≤ target x) ⊎ (is_named x (drop j ns) ≡ true)) k_is
-    (low_next now next target n v v_is one x (is_named x (drop (suc i) ns)) (subst (λ z. (now x ≤ target x) ⊎ (is_named x z ≡ true)) (front ns i n h is) (left x named)))
+    subst (λ j. (next x ≤ target x) ⊎ (is_listed x (drop j ns) ≡ true)) k_is
+    (low_next now next target n v v_is one x (is_listed x (drop (suc i) ns)) (subst (λ z. (now x ≤ target x) ⊎ (is_listed x z ≡ true)) (front ns i n h is) (left x named)))
 
-pub low_names_done : (now target : Resource → ℕ) (ns : List Resource) (i : ℕ) → length ns ≤ i → LowLeft now target ns i → (x : Resource) → is_named x ns ≡ true → now x ≤ target x
+pub low_names_done : (now target : Resource → ℕ) (ns : List Resource) (i : ℕ) → length ns ≤ i → LowLeft now target ns i → (x : Resource) → is_listed x ns ≡ true → now x ≤ target x
 low_names_done now target ns i h left x named = elim (left x named) [
   | inl low ↦ low
-  | inr any ↦ let none : false ≡ true = sym (ap (is_named x) (nothing_left ns i h)) ∙ any in absurd (cc)
+  | inr any ↦ let none : false ≡ true = sym (ap (is_listed x) (nothing_left ns i h)) ∙ any in absurd (cc)
 ]
 
 -- ---- over the entries of counts

@@ -11,14 +11,14 @@ use Rattle.std.specs.FinMap.{nat_cmp-IsAntisymmetric}
 use Rattle.refusal.specs.declared.Refusal.{Refusal}
 use Rattle.refusal.specs.declared.Refusal.TheVariants.{LockCountFull, OutOfMemory}
 use Rattle.collation.specs.Reference.{Resource}
-use Rattle.collation.specs.OrderLaws.{is_equal}
+use Rattle.collation.specs.laws.Order.{is_equal}
 use Rattle.collation.specs.Locks.{count_of, JobLocks, LockState, no_locks, locks_of, is_blocked, changed, job_wants}
-use Rattle.collation.specs.BlockingLaws.{blocked_tells}
+use Rattle.collation.specs.laws.Blocking.{blocked_tells}
 use Rattle.lock_trie.specs.Held.{Held, held_count, IsHeldByAnother}
 use Rattle.lock_trie.specs.laws.Mapped.{seen, is_inserted, is_removed}
 use Rattle.lock_table.specs.declared.row.Form.{Form}
 use Rattle.lock_table.specs.Rows.{want_by, is_full_by, IsKept, AreOthersSame}
-use Rattle.lock_table.specs.Tables.{IsJoined, nothing}
+use Rattle.lock_table.specs.Tables.{RowsMatchTrie, nothing}
 
 abbrev pub Puts : List (ℕ × JobLocks) → List (ℕ × JobLocks) → ℕ → JobLocks → Type 0
 Puts es fs job l = (q : ℕ) → lookup (is_at (nat_cmp q)) fs ≡ cond (is_at (nat_cmp job) q) (Some l) (lookup (is_at (nat_cmp q)) es)
@@ -63,14 +63,14 @@ other_job other job e is = let itself : eq_by_cmp nat_cmp other job ≡ true = a
 
 -- ---- the trie beside the rows
 
-pub joined_empty : (trie : Held) (m : LockState) → m ≡ finmap.empty → ((job : ℕ) (x : Resource) → held_count trie job x ≡ 0) → IsJoined trie m
+pub joined_empty : (trie : Held) (m : LockState) → m ≡ finmap.empty → ((job : ℕ) (x : Resource) → held_count trie job x ≡ 0) → RowsMatchTrie trie m
 joined_empty trie m is none job x =
     none job x ∙ sym (ap (λ s. count_of (locks_of job s).held x) is ∙ ap (λ o. count_of (unwrap_or o no_locks).held x) (finmap.get-empty nat_cmp job) ∙ ap (λ o. unwrap_or o 0) (finmap.get-empty _ x))
 
-pub row_kept : (trie : Held) (es : List (ℕ × JobLocks)) (job : ℕ) (l : JobLocks) → IsJoined trie (finmap.from_entries es) → Some l ≡ lookup (is_at (nat_cmp job)) es → IsKept trie job l
+pub row_kept : (trie : Held) (es : List (ℕ × JobLocks)) (job : ℕ) (l : JobLocks) → RowsMatchTrie trie (finmap.from_entries es) → Some l ≡ lookup (is_at (nat_cmp job)) es → IsKept trie job l
 row_kept trie es job l joined is x = joined job x ∙ ap (λ s. count_of s.held x) (sym (locks_got es (finmap.from_entries es) job l refl is))
 
-pub row_joined : (before trie : Held) (es fs : List (ℕ × JobLocks)) (job : ℕ) (l : JobLocks) → IsJoined before (finmap.from_entries es) → Puts es fs job l → AreOthersSame before trie job → IsKept trie job l → IsJoined trie (finmap.from_entries fs)
+pub row_joined : (before trie : Held) (es fs : List (ℕ × JobLocks)) (job : ℕ) (l : JobLocks) → RowsMatchTrie before (finmap.from_entries es) → Puts es fs job l → AreOthersSame before trie job → IsKept trie job l → RowsMatchTrie trie (finmap.from_entries fs)
 row_joined before trie es fs job l joined puts others kept other x = by_test (eq_by_cmp nat_cmp other job) refl
   where
     now : (b : Bool) → eq_by_cmp nat_cmp other job ≡ b → locks_of other (finmap.from_entries fs) ≡ cond b l (locks_of other (finmap.from_entries es))
@@ -81,10 +81,10 @@ row_joined before trie es fs job l joined puts others kept other x = by_test (eq
     by_test false e = others other x (other_job other job e) ∙ joined other x ∙ ap (λ s. count_of s.held x) (sym (now false e))
 
 -- a job without an entry, or one that has nothing, comes or goes
-pub made_joined : (trie : Held) (es fs : List (ℕ × JobLocks)) (job : ℕ) → IsJoined trie (finmap.from_entries es) → None ≡ lookup (is_at (nat_cmp job)) es → Puts es fs job no_locks → IsJoined trie (finmap.from_entries fs)
+pub made_joined : (trie : Held) (es fs : List (ℕ × JobLocks)) (job : ℕ) → RowsMatchTrie trie (finmap.from_entries es) → None ≡ lookup (is_at (nat_cmp job)) es → Puts es fs job no_locks → RowsMatchTrie trie (finmap.from_entries fs)
 made_joined trie es fs job joined is puts = row_joined trie trie es fs job no_locks joined puts (λ other x apart. refl) (λ x. joined job x ∙ ap (λ o. count_of (unwrap_or o no_locks).held x) (got es (finmap.from_entries es) job None refl is))
 
-pub removed_joined : (trie : Held) (m n : LockState) (job : ℕ) → IsJoined trie m → locks_of job m ≡ no_locks → n ≡ finmap.remove m job → IsJoined trie n
+pub removed_joined : (trie : Held) (m n : LockState) (job : ℕ) → RowsMatchTrie trie m → locks_of job m ≡ no_locks → n ≡ finmap.remove m job → RowsMatchTrie trie n
 removed_joined trie m n job joined none is other x = joined other x ∙ ap (λ s. count_of s.held x) (by_test (eq_by_cmp nat_cmp other job) refl)
   where
     now : (b : Bool) → eq_by_cmp nat_cmp other job ≡ b → locks_of other n ≡ unwrap_or (cond b None (finmap.get m other)) no_locks
@@ -168,7 +168,7 @@ made_gone m n t u job fresh is none yes_fresh same gone =
 
 -- ---- what is blocked
 
-pub blocked_is : (trie : Held) (m : LockState) (job : ℕ) (n : Resource) (b : Bool) → IsJoined trie m → (b ≡ true → IsHeldByAnother trie job n) → (b ≡ false → IsHeldByAnother trie job n → ⊥) → b ≡ is_blocked m job n
+pub blocked_is : (trie : Held) (m : LockState) (job : ℕ) (n : Resource) (b : Bool) → RowsMatchTrie trie m → (b ≡ true → IsHeldByAnother trie job n) → (b ≡ false → IsHeldByAnother trie job n → ⊥) → b ≡ is_blocked m job n
 blocked_is trie m job n true joined some none =
     let t = some refl in
     let tells = blocked_tells m job n in
@@ -214,11 +214,11 @@ no_row (Some l) e = absurd (cc)
 pub put_new : (es fs : List (ℕ × JobLocks)) (m : LockState) (job : ℕ) (l : JobLocks) → finmap.from_entries es ≡ m → Puts es fs job l → l ≡ no_locks → finmap.from_entries fs ≡ finmap.insert m job no_locks
 put_new es fs m job l was puts is = put es fs m job l no_locks was puts is
 
-pub new_joined : (trie : Held) (es fs : List (ℕ × JobLocks)) (m : LockState) (job : ℕ) (l : JobLocks) → IsJoined trie (finmap.from_entries es) → finmap.from_entries es ≡ m → finmap.get m job ≡ None → Puts es fs job l → l ≡ no_locks → IsJoined trie (finmap.from_entries fs)
+pub new_joined : (trie : Held) (es fs : List (ℕ × JobLocks)) (m : LockState) (job : ℕ) (l : JobLocks) → RowsMatchTrie trie (finmap.from_entries es) → finmap.from_entries es ≡ m → finmap.get m job ≡ None → Puts es fs job l → l ≡ no_locks → RowsMatchTrie trie (finmap.from_entries fs)
 new_joined trie es fs m job l joined was none puts is = row_joined trie trie es fs job l joined puts (λ other x apart. refl) (λ x. joined job x ∙ ap (λ o. count_of (unwrap_or o no_locks).held x) (ap (λ s. finmap.get s job) was ∙ none) ∙ ap (λ s. count_of s.held x) (sym is))
 
-pub same_joined : (trie : Held) (es fs : List (ℕ × JobLocks)) → fs ≡ es → IsJoined trie (finmap.from_entries es) → IsJoined trie (finmap.from_entries fs)
-same_joined trie es fs is joined = subst (λ z. IsJoined trie (finmap.from_entries z)) (sym is) joined
+pub same_joined : (trie : Held) (es fs : List (ℕ × JobLocks)) → fs ≡ es → RowsMatchTrie trie (finmap.from_entries es) → RowsMatchTrie trie (finmap.from_entries fs)
+same_joined trie es fs is joined = subst (λ z. RowsMatchTrie trie (finmap.from_entries z)) (sym is) joined
 
 pub copied_some : {A B : Type 0} (f : A → B) (o : Option A) → is_some o ≡ is_some (option_map f o)
 copied_some f None = refl

@@ -5,9 +5,9 @@ use Rattle.std.specs.Ordering.{nat_cmp, is_eq, eq_by_cmp}
 use Rattle.std.specs.Cmp.{nat_cmp_total, tied_itself}
 use Rattle.std.specs.FinMap.{nat_cmp-IsAntisymmetric}
 use Rattle.collation.specs.Reference.{Resource}
-use Rattle.collation.specs.OrderLaws.{is_equal}
+use Rattle.collation.specs.laws.Order.{is_equal}
 use Rattle.collation.specs.Locks.{resource_cmp}
-use Rattle.collation.specs.CountingLaws.{same_resource}
+use Rattle.collation.specs.laws.Counting.{same_resource}
 use Rattle.lock_trie.specs.Held.{Held, held_count, IsRecounted, IsSame}
 use Rattle.lock_table.specs.Rows.{AreOthersSame}
 

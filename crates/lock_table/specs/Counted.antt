@@ -27,8 +27,8 @@ abbrev pub is_over : List Resource → Counts → Resource → Bool
 is_over ns counts n = nat_lt most_locks (count_of (more_of ns counts) n)
 
 -- it stands in the list
-abbrev pub is_named : Resource → List Resource → Bool
-is_named x ns = list_any (eq_by_cmp resource_cmp x) ns
+abbrev pub is_listed : Resource → List Resource → Bool
+is_listed x ns = list_any (eq_by_cmp resource_cmp x) ns
 
 -- this name is had so many times
 abbrev pub put_count : Counts → Resource → ℕ → Counts

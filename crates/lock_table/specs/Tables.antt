@@ -5,8 +5,8 @@ use Rattle.collation.specs.Locks.{count_of, JobLocks, no_locks, LockState, locks
 use Rattle.lock_trie.specs.Held.{Held, held_count}
 
 -- the trie has of each job what its row holds
-abbrev pub IsJoined : Held → LockState → Type 0
-IsJoined trie rows = (job : ℕ) (x : Resource) → held_count trie job x ≡ count_of (locks_of job rows).held x
+abbrev pub RowsMatchTrie : Held → LockState → Type 0
+RowsMatchTrie trie rows = (job : ℕ) (x : Resource) → held_count trie job x ≡ count_of (locks_of job rows).held x
 
 -- what a job that ends has
 abbrev pub nothing : JobLocks → JobLocks

@@ -3,7 +3,7 @@ ghost use Rattle.std.specs.Prelude.{if◌then◌else◌, ◌≡◌, ◌+◌, ◌
 ghost use Rattle.std.specs.Ordering.{eq_by_cmp};
 ghost use Rattle.collation.specs.Reference.{Resource};
 ghost use Rattle.collation.specs.Locks.{resource_cmp, count_of};
-ghost use Rattle.collation.specs.LockLaws.{times};
+ghost use Rattle.collation.specs.LockStatements.{times};
 
 use crate::counts::Counts;
 use collation::LockName;

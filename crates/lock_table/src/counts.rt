@@ -7,7 +7,7 @@ ghost use Rattle.collation.specs.Reference.{Resource};
 ghost use Rattle.std.specs.Ordering.{eq_by_cmp};
 ghost use Rattle.collation.specs.Locks.{resource_cmp, count_of, one_fewer, more_of, fewer_of};
 ghost use Rattle.lock_trie.specs.Held.{held_count};
-ghost use Rattle.lock_table.specs.Counted.{AreCounts, AreRaised, AreLowered, less, is_over, is_named};
+ghost use Rattle.lock_table.specs.Counted.{AreCounts, AreRaised, AreLowered, less, is_over, is_listed};
 ghost use Rattle.lock_table.specs.Rows.{IsHeldIn, AreOthersSame};
 
 use crate::inside::{Inside, wanted};
@@ -211,7 +211,7 @@ impl Counts {
     /// Of each of these names at least as many as in the others. Where memory is refused some may be raised.
     pub fn raise_names(&mut self, names: &[LockName], others: &Counts) -> Result<(), AllocError>
         ensures raised { AreRaised (count_of self.old) (count_of self.new) (count_of others.now) }
-        ensures ok { OnOk result ((x : Resource) → is_named x names.now ≡ true → count_of others.now x ≤ count_of self.new x) }
+        ensures ok { OnOk result ((x : Resource) → is_listed x names.now ≡ true → count_of others.now x ≤ count_of self.new x) }
     {
         for name in names {
             self.raise(name, others.count(name))?;
@@ -221,7 +221,7 @@ impl Counts {
 
     /// Of these names as many as here, and of no other.
     pub fn among(&self, names: &[LockName]) -> Result<Counts, AllocError>
-        ensures { IfOk result (λ some. (x : Resource) → is_named x names.now ≡ true → count_of some x ≡ count_of self.now x) }
+        ensures { IfOk result (λ some. (x : Resource) → is_listed x names.now ≡ true → count_of some x ≡ count_of self.now x) }
     {
         let mut some = Counts::new(self.alloc);
         some.raise_names(names, self)?;
@@ -236,7 +236,7 @@ impl Counts {
         inside: &Inside,
     ) -> Result<(), AllocError>
         ensures raised { AreRaised (count_of self.old) (count_of self.new) (count_of (less held.now inside.now.fewer)) }
-        ensures ok { OnOk result ((x : Resource) → is_named x names.now ≡ true → count_of (less held.now inside.now.fewer) x ≤ count_of self.new x) }
+        ensures ok { OnOk result ((x : Resource) → is_listed x names.now ≡ true → count_of (less held.now inside.now.fewer) x ≤ count_of self.new x) }
     {
         for name in names {
             self.raise(name, wanted(held, inside, name))?;

@@ -5,8 +5,8 @@ ghost use Rattle.std.specs.FinMap as finmap;
 ghost use Rattle.collation.specs.Limits.{most_locks};
 ghost use Rattle.collation.specs.Reference.{Resource};
 ghost use Rattle.collation.specs.Locks.{count_of, more_of, fewer_of, job_wants};
-ghost use Rattle.collation.specs.LockLaws.{times};
-ghost use Rattle.lock_table.specs.Counted.{less, is_named, is_over};
+ghost use Rattle.collation.specs.LockStatements.{times};
+ghost use Rattle.lock_table.specs.Counted.{less, is_listed, is_over};
 ghost use Rattle.lock_table.specs.Rows.{AreWithin, inside_locks, IsInsideSame, IsHeldIn, AreOthersSame};
 
 use crate::chosen::{beyond, within};
@@ -42,7 +42,7 @@ pub fn wanted_among(
     inside: &Inside,
     names: &[LockName],
 ) -> Result<Counts, AllocError>
-    ensures { IfOk result (λ some. (x : Resource) → is_named x names.now ≡ true → count_of some x ≡ count_of (less held.now inside.now.fewer) x) }
+    ensures { IfOk result (λ some. (x : Resource) → is_listed x names.now ≡ true → count_of some x ≡ count_of (less held.now inside.now.fewer) x) }
 {
     let mut some = Counts::new(inside.alloc);
     some.raise_wanted(names, held, inside)?;

@@ -4,9 +4,9 @@ ghost use Rattle.std.specs.List.{list_any};
 ghost use Rattle.collation.specs.Limits.{most_locks};
 ghost use Rattle.collation.specs.Reference.{Resource};
 ghost use Rattle.collation.specs.Locks.{count_of, more_of, fewer_of};
-ghost use Rattle.collation.specs.LockLaws.{times};
+ghost use Rattle.collation.specs.LockStatements.{times};
 ghost use Rattle.lock_trie.specs.Held.{held_count, IsRecounted, IsSame};
-ghost use Rattle.lock_table.specs.Counted.{AreRaised, AreLowered, less, is_over, is_named};
+ghost use Rattle.lock_table.specs.Counted.{AreRaised, AreLowered, less, is_over, is_listed};
 ghost use Rattle.lock_table.specs.Rows.{IsHeldIn, AreOthersSame};
 
 use crate::counts::Counts;
@@ -49,7 +49,7 @@ pub fn raise_names(
 ) -> Result<(), AllocError>
     ensures others { AreOthersSame trie.old trie.new job }
     ensures raised { AreRaised (held_count trie.old job) (held_count trie.new job) (count_of target.now) }
-    ensures ok { OnOk result ((x : Resource) → is_named x names.now ≡ true → count_of target.now x ≤ held_count trie.new job x) }
+    ensures ok { OnOk result ((x : Resource) → is_listed x names.now ≡ true → count_of target.now x ≤ held_count trie.new job x) }
 {
     for name in names {
         raise(trie, job, name, target.count(name))?;
@@ -61,7 +61,7 @@ pub fn raise_names(
 pub fn lower_names(trie: &mut LockTrie, job: u16, names: &[LockName], held: &Counts)
     ensures others { AreOthersSame trie.old trie.new job }
     ensures lowered { AreLowered (held_count trie.old job) (held_count trie.new job) (count_of held.now) }
-    ensures reached { (x : Resource) → is_named x names.now ≡ true → held_count trie.new job x ≤ count_of held.now x }
+    ensures reached { (x : Resource) → is_listed x names.now ≡ true → held_count trie.new job x ≤ count_of held.now x }
 {
     for name in names {
         lower(trie, job, name, held.count(name));

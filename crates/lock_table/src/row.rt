@@ -4,7 +4,7 @@ ghost use Rattle.std.specs.List.{list_any};
 ghost use Rattle.std.specs.FinMap as finmap;
 ghost use Rattle.collation.specs.Reference.{Resource};
 ghost use Rattle.collation.specs.Locks.{count_of, no_locks, job_wants, job_commits, job_goes_back};
-ghost use Rattle.lock_table.specs.Counted.{is_named, less};
+ghost use Rattle.lock_table.specs.Counted.{is_listed, less};
 ghost use Rattle.lock_table.specs.Rows.{AreWithin, inside_locks, in_its_mode, enters, want_by, want_in, is_full_by, IsHeldIn, IsInsideSame, IsKept, AreOthersSame};
 
 use crate::counts::Counts;
@@ -94,7 +94,7 @@ impl Row {
 
     /// Of these names as many as the job wants, and of no other.
     pub fn named(&self, names: &[LockName]) -> Result<Counts, AllocError>
-        ensures { IfOk result (λ want. (x : Resource) → is_named x names.now ≡ true → count_of want x ≡ count_of self.now.want x) }
+        ensures { IfOk result (λ want. (x : Resource) → is_listed x names.now ≡ true → count_of want x ≡ count_of self.now.want x) }
     {
         match &self.inside {
             Some(inside) => wanted_among(&self.held, inside, names),

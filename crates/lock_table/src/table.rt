@@ -5,7 +5,7 @@ ghost use Rattle.std.specs.FinMap as finmap;
 ghost use Rattle.collation.specs.declared.lock.LockCommand.TheVariants.{Release, Only, More, Fewer};
 ghost use Rattle.collation.specs.Reference.{Resource};
 ghost use Rattle.collation.specs.Locks.{no_locks, count_of, locks_of, changed, job_wants, is_blocked, lock_reply, lock_refusal, locks_after, locks_after_commit, locks_after_back, locks_after_end};
-ghost use Rattle.lock_table.specs.Counted.{is_named};
+ghost use Rattle.lock_table.specs.Counted.{is_listed};
 ghost use Rattle.lock_table.specs.Rows.{want_by, is_full_by};
 ghost use Rattle.lock_table.specs.Tables.{nothing};
 
@@ -30,7 +30,7 @@ impl Model for LockTable {
     ghost use Rattle.std.specs.FinMap as finmap;
     ghost use Rattle.collation.specs.Locks.{LockState};
     ghost use Rattle.lock_table.specs.Codes.{lock_state_code};
-    ghost use Rattle.lock_table.specs.Tables.{IsJoined};
+    ghost use Rattle.lock_table.specs.Tables.{RowsMatchTrie};
 
     ghost Value = { LockState };
 
@@ -38,7 +38,7 @@ impl Model for LockTable {
 
     ghost view = { λ t. finmap.from_entries t.rows.entries };
 
-    ghost invariant = { λ t. IsJoined t.trie (finmap.from_entries t.rows.entries) };
+    ghost invariant = { λ t. RowsMatchTrie t.trie (finmap.from_entries t.rows.entries) };
 }
 
 impl LockTable {
@@ -80,7 +80,7 @@ impl LockTable {
 
     /// Of these names as many as the job wants, and of no other.
     pub(crate) fn wanted(&self, job: u16, names: &[LockName]) -> Result<Counts, AllocError>
-        ensures { IfOk result (λ want. (x : Resource) → is_named x names.now ≡ true → count_of want x ≡ count_of (let l = locks_of job self.now in l.want) x) }
+        ensures { IfOk result (λ want. (x : Resource) → is_listed x names.now ≡ true → count_of want x ≡ count_of (let l = locks_of job self.now in l.want) x) }
     {
         match self.rows.get(&job) {
             Some(row) => row.named(names),

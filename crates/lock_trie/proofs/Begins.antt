@@ -6,7 +6,7 @@ use Rattle.std.specs.Cmp.Lexicographic.{pointwise, lists_equiv, bytes_decides}
 use Rattle.std.specs.Ordering.{nat_cmp, is_eq, eq_by_cmp}
 use Rattle.std.specs.Cmp.{first_so, second_so, nat_cmp_total, tied_itself}
 use Rattle.std.specs.FinMap.{nat_cmp-IsAntisymmetric}
-use Rattle.collation.specs.OrderLaws.{is_equal}
+use Rattle.collation.specs.laws.Order.{is_equal}
 use Rattle.std.proofs.lemmas.Bool.{and_from, ltb-true, ltb-false}
 use Rattle.std.proofs.lemmas.List.{length-take-le}
 use Rattle.collation.specs.Database.{begins_with}

@@ -8,7 +8,7 @@ use Rattle.std.specs.Cmp.Lexicographic.{slice_cmp, lists_total}
 use Rattle.std.specs.Map.{KeepsOthers}
 use Rattle.std.specs.BTreeMap.{BTreeMap, is_at, get_by, UpdatesBy}
 use Rattle.std.specs.FinMap.{IsAntisymmetric, slice_cmp-IsAntisymmetric}
-use Rattle.collation.specs.OrderLaws.{is_equal}
+use Rattle.collation.specs.laws.Order.{is_equal}
 use Rattle.std.specs.Prelude.{Vec}
 
 module _ {E : Type 0} {R : E → E → Ordering} (total : IsTotalOrder R) (same : IsAntisymmetric R) where

@@ -7,7 +7,7 @@ use Rattle.std.specs.Map.{lookup}
 use Rattle.std.specs.BTreeMap.{is_at}
 use Rattle.std.specs.FinMap as finmap
 use Rattle.std.proofs.lemmas.Bool.{and_from, lt-ltb}
-use Rattle.collation.specs.BlockingLaws.{differ}
+use Rattle.collation.specs.laws.Blocking.{differ}
 use Rattle.lock_trie.specs.laws.Mapped.{seen}
 use Rattle.lock_trie.specs.laws.Conflicts.{Left}
 

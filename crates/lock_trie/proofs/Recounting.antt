@@ -8,8 +8,8 @@ use Rattle.std.specs.Cmp.Lexicographic.{pointwise, lists_equiv}
 use Rattle.std.specs.FinMap.{nat_cmp-IsAntisymmetric}
 use Rattle.std.proofs.lemmas.Bool.{and_from}
 use Rattle.collation.specs.Reference.{Resource}
-use Rattle.collation.specs.OrderLaws.{is_equal}
-use Rattle.collation.specs.CountingLaws.{resource_cmp_total, resource_cmp-IsAntisymmetric}
+use Rattle.collation.specs.laws.Order.{is_equal}
+use Rattle.collation.specs.laws.Counting.{resource_cmp_total, resource_cmp-IsAntisymmetric}
 use Rattle.collation.specs.Database.{begins_with}
 use Rattle.collation.specs.Locks.{resource_cmp}
 use Rattle.lock_trie.specs.declared.roots.Roots.{Roots}

@@ -4,11 +4,11 @@ use Rattle.std.specs.Prelude.{cond, ◌-◌, ◌&&◌, filter}
 use Rattle.std.specs.Cmp.{nat_cmp_total, tied_itself}
 use Rattle.std.specs.Ordering.{nat_cmp, is_eq, eq_by_cmp}
 use Rattle.std.specs.FinMap.{nat_cmp-IsAntisymmetric}
-use Rattle.collation.specs.OrderLaws.{is_equal}
+use Rattle.collation.specs.laws.Order.{is_equal}
 use Rattle.collation.specs.Database.{begins_with}
 use Rattle.lock_trie.specs.declared.paths.Paths.{Paths}
 use Rattle.lock_trie.specs.Paths.{Path, path_cmp, marked_at, IsPutAt, AreKept}
-use Rattle.lock_trie.specs.Tallied.{IsTallied, IsAlong, IsRoot}
+use Rattle.lock_trie.specs.Tallied.{IsTallied, IsAlong, IsRootOfCounts}
 use Rattle.lock_trie.proofs.AtPaths.{same_path, path_itself}
 use Rattle.lock_trie.proofs.Begins.{begins_short, put_itself, put_others}
 
@@ -180,7 +180,7 @@ small_put old new path job c put h small x other = subst (λ v. v ≤ 65535) (sy
     by_test false s = s
 
 pub root_more : (own own_new within within_new : Paths) (path : Path) (job n : ℕ) → marked_at own path job + n ≤ 65535 → IsPutAt (marked_at own) (marked_at own_new) path job (marked_at own path job + n)
-    → IsAlong (λ v. v + n) (marked_at within) (marked_at within_new) path job (length path + 1) → IsRoot own within → IsRoot own_new within_new
+    → IsAlong (λ v. v + n) (marked_at within) (marked_at within_new) path job (length path + 1) → IsRootOfCounts own within → IsRootOfCounts own_new within_new
 root_more own own_new within within_new path job n h put along root = record {
   tallied = each_tallied (marked_at own) (marked_at own_new) (marked_at within) (marked_at within_new) path job _ _ _ put along root.tallied
       (more_tallied (marked_at own) (marked_at own_new) (marked_at within) (marked_at within_new) path job n put along (root.tallied job));
@@ -188,14 +188,14 @@ root_more own own_new within within_new path job n h put along root = record {
 }
 
 pub root_fewer : (own own_new within within_new : Paths) (path : Path) (job n : ℕ) → n ≤ marked_at own path job → IsPutAt (marked_at own) (marked_at own_new) path job (marked_at own path job - n)
-    → IsAlong (λ v. v - n) (marked_at within) (marked_at within_new) path job (length path + 1) → IsRoot own within → IsRoot own_new within_new
+    → IsAlong (λ v. v - n) (marked_at within) (marked_at within_new) path job (length path + 1) → IsRootOfCounts own within → IsRootOfCounts own_new within_new
 root_fewer own own_new within within_new path job n h put along root = record {
   tallied = each_tallied (marked_at own) (marked_at own_new) (marked_at within) (marked_at within_new) path job _ _ _ put along root.tallied
       (fewer_tallied (marked_at own) (marked_at own_new) (marked_at within) (marked_at within_new) path job n h put along (root.tallied job));
   small = let s : marked_at own path job ≤ 65535 = root.small path job in small_put (marked_at own) (marked_at own_new) path job _ put (omega arith) root.small;
 }
 
-pub root_kept : (own own_new within within_new : Paths) → AreKept (marked_at own) (marked_at own_new) → AreKept (marked_at within) (marked_at within_new) → IsRoot own within → IsRoot own_new within_new
+pub root_kept : (own own_new within within_new : Paths) → AreKept (marked_at own) (marked_at own_new) → AreKept (marked_at within) (marked_at within_new) → IsRootOfCounts own within → IsRootOfCounts own_new within_new
 root_kept own own_new within within_new o w root = record {
   tallied = λ job. same_tallied (λ x. marked_at own x job) (λ x. marked_at within x job) (λ x. marked_at own_new x job) (λ x. marked_at within_new x job) (λ x. o x job) (λ x. w x job) (root.tallied job);
   small = λ x job. subst (λ v. v ≤ 65535) (sym (o x job)) (root.small x job);

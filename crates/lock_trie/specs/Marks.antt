@@ -9,5 +9,5 @@ abbrev pub marked : Marks → ℕ → ℕ
 marked m job = unwrap_or (get nat_cmp m.map job) 0
 
 -- the job's count is now c, and those of others are what they were
-abbrev pub IsPut : (ℕ → ℕ) → (ℕ → ℕ) → ℕ → ℕ → Type 0
-IsPut old new job c = (other : ℕ) → new other ≡ (if eq_by_cmp nat_cmp other job then c else old other)
+abbrev pub IsCountPut : (ℕ → ℕ) → (ℕ → ℕ) → ℕ → ℕ → Type 0
+IsCountPut old new job c = (other : ℕ) → new other ≡ (if eq_by_cmp nat_cmp other job then c else old other)

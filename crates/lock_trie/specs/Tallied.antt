@@ -18,6 +18,6 @@ pub record IsAlong (f : ℕ → ℕ) (old new : Path → ℕ → ℕ) (path : Pa
   pub off : (x : Path) (other : ℕ) → (other ≡ job → begins_with path x ≡ true → length x < m → ⊥) → new x other ≡ old x other
 
 -- what a root keeps: counts at each path, and counts at and below it; none at a path is above 65,535
-pub record IsRoot (own within : Paths) : Type 0 where
+pub record IsRootOfCounts (own within : Paths) : Type 0 where
   pub tallied : (job : ℕ) → IsTallied (λ x. marked_at own x job) (λ x. marked_at within x job)
   pub small : (x : Path) (job : ℕ) → marked_at own x job ≤ most_locks

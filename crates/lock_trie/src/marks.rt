@@ -1,6 +1,6 @@
 //! Counts by job.
 ghost use Rattle.std.specs.Prelude.{true, false, ◌≡◌, ◌<◌, ◌+◌, ◌-◌, ℕ, OnOk, OnErr};
-ghost use Rattle.lock_trie.specs.Marks.{marked, IsPut};
+ghost use Rattle.lock_trie.specs.Marks.{marked, IsCountPut};
 
 use std::alloc::{AllocError, Global};
 use std::collections::BTreeMap;
@@ -33,7 +33,7 @@ impl Marks {
 
     /// The job's count is n greater. Refused where there is no memory, or no number so great: then all is as it was.
     pub fn add(&mut self, job: u16, n: u64) -> Result<(), AllocError>
-        ensures ok { OnOk result (IsPut (marked self.old) (marked self.new) job (marked self.old job + n)) }
+        ensures ok { OnOk result (IsCountPut (marked self.old) (marked self.new) job (marked self.old job + n)) }
         ensures err { OnErr result ((other : ℕ) → marked self.new other ≡ marked self.old other) }
     {
         let Some(count) = self.count(job).checked_add(n) else {
@@ -50,7 +50,7 @@ impl Marks {
 
     /// The job's count is n less; at none its entry goes. Takes no memory.
     pub fn take(&mut self, job: u16, n: u64)
-        ensures { IsPut (marked self.old) (marked self.new) job (marked self.old job - n) }
+        ensures { IsCountPut (marked self.old) (marked self.new) job (marked self.old job - n) }
     {
         let count = self.count(job);
         if count <= n {

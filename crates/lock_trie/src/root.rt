@@ -21,7 +21,7 @@ pub struct Root {
 impl Model for Root {
     ghost use Rattle.lock_trie.specs.declared.paths.Paths as declared;
     ghost use Rattle.lock_trie.specs.Codes.{paths_code};
-    ghost use Rattle.lock_trie.specs.Tallied.{IsRoot};
+    ghost use Rattle.lock_trie.specs.Tallied.{IsRootOfCounts};
 
     ghost Value = { declared.Paths };
 
@@ -29,7 +29,7 @@ impl Model for Root {
 
     ghost view = { λ r. r.own };
 
-    ghost invariant = { λ r. IsRoot r.own r.within };
+    ghost invariant = { λ r. IsRootOfCounts r.own r.within };
 }
 
 /// The job's counts at the beginnings of the path that are shorter than this are n less. Takes no memory.

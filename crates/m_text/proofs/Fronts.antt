@@ -1,4 +1,4 @@
 -- What is read with nothing before it.
-use Rattle.m_text.specs.ReadingLaws.{with_front-nil}
+use Rattle.m_text.specs.laws.Reading.{with_front-nil}
 
 pub ruleset from_nothing = with_front-nil

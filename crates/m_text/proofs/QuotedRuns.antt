@@ -7,9 +7,9 @@ use Rattle.std.specs.List.{flat_map, position, position_or_len}
 use Rattle.m_text.specs.Reading.{with_front}
 use Rattle.m_text.specs.Literal.{is_quote, quoted_at}
 use Rattle.m_text.specs.Written.{doubled}
-use Rattle.m_text.specs.PartLaws.{plain_step}
+use Rattle.m_text.specs.laws.Parts.{plain_step}
 use Rattle.m_text.proofs.Ends.{ends_at, ends_nowhere}
-use Rattle.m_text.specs.ReadingLaws.{with_front-nil, with_front-append, rest_of-front}
+use Rattle.m_text.specs.laws.Reading.{with_front-nil, with_front-append, rest_of-front}
 
 abbrev at_quote_of : List ℕ → ℕ → Option (List ℕ × List ℕ)
 at_quote_of bs n = with_front (take n bs) (quoted_at (34 ∷ drop (n + 1) bs))

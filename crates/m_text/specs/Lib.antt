@@ -3,15 +3,6 @@ pub mod Literal
 pub mod Place
 pub mod Written
 pub mod Forms
-pub mod Laws
-pub mod FrontLaws
-pub mod FaultLaws
-pub mod PartedLaws
-pub mod ReadingLaws
-pub mod LoopLaws
-pub mod PartLaws
-pub mod LiteralLaws
-pub mod PlaceLaws
-pub mod RunLaws
-pub mod WrittenLaws
 pub mod Drafts
+pub mod Statements
+pub mod laws

@@ -6,7 +6,7 @@ use Rattle.std.specs.Char.{is_ascii_digit, is_ascii_alphabetic, to_ascii_upperca
 use Rattle.collation.specs.Bytes as byte
 use Rattle.canonic_number.specs.Number.{is_negative, magnitude}
 use Rattle.canonic_number.specs.Literal.{is_numeric, canonic_of}
-use Rattle.m_text.specs.Reading.{with_front, begins_with, parted_at, closed}
+use Rattle.m_text.specs.Reading.{with_front, begins_with_byte, parted_at, then_closing}
 
 abbrev pub is_quote : ℕ → Bool
 is_quote b = b == byte.quote
@@ -21,15 +21,15 @@ quoted_at (b ∷ c ∷ bs) =
     else with_front (b ∷ []) (quoted_at (c ∷ bs))
 
 -- no digit
-abbrev pub ends_digits : ℕ → Bool
-ends_digits b = not (is_ascii_digit b)
+abbrev pub is_no_digit : ℕ → Bool
+is_no_digit b = not (is_ascii_digit b)
 
 -- the digits at the front, and what follows them
 abbrev pub front_digits : List ℕ → List ℕ
-front_digits text = before_first ends_digits text
+front_digits text = before_first is_no_digit text
 
 abbrev pub past_digits : List ℕ → List ℕ
-past_digits text = drop (position_or_len ends_digits text) text
+past_digits text = drop (position_or_len is_no_digit text) text
 
 -- the number of digits that follow those of n
 abbrev pub number_from : ℕ → List ℕ → ℕ
@@ -67,8 +67,8 @@ is_char_word letters = is_word (codes "C") letters || is_word (codes "CHAR") let
 -- after '$': C or CHAR, and codes in parentheses
 unfoldable pub chars_at : List ℕ → Option (List ℕ × List ℕ)
 chars_at text =
-    if is_char_word (front_letters text) && begins_with byte.opening (past_letters text)
-    then closed (parted_at code_at byte.comma (drop 1 (past_letters text)))
+    if is_char_word (front_letters text) && begins_with_byte byte.opening (past_letters text)
+    then then_closing (parted_at code_at byte.comma (drop 1 (past_letters text)))
     else None
 
 -- a part of a string: a quoted text, or $C with codes
@@ -91,4 +91,4 @@ numeric_at text =
 
 -- a literal: the string that it stands for, and what follows it
 unfoldable pub literal_at : List ℕ → Option (List ℕ × List ℕ)
-literal_at text = if begins_with byte.quote text || begins_with byte.dollar text then parted_at part_at byte.underscore text else numeric_at text
+literal_at text = if begins_with_byte byte.quote text || begins_with_byte byte.dollar text then parted_at part_at byte.underscore text else numeric_at text

@@ -10,7 +10,7 @@ use Rattle.collation.specs.Bytes as byte
 use Rattle.collation.specs.Reference.{Reference, Spot}
 use Rattle.collation.specs.Name.{is_letter_or_digit, is_name}
 use Rattle.collation.specs.Faults.{reference_fault, ends_open, closed_part}
-use Rattle.m_text.specs.Reading.{begins_with, parted_at, closed}
+use Rattle.m_text.specs.Reading.{begins_with_byte, parted_at, then_closing}
 use Rattle.m_text.specs.Literal.{literal_at}
 
 -- neither letter nor digit nor '%'
@@ -30,7 +30,7 @@ subscript_at text = option_map (λ x. (x.0 ∷ [], x.1)) (literal_at text)
 
 -- subscripts in parentheses, or none
 unfoldable pub subscripts_at : List ℕ → Option (List (List ℕ) × List ℕ)
-subscripts_at text = if begins_with byte.opening text then closed (parted_at subscript_at byte.comma (drop 1 text)) else Some ([], text)
+subscripts_at text = if begins_with_byte byte.opening text then then_closing (parted_at subscript_at byte.comma (drop 1 text)) else Some ([], text)
 
 -- a name word and subscripts, whatever faults they have
 unfoldable pub named_at : List ℕ → Option (Reference × List ℕ)
@@ -41,7 +41,7 @@ named_at text =
 
 -- the same after a caret
 unfoldable pub place_at : List ℕ → Option (Reference × List ℕ)
-place_at text = if begins_with byte.caret text then named_at (drop 1 text) else None
+place_at text = if begins_with_byte byte.caret text then named_at (drop 1 text) else None
 
 -- the fault of a name word
 abbrev pub name_fault : List ℕ → Option Refusal

@@ -14,13 +14,13 @@ abbrev pub rest_of : {A : Type 0} → Option (A × List ℕ) → Option (List �
 rest_of read = option_map (λ x. x.1) read
 
 -- the first byte is b
-abbrev pub begins_with : ℕ → List ℕ → Bool
-begins_with b [] = false
-begins_with b (c ∷ cs) = c == b
+abbrev pub begins_with_byte : ℕ → List ℕ → Bool
+begins_with_byte b [] = false
+begins_with_byte b (c ∷ cs) = c == b
 
 -- what follows the byte b, where the text begins with it
-abbrev pub after : ℕ → List ℕ → Option (List ℕ)
-after b text = if begins_with b text then Some (drop 1 text) else None
+abbrev pub after_byte : ℕ → List ℕ → Option (List ℕ)
+after_byte b text = if begins_with_byte b text then Some (drop 1 text) else None
 
 -- one thing read after another
 infixl 10 ◌>>=◌
@@ -32,35 +32,35 @@ None >>= f = None
 unfoldable pub some_at : {A : Type 0} → (List ℕ → Option (List A × List ℕ)) → ℕ → ℕ → List ℕ → Option (List A × List ℕ)
 some_at read b zero text = None
 some_at read b (suc n) text =
-    option_and_then (λ x. if begins_with b x.1 then with_front x.0 (some_at read b n (drop 1 x.1)) else Some x) (read text)
+    option_and_then (λ x. if begins_with_byte b x.1 then with_front x.0 (some_at read b n (drop 1 x.1)) else Some x) (read text)
 
 -- one or more, with the byte b between two
 abbrev pub parted_at : {A : Type 0} → (List ℕ → Option (List A × List ℕ)) → ℕ → List ℕ → Option (List A × List ℕ)
 parted_at read b text = some_at read b (length text) text
 
 -- what is read, and a closing parenthesis
-abbrev pub closed : {A : Type 0} → Option (A × List ℕ) → Option (A × List ℕ)
-closed read = option_and_then (λ x. if begins_with byte.closing x.1 then Some (x.0, drop 1 x.1) else None) read
+abbrev pub then_closing : {A : Type 0} → Option (A × List ℕ) → Option (A × List ℕ)
+then_closing read = option_and_then (λ x. if begins_with_byte byte.closing x.1 then Some (x.0, drop 1 x.1) else None) read
 
 -- a function is refused where nothing is read, or memory ran out
-abbrev pub IsRefused : {Y : Type 0} → Refusal → Option Y → Type 0
-IsRefused BadLine read = read ≡ None
-IsRefused OutOfMemory read = ⊤
-IsRefused refusal read = ⊥
+abbrev pub IsUnread : {Y : Type 0} → Refusal → Option Y → Type 0
+IsUnread BadLine read = read ≡ None
+IsUnread OutOfMemory read = ⊤
+IsUnread refusal read = ⊥
 
 -- what a function answered, seen by view, is what is read
-abbrev pub Gives : {X Y : Type 0} → (X → Y) → Result X Refusal → Option Y → Type 0
-Gives view (Ok x) read = read ≡ Some (view x)
-Gives view (Err refusal) read = IsRefused refusal read
+abbrev pub GivesUnlessMemory : {X Y : Type 0} → (X → Y) → Result X Refusal → Option Y → Type 0
+GivesUnlessMemory view (Ok x) read = read ≡ Some (view x)
+GivesUnlessMemory view (Err refusal) read = IsUnread refusal read
 
 -- the same of a function that takes no memory
 abbrev pub IsRefusedAlways : {Y : Type 0} → Refusal → Option Y → Type 0
 IsRefusedAlways BadLine read = read ≡ None
 IsRefusedAlways refusal read = ⊥
 
-abbrev pub Skips : {X Y : Type 0} → (X → Y) → Result X Refusal → Option Y → Type 0
-Skips view (Ok x) read = read ≡ Some (view x)
-Skips view (Err refusal) read = IsRefusedAlways refusal read
+abbrev pub GivesExactly : {X Y : Type 0} → (X → Y) → Result X Refusal → Option Y → Type 0
+GivesExactly view (Ok x) read = read ≡ Some (view x)
+GivesExactly view (Err refusal) read = IsRefusedAlways refusal read
 
 -- the refusal is the one that is due, or memory ran out
 abbrev pub IsDue : {Y : Type 0} → Refusal → Result Y Refusal → Type 0

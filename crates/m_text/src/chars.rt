@@ -1,6 +1,7 @@
 //! `$C` and `$CHAR` with the codes of bytes.
 ghost use Rattle.std.specs.Prelude.{◌≡◌, ◌<◌, ◌≤◌, ◌-◌, Some, None, MatchOption, if◌then◌else◌};
-ghost use Rattle.m_text.specs.Reading.{Gives, Skips, rest_of, with_front, parted_at, closed};
+ghost use Rattle.collation.specs.Bytes as byte;
+ghost use Rattle.m_text.specs.Reading.{GivesUnlessMemory, GivesExactly, rest_of, with_front, parted_at, then_closing};
 ghost use Rattle.m_text.specs.Literal.{code_at, chars_at, is_code, number_from};
 ghost use Rattle.m_text.specs.Literal as literal;
 
@@ -20,7 +21,7 @@ fn byte_of(digits: &[u8]) -> Option<u8>
 }
 
 fn read_code<'a>(text: &'a [u8], out: &mut Text) -> Result<&'a [u8], Refusal>
-    ensures { Gives (λ rest. (out.new, rest.now)) result (with_front out.old (code_at text.now)) }
+    ensures { GivesUnlessMemory (λ rest. (out.new, rest.now)) result (with_front out.old (code_at text.now)) }
 {
     let (digits, rest) = split_digits(text);
     match byte_of(digits) {
@@ -33,7 +34,7 @@ fn read_code<'a>(text: &'a [u8], out: &mut Text) -> Result<&'a [u8], Refusal>
 }
 
 fn read_codes<'a>(text: &'a [u8], out: &mut Text) -> Result<&'a [u8], Refusal>
-    ensures { Gives (λ rest. (out.new, rest.now)) result (with_front out.old (parted_at code_at 44 text.now)) }
+    ensures { GivesUnlessMemory (λ rest. (out.new, rest.now)) result (with_front out.old (parted_at code_at byte.comma text.now)) }
 {
     let mut rest = text;
     'codes: for _ in 0..text.len() {
@@ -47,7 +48,7 @@ fn read_codes<'a>(text: &'a [u8], out: &mut Text) -> Result<&'a [u8], Refusal>
 }
 
 fn skip_code(text: &[u8]) -> Result<&[u8], Refusal>
-    ensures { Skips (λ rest. rest.now) result (rest_of (code_at text.now)) }
+    ensures { GivesExactly (λ rest. rest.now) result (rest_of (code_at text.now)) }
 {
     let (digits, rest) = split_digits(text);
     match byte_of(digits) {
@@ -57,7 +58,7 @@ fn skip_code(text: &[u8]) -> Result<&[u8], Refusal>
 }
 
 fn skip_codes(text: &[u8]) -> Result<&[u8], Refusal>
-    ensures { Skips (λ rest. rest.now) result (rest_of (parted_at code_at 44 text.now)) }
+    ensures { GivesExactly (λ rest. rest.now) result (rest_of (parted_at code_at byte.comma text.now)) }
 {
     let mut rest = text;
     'codes: for _ in 0..text.len() {
@@ -80,7 +81,7 @@ fn is_char_word(letters: &[u8]) -> bool
 #[tactic(auto, unfolding(crate::specs::Literal::chars_at))]
 // What follows the word and its opening parenthesis.
 fn codes_of(text: &[u8]) -> Option<&[u8]>
-    ensures { MatchOption result (chars_at text.now ≡ None) (λ codes. chars_at text.now ≡ closed (parted_at code_at 44 codes.now)) }
+    ensures { MatchOption result (chars_at text.now ≡ None) (λ codes. chars_at text.now ≡ then_closing (parted_at code_at byte.comma codes.now)) }
 {
     let (letters, rest) = split_letters(text);
     if !is_char_word(letters) {
@@ -91,7 +92,7 @@ fn codes_of(text: &[u8]) -> Option<&[u8]>
 
 // Reads what follows a `$` to the end of `out`, and answers what follows the closing parenthesis.
 pub(crate) fn read_chars<'a>(text: &'a [u8], out: &mut Text) -> Result<&'a [u8], Refusal>
-    ensures { Gives (λ rest. (out.new, rest.now)) result (with_front out.old (chars_at text.now)) }
+    ensures { GivesUnlessMemory (λ rest. (out.new, rest.now)) result (with_front out.old (chars_at text.now)) }
 {
     match codes_of(text) {
         Some(codes) => {
@@ -104,7 +105,7 @@ pub(crate) fn read_chars<'a>(text: &'a [u8], out: &mut Text) -> Result<&'a [u8],
 
 // What follows the closing parenthesis.
 pub(crate) fn skip_chars(text: &[u8]) -> Result<&[u8], Refusal>
-    ensures { Skips (λ rest. rest.now) result (rest_of (chars_at text.now)) }
+    ensures { GivesExactly (λ rest. rest.now) result (rest_of (chars_at text.now)) }
 {
     match codes_of(text) {
         Some(codes) => {

@@ -1,12 +1,12 @@
 //! What stands at the front of a text.
 ghost use Rattle.std.specs.Prelude.{◌≡◌, ◌<◌, ◌≤◌, ◌-◌, true, false, drop, MatchOption};
 ghost use Rattle.std.specs.List.{position};
-ghost use Rattle.m_text.specs.Reading.{begins_with};
+ghost use Rattle.m_text.specs.Reading.{begins_with_byte};
 ghost use Rattle.m_text.specs.Literal as literal;
 ghost use Rattle.m_text.specs.Place as place;
 
 fn digits_end(text: &[u8]) -> Option<usize>
-    ensures { result ≡ position literal.ends_digits text.now }
+    ensures { result ≡ position literal.is_no_digit text.now }
 {
     text.iter().position(|byte| !byte.is_ascii_digit())
 }
@@ -41,7 +41,7 @@ pub fn split_letters(text: &[u8]) -> (&[u8], &[u8])
 
 /// What follows the byte, where the text begins with it.
 pub fn after(byte: u8, text: &[u8]) -> Option<&[u8]>
-    ensures { MatchOption result (begins_with byte text.now ≡ false) (λ rest. (begins_with byte text.now ≡ true) × (rest.now ≡ drop 1 text.now)) }
+    ensures { MatchOption result (begins_with_byte byte text.now ≡ false) (λ rest. (begins_with_byte byte text.now ≡ true) × (rest.now ≡ drop 1 text.now)) }
 {
     match text {
         [] => None,

@@ -1,5 +1,5 @@
-//! Laws of literals and references, stated in `specs/Laws.antt`. Calling them does nothing.
-ghost use Rattle.m_text.specs.Laws.{ReadLiteralsAreSpelled, SpelledLiteralsAreRead, WrittenStringsAreLiterals, WrittenStringsAreRead, RunsAreTheLongest, ReadReferencesAreSpelled, SpelledReferencesAreRead, WrittenReferencesAreRead};
+//! Laws of literals and references, stated in `specs/Statements.antt`. Calling them does nothing.
+ghost use Rattle.m_text.specs.Statements.{ReadLiteralsAreSpelled, SpelledLiteralsAreRead, WrittenStringsAreLiterals, WrittenStringsAreRead, RunsAreTheLongest, ReadReferencesAreSpelled, SpelledReferencesAreRead, WrittenReferencesAreRead};
 
 /// A literal is read as the string that it spells and as no other, and what is written of a string is such a literal,
 /// in its longest runs.

@@ -6,13 +6,13 @@
 //!     `specs/Literal.antt`, `place_at`, `ref_at` and `spot_at` in `specs/Place.antt`;
 //! (2) as a grammar, which spells strings and references: `IsLiteral` and `IsReference` in `specs/Forms.antt`;
 //! (3) what is read is spelled so, what is spelled so is read, and what is written is read again, whatever
-//!     follows that can't go on with it (`specs/Laws.antt`).
+//!     follows that can't go on with it (`specs/Statements.antt`).
 //!
 //! The string `a"b` and a byte 10 is written `"a""b"_$C(10)`, `007` is written `"007"`, and `7` bare. Read are also
 //! `"7"`, `07.0`, `$char(55)` and `""_"7"` as the string `7`.
 //!
-//! Read `specs/Forms.antt`, `specs/Written.antt` and `specs/Laws.antt`, then `literal.rt`, `place.rt`, `write.rt`.
-//! Lemmas for the crates above stand in `specs/*Laws.antt`. Strings have no limit here; subscripts have theirs.
+//! Read `specs/Forms.antt`, `specs/Written.antt` and `specs/Statements.antt`, then `literal.rt`, `place.rt`, `write.rt`.
+//! Lemmas for the crates above stand in `specs/laws/`. Strings have no limit here; subscripts have theirs.
 #![tactic(auto)]
 
 pub use front::{after, is_word, number_up_to, split_digits, split_letters, split_word};

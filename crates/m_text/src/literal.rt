@@ -1,7 +1,8 @@
 //! Literals.
 ghost use Rattle.std.specs.Prelude.{◌≡◌, ◌||◌, IfSome, Some, false};
+ghost use Rattle.collation.specs.Bytes as byte;
 ghost use Rattle.key_codec.specs.Draft.{IsJudged};
-ghost use Rattle.m_text.specs.Reading.{Gives, Skips, begins_with, rest_of, with_front, parted_at};
+ghost use Rattle.m_text.specs.Reading.{GivesUnlessMemory, GivesExactly, begins_with_byte, rest_of, with_front, parted_at};
 ghost use Rattle.m_text.specs.Literal.{part_at, literal_at};
 
 use crate::chars::{read_chars, skip_chars};
@@ -15,7 +16,7 @@ use std::alloc::Global;
 
 #[tactic(auto, unfolding(crate::specs::Literal::part_at))]
 fn read_part<'a>(text: &'a [u8], out: &mut Text) -> Result<&'a [u8], Refusal>
-    ensures { Gives (λ rest. (out.new, rest.now)) result (with_front out.old (part_at text.now)) }
+    ensures { GivesUnlessMemory (λ rest. (out.new, rest.now)) result (with_front out.old (part_at text.now)) }
 {
     match text {
         [b'"', rest @ ..] => read_quoted(rest, out),
@@ -25,7 +26,7 @@ fn read_part<'a>(text: &'a [u8], out: &mut Text) -> Result<&'a [u8], Refusal>
 }
 
 fn read_parts<'a>(text: &'a [u8], out: &mut Text) -> Result<&'a [u8], Refusal>
-    ensures { Gives (λ rest. (out.new, rest.now)) result (with_front out.old (parted_at part_at 95 text.now)) }
+    ensures { GivesUnlessMemory (λ rest. (out.new, rest.now)) result (with_front out.old (parted_at part_at byte.underscore text.now)) }
 {
     let mut rest = text;
     'parts: for _ in 0..text.len() {
@@ -40,7 +41,7 @@ fn read_parts<'a>(text: &'a [u8], out: &mut Text) -> Result<&'a [u8], Refusal>
 
 #[tactic(auto, unfolding(crate::specs::Literal::part_at))]
 fn skip_part(text: &[u8]) -> Result<&[u8], Refusal>
-    ensures { Skips (λ rest. rest.now) result (rest_of (part_at text.now)) }
+    ensures { GivesExactly (λ rest. rest.now) result (rest_of (part_at text.now)) }
 {
     match text {
         [b'"', rest @ ..] => skip_quoted(rest),
@@ -50,7 +51,7 @@ fn skip_part(text: &[u8]) -> Result<&[u8], Refusal>
 }
 
 fn skip_parts(text: &[u8]) -> Result<&[u8], Refusal>
-    ensures { Skips (λ rest. rest.now) result (rest_of (parted_at part_at 95 text.now)) }
+    ensures { GivesExactly (λ rest. rest.now) result (rest_of (parted_at part_at byte.underscore text.now)) }
 {
     let mut rest = text;
     'parts: for _ in 0..text.len() {
@@ -65,7 +66,7 @@ fn skip_parts(text: &[u8]) -> Result<&[u8], Refusal>
 
 // Whether a text begins as a quoted text or as `$C` does.
 fn begins_part(text: &[u8]) -> bool
-    ensures { result ≡ (begins_with 34 text.now || begins_with 36 text.now) }
+    ensures { result ≡ (begins_with_byte byte.quote text.now || begins_with_byte byte.dollar text.now) }
 {
     match text {
         [] => false,
@@ -76,7 +77,7 @@ fn begins_part(text: &[u8]) -> bool
 // The canonic number at the front of a text, where a numeric literal is spelled as one, and what follows it.
 #[tactic(auto, using(crate::proofs::Numbers::canonic_texts), unfolding(crate::specs::Literal::literal_at, crate::specs::Literal::numeric_at))]
 fn lend_number(text: &[u8]) -> Option<(&[u8], &[u8])>
-    requires { (begins_with 34 text.now || begins_with 36 text.now) ≡ false }
+    requires { (begins_with_byte byte.quote text.now || begins_with_byte byte.dollar text.now) ≡ false }
     ensures { IfSome result (λ x. literal_at text.now ≡ Some (x.0.now, x.1.now)) }
 {
     let (number, rest) = split_number(text);
@@ -118,7 +119,7 @@ pub(crate) fn lend_judged(text: &[u8]) -> Option<(&[u8], Option<NumberParts<'_>>
 // A literal whose string has to be made.
 #[tactic(auto, using(crate::proofs::Fronts::from_nothing), unfolding(crate::specs::Literal::literal_at))]
 pub(crate) fn make_literal(alloc: Global, text: &[u8]) -> Result<(Text, &[u8]), Refusal>
-    ensures { Gives (λ x. (x.0, x.1.now)) result (literal_at text.now) }
+    ensures { GivesUnlessMemory (λ x. (x.0, x.1.now)) result (literal_at text.now) }
 {
     if !begins_part(text) {
         return read_number(alloc, text);
@@ -132,7 +133,7 @@ pub(crate) fn make_literal(alloc: Global, text: &[u8]) -> Result<(Text, &[u8]), 
 ///
 /// A string has no limit here. Refusals: `BadLine` where no literal stands there; `OutOfMemory`.
 pub fn read_literal(alloc: Global, text: &[u8]) -> Result<(Text, &[u8]), Refusal>
-    ensures exact { Gives (λ x. (x.0, x.1.now)) result (literal_at text.now) }
+    ensures exact { GivesUnlessMemory (λ x. (x.0, x.1.now)) result (literal_at text.now) }
 {
     match lend_literal(text) {
         Some((string, rest)) => {
@@ -148,7 +149,7 @@ pub fn read_literal(alloc: Global, text: &[u8]) -> Result<(Text, &[u8]), Refusal
 /// Refusals: `BadLine` where no literal stands there.
 #[tactic(auto, unfolding(crate::specs::Literal::literal_at))]
 pub fn skip_literal(text: &[u8]) -> Result<&[u8], Refusal>
-    ensures exact { Skips (λ rest. rest.now) result (rest_of (literal_at text.now)) }
+    ensures exact { GivesExactly (λ rest. rest.now) result (rest_of (literal_at text.now)) }
 {
     if begins_part(text) {
         skip_parts(text)

@@ -2,7 +2,7 @@
 ghost use Rattle.std.specs.Prelude.{◌≡◌, ◌≤◌, ◌+◌, length, take, drop, true, if◌then◌else◌};
 ghost use Rattle.std.specs.List.{position, position_or_len};
 ghost use Rattle.canonic_number.specs.Number as number;
-ghost use Rattle.m_text.specs.Reading.{Gives, Skips, rest_of};
+ghost use Rattle.m_text.specs.Reading.{GivesUnlessMemory, GivesExactly, rest_of};
 ghost use Rattle.m_text.specs.Literal as literal;
 
 use canonic_number::{canonic_of, is_numeric};
@@ -61,7 +61,7 @@ pub(crate) fn split_number(text: &[u8]) -> (&[u8], &[u8])
 // A numeric literal at the front of a text: its canonic number, and what follows it.
 #[tactic(auto, unfolding(crate::specs::Literal::numeric_at))]
 pub(crate) fn read_number(alloc: Global, text: &[u8]) -> Result<(Text, &[u8]), Refusal>
-    ensures { Gives (λ x. (x.0, x.1.now)) result (literal.numeric_at text.now) }
+    ensures { GivesUnlessMemory (λ x. (x.0, x.1.now)) result (literal.numeric_at text.now) }
 {
     let (number, rest) = split_number(text);
     match canonic_of(alloc, number)? {
@@ -73,7 +73,7 @@ pub(crate) fn read_number(alloc: Global, text: &[u8]) -> Result<(Text, &[u8]), R
 // What follows a numeric literal.
 #[tactic(auto, unfolding(crate::specs::Literal::numeric_at))]
 pub(crate) fn skip_number(text: &[u8]) -> Result<&[u8], Refusal>
-    ensures { Skips (λ rest. rest.now) result (rest_of (literal.numeric_at text.now)) }
+    ensures { GivesExactly (λ rest. rest.now) result (rest_of (literal.numeric_at text.now)) }
 {
     let (number, rest) = split_number(text);
     if is_numeric(number) {

@@ -1,9 +1,10 @@
 //! References and places, read straight into key bytes.
 ghost use Rattle.std.specs.Prelude.{◌≡◌, []};
+ghost use Rattle.collation.specs.Bytes as byte;
 ghost use Rattle.collation.specs.Reference.{Reference};
 ghost use Rattle.key_codec.specs.Draft.{IsDraft};
 ghost use Rattle.m_text.specs.Drafts.{Drafts, DraftsSpelled};
-ghost use Rattle.m_text.specs.Reading.{Answers, Skips, rest_of, with_front, parted_at};
+ghost use Rattle.m_text.specs.Reading.{Answers, GivesExactly, rest_of, with_front, parted_at};
 ghost use Rattle.m_text.specs.Place.{subscript_at, subscripts_at, named_at, place_at, ref_at, spot_at};
 
 use crate::front::{after, split_word};
@@ -42,7 +43,7 @@ fn read_subscript<'a>(
 }
 
 fn read_list<'a>(alloc: Global, text: &'a [u8], draft: &mut KeyDraft) -> Result<&'a [u8], Refusal>
-    ensures { (r : Reference) → IsDraft draft.old r → Drafts draft.new r.name result (with_front r.subscripts (parted_at subscript_at 44 text.now)) }
+    ensures { (r : Reference) → IsDraft draft.old r → Drafts draft.new r.name result (with_front r.subscripts (parted_at subscript_at byte.comma text.now)) }
 {
     let mut rest = text;
     'subscripts: for _ in 0..text.len() {
@@ -153,13 +154,13 @@ pub fn read_place<'a>(
 }
 
 fn skip_subscript(text: &[u8]) -> Result<&[u8], Refusal>
-    ensures { Skips (λ rest. rest.now) result (rest_of (subscript_at text.now)) }
+    ensures { GivesExactly (λ rest. rest.now) result (rest_of (subscript_at text.now)) }
 {
     skip_literal(text)
 }
 
 fn skip_list(text: &[u8]) -> Result<&[u8], Refusal>
-    ensures { Skips (λ rest. rest.now) result (rest_of (parted_at subscript_at 44 text.now)) }
+    ensures { GivesExactly (λ rest. rest.now) result (rest_of (parted_at subscript_at byte.comma text.now)) }
 {
     let mut rest = text;
     'subscripts: for _ in 0..text.len() {
@@ -174,7 +175,7 @@ fn skip_list(text: &[u8]) -> Result<&[u8], Refusal>
 
 #[tactic(auto, unfolding(crate::specs::Place::subscripts_at))]
 fn skip_subscripts(text: &[u8]) -> Result<&[u8], Refusal>
-    ensures { Skips (λ rest. rest.now) result (rest_of (subscripts_at text.now)) }
+    ensures { GivesExactly (λ rest. rest.now) result (rest_of (subscripts_at text.now)) }
 {
     match after(b'(', text) {
         Some(list) => {
@@ -190,7 +191,7 @@ fn skip_subscripts(text: &[u8]) -> Result<&[u8], Refusal>
 
 #[tactic(auto, unfolding(crate::specs::Place::named_at))]
 fn skip_named(text: &[u8]) -> Result<&[u8], Refusal>
-    ensures { Skips (λ rest. rest.now) result (rest_of (named_at text.now)) }
+    ensures { GivesExactly (λ rest. rest.now) result (rest_of (named_at text.now)) }
 {
     let (word, rest) = split_word(text);
     if word.is_empty() {
@@ -205,7 +206,7 @@ fn skip_named(text: &[u8]) -> Result<&[u8], Refusal>
 /// Refusals: `BadLine` where none is spelled there.
 #[tactic(auto, unfolding(crate::specs::Place::place_at))]
 pub fn skip_place(text: &[u8]) -> Result<&[u8], Refusal>
-    ensures exact { Skips (λ rest. rest.now) result (rest_of (place_at text.now)) }
+    ensures exact { GivesExactly (λ rest. rest.now) result (rest_of (place_at text.now)) }
 {
     match after(b'^', text) {
         Some(named) => skip_named(named),

@@ -1,7 +1,8 @@
 //! Quoted texts.
 ghost use Rattle.std.specs.Prelude.{◌≡◌, ◌||◌, ◌<◌, ◌∷◌, ◌++◌, ◌+◌, length, take, drop, None, Some, IfSome, MatchOption, OnOk};
 ghost use Rattle.std.specs.List.{flat_map, position};
-ghost use Rattle.m_text.specs.Reading.{Gives, Skips, begins_with, rest_of, with_front};
+ghost use Rattle.collation.specs.Bytes as byte;
+ghost use Rattle.m_text.specs.Reading.{GivesUnlessMemory, GivesExactly, begins_with_byte, rest_of, with_front};
 ghost use Rattle.m_text.specs.Literal.{quoted_at, is_quote, literal_at};
 ghost use Rattle.key_codec.specs.Grown.{GoesOnFrom};
 ghost use Rattle.m_text.specs.Written.{doubled, quoted};
@@ -29,7 +30,7 @@ fn split_around(text: &[u8], at: usize) -> (&[u8], &[u8])
 // The bytes before the first quote, and what follows it.
 fn split_quote(text: &[u8]) -> Option<(&[u8], &[u8])>
     ensures { MatchOption result (quoted_at text.now ≡ None)
-        (λ x. (quoted_at text.now ≡ with_front x.0.now (quoted_at (34 ∷ x.1.now))) × (length x.1.now < length text.now)) }
+        (λ x. (quoted_at text.now ≡ with_front x.0.now (quoted_at (byte.quote ∷ x.1.now))) × (length x.1.now < length text.now)) }
 {
     let at = quote_in(text)?;
     Some(split_around(text, at))
@@ -37,7 +38,7 @@ fn split_quote(text: &[u8]) -> Option<(&[u8], &[u8])>
 
 // Whether a quote that stands before this is doubled, or more is joined to it.
 fn goes_on(rest: &[u8]) -> bool
-    ensures { result ≡ (begins_with 34 rest.now || begins_with 95 rest.now) }
+    ensures { result ≡ (begins_with_byte byte.quote rest.now || begins_with_byte byte.underscore rest.now) }
 {
     match rest {
         [] => false,
@@ -62,7 +63,7 @@ pub(crate) fn lend_quoted(text: &[u8]) -> Option<(&[u8], &[u8])>
 // Reads what follows an opening quote to the end of `out`, and answers what follows the closing quote.
 #[tactic(auto, using(crate::proofs::QuotedRuns::runs), unfolding(crate::specs::Literal::quoted_at))]
 pub(crate) fn read_quoted<'a>(text: &'a [u8], out: &mut Text) -> Result<&'a [u8], Refusal>
-    ensures { Gives (λ rest. (out.new, rest.now)) result (with_front out.old (quoted_at text.now)) }
+    ensures { GivesUnlessMemory (λ rest. (out.new, rest.now)) result (with_front out.old (quoted_at text.now)) }
 {
     let mut rest = text;
     'runs: while let Some((run, after)) = split_quote(rest) {
@@ -81,7 +82,7 @@ pub(crate) fn read_quoted<'a>(text: &'a [u8], out: &mut Text) -> Result<&'a [u8]
 // What follows a quoted text, from behind its opening quote.
 #[tactic(auto, using(crate::proofs::QuotedRuns::runs), unfolding(crate::specs::Literal::quoted_at))]
 pub(crate) fn skip_quoted(text: &[u8]) -> Result<&[u8], Refusal>
-    ensures { Skips (λ rest. rest.now) result (rest_of (quoted_at text.now)) }
+    ensures { GivesExactly (λ rest. rest.now) result (rest_of (quoted_at text.now)) }
 {
     let mut rest = text;
     'runs: while let Some((_, after)) = split_quote(rest) {
@@ -96,7 +97,7 @@ pub(crate) fn skip_quoted(text: &[u8]) -> Result<&[u8], Refusal>
 // The same, as it is written.
 fn split_doubled(text: &[u8]) -> Option<(&[u8], &[u8])>
     ensures { MatchOption result (flat_map doubled text.now ≡ text.now)
-        (λ x. (flat_map doubled text.now ≡ x.0.now ++ (34 ∷ 34 ∷ flat_map doubled x.1.now)) × (length x.1.now < length text.now)) }
+        (λ x. (flat_map doubled text.now ≡ x.0.now ++ (byte.quote ∷ byte.quote ∷ flat_map doubled x.1.now)) × (length x.1.now < length text.now)) }
 {
     let at = quote_in(text)?;
     Some(split_around(text, at))

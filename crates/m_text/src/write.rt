@@ -2,6 +2,7 @@
 ghost use Rattle.std.specs.Prelude.{◌≡◌, ◌<◌, ◌++◌, ◌∷◌, length, decimal, OnOk, OnErr};
 ghost use Rattle.std.specs.Bool.{beq};
 ghost use Rattle.std.specs.List.{flat_map, position};
+ghost use Rattle.collation.specs.Bytes as byte;
 ghost use Rattle.key_codec.specs.Grown.{GoesOnFrom};
 ghost use Rattle.m_text.specs.Written as written;
 
@@ -46,7 +47,7 @@ fn write_code(byte: u8, out: &mut Vec<u8>) -> Result<(), AllocError>
 }
 
 fn write_more_codes(bytes: &[u8], out: &mut Vec<u8>) -> Result<(), AllocError>
-    ensures ok { OnOk result (out.new.items ≡ out.old.items ++ flat_map (λ b. 44 ∷ decimal b) bytes.now) }
+    ensures ok { OnOk result (out.new.items ≡ out.old.items ++ flat_map (λ b. byte.comma ∷ decimal b) bytes.now) }
     ensures kept { GoesOnFrom out.old.items out.new.items }
 {
     'codes: for byte in bytes {
@@ -57,7 +58,7 @@ fn write_more_codes(bytes: &[u8], out: &mut Vec<u8>) -> Result<(), AllocError>
 }
 
 fn write_codes(bytes: &[u8], out: &mut Vec<u8>) -> Result<(), AllocError>
-    ensures ok { OnOk result (out.new.items ≡ out.old.items ++ written.parted 44 decimal bytes.now) }
+    ensures ok { OnOk result (out.new.items ≡ out.old.items ++ written.parted byte.comma decimal bytes.now) }
     ensures kept { GoesOnFrom out.old.items out.new.items }
 {
     match bytes {
@@ -96,7 +97,7 @@ fn write_run(run: &[u8], out: &mut Vec<u8>) -> Result<(), AllocError>
 }
 
 fn write_runs(text: &[u8], out: &mut Vec<u8>) -> Result<(), AllocError>
-    ensures ok { OnOk result (out.new.items ≡ out.old.items ++ written.parted 95 written.run_text (written.runs text.now)) }
+    ensures ok { OnOk result (out.new.items ≡ out.old.items ++ written.parted byte.underscore written.run_text (written.runs text.now)) }
     ensures kept { GoesOnFrom out.old.items out.new.items }
 {
     let mut rest = text;
@@ -132,7 +133,7 @@ fn push_literal(string: &[u8], out: &mut Vec<u8>) -> Result<(), AllocError>
 ///
 /// A canonic number is written bare; another string as its longest runs of bytes 32 to 126, in quotes, and
 /// of other bytes, as `$C` with their codes, joined by `_`. Where memory is refused `out` is as it was.
-#[tactic(auto, using(key_codec::specs::GrownLaws::back_to))]
+#[tactic(auto, using(key_codec::specs::laws::Grown::back_to))]
 pub fn write_literal(string: &[u8], out: &mut Vec<u8>) -> Result<(), AllocError>
     ensures ok { OnOk result (out.new.items ≡ out.old.items ++ written.literal_text string.now) }
     ensures err { OnErr result (out.new.items ≡ out.old.items) }
@@ -176,7 +177,7 @@ fn write_subscript(subscript: &KeySubscript<'_>, out: &mut Vec<u8>) -> Result<()
 }
 
 fn write_more_subscripts(subscripts: KeySubscripts<'_>, out: &mut Vec<u8>) -> Result<(), AllocError>
-    ensures ok { OnOk result (out.new.items ≡ out.old.items ++ flat_map (λ s. 44 ∷ written.literal_text s) subscripts.entry) }
+    ensures ok { OnOk result (out.new.items ≡ out.old.items ++ flat_map (λ s. byte.comma ∷ written.literal_text s) subscripts.entry) }
     ensures kept { GoesOnFrom out.old.items out.new.items }
 {
     'subscripts: for subscript in subscripts {
@@ -214,7 +215,7 @@ fn push_key(key: &Key, out: &mut Vec<u8>) -> Result<(), AllocError>
 /// Writes the reference of a key at the end of `out`: a caret, the name, and the subscripts as literals.
 ///
 /// Where memory is refused `out` is as it was.
-#[tactic(auto, using(key_codec::specs::GrownLaws::back_to))]
+#[tactic(auto, using(key_codec::specs::laws::Grown::back_to))]
 pub fn write_key(key: &Key, out: &mut Vec<u8>) -> Result<(), AllocError>
     ensures ok { OnOk result (out.new.items ≡ out.old.items ++ written.reference_text key.now) }
     ensures err { OnErr result (out.new.items ≡ out.old.items) }

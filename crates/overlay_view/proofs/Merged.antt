@@ -9,15 +9,15 @@ use Rattle.std.specs.Ordering.{is_lt}
 use Rattle.std.specs.Cmp.{first_so, second_so}
 use Rattle.std.specs.FinMap as finmap
 use Rattle.collation.specs.Reference.{Reference}
-use Rattle.collation.specs.OrderLaws.{is_less}
+use Rattle.collation.specs.laws.Order.{is_less}
 use Rattle.collation.specs.Database.{Database}
 use Rattle.globals.specs.Entries.{nearest_entry}
-use Rattle.globals.specs.NearestLaws.{IsNearest}
+use Rattle.globals.specs.laws.Nearest.{IsNearest}
 use Rattle.workspace.specs.Layers.{Layer, is_killed, laid_over}
 use Rattle.workspace.specs.laws.Layering.{get_over}
 use denote.Ref.{Bor}
 use Rattle.globals.specs.declared.cut.Cut.{Cut}
-use Rattle.overlay_view.specs.Merging.{toward, nearer, is_beyond, is_left, lent_node}
+use Rattle.overlay_view.specs.Merging.{toward, nearer, is_beyond_cut, is_left, lent_node}
 use Rattle.overlay_view.proofs.Nearness.{Node, toward_same, toward_turned, toward_trans, found, none_found, is_nearest, none_nearest}
 
 module _ (w : Layer) (m : Database) where
@@ -144,10 +144,10 @@ is_lent n None h = h
 is_lent n (Some e) h = h
 
 pub looked : (forward : Bool) (cut : Cut) (w : Layer) (m a : Database) (own below result : Lent) → a ≡ w.written
-    → MatchOption own (nearest_entry forward (is_beyond forward cut) a ≡ None) (λ e. nearest_entry forward (is_beyond forward cut) a ≡ Some (e.0.now, e.1.now))
+    → MatchOption own (nearest_entry forward (is_beyond_cut forward cut) a ≡ None) (λ e. nearest_entry forward (is_beyond_cut forward cut) a ≡ Some (e.0.now, e.1.now))
     → MatchOption below (nearest_entry forward (is_left forward cut w.killed) m ≡ None) (λ e. nearest_entry forward (is_left forward cut w.killed) m ≡ Some (e.0.now, e.1.now))
     → lent_node result ≡ nearer forward (lent_node own) (lent_node below)
-    → MatchOption result (nearest_entry forward (is_beyond forward cut) (laid_over w m) ≡ None) (λ e. nearest_entry forward (is_beyond forward cut) (laid_over w m) ≡ Some (e.0.now, e.1.now))
+    → MatchOption result (nearest_entry forward (is_beyond_cut forward cut) (laid_over w m) ≡ None) (λ e. nearest_entry forward (is_beyond_cut forward cut) (laid_over w m) ≡ Some (e.0.now, e.1.now))
 looked forward cut w m a own below result is h k n =
-    is_lent _ result (nearest_over w m forward (is_beyond forward cut) (lent_node own) (lent_node below)
-    (ap (nearest_entry forward (is_beyond forward cut)) (sym is) ∙ lent_is _ own h) (lent_is _ below k) ∙ sym n)
+    is_lent _ result (nearest_over w m forward (is_beyond_cut forward cut) (lent_node own) (lent_node below)
+    (ap (nearest_entry forward (is_beyond_cut forward cut)) (sym is) ∙ lent_is _ own h) (lent_is _ below k) ∙ sym n)

@@ -12,14 +12,14 @@ use Rattle.std.specs.FinMap as finmap
 use Rattle.std.specs.FinMap.Entries.{by_order}
 use Rattle.collation.specs.Reference.{Reference}
 use Rattle.collation.specs.Order.{ref_cmp}
-use Rattle.collation.specs.OrderLaws.{ref_cmp_total, is_less, turned}
+use Rattle.collation.specs.laws.Order.{ref_cmp_total, is_less, turned}
 use Rattle.collation.specs.Database.{Database}
 use Rattle.collation.specs.Levels.{is_before}
 use Rattle.globals.specs.declared.cut.Cut.{Cut}
 use Rattle.globals.specs.Cuts.{stands_before, entries_from, IsRun}
 use Rattle.globals.specs.laws.Steps.{behind_member}
 use Rattle.workspace.specs.Layers.{is_killed, IsKiller}
-use Rattle.overlay_view.specs.Merging.{without_killed, joined, IsBehind}
+use Rattle.overlay_view.specs.Merging.{without_killed, joined, IsJustBehind}
 use Rattle.overlay_view.proofs.Nearness.{Node, no_more}
 use Rattle.overlay_view.proofs.Skipped.{left_after, has_left_so}
 
@@ -53,7 +53,7 @@ both_tests P Q (e ∷ es) = elim (P e.0) as (λ p. filter (λ e. Q e.0) (cond p 
   | false ↦ both_tests P Q es
 ]
 
-module _ (ks : List Reference) (x : Reference) (cut : Cut) (is : IsBehind ks x cut) where
+module _ (ks : List Reference) (x : Reference) (cut : Cut) (is : IsJustBehind ks x cut) where
   same_test : (y : Reference) → (not (not (is_lt (ref_cmp x y))) && not (is_killed ks y)) ≡ (not (stands_before cut y) && not (is_killed ks y))
   same_test y = by_killed (is_killed ks y) refl
     where
@@ -88,13 +88,13 @@ module _ (from : Cut) (m : Database) (most : ℕ) (found : List Node) (e : Node)
   some_found = let n : length (drop (length found - 1) found) ≡ 1 = ap length last in omega (arith, n, length-drop (length found - 1) found)
 
   -- all of it is killed: nothing is lost where it goes on behind
-  pub passed_on : (ks : List Reference) (cut : Cut) → IsBehind ks e.0 cut → without_killed ks found ≡ [] → without_killed ks (entries_from cut m) ≡ without_killed ks (entries_from from m)
+  pub passed_on : (ks : List Reference) (cut : Cut) → IsJustBehind ks e.0 cut → without_killed ks found ≡ [] → without_killed ks (entries_from cut m) ≡ without_killed ks (entries_from from m)
   passed_on ks cut behind none =
       sym (behind_same ks e.0 cut behind (finmap.entries m)) ∙ ap (without_killed ks) rest_is
       ∙ ap (λ l. l ++ without_killed ks is.front.rest) (sym none) ∙ sym (filter-append (λ e. not (is_killed ks e.0)) found is.front.rest)
       ∙ ap (without_killed ks) (sym is.front.parts)
 
-  pub fewer_from : (ks : List Reference) (cut : Cut) → IsBehind ks e.0 cut → length (entries_from cut m) < length (entries_from from m)
+  pub fewer_from : (ks : List Reference) (cut : Cut) → IsJustBehind ks e.0 cut → length (entries_from cut m) < length (entries_from from m)
   fewer_from ks cut behind =
       let fewer = fewer_behind ks e.0 cut behind (finmap.entries m) in
       let rest : length (filter (λ f. not (not (is_lt (ref_cmp e.0 f.0)))) (finmap.entries m)) ≡ length is.front.rest = ap length rest_is in

@@ -13,11 +13,11 @@ use Rattle.std.specs.FinMap.{find, is_sorted}
 use Rattle.std.specs.FinMap.Entries.{by_order, below_all, find-where_key, is_sorted-where_key, same_entries}
 use Rattle.collation.specs.Reference.{Reference}
 use Rattle.collation.specs.Order.{ref_cmp}
-use Rattle.collation.specs.OrderLaws.{ref_cmp_total, ref_cmp-IsAntisymmetric, is_less, is_equal, turned}
+use Rattle.collation.specs.laws.Order.{ref_cmp_total, ref_cmp-IsAntisymmetric, is_less, is_equal, turned}
 use Rattle.collation.specs.Database.{Database}
 use Rattle.globals.specs.declared.cut.Cut.{Cut}
 use Rattle.globals.specs.Cuts.{stands_before, entries_from}
-use Rattle.globals.specs.NearestLaws.{true_of, not_found_itself}
+use Rattle.globals.specs.laws.Nearest.{true_of, not_found_itself}
 use Rattle.workspace.specs.Layers.{Layer, is_killed, laid_over}
 use Rattle.workspace.specs.laws.Layering.{get_over}
 use Rattle.overlay_view.specs.Merging.{without_killed, joined}

@@ -2,7 +2,7 @@
 ghost use Rattle.std.specs.Prelude.{◌≡◌, ◌≤◌, ◌<◌, [], ◌∷◌, ◌++◌, List, ℕ, length};
 ghost use Rattle.collation.specs.Reference.{Reference};
 ghost use Rattle.globals.specs.Cuts.{entries_from, IsFront, IsRun};
-ghost use Rattle.overlay_view.specs.Merging.{without_killed, joined, IsBehind};
+ghost use Rattle.overlay_view.specs.Merging.{without_killed, joined, IsJustBehind};
 
 use collation::Text;
 use globals::{Cut, OrderedView, Run};
@@ -37,7 +37,7 @@ fn unkilled<'v>(workspace: &Workspace, found: &Run<'v>) -> Run<'v>
 
 // Behind a reference, and where it is killed behind all that is killed with it.
 fn behind<'v>(workspace: &'v Workspace, key: &'v Key) -> Cut<'v>
-    ensures { IsBehind workspace.now.killed key.now result }
+    ensures { IsJustBehind workspace.now.killed key.now result }
 {
     match workspace.killed_over(key) {
         Some(killed) => Cut::Past(killed),

@@ -6,12 +6,12 @@ use Rattle.std.specs.declared.cmp.Ordering.TheVariants.{Less, Equal, Greater}
 use Rattle.std.specs.Ordering.{is_lt}
 use Rattle.collation.specs.Reference.{Reference}
 use Rattle.collation.specs.Order.{ref_cmp}
-use Rattle.collation.specs.OrderLaws.{ref_cmp_total, ref_cmp-IsAntisymmetric, is_less, turned}
+use Rattle.collation.specs.laws.Order.{ref_cmp_total, ref_cmp-IsAntisymmetric, is_less, turned}
 use Rattle.collation.specs.Database.{is_under}
 use Rattle.collation.specs.Levels.{is_before}
 use Rattle.globals.specs.declared.cut.Cut.{Cut}
 use Rattle.globals.specs.Cuts.{stands_before}
-use Rattle.globals.specs.CutLaws.{stands_before-earlier, before_end-earlier}
+use Rattle.globals.specs.laws.Cuts.{stands_before-earlier, before_end-earlier}
 use Rattle.globals.specs.laws.Under.{under_again, before_end}
 
 -- what stands before a cut that leaves k behind it stands before k

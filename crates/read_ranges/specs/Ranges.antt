@@ -53,11 +53,11 @@ abbrev pub IsNoted : List ReadRange → List ReadRange → DataCommand → Answe
 IsNoted old new command answer decided = (own : Reference → Bool) → IsDecided command decided own → (x : Reference) → is_in_one new x ≡ (is_in_one old x || read_set command answer own x)
 
 -- after a command that changes the database the ranges begin with those before it
-abbrev pub IsBehind : DataCommand → List ReadRange → List ReadRange → Type 0
-IsBehind (Set r v) old new = take (length old) new ≡ old
-IsBehind (Kill r) old new = take (length old) new ≡ old
-IsBehind (Merge a b) old new = take (length old) new ≡ old
-IsBehind (Look look) old new = ⊤
+abbrev pub KeepsFormerRanges : DataCommand → List ReadRange → List ReadRange → Type 0
+KeepsFormerRanges (Set r v) old new = take (length old) new ≡ old
+KeepsFormerRanges (Kill r) old new = take (length old) new ≡ old
+KeepsFormerRanges (Merge a b) old new = take (length old) new ≡ old
+KeepsFormerRanges (Look look) old new = ⊤
 
 -- ---- what joins
 

@@ -9,7 +9,7 @@ ghost use Rattle.command.specs.declared.access.Answer.TheVariants.{Value, Found}
 ghost use Rattle.globals.specs.Fitting.{IsAnswerOf, IsLookAnswer, IsOrderAnswer, IsQueryAnswer};
 ghost use Rattle.journal.specs.Touching.{order_read, query_read};
 ghost use Rattle.serial.specs.ReadRanges.{level_end as level_end_spec, root_of};
-ghost use Rattle.read_ranges.specs.Ranges.{between, is_in_one, IsNoted, IsBehind};
+ghost use Rattle.read_ranges.specs.Ranges.{between, is_in_one, IsNoted, KeepsFormerRanges};
 
 use crate::level::{after_place, before_place, level_end, level_start};
 use crate::range::ReadRange;
@@ -86,7 +86,7 @@ impl Ranges {
     ) -> Result<(), AllocError>
         requires { IsAnswerOf command.now answer.now }
         ensures noted { OnOk result (IsNoted self.old self.new command.now answer.now decided) }
-        ensures behind { OnOk result (IsBehind command.now self.old self.new) }
+        ensures behind { OnOk result (KeepsFormerRanges command.now self.old self.new) }
         ensures err { OnErr result (self.new ≡ self.old) }
     {
         match command {

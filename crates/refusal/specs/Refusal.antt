@@ -4,25 +4,25 @@ use Rattle.refusal.specs.declared.Refusal.{Refusal}
 use Rattle.refusal.specs.declared.Refusal.TheVariants.{BadLine, BadName, EmptySubscript, SubscriptTooLong, TooManySubscripts, ValueTooLong, NeedSubscript, MergeOverlap, NoTransaction, LevelTooDeep, LockCountFull, BadJob, TransactionTooLong, OutOfMemory, StampsUsedUp, Gone, Again, Ahead}
 
 -- the number
-abbrev pub number_of : Refusal → ℕ
-number_of BadLine = 1
-number_of BadName = 2
-number_of EmptySubscript = 3
-number_of SubscriptTooLong = 4
-number_of TooManySubscripts = 5
-number_of ValueTooLong = 6
-number_of NeedSubscript = 7
-number_of MergeOverlap = 8
-number_of NoTransaction = 9
-number_of LevelTooDeep = 10
-number_of LockCountFull = 11
-number_of BadJob = 12
-number_of TransactionTooLong = 13
-number_of OutOfMemory = 14
-number_of StampsUsedUp = 15
-number_of Gone = 16
-number_of Again = 17
-number_of Ahead = 18
+abbrev pub refusal_number : Refusal → ℕ
+refusal_number BadLine = 1
+refusal_number BadName = 2
+refusal_number EmptySubscript = 3
+refusal_number SubscriptTooLong = 4
+refusal_number TooManySubscripts = 5
+refusal_number ValueTooLong = 6
+refusal_number NeedSubscript = 7
+refusal_number MergeOverlap = 8
+refusal_number NoTransaction = 9
+refusal_number LevelTooDeep = 10
+refusal_number LockCountFull = 11
+refusal_number BadJob = 12
+refusal_number TransactionTooLong = 13
+refusal_number OutOfMemory = 14
+refusal_number StampsUsedUp = 15
+refusal_number Gone = 16
+refusal_number Again = 17
+refusal_number Ahead = 18
 
 -- the name
 abbrev pub name_of : Refusal → List ℕ
@@ -47,4 +47,4 @@ name_of Ahead = codes "Ahead"
 
 -- the number, a space and the name
 abbrev pub refusal_text : Refusal → List ℕ
-refusal_text refusal = decimal (number_of refusal) ++ 32 ∷ name_of refusal
+refusal_text refusal = decimal (refusal_number refusal) ++ 32 ∷ name_of refusal

@@ -6,7 +6,7 @@
 #![tactic(auto)]
 
 ghost use Rattle.std.specs.Prelude.{◌≡◌};
-ghost use Rattle.refusal.specs.Refusal.{number_of, name_of};
+ghost use Rattle.refusal.specs.Refusal.{refusal_number, name_of};
 
 use std::alloc::{AllocError, AllocFailed};
 use std::error::Error;
@@ -56,7 +56,7 @@ pub enum Refusal {
 impl Refusal {
     /// The number that is printed, 1 to 18.
     pub fn number(self) -> u8
-        ensures { result ≡ number_of self }
+        ensures { result ≡ refusal_number self }
     {
         self as u8
     }

@@ -5,8 +5,8 @@ use Rattle.collation.specs.Reference.{Reference}
 use Rattle.m_text.specs.Reading.{rest_of}
 use Rattle.m_text.specs.Literal.{literal_at}
 use Rattle.m_text.specs.Place.{place_at}
-use Rattle.m_text.specs.LiteralLaws.{literal_found}
-use Rattle.m_text.specs.PlaceLaws.{place_found}
+use Rattle.m_text.specs.laws.Literal.{literal_found}
+use Rattle.m_text.specs.laws.Place.{place_found}
 
 behind : (all text rest : List ℕ) → all ≡ text ++ rest → length rest ≤ length all
 behind all text rest e = omega (arith, ap length e, length-append text rest)

@@ -4,7 +4,7 @@ use Rattle.std.specs.Option.{option_or}
 use Rattle.refusal.specs.declared.Refusal.{Refusal}
 use Rattle.m_text.specs.Reading.{IsDue}
 use Rattle.m_text.specs.Place.{unless}
-use Rattle.m_text.specs.FaultLaws.{due_too, unless_err, unless_ok}
+use Rattle.m_text.specs.laws.Faults.{due_too, unless_err, unless_ok}
 
 -- the same fault in place of something else
 pub due_other : {A B : Type 0} → (refusal : Refusal) (fault : Option Refusal) (x : A) (w : B) → IsDue refusal (unless fault x) → IsDue refusal (unless fault w)

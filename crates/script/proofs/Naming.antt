@@ -4,8 +4,8 @@ use Rattle.std.specs.Prelude.{is_some, OnOk}
 use Rattle.std.specs.Option.{option_map, option_or}
 use Rattle.refusal.specs.declared.Refusal.{Refusal}
 use Rattle.collation.specs.Reference.{Reference, Resource}
-use Rattle.m_text.specs.Reading.{with_front, begins_with, some_at, parted_at, closed, IsRefused}
-use Rattle.m_text.specs.ReadingLaws.{with_front-nil, refused_too}
+use Rattle.m_text.specs.Reading.{with_front, begins_with_byte, some_at, parted_at, then_closing, IsUnread}
+use Rattle.m_text.specs.laws.Reading.{with_front-nil, refused_too}
 use Rattle.m_text.specs.Place.{named_at, ref_fault}
 use Rattle.script.specs.declared.names.Names.{Names}
 use Rattle.script.specs.Locking.{past_caret, lock_name_at, lock_names_at, names_fault}
@@ -67,18 +67,18 @@ same_name n caret r p q = λ i. record { has_caret = p i; reference = q i }
 
 -- a name behind others
 
-pub name_after : (text named rest : List ℕ) (caret : Bool) (r : Reference) (ns : List Resource) → caret ≡ begins_with 94 text → named ≡ past_caret text → named_at named ≡ Some (r, rest) →
+pub name_after : (text named rest : List ℕ) (caret : Bool) (r : Reference) (ns : List Resource) → caret ≡ begins_with_byte 94 text → named ≡ past_caret text → named_at named ≡ Some (r, rest) →
     with_front ns (lock_name_at text) ≡ Some (ns ++ record { has_caret = caret; reference = r } ∷ [], rest)
 unfolding lock_name_at
 name_after text named rest caret r ns c p e =
-    ap (λ (read : Option (Reference × List ℕ)). with_front ns (option_map (λ x. (record { has_caret = begins_with 94 text; reference = x.0 } ∷ [], x.1)) read)) (ap named_at (sym p) ∙ e)
+    ap (λ (read : Option (Reference × List ℕ)). with_front ns (option_map (λ x. (record { has_caret = begins_with_byte 94 text; reference = x.0 } ∷ [], x.1)) read)) (ap named_at (sym p) ∙ e)
     ∙ ap (λ (b : Bool). Some (ns ++ record { has_caret = b; reference = r } ∷ [], rest)) (sym c)
 
-pub no_name : (refusal : Refusal) (text named : List ℕ) (ns : List Resource) → named ≡ past_caret text → IsRefused refusal (named_at named) → IsRefused refusal (with_front ns (lock_name_at text))
+pub no_name : (refusal : Refusal) (text named : List ℕ) (ns : List Resource) → named ≡ past_caret text → IsUnread refusal (named_at named) → IsUnread refusal (with_front ns (lock_name_at text))
 unfolding lock_name_at
 no_name refusal text named ns p h =
     refused_too refusal (named_at named) (with_front ns (lock_name_at text))
-    (λ none. ap (λ (read : Option (Reference × List ℕ)). with_front ns (option_map (λ x. (record { has_caret = begins_with 94 text; reference = x.0 } ∷ [], x.1)) read)) (ap named_at (sym p) ∙ none)) h
+    (λ none. ap (λ (read : Option (Reference × List ℕ)). with_front ns (option_map (λ x. (record { has_caret = begins_with_byte 94 text; reference = x.0 } ∷ [], x.1)) read)) (ap named_at (sym p) ∙ none)) h
 
 -- what has been read, and what the rest will add
 pub record Stands (names : Names) (ns : List Resource) (n : ℕ) (rest text : List ℕ) : Type 0 where
@@ -90,25 +90,25 @@ pub record Stands (names : Names) (ns : List Resource) (n : ℕ) (rest text : Li
 list_is : (text list : List ℕ) (read : Option (List Resource × List ℕ)) → list ≡ drop 1 text → with_front [] (parted_at lock_name_at 44 list) ≡ read → parted_at lock_name_at 44 (drop 1 text) ≡ read
 list_is text list read e h = ap (parted_at lock_name_at 44) (sym e) ∙ sym (with_front-nil (parted_at lock_name_at 44 list)) ∙ h
 
-pub names_closed : (text list rest last : List ℕ) (ns : List Resource) → begins_with 40 text ≡ true → list ≡ drop 1 text → with_front [] (parted_at lock_name_at 44 list) ≡ Some (ns, rest) → begins_with 41 rest ≡ true → last ≡ drop 1 rest →
+pub names_closed : (text list rest last : List ℕ) (ns : List Resource) → begins_with_byte 40 text ≡ true → list ≡ drop 1 text → with_front [] (parted_at lock_name_at 44 list) ≡ Some (ns, rest) → begins_with_byte 41 rest ≡ true → last ≡ drop 1 rest →
     lock_names_at text ≡ Some (ns, last)
 unfolding lock_names_at
 names_closed text list rest last ns goes e h shut l =
-    ap (λ t. cond t (closed (parted_at lock_name_at 44 (drop 1 text))) (lock_name_at text)) goes ∙ ap closed (list_is text list (Some (ns, rest)) e h)
+    ap (λ t. cond t (then_closing (parted_at lock_name_at 44 (drop 1 text))) (lock_name_at text)) goes ∙ ap then_closing (list_is text list (Some (ns, rest)) e h)
     ∙ ap (λ t. cond t (Some (ns, drop 1 rest)) None) shut ∙ ap (λ (u : List ℕ). Some (ns, u)) (sym l)
 
-pub names_unclosed : (text list rest : List ℕ) (ns : List Resource) → begins_with 40 text ≡ true → list ≡ drop 1 text → with_front [] (parted_at lock_name_at 44 list) ≡ Some (ns, rest) → begins_with 41 rest ≡ false → lock_names_at text ≡ None
+pub names_unclosed : (text list rest : List ℕ) (ns : List Resource) → begins_with_byte 40 text ≡ true → list ≡ drop 1 text → with_front [] (parted_at lock_name_at 44 list) ≡ Some (ns, rest) → begins_with_byte 41 rest ≡ false → lock_names_at text ≡ None
 unfolding lock_names_at
 names_unclosed text list rest ns goes e h other =
-    ap (λ t. cond t (closed (parted_at lock_name_at 44 (drop 1 text))) (lock_name_at text)) goes ∙ ap closed (list_is text list (Some (ns, rest)) e h) ∙ ap (λ t. cond t (Some (ns, drop 1 rest)) None) other
+    ap (λ t. cond t (then_closing (parted_at lock_name_at 44 (drop 1 text))) (lock_name_at text)) goes ∙ ap then_closing (list_is text list (Some (ns, rest)) e h) ∙ ap (λ t. cond t (Some (ns, drop 1 rest)) None) other
 
-pub names_refused : (refusal : Refusal) (text list : List ℕ) → begins_with 40 text ≡ true → list ≡ drop 1 text → IsRefused refusal (with_front [] (parted_at lock_name_at 44 list)) → IsRefused refusal (lock_names_at text)
+pub names_refused : (refusal : Refusal) (text list : List ℕ) → begins_with_byte 40 text ≡ true → list ≡ drop 1 text → IsUnread refusal (with_front [] (parted_at lock_name_at 44 list)) → IsUnread refusal (lock_names_at text)
 unfolding lock_names_at
 names_refused refusal text list goes e h =
     refused_too refusal (with_front [] (parted_at lock_name_at 44 list)) (lock_names_at text)
-    (λ none. ap (λ t. cond t (closed (parted_at lock_name_at 44 (drop 1 text))) (lock_name_at text)) goes ∙ ap closed (list_is text list None e none)) h
+    (λ none. ap (λ t. cond t (then_closing (parted_at lock_name_at 44 (drop 1 text))) (lock_name_at text)) goes ∙ ap then_closing (list_is text list None e none)) h
 
 -- a name without parentheses
-pub name_alone : (names : Names) (text : List ℕ) (result : Result (Bor (List ℕ)) Refusal) → begins_with 40 text ≡ false → NamesSpelled names result (with_front [] (lock_name_at text)) → NamesSpelled names result (lock_names_at text)
+pub name_alone : (names : Names) (text : List ℕ) (result : Result (Bor (List ℕ)) Refusal) → begins_with_byte 40 text ≡ false → NamesSpelled names result (with_front [] (lock_name_at text)) → NamesSpelled names result (lock_names_at text)
 unfolding lock_names_at
 name_alone names text result other h = rw other (subst (NamesSpelled names result) (with_front-nil (lock_name_at text)) h)

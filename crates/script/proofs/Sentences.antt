@@ -10,9 +10,9 @@ use Rattle.command.specs.declared.access.DataCommand.{DataCommand}
 use Rattle.command.specs.declared.access.DataCommand.TheVariants.{Merge}
 use Rattle.command.specs.declared.request.Command.{Command}
 use Rattle.command.specs.declared.request.Command.TheVariants.{Access, Lock}
-use Rattle.m_text.specs.Reading.{◌>>=◌, after, IsRefused, IsDue}
+use Rattle.m_text.specs.Reading.{◌>>=◌, after_byte, IsUnread, IsDue}
 use Rattle.m_text.specs.Place.{place_at, unless}
-use Rattle.m_text.specs.ReadingLaws.{refused_too}
+use Rattle.m_text.specs.laws.Reading.{refused_too}
 use Rattle.script.specs.declared.word.DataWord.{DataWord}
 use Rattle.script.specs.declared.word.DataWord.TheVariants as data_words
 use Rattle.script.specs.declared.names.Names.{Names}
@@ -24,7 +24,7 @@ use Rattle.script.specs.declared.sentence.Drafts.{Drafts}
 use Rattle.script.specs.declared.sentence.Sentence.{Sentence}
 use Rattle.script.specs.declared.sentence.Sentence.TheVariants as sentences
 use Rattle.script.specs.Locking.{locking, locking_at, names_fault, lock_fault}
-use Rattle.script.specs.Commands.{past_blank, blank_at, source_at, tail_at, operands_at, lock_at, behind_act, behind_function, fault_of}
+use Rattle.script.specs.Commands.{past_blank, blank_at, source_at, tail_at, operands_at, lock_at, behind_act, behind_function, command_fault}
 use Rattle.script.specs.Sentence.{Tells, FindsData, AreNamed, Spells}
 use Rattle.script.proofs.Due.{due_other}
 
@@ -41,7 +41,7 @@ pub found : (first second : KeyDraft) (names : Names) (word : DataWord) (text re
 found first second names word text rest r (Ok x) e is h = (h.0, tail_is word text rest r e ∙ h.1, record { reference = r; drafted = is; said = h.2 })
 found first second names word text rest r (Err refusal) e is h = refused_too refusal (tail_at word r rest) (operands_at word text) (λ none. tail_is word text rest r e ∙ none) h
 
-pub unfound : (word : DataWord) (text : List ℕ) (refusal : Refusal) → IsRefused refusal (place_at text) → IsRefused refusal (operands_at word text)
+pub unfound : (word : DataWord) (text : List ℕ) (refusal : Refusal) → IsUnread refusal (place_at text) → IsUnread refusal (operands_at word text)
 unfolding operands_at
 unfound word text refusal h = refused_too refusal (place_at text) (operands_at word text) (λ none. ap (λ (read : Option (Reference × List ℕ)). read >>= λ place. tail_at word place.0 place.1) none) h
 
@@ -51,10 +51,10 @@ change_is word text rest behind d e f =
     ap (λ (read : Option (List ℕ)). read >>= λ rest. ◌>>=◌ {B = Command × List ℕ} (operands_at word rest) (λ command. Some (Access command.0, command.1))) e
     ∙ ap (λ (read : Option (DataCommand × List ℕ)). ◌>>=◌ {B = Command × List ℕ} read (λ command. Some (Access command.0, command.1))) f
 
-pub look_is : (word : DataWord) (text rest behind last : List ℕ) (d : DataCommand) → after 40 text ≡ Some rest → operands_at word rest ≡ Some (d, behind) → after 41 behind ≡ Some last → behind_function (words.Access word) text ≡ Some (Access d, last)
+pub look_is : (word : DataWord) (text rest behind last : List ℕ) (d : DataCommand) → after_byte 40 text ≡ Some rest → operands_at word rest ≡ Some (d, behind) → after_byte 41 behind ≡ Some last → behind_function (words.Access word) text ≡ Some (Access d, last)
 look_is word text rest behind last d e f g =
-    ap (λ (read : Option (List ℕ)). read >>= λ rest. operands_at word rest >>= λ command. ◌>>=◌ {B = Command × List ℕ} (after 41 command.1) (λ rest. Some (Access command.0, rest))) e
-    ∙ ap (λ (read : Option (DataCommand × List ℕ)). read >>= λ command. ◌>>=◌ {B = Command × List ℕ} (after 41 command.1) (λ rest. Some (Access command.0, rest))) f
+    ap (λ (read : Option (List ℕ)). read >>= λ rest. operands_at word rest >>= λ command. ◌>>=◌ {B = Command × List ℕ} (after_byte 41 command.1) (λ rest. Some (Access command.0, rest))) e
+    ∙ ap (λ (read : Option (DataCommand × List ℕ)). read >>= λ command. ◌>>=◌ {B = Command × List ℕ} (after_byte 41 command.1) (λ rest. Some (Access command.0, rest))) f
     ∙ ap (λ (read : Option (List ℕ)). ◌>>=◌ {B = Command × List ℕ} read (λ rest. Some (Access d, rest))) g
 
 -- behind LOCK's word, where more than a blank stands there
@@ -71,8 +71,8 @@ locking_fault forms.More ns = refl
 locking_fault forms.Fewer ns = refl
 
 pub names_due : (drafts : Drafts) (sentence : Sentence) (form : Form) (refusal : Refusal) (c : Command) → sentence ≡ sentences.Lock form → ((ns : List Resource) → AreNamed drafts.names ns → IsDue refusal (unless (names_fault ns) ns)) →
-    Spells drafts sentence c → IsDue refusal (unless (fault_of c) c)
+    Spells drafts sentence c → IsDue refusal (unless (command_fault c) c)
 names_due drafts sentence form refusal c e due said =
     let says = subst (λ (s : Sentence). Spells drafts s c) e said in
-    let fault : names_fault says.0 ≡ fault_of c = sym (locking_fault form says.0) ∙ ap fault_of (sym says.1) in
+    let fault : names_fault says.0 ≡ command_fault c = sym (locking_fault form says.0) ∙ ap command_fault (sym says.1) in
     subst (λ (f : Option Refusal). IsDue refusal (unless f c)) fault (due_other refusal (names_fault says.0) says.0 c (due says.0 says.2))

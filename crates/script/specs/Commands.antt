@@ -1,5 +1,5 @@
 -- Commands at the front of a text, and the first fault of a command. Source: docs/FORMATS.md, "Lines".
--- Read command_at first, then behind_act, tail_at, then fault_of.
+-- Read command_at first, then behind_act, tail_at, then command_fault.
 use Rattle.std.specs.Prelude.{ℕ, Bool, false, not, ◌||◌, ◌==◌, nat_eq, nat_lt, if◌then◌else◌, List, [], ◌∷◌, length, drop, Option, None, Some, codes}
 use Rattle.std.specs.List.{position_or_len}
 use Rattle.std.specs.Option.{option_map, option_and_then, option_or}
@@ -18,7 +18,7 @@ use Rattle.command.specs.declared.access.Look.TheVariants.{Data, Get, Order, Que
 use Rattle.collation.specs.declared.lock.LockCommand.TheVariants.{Release}
 use Rattle.command.specs.declared.request.Command.{Command}
 use Rattle.command.specs.declared.request.Command.TheVariants.{Access, Lock, Start, Commit, Rollback, Restart, Level, Restarts, Halt}
-use Rattle.m_text.specs.Reading.{◌>>=◌, begins_with, after}
+use Rattle.m_text.specs.Reading.{◌>>=◌, begins_with_byte, after_byte}
 use Rattle.m_text.specs.Literal.{literal_at, front_letters, past_letters}
 use Rattle.m_text.specs.Place.{place_at, spot_of, ref_fault, spot_fault}
 use Rattle.script.specs.declared.word.Word.{Word}
@@ -56,25 +56,25 @@ direction_of s =
     if pointwise nat_eq s (codes "1") then Some Forward else (if pointwise nat_eq s (codes "-1") then Some Backward else None)
 
 -- an equals sign and a literal
-unfoldable pub value_at : List ℕ → Option (List ℕ × List ℕ)
-value_at text = do
-  rest ← after byte.equals_sign text
+unfoldable pub set_value_at : List ℕ → Option (List ℕ × List ℕ)
+set_value_at text = do
+  rest ← after_byte byte.equals_sign text
   literal_at rest
 
 -- an equals sign and a reference
 unfoldable pub source_at : List ℕ → Option (Reference × List ℕ)
 source_at text = do
-  rest ← after byte.equals_sign text
+  rest ← after_byte byte.equals_sign text
   place_at rest
 
 -- a comma and a literal, or nothing
 unfoldable pub default_at : List ℕ → Option (Option (List ℕ) × List ℕ)
-default_at text = if begins_with byte.comma text then option_map (λ x. (Some x.0, x.1)) (literal_at (drop 1 text)) else Some (None, text)
+default_at text = if begins_with_byte byte.comma text then option_map (λ x. (Some x.0, x.1)) (literal_at (drop 1 text)) else Some (None, text)
 
 -- a comma and a direction, or nothing, which is forward
 unfoldable pub direction_at : List ℕ → Option (Direction × List ℕ)
 direction_at text =
-    if begins_with byte.comma text
+    if begins_with_byte byte.comma text
     then (do
       x ← literal_at (drop 1 text)
       direction ← direction_of x.0
@@ -83,7 +83,7 @@ direction_at text =
 
 -- what a word wants behind its reference r
 abbrev pub tail_at : DataWord → Reference → List ℕ → Option (DataCommand × List ℕ)
-tail_at data_words.Set r text = value_at text >>= λ value. Some (Set r value.0, value.1)
+tail_at data_words.Set r text = set_value_at text >>= λ value. Some (Set r value.0, value.1)
 tail_at data_words.Kill r text = Some (Kill r, text)
 tail_at data_words.Merge r text = source_at text >>= λ source. Some (Merge r source.0, source.1)
 tail_at data_words.Data r text = Some (Look (Data r), text)
@@ -129,9 +129,9 @@ behind_act (words.Alone word) text = Some (command_of word, text)
 -- what a function wants behind its word: operands in parentheses, or nothing; LOCK is none
 abbrev pub behind_function : Word → List ℕ → Option (Command × List ℕ)
 behind_function (words.Access word) text = do
-  rest ← after byte.opening text
+  rest ← after_byte byte.opening text
   command ← operands_at word rest
-  rest ← after byte.closing command.1
+  rest ← after_byte byte.closing command.1
   Some (Access command.0, rest)
 behind_function words.Lock text = None
 behind_function (words.Alone word) text = Some (command_of word, text)
@@ -150,7 +150,7 @@ functions_at text = do
 
 -- a command, whatever faults it has
 unfoldable pub command_at : List ℕ → Option (Command × List ℕ)
-command_at text = if begins_with byte.dollar text then functions_at (drop 1 text) else acts_at text
+command_at text = if begins_with_byte byte.dollar text then functions_at (drop 1 text) else acts_at text
 
 -- a value over 32,767 bytes
 abbrev pub value_fault : List ℕ → Option Refusal
@@ -171,13 +171,13 @@ data_fault (Merge target source) = option_or (ref_fault target) (ref_fault sourc
 data_fault (Look look) = look_fault look
 
 -- the first fault of a command, from left to right
-abbrev pub fault_of : Command → Option Refusal
-fault_of (Access command) = data_fault command
-fault_of (Lock command) = lock_fault command
-fault_of Start = None
-fault_of Commit = None
-fault_of Rollback = None
-fault_of Restart = None
-fault_of Level = None
-fault_of Restarts = None
-fault_of Halt = None
+abbrev pub command_fault : Command → Option Refusal
+command_fault (Access command) = data_fault command
+command_fault (Lock command) = lock_fault command
+command_fault Start = None
+command_fault Commit = None
+command_fault Rollback = None
+command_fault Restart = None
+command_fault Level = None
+command_fault Restarts = None
+command_fault Halt = None

@@ -5,8 +5,5 @@ pub mod Commands
 pub mod Sentence
 pub mod Text
 pub mod Grammar
-pub mod Laws
-pub mod WordLaws
-pub mod LockLaws
-pub mod CommandLaws
-pub mod LineLaws
+pub mod Statements
+pub mod laws

@@ -1,5 +1,5 @@
 -- What a line asks. Source: docs/FORMATS.md, "Lines" and "Which refusal a line gets".
--- Read reading_of and job_of, then IsReading; what a command is stands in Commands.
+-- Read reading_of and job_of_line, then IsReading; what a command is stands in Commands.
 use Rattle.std.specs.Prelude.{◌≡◌, ⊤, ℕ, Bool, ◌&&◌, ◌||◌, ◌==◌, if◌then◌else◌, List, length, Option, None, Some, Result, Ok, Err}
 use Rattle.refusal.specs.declared.Refusal.{Refusal}
 use Rattle.refusal.specs.declared.Refusal.TheVariants.{BadLine, BadJob, OutOfMemory}
@@ -7,7 +7,7 @@ use Rattle.command.specs.declared.request.Command.{Command}
 use Rattle.m_text.specs.Reading.{◌>>=◌}
 use Rattle.m_text.specs.Literal.{front_digits, past_digits, number_from}
 use Rattle.m_text.specs.Place.{unless}
-use Rattle.script.specs.Commands.{begins_blank, past_blank, blank_at, command_at, fault_of}
+use Rattle.script.specs.Commands.{begins_blank, past_blank, blank_at, command_at, command_fault}
 pub use Rattle.collation.specs.Limits.{is_job}
 use Rattle.script.specs.declared.line.LineFault.{LineFault}
 
@@ -28,7 +28,7 @@ spelled_by line =
 -- first the grammar is looked at, then the job, then the command's faults
 abbrev pub judged : ℕ → Option Command → Result (ℕ × Command) Refusal
 judged job None = Err BadLine
-judged job (Some command) = if is_job job then unless (fault_of command) (job, command) else Err BadJob
+judged job (Some command) = if is_job job then unless (command_fault command) (job, command) else Err BadJob
 
 -- the job and the command of a line, or its refusal
 unfoldable pub reading_of : List ℕ → Result (ℕ × Command) Refusal
@@ -39,8 +39,8 @@ abbrev pub ends_digits : List ℕ → Bool
 ends_digits rest = length rest == 0 || begins_blank rest
 
 -- the job that is printed before a refusal, where one can be read
-unfoldable pub job_of : List ℕ → Option ℕ
-job_of line =
+unfoldable pub job_of_line : List ℕ → Option ℕ
+job_of_line line =
     if ends_digits (past_digits line) && is_job (number_from 0 (front_digits line)) then Some (number_from 0 (front_digits line)) else None
 
 -- the refusal of the line, or that of memory
@@ -50,5 +50,5 @@ IsRefusalOf line refusal = reading_of line ≡ Err refusal
 
 -- what a function answered is what the line asks, unless memory ran out
 abbrev pub IsReading : List ℕ → Result (ℕ × Command) LineFault → Type 0
-IsReading line (Ok step) = (reading_of line ≡ Ok step) × (job_of line ≡ Some step.0)
-IsReading line (Err fault) = IsRefusalOf line fault.refusal × (fault.job ≡ job_of line)
+IsReading line (Ok step) = (reading_of line ≡ Ok step) × (job_of_line line ≡ Some step.0)
+IsReading line (Err fault) = IsRefusalOf line fault.refusal × (fault.job ≡ job_of_line line)

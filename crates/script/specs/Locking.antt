@@ -7,7 +7,7 @@ use Rattle.collation.specs.Bytes as byte
 use Rattle.collation.specs.Reference.{Resource}
 use Rattle.collation.specs.declared.lock.LockCommand.{LockCommand}
 use Rattle.collation.specs.declared.lock.LockCommand.TheVariants.{Release, Only, More, Fewer}
-use Rattle.m_text.specs.Reading.{◌>>=◌, begins_with, parted_at, closed}
+use Rattle.m_text.specs.Reading.{◌>>=◌, begins_with_byte, parted_at, then_closing}
 use Rattle.m_text.specs.Literal.{front_digits, past_digits}
 use Rattle.m_text.specs.Place.{named_at, ref_fault}
 use Rattle.script.specs.declared.lock.Form.{Form}
@@ -31,15 +31,15 @@ past_form (b ∷ bs) = if b == byte.plus then bs else (if b == byte.minus then b
 
 -- what follows a caret, where there is one
 abbrev pub past_caret : List ℕ → List ℕ
-past_caret text = if begins_with byte.caret text then drop 1 text else text
+past_caret text = if begins_with_byte byte.caret text then drop 1 text else text
 
 -- a lock name, as a list of it: a reference, or one without its caret
 unfoldable pub lock_name_at : List ℕ → Option (List Resource × List ℕ)
-lock_name_at text = option_map (λ x. (record { has_caret = begins_with byte.caret text; reference = x.0 } ∷ [], x.1)) (named_at (past_caret text))
+lock_name_at text = option_map (λ x. (record { has_caret = begins_with_byte byte.caret text; reference = x.0 } ∷ [], x.1)) (named_at (past_caret text))
 
 -- a lock name, or several in parentheses
 unfoldable pub lock_names_at : List ℕ → Option (List Resource × List ℕ)
-lock_names_at text = if begins_with byte.opening text then closed (parted_at lock_name_at byte.comma (drop 1 text)) else lock_name_at text
+lock_names_at text = if begins_with_byte byte.opening text then then_closing (parted_at lock_name_at byte.comma (drop 1 text)) else lock_name_at text
 
 -- one to nine digits
 abbrev pub is_timeout : List ℕ → Bool
@@ -48,7 +48,7 @@ is_timeout ds = nat_lt 0 (length ds) && nat_le (length ds) 9
 -- what follows a timeout, ':' and its digits, or nothing
 unfoldable pub timeout_at : List ℕ → Option (List ℕ)
 timeout_at text =
-    if begins_with byte.colon text then (if is_timeout (front_digits (drop 1 text)) then Some (past_digits (drop 1 text)) else None) else Some text
+    if begins_with_byte byte.colon text then (if is_timeout (front_digits (drop 1 text)) then Some (past_digits (drop 1 text)) else None) else Some text
 
 -- a sign, lock names, a timeout that means nothing
 unfoldable pub locking_at : List ℕ → Option (LockCommand × List ℕ)

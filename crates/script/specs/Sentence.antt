@@ -12,7 +12,7 @@ use Rattle.command.specs.declared.access.DataCommand.TheVariants.{Set, Kill, Mer
 use Rattle.command.specs.declared.access.Look.TheVariants.{Data, Get, Order, Query}
 use Rattle.command.specs.declared.request.Command.{Command}
 use Rattle.command.specs.declared.request.Command.TheVariants.{Access, Lock}
-use Rattle.m_text.specs.Reading.{IsRefused}
+use Rattle.m_text.specs.Reading.{IsUnread}
 use Rattle.m_text.specs.Place.{spot_of}
 use Rattle.script.specs.declared.lock.Form.{Form}
 use Rattle.script.specs.declared.names.Names.{Names}
@@ -37,7 +37,7 @@ Says second r (data_sentences.Query direction) c = c ≡ Look (Query (spot_of r)
 -- what is read behind the reference r says the command that is there
 abbrev pub Tells : KeyDraft → Reference → Result (DataSentence × Bor (List ℕ)) Refusal → Option (DataCommand × List ℕ) → Type 0
 Tells second r (Ok x) read = (c : DataCommand) × (read ≡ Some (c, x.1.now)) × Says second r x.0 c
-Tells second r (Err refusal) read = IsRefused refusal read
+Tells second r (Err refusal) read = IsUnread refusal read
 
 -- a sentence and the drafts' references are those of the data command
 pub record SpellsData (drafts : Drafts) (sentence : DataSentence) (c : DataCommand) : Type 0 where
@@ -53,7 +53,7 @@ pub record SomeData (drafts : Drafts) (sentence : DataSentence) : Type 0 where
 -- what is read is the sentence of the data command that is there
 abbrev pub FindsData : Drafts → Result (DataSentence × Bor (List ℕ)) Refusal → Option (DataCommand × List ℕ) → Type 0
 FindsData drafts (Ok x) read = (c : DataCommand) × (read ≡ Some (c, x.1.now)) × SpellsData drafts x.0 c
-FindsData drafts (Err refusal) read = IsRefused refusal read
+FindsData drafts (Err refusal) read = IsUnread refusal read
 
 -- the lock names that are read, whatever faults they have: the first fault, or all of them
 pub record AreNamed (names : Names) (ns : List Resource) : Type 0 where
@@ -63,12 +63,12 @@ pub record AreNamed (names : Names) (ns : List Resource) : Type 0 where
 -- the names are those that are read
 abbrev pub NamesSpelled : Names → Result (Bor (List ℕ)) Refusal → Option (List Resource × List ℕ) → Type 0
 NamesSpelled names (Ok rest) read = (ns : List Resource) × (read ≡ Some (ns, rest.now)) × AreNamed names ns
-NamesSpelled names (Err refusal) read = IsRefused refusal read
+NamesSpelled names (Err refusal) read = IsUnread refusal read
 
 -- a form and the names are those of the LOCK that is there
 abbrev pub FindsLocking : Names → Result (Form × Bor (List ℕ)) Refusal → Option (LockCommand × List ℕ) → Type 0
 FindsLocking names (Ok x) read = (ns : List Resource) × (read ≡ Some (locking x.0 ns, x.1.now)) × AreNamed names ns
-FindsLocking names (Err refusal) read = IsRefused refusal read
+FindsLocking names (Err refusal) read = IsUnread refusal read
 
 -- a sentence with what the drafts have says the command
 abbrev pub Spells : Drafts → Sentence → Command → Type 0
@@ -80,12 +80,12 @@ Spells drafts (sentences.Alone word) c = c ≡ command_of word
 -- what is read is the sentence of the command that is there
 abbrev pub Finds : Drafts → Result (Sentence × Bor (List ℕ)) Refusal → Option (Command × List ℕ) → Type 0
 Finds drafts (Ok x) read = (c : Command) × (read ≡ Some (c, x.1.now)) × Spells drafts x.0 c
-Finds drafts (Err refusal) read = IsRefused refusal read
+Finds drafts (Err refusal) read = IsUnread refusal read
 
 -- the same of a whole line
 abbrev pub FindsAll : Drafts → Result Sentence Refusal → Option Command → Type 0
 FindsAll drafts (Ok sentence) read = (c : Command) × (read ≡ Some c) × Spells drafts sentence c
-FindsAll drafts (Err refusal) read = IsRefused refusal read
+FindsAll drafts (Err refusal) read = IsUnread refusal read
 
 -- the sentence is that of some command
 pub record SpellsSome (drafts : Drafts) (sentence : Sentence) : Type 0 where

@@ -1,7 +1,7 @@
 //! Blanks: one or more bytes 32 or 9.
 ghost use Rattle.std.specs.Prelude.{◌≡◌, ◌≤◌, length, drop};
 ghost use Rattle.std.specs.List.{position};
-ghost use Rattle.m_text.specs.Reading.{Skips};
+ghost use Rattle.m_text.specs.Reading.{GivesExactly};
 ghost use Rattle.script.specs.Commands as commands;
 
 use refusal::Refusal;
@@ -47,7 +47,7 @@ pub(crate) fn begins_blank(text: &[u8]) -> bool
 
 // What follows a blank.
 pub(crate) fn skip_blank(text: &[u8]) -> Result<&[u8], Refusal>
-    ensures { Skips (λ rest. rest.now) result (commands.blank_at text.now) }
+    ensures { GivesExactly (λ rest. rest.now) result (commands.blank_at text.now) }
 {
     if begins_blank(text) {
         Ok(past_blank(text))

@@ -7,7 +7,7 @@ ghost use Rattle.command.specs.declared.access.DataCommand.{DataCommand as DataV
 ghost use Rattle.command.specs.declared.request.Command.{Command as CommandView};
 ghost use Rattle.m_text.specs.Reading.{Answers};
 ghost use Rattle.m_text.specs.Place.{ref_fault, spot_fault, spot_of, unless};
-ghost use Rattle.script.specs.Commands.{command_of as command_of_spec, value_fault, data_fault, fault_of};
+ghost use Rattle.script.specs.Commands.{command_of as command_of_spec, value_fault, data_fault, command_fault};
 ghost use Rattle.script.specs.Sentence.{Spells, SpellsData, SpellsSome, SomeData};
 
 use crate::lock::locking;
@@ -161,7 +161,7 @@ pub(crate) fn finish(
     drafts: &mut Drafts,
 ) -> Result<Command, Refusal>
     requires { SpellsSome drafts.old sentence }
-    ensures { (c : CommandView) → Spells drafts.old sentence c → Answers (λ x. x) result (unless (fault_of c) c) }
+    ensures { (c : CommandView) → Spells drafts.old sentence c → Answers (λ x. x) result (unless (command_fault c) c) }
 {
     match sentence {
         Sentence::Access(sentence) => match finish_data(alloc, sentence, drafts) {

@@ -1,5 +1,5 @@
-//! Laws of lines, stated in `specs/Laws.antt`. Calling them does nothing.
-ghost use Rattle.script.specs.Laws.{ReadLinesAreSpelled, SpelledLinesAreJudged, BadLinesAreNotSpelled, OtherLinesAreBad, NoTwoShareAWord};
+//! Laws of lines, stated in `specs/Statements.antt`. Calling them does nothing.
+ghost use Rattle.script.specs.Statements.{ReadLinesAreSpelled, SpelledLinesAreJudged, BadLinesAreNotSpelled, OtherLinesAreBad, NoTwoShareAWord};
 
 /// A line is read as the job and the command that it spells and as nothing else, and just those lines that spell none
 /// get BadLine. No two words of commands are spelled alike.

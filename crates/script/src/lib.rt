@@ -10,7 +10,7 @@
 //! So `4097 LOCK 5 x` gets BadLine, `4097 LOCK 5` gets BadJob, `1 LOCK 5` gets BadName. The job that is
 //! printed before a refusal is `job_of`. Replies: `reply_text` in `specs/Text.antt`.
 //!
-//! The grammar stands apart as a relation, `IsLine` in `specs/Grammar.antt`; `specs/Laws.antt` ties both together.
+//! The grammar stands apart as a relation, `IsLine` in `specs/Grammar.antt`; `specs/Statements.antt` ties both together.
 //!
 //! A line is read once: its references into the key bytes of drafts that serve for the next line too, lock names into
 //! a list up to the first that is at fault, the rest of it into a sentence; where line and job are good, these make the
@@ -18,7 +18,7 @@
 //!
 //! A refused line is looked at once more by who wants to know its fault's column (`locate_fault`).
 //!
-//! Read `specs/Line.antt`, `specs/Grammar.antt`, `specs/Laws.antt`, `specs/Text.antt`, then `line.rt`,
+//! Read `specs/Line.antt`, `specs/Grammar.antt`, `specs/Statements.antt`, `specs/Text.antt`, then `line.rt`,
 //! `sentence.rt`, `lock.rt`, `finish.rt`, `reply.rt`.
 #![tactic(auto)]
 

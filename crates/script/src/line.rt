@@ -2,7 +2,7 @@
 ghost use Rattle.std.specs.Prelude.{◌≡◌, ◌&&◌, Some, None, if◌then◌else◌};
 ghost use Rattle.m_text.specs.Literal.{number_from};
 ghost use Rattle.script.specs.Sentence.{FindsAll};
-ghost use Rattle.script.specs.Line.{IsReading, IsRefusalOf, is_job, ends_digits as ends_digits_spec, spelled_by, reading_of, job_of};
+ghost use Rattle.script.specs.Line.{IsReading, IsRefusalOf, is_job, ends_digits as ends_digits_spec, spelled_by, reading_of, job_of_line};
 
 use crate::blank::{begins_blank, past_blank, skip_blank};
 use crate::finish::finish;
@@ -38,9 +38,9 @@ fn ends_digits(rest: &[u8]) -> bool
 }
 
 // The job that is printed before a refusal.
-#[tactic(auto, unfolding(crate::specs::Line::job_of))]
+#[tactic(auto, unfolding(crate::specs::Line::job_of_line))]
 fn printed_job(line: &[u8]) -> Option<Job>
-    ensures { result ≡ job_of line.now }
+    ensures { result ≡ job_of_line line.now }
 {
     let (digits, rest) = split_digits(line);
     if ends_digits(rest) {

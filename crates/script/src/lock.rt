@@ -1,7 +1,8 @@
 //! What stands behind LOCK's word, whatever faults its names have.
 ghost use Rattle.std.specs.Prelude.{◌≡◌, List};
+ghost use Rattle.collation.specs.Bytes as byte;
 ghost use Rattle.collation.specs.Reference.{Resource};
-ghost use Rattle.m_text.specs.Reading.{Skips, begins_with, with_front, parted_at};
+ghost use Rattle.m_text.specs.Reading.{GivesExactly, begins_with_byte, with_front, parted_at};
 ghost use Rattle.script.specs.Locking as locking;
 ghost use Rattle.script.specs.Sentence.{AreNamed, NamesSpelled, FindsLocking};
 
@@ -48,7 +49,7 @@ fn split_form(text: &[u8]) -> (Form, &[u8])
 
 // Whether a caret stands there, and what follows it.
 fn split_caret(text: &[u8]) -> (bool, &[u8])
-    ensures caret { result.0 ≡ begins_with 94 text.now }
+    ensures caret { result.0 ≡ begins_with_byte byte.caret text.now }
     ensures rest { result.1.now ≡ locking.past_caret text.now }
 {
     match after(b'^', text) {
@@ -82,7 +83,7 @@ fn read_list<'a>(
     draft: &mut KeyDraft,
     names: &mut Names,
 ) -> Result<&'a [u8], Refusal>
-    ensures { (ns : List Resource) → AreNamed names.old ns → NamesSpelled names.new result (with_front ns (parted_at locking.lock_name_at 44 text.now)) }
+    ensures { (ns : List Resource) → AreNamed names.old ns → NamesSpelled names.new result (with_front ns (parted_at locking.lock_name_at byte.comma text.now)) }
 {
     let mut rest = text;
     'names: for _ in 0..text.len() {
@@ -122,7 +123,7 @@ fn read_names<'a>(
 // What follows a timeout, or nothing.
 #[tactic(auto, unfolding(crate::specs::Locking::timeout_at))]
 fn past_timeout(text: &[u8]) -> Result<&[u8], Refusal>
-    ensures { Skips (λ rest. rest.now) result (locking.timeout_at text.now) }
+    ensures { GivesExactly (λ rest. rest.now) result (locking.timeout_at text.now) }
 {
     match after(b':', text) {
         Some(timeout) => {

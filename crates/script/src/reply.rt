@@ -1,5 +1,6 @@
 //! Replies.
 ghost use Rattle.std.specs.Prelude.{◌≡◌, ◌++◌, ◌∷◌, OnOk, OnErr, decimal, unwrap_or};
+ghost use Rattle.collation.specs.Bytes as byte;
 ghost use Rattle.key_codec.specs.Grown.{GoesOnFrom};
 ghost use Rattle.script.specs.Text as text;
 
@@ -30,7 +31,7 @@ fn write_refusal(refusal: Refusal, out: &mut Vec<u8>) -> Result<(), AllocError>
 
 // A word, a space and a number.
 fn write_counted(word: &[u8], n: u64, out: &mut Vec<u8>) -> Result<(), AllocError>
-    ensures ok { OnOk result (out.new.items ≡ out.old.items ++ (word.now ++ 32 ∷ decimal n)) }
+    ensures ok { OnOk result (out.new.items ≡ out.old.items ++ (word.now ++ byte.blank ∷ decimal n)) }
     ensures kept { GoesOnFrom out.old.items out.new.items }
 {
     out.extend_from_slice(word)?;
@@ -91,7 +92,7 @@ fn push_reply(job: Option<Job>, reply: &Reply, out: &mut Vec<u8>) -> Result<(), 
 /// byte 10.
 ///
 /// Where memory is refused `out` is as it was.
-#[tactic(auto, using(key_codec::specs::GrownLaws::back_to))]
+#[tactic(auto, using(key_codec::specs::laws::Grown::back_to))]
 pub fn write_reply(job: Option<Job>, reply: &Reply, out: &mut Vec<u8>) -> Result<(), AllocError>
     ensures ok { OnOk result (out.new.items ≡ out.old.items ++ text.reply_text job reply.now) }
     ensures err { OnErr result (out.new.items ≡ out.old.items) }

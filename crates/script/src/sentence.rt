@@ -2,7 +2,7 @@
 ghost use Rattle.std.specs.Prelude.{◌≡◌};
 ghost use Rattle.collation.specs.Reference.{Reference};
 ghost use Rattle.m_text.specs.Drafts.{DraftsSpelled};
-ghost use Rattle.m_text.specs.Reading.{Gives, Skips, after as after_of};
+ghost use Rattle.m_text.specs.Reading.{GivesUnlessMemory, GivesExactly, after_byte as after_of};
 ghost use Rattle.script.specs.Commands as commands;
 ghost use Rattle.script.specs.Sentence.{Finds, FindsData, Tells};
 
@@ -60,7 +60,7 @@ pub(crate) enum Sentence {
 
 // What follows the byte.
 fn past(byte: u8, text: &[u8]) -> Result<&[u8], Refusal>
-    ensures { Skips (λ rest. rest.now) result (after_of byte text.now) }
+    ensures { GivesExactly (λ rest. rest.now) result (after_of byte text.now) }
 {
     match after(byte, text) {
         Some(rest) => Ok(rest),
@@ -68,9 +68,9 @@ fn past(byte: u8, text: &[u8]) -> Result<&[u8], Refusal>
     }
 }
 
-#[tactic(auto, unfolding(crate::specs::Commands::value_at))]
+#[tactic(auto, unfolding(crate::specs::Commands::set_value_at))]
 fn read_value(alloc: Global, text: &[u8]) -> Result<(Text, &[u8]), Refusal>
-    ensures { Gives (λ x. (x.0, x.1.now)) result (commands.value_at text.now) }
+    ensures { GivesUnlessMemory (λ x. (x.0, x.1.now)) result (commands.set_value_at text.now) }
 {
     let rest = past(b'=', text)?;
     read_literal(alloc, rest)
@@ -86,7 +86,7 @@ fn read_source<'a>(alloc: Global, text: &'a [u8], draft: &mut KeyDraft) -> Resul
 
 #[tactic(auto, unfolding(crate::specs::Commands::default_at))]
 fn read_default(alloc: Global, text: &[u8]) -> Result<(Option<Text>, &[u8]), Refusal>
-    ensures { Gives (λ x. (x.0, x.1.now)) result (commands.default_at text.now) }
+    ensures { GivesUnlessMemory (λ x. (x.0, x.1.now)) result (commands.default_at text.now) }
 {
     match after(b',', text) {
         Some(literal) => {
@@ -111,7 +111,7 @@ pub(crate) fn direction_of(text: &[u8]) -> Option<Direction>
 
 #[tactic(auto, unfolding(crate::specs::Commands::direction_at))]
 fn read_direction(alloc: Global, text: &[u8]) -> Result<(Direction, &[u8]), Refusal>
-    ensures { Gives (λ x. (x.0, x.1.now)) result (commands.direction_at text.now) }
+    ensures { GivesUnlessMemory (λ x. (x.0, x.1.now)) result (commands.direction_at text.now) }
 {
     match after(b',', text) {
         Some(literal) => {

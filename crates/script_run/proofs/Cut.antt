@@ -5,8 +5,8 @@ use Rattle.std.proofs.lemmas.List.{append-nil}
 use Rattle.std.specs.Prelude.{Some}
 use Rattle.bstr.specs.Find.{IsFirstByte, is_byte}
 use Rattle.std.specs.Io.BufRead.{strip_last}
-use Rattle.script_run.specs.Lines.{kept, lines_from, lines_of, has_no_end}
-use Rattle.script_run.specs.LineLaws.{goes_on}
+use Rattle.script_run.specs.Lines.{nonempty_line, lines_from, lines_of, has_no_end}
+use Rattle.script_run.specs.laws.Lines.{goes_on}
 
 -- the first byte 10 stands at n
 abbrev pub EndsAt : List ℕ → ℕ → Type 0
@@ -19,13 +19,13 @@ ends_at [] n lt before at = absurd (omega arith)
 ends_at (b ∷ bs) zero lt before at = at
 ends_at (b ∷ bs) (suc n) lt before at = (false_from_ne_true _ (before 0 (omega arith) (omega arith)), ends_at bs n (omega arith) (λ k low high. before (suc k) (omega arith) (omega arith)) at)
 
-first_from : (line xs more : List ℕ) (n : ℕ) → EndsAt xs n → lines_from line (xs ++ more) ≡ kept (strip_last 13 (line ++ take n xs)) ++ lines_of (drop (suc n) xs ++ more)
+first_from : (line xs more : List ℕ) (n : ℕ) → EndsAt xs n → lines_from line (xs ++ more) ≡ nonempty_line (strip_last 13 (line ++ take n xs)) ++ lines_of (drop (suc n) xs ++ more)
 first_from line [] more n h = absurd h
-first_from line (b ∷ bs) more zero h = rw h (ap (λ (l : List ℕ). kept (strip_last 13 l) ++ lines_of (bs ++ more)) (sym (append-nil line)))
-first_from line (b ∷ bs) more (suc n) h = rw h.0 (first_from (line ++ b ∷ []) bs more n h.1 ∙ ap (λ (l : List ℕ). kept (strip_last 13 l) ++ lines_of (drop (suc n) bs ++ more)) (append_assoc line (b ∷ []) (take n bs)))
+first_from line (b ∷ bs) more zero h = rw h (ap (λ (l : List ℕ). nonempty_line (strip_last 13 l) ++ lines_of (bs ++ more)) (sym (append-nil line)))
+first_from line (b ∷ bs) more (suc n) h = rw h.0 (first_from (line ++ b ∷ []) bs more n h.1 ∙ ap (λ (l : List ℕ). nonempty_line (strip_last 13 l) ++ lines_of (drop (suc n) bs ++ more)) (append_assoc line (b ∷ []) (take n bs)))
 
 -- the first line, and the lines of what follows its end
-pub first_line : (xs more : List ℕ) (n : ℕ) → EndsAt xs n → lines_of (xs ++ more) ≡ kept (strip_last 13 (take n xs)) ++ lines_of (drop (suc n) xs ++ more)
+pub first_line : (xs more : List ℕ) (n : ℕ) → EndsAt xs n → lines_of (xs ++ more) ≡ nonempty_line (strip_last 13 (take n xs)) ++ lines_of (drop (suc n) xs ++ more)
 first_line xs more n h = first_from [] xs more n h
 
 -- where no byte 10 stands
@@ -33,14 +33,14 @@ pub no_end : (xs : List ℕ) → ((k : ℕ) → 0 ≤ k → k < length xs → eq
 no_end [] h = refl
 no_end (b ∷ bs) h = rw (false_from_ne_true _ (h 0 (omega arith) (omega arith))) (no_end bs (λ k low high. h (suc k) (omega arith) (omega arith)))
 
-joined_from : (line begun xs more : List ℕ) (n : ℕ) → has_no_end begun ≡ true → EndsAt xs n → lines_from line ((begun ++ xs) ++ more) ≡ kept (strip_last 13 (line ++ (begun ++ take n xs))) ++ lines_of (drop (suc n) xs ++ more)
+joined_from : (line begun xs more : List ℕ) (n : ℕ) → has_no_end begun ≡ true → EndsAt xs n → lines_from line ((begun ++ xs) ++ more) ≡ nonempty_line (strip_last 13 (line ++ (begun ++ take n xs))) ++ lines_of (drop (suc n) xs ++ more)
 joined_from line [] xs more n h e = first_from line xs more n e
 joined_from line (b ∷ bs) xs more n h e =
     let p = goes_on b bs h in
-    rw p.0 (joined_from (line ++ b ∷ []) bs xs more n p.1 e ∙ ap (λ (l : List ℕ). kept (strip_last 13 l) ++ lines_of (drop (suc n) xs ++ more)) (append_assoc line (b ∷ []) (bs ++ take n xs)))
+    rw p.0 (joined_from (line ++ b ∷ []) bs xs more n p.1 e ∙ ap (λ (l : List ℕ). nonempty_line (strip_last 13 l) ++ lines_of (drop (suc n) xs ++ more)) (append_assoc line (b ∷ []) (bs ++ take n xs)))
 
 -- a line that had begun ends in the next piece
-pub joined_line : (begun xs more : List ℕ) (n : ℕ) → has_no_end begun ≡ true → EndsAt xs n → lines_of ((begun ++ xs) ++ more) ≡ kept (strip_last 13 (begun ++ take n xs)) ++ lines_of (drop (suc n) xs ++ more)
+pub joined_line : (begun xs more : List ℕ) (n : ℕ) → has_no_end begun ≡ true → EndsAt xs n → lines_of ((begun ++ xs) ++ more) ≡ nonempty_line (strip_last 13 (begun ++ take n xs)) ++ lines_of (drop (suc n) xs ++ more)
 joined_line begun xs more n h e = joined_from [] begun xs more n h e
 
 -- a line goes on through a piece

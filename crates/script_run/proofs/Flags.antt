@@ -5,7 +5,7 @@ use Rattle.std.proofs.lemmas.List.Folds.{list_any-append}
 use Rattle.std.proofs.lemmas.List.{get_or-set_same, get_or-set_other, length-set, length-replicate, get_or-replicate}
 use Rattle.std.proofs.Math.Bool.{or-false}
 use Rattle.std.proofs.lemmas.Bool.{eqb-true, or_right}
-use Rattle.script_run.specs.OpenJobs.{is_open, without, tally, AreFlagged}
+use Rattle.script_run.specs.OpenJobs.{is_open, without_job, tally, AreFlagged}
 
 -- no more flags are set than there are
 pub tally-le : (flags : List Bool) → tally flags ≤ length flags
@@ -65,51 +65,51 @@ flagged_more jobs flags room job h lt closed = record {
         get_or-set_other flags job m true false other ∙ h.each m lt' ∙ sym (open_more m job jobs ∙ ap (λ (b : Bool). is_open m jobs || b) e ∙ or-false (is_open m jobs))
 
 -- a job that isn't open is left out anyhow
-pub without_none : (job : ℕ) (jobs : List ℕ) → is_open job jobs ≡ false → without job jobs ≡ jobs
+pub without_none : (job : ℕ) (jobs : List ℕ) → is_open job jobs ≡ false → without_job job jobs ≡ jobs
 without_none job [] h = refl
 without_none job (j ∷ jobs) h = at (eqb j job) h (without_none job jobs)
   where
-    at : (t : Bool) → (t || is_open job jobs) ≡ false → (is_open job jobs ≡ false → without job jobs ≡ jobs) → cond (not t) (j ∷ without job jobs) (without job jobs) ≡ j ∷ jobs
+    at : (t : Bool) → (t || is_open job jobs) ≡ false → (is_open job jobs ≡ false → without_job job jobs ≡ jobs) → cond (not t) (j ∷ without_job job jobs) (without_job job jobs) ≡ j ∷ jobs
     at true k ih = absurd cc
     at false k ih = ap (λ (l : List ℕ). j ∷ l) (ih k)
 
 -- whether another is open
-open_others : (m job : ℕ) (jobs : List ℕ) → (eqb job m ≡ false) → is_open m (without job jobs) ≡ is_open m jobs
+open_others : (m job : ℕ) (jobs : List ℕ) → (eqb job m ≡ false) → is_open m (without_job job jobs) ≡ is_open m jobs
 open_others m job [] e = refl
 open_others m job (j ∷ jobs) e = at (eqb j job) refl (open_others m job jobs e)
   where
-    at : (t : Bool) → eqb j job ≡ t → is_open m (without job jobs) ≡ is_open m jobs → is_open m (cond (not t) (j ∷ without job jobs) (without job jobs)) ≡ (eqb j m || is_open m jobs)
+    at : (t : Bool) → eqb j job ≡ t → is_open m (without_job job jobs) ≡ is_open m jobs → is_open m (cond (not t) (j ∷ without_job job jobs) (without_job job jobs)) ≡ (eqb j m || is_open m jobs)
     at true f ih =
         let closed : eqb j m ≡ false = ap (λ (k : ℕ). eqb k m) (eqb-true j job f) ∙ e in
         ih ∙ ap (λ (b : Bool). b || is_open m jobs) (sym closed)
     at false f ih = ap (λ (b : Bool). eqb j m || b) ih
 
-open_no_more : (job : ℕ) (jobs : List ℕ) → is_open job (without job jobs) ≡ false
+open_no_more : (job : ℕ) (jobs : List ℕ) → is_open job (without_job job jobs) ≡ false
 open_no_more job [] = refl
 open_no_more job (j ∷ jobs) = at (eqb j job) refl (open_no_more job jobs)
   where
-    at : (t : Bool) → eqb j job ≡ t → is_open job (without job jobs) ≡ false → is_open job (cond (not t) (j ∷ without job jobs) (without job jobs)) ≡ false
+    at : (t : Bool) → eqb j job ≡ t → is_open job (without_job job jobs) ≡ false → is_open job (cond (not t) (j ∷ without_job job jobs) (without_job job jobs)) ≡ false
     at true f ih = ih
-    at false f ih = ap (λ (b : Bool). b || is_open job (without job jobs)) f ∙ ih
+    at false f ih = ap (λ (b : Bool). b || is_open job (without_job job jobs)) f ∙ ih
 
-without-le : (job : ℕ) (jobs : List ℕ) → length (without job jobs) ≤ length jobs
+without-le : (job : ℕ) (jobs : List ℕ) → length (without_job job jobs) ≤ length jobs
 without-le job [] = omega arith
 without-le job (j ∷ jobs) = at (eqb j job) (without-le job jobs)
   where
-    at : (t : Bool) → length (without job jobs) ≤ length jobs → length (cond (not t) (j ∷ without job jobs) (without job jobs)) ≤ suc (length jobs)
+    at : (t : Bool) → length (without_job job jobs) ≤ length jobs → length (cond (not t) (j ∷ without_job job jobs) (without_job job jobs)) ≤ suc (length jobs)
     at true h = omega (arith, h)
     at false h = omega (arith, h)
 
-fewer : (job : ℕ) (jobs : List ℕ) → is_open job jobs ≡ true → length (without job jobs) + 1 ≤ length jobs
+fewer : (job : ℕ) (jobs : List ℕ) → is_open job jobs ≡ true → length (without_job job jobs) + 1 ≤ length jobs
 fewer job [] h = absurd cc
 fewer job (j ∷ jobs) h = at (eqb j job) h (fewer job jobs) (without-le job jobs)
   where
-    at : (t : Bool) → (t || is_open job jobs) ≡ true → (is_open job jobs ≡ true → length (without job jobs) + 1 ≤ length jobs) → length (without job jobs) ≤ length jobs → length (cond (not t) (j ∷ without job jobs) (without job jobs)) + 1 ≤ suc (length jobs)
+    at : (t : Bool) → (t || is_open job jobs) ≡ true → (is_open job jobs ≡ true → length (without_job job jobs) + 1 ≤ length jobs) → length (without_job job jobs) ≤ length jobs → length (cond (not t) (j ∷ without_job job jobs) (without_job job jobs)) + 1 ≤ suc (length jobs)
     at true k ih le = omega (arith, le)
     at false k ih le = let few = ih k in omega (arith, few)
 
 -- one job less is open
-pub flagged_less : (jobs : List ℕ) (flags : List Bool) (room job : ℕ) → AreFlagged jobs flags room → job < 4097 → is_open job jobs ≡ true → AreFlagged (without job jobs) (set flags job false) room
+pub flagged_less : (jobs : List ℕ) (flags : List Bool) (room job : ℕ) → AreFlagged jobs flags room → job < 4097 → is_open job jobs ≡ true → AreFlagged (without_job job jobs) (set flags job false) room
 flagged_less jobs flags room job h lt opened = record {
   numbers = length-set flags job false ∙ h.numbers;
   each = λ m in_range. at m in_range (eqb job m) refl;
@@ -120,10 +120,10 @@ flagged_less jobs flags room job h lt opened = record {
   roomy = h.roomy;
 }
   where
-    at : (m : ℕ) → m < 4097 → (t : Bool) → eqb job m ≡ t → get_or (set flags job false) m false ≡ is_open m (without job jobs)
+    at : (m : ℕ) → m < 4097 → (t : Bool) → eqb job m ≡ t → get_or (set flags job false) m false ≡ is_open m (without_job job jobs)
     at m lt' true e =
         let same : job ≡ m = eqb-true job m e in
-        ap (λ (k : ℕ). get_or (set flags job false) k false) (sym same) ∙ get_or-set_same flags job false false (omega (arith, lt, h.numbers)) ∙ sym (open_no_more job jobs) ∙ ap (λ (k : ℕ). is_open k (without job jobs)) same
+        ap (λ (k : ℕ). get_or (set flags job false) k false) (sym same) ∙ get_or-set_same flags job false false (omega (arith, lt, h.numbers)) ∙ sym (open_no_more job jobs) ∙ ap (λ (k : ℕ). is_open k (without_job job jobs)) same
     at m lt' false e =
         let other : m ≢ job = λ p. grind (arith, e, p) in
         get_or-set_other flags job m false false other ∙ h.each m lt' ∙ sym (open_others m job jobs e)

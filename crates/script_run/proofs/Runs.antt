@@ -15,41 +15,41 @@ use Rattle.serial.specs.Machine.{run_of, step_of}
 use Rattle.script_run.specs.OpenJobs.{open_after}
 use Rattle.refusal.specs.declared.Refusal.{Refusal}
 use Rattle.refusal.specs.declared.Refusal.TheVariants.{StampsUsedUp, OutOfMemory}
-use Rattle.script.specs.Line.{job_of}
+use Rattle.script.specs.Line.{job_of_line}
 use Rattle.script.specs.Text.{reply_text}
 use Rattle.std.specs.Prelude.{Some, None}
 use Rattle.std.specs.Io.BufRead.{strip_last}
 use Rattle.std.proofs.Math.Bool.{or-false, or_assoc}
-use Rattle.listing.specs.Bytes.{WritesBeginning, Passes}
-use Rattle.listing.specs.BytesLaws.{rest_of, Appends-nothing, WritesBeginning-all, WritesBeginning-longer, Passes-none, Passes-all, Passes-more, Passes-then, Passes-begun, Passes-Appends}
+use Rattle.listing.specs.Bytes.{WritesBeginning, WritesFront}
+use Rattle.listing.specs.laws.Bytes.{rest_of, Appends-nothing, WritesBeginning-all, WritesBeginning-longer, Passes-none, Passes-all, Passes-more, Passes-then, Passes-begun, Passes-Appends}
 use Rattle.std.specs.Io.KnownBytes.{Appends}
 use Rattle.bstr.specs.Find.{IsFirstByte, is_byte}
-use Rattle.script_run.specs.Lines.{kept, lines_of, has_no_end}
+use Rattle.script_run.specs.Lines.{nonempty_line, lines_of, has_no_end}
 use Rattle.script_run.proofs.Cut.{end_of, first_line, no_end, joined_line, has_no_end-append}
 use Rattle.script_run.specs.Output.{Answer, asked_by, IsAnswer, AreAnswers, told_by, left_by, ends_session, left_open, halts_of, left_at_end, text_of, is_refused, some_refused, ending}
 use Rattle.script_run.specs.Runs.{Ran, Broke, RanFront, BrokeFront, RanEnd, BrokeEnd}
 use Rattle.script_run.specs.declared.answers.Script.{Script}
 
-one-text : (line : List ℕ) (reply : Reply) (job : Option ℕ) (old : Script) (out : List ℕ) → job ≡ job_of line → out ≡ old.out.items ++ reply_text job reply → out ≡ old.out.items ++ text_of ((line, reply) ∷ [])
+one-text : (line : List ℕ) (reply : Reply) (job : Option ℕ) (old : Script) (out : List ℕ) → job ≡ job_of_line line → out ≡ old.out.items ++ reply_text job reply → out ≡ old.out.items ++ text_of ((line, reply) ∷ [])
 one-text line reply job old out j t = t ∙ ap (λ (k : Option ℕ). old.out.items ++ reply_text k reply) j ∙ ap (λ (ts : List ℕ). old.out.items ++ ts) (sym (append-nil _))
 
 -- one line was answered, and its reply gathered
-pub Ran-one : (line : List ℕ) (reply : Reply) (job : Option ℕ) (old new : Script) (before now : Option (List ℕ)) (out : List ℕ) → job ≡ job_of line → IsAnswer old.core (asked_by line) reply → new.core ≡ told_by (asked_by line) reply old.core
-    → out ≡ old.out.items ++ reply_text job reply → Passes before now out new.out.items → new.refused ≡ (old.refused || is_refused reply) → new.jobs ≡ open_after job (ends_session line reply) old.jobs
+pub Ran-one : (line : List ℕ) (reply : Reply) (job : Option ℕ) (old new : Script) (before now : Option (List ℕ)) (out : List ℕ) → job ≡ job_of_line line → IsAnswer old.core (asked_by line) reply → new.core ≡ told_by (asked_by line) reply old.core
+    → out ≡ old.out.items ++ reply_text job reply → WritesFront before now out new.out.items → new.refused ≡ (old.refused || is_refused reply) → new.jobs ≡ open_after job (ends_session line reply) old.jobs
     → (IsLegal old.core.units initial → IsLegal new.core.units initial) → Ran (line ∷ []) old new before now
 Ran-one line reply job old new before now out j a u t p r o l = record {
   answers = (line, reply) ∷ [];
   of_lines = refl;
   each = (a, tt);
   machine = u;
-  passes = subst (λ (ts : List ℕ). Passes before now ts new.out.items) (one-text line reply job old out j t) p;
+  passes = subst (λ (ts : List ℕ). WritesFront before now ts new.out.items) (one-text line reply job old out j t) p;
   refused = r ∙ ap (λ (b : Bool). old.refused || b) (sym (or-false _));
   jobs = o ∙ ap (λ (k : Option ℕ). open_after k (ends_session line reply) old.jobs) j;
   legal = l;
 }
 
 -- a line was answered, and of its reply's text a beginning was written
-pub Broke-one : (line : List ℕ) (reply : Reply) (job : Option ℕ) (old : Script) (core : Machine) (before now : Option (List ℕ)) (out : List ℕ) → job ≡ job_of line → IsAnswer old.core (asked_by line) reply
+pub Broke-one : (line : List ℕ) (reply : Reply) (job : Option ℕ) (old : Script) (core : Machine) (before now : Option (List ℕ)) (out : List ℕ) → job ≡ job_of_line line → IsAnswer old.core (asked_by line) reply
     → core ≡ told_by (asked_by line) reply old.core → out ≡ old.out.items ++ reply_text job reply → WritesBeginning before now out → (IsLegal old.core.units initial → IsLegal core.units initial) → Broke (line ∷ []) old before now
 Broke-one line reply job old core before now out j a u t w l = record {
   answers = (line, reply) ∷ [];
@@ -70,13 +70,13 @@ Ran-none old new a u o r j = record {
   of_lines = refl;
   each = tt;
   machine = u;
-  passes = subst (λ (ts : List ℕ). Passes a a ts new.out.items) (o ∙ sym (append-nil old.out.items)) (Passes-none a new.out.items);
+  passes = subst (λ (ts : List ℕ). WritesFront a a ts new.out.items) (o ∙ sym (append-nil old.out.items)) (Passes-none a new.out.items);
   refused = r ∙ sym (or-false old.refused);
   jobs = j;
   legal = λ h. subst (λ (s : Machine). IsLegal s.units initial) (sym u) h;
 }
 
-pub Ran-empty : (line : List ℕ) (old new : Script) (a : Option (List ℕ)) → length line < 1 → new.core ≡ old.core → new.out.items ≡ old.out.items → new.refused ≡ old.refused → new.jobs ≡ old.jobs → Ran (kept line) old new a a
+pub Ran-empty : (line : List ℕ) (old new : Script) (a : Option (List ℕ)) → length line < 1 → new.core ≡ old.core → new.out.items ≡ old.out.items → new.refused ≡ old.refused → new.jobs ≡ old.jobs → Ran (nonempty_line line) old new a a
 Ran-empty [] old new a lt u o r j = Ran-none old new a u o r j
 Ran-empty (b ∷ bs) old new a lt u o r j = absurd (omega (arith, lt))
 
@@ -100,7 +100,7 @@ left-then s t xs ys e = ap (left_by ys) e ∙ sym (left-append xs ys s)
 -- which jobs are open then
 pub open-append : (xs ys : List Answer) (jobs : List ℕ) → left_open (xs ++ ys) jobs ≡ left_open ys (left_open xs jobs)
 open-append [] ys jobs = refl
-open-append (x ∷ xs) ys jobs = open-append xs ys (open_after (job_of x.0) (ends_session x.0 x.1) jobs)
+open-append (x ∷ xs) ys jobs = open-append xs ys (open_after (job_of_line x.0) (ends_session x.0 x.1) jobs)
 
 pub open-then : (jobs now : List ℕ) (xs ys : List Answer) → now ≡ left_open xs jobs → left_open ys now ≡ left_open (xs ++ ys) jobs
 open-then jobs now xs ys e = ap (left_open ys) e ∙ sym (open-append xs ys jobs)
@@ -114,7 +114,7 @@ Ran-then ls ms a b c p q r h k = record {
   of_lines = lines-then h.answers k.answers ls ms h.of_lines k.of_lines;
   each = AreAnswers-append a.core b.core h.answers k.answers h.each h.machine k.each;
   machine = k.machine ∙ left-then a.core b.core h.answers k.answers h.machine;
-  passes = subst (λ (ts : List ℕ). Passes p r ts c.out.items) (text-then a.out.items h.answers k.answers)
+  passes = subst (λ (ts : List ℕ). WritesFront p r ts c.out.items) (text-then a.out.items h.answers k.answers)
       (Passes-then p q r ((a.out.items ++ text_of h.answers) ++ text_of k.answers) (b.out.items ++ text_of k.answers) c.out.items (Passes-more p q (a.out.items ++ text_of h.answers) b.out.items (text_of k.answers) h.passes) k.passes);
   refused = k.refused ∙ ap (λ (x : Bool). x || some_refused k.answers) h.refused ∙ or_assoc a.refused (some_refused h.answers) (some_refused k.answers)
       ∙ ap (λ (x : Bool). a.refused || x) (sym (list_any-append _ h.answers k.answers));
@@ -229,26 +229,26 @@ BrokeFront-more text rest after ls a b p q r h k e = record {
 
 -- the next line of a text from place `at` on
 pub next-line : (text line : List ℕ) (at end : ℕ) → at ≤ length text → IsFirstByte (is_byte 10) (take (length text - at) (drop at text)) (Some end) → line ≡ strip_last 13 (take end (take (length text - at) (drop at text)))
-    → (more : List ℕ) → lines_of (drop at text ++ more) ≡ kept line ++ lines_of (drop (at + (end + 1)) text ++ more)
+    → (more : List ℕ) → lines_of (drop at text ++ more) ≡ nonempty_line line ++ lines_of (drop (at + (end + 1)) text ++ more)
 next-line text line at end le first e more =
     let whole : take (length text - at) (drop at text) ≡ drop at text = rest_of text at in
     let found = rw whole at first in
     let ends = end_of (drop at text) end found in
     let line-is : line ≡ strip_last 13 (take end (drop at text)) = e ∙ ap (λ (t : List ℕ). strip_last 13 (take end t)) whole in
     let rest-is : drop (suc end) (drop at text) ≡ drop (at + (end + 1)) text = let same : at + suc end ≡ at + (end + 1) = omega arith in drop-drop (suc end) at text ∙ ap (λ (n : ℕ). drop n text) same in
-    first_line (drop at text) more end ends ∙ ap (λ (l : List ℕ). kept l ++ lines_of (drop (suc end) (drop at text) ++ more)) (sym line-is) ∙ ap (λ (r : List ℕ). kept line ++ lines_of (r ++ more)) rest-is
+    first_line (drop at text) more end ends ∙ ap (λ (l : List ℕ). nonempty_line l ++ lines_of (drop (suc end) (drop at text) ++ more)) (sym line-is) ∙ ap (λ (r : List ℕ). nonempty_line line ++ lines_of (r ++ more)) rest-is
 
 pub more_lines : (text line : List ℕ) (at end : ℕ) (old mid new : Script) (p q r : Option (List ℕ)) → at ≤ length text → RanFront text (drop at text) old mid p q → IsFirstByte (is_byte 10) (take (length text - at) (drop at text)) (Some end)
-    → line ≡ strip_last 13 (take end (take (length text - at) (drop at text))) → Ran (kept line) mid new q r → (at + (end + 1) ≤ length text) × RanFront text (drop (at + (end + 1)) text) old new p r
+    → line ≡ strip_last 13 (take end (take (length text - at) (drop at text))) → Ran (nonempty_line line) mid new q r → (at + (end + 1) ≤ length text) × RanFront text (drop (at + (end + 1)) text) old new p r
 more_lines text line at end old mid new p q r le so_far first e ran =
     let whole : take (length text - at) (drop at text) ≡ drop at text = rest_of text at in
     let found = rw whole at first in
-    (omega (arith, length-drop at text, found.0.high), RanFront-more text (drop at text) (drop (at + (end + 1)) text) (kept line) old mid new p q r so_far ran (next-line text line at end le first e))
+    (omega (arith, length-drop at text, found.0.high), RanFront-more text (drop at text) (drop (at + (end + 1)) text) (nonempty_line line) old mid new p q r so_far ran (next-line text line at end le first e))
 
 pub broke_lines : (text line : List ℕ) (at end : ℕ) (old mid : Script) (p q r : Option (List ℕ)) → at ≤ length text → RanFront text (drop at text) old mid p q → IsFirstByte (is_byte 10) (take (length text - at) (drop at text)) (Some end)
-    → line ≡ strip_last 13 (take end (take (length text - at) (drop at text))) → Broke (kept line) mid q r → BrokeFront text old p r
+    → line ≡ strip_last 13 (take end (take (length text - at) (drop at text))) → Broke (nonempty_line line) mid q r → BrokeFront text old p r
 broke_lines text line at end old mid p q r le so_far first e broke =
-    BrokeFront-more text (drop at text) (drop (at + (end + 1)) text) (kept line) old mid p q r so_far broke (next-line text line at end le first e)
+    BrokeFront-more text (drop at text) (drop (at + (end + 1)) text) (nonempty_line line) old mid p q r so_far broke (next-line text line at end le first e)
 
 pub no_more_lines : (text : List ℕ) (at : ℕ) → at ≤ length text → IsFirstByte (is_byte 10) (take (length text - at) (drop at text)) None → has_no_end (drop at text) ≡ true
 no_more_lines text at le none =
@@ -261,35 +261,35 @@ no_end_piece begun piece after h none e = ap has_no_end e ∙ has_no_end-append 
 
 -- the line that had begun ends in the piece
 pub joined-split : (begun piece line rest : List ℕ) (end : ℕ) → has_no_end begun ≡ true → IsFirstByte (is_byte 10) piece (Some end) → line ≡ strip_last 13 (begun ++ take end piece) → rest ≡ drop (suc end) piece
-    → (more : List ℕ) → lines_of ((begun ++ piece) ++ more) ≡ kept line ++ lines_of (rest ++ more)
+    → (more : List ℕ) → lines_of ((begun ++ piece) ++ more) ≡ nonempty_line line ++ lines_of (rest ++ more)
 joined-split begun piece line rest end none found line-is rest-is more =
-    joined_line begun piece more end none (end_of piece end found) ∙ ap (λ (l : List ℕ). kept l ++ lines_of (drop (suc end) piece ++ more)) (sym line-is) ∙ ap (λ (r : List ℕ). kept line ++ lines_of (r ++ more)) (sym rest-is)
+    joined_line begun piece more end none (end_of piece end found) ∙ ap (λ (l : List ℕ). nonempty_line l ++ lines_of (drop (suc end) piece ++ more)) (sym line-is) ∙ ap (λ (r : List ℕ). nonempty_line line ++ lines_of (r ++ more)) (sym rest-is)
 
 pub joined_first : (begun piece line rest : List ℕ) (end : ℕ) (a b : Script) (p q : Option (List ℕ)) → has_no_end begun ≡ true → IsFirstByte (is_byte 10) piece (Some end) → line ≡ strip_last 13 (begun ++ take end piece)
-    → rest ≡ drop (suc end) piece → Ran (kept line) a b p q → RanFront (begun ++ piece) rest a b p q
+    → rest ≡ drop (suc end) piece → Ran (nonempty_line line) a b p q → RanFront (begun ++ piece) rest a b p q
 joined_first begun piece line rest end a b p q none found line-is rest-is ran = record {
-  lines = kept line;
+  lines = nonempty_line line;
   ran = ran;
   split = joined-split begun piece line rest end none found line-is rest-is;
 }
 
 -- and whole lines follow it
 pub joined_lines : (begun piece line rest after : List ℕ) (end : ℕ) (a b c : Script) (p q r : Option (List ℕ)) → has_no_end begun ≡ true → IsFirstByte (is_byte 10) piece (Some end) → line ≡ strip_last 13 (begun ++ take end piece)
-    → rest ≡ drop (suc end) piece → Ran (kept line) a b p q → RanFront rest after b c q r → RanFront (begun ++ piece) after a c p r
+    → rest ≡ drop (suc end) piece → Ran (nonempty_line line) a b p q → RanFront rest after b c q r → RanFront (begun ++ piece) after a c p r
 joined_lines begun piece line rest after end a b c p q r none found line-is rest-is ran front =
     RanFront-more (begun ++ piece) rest after front.lines a b c p q r (joined_first begun piece line rest end a b p q none found line-is rest-is ran) front.ran front.split
 
 -- or the run broke off in them
 pub joined_broke : (begun piece line rest : List ℕ) (end : ℕ) (a b : Script) (p q r : Option (List ℕ)) → has_no_end begun ≡ true → IsFirstByte (is_byte 10) piece (Some end) → line ≡ strip_last 13 (begun ++ take end piece)
-    → rest ≡ drop (suc end) piece → Ran (kept line) a b p q → BrokeFront rest b q r → BrokeFront (begun ++ piece) a p r
+    → rest ≡ drop (suc end) piece → Ran (nonempty_line line) a b p q → BrokeFront rest b q r → BrokeFront (begun ++ piece) a p r
 joined_broke begun piece line rest end a b p q r none found line-is rest-is ran front =
     BrokeFront-more (begun ++ piece) rest front.rest front.lines a b p q r (joined_first begun piece line rest end a b p q none found line-is rest-is ran) front.broke front.split
 
 -- or it broke off in the first
 pub joined_broke_first : (begun piece line : List ℕ) (end : ℕ) (a : Script) (p q : Option (List ℕ)) → has_no_end begun ≡ true → IsFirstByte (is_byte 10) piece (Some end) → line ≡ strip_last 13 (begun ++ take end piece)
-    → Broke (kept line) a p q → BrokeFront (begun ++ piece) a p q
+    → Broke (nonempty_line line) a p q → BrokeFront (begun ++ piece) a p q
 joined_broke_first begun piece line end a p q none found line-is broke = record {
-  lines = kept line;
+  lines = nonempty_line line;
   rest = drop (suc end) piece;
   broke = broke;
   split = joined-split begun piece line (drop (suc end) piece) end none found line-is refl;
@@ -314,32 +314,32 @@ halted-legal : (ls : List (List ℕ)) (a b : Script) (p q : Option (List ℕ)) (
 halted-legal ls a b p q h l = halts-legal (left_open h.answers a.jobs) (left_by h.answers a.core) (subst (λ (s : Machine). IsLegal s.units initial) h.machine (h.legal l))
 
 -- and then the ending was written
-pub ended : (listed : Bool) (begun : List ℕ) (a b c : Script) (core : Machine) (p q r : Option (List ℕ)) → Ran (kept begun) a b p q → core ≡ run_of (halts_of b.jobs) b.core → Appends q r (b.out.items ++ ending listed (after_units core.units initial).map)
+pub ended : (listed : Bool) (begun : List ℕ) (a b c : Script) (core : Machine) (p q r : Option (List ℕ)) → Ran (nonempty_line begun) a b p q → core ≡ run_of (halts_of b.jobs) b.core → Appends q r (b.out.items ++ ending listed (after_units core.units initial).map)
     → c.refused ≡ b.refused → RanEnd listed begun a c p r
 ended listed begun a b c core p q r h e w d = record {
   answers = h.answers;
   of_lines = h.of_lines;
   each = h.each;
-  legal = halted-legal (kept begun) a b p q h;
+  legal = halted-legal (nonempty_line begun) a b p q h;
   refused = d ∙ h.refused;
-  written = subst (λ (s : Machine). Appends p r ((a.out.items ++ text_of h.answers) ++ ending listed (after_units s.units initial).map)) (halted (kept begun) a b core p q h e)
+  written = subst (λ (s : Machine). Appends p r ((a.out.items ++ text_of h.answers) ++ ending listed (after_units s.units initial).map)) (halted (nonempty_line begun) a b core p q h e)
       (Passes-Appends p q r _ _ (Passes-more p q (a.out.items ++ text_of h.answers) b.out.items (ending listed (after_units core.units initial).map) h.passes) w);
 }
 
 -- or a beginning of it
-pub broke_ending : (listed : Bool) (begun : List ℕ) (a b : Script) (core : Machine) (p q r : Option (List ℕ)) → Ran (kept begun) a b p q → core ≡ run_of (halts_of b.jobs) b.core
+pub broke_ending : (listed : Bool) (begun : List ℕ) (a b : Script) (core : Machine) (p q r : Option (List ℕ)) → Ran (nonempty_line begun) a b p q → core ≡ run_of (halts_of b.jobs) b.core
     → WritesBeginning q r (b.out.items ++ ending listed (after_units core.units initial).map) → BrokeEnd listed begun a p r
 broke_ending listed begun a b core p q r h e w = record {
   answers = h.answers;
   of_lines = h.of_lines;
   each = h.each;
-  legal = halted-legal (kept begun) a b p q h;
-  begun = subst (λ (s : Machine). WritesBeginning p r ((a.out.items ++ text_of h.answers) ++ ending listed (after_units s.units initial).map)) (halted (kept begun) a b core p q h e)
+  legal = halted-legal (nonempty_line begun) a b p q h;
+  begun = subst (λ (s : Machine). WritesBeginning p r ((a.out.items ++ text_of h.answers) ++ ending listed (after_units s.units initial).map)) (halted (nonempty_line begun) a b core p q h e)
       (Passes-begun p q r _ _ (Passes-more p q (a.out.items ++ text_of h.answers) b.out.items (ending listed (after_units core.units initial).map) h.passes) w);
 }
 
 -- the run broke off in the last line
-pub broke_last : (listed : Bool) (begun : List ℕ) (a : Script) (p r : Option (List ℕ)) → Broke (kept begun) a p r → BrokeEnd listed begun a p r
+pub broke_last : (listed : Bool) (begun : List ℕ) (a : Script) (p r : Option (List ℕ)) → Broke (nonempty_line begun) a p r → BrokeEnd listed begun a p r
 broke_last listed begun a p r h = record {
   answers = h.answers;
   of_lines = h.of_lines;
@@ -349,5 +349,5 @@ broke_last listed begun a p r h = record {
 }
 
 -- or in the HALTs after it
-pub broke_halts : (listed : Bool) (begun : List ℕ) (a b : Script) (p q : Option (List ℕ)) → Ran (kept begun) a b p q → BrokeEnd listed begun a p q
-broke_halts listed begun a b p q h = broke_last listed begun a p q (Broke-after (kept begun) a b p q q h (nothing_begun q b.out.items))
+pub broke_halts : (listed : Bool) (begun : List ℕ) (a b : Script) (p q : Option (List ℕ)) → Ran (nonempty_line begun) a b p q → BrokeEnd listed begun a p q
+broke_halts listed begun a b p q h = broke_last listed begun a p q (Broke-after (nonempty_line begun) a b p q q h (nothing_begun q b.out.items))

@@ -8,14 +8,14 @@ use Rattle.std.specs.Io.KnownBytes.{Appends, Consumes, IsAtEnd, Keeps}
 use Rattle.journal.specs.Story.{Machine, nothing_done}
 use Rattle.journal.specs.History.{initial, after, IsLegal}
 use Rattle.serial.specs.Machine.{run_of}
-use Rattle.listing.specs.Bytes.{WritesBeginning, Passes}
-use Rattle.script_run.specs.Lines.{kept, lines_of, has_no_end}
+use Rattle.listing.specs.Bytes.{WritesBeginning, WritesFront}
+use Rattle.script_run.specs.Lines.{nonempty_line, lines_of, has_no_end}
 use Rattle.script_run.proofs.Exact.{exact_output}
-use Rattle.script_run.specs.Output.{Answer, AreAnswers, left_by, left_open, halts_of, left_at_end, text_of, some_refused, ending, IsOutput, Wrote, IsBegun, HasAnswered}
+use Rattle.script_run.specs.Output.{Answer, AreAnswers, left_by, left_open, halts_of, left_at_end, text_of, some_refused, ending, IsOutput, Wrote, IsBegun, HasAnsweredLines}
 use Rattle.script_run.specs.Runs.{RanFront, BrokeFront, RanEnd, BrokeEnd, HasRead}
 use Rattle.script_run.specs.declared.answers.Script.{Script}
-use Rattle.listing.specs.BytesLaws.{Appends-nothing, Appends-more, WritesBeginning-all, WritesBeginning-longer, WritesBeginning-then, Passes-Appends}
-use Rattle.script_run.specs.LineLaws.{last_line}
+use Rattle.listing.specs.laws.Bytes.{Appends-nothing, Appends-more, WritesBeginning-all, WritesBeginning-longer, WritesBeginning-then, Passes-Appends}
+use Rattle.script_run.specs.laws.Lines.{last_line}
 use Rattle.script_run.proofs.Runs.{AreAnswers-append, silent, silent-lines, silent-each, silent-left, left-append, left-then, open-then, halts-legal, nothing_begun}
 
 abbrev pub lines_in : List Answer → List (List ℕ)
@@ -80,12 +80,12 @@ Follows-piece all left left' begun piece rest before more ls h k e f =
     (Follows-lines all left' (lines_in before) ls (begun ++ piece) rest (Follows-more all left left' (lines_in before) begun piece h k) f)
 
 -- the text of the answers before a piece and of those in it
-written-next : (old new new' : Option (List ℕ)) (before more : List Answer) (a b : Script) → Appends old new (text_of before) → a.out.items ≡ [] → Passes new new' (a.out.items ++ text_of more) b.out.items → b.out.items ≡ []
+written-next : (old new new' : Option (List ℕ)) (before more : List Answer) (a b : Script) → Appends old new (text_of before) → a.out.items ≡ [] → WritesFront new new' (a.out.items ++ text_of more) b.out.items → b.out.items ≡ []
     → Appends old new' (text_of (before ++ more))
 written-next old new new' before more a b w o p e =
     subst (Appends old new') (ap (λ (t : List ℕ). text_of before ++ (t ++ text_of more)) o ∙ sym (flat_map-append _ before more))
     (Appends-more old new new' (text_of before) (a.out.items ++ text_of more) w
-    (Passes-Appends new new' new' (a.out.items ++ text_of more) [] (subst (λ (t : List ℕ). Passes new new' (a.out.items ++ text_of more) t) e p) (Appends-nothing new')))
+    (Passes-Appends new new' new' (a.out.items ++ text_of more) [] (subst (λ (t : List ℕ). WritesFront new new' (a.out.items ++ text_of more) t) e p) (Appends-nothing new')))
 
 pub stands_next : (all left left' old new new' : Option (List ℕ)) (begun piece rest : List ℕ) (a b : Script) → Stands all left begun old new a → HasRead left left' piece → RanFront (begun ++ piece) rest a b new new'
     → has_no_end rest ≡ true → b.out.items ≡ [] → Stands all left' rest old new' b
@@ -164,7 +164,7 @@ at_end bytes (Some more) (Some more') ls begun piece h k p e =
 
 -- the whole output, of the answers before the end of input and of that to the last line
 whole_output : (listed : Bool) (bytes : List ℕ) (left left' old new : Option (List ℕ)) (begun piece : List ℕ) (a : Script) (last : List Answer) (h : Stands (Some bytes) left begun old new a) → HasRead left left' piece → length piece ≡ 0
-    → lines_in last ≡ kept begun → AreAnswers a.core last → (IsLegal a.core.units initial → IsLegal (left_at_end last a.jobs a.core).units initial)
+    → lines_in last ≡ nonempty_line begun → AreAnswers a.core last → (IsLegal a.core.units initial → IsLegal (left_at_end last a.jobs a.core).units initial)
     → IsOutput listed bytes (text_of h.answers ++ ((a.out.items ++ text_of last) ++ ending listed (after (left_at_end last a.jobs a.core).units initial).map)) (a.refused || some_refused last)
 whole_output listed bytes left left' old new begun piece a last h r none of_lines each legal =
     let whole : List Answer = h.answers ++ last in
@@ -209,7 +209,7 @@ begun_end listed (Some bytes) left left' old new last begun piece a h r none e =
     }
 
 -- where a read fails, the lines that ended were answered
-pub answered : (all left left' old new : Option (List ℕ)) (begun : List ℕ) (script : Script) → Stands all left begun old new script → Keeps left left' → IfSome all (λ bytes. IfSome left' (λ more. HasAnswered bytes more old new))
+pub answered : (all left left' old new : Option (List ℕ)) (begun : List ℕ) (script : Script) → Stands all left begun old new script → Keeps left left' → IfSome all (λ bytes. IfSome left' (λ more. HasAnsweredLines bytes more old new))
 answered None left left' old new begun script h k = tt
 answered (Some bytes) None left' old new begun script h k = absurd h.split
 answered (Some bytes) (Some more) None old new begun script h k = absurd k

@@ -13,19 +13,19 @@ use Rattle.command.specs.declared.request.Reply.{Reply}
 use Rattle.journal.specs.History.{initial, after, IsLegal}
 use Rattle.journal.specs.Story.{Machine, nothing_done}
 use Rattle.serial.specs.Machine.{run_of}
-use Rattle.listing.specs.Bytes.{WritesBeginning, Passes}
+use Rattle.listing.specs.Bytes.{WritesBeginning, WritesFront}
 use Rattle.listing.specs.declared.nodes.ListingFault.{ListingFault}
 use Rattle.listing.specs.declared.nodes.ListingFault.TheVariants.{Write as ListingWrite, Memory as ListingMemory}
 use Rattle.listing.specs.Listing.{node_text, IsListedFront, HasListed}
-use Rattle.listing.specs.BytesLaws.{Appends-nothing, Appends-more, WritesBeginning-longer, Passes-none, Passes-all, Passes-more, Passes-then, Passes-Appends, Passes-begun}
+use Rattle.listing.specs.laws.Bytes.{Appends-nothing, Appends-more, WritesBeginning-longer, Passes-none, Passes-all, Passes-more, Passes-then, Passes-Appends, Passes-begun}
 use Rattle.script_run.specs.declared.fault.Fault.{Fault}
 use Rattle.script_run.specs.declared.fault.Fault.TheVariants.{Memory}
 use Rattle.script_run.specs.Faults.{fault_of}
-use Rattle.script_run.specs.Lines.{kept, lines_of, has_no_end}
+use Rattle.script_run.specs.Lines.{nonempty_line, lines_of, has_no_end}
 use Rattle.script_run.specs.Output.{Answer, asked_by, IsAnswer, AreAnswers, told_by, left_by, left_open, left_at_end, halts_of, text_of, some_refused, ending, IsBegun, IsEndingFront, HasKept}
 use Rattle.script_run.specs.Runs.{Ran, RanFront, HasRead, Stopped, StoppedFront, EndedFront, StoppedEnd, HasGathered}
 use Rattle.script_run.specs.declared.answers.Script.{Script}
-use Rattle.script_run.specs.LineLaws.{last_line}
+use Rattle.script_run.specs.laws.Lines.{last_line}
 use Rattle.script_run.proofs.Runs.{AreAnswers-append, left-then, open-then, next-line, joined-split, joined_first, halted, halts-legal}
 use Rattle.script_run.proofs.Stands.{Stands, Follows, Follows-more, Follows-lines, lines_in, lines-append, at_end, goes_on}
 
@@ -63,7 +63,7 @@ Stopped-one line reply old new a h u o = record {
   each = (h, tt);
   machine = u;
   legal = λ l. l;
-  passes = subst (λ (ts : List ℕ). Passes a a ts new.out.items) (o ∙ sym (append-nil old.out.items)) (Passes-none a new.out.items);
+  passes = subst (λ (ts : List ℕ). WritesFront a a ts new.out.items) (o ∙ sym (append-nil old.out.items)) (Passes-none a new.out.items);
 }
 
 -- none of the lines was begun
@@ -77,7 +77,7 @@ Stopped-before ls old new a u o = record {
   each = tt;
   machine = u;
   legal = λ l. l;
-  passes = subst (λ (ts : List ℕ). Passes a a ts new.out.items) (o ∙ sym (append-nil old.out.items)) (Passes-none a new.out.items);
+  passes = subst (λ (ts : List ℕ). WritesFront a a ts new.out.items) (o ∙ sym (append-nil old.out.items)) (Passes-none a new.out.items);
 }
 
 -- answers, those of which one is lost, and the lines behind them
@@ -104,7 +104,7 @@ Stopped-then ls ms a b c p q r h k = record {
   each = each-then a.core b.core h.answers k.answers k.lost h.each h.machine k.each;
   machine = machine-then a.core b.core c.core h.answers k.answers k.lost h.machine k.machine;
   legal = λ l. subst (λ (s : Machine). IsLegal s.units initial) (left-then a.core b.core h.answers k.answers h.machine) (k.legal (h.legal l));
-  passes = subst (λ (ts : List ℕ). Passes p r ts c.out.items) (text-then a.out.items h.answers k.answers)
+  passes = subst (λ (ts : List ℕ). WritesFront p r ts c.out.items) (text-then a.out.items h.answers k.answers)
       (Passes-then p q r ((a.out.items ++ text_of h.answers) ++ text_of k.answers) (b.out.items ++ text_of k.answers) c.out.items (Passes-more p q (a.out.items ++ text_of h.answers) b.out.items (text_of k.answers) h.passes) k.passes);
 }
 
@@ -131,21 +131,21 @@ StoppedFront-more text rest after ls a b c p q r h k e = record {
 }
 
 pub stopped_lines : (text line : List ℕ) (at end : ℕ) (old mid new : Script) (p q r : Option (List ℕ)) → at ≤ length text → RanFront text (drop at text) old mid p q → IsFirstByte (is_byte 10) (take (length text - at) (drop at text)) (Some end)
-    → line ≡ strip_last 13 (take end (take (length text - at) (drop at text))) → Stopped (kept line) mid new q r → StoppedFront text old new p r
+    → line ≡ strip_last 13 (take end (take (length text - at) (drop at text))) → Stopped (nonempty_line line) mid new q r → StoppedFront text old new p r
 stopped_lines text line at end old mid new p q r le so_far first e stopped =
-    StoppedFront-more text (drop at text) (drop (at + (end + 1)) text) (kept line) old mid new p q r so_far stopped (next-line text line at end le first e)
+    StoppedFront-more text (drop at text) (drop (at + (end + 1)) text) (nonempty_line line) old mid new p q r so_far stopped (next-line text line at end le first e)
 
 -- in the lines behind the one that had begun
 pub joined_stopped : (begun piece line rest : List ℕ) (end : ℕ) (a b c : Script) (p q r : Option (List ℕ)) → has_no_end begun ≡ true → IsFirstByte (is_byte 10) piece (Some end) → line ≡ strip_last 13 (begun ++ take end piece)
-    → rest ≡ drop (suc end) piece → Ran (kept line) a b p q → StoppedFront rest b c q r → StoppedFront (begun ++ piece) a c p r
+    → rest ≡ drop (suc end) piece → Ran (nonempty_line line) a b p q → StoppedFront rest b c q r → StoppedFront (begun ++ piece) a c p r
 joined_stopped begun piece line rest end a b c p q r none found line-is rest-is ran front =
     StoppedFront-more (begun ++ piece) rest front.rest front.lines a b c p q r (joined_first begun piece line rest end a b p q none found line-is rest-is ran) front.stopped front.split
 
 -- in that one
 pub joined_stopped_first : (begun piece line : List ℕ) (end : ℕ) (a b : Script) (p q : Option (List ℕ)) → has_no_end begun ≡ true → IsFirstByte (is_byte 10) piece (Some end) → line ≡ strip_last 13 (begun ++ take end piece)
-    → Stopped (kept line) a b p q → StoppedFront (begun ++ piece) a b p q
+    → Stopped (nonempty_line line) a b p q → StoppedFront (begun ++ piece) a b p q
 joined_stopped_first begun piece line end a b p q none found line-is stopped = record {
-  lines = kept line;
+  lines = nonempty_line line;
   rest = drop (suc end) piece;
   stopped = stopped;
   split = joined-split begun piece line (drop (suc end) piece) end none found line-is refl;
@@ -155,17 +155,17 @@ joined_stopped_first begun piece line end a b p q none found line-is stopped = r
 
 -- "--" found no memory
 pub ended_before : (listed : Bool) (m : Database) (out same : List ℕ) (p : Option (List ℕ)) → same ≡ out → EndedFront listed m out same p p
-ended_before listed m out same p e = record { behind = []; front = inl refl; passes = subst (λ (ts : List ℕ). Passes p p ts same) (e ∙ sym (append-nil out)) (Passes-none p same) }
+ended_before listed m out same p e = record { behind = []; front = inl refl; passes = subst (λ (ts : List ℕ). WritesFront p p ts same) (e ∙ sym (append-nil out)) (Passes-none p same) }
 
 -- a node's line found none
 pub ended_listed : (listed : Bool) (m content : Database) (out headed left : List ℕ) (p q : Option (List ℕ)) → listed ≡ true → content ≡ m → headed ≡ out ++ codes "--\n" → HasListed p q headed content left → EndedFront listed m out left p q
 ended_listed listed m content out headed left p q asked same e h = record {
   behind = codes "--\n" ++ h.text;
   front = inr (record { asked = asked; none_left = refl; nodes = h.text; front = subst (λ (d : Database). IsListedFront d h.text) same h.listed; headed = refl });
-  passes = subst (λ (ts : List ℕ). Passes p q ts left) (ap (λ (ts : List ℕ). ts ++ h.text) e ∙ append_assoc out (codes "--\n") h.text) h.passes;
+  passes = subst (λ (ts : List ℕ). WritesFront p q ts left) (ap (λ (ts : List ℕ). ts ++ h.text) e ∙ append_assoc out (codes "--\n") h.text) h.passes;
 }
 
-pub stopped_last : (listed : Bool) (line : List ℕ) (a b : Script) (p q : Option (List ℕ)) → Stopped (kept line) a b p q → StoppedEnd listed line a b p q
+pub stopped_last : (listed : Bool) (line : List ℕ) (a b : Script) (p q : Option (List ℕ)) → Stopped (nonempty_line line) a b p q → StoppedEnd listed line a b p q
 stopped_last listed line a b p q h = record {
   answers = h.answers;
   lost = h.lost;
@@ -177,11 +177,11 @@ stopped_last listed line a b p q h = record {
   machine = inr h.machine;
   legal = h.legal;
   front = inl refl;
-  passes = subst (λ (ts : List ℕ). Passes p q ts b.out.items) (sym (append-nil (a.out.items ++ text_of h.answers))) h.passes;
+  passes = subst (λ (ts : List ℕ). WritesFront p q ts b.out.items) (sym (append-nil (a.out.items ++ text_of h.answers))) h.passes;
 }
 
 -- all lines were answered, and then a front of what follows was gathered
-pub stopped_ending : (listed : Bool) (line : List ℕ) (a b c : Script) (core : Machine) (p q r : Option (List ℕ)) → Ran (kept line) a b p q → core ≡ run_of (halts_of b.jobs) b.core
+pub stopped_ending : (listed : Bool) (line : List ℕ) (a b c : Script) (core : Machine) (p q r : Option (List ℕ)) → Ran (nonempty_line line) a b p q → core ≡ run_of (halts_of b.jobs) b.core
     → EndedFront listed (after core.units initial).map b.out.items c.out.items q r → StoppedEnd listed line a c p r
 stopped_ending listed line a b c core p q r h e k = record {
   answers = h.answers;
@@ -193,12 +193,12 @@ stopped_ending listed line a b c core p q r h e k = record {
   each = subst (AreAnswers a.core) (sym (append-nil h.answers)) h.each;
   machine = inl refl;
   legal = λ l. subst (λ (s : Machine). IsLegal s.units initial) h.machine (h.legal l);
-  front = subst (λ (s : Machine). (k.behind ≡ []) ⊎ IsEndingFront listed [] (after s.units initial).map k.behind) (halted (kept line) a b core p q h e) k.front;
+  front = subst (λ (s : Machine). (k.behind ≡ []) ⊎ IsEndingFront listed [] (after s.units initial).map k.behind) (halted (nonempty_line line) a b core p q h e) k.front;
   passes = Passes-then p q r _ (b.out.items ++ k.behind) c.out.items (Passes-more p q (a.out.items ++ text_of h.answers) b.out.items k.behind h.passes) k.passes;
 }
 
 -- all lines were answered, and a HALT found no memory
-pub stopped_halts : (listed : Bool) (line : List ℕ) (a b c : Script) (p q : Option (List ℕ)) → Ran (kept line) a b p q → c.out.items ≡ b.out.items → StoppedEnd listed line a c p q
+pub stopped_halts : (listed : Bool) (line : List ℕ) (a b c : Script) (p q : Option (List ℕ)) → Ran (nonempty_line line) a b p q → c.out.items ≡ b.out.items → StoppedEnd listed line a c p q
 stopped_halts listed line a b c p q h o =
     stopped_ending listed line a b c (run_of (halts_of b.jobs) b.core) p q q h refl (ended_before listed _ b.out.items c.out.items q o)
 
@@ -226,7 +226,7 @@ gathered_at listed None left old new begun script h = tt
 gathered_at listed (Some bytes) left old new begun script h = gathered_known listed bytes left old new begun script h
 
 -- what was written before, and then some more
-passes-first : (a b c : Option (List ℕ)) (x y z : List ℕ) → Appends a b x → Passes b c y z → Passes a c (x ++ y) z
+passes-first : (a b c : Option (List ℕ)) (x y z : List ℕ) → Appends a b x → WritesFront b c y z → WritesFront a c (x ++ y) z
 passes-first a b c x y z h k = record {
   written = x ++ k.written;
   appended = Appends-more a b c x k.written h k.appended;
@@ -234,10 +234,10 @@ passes-first a b c x y z h k = record {
 }
 
 -- the text of the answers before, of those after, and of what follows
-passes-next : (old new last : Option (List ℕ)) (before more : List Answer) (out behind left : List ℕ) → Appends old new (text_of before) → out ≡ [] → Passes new last ((out ++ text_of more) ++ behind) left
-    → Passes old last (text_of (before ++ more) ++ behind) left
+passes-next : (old new last : Option (List ℕ)) (before more : List Answer) (out behind left : List ℕ) → Appends old new (text_of before) → out ≡ [] → WritesFront new last ((out ++ text_of more) ++ behind) left
+    → WritesFront old last (text_of (before ++ more) ++ behind) left
 passes-next old new last before more out behind left w o k =
-    subst (λ (ts : List ℕ). Passes old last ts left)
+    subst (λ (ts : List ℕ). WritesFront old last ts left)
     (ap (λ (o : List ℕ). text_of before ++ ((o ++ text_of more) ++ behind)) o ∙ sym (append_assoc (text_of before) (text_of more) behind) ∙ ap (λ (ts : List ℕ). ts ++ behind) (sym (flat_map-append _ before more)))
     (passes-first old new last (text_of before) ((out ++ text_of more) ++ behind) left w k)
 
@@ -264,7 +264,7 @@ gathered_known_piece listed bytes left (Some more) old new last begun piece a b 
   legal = subst (λ (s : Machine). IsLegal s.units initial) (left-then nothing_done a.core h.answers k.stopped.answers h.machine) (k.stopped.legal h.legal);
   front = inl refl;
   passes = passes-next old new last h.answers k.stopped.answers a.out.items [] b.out.items h.written h.out
-      (subst (λ (ts : List ℕ). Passes new last ts b.out.items) (sym (append-nil (a.out.items ++ text_of k.stopped.answers))) k.stopped.passes);
+      (subst (λ (ts : List ℕ). WritesFront new last ts b.out.items) (sym (append-nil (a.out.items ++ text_of k.stopped.answers))) k.stopped.passes);
 }
 
 -- in a piece
@@ -287,7 +287,7 @@ gathered_end listed (Some bytes) left left' old new last begun piece a b h r non
     let left-is : left_by k.answers a.core ≡ left_by (h.answers ++ k.answers) nothing_done = left-then nothing_done a.core h.answers k.answers h.machine in
     let open-is : left_open k.answers a.jobs ≡ left_open (h.answers ++ k.answers) [] = open-then [] a.jobs h.answers k.answers h.jobs in
     let end-is : left_at_end k.answers a.jobs a.core ≡ left_at_end (h.answers ++ k.answers) [] nothing_done = λ i. run_of (halts_of (open-is i)) (left-is i) in
-    let all-lines : lines_of bytes ≡ lines_in h.answers ++ kept begun =
+    let all-lines : lines_of bytes ≡ lines_in h.answers ++ nonempty_line begun =
     at_end bytes left left' (lines_in h.answers) begun piece h.split r.consumed (nil_from_length piece none) (r.ended none) ∙ ap (λ (l : List (List ℕ)). lines_in h.answers ++ l) (last_line begun h.whole) in
     record {
       answers = h.answers ++ k.answers;
@@ -295,7 +295,7 @@ gathered_end listed (Some bytes) left left' old new last begun piece a b h r non
       unread = k.unread;
       behind = k.behind;
       few = k.few;
-      of_lines = all-lines ∙ sym (lines-then h.answers k.answers (lines_in h.answers) (kept begun) (lines_in k.lost ++ k.unread) refl k.of_lines);
+      of_lines = all-lines ∙ sym (lines-then h.answers k.answers (lines_in h.answers) (nonempty_line begun) (lines_in k.lost ++ k.unread) refl k.of_lines);
       each = each-then nothing_done a.core h.answers k.answers k.lost h.each h.machine k.each;
       machine = machine-end nothing_done a.core b.core h.answers k.answers k.lost (lines_in k.lost ++ k.unread) h.machine k.machine;
       legal = subst (λ (s : Machine). IsLegal s.units initial) left-is (k.legal h.legal);

@@ -3,4 +3,4 @@ pub mod OpenJobs
 pub mod Output
 pub mod Runs
 pub mod Faults
-pub mod LineLaws
+pub mod laws

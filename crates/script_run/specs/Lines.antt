@@ -5,14 +5,14 @@ use Rattle.std.specs.Io.BufRead.{strip_last}
 use Rattle.collation.specs.Bytes as byte
 
 -- an empty line is passed over
-abbrev pub kept : List ℕ → List (List ℕ)
-kept [] = []
-kept (b ∷ bs) = (b ∷ bs) ∷ []
+abbrev pub nonempty_line : List ℕ → List (List ℕ)
+nonempty_line [] = []
+nonempty_line (b ∷ bs) = (b ∷ bs) ∷ []
 
 -- a line has begun: it ends at byte 10, and a byte 13 directly before that isn't part of it, or it ends with the text
 abbrev pub lines_from : List ℕ → List ℕ → List (List ℕ)
-lines_from line [] = kept line
-lines_from line (b ∷ bs) = if b == byte.line_feed then kept (strip_last byte.carriage_return line) ++ lines_from [] bs else lines_from (line ++ b ∷ []) bs
+lines_from line [] = nonempty_line line
+lines_from line (b ∷ bs) = if b == byte.line_feed then nonempty_line (strip_last byte.carriage_return line) ++ lines_from [] bs else lines_from (line ++ b ∷ []) bs
 
 -- the lines that aren't empty
 abbrev pub lines_of : List ℕ → List (List ℕ)
@@ -30,4 +30,4 @@ text_of_lines (l ∷ ls) last = l ++ byte.line_feed ∷ text_of_lines ls last
 -- its lines are those, less a byte 13 before an end, and the last, of which the empty ones are passed over
 abbrev pub LinesAreCutAtTheirEnds : Type 0
 LinesAreCutAtTheirEnds =
-    (ls : List (List ℕ)) (last : List ℕ) → list_all has_no_end ls ≡ true → has_no_end last ≡ true → lines_of (text_of_lines ls last) ≡ flat_map (λ l. kept (strip_last byte.carriage_return l)) ls ++ kept last
+    (ls : List (List ℕ)) (last : List ℕ) → list_all has_no_end ls ≡ true → has_no_end last ≡ true → lines_of (text_of_lines ls last) ≡ flat_map (λ l. nonempty_line (strip_last byte.carriage_return l)) ls ++ nonempty_line last

@@ -11,13 +11,13 @@ abbrev pub has_joined : ℕ → List ℕ → List ℕ
 has_joined job jobs = if is_open job jobs then jobs else jobs ++ job ∷ []
 
 -- the others
-abbrev pub without : ℕ → List ℕ → List ℕ
-without job jobs = filter (λ j. not (j == job)) jobs
+abbrev pub without_job : ℕ → List ℕ → List ℕ
+without_job job jobs = filter (λ j. not (j == job)) jobs
 
 -- after a line of the job, if it has one, that ended the session or didn't
 abbrev pub open_after : Option ℕ → Bool → List ℕ → List ℕ
 open_after None ended jobs = jobs
-open_after (Some job) ended jobs = if ended then without job jobs else has_joined job jobs
+open_after (Some job) ended jobs = if ended then without_job job jobs else has_joined job jobs
 
 -- how many flags are set
 abbrev pub tally : List Bool → ℕ

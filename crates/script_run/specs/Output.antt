@@ -1,5 +1,5 @@
 -- What a script writes.
--- Read IsOutput, output_of, Wrote, IsBegun, HasAnswered and HasKept; the contract of run_script cites these.
+-- Read IsOutput, output_of, Wrote, IsBegun, HasAnsweredLines and HasKept; the contract of run_script cites these.
 use Rattle.std.specs.Prelude.{◌≡◌, ◌⊎◌, ⊤, ℕ, Bool, true, false, not, ◌&&◌, List, [], ◌∷◌, ◌++◌, map, Option, Result, Ok, Err, codes}
 use Rattle.std.specs.List.{flat_map, list_any}
 use Rattle.std.specs.Io.KnownBytes.{Appends}
@@ -14,7 +14,7 @@ use Rattle.journal.specs.History.{initial, after, IsLegal}
 use Rattle.journal.specs.Story.{Machine, nothing_done, told}
 use Rattle.serial.specs.Machine.{IsReply, reply_of, run_of}
 use Rattle.serial.specs.Memory.{is_out_of_memory}
-use Rattle.script.specs.Line.{reading_of, job_of}
+use Rattle.script.specs.Line.{reading_of, job_of_line}
 use Rattle.script.specs.Text.{reply_text}
 use Rattle.listing.specs.Listing.{listing_text, IsListedFront}
 use Rattle.listing.specs.Bytes.{WritesBeginning}
@@ -50,7 +50,7 @@ AreAnswers s [] = ⊤
 AreAnswers s (a ∷ answers) = IsAnswer s (asked_by a.0) a.1 × AreAnswers (told_by (asked_by a.0) a.1 s) answers
 
 abbrev pub text_of : List Answer → List ℕ
-text_of answers = flat_map (λ a. reply_text (job_of a.0) a.1) answers
+text_of answers = flat_map (λ a. reply_text (job_of_line a.0) a.1) answers
 
 abbrev pub is_refused : Reply → Bool
 is_refused (Answered answer) = false
@@ -91,7 +91,7 @@ ends_session line reply = asks_halt (asked_by line) && not (is_refused reply)
 -- the jobs that are open after lines and their replies, those before them given
 abbrev pub left_open : List Answer → List ℕ → List ℕ
 left_open [] jobs = jobs
-left_open (a ∷ answers) jobs = left_open answers (open_after (job_of a.0) (ends_session a.0 a.1) jobs)
+left_open (a ∷ answers) jobs = left_open answers (open_after (job_of_line a.0) (ends_session a.0 a.1) jobs)
 
 -- each job's HALT, in order
 abbrev pub halts_of : List ℕ → List (ℕ × Command)
@@ -156,7 +156,7 @@ pub record IsBegun (listed : Bool) (bytes : List ℕ) (old new : Option (List �
   pub written : WritesBeginning old new text
 
 -- the lines that ended before what is left were answered, and just their replies were written
-pub record HasAnswered (bytes more : List ℕ) (old new : Option (List ℕ)) : Type 0 where
+pub record HasAnsweredLines (bytes more : List ℕ) (old new : Option (List ℕ)) : Type 0 where
   pub answers : List Answer
   pub begun : List ℕ
   pub each : AreAnswers nothing_done answers

@@ -4,8 +4,8 @@ use Rattle.std.specs.Io.KnownBytes.{Appends, Consumes, IsAtEnd}
 use Rattle.collation.specs.Database.{Database}
 use Rattle.journal.specs.History.{initial, after, IsLegal}
 use Rattle.journal.specs.Story.{nothing_done}
-use Rattle.listing.specs.Bytes.{WritesBeginning, Passes}
-use Rattle.script_run.specs.Lines.{kept, lines_of}
+use Rattle.listing.specs.Bytes.{WritesBeginning, WritesFront}
+use Rattle.script_run.specs.Lines.{nonempty_line, lines_of}
 use Rattle.script_run.specs.Output.{Answer, AreAnswers, left_by, left_open, left_at_end, text_of, some_refused, ending, IsEndingFront}
 use Rattle.script_run.specs.declared.answers.Script.{Script}
 
@@ -15,7 +15,7 @@ pub record Ran (lines : List (List ℕ)) (old new : Script) (before now : Option
   pub of_lines : map (λ a. a.0) answers ≡ lines
   pub each : AreAnswers old.core answers
   pub machine : new.core ≡ left_by answers old.core
-  pub passes : Passes before now (old.out.items ++ text_of answers) new.out.items
+  pub passes : WritesFront before now (old.out.items ++ text_of answers) new.out.items
   pub refused : new.refused ≡ (old.refused || some_refused answers)
   pub jobs : new.jobs ≡ left_open answers old.jobs
   pub legal : IsLegal old.core.units initial → IsLegal new.core.units initial
@@ -44,7 +44,7 @@ pub record BrokeFront (text : List ℕ) (old : Script) (before now : Option (Lis
 -- the last line was answered, the open jobs were halted, and all that was gathered and the ending were written
 pub record RanEnd (listed : Bool) (line : List ℕ) (old new : Script) (before now : Option (List ℕ)) : Type 0 where
   pub answers : List Answer
-  pub of_lines : map (λ a. a.0) answers ≡ kept line
+  pub of_lines : map (λ a. a.0) answers ≡ nonempty_line line
   pub each : AreAnswers old.core answers
   pub legal : IsLegal old.core.units initial → IsLegal (left_at_end answers old.jobs old.core).units initial
   pub refused : new.refused ≡ (old.refused || some_refused answers)
@@ -53,7 +53,7 @@ pub record RanEnd (listed : Bool) (line : List ℕ) (old new : Script) (before n
 -- a beginning of that was written
 pub record BrokeEnd (listed : Bool) (line : List ℕ) (old : Script) (before now : Option (List ℕ)) : Type 0 where
   pub answers : List Answer
-  pub of_lines : map (λ a. a.0) answers ≡ kept line
+  pub of_lines : map (λ a. a.0) answers ≡ nonempty_line line
   pub each : AreAnswers old.core answers
   pub legal : IsLegal old.core.units initial → IsLegal (left_at_end answers old.jobs old.core).units initial
   pub begun : WritesBeginning before now ((old.out.items ++ text_of answers) ++ ending listed (after (left_at_end answers old.jobs old.core).units initial).map)
@@ -75,7 +75,7 @@ pub record Stopped (lines : List (List ℕ)) (old new : Script) (before now : Op
   pub each : AreAnswers old.core (answers ++ lost)
   pub machine : new.core ≡ left_by (answers ++ lost) old.core
   pub legal : IsLegal old.core.units initial → IsLegal (left_by answers old.core).units initial
-  pub passes : Passes before now (old.out.items ++ text_of answers) new.out.items
+  pub passes : WritesFront before now (old.out.items ++ text_of answers) new.out.items
 
 -- so at the front of the text
 pub record StoppedFront (text : List ℕ) (old new : Script) (before now : Option (List ℕ)) : Type 0 where
@@ -88,7 +88,7 @@ pub record StoppedFront (text : List ℕ) (old new : Script) (before now : Optio
 pub record EndedFront (listed : Bool) (m : Database) (gathered left : List ℕ) (before now : Option (List ℕ)) : Type 0 where
   pub behind : List ℕ
   pub front : (behind ≡ []) ⊎ IsEndingFront listed [] m behind
-  pub passes : Passes before now (gathered ++ behind) left
+  pub passes : WritesFront before now (gathered ++ behind) left
 
 -- so in the last line, in the open jobs' HALTs, or in what follows the replies
 pub record StoppedEnd (listed : Bool) (line : List ℕ) (old new : Script) (before now : Option (List ℕ)) : Type 0 where
@@ -97,12 +97,12 @@ pub record StoppedEnd (listed : Bool) (line : List ℕ) (old new : Script) (befo
   pub unread : List (List ℕ)
   pub behind : List ℕ
   pub few : length lost ≤ 1
-  pub of_lines : map (λ a. a.0) answers ++ (map (λ a. a.0) lost ++ unread) ≡ kept line
+  pub of_lines : map (λ a. a.0) answers ++ (map (λ a. a.0) lost ++ unread) ≡ nonempty_line line
   pub each : AreAnswers old.core (answers ++ lost)
   pub machine : (map (λ a. a.0) lost ++ unread ≡ []) ⊎ (new.core ≡ left_by (answers ++ lost) old.core)
   pub legal : IsLegal old.core.units initial → IsLegal (left_by answers old.core).units initial
   pub front : (behind ≡ []) ⊎ IsEndingFront listed (map (λ a. a.0) lost ++ unread) (after (left_at_end answers old.jobs old.core).units initial).map behind
-  pub passes : Passes before now ((old.out.items ++ text_of answers) ++ behind) new.out.items
+  pub passes : WritesFront before now ((old.out.items ++ text_of answers) ++ behind) new.out.items
 
 -- so in a whole script. Where a line has no reply, the machine is what the answered lines and the one whose reply is lost leave
 pub record HasGathered (listed : Bool) (bytes : List ℕ) (new : Script) (before now : Option (List ℕ)) : Type 0 where
@@ -116,4 +116,4 @@ pub record HasGathered (listed : Bool) (bytes : List ℕ) (new : Script) (before
   pub machine : (map (λ a. a.0) lost ++ unread ≡ []) ⊎ (new.core ≡ left_by (answers ++ lost) nothing_done)
   pub legal : IsLegal (left_by answers nothing_done).units initial
   pub front : (behind ≡ []) ⊎ IsEndingFront listed (map (λ a. a.0) lost ++ unread) (after (left_at_end answers [] nothing_done).units initial).map behind
-  pub passes : Passes before now (text_of answers ++ behind) new.out.items
+  pub passes : WritesFront before now (text_of answers ++ behind) new.out.items

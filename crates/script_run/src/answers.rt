@@ -1,9 +1,9 @@
 //! A line, its reply, and the reply's text.
 ghost use Rattle.std.specs.Prelude.{◌≡◌, ◌++◌, ◌∷◌, [], OnOk, OnErr, IsErrOf, ◌||◌, ◌&&◌, not};
-ghost use Rattle.script.specs.Line.{job_of};
+ghost use Rattle.script.specs.Line.{job_of_line};
 ghost use Rattle.journal.specs.History.{initial, IsLegal};
-ghost use Rattle.listing.specs.Bytes.{Counts};
-ghost use Rattle.script_run.specs.Lines.{kept};
+ghost use Rattle.listing.specs.Bytes.{IsOneMore};
+ghost use Rattle.script_run.specs.Lines.{nonempty_line};
 ghost use Rattle.script_run.specs.Output.{asked_by, ends_session, is_halt as is_halt_command, IsAnswer, told_by, is_refused as refused_of};
 ghost use Rattle.script_run.specs.Runs.{Ran, Broke, Stopped};
 
@@ -57,7 +57,7 @@ fn answer_line(
     drafts: &mut Drafts,
     line: &[u8],
 ) -> (Option<Job>, bool, Reply)
-    ensures job { result.0 ≡ job_of line.now }
+    ensures job { result.0 ≡ job_of_line line.now }
     ensures ended { result.1 ≡ ends_session line.now result.2 }
     ensures answer { IsAnswer core.old (asked_by line.now) result.2 }
     ensures machine { core.new ≡ told_by (asked_by line.now) result.2 core.old }
@@ -104,8 +104,8 @@ fn run_line<W: Write>(
 ) -> Result<(), ListingFault>
     ensures ran { OnOk result (Ran (line.now ∷ []) script.old script.new (W.contents writer.old.inner) (W.contents writer.new.inner)) }
     ensures err { OnErr result (Broke (line.now ∷ []) script.old (W.contents writer.old.inner) (W.contents writer.new.inner)) }
-    ensures kept { OnOk result (writer.new.failures ≡ writer.old.failures) }
-    ensures counted { IsErrOf result ListingFault.Write → Counts writer.old.failures writer.new.failures }
+    ensures nonempty_line { OnOk result (writer.new.failures ≡ writer.old.failures) }
+    ensures counted { IsErrOf result ListingFault.Write → IsOneMore writer.old.failures writer.new.failures }
     ensures memory { IsErrOf result ListingFault.Memory → writer.new.failures ≡ writer.old.failures }
     ensures stopped { IsErrOf result ListingFault.Memory → Stopped (line.now ∷ []) script.old script.new (W.contents writer.old.inner) (W.contents writer.new.inner) }
 {
@@ -127,12 +127,12 @@ pub(crate) fn run_kept<W: Write>(
     writer: &mut Counted<W>,
     log: &mut impl RefusalLog,
 ) -> Result<(), ListingFault>
-    ensures ran { OnOk result (Ran (kept line.now) script.old script.new (W.contents writer.old.inner) (W.contents writer.new.inner)) }
-    ensures err { OnErr result (Broke (kept line.now) script.old (W.contents writer.old.inner) (W.contents writer.new.inner)) }
+    ensures ran { OnOk result (Ran (nonempty_line line.now) script.old script.new (W.contents writer.old.inner) (W.contents writer.new.inner)) }
+    ensures err { OnErr result (Broke (nonempty_line line.now) script.old (W.contents writer.old.inner) (W.contents writer.new.inner)) }
     ensures counts { OnOk result (writer.new.failures ≡ writer.old.failures) }
-    ensures counted { IsErrOf result ListingFault.Write → Counts writer.old.failures writer.new.failures }
+    ensures counted { IsErrOf result ListingFault.Write → IsOneMore writer.old.failures writer.new.failures }
     ensures memory { IsErrOf result ListingFault.Memory → writer.new.failures ≡ writer.old.failures }
-    ensures stopped { IsErrOf result ListingFault.Memory → Stopped (kept line.now) script.old script.new (W.contents writer.old.inner) (W.contents writer.new.inner) }
+    ensures stopped { IsErrOf result ListingFault.Memory → Stopped (nonempty_line line.now) script.old script.new (W.contents writer.old.inner) (W.contents writer.new.inner) }
 {
     script.lines = script.lines.saturating_add(1);
     match line {

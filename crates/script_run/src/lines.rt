@@ -2,8 +2,9 @@
 ghost use Rattle.std.specs.Prelude.{◌≡◌, ◌++◌, [], true, length, drop, ◌≤◌, if◌then◌else◌, is_ok, IfOk, OnOk, OnErr, IsErrOf};
 ghost use Rattle.std.specs.Io.BufRead.{strip_last};
 ghost use Rattle.bstr.specs.Find.{IsFirstByte, is_byte};
-ghost use Rattle.listing.specs.Bytes.{Counts};
-ghost use Rattle.script_run.specs.Lines.{kept, has_no_end};
+ghost use Rattle.collation.specs.Bytes as byte;
+ghost use Rattle.listing.specs.Bytes.{IsOneMore};
+ghost use Rattle.script_run.specs.Lines.{nonempty_line, has_no_end};
 ghost use Rattle.script_run.specs.Runs.{Ran, Broke, RanFront, BrokeFront, Stopped, StoppedFront};
 
 use crate::RefusalLog;
@@ -17,7 +18,7 @@ use std::io::Write;
 const LONG_LINE_BYTES: usize = 1048576;
 
 fn strip_return(line: &[u8]) -> &[u8]
-    ensures { result.now ≡ strip_last 13 line.now }
+    ensures { result.now ≡ strip_last byte.carriage_return line.now }
 {
     if !line.is_empty() && line[line.len() - 1] == 13 {
         return &line[..line.len() - 1];
@@ -26,7 +27,7 @@ fn strip_return(line: &[u8]) -> &[u8]
 }
 
 fn line_end(text: &[u8]) -> Option<usize>
-    ensures { IsFirstByte (is_byte 10) text.now result }
+    ensures { IsFirstByte (is_byte byte.line_feed) text.now result }
 {
     text.find_byte(b'\n')
 }
@@ -44,7 +45,7 @@ fn run_lines<W: Write>(
     ensures begun { IfOk result (λ at. has_no_end (drop at text.now) ≡ true) }
     ensures err { OnErr result (BrokeFront text.now script.old (W.contents writer.old.inner) (W.contents writer.new.inner)) }
     ensures counts { OnOk result (writer.new.failures ≡ writer.old.failures) }
-    ensures counted { IsErrOf result ListingFault.Write → Counts writer.old.failures writer.new.failures }
+    ensures counted { IsErrOf result ListingFault.Write → IsOneMore writer.old.failures writer.new.failures }
     ensures memory { IsErrOf result ListingFault.Memory → writer.new.failures ≡ writer.old.failures }
     ensures stopped { IsErrOf result ListingFault.Memory → StoppedFront text.now script.old script.new (W.contents writer.old.inner) (W.contents writer.new.inner) }
 {
@@ -89,13 +90,13 @@ fn end_line<W: Write>(
     writer: &mut Counted<W>,
     log: &mut impl RefusalLog,
 ) -> Result<(), ListingFault>
-    ensures ran { OnOk result (Ran (kept (strip_last 13 (begun.old.items ++ front.now))) script.old script.new (W.contents writer.old.inner) (W.contents writer.new.inner)) }
+    ensures ran { OnOk result (Ran (nonempty_line (strip_last byte.carriage_return (begun.old.items ++ front.now))) script.old script.new (W.contents writer.old.inner) (W.contents writer.new.inner)) }
     ensures begun { OnOk result (begun.new.items ≡ []) }
-    ensures err { OnErr result (Broke (kept (strip_last 13 (begun.old.items ++ front.now))) script.old (W.contents writer.old.inner) (W.contents writer.new.inner)) }
+    ensures err { OnErr result (Broke (nonempty_line (strip_last byte.carriage_return (begun.old.items ++ front.now))) script.old (W.contents writer.old.inner) (W.contents writer.new.inner)) }
     ensures counts { OnOk result (writer.new.failures ≡ writer.old.failures) }
-    ensures counted { IsErrOf result ListingFault.Write → Counts writer.old.failures writer.new.failures }
+    ensures counted { IsErrOf result ListingFault.Write → IsOneMore writer.old.failures writer.new.failures }
     ensures memory { IsErrOf result ListingFault.Memory → writer.new.failures ≡ writer.old.failures }
-    ensures stopped { IsErrOf result ListingFault.Memory → Stopped (kept (strip_last 13 (begun.old.items ++ front.now))) script.old script.new (W.contents writer.old.inner) (W.contents writer.new.inner) }
+    ensures stopped { IsErrOf result ListingFault.Memory → Stopped (nonempty_line (strip_last byte.carriage_return (begun.old.items ++ front.now))) script.old script.new (W.contents writer.old.inner) (W.contents writer.new.inner) }
 {
     if begun.is_empty() {
         return run_kept(alloc, script, strip_return(front), writer, log);
@@ -120,7 +121,7 @@ pub(crate) fn run_piece<W: Write>(
     ensures begun { OnOk result (has_no_end begun.new.items ≡ true) }
     ensures err { OnErr result (BrokeFront (begun.old.items ++ piece.now) script.old (W.contents writer.old.inner) (W.contents writer.new.inner)) }
     ensures counts { OnOk result (writer.new.failures ≡ writer.old.failures) }
-    ensures counted { IsErrOf result ListingFault.Write → Counts writer.old.failures writer.new.failures }
+    ensures counted { IsErrOf result ListingFault.Write → IsOneMore writer.old.failures writer.new.failures }
     ensures memory { IsErrOf result ListingFault.Memory → writer.new.failures ≡ writer.old.failures }
     ensures stopped { IsErrOf result ListingFault.Memory → StoppedFront (begun.old.items ++ piece.now) script.old script.new (W.contents writer.old.inner) (W.contents writer.new.inner) }
 {

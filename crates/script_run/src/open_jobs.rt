@@ -3,7 +3,7 @@ ghost use Rattle.std.specs.Prelude.{◌≡◌, ◌==◌, [], IfOk, OnOk};
 ghost use Rattle.std.specs.List.{list_any};
 ghost use Rattle.command.specs.declared.request.Command.TheVariants.{Halt};
 ghost use Rattle.serial.specs.Machine.{step_of, run_of};
-ghost use Rattle.script_run.specs.OpenJobs.{has_joined, without, open_after, is_open as is_open_spec};
+ghost use Rattle.script_run.specs.OpenJobs.{has_joined, without_job, open_after, is_open as is_open_spec};
 ghost use Rattle.script_run.specs.Output.{halts_of};
 
 use collation::Job;
@@ -68,7 +68,7 @@ impl OpenJobs {
     }
 
     fn leave(&mut self, job: Job)
-        ensures { self.new ≡ without job self.old }
+        ensures { self.new ≡ without_job job self.old }
     {
         if self.is_open(job) {
             self.flags[job.number() as usize] = false;

@@ -3,9 +3,9 @@ ghost use Rattle.std.specs.Prelude.{◌≡◌, ◌++◌, ◌<◌, [], true, fals
 ghost use Rattle.std.specs.Io.KnownBytes.{Appends, IsAtEnd, Keeps};
 ghost use Rattle.journal.specs.History.{initial, after};
 ghost use Rattle.journal.specs.Story.{nothing_done};
-ghost use Rattle.listing.specs.Bytes.{Counts, WritesBeginning};
+ghost use Rattle.listing.specs.Bytes.{IsOneMore, WritesBeginning};
 ghost use Rattle.script_run.specs.Lines.{has_no_end};
-ghost use Rattle.script_run.specs.Output.{ending, Wrote, IsBegun, HasAnswered, HasKept};
+ghost use Rattle.script_run.specs.Output.{ending, Wrote, IsBegun, HasAnsweredLines, HasKept};
 ghost use Rattle.script_run.specs.Runs.{RanFront, BrokeFront, RanEnd, BrokeEnd, HasRead, StoppedFront, EndedFront, StoppedEnd, HasGathered};
 
 use crate::answers::{Script, run_kept};
@@ -42,7 +42,7 @@ fn read_piece<'a, R: Read>(
     ensures read { IfOk result (λ piece. HasRead (R.remaining reader.old.inner) (R.remaining reader.new.inner) piece.now) }
     ensures err { OnErr result (Keeps (R.remaining reader.old.inner) (R.remaining reader.new.inner)) }
     ensures kept { OnOk result (reader.new.failures ≡ reader.old.failures) }
-    ensures counted { OnErr result (Counts reader.old.failures reader.new.failures) }
+    ensures counted { OnErr result (IsOneMore reader.old.failures reader.new.failures) }
 {
     let n = reader.read_some(buffer)?;
     Ok(&buffer[..n])
@@ -83,7 +83,7 @@ fn take_piece<W: Write>(
     ensures empty { OnOk result (script.new.out.items ≡ []) }
     ensures err { OnErr result (BrokeFront (begun.old.items ++ piece.now) script.old (W.contents writer.old.inner) (W.contents writer.new.inner)) }
     ensures counts { OnOk result (writer.new.failures ≡ writer.old.failures) }
-    ensures counted { IsErrOf result ListingFault.Write → Counts writer.old.failures writer.new.failures }
+    ensures counted { IsErrOf result ListingFault.Write → IsOneMore writer.old.failures writer.new.failures }
     ensures memory { IsErrOf result ListingFault.Memory → writer.new.failures ≡ writer.old.failures }
     ensures stopped { IsErrOf result ListingFault.Memory → StoppedFront (begun.old.items ++ piece.now) script.old script.new (W.contents writer.old.inner) (W.contents writer.new.inner) }
 {
@@ -103,7 +103,7 @@ fn write_ending<W: Write>(
     ensures err { OnErr result (WritesBeginning (W.contents writer.old.inner) (W.contents writer.new.inner) (script.old.out.items ++ ending listed (after script.old.core.units initial).map)) }
     ensures refused { script.new.refused ≡ script.old.refused }
     ensures counts { OnOk result (writer.new.failures ≡ writer.old.failures) }
-    ensures counted { IsErrOf result ListingFault.Write → Counts writer.old.failures writer.new.failures }
+    ensures counted { IsErrOf result ListingFault.Write → IsOneMore writer.old.failures writer.new.failures }
     ensures memory { IsErrOf result ListingFault.Memory → writer.new.failures ≡ writer.old.failures }
     ensures stopped { IsErrOf result ListingFault.Memory → EndedFront listed (after script.old.core.units initial).map script.old.out.items script.new.out.items (W.contents writer.old.inner) (W.contents writer.new.inner) }
 {
@@ -129,7 +129,7 @@ fn finish<W: Write>(
     ensures ran { OnOk result (RanEnd listed begun.now script.old script.new (W.contents writer.old.inner) (W.contents writer.new.inner)) }
     ensures err { OnErr result (BrokeEnd listed begun.now script.old (W.contents writer.old.inner) (W.contents writer.new.inner)) }
     ensures counts { OnOk result (writer.new.failures ≡ writer.old.failures) }
-    ensures counted { IsErrOf result ListingFault.Write → Counts writer.old.failures writer.new.failures }
+    ensures counted { IsErrOf result ListingFault.Write → IsOneMore writer.old.failures writer.new.failures }
     ensures memory { IsErrOf result ListingFault.Memory → writer.new.failures ≡ writer.old.failures }
     ensures stopped { IsErrOf result ListingFault.Memory → StoppedEnd listed begun.now script.old script.new (W.contents writer.old.inner) (W.contents writer.new.inner) }
 {
@@ -158,9 +158,9 @@ fn run_pieces<R: Read, W: Write>(
     ensures begun { OnErr result (IfSome (R.remaining reader.old.inner)
         (λ bytes. IsBegun listed bytes (W.contents writer.old.inner) (W.contents writer.new.inner))) }
     ensures answered { IsErrOf result Fault.Read → IfSome (R.remaining reader.old.inner) (λ bytes. IfSome (R.remaining reader.new.inner)
-        (λ more. HasAnswered bytes more (W.contents writer.old.inner) (W.contents writer.new.inner))) }
-    ensures read { IsErrOf result Fault.Read → Counts reader.old.failures reader.new.failures × (writer.new.failures ≡ writer.old.failures) }
-    ensures write { IsErrOf result Fault.Write → Counts writer.old.failures writer.new.failures × (reader.new.failures ≡ reader.old.failures) }
+        (λ more. HasAnsweredLines bytes more (W.contents writer.old.inner) (W.contents writer.new.inner))) }
+    ensures read { IsErrOf result Fault.Read → IsOneMore reader.old.failures reader.new.failures × (writer.new.failures ≡ writer.old.failures) }
+    ensures write { IsErrOf result Fault.Write → IsOneMore writer.old.failures writer.new.failures × (reader.new.failures ≡ reader.old.failures) }
     ensures kept { OnOk result ((reader.new.failures ≡ reader.old.failures) × (writer.new.failures ≡ writer.old.failures)) }
     ensures memory { IsErrOf result Fault.Memory → (reader.new.failures ≡ reader.old.failures) × (writer.new.failures ≡ writer.old.failures) }
     ensures gathered { IsErrOf result Fault.Memory → IfSome (R.remaining reader.old.inner)
@@ -197,9 +197,9 @@ pub fn run_with<R: Read, W: Write>(
     ensures begun { OnErr result (IfSome (R.remaining reader.old.inner)
         (λ bytes. IsBegun listed bytes (W.contents writer.old.inner) (W.contents writer.new.inner))) }
     ensures answered { IsErrOf result Fault.Read → IfSome (R.remaining reader.old.inner) (λ bytes. IfSome (R.remaining reader.new.inner)
-        (λ more. HasAnswered bytes more (W.contents writer.old.inner) (W.contents writer.new.inner))) }
-    ensures read { IsErrOf result Fault.Read → Counts reader.old.failures reader.new.failures × (writer.new.failures ≡ writer.old.failures) }
-    ensures write { IsErrOf result Fault.Write → Counts writer.old.failures writer.new.failures × (reader.new.failures ≡ reader.old.failures) }
+        (λ more. HasAnsweredLines bytes more (W.contents writer.old.inner) (W.contents writer.new.inner))) }
+    ensures read { IsErrOf result Fault.Read → IsOneMore reader.old.failures reader.new.failures × (writer.new.failures ≡ writer.old.failures) }
+    ensures write { IsErrOf result Fault.Write → IsOneMore writer.old.failures writer.new.failures × (reader.new.failures ≡ reader.old.failures) }
     ensures kept { OnOk result ((reader.new.failures ≡ reader.old.failures) × (writer.new.failures ≡ writer.old.failures)) }
     ensures memory { IsErrOf result Fault.Memory → (reader.new.failures ≡ reader.old.failures) × (writer.new.failures ≡ writer.old.failures) }
     ensures unlost { IsErrOf result Fault.Memory → IfSome (R.remaining reader.old.inner)
@@ -255,9 +255,9 @@ pub fn run_script<R: Read, W: Write>(
     ensures begun { OnErr result (IfSome (R.remaining reader.old.inner)
         (λ bytes. IsBegun true bytes (W.contents writer.old.inner) (W.contents writer.new.inner))) }
     ensures answered { IsErrOf result Fault.Read → IfSome (R.remaining reader.old.inner) (λ bytes. IfSome (R.remaining reader.new.inner)
-        (λ more. HasAnswered bytes more (W.contents writer.old.inner) (W.contents writer.new.inner))) }
-    ensures read { IsErrOf result Fault.Read → Counts reader.old.failures reader.new.failures × (writer.new.failures ≡ writer.old.failures) }
-    ensures write { IsErrOf result Fault.Write → Counts writer.old.failures writer.new.failures × (reader.new.failures ≡ reader.old.failures) }
+        (λ more. HasAnsweredLines bytes more (W.contents writer.old.inner) (W.contents writer.new.inner))) }
+    ensures read { IsErrOf result Fault.Read → IsOneMore reader.old.failures reader.new.failures × (writer.new.failures ≡ writer.old.failures) }
+    ensures write { IsErrOf result Fault.Write → IsOneMore writer.old.failures writer.new.failures × (reader.new.failures ≡ reader.old.failures) }
     ensures kept { OnOk result ((reader.new.failures ≡ reader.old.failures) × (writer.new.failures ≡ writer.old.failures)) }
     ensures memory { IsErrOf result Fault.Memory → (reader.new.failures ≡ reader.old.failures) × (writer.new.failures ≡ writer.old.failures) }
     ensures unlost { IsErrOf result Fault.Memory → IfSome (R.remaining reader.old.inner)

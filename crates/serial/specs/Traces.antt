@@ -14,8 +14,8 @@ use Rattle.journal.specs.Story.{Machine, nothing_done, transaction_of}
 use Rattle.serial.specs.Machine.{reply_of, step_of, run_of}
 
 -- the database that the machine's units leave
-abbrev pub map_of : Machine → Database
-map_of s = (after s.units initial).map
+abbrev pub machine_map : Machine → Database
+machine_map s = (after s.units initial).map
 
 -- a job's locks after the machine's units
 abbrev pub job_locks : ℕ → Machine → JobLocks
@@ -41,7 +41,7 @@ only_locks job us = list_all (λ u. not (job_of u == job) || is_lock_or_back u) 
 -- from s on no data command of the job stands among the units; a step from t leaves the database as it was at t, and the job's locks as they were at s
 pub record IsUndone (job : ℕ) (s t after : Machine) : Type 0 where
   pub units : only_locks job (drop (length s.units) after.units) ≡ true
-  pub map : map_of after ≡ map_of t
+  pub map : machine_map after ≡ machine_map t
   pub locks : job_locks job after ≡ job_locks job s
 
 -- a transaction that began at s and is open at t is undone where it is rolled back or restarted

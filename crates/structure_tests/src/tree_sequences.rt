@@ -1,6 +1,6 @@
 //! The B-tree at numbers. Expected answers are those of std's `BTreeMap` at the same steps, and numbers by hand.
 ghost use Rattle.std.specs.Prelude.{nat_lt};
-ghost use Rattle.structure_tests.specs.Numbers.{below_below};
+ghost use Rattle.structure_tests.specs.laws.Numbers.{below_below};
 
 use btree::{Point, Tree};
 use std::alloc::{AllocError, Global};

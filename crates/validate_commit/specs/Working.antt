@@ -22,7 +22,7 @@ use Rattle.workspace.specs.laws.Layering.{KillsUnder}
 use Rattle.read_ranges.specs.declared.range.ReadRange.{ReadRange}
 use Rattle.read_ranges.specs.contracts.range.ReadRange as r
 use Rattle.read_ranges.specs.Ranges.{is_in_one}
-use Rattle.followed.specs.Following.{Holds}
+use Rattle.followed.specs.Following.{HoldsWrites}
 
 -- whose transaction it is, how many units stood when it began, its commands with their answers, what it wrote, and the ranges that it has read
 pub record Working : Type 0 where
@@ -39,7 +39,7 @@ just_begun job start = record { job = job; start = start; exchanges = []; layer 
 -- on the database that it began with its answers are right, its writes are those of its commands, and its ranges hold just what these have read
 pub record IsWorkOn (w : Working) (m : Database) : Type 0 where
   pub right : AreRight w.exchanges m
-  pub holds : Holds w.layer w.exchanges m
+  pub holds : HoldsWrites w.layer w.exchanges m
   pub noted : (x : Reference) → is_in_one w.ranges x ≡ has_read w.exchanges m x
 
 -- the database that it sees: that of its start, followed by its own commands

@@ -12,7 +12,7 @@ ghost use Rattle.command.specs.declared.access.DataCommand.TheVariants.{Look as 
 ghost use Rattle.globals.specs.Answering.{copies_of, early_refusal, IsRuleOrMemory};
 ghost use Rattle.globals.specs.Fitting.{IsAnswerOf};
 ghost use Rattle.workspace.specs.Layers.{laid_over, decides};
-ghost use Rattle.read_ranges.specs.Ranges.{IsBehind, IsDecided};
+ghost use Rattle.read_ranges.specs.Ranges.{KeepsFormerRanges, IsDecided};
 ghost use Rattle.validate_commit.specs.Working.{IsWorkOn, IsCauseInside, IsWritten, IsReadBy, seen, just_begun};
 ghost use Rattle.journal.specs.declared.unit.Unit.{Unit as JournalUnit};
 ghost use Rattle.serial.specs.Machine.{state_at};
@@ -236,7 +236,7 @@ impl Work {
         requires { IsAnswerOf command.now answer.now }
         ensures exchanges { OnOk result (self.new.exchanges ≡ self.old.exchanges ++ (record { command = command.now; answer = answer.now }) ∷ []) }
         ensures ranges { OnOk result (IsReadBy self.old.layer command.now answer.now self.old.ranges self.new.ranges) }
-        ensures behind { OnOk result (IsBehind command.now self.old.ranges self.new.ranges) }
+        ensures behind { OnOk result (KeepsFormerRanges command.now self.old.ranges self.new.ranges) }
         ensures job { self.new.job ≡ self.old.job }
         ensures start { self.new.start ≡ self.old.start }
         ensures layer { self.new.layer ≡ self.old.layer }

@@ -58,8 +58,8 @@ module _ {V : Type 0} where
   seen_slot None = None
   seen_slot (Some line) = Some (line_versions line)
 
-  abbrev pub seen : List (Option (Option (Version V))) → List (Option (List (Entry V)))
-  seen = map seen_slot
+  abbrev pub lists_seen : List (Option (Option (Version V))) → List (Option (List (Entry V)))
+  lists_seen = map seen_slot
 
   -- how many cells the chains have
   abbrev pub total : List (Option (Option (Version V))) → ℕ
@@ -67,12 +67,12 @@ module _ {V : Type 0} where
   total (slot ∷ rest) = cells_of (line_versions (line_of slot)) + total rest
 
   -- each cell is of one of the pages, and the stamps fall
-  abbrev pub IsLine : List Ptr → Option (Version V) → Type 0
-  IsLine held line = AllOf held (line_pages line) × IsFalling (line_versions line)
+  abbrev pub IsVersionLine : List Ptr → Option (Version V) → Type 0
+  IsVersionLine held line = AllOf held (line_pages line) × IsFalling (line_versions line)
 
   abbrev pub AllLines : List Ptr → List (Option (Option (Version V))) → Type 0
   AllLines held [] = Unit {0}
-  AllLines held (slot ∷ rest) = IsLine held (line_of slot) × AllLines held rest
+  AllLines held (slot ∷ rest) = IsVersionLine held (line_of slot) × AllLines held rest
 
   -- the chains are sound, and have all cells that are out
   pub record IsChains (held : List Ptr) (out : ℕ) (slots : List (Option (Option (Version V)))) : Type 0 where

@@ -24,12 +24,12 @@ older_in (Value v) = None
 older_in (AbsenceOver l) = Some l
 older_in (ValueOver v l) = Some l
 
-abbrev pub below : {A : Type 0} → Option (Cell (List A)) → List A
-below None = []
-below (Some c) = c.value
+abbrev pub list_below : {A : Type 0} → Option (Cell (List A)) → List A
+list_below None = []
+list_below (Some c) = c.value
 
 abbrev pub entry_step : {V : Type 0} → Version-F V (List (Entry V)) → List (Entry V)
-entry_step f = (f.stamp, value_in f.held) ∷ below (older_in f.held)
+entry_step f = (f.stamp, value_in f.held) ∷ list_below (older_in f.held)
 
 -- a version and those before it
 abbrev pub from_version : {V : Type 0} → Version V → List (Entry V)

@@ -1,6 +1,6 @@
 //! Chains by id, in one pool.
 ghost use Rattle.std.specs.Prelude.{◌≡◌, ℕ, ◌+◌, ◌<◌, ◌≤◌, [], ◌∷◌, Some, None, IsTrue, ◌↔◌, length, option_copied, slice_set, IfOk, OnErr};
-ghost use Rattle.version_chain.specs.Slots.{slot_at, value_of};
+ghost use Rattle.version_chain.specs.Slots.{slot_at, entry_value};
 ghost use Rattle.version_chain.specs.Links.{line_versions};
 ghost use Rattle.version_chain.specs.Tidy.{since_at as since_at_spec};
 
@@ -41,14 +41,14 @@ pub struct Chains<V: Drop> {
 
 impl<V: Drop> Model for Chains<V> {
     ghost use Rattle.std.specs.Prelude.{◌≤◌};
-    ghost use Rattle.version_chain.specs.Chains.{ChainsState, IsChains, seen};
+    ghost use Rattle.version_chain.specs.Chains.{ChainsState, IsChains, lists_seen};
     ghost use Rattle.version_chain.specs.Tidy.{AreTidy};
 
     ghost Value = { ChainsState V };
 
-    ghost view = { λ a. record { chains = seen a.lines; spare = a.pool.spare } };
+    ghost view = { λ a. record { chains = lists_seen a.lines; spare = a.pool.spare } };
 
-    ghost invariant = { λ a. IsChains a.pool.pages a.pool.out a.lines × AreTidy a.horizon a.since a.latest (record { chains = seen a.lines; spare = a.pool.spare }) × (a.horizon ≤ a.since) };
+    ghost invariant = { λ a. IsChains a.pool.pages a.pool.out a.lines × AreTidy a.horizon a.since a.latest (record { chains = lists_seen a.lines; spare = a.pool.spare }) × (a.horizon ≤ a.since) };
 }
 
 // Puts a line back where it was taken out.

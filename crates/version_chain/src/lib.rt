@@ -6,7 +6,7 @@
 //!
 //! A chain is its newest version, in the slot of its id, with the raw pointer to the cell of the version before it, which
 //! holds the pointer to the next. So a chain of one version takes no cell. Invariants
-//! (`IsChains` of `specs/Chains.antt`, `IsSound` of `specs/Slots.antt`):
+//! (`IsChains` of `specs/Chains.antt`, `AreSoundEntries` of `specs/Slots.antt`):
 //! (1) stamps fall strictly from the newest version on;
 //! (2) each cell of a chain is of the pool's pages, and the chains have as many cells as are out: one for each version but
 //!     the newest;

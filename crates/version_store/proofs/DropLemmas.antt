@@ -6,7 +6,7 @@ use Rattle.std.specs.FinMap as finmap
 use Rattle.std.specs.FinMap.{find, get}
 use Rattle.collation.specs.Reference.{Reference}
 use Rattle.collation.specs.Order.{ref_cmp}
-use Rattle.collation.specs.OrderLaws.{ref_cmp-IsAntisymmetric, is_equal}
+use Rattle.collation.specs.laws.Order.{ref_cmp-IsAntisymmetric, is_equal}
 use Rattle.btree.specs.Order.{without}
 use Rattle.version_chain.specs.Versions.{newest_of, at_of}
 use Rattle.version_chain.specs.Cut.{left_after}

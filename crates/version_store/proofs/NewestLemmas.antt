@@ -9,9 +9,9 @@ use Rattle.std.specs.FinMap.Entries.{below_all}
 use lib.Dec.{T, leb→le, le→leb}
 use Rattle.collation.specs.Reference.{Reference}
 use Rattle.collation.specs.Order.{ref_cmp}
-use Rattle.collation.specs.OrderLaws.{ref_cmp_total, ref_cmp-IsAntisymmetric, is_equal}
+use Rattle.collation.specs.laws.Order.{ref_cmp_total, ref_cmp-IsAntisymmetric, is_equal}
 use Rattle.globals.specs.declared.cut.Cut.{Cut}
-use Rattle.globals.specs.NearestLaws.{true_of, not_found_itself}
+use Rattle.globals.specs.laws.Nearest.{true_of, not_found_itself}
 use Rattle.version_chain.specs.Versions.{newest_of}
 use Rattle.version_chain.specs.Chains.{listed}
 use Rattle.version_store.specs.Versions.{Row, Versions, versions_of, later, newest_among, newest_between, AtMost, stands_between, IsNewestIn}

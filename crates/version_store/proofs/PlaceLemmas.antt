@@ -6,7 +6,7 @@ use Rattle.std.specs.FinMap as finmap
 use Rattle.std.specs.declared.cmp.Ordering.TheVariants.{Equal}
 use Rattle.collation.specs.Reference.{Reference}
 use Rattle.collation.specs.Order.{ref_cmp}
-use Rattle.collation.specs.OrderLaws.{ref_cmp-IsAntisymmetric}
+use Rattle.collation.specs.laws.Order.{ref_cmp-IsAntisymmetric}
 use Rattle.collation.specs.Changes.{Change}
 use Rattle.version_store.specs.Versions.{Versions, all_placed}
 use Rattle.version_store.specs.Tied.{AreKeysOf}

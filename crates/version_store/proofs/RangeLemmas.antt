@@ -8,8 +8,8 @@ use Rattle.collation.specs.Reference.{Reference}
 use Rattle.collation.specs.Order.{ref_cmp}
 use Rattle.globals.specs.declared.cut.Cut.{Cut}
 use Rattle.globals.specs.Cuts.{stands_before}
-use Rattle.globals.specs.NearestLaws.{none_pass, still_fails}
-use Rattle.globals.specs.CutLaws.{stands_before-earlier}
+use Rattle.globals.specs.laws.Nearest.{none_pass, still_fails}
+use Rattle.globals.specs.laws.Cuts.{stands_before-earlier}
 use Rattle.version_chain.specs.Versions.{newest_of}
 use Rattle.version_chain.specs.Chains.{versions_at}
 use Rattle.version_store.specs.Versions.{later, newest_among, newest_between}

@@ -12,13 +12,13 @@ use Rattle.std.specs.FinMap.{is_sorted}
 use Rattle.std.specs.FinMap.Entries.{below_all, is_sorted-where_key}
 use Rattle.collation.specs.Reference.{Reference}
 use Rattle.collation.specs.Order.{ref_cmp}
-use Rattle.collation.specs.OrderLaws.{ref_cmp_total, ref_cmp-IsAntisymmetric, is_equal}
+use Rattle.collation.specs.laws.Order.{ref_cmp_total, ref_cmp-IsAntisymmetric, is_equal}
 use Rattle.globals.specs.Entries.{nearest_entry, find_last}
 use Rattle.version_chain.specs.Versions.{at_of}
 use Rattle.version_chain.specs.Chains.{versions_at, IsOpen}
 use Rattle.version_store.specs.Versions.{Row, Versions, content_at, with_value, seen_at, first_of}
 use Rattle.version_store.specs.Tied.{rows, versions_in, AreOpen, AreKeysOf, IsTied}
-use Rattle.globals.specs.NearestLaws.{true_of, not_found_itself}
+use Rattle.globals.specs.laws.Nearest.{true_of, not_found_itself}
 use Rattle.version_store.specs.laws.Content.{entries_content}
 use Rattle.version_store.proofs.TiedLemmas.{State, Pairs, entries_in, get_at}
 

@@ -8,7 +8,7 @@ use Rattle.std.specs.FinMap.{find, put, get, get-insert, get-remove, same_map}
 use Rattle.std.specs.FinMap.Entries.{find-put}
 use Rattle.collation.specs.Reference.{Reference}
 use Rattle.collation.specs.Order.{ref_cmp}
-use Rattle.collation.specs.OrderLaws.{ref_cmp_total, ref_cmp-IsAntisymmetric}
+use Rattle.collation.specs.laws.Order.{ref_cmp_total, ref_cmp-IsAntisymmetric}
 use Rattle.version_chain.specs.Versions.{IsAbove}
 use Rattle.version_chain.specs.laws.Versions.{leb_yes}
 use Rattle.version_chain.specs.Cut.{left_after, cut_of}

@@ -10,14 +10,14 @@ use Rattle.std.specs.FinMap.{find, put, is_sorted, get, get-insert, get-remove, 
 use Rattle.std.specs.FinMap.Entries.{below_all, is_sorted-put, is_sorted-where_key, find-put, find-where_key, length-put, length_without}
 use Rattle.collation.specs.Reference.{Reference}
 use Rattle.collation.specs.Order.{ref_cmp}
-use Rattle.collation.specs.OrderLaws.{ref_cmp_total, ref_cmp-IsAntisymmetric, is_equal}
-use Rattle.globals.specs.NearestLaws.{true_of}
+use Rattle.collation.specs.laws.Order.{ref_cmp_total, ref_cmp-IsAntisymmetric, is_equal}
+use Rattle.globals.specs.laws.Nearest.{true_of}
 use Rattle.version_chain.specs.Versions.{at_of, newest_of, IsAbove, IsFalling}
 use Rattle.btree.specs.Order.{without}
 use Rattle.version_chain.specs.Cut.{left_after}
 use Rattle.version_chain.specs.laws.Cut.{IsAbove-left_after, IsFalling-left_after}
 use Rattle.version_chain.specs.Chains.{ChainsState, chain_at, versions_at, listed, IsOpen, Updates, open_count}
-use Rattle.version_chain.specs.laws.Chains.{held_count, open_count_updated}
+use Rattle.version_chain.specs.laws.Chains.{slot_count, open_count_updated}
 use Rattle.version_store.specs.Versions.{Row, Versions, versions_of, content_at, with_version, is_bare}
 use Rattle.version_store.specs.laws.Content.{get_content}
 use Rattle.version_store.specs.Tied.{rows, versions_in, IsTied}
@@ -106,12 +106,12 @@ tied_back c d e ps now id tied vacant opening closing =
       settled = λ q i at. subst (λ x. IsAbove (suc now) (listed x)) (sym (same q i at)) (tied.settled q i at);
       falls = λ q i at. subst (λ x. IsFalling (listed x)) (sym (same q i at)) (tied.falls q i at);
       counted =
-          let one : held_count {A = Row} (Some []) ≡ 1 = refl in
-          let none : held_count {A = Row} None ≡ 0 = refl in
+          let one : slot_count {A = Row} (Some []) ≡ 1 = refl in
+          let none : slot_count {A = Row} None ≡ 0 = refl in
           let first = open_count_updated c d id (Some []) opening in
           let second = open_count_updated d e id None closing in
-          let was : held_count (chain_at c id) ≡ 0 = ap held_count vacant in
-          let meanwhile : held_count (chain_at d id) ≡ 1 = ap held_count opening.changed in
+          let was : slot_count (chain_at c id) ≡ 0 = ap slot_count vacant in
+          let meanwhile : slot_count (chain_at d id) ≡ 1 = ap slot_count opening.changed in
           let before = tied.counted in
           omega (arith, one, none, first, second, was, meanwhile, before);
     }
@@ -170,9 +170,9 @@ tied_put c d ps now id k tied none vacant updates =
         | inr e ↦ subst (λ x. IsFalling (listed x)) (sym (before.same q i e)) (tied.falls q i e)
       ];
       counted =
-          let one : held_count {A = Row} (Some []) ≡ 1 = refl in
+          let one : slot_count {A = Row} (Some []) ≡ 1 = refl in
           let law = open_count_updated c d id (Some []) updates in
-          let was : held_count (chain_at c id) ≡ 0 = ap held_count vacant in
+          let was : slot_count (chain_at c id) ≡ 0 = ap slot_count vacant in
           let long = length-put ref_cmp ref_cmp_total k id ps (passes _ tied.sorted) ∙ ap (λ (o : Option ℕ). cond (is_some o) (length ps) (length ps + 1)) none in
           let before = tied.counted in
           omega (arith, law, was, one, long, before);
@@ -226,9 +226,9 @@ tied_update c d ps now id k vs tied at updates low falling = record {
     | inr e ↦ subst (λ x. IsFalling (listed x)) (sym (updates.others i e.1)) (tied.falls q i there)
   ];
   counted =
-      let one : held_count {A = Row} (Some vs) ≡ 1 = refl in
+      let one : slot_count {A = Row} (Some vs) ≡ 1 = refl in
       let law = open_count_updated c d id (Some vs) updates in
-      let was : held_count (chain_at c id) ≡ 1 = ap (λ b. cond b 1 0) (tied.opened k id at) in
+      let was : slot_count (chain_at c id) ≡ 1 = ap (λ b. cond b 1 0) (tied.opened k id at) in
       let before = tied.counted in
       omega (arith, law, was, one, before);
 }
@@ -324,9 +324,9 @@ tied_without c d ps now id k tied at updates = record {
   settled = λ q i e. let w = without_cases k ps q i e in subst (λ x. IsAbove (suc now) (listed x)) (sym (updates.others i (not_taken c ps now k q id i tied (sym at) w.0 w.1))) (tied.settled q i w.1);
   falls = λ q i e. let w = without_cases k ps q i e in subst (λ x. IsFalling (listed x)) (sym (updates.others i (not_taken c ps now k q id i tied (sym at) w.0 w.1))) (tied.falls q i w.1);
   counted =
-      let none : held_count {A = Row} None ≡ 0 = refl in
+      let none : slot_count {A = Row} None ≡ 0 = refl in
       let law = open_count_updated c d id None updates in
-      let was : held_count (chain_at c id) ≡ 1 = ap (λ b. cond b 1 0) (tied.opened k id (sym at)) in
+      let was : slot_count (chain_at c id) ≡ 1 = ap (λ b. cond b 1 0) (tied.opened k id (sym at)) in
       let long = length_without ref_cmp ref_cmp_total k ps (passes _ tied.sorted) in
       let there : ◌≡◌ {A = ℕ} (cond (is_some (find ref_cmp k ps)) 1 0) 1 = ap (λ (o : Option ℕ). cond (is_some o) 1 0) (sym at) in
       let before = tied.counted in

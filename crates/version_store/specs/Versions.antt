@@ -101,11 +101,6 @@ abbrev pub ArePlaced : Versions → List Change → Type 0
 ArePlaced m [] = Unit {0}
 ArePlaced m (c ∷ cs) = (finmap.contains_key m c.0 ≡ true) × ArePlaced m cs
 
--- no two changes are of one reference
-abbrev pub AreApart : List Change → Type 0
-AreApart [] = Unit {0}
-AreApart (c ∷ cs) = (finmap.find ref_cmp c.0 cs ≡ None) × AreApart cs
-
 -- the stamp is above all versions of the references that the changes are of
 abbrev pub AreBelow : ℕ → Versions → List Change → Type 0
 AreBelow stamp m [] = Unit {0}

@@ -8,10 +8,10 @@ ghost use Rattle.globals.specs.Cuts.{stands_before};
 ghost use Rattle.version_chain.specs.Cut.{left_after};
 ghost use Rattle.version_store.specs.Versions.{content_at, versions_of, is_behind, is_bare, tidied};
 
-use crate::point::CutPoint;
 use crate::store::Store;
 use globals::Cut;
 use key_codec::Key;
+use key_map::CutPoint;
 use refusal::Refusal;
 
 impl Store {

@@ -21,7 +21,6 @@ pub use store::Store;
 
 mod collect;
 mod place;
-mod point;
 mod range;
 mod seek;
 mod set;

@@ -5,12 +5,12 @@ ghost use Rattle.collation.specs.Reference.{Reference};
 ghost use Rattle.version_store.specs.Versions.{Versions, content_at, versions_of, placed, all_placed};
 ghost use Rattle.version_store.specs.Tied.{AreKeysOf};
 
-use crate::point::CutPoint;
 use crate::store::Store;
 use btree::Walk;
 use collation::Text;
 use globals::Cut;
 use key_codec::Key;
+use key_map::CutPoint;
 use std::alloc::{AllocError, Global};
 use std::cmp::Ordering;
 use version_chain::ChainId;

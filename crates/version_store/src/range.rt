@@ -5,12 +5,12 @@ ghost use Rattle.collation.specs.Order.{ref_cmp};
 ghost use Rattle.version_store.specs.Versions.{newest_between, IsNewestIn, later as later_spec};
 ghost use Rattle.version_store.specs.Tied.{newest_below, AreOpen};
 
-use crate::point::CutPoint;
 use crate::store::Store;
 use btree::Walk;
 use collation::Text;
 use globals::{Cut, stands_before};
 use key_codec::Key;
+use key_map::CutPoint;
 use version_chain::{ChainId, Chains};
 
 // The newer of two stamps, where there are any.

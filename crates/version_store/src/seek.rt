@@ -1,16 +1,16 @@
 //! The members next to a cut in the content at a stamp, by walks over the tree.
 ghost use Rattle.std.specs.Prelude.{◌≡◌, ◌≤◌};
 ghost use Rattle.std.specs.Option.{option_map};
-ghost use Rattle.globals.specs.Cuts.{entries_from, first_from, last_before, IsRun};
+ghost use Rattle.globals.specs.Cuts.{entries_from, first_from_cut, last_before_cut, IsRun};
 ghost use Rattle.version_store.specs.Versions.{content_at, seen_at, first_of};
 ghost use Rattle.version_store.specs.Tied.{rows, AreOpen};
 
-use crate::point::CutPoint;
 use crate::store::Store;
 use btree::{Walk, WalkBack};
 use collation::Text;
 use globals::{Cut, Run};
 use key_codec::Key;
+use key_map::CutPoint;
 use version_chain::{ChainId, Chains};
 
 // The first of the references that are left whose chain has a value at the stamp, with the value.
@@ -74,7 +74,7 @@ fn gather_valued<'v>(
 impl Store {
     // The first reference that has a value at the stamp and doesn't stand before the cut, with the value.
     pub(crate) fn next_at(&self, cut: Cut<'_>, stamp: u64) -> Option<(&Key, &Text)>
-        ensures { option_map (λ e. (e.0.now, e.1.now)) result ≡ first_from cut.entry (content_at self.now.versions stamp) }
+        ensures { option_map (λ e. (e.0.now, e.1.now)) result ≡ first_from_cut cut.entry (content_at self.now.versions stamp) }
     {
         let walk = self.tree.from(&CutPoint { cut });
         first_valued(walk, &self.chains, stamp)
@@ -82,7 +82,7 @@ impl Store {
 
     // The last reference that has a value at the stamp and stands before the cut, with the value.
     pub(crate) fn prev_at(&self, cut: Cut<'_>, stamp: u64) -> Option<(&Key, &Text)>
-        ensures { option_map (λ e. (e.0.now, e.1.now)) result ≡ last_before cut.entry (content_at self.now.versions stamp) }
+        ensures { option_map (λ e. (e.0.now, e.1.now)) result ≡ last_before_cut cut.entry (content_at self.now.versions stamp) }
     {
         let walk = self.tree.back_from(&CutPoint { cut });
         last_valued(walk, &self.chains, stamp)

@@ -6,11 +6,11 @@ ghost use Rattle.collation.specs.Order.{ref_cmp};
 ghost use Rattle.globals.specs.Cuts.{stands_before as stands_before_spec};
 ghost use Rattle.version_store.specs.Versions.{next_in_turn, keys_of};
 
-use crate::point::CutPoint;
 use crate::store::Store;
 use btree::Walk;
 use globals::{Cut, stands_before};
 use key_codec::Key;
+use key_map::CutPoint;
 use std::alloc::{AllocError, Global};
 use version_chain::ChainId;
 

@@ -3,8 +3,9 @@ ghost use Rattle.std.specs.Prelude.{◌≡◌, ℕ, ◌+◌, ◌-◌, ◌<◌, �
 ghost use Rattle.std.specs.FinMap as finmap;
 ghost use Rattle.collation.specs.Order.{ref_cmp};
 ghost use Rattle.collation.specs.Reference.{Reference};
+ghost use Rattle.collation.specs.Changes.{AreOnce};
 ghost use Rattle.version_chain.specs.Versions.{IsAbove};
-ghost use Rattle.version_store.specs.Versions.{content_at, versions_of, row_after, with_version, written, written_and_cut, changed, row_cut, tidied, ArePlaced, AreApart, AreBelow};
+ghost use Rattle.version_store.specs.Versions.{content_at, versions_of, row_after, with_version, written, written_and_cut, changed, row_cut, tidied, ArePlaced, AreBelow};
 
 use crate::store::Store;
 use collation::Text;
@@ -32,7 +33,7 @@ impl Store {
     // Adds a version for each change.
     fn push_all(&mut self, stamp: u64, changes: Vec<(Key, Option<Text>)>)
         requires placed { ArePlaced self.old.versions changes.items }
-        requires apart { AreApart changes.items }
+        requires apart { AreOnce changes.items }
         requires newest { AreBelow stamp self.old.versions changes.items }
         requires stamp { stamp ≤ self.old.present }
         requires reserved { vec_len changes ≤ self.old.spare }
@@ -54,7 +55,7 @@ impl Store {
     pub fn write_reserved(&mut self, stamp: u64, changes: Vec<(Key, Option<Text>)>)
         requires stamp { self.old.present < stamp }
         requires placed { ArePlaced self.old.versions changes.items }
-        requires apart { AreApart changes.items }
+        requires apart { AreOnce changes.items }
         requires reserved { vec_len changes ≤ self.old.spare }
         ensures content { content_at self.new.versions stamp ≡ changed changes.items (content_at self.old.versions self.old.present) }
         ensures before { (s : ℕ) → s < stamp → content_at self.new.versions s ≡ content_at self.old.versions s }
@@ -140,7 +141,7 @@ impl Store {
     // Writes each change, and cuts its reference.
     fn push_and_cut_all(&mut self, stamp: u64, horizon: u64, changes: Vec<(Key, Option<Text>)>)
         requires placed { ArePlaced self.old.versions changes.items }
-        requires apart { AreApart changes.items }
+        requires apart { AreOnce changes.items }
         requires newest { AreBelow stamp self.old.versions changes.items }
         requires stamp { stamp ≤ self.old.present }
         requires reserved { vec_len changes ≤ self.old.spare }
@@ -163,7 +164,7 @@ impl Store {
         requires stamp { self.old.present < stamp }
         requires horizon { horizon ≤ stamp }
         requires placed { ArePlaced self.old.versions changes.items }
-        requires apart { AreApart changes.items }
+        requires apart { AreOnce changes.items }
         requires reserved { vec_len changes ≤ self.old.spare }
         ensures content { content_at self.new.versions stamp ≡ changed changes.items (content_at self.old.versions self.old.present) }
         ensures before { (s : ℕ) → self.new.cut ≤ s → s < stamp → content_at self.new.versions s ≡ content_at self.old.versions s }

@@ -6,7 +6,7 @@ use Rattle.std.specs.FinMap as finmap
 use Rattle.std.specs.FinMap.{FinMap}
 use Rattle.collation.specs.Reference.{Reference}
 use Rattle.collation.specs.Order.{ref_cmp, ref_eq}
-use Rattle.collation.specs.OrderLaws.{ref_cmp_total, ref_cmp-IsAntisymmetric, ref_ties, ref_eq_decides}
+use Rattle.collation.specs.laws.Order.{ref_cmp_total, ref_cmp-IsAntisymmetric, ref_ties, ref_eq_decides}
 use Rattle.collation.specs.Database.{Database, is_under}
 use Rattle.workspace.specs.Layers.{Layer, nothing_written, is_killed}
 use Rattle.key_map.specs.Members.{keys_under, removed_all}

@@ -4,9 +4,9 @@ use Rattle.std.specs.Prelude.{cond, is_some, Result, Option, Some, None}
 use Rattle.std.specs.FinMap as finmap
 use Rattle.collation.specs.Reference.{Reference}
 use Rattle.collation.specs.Order.{ref_eq}
-use Rattle.collation.specs.OrderLaws.{ref_cmp_total, ref_cmp-IsAntisymmetric, ref_ties, ref_eq_decides}
+use Rattle.collation.specs.laws.Order.{ref_cmp_total, ref_cmp-IsAntisymmetric, ref_ties, ref_eq_decides}
 use Rattle.collation.specs.Database.{Database}
-use Rattle.globals.specs.ChangingLaws.{get_set}
+use Rattle.globals.specs.laws.Changing.{get_set}
 use Rattle.workspace.specs.Copies.{taken_back, all_taken_back}
 
 abbrev pub Note : Type 0

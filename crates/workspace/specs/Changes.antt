@@ -1,28 +1,23 @@
 -- The changes that a workspace's writes make to a database: each touched reference once, with its value or none.
-use Rattle.std.specs.Prelude.{◌≡◌, ⊤, ℕ, Bool, false, not, ◌&&◌, ◌||◌, List, [], ◌∷◌, ◌++◌, Some, None, if◌then◌else◌}
+use Rattle.std.specs.Prelude.{◌≡◌, ℕ, Bool, not, ◌&&◌, ◌||◌, List, [], ◌∷◌, ◌++◌, Some, None, if◌then◌else◌}
 use Rattle.std.specs.List.{list_any}
 use Rattle.std.specs.FinMap as finmap
 use Rattle.collation.specs.Reference.{Reference}
 use Rattle.collation.specs.Order.{ref_eq}
 use Rattle.collation.specs.Database.{Database}
 use Rattle.collation.specs.Answers.{subtree_of}
-use Rattle.collation.specs.Changes.{Change, changed}
+use Rattle.collation.specs.Changes.{Change, changed, AreOnce}
 use Rattle.workspace.specs.Layers.{Layer, laid_over}
 
 -- x is written, or has a value below and none any more
 abbrev pub touches : Layer → Database → Reference → Bool
 touches w m x = finmap.contains_key w.written x || (finmap.contains_key m x && not (finmap.contains_key (laid_over w m) x))
 
--- no reference is changed twice
-abbrev pub IsOnce : List Change → Type 0
-IsOnce [] = ⊤
-IsOnce (c ∷ cs) = (list_any (λ (d : Change). ref_eq c.0 d.0) cs ≡ false) × IsOnce cs
-
 -- these changes turn the database into the writes laid over it, and change just what is touched, each reference once
 pub record AreChanges (w : Layer) (m : Database) (cs : List Change) : Type 0 where
   pub leave : changed cs m ≡ laid_over w m
   pub touched : (x : Reference) → list_any (λ (c : Change). ref_eq x c.0) cs ≡ touches w m x
-  pub once : IsOnce cs
+  pub once : AreOnce cs
 
 -- ---- how they are listed
 

@@ -36,7 +36,7 @@ abbrev pub decides : Layer → Reference → Bool
 decides w x = finmap.contains_key w.written x || is_killed w.killed x
 
 -- of two keys neither is under the other
-pub record AreApart {X : Type 0} (d : FinMap ref_cmp X) : Type 0 where
+pub record NoneUnderAnother {X : Type 0} (d : FinMap ref_cmp X) : Type 0 where
   pub apart : (r s : Reference) → finmap.contains_key d r ≡ true → finmap.contains_key d s ≡ true → is_under r s ≡ true → r ≡ s
 
 -- x is under r, and all that is under r is killed

@@ -30,7 +30,7 @@ pub struct Workspace {
 
 impl Model for Workspace {
     ghost use Rattle.std.specs.FinMap as finmap;
-    ghost use Rattle.workspace.specs.Layers.{Layer, layer_code, AreApart};
+    ghost use Rattle.workspace.specs.Layers.{Layer, layer_code, NoneUnderAnother};
 
     ghost Value = { Layer };
 
@@ -38,7 +38,7 @@ impl Model for Workspace {
 
     ghost view = { λ w. record { written = w.written; killed = finmap.keys w.killed } };
 
-    ghost invariant = { λ w. AreApart w.killed };
+    ghost invariant = { λ w. NoneUnderAnother w.killed };
 }
 
 impl Workspace {

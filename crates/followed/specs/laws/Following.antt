@@ -6,11 +6,11 @@ use Rattle.std.specs.FinMap as finmap
 use Rattle.command.specs.declared.access.DataCommand.TheVariants.{Set, Kill, Merge, Look}
 use Rattle.collation.specs.Reference.{Reference}
 use Rattle.collation.specs.Order.{ref_cmp, ref_eq}
-use Rattle.collation.specs.OrderLaws.{ref_cmp_total, ref_cmp-IsAntisymmetric}
+use Rattle.collation.specs.laws.Order.{ref_cmp_total, ref_cmp-IsAntisymmetric}
 use Rattle.collation.specs.Database.{Database, is_under}
 use Rattle.collation.specs.Answers.{merged, moved, set_all}
 use Rattle.command.specs.Data.{data_after}
-use Rattle.globals.specs.ChangingLaws.{get_set, kill_subtree, contains_merged}
+use Rattle.globals.specs.laws.Changing.{get_set, kill_subtree, contains_merged}
 use Rattle.journal.specs.declared.unit.Exchange.{Exchange}
 use Rattle.journal.specs.History.{all_after}
 use Rattle.journal.specs.Touching.{sets, kills, has_read, has_written}
@@ -19,7 +19,7 @@ use Rattle.serial.specs.Committing.{GrowsBy}
 use Rattle.serial.specs.laws.Committing.{grows_by, commits_on}
 use Rattle.workspace.specs.Layers.{Layer, nothing_written, is_killed, laid_over, decides}
 use Rattle.workspace.specs.laws.Layering.{get_over, over_nothing, over_set, over_set_all, over_kill, decides_set, decides_kill}
-use Rattle.followed.specs.Following.{Holds, HoldsAlways, ChangesAreTouched}
+use Rattle.followed.specs.Following.{HoldsWrites, HoldsAlways, ChangesAreTouched}
 
 or_nothing : (a : Bool) → (a || false) ≡ a
 or_nothing true = refl
@@ -27,7 +27,7 @@ or_nothing false = refl
 
 -- ---- one more command
 
-pub holds_nothing : (m : Database) → Holds nothing_written [] m
+pub holds_nothing : (m : Database) → HoldsWrites nothing_written [] m
 holds_nothing m = record {
   seen = over_nothing m;
   decided = λ x. ap (λ o. is_some o || false) (finmap.get-empty ref_cmp x);
@@ -35,9 +35,9 @@ holds_nothing m = record {
 }
 
 -- by what the workspace is after the command
-next_holds : (w n : Layer) (es : List Exchange) (m : Database) (e : Exchange) → Holds w es m → laid_over n m ≡ data_after e.command (laid_over w m)
+next_holds : (w n : Layer) (es : List Exchange) (m : Database) (e : Exchange) → HoldsWrites w es m → laid_over n m ≡ data_after e.command (laid_over w m)
     → ((x : Reference) → decides n x ≡ (decides w x || (sets e.command (all_after es m) x || kills e.command x)))
-    → ((x : Reference) → finmap.contains_key n.written x ≡ (sets e.command (all_after es m) x || (finmap.contains_key w.written x && not (kills e.command x)))) → Holds n (es ++ e ∷ []) m
+    → ((x : Reference) → finmap.contains_key n.written x ≡ (sets e.command (all_after es m) x || (finmap.contains_key w.written x && not (kills e.command x)))) → HoldsWrites n (es ++ e ∷ []) m
 next_holds w n es m e was seen decided left_set =
     let any : GrowsBy es e m (record { name = []; subscripts = [] }) = grows_by es e m (record { name = []; subscripts = [] }) in
     record {
@@ -104,7 +104,7 @@ by_decided None g h true = refl
 by_decided None g h false = refl
 
 -- the writes over a database that agrees on what was read are what the commands leave there
-pub over_commit : (w : Layer) (es : List Exchange) (m n : Database) → Holds w es m → ((x : Reference) → has_read es m x ≡ true → Agree m n x) → laid_over w n ≡ all_after es n
+pub over_commit : (w : Layer) (es : List Exchange) (m n : Database) → HoldsWrites w es m → ((x : Reference) → has_read es m x ≡ true → Agree m n x) → laid_over w n ≡ all_after es n
 over_commit w es m n was reading = finmap.same_map ref_cmp_total ref_cmp-IsAntisymmetric (laid_over w n) (all_after es n) (λ x.
     let there = commits_on es m n reading x in
     get_over w n x ∙ by_decided (finmap.get w.written x) (finmap.get n x) (finmap.get m x) (is_killed w.killed x)

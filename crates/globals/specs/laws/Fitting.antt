@@ -9,14 +9,14 @@ use Rattle.collation.specs.Database.{Database}
 use Rattle.globals.specs.Entries.{nearest_entry}
 use Rattle.collation.specs.Levels.{parent_of, below, has_name}
 use Rattle.collation.specs.Answers.{follows, query_of}
-use Rattle.key_codec.specs.Key.{IsReference}
+use Rattle.key_codec.specs.Key.{IsFaultless}
 use Rattle.command.specs.Data.{found_reply}
-use Rattle.globals.specs.NearestLaws.{nearest_passes}
+use Rattle.globals.specs.laws.Nearest.{nearest_passes}
 use Rattle.globals.specs.laws.Nearness.{query_is}
 use Rattle.globals.specs.Fitting.{IsSiblingOrNone, IsQueryAnswer}
 
 -- an answer of `order`, written as $ORDER's
-pub sibling_or_none : (p : Spot) (answer : Option (List ℕ)) → IfSome answer (λ s. IsReference (below (parent_of p) s)) → IsSiblingOrNone p (unwrap_or answer [])
+pub sibling_or_none : (p : Spot) (answer : Option (List ℕ)) → IfSome answer (λ s. IsFaultless (below (parent_of p) s)) → IsSiblingOrNone p (unwrap_or answer [])
 sibling_or_none p None fits = inl refl
 sibling_or_none p (Some s) fits = inr fits
 

@@ -11,12 +11,12 @@ use Rattle.std.specs.FinMap.{is_sorted}
 use Rattle.std.specs.FinMap.Entries.{below_all}
 use Rattle.collation.specs.Reference.{Reference}
 use Rattle.collation.specs.Order.{ref_cmp}
-use Rattle.collation.specs.OrderLaws.{ref_cmp_total, is_less, turned}
+use Rattle.collation.specs.laws.Order.{ref_cmp_total, is_less, turned}
 use Rattle.collation.specs.Database.{Database}
 use Rattle.globals.specs.declared.cut.Cut.{Cut}
-use Rattle.globals.specs.Cuts.{stands_before, first_from, entries_from}
-use Rattle.globals.specs.NearestLaws.{later_found, still_fails, true_of}
-use Rattle.globals.specs.CutLaws.{stands_before-earlier}
+use Rattle.globals.specs.Cuts.{stands_before, first_from_cut, entries_from}
+use Rattle.globals.specs.laws.Nearest.{later_found, still_fails, true_of}
+use Rattle.globals.specs.laws.Cuts.{stands_before-earlier}
 
 module _ {A : Type 0} (p : A → Bool) where
   pub head_found : (es t : List A) (e : A) → filter p es ≡ e ∷ t → find p es ≡ Some e
@@ -68,7 +68,7 @@ behind R o B early es (a ∷ init) rest e h is =
     behind R o (λ x. not (is_lt (R a.0 x))) (behind_key R o a.0) es init rest e h
     (tails a a _ _ (sym (step R o B early es a h (head_found (λ f. not (B f.0)) es (init ++ e ∷ rest) a is)) ∙ is))
 
-pub walk_step : (cut : Cut) (m : Database) (e : Reference × List ℕ) → first_from cut m ≡ Some e → entries_from cut m ≡ e ∷ filter (λ f. not (not (is_lt (ref_cmp e.0 f.0)))) (finmap.entries m)
+pub walk_step : (cut : Cut) (m : Database) (e : Reference × List ℕ) → first_from_cut cut m ≡ Some e → entries_from cut m ≡ e ∷ filter (λ f. not (not (is_lt (ref_cmp e.0 f.0)))) (finmap.entries m)
 walk_step cut m e is = step ref_cmp ref_cmp_total (stands_before cut) (stands_before-earlier cut) (finmap.entries m) e (true_of _ (finmap.entries_sorted m)) is
 
 -- what is left behind a member of what doesn't stand before a cut

@@ -10,7 +10,7 @@ use Rattle.collation.specs.Reference.{Reference}
 use Rattle.collation.specs.Order.{ref_cmp}
 use Rattle.collation.specs.Database.{is_under, begins_with}
 use Rattle.collation.specs.Levels.{is_before}
-use Rattle.globals.specs.CutLaws.{under_between}
+use Rattle.globals.specs.laws.Cuts.{under_between}
 
 begins_itself : (xs : List (List ℕ)) → begins_with xs xs ≡ true
 begins_itself [] = refl

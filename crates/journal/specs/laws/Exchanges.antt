@@ -7,13 +7,13 @@ use Rattle.std.proofs.lemmas.Grind.{flat_map-append}
 use Rattle.std.proofs.Math.Seq.{take-append_seam}
 use Rattle.journal.specs.declared.exchanges.ExchangeMark.{ExchangeMark}
 use Rattle.journal.specs.declared.unit.Exchange.{Exchange}
-use Rattle.journal.specs.Exchanges.{exchanges_in, Tells, IsMarkOf}
+use Rattle.journal.specs.Exchanges.{exchanges_in, AreExchangeBytes, IsMarkOf}
 use Rattle.journal.specs.Format.{exchange_bytes}
 use Rattle.journal.specs.Reading.{list_at, exchange_at}
 use Rattle.journal.specs.Stored.{Each, FitsExchange, FitExchanges}
 use Rattle.journal.specs.laws.Reading.{list_back, exchange_back}
 
-pub exchanges_again : (bytes : List ℕ) (count : ℕ) (es : List Exchange) → Tells bytes count es → exchanges_in count bytes ≡ es
+pub exchanges_again : (bytes : List ℕ) (count : ℕ) (es : List Exchange) → AreExchangeBytes bytes count es → exchanges_in count bytes ≡ es
 unfolding exchanges_in
 exchanges_again bytes count es h =
     let back : list_at exchange_at (length es) (flat_map exchange_bytes es ++ []) ≡ Some (es, []) = list_back exchange_at exchange_bytes FitsExchange exchange_back es [] h.fit in
@@ -28,12 +28,12 @@ pub no_exchanges : (bytes : List ℕ) → exchanges_in 0 bytes ≡ []
 unfolding exchanges_in
 no_exchanges bytes = refl
 
-pub tells_none : (bytes : List ℕ) → bytes ≡ [] → Tells bytes 0 (exchanges_in 0 bytes)
-tells_none bytes e = subst (Tells bytes 0) (sym (no_exchanges bytes)) (record { written = e; number = refl; few = omega arith; fit = tt })
+pub tells_none : (bytes : List ℕ) → bytes ≡ [] → AreExchangeBytes bytes 0 (exchanges_in 0 bytes)
+tells_none bytes e = subst (AreExchangeBytes bytes 0) (sym (no_exchanges bytes)) (record { written = e; number = refl; few = omega arith; fit = tt })
 
 -- one more behind them
-pub tells_more : (old roomy draft blank new : List ℕ) (count : ℕ) (e : Exchange) → Tells old count (exchanges_in count old) → roomy ≡ old → blank ≡ [] → draft ≡ blank ++ exchange_bytes e → FitsExchange e → new ≡ roomy ++ draft → count + 1 < 2 ^ 64 →
-    Tells new (count + 1) (exchanges_in count old ++ e ∷ [])
+pub tells_more : (old roomy draft blank new : List ℕ) (count : ℕ) (e : Exchange) → AreExchangeBytes old count (exchanges_in count old) → roomy ≡ old → blank ≡ [] → draft ≡ blank ++ exchange_bytes e → FitsExchange e → new ≡ roomy ++ draft → count + 1 < 2 ^ 64 →
+    AreExchangeBytes new (count + 1) (exchanges_in count old ++ e ∷ [])
 tells_more old roomy draft blank new count e h same b d fits n few =
     let es = exchanges_in count old in
     record {
@@ -44,13 +44,13 @@ tells_more old roomy draft blank new count e h same b d fits n few =
     }
 
 -- the same log with more room
-pub tells_same : (old new : List ℕ) (count : ℕ) → Tells old count (exchanges_in count old) → new ≡ old → Tells new count (exchanges_in count new)
-tells_same old new count h e = subst (λ t. Tells t count (exchanges_in count t)) (sym e) h
+pub tells_same : (old new : List ℕ) (count : ℕ) → AreExchangeBytes old count (exchanges_in count old) → new ≡ old → AreExchangeBytes new count (exchanges_in count new)
+tells_same old new count h e = subst (λ t. AreExchangeBytes t count (exchanges_in count t)) (sym e) h
 
-pub tells_itself : (new : List ℕ) (count : ℕ) (es : List Exchange) → Tells new count es → Tells new count (exchanges_in count new)
-tells_itself new count es h = subst (Tells new count) (sym (exchanges_again new count es h)) h
+pub tells_itself : (new : List ℕ) (count : ℕ) (es : List Exchange) → AreExchangeBytes new count es → AreExchangeBytes new count (exchanges_in count new)
+tells_itself new count es h = subst (AreExchangeBytes new count) (sym (exchanges_again new count es h)) h
 
-pub they_fit : (bytes : List ℕ) (count : ℕ) (es : List Exchange) → Tells bytes count es → FitExchanges es
+pub they_fit : (bytes : List ℕ) (count : ℕ) (es : List Exchange) → AreExchangeBytes bytes count es → FitExchanges es
 they_fit bytes count es h = let n : count ≡ length es = h.number in let few : count < 2 ^ 64 = h.few in record { count = omega arith; each = h.fit }
 
 Each-take : (n : ℕ) (es : List Exchange) → Each FitsExchange es → Each FitsExchange (take n es)
@@ -59,7 +59,7 @@ Each-take (suc n) [] h = tt
 Each-take (suc n) (e ∷ es) h = (h.0, Each-take n es h.1)
 
 -- a beginning of them
-pub tells_front : (bytes : List ℕ) (mark : ExchangeMark) (count : ℕ) (es : List Exchange) → Tells bytes count es → IsMarkOf mark (take mark.count es) → Tells (take mark.bytes bytes) mark.count (take mark.count es)
+pub tells_front : (bytes : List ℕ) (mark : ExchangeMark) (count : ℕ) (es : List Exchange) → AreExchangeBytes bytes count es → IsMarkOf mark (take mark.count es) → AreExchangeBytes (take mark.bytes bytes) mark.count (take mark.count es)
 tells_front bytes mark count es h at =
     let front = take mark.count es in
     let joined : bytes ≡ flat_map exchange_bytes front ++ flat_map exchange_bytes (drop mark.count es) = h.written ∙ ap (flat_map exchange_bytes) (sym (take-append-drop mark.count es)) ∙ flat_map-append exchange_bytes front (drop mark.count es) in

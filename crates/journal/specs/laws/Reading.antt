@@ -7,9 +7,9 @@ use Rattle.std.specs.Prelude.{◌==◌, nat_eq, nat_lt, nat_le, ◌&&◌, is_non
 use Rattle.std.specs.List.{flat_map}
 use Rattle.std.specs.Int.{w16, w64, to_be_bytes}
 use Rattle.collation.specs.Reference.{Reference, Resource}
-use Rattle.key_codec.specs.Key.{key_of, IsReference}
+use Rattle.key_codec.specs.Key.{key_of, IsFaultless}
 use Rattle.key_codec.specs.Back.{reference_of}
-use Rattle.key_codec.specs.BackLaws.{reference_of_key}
+use Rattle.key_codec.specs.laws.Back.{reference_of_key}
 use Rattle.key_codec.specs.Kept.{Keeps}
 use Rattle.std.specs.Cmp.Lexicographic.{pointwise, bytes_decides}
 use Rattle.std.specs.Cmp.{first_so, second_so}
@@ -31,7 +31,7 @@ use Rattle.journal.specs.declared.unit.Exchange.{Exchange}
 use Rattle.journal.specs.declared.unit.Unit.{Unit as JournalUnit}
 use Rattle.journal.specs.declared.unit.Unit.TheVariants.{Lone, Whole, Lock, Back, End}
 use Rattle.journal.specs.Format.{number_bytes, string_bytes, reference_bytes, caret_byte, name_bytes, names_bytes, order_kind, query_kind, look_kind, look_bytes, command_kind, command_bytes, answer_kind, answer_bytes, exchange_bytes, lock_flags, lock_kind, lock_bytes, deed_bytes, unit_bytes}
-use Rattle.journal.specs.Reading.{number_at, wide_at, part_at, string_at, is_key, key_at, reference_at, name_at, list_at, names_at, looks_at, command_at, answer_at, answered_at, exchange_at, lock_at, exchanges_at, deed_at, deed_of, unit_at, is_inside, has_had}
+use Rattle.journal.specs.Reading.{number_at, wide_at, bytes_at, string_at, is_key, key_at, reference_at, name_at, list_at, names_at, looks_at, data_command_at, answer_at, answered_at, exchange_at, lock_command_at, exchanges_at, deed_at, deed_of, unit_at, is_inside, has_had}
 use Rattle.collation.specs.Limits.{is_job}
 use Rattle.journal.specs.Kept.{job_of}
 use Rattle.journal.specs.Stored.{FitsNumber, FitsString, FitsReference, FitsName, Each, FitNames, FitsLook, FitsCommand, FitsAnswer, FitsExchange, FitExchanges, FitsLock, FitsDeed, FitsUnit}
@@ -60,7 +60,7 @@ pub number_back : (n : ℕ) (t : List ℕ) → FitsNumber n → number_at (numbe
 number_back n t h = number_back_by n t h.fits (nat_lt n 254) (nat_lt n 65536) refl refl
 
 -- so many bytes
-pub part_back : (s t : List ℕ) → part_at (length s) (s ++ t) ≡ Some (s, t)
+pub part_back : (s t : List ℕ) → bytes_at (length s) (s ++ t) ≡ Some (s, t)
 part_back s t =
     let room : nat_le (length s) (length (s ++ t)) ≡ true = wide_back s t (length s) refl in
     rw room (ap (λ x. Some (x, drop (length s) (s ++ t))) (take_at s t (length s) refl) ∙ ap (λ x. Some (s, x)) (drop_at s t (length s) refl))
@@ -81,17 +81,17 @@ none_from None e = refl
 none_from (Some r) e = cc
 
 -- a key is known as one
-pub key_back : (r : Reference) → IsReference r → key_at (key_of r) ≡ Some r
+pub key_back : (r : Reference) → IsFaultless r → key_at (key_of r) ≡ Some r
 unfolding key_at is_key
 key_back r is =
     let same : pointwise nat_eq (key_of r) (key_of r) ≡ true = (bytes_decides (key_of r) (key_of r)).1 refl in
     simp (reference_of_key r is, is.name, is_none_from _ is.subscripts, same)
 
-pub key_known : (bytes : List ℕ) (r : Reference) → IsReference r → key_of r ≡ bytes → key_at bytes ≡ Some r
+pub key_known : (bytes : List ℕ) (r : Reference) → IsFaultless r → key_of r ≡ bytes → key_at bytes ≡ Some r
 key_known bytes r is e = ap key_at (sym e) ∙ key_back r is
 
 -- what a known key says
-key_means : (bytes : List ℕ) → is_key bytes ≡ true → IsReference (reference_of bytes) × (bytes ≡ key_of (reference_of bytes))
+key_means : (bytes : List ℕ) → is_key bytes ≡ true → IsFaultless (reference_of bytes) × (bytes ≡ key_of (reference_of bytes))
 unfolding is_key
 key_means bytes e =
     let both : (is_name (reference_of bytes).name && is_none (reference_fault (reference_of bytes).subscripts)) ≡ true = first_so _ _ e in (
@@ -99,12 +99,12 @@ key_means bytes e =
       sym ((bytes_decides (key_of (reference_of bytes)) bytes).0 (second_so (is_name (reference_of bytes).name && is_none (reference_fault (reference_of bytes).subscripts)) _ e)),
     )
 
-key_unknown_by : (bytes : List ℕ) (b : Bool) → is_key bytes ≡ b → ((x : Reference) → IsReference x → bytes ≡ key_of x → ⊥) → key_at bytes ≡ None
+key_unknown_by : (bytes : List ℕ) (b : Bool) → is_key bytes ≡ b → ((x : Reference) → IsFaultless x → bytes ≡ key_of x → ⊥) → key_at bytes ≡ None
 unfolding key_at
 key_unknown_by bytes true e none = absurd (none (reference_of bytes) (key_means bytes e).0 (key_means bytes e).1)
 key_unknown_by bytes false e none = rw e refl
 
-pub key_unknown : (bytes : List ℕ) → ((x : Reference) → IsReference x → bytes ≡ key_of x → ⊥) → key_at bytes ≡ None
+pub key_unknown : (bytes : List ℕ) → ((x : Reference) → IsFaultless x → bytes ≡ key_of x → ⊥) → key_at bytes ≡ None
 key_unknown bytes none = key_unknown_by bytes (is_key bytes) refl none
 
 key_keeps_by : (bytes : List ℕ) (r : Reference) (b : Bool) → is_key bytes ≡ b → key_at bytes ≡ Some r → Keeps bytes (reference_of bytes) × (key_at bytes ≡ Some (reference_of bytes))
@@ -197,8 +197,8 @@ look_high (Get r (Some d)) = omega arith
 look_high (Order p d) = order_high p.is_open d
 look_high (Query p d) = query_high p.is_open d
 
-looking_back : (l : LookCommand) (t : List ℕ) → FitsLook l → command_at (look_kind l) (look_bytes l ++ t) ≡ Some (Look l, t)
-unfolding command_at
+looking_back : (l : LookCommand) (t : List ℕ) → FitsLook l → data_command_at (look_kind l) (look_bytes l ++ t) ≡ Some (Look l, t)
+unfolding data_command_at
 looking_back l t h =
     let above : 3 ≤ look_kind l = look_high l in
     let not_set : (look_kind l == 0) ≡ false = grind (arith, nat_tests) in
@@ -206,8 +206,8 @@ looking_back l t h =
     let not_merge : (look_kind l == 2) ≡ false = grind (arith, nat_tests) in
     rw (not_set, not_kill, not_merge, look_back l t h) refl
 
-pub command_back : (c : DataCommand) (t : List ℕ) → FitsCommand c → command_at (command_kind c) (command_bytes c ++ t) ≡ Some (c, t)
-unfolding command_at
+pub command_back : (c : DataCommand) (t : List ℕ) → FitsCommand c → data_command_at (command_kind c) (command_bytes c ++ t) ≡ Some (c, t)
+unfolding data_command_at
 command_back (Set r v) t h = rw (append_assoc (reference_bytes r) (string_bytes v) t, reference_back r (string_bytes v ++ t) h.0) (rw (string_back v t h.1) refl)
 command_back (Kill r) t h = rw (reference_back r t h) refl
 command_back (Merge a b) t h = rw (append_assoc (reference_bytes a) (reference_bytes b) t, reference_back a (reference_bytes b ++ t) h.0) (rw (reference_back b t h.1) refl)
@@ -264,7 +264,7 @@ unfolding answered_at
 answered_back c a t h k =
     let high : (4 * command_kind c + answer_kind a) / 4 ≡ command_kind c = tag_high _ _ (answer_low a) in
     let low : (4 * command_kind c + answer_kind a) % 4 ≡ answer_kind a = tag_low _ _ (answer_low a) in
-    let first : command_at (command_kind c) (command_bytes c ++ (answer_bytes a ++ t)) ≡ Some (c, answer_bytes a ++ t) = command_back c (answer_bytes a ++ t) h in
+    let first : data_command_at (command_kind c) (command_bytes c ++ (answer_bytes a ++ t)) ≡ Some (c, answer_bytes a ++ t) = command_back c (answer_bytes a ++ t) h in
     rw (high, low, append_assoc (command_bytes c) (answer_bytes a) t, first) (rw (answer_back a t k) refl)
 
 pub exchange_back : (e : Exchange) (t : List ℕ) → FitsExchange e → exchange_at (exchange_bytes e ++ t) ≡ Some (e, t)
@@ -279,8 +279,8 @@ exchanges_back es t h =
 
 -- ---- locks
 
-pub lock_back : (l : LockCommand) (t : List ℕ) → FitsLock l → lock_at (lock_kind l) (lock_bytes l ++ t) ≡ Some (l, t)
-unfolding lock_at
+pub lock_back : (l : LockCommand) (t : List ℕ) → FitsLock l → lock_command_at (lock_kind l) (lock_bytes l ++ t) ≡ Some (l, t)
+unfolding lock_command_at
 lock_back Release t h = refl
 lock_back (Only ns) t h = rw (names_back ns t h) refl
 lock_back (More ns) t h = rw (names_back ns t h) refl

@@ -13,15 +13,15 @@ use Rattle.std.specs.FinMap as finmap
 use Rattle.collation.specs.Limits.{most_subscripts}
 use Rattle.collation.specs.Reference.{Reference, Spot}
 use Rattle.collation.specs.Order.{subscript_cmp, ref_cmp, ref_eq}
-use Rattle.collation.specs.OrderLaws.{ref_cmp_total, ref_cmp-IsAntisymmetric, is_less, turned}
+use Rattle.collation.specs.laws.Order.{ref_cmp_total, ref_cmp-IsAntisymmetric, is_less, turned}
 use Rattle.collation.specs.Database.{Database, is_under, begins_with}
 use Rattle.globals.specs.Entries.{nearest_entry, any_of, is_candidate}
 use Rattle.collation.specs.Levels.{child_of, is_below, parent_of}
 use Rattle.collation.specs.Answers.{data_of, is_beyond, order_of, follows, query_of, moved, is_too_deep}
-use Rattle.globals.specs.NearestLaws.{nearest_is, nearest_none, any_nearest}
+use Rattle.globals.specs.laws.Nearest.{nearest_is, nearest_none, any_nearest}
 use Rattle.globals.specs.Copies.{all_copies}
 use Rattle.globals.specs.laws.Nearness.{order_is, query_is}
-use Rattle.globals.specs.TellingLaws.{siblings_less, below_so}
+use Rattle.globals.specs.laws.Telling.{siblings_less, below_so}
 use Rattle.journal.specs.Touching.{is_beyond_answer}
 use Rattle.serial.specs.Agreeing.{Agree}
 

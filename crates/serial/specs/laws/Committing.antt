@@ -13,7 +13,7 @@ use Rattle.collation.specs.Order.{ref_eq}
 use Rattle.collation.specs.Database.{Database, is_under}
 use Rattle.collation.specs.Answers.{moved}
 use Rattle.command.specs.Data.{data_after}
-use Rattle.globals.specs.ChangingLaws.{under_moved}
+use Rattle.globals.specs.laws.Changing.{under_moved}
 use Rattle.journal.specs.declared.unit.Exchange.{Exchange}
 use Rattle.journal.specs.declared.unit.Unit.{Unit as JournalUnit}
 use Rattle.journal.specs.History.{State, after, after_unit, all_after}

@@ -14,9 +14,9 @@ use Rattle.collation.specs.Locks.{resource_cmp, Counts, count_of, JobLocks, Lock
 use Rattle.journal.specs.declared.unit.Unit.{Unit as JournalUnit}
 use Rattle.journal.specs.declared.unit.Unit.TheVariants.{Lone, Whole, Lock, Back, End}
 use Rattle.journal.specs.History.{State, initial, after, after_unit}
-use Rattle.collation.specs.LockLaws.{times, Holds, AreApart}
-use Rattle.collation.specs.BlockingLaws.{blocked_tells}
-use Rattle.collation.specs.CountingLaws.{same_resource, counts_tell}
+use Rattle.collation.specs.LockStatements.{times, Holds, AreApart}
+use Rattle.collation.specs.laws.Blocking.{blocked_tells}
+use Rattle.collation.specs.laws.Counting.{same_resource, counts_tell}
 use Rattle.serial.specs.laws.Untouched.{neither}
 use Rattle.serial.specs.laws.Overtaken.{false_of_not}
 use Rattle.serial.specs.laws.ByJob.{same_or_not, locks_put, locks_put_apart, locks_gone, locks_gone_apart, no_locks_yet, locks_changed, locks_changed_apart}

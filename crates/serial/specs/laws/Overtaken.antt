@@ -11,11 +11,11 @@ use Rattle.command.specs.declared.access.DataCommand.{DataCommand}
 use Rattle.command.specs.declared.access.DataCommand.TheVariants.{Set, Kill, Merge, Look}
 use Rattle.collation.specs.Reference.{Reference}
 use Rattle.collation.specs.Order.{ref_eq}
-use Rattle.collation.specs.EntryLaws.{either}
+use Rattle.collation.specs.laws.Entries.{either}
 use Rattle.collation.specs.Database.{Database, is_under}
 use Rattle.collation.specs.Answers.{moved}
 use Rattle.command.specs.Data.{data_after}
-use Rattle.globals.specs.ChangingLaws.{get_set, kill_subtree, merge_subtree}
+use Rattle.globals.specs.laws.Changing.{get_set, kill_subtree, merge_subtree}
 use Rattle.journal.specs.declared.unit.Exchange.{Exchange}
 use Rattle.journal.specs.declared.unit.Unit.{Unit as JournalUnit}
 use Rattle.journal.specs.declared.unit.Unit.TheVariants.{Lone, Whole, Lock, Back, End}

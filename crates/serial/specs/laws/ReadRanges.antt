@@ -10,18 +10,18 @@ use Rattle.std.specs.Cmp.{tied_itself, first_so, second_so}
 use Rattle.std.specs.Cmp.Lexicographic.{pointwise, bytes_decides}
 use Rattle.collation.specs.Reference.{Reference, Spot}
 use Rattle.collation.specs.Order.{subscript_cmp, ref_cmp, ref_eq}
-use Rattle.collation.specs.OrderLaws.{subscript_cmp_total, subscript_cmp-IsAntisymmetric, ref_cmp_total, ref_cmp-IsAntisymmetric, ref_eq_decides, ref_ties, is_less, turned}
+use Rattle.collation.specs.laws.Order.{subscript_cmp_total, subscript_cmp-IsAntisymmetric, ref_cmp_total, ref_cmp-IsAntisymmetric, ref_eq_decides, ref_ties, is_less, turned}
 use Rattle.collation.specs.Database.{is_under}
-use Rattle.collation.specs.Levels.{below, child, child_of, is_below, has_name, front, parent_of, is_before, has_level}
+use Rattle.collation.specs.Levels.{below, child, child_of, is_below, has_name, without_last, parent_of, is_before, has_level}
 use Rattle.globals.specs.Cuts.{is_past, is_after}
 use Rattle.collation.specs.Answers.{is_beyond}
 use Rattle.globals.specs.Entries.{any_of, is_candidate}
 use Rattle.journal.specs.Touching.{is_beyond_answer}
-use Rattle.globals.specs.CutLaws.{not_before_end, before_end-earlier, under_between}
-use Rattle.globals.specs.PathLaws.{path, cmp_path, past_path}
-use Rattle.globals.specs.SequenceLaws.{sibling_after, sibling_before, sibling_known, sibling_known_back}
-use Rattle.globals.specs.SeekLaws.{seek, closed, deeper, counts_opened, counts_after, counts_before, counts_some, below_is_after, below_is_before, less_path, name_closed, name_closed_back}
-use Rattle.globals.specs.TellingLaws.{siblings_less, below_so, child_under, under_child}
+use Rattle.globals.specs.laws.Cuts.{not_before_end, before_end-earlier, under_between}
+use Rattle.globals.specs.laws.Paths.{path, cmp_path, past_path}
+use Rattle.globals.specs.laws.Sequences.{sibling_after, sibling_before, sibling_known, sibling_known_back}
+use Rattle.globals.specs.laws.Seeks.{seek, closed_spot, deeper, counts_opened, counts_after, counts_before, counts_some, below_is_after, below_is_before, less_path, name_closed, name_closed_back}
+use Rattle.globals.specs.laws.Telling.{siblings_less, below_so, child_under, under_child}
 use Rattle.serial.specs.ReadRanges.{level_end, is_from_level, root_of, ReadsRange}
 use Rattle.serial.specs.laws.Alike.{under_itself}
 
@@ -51,13 +51,13 @@ false_unless false f = refl
 
 -- ---- $ORDER's siblings
 
-child_last : (s : List ℕ) (ss : List (List ℕ)) → is_some (child (front (s ∷ ss)) (s ∷ ss)) ≡ true
+child_last : (s : List ℕ) (ss : List (List ℕ)) → is_some (child (without_last (s ∷ ss)) (s ∷ ss)) ≡ true
 child_last s [] = refl
-child_last s (t ∷ ts) = ap (λ b. is_some (cond b (child (front (t ∷ ts)) (t ∷ ts)) None)) ((bytes_decides s s).1 refl) ∙ child_last t ts
+child_last s (t ∷ ts) = ap (λ b. is_some (cond b (child (without_last (t ∷ ts)) (t ∷ ts)) None)) ((bytes_decides s s).1 refl) ∙ child_last t ts
 
 -- a closed place stands below its parent
-below_parent : (n s : List ℕ) (ss : List (List ℕ)) → is_below (parent_of (closed (deeper n s ss))) (deeper n s ss) ≡ true
-below_parent n s ss = ap (λ b. is_some (cond b (child (front (s ∷ ss)) (s ∷ ss)) None)) ((bytes_decides n n).1 refl) ∙ child_last s ss
+below_parent : (n s : List ℕ) (ss : List (List ℕ)) → is_below (parent_of (closed_spot (deeper n s ss))) (deeper n s ss) ≡ true
+below_parent n s ss = ap (λ b. is_some (cond b (child (without_last (s ∷ ss)) (s ∷ ss)) None)) ((bytes_decides n n).1 refl) ∙ child_last s ss
 
 -- a sibling beyond the start is a sibling where $ORDER looks
 counts_is : (forward : Bool) (p : Spot) (x : Reference) → has_level p ≡ true → is_candidate forward p x ≡ (is_below (parent_of p) x && seek forward p x)
@@ -69,12 +69,12 @@ counts_is forward p x h = by_parts forward p.reference.name p.reference.subscrip
     by_parts forward n [] false h = absurd (cc)
     by_parts true n (s ∷ ss) false h =
         let r = deeper n s ss in
-        known (is_candidate true (closed r) x) (is_below (parent_of (closed r)) x) (is_after true r x)
+        known (is_candidate true (closed_spot r) x) (is_below (parent_of (closed_spot r)) x) (is_after true r x)
         (λ c. past_path r x ∙ sibling_after subscript_cmp subscript_cmp_total (path r) (path x) (sym (counts_after n s ss x) ∙ c))
         (λ b. counts_after n s ss x ∙ sibling_known subscript_cmp subscript_cmp_total (path r) (path x) (sym (past_path r x) ∙ b) ∙ sym (counts_some n s ss x))
     by_parts false n (s ∷ ss) false h =
         let r = deeper n s ss in
-        known (is_candidate false (closed r) x) (is_below (parent_of (closed r)) x) (is_before false r x)
+        known (is_candidate false (closed_spot r) x) (is_below (parent_of (closed_spot r)) x) (is_before false r x)
         (λ c. ap is_lt (cmp_path x r ∙ sibling_before subscript_cmp subscript_cmp_total (path r) (path x) (sym (counts_before n s ss x) ∙ c)))
         (λ b. counts_before n s ss x ∙ sibling_known_back subscript_cmp subscript_cmp_total (path r) (path x) (less_path x r b) ∙ sym (counts_some n s ss x))
 
@@ -144,7 +144,7 @@ after_parent p x h a = by_parts p.reference.name p.reference.subscripts p.is_ope
     by_parts n [] false h a = absurd (cc)
     by_parts n (s ∷ ss) false h a =
         let r = deeper n s ss in
-        ap is_lt (ref_cmp_total.trans (parent_of (closed r)) r x (is_less _ (below_is_after (parent_of (closed r)) r (below_parent n s ss))) (is_less _ (second_so (not (is_under r x)) _ a)))
+        ap is_lt (ref_cmp_total.trans (parent_of (closed_spot r)) r x (is_less _ (below_is_after (parent_of (closed_spot r)) r (below_parent n s ss))) (is_less _ (second_so (not (is_under r x)) _ a)))
 
 before_parent_end : (p : Spot) (x : Reference) → has_level p ≡ true → seek false p x ≡ true → is_before true (parent_of p) x ≡ true
 before_parent_end p x h a = by_parts p.reference.name p.reference.subscripts p.is_open h a
@@ -154,7 +154,7 @@ before_parent_end p x h a = by_parts p.reference.name p.reference.subscripts p.i
     by_parts n [] false h a = absurd (cc)
     by_parts n (s ∷ ss) false h a =
         let r = deeper n s ss in
-        before_end-earlier (parent_of (closed r)) x r (is_less _ a) (below_is_before (parent_of (closed r)) r (below_parent n s ss))
+        before_end-earlier (parent_of (closed_spot r)) x r (is_less _ a) (below_is_before (parent_of (closed_spot r)) r (below_parent n s ss))
 
 level_end_inside : (r x : Reference) (t : List ℕ) → is_before true (level_end r t) x ≡ true → is_before true r x ≡ true
 level_end_inside r x [] b = b

@@ -14,14 +14,14 @@ use Rattle.command.specs.declared.access.Answer.{Answer}
 use Rattle.command.specs.declared.access.Answer.TheVariants.{Value, Number}
 use Rattle.collation.specs.Reference.{Reference, Spot}
 use Rattle.collation.specs.Order.{ref_eq}
-use Rattle.collation.specs.OrderLaws.{ref_eq_decides}
-use Rattle.collation.specs.EntryLaws.{either}
+use Rattle.collation.specs.laws.Order.{ref_eq_decides}
+use Rattle.collation.specs.laws.Entries.{either}
 use Rattle.collation.specs.Database.{Database, is_under}
 use Rattle.globals.specs.Entries.{nearest_entry}
 use Rattle.collation.specs.Answers.{follows, moved, is_forward}
 use Rattle.collation.specs.Levels.{overlap}
 use Rattle.command.specs.Data.{data_after, found_reply, look_reply}
-use Rattle.globals.specs.ChangingLaws.{get_set, kill_subtree, merge_subtree, under_moved}
+use Rattle.globals.specs.laws.Changing.{get_set, kill_subtree, merge_subtree, under_moved}
 use Rattle.journal.specs.declared.unit.Exchange.{Exchange}
 use Rattle.journal.specs.History.{IsRight, AreRight}
 use Rattle.journal.specs.Touching.{sets, kills, look_read, read_set, own_after, is_read}

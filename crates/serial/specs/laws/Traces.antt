@@ -7,7 +7,7 @@ use Rattle.std.proofs.lemmas.List.Folds.{list_all-append}
 use Rattle.std.specs.Prelude.{◌==◌, ◌||◌, not, cond, Option, Some, None, is_some, unwrap_or}
 use Rattle.std.specs.Ordering.{nat_cmp}
 use Rattle.std.specs.FinMap as finmap
-use Rattle.collation.specs.BlockingLaws.{differ}
+use Rattle.collation.specs.laws.Blocking.{differ}
 use Rattle.command.specs.declared.access.DataCommand.{DataCommand}
 use Rattle.command.specs.declared.access.Answer.{Answer}
 use Rattle.command.specs.declared.request.Command.{Command}
@@ -24,7 +24,7 @@ use Rattle.journal.specs.laws.History.{after-append}
 use Rattle.journal.specs.Story.{Transaction, Machine, nothing_done, transaction_of, add_unit, put_transaction, close, begin, told_answer, told_lock, told_level, told_commit, told_back, told}
 use Rattle.serial.specs.laws.ByJob.{same_or_not, get_here, get_apart, gone_here, gone_apart, locks_put, locks_put_apart, locks_gone, locks_gone_apart, no_locks_yet, locks_changed, locks_changed_apart}
 use Rattle.serial.specs.Machine.{reply_of, step_of, run_of}
-use Rattle.serial.specs.Traces.{map_of, job_locks, StaysOpen, LeavesNoTrace, BackedTransactionsLeaveNoTrace, IsUndone, is_lock_or_back, only_locks}
+use Rattle.serial.specs.Traces.{machine_map, job_locks, StaysOpen, LeavesNoTrace, BackedTransactionsLeaveNoTrace, IsUndone, is_lock_or_back, only_locks}
 
 -- a unit of another job leaves a job's locks as they are
 pub other_unit : (u : JournalUnit) (s : State) (job : ℕ) → (job ≡ job_of u → ⊥) → locks_of job (after_unit u s).locks ≡ locks_of job s.locks
@@ -322,9 +322,9 @@ goes_start job reply s is rest = by_reply reply
     by_reply (Refused refusal) = unchanged
     by_reply r = unchanged
 
-map_back : (job : ℕ) (o : Option Transaction) (s : Machine) → map_of (told_back job o s) ≡ map_of s
+map_back : (job : ℕ) (o : Option Transaction) (s : Machine) → machine_map (told_back job o s) ≡ machine_map s
 map_back job None s = refl
-map_back job (Some t) s = elim t.took_lock as (λ b. map_of (cond b (add_unit (Back job) s) s) ≡ map_of s) [ true ↦ ap (λ (st : State). st.map) (after-append s.units (Back job ∷ []) initial) | false ↦ refl ]
+map_back job (Some t) s = elim t.took_lock as (λ b. machine_map (cond b (add_unit (Back job) s) s) ≡ machine_map s) [ true ↦ ap (λ (st : State). st.map) (after-append s.units (Back job ∷ []) initial) | false ↦ refl ]
 
 kept_back : (before : JobLocks) → IsAtRest before → (job : ℕ) (s : Machine) → Goes before job s → is_some (transaction_of job s) ≡ true → job_locks job (told_back job (transaction_of job s) s) ≡ before
 unfolding Goes

@@ -12,13 +12,13 @@ use Rattle.command.specs.declared.access.DataCommand.{DataCommand}
 use Rattle.command.specs.declared.access.DataCommand.TheVariants.{Set, Kill, Merge, Look}
 use Rattle.collation.specs.Reference.{Reference}
 use Rattle.collation.specs.Order.{ref_cmp, ref_eq}
-use Rattle.collation.specs.OrderLaws.{ref_cmp_total, ref_cmp-IsAntisymmetric, ref_eq_decides}
+use Rattle.collation.specs.laws.Order.{ref_cmp_total, ref_cmp-IsAntisymmetric, ref_eq_decides}
 use Rattle.collation.specs.Database.{Database, is_under}
 use Rattle.globals.specs.Entries.{nearest_entry}
 use Rattle.collation.specs.Answers.{moved}
 use Rattle.command.specs.Data.{data_after}
-use Rattle.globals.specs.NearestLaws.{any_nearest, nearest_none}
-use Rattle.globals.specs.ChangingLaws.{get_set, kill_subtree, merge_subtree, begins_back}
+use Rattle.globals.specs.laws.Nearest.{any_nearest, nearest_none}
+use Rattle.globals.specs.laws.Changing.{get_set, kill_subtree, merge_subtree, begins_back}
 use Rattle.journal.specs.declared.unit.Exchange.{Exchange}
 use Rattle.journal.specs.declared.unit.Unit.{Unit as JournalUnit}
 use Rattle.journal.specs.declared.unit.Unit.TheVariants.{Lone, Whole, Lock, Back, End}

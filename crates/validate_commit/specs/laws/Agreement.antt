@@ -11,7 +11,7 @@ use Rattle.std.specs.FinMap.{find}
 use Rattle.std.specs.Option.{option_and_then}
 use Rattle.collation.specs.Reference.{Reference}
 use Rattle.collation.specs.Order.{ref_cmp, ref_eq}
-use Rattle.collation.specs.OrderLaws.{ref_ties, ref_cmp_total, ref_cmp-IsAntisymmetric}
+use Rattle.collation.specs.laws.Order.{ref_ties, ref_cmp_total, ref_cmp-IsAntisymmetric}
 use Rattle.journal.specs.declared.unit.Unit.{Unit as JournalUnit}
 use Rattle.journal.specs.History.{State, initial, after}
 use Rattle.journal.specs.laws.History.{IsLegal-append, after-unit}

@@ -16,9 +16,9 @@ use Rattle.serial.specs.Agreeing.{Agree}
 use Rattle.serial.specs.Machine.{state_at}
 use Rattle.serial.specs.laws.Good.{right_at_commit}
 use Rattle.serial.specs.laws.Untouched.{untouched_by_units}
-use Rattle.version_store.specs.Versions.{AreApart, Stored, versions_of}
-use Rattle.collation.specs.Changes.{Change}
-use Rattle.workspace.specs.Changes.{AreChanges, IsOnce}
+use Rattle.version_store.specs.Versions.{Stored, versions_of}
+use Rattle.collation.specs.Changes.{Change, AreOnce}
+use Rattle.workspace.specs.Changes.{AreChanges}
 use Rattle.followed.specs.laws.Following.{changes_are_touched}
 use Rattle.version_chain.specs.Versions.{IsAbove, IsFalling}
 use Rattle.serial.specs.laws.Overtaken.{any_touched_tells}
@@ -28,17 +28,6 @@ use Rattle.validate_commit.specs.laws.Overtaking.{newer_touched, touched_newer}
 use Rattle.validate_commit.specs.laws.Agreement.{is_changed}
 use Rattle.validate_commit.specs.Working.{Working, IsWorkOn}
 use Rattle.validate_commit.specs.Verdicts.{has_been_overtaken}
-
-none_found : (x : Reference) (cs : List Change) → list_any (λ (c : Change). ref_eq x c.0) cs ≡ false → find ref_cmp x cs ≡ None
-none_found x cs h = by_found (find ref_cmp x cs) (is_changed x cs ∙ h)
-  where
-    by_found : (o : Option (Option (List ℕ))) → is_some o ≡ false → o ≡ None
-    by_found None is = refl
-    by_found (Some v) is = absurd (cc)
-
-once_apart : (cs : List Change) → IsOnce cs → AreApart cs
-once_apart [] h = tt
-once_apart (c ∷ cs) h = (none_found c.0 cs h.0, once_apart cs h.1)
 
 -- the units of the start and those after it
 rest_after : (start : ℕ) (units : List JournalUnit) → after (drop start units) (state_at start units) ≡ after units initial
@@ -62,7 +51,7 @@ whole_next w units cs begun work none changes =
       changes = record {
         leave = touched.leave;
         references = touched.touched;
-        once = once_apart cs touched.once;
+        once = touched.once;
       };
     }
 

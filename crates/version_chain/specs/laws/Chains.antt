@@ -11,35 +11,35 @@ first_apart i e = absurd (omega (arith, e))
 
 module _ {A : Type 0} where
   -- one for a slot that is held
-  abbrev pub held_count : Option A → ℕ
-  held_count slot = cond (is_some slot) 1 0
+  abbrev pub slot_count : Option A → ℕ
+  slot_count slot = cond (is_some slot) 1 0
 
-  count_cons : (x : Option A) (xs : List (Option A)) → count_by is_some (x ∷ xs) ≡ held_count x + count_by is_some xs
-  count_cons x xs = sum_by-cons held_count x xs
+  count_cons : (x : Option A) (xs : List (Option A)) → count_by is_some (x ∷ xs) ≡ slot_count x + count_by is_some xs
+  count_cons x xs = sum_by-cons slot_count x xs
 
   same_count : (xs ys : List (Option A)) → ((j : ℕ) → slot_at ys j ≡ slot_at xs j) → count_by is_some ys ≡ count_by is_some xs
   same_count [] [] same = refl
-  same_count [] (y ∷ ys) same = let head = ap held_count (same 0) in let rest = same_count [] ys (λ j. same (suc j)) in omega (arith, count_cons y ys, head, rest)
-  same_count (x ∷ xs) [] same = let head = ap held_count (same 0) in let rest = same_count xs [] (λ j. same (suc j)) in omega (arith, count_cons x xs, head, rest)
-  same_count (x ∷ xs) (y ∷ ys) same = let head = ap held_count (same 0) in let rest = same_count xs ys (λ j. same (suc j)) in omega (arith, count_cons x xs, count_cons y ys, head, rest)
+  same_count [] (y ∷ ys) same = let head = ap slot_count (same 0) in let rest = same_count [] ys (λ j. same (suc j)) in omega (arith, count_cons y ys, head, rest)
+  same_count (x ∷ xs) [] same = let head = ap slot_count (same 0) in let rest = same_count xs [] (λ j. same (suc j)) in omega (arith, count_cons x xs, head, rest)
+  same_count (x ∷ xs) (y ∷ ys) same = let head = ap slot_count (same 0) in let rest = same_count xs ys (λ j. same (suc j)) in omega (arith, count_cons x xs, count_cons y ys, head, rest)
 
   -- slots that are the same but at one number
   count_but_one : (xs ys : List (Option A)) (i : ℕ) → ((j : ℕ) → j ≢ i → slot_at ys j ≡ slot_at xs j)
-      → count_by is_some ys + held_count (slot_at xs i) ≡ count_by is_some xs + held_count (slot_at ys i)
+      → count_by is_some ys + slot_count (slot_at xs i) ≡ count_by is_some xs + slot_count (slot_at ys i)
   count_but_one [] [] i same = refl
   count_but_one [] (y ∷ ys) zero same = let rest = same_count [] ys (λ j. same (suc j) (λ e. omega (arith, e))) in omega (arith, count_cons y ys, rest)
   count_but_one [] (y ∷ ys) (suc i) same =
-      let head = ap held_count (same 0 (first_apart i)) in
+      let head = ap slot_count (same 0 (first_apart i)) in
       let rest = count_but_one [] ys i (λ j off. same (suc j) (λ e. off (omega (arith, e)))) in
       omega (arith, count_cons y ys, head, rest)
   count_but_one (x ∷ xs) [] zero same = let rest = same_count xs [] (λ j. same (suc j) (λ e. omega (arith, e))) in omega (arith, count_cons x xs, rest)
   count_but_one (x ∷ xs) [] (suc i) same =
-      let head = ap held_count (same 0 (first_apart i)) in
+      let head = ap slot_count (same 0 (first_apart i)) in
       let rest = count_but_one xs [] i (λ j off. same (suc j) (λ e. off (omega (arith, e)))) in
       omega (arith, count_cons x xs, head, rest)
   count_but_one (x ∷ xs) (y ∷ ys) zero same = let rest = same_count xs ys (λ j. same (suc j) (λ e. omega (arith, e))) in omega (arith, count_cons x xs, count_cons y ys, rest)
   count_but_one (x ∷ xs) (y ∷ ys) (suc i) same =
-      let head = ap held_count (same 0 (first_apart i)) in
+      let head = ap slot_count (same 0 (first_apart i)) in
       let rest = count_but_one xs ys i (λ j off. same (suc j) (λ e. off (omega (arith, e)))) in
       omega (arith, count_cons x xs, count_cons y ys, head, rest)
 
@@ -59,9 +59,9 @@ module _ {V : Type 0} where
 
   -- how many ids are open, once one has another chain
   pub open_count_updated : (old new : ChainsState V) (id : ℕ) (chain : Option (List (Entry V))) → Updates old new id chain
-      → open_count new + held_count (chain_at old id) ≡ open_count old + held_count chain
+      → open_count new + slot_count (chain_at old id) ≡ open_count old + slot_count chain
   open_count_updated old new id chain updates =
-      count_but_one old.chains new.chains id updates.others ∙ ap (λ c. open_count old + held_count c) updates.changed
+      count_but_one old.chains new.chains id updates.others ∙ ap (λ c. open_count old + slot_count c) updates.changed
 
   open_inside : (chains : List (Option (List (Entry V)))) (id : ℕ) → IsSome (slot_at chains id) → id < length chains
   open_inside [] id found = absurd cc

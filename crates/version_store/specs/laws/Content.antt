@@ -12,16 +12,16 @@ use Rattle.std.specs.FinMap.{FinMap, find, is_sorted, get, get-insert, get-remov
 use Rattle.std.specs.FinMap.Entries.{below_all}
 use Rattle.collation.specs.Reference.{Reference}
 use Rattle.collation.specs.Order.{ref_cmp}
-use Rattle.collation.specs.OrderLaws.{ref_cmp_total, ref_cmp-IsAntisymmetric, is_less, is_equal}
+use Rattle.collation.specs.laws.Order.{ref_cmp_total, ref_cmp-IsAntisymmetric, is_less, is_equal}
 use Rattle.collation.specs.Database.{Database}
-use Rattle.globals.specs.NearestLaws.{true_of, not_found_itself}
+use Rattle.globals.specs.laws.Nearest.{true_of, not_found_itself}
 use Rattle.version_chain.specs.Versions.{Entry, at_of, IsAbove}
 use Rattle.version_chain.specs.laws.Versions.{at_head, at_of-before, at_settled}
 use Rattle.version_chain.specs.laws.Cut.{at_of-left_after}
 use Rattle.version_chain.specs.Cut.{left_after}
 use Rattle.version_chain.specs.Chains.{listed}
-use Rattle.version_store.specs.Versions.{Row, Versions, with_value, seen_at, content_at, versions_of, with_version, written, ArePlaced, AreApart, AreBelow, placed, all_placed, row_after}
-use Rattle.collation.specs.Changes.{Change, set_to, changed}
+use Rattle.version_store.specs.Versions.{Row, Versions, with_value, seen_at, content_at, versions_of, with_version, written, ArePlaced, AreBelow, placed, all_placed, row_after}
+use Rattle.collation.specs.Changes.{Change, set_to, changed, AreOnce}
 
 below_tied : {K X : Type 0} (R : K → K → Ordering) → IsTotalOrder R → (q x : K) (es : List (K × X)) → R q x ≡ Equal → below_all R x es ≡ true → below_all R q es ≡ true
 below_tied R o q x [] t h = refl
@@ -246,14 +246,14 @@ are_placed (c ∷ cs) m =
     (contains_all_placed (map (λ d. d.0) cs) c.0 (placed c.0 m) (contains_placed c.0 c.0 m ∙ ap (λ b. cond b true (finmap.contains_key m c.0)) itself), are_placed cs (placed c.0 m))
 
 -- changes in order are each of another reference
-pub apart_sorted : (cs : List Change) → is_sorted ref_cmp cs ≡ true → AreApart cs
+pub apart_sorted : (cs : List Change) → is_sorted ref_cmp cs ≡ true → AreOnce cs
 apart_sorted [] h = tt
 apart_sorted (c ∷ cs) h =
     (not_found_itself ref_cmp ref_cmp_total ref_cmp-IsAntisymmetric c.0 cs (first_so (below_all ref_cmp c.0 cs) _ h), apart_sorted cs (second_so (below_all ref_cmp c.0 cs) _ h))
 
 -- ---- the versions of a reference once changes are written
 
-pub rows_written : (stamp : ℕ) (cs : List Change) (m : Versions) (r : Reference) → AreApart cs → versions_of (written stamp cs m) r ≡ row_after stamp (find ref_cmp r cs) (versions_of m r)
+pub rows_written : (stamp : ℕ) (cs : List Change) (m : Versions) (r : Reference) → AreOnce cs → versions_of (written stamp cs m) r ≡ row_after stamp (find ref_cmp r cs) (versions_of m r)
 rows_written stamp [] m r apart = refl
 rows_written stamp (c ∷ cs) m r apart =
     rows_written stamp cs (with_version stamp c m) r apart.1

@@ -7,13 +7,13 @@ use Rattle.std.specs.FinMap as finmap
 use Rattle.std.specs.FinMap.{find, get, get-insert, get-remove}
 use Rattle.collation.specs.Reference.{Reference}
 use Rattle.collation.specs.Order.{ref_cmp}
-use Rattle.collation.specs.OrderLaws.{ref_cmp_total, ref_cmp-IsAntisymmetric, is_equal}
+use Rattle.collation.specs.laws.Order.{ref_cmp_total, ref_cmp-IsAntisymmetric, is_equal}
 use Rattle.version_chain.specs.Versions.{at_of, IsAbove}
 use Rattle.version_chain.specs.Chains.{listed}
 use Rattle.version_chain.specs.Cut.{left_after}
 use Rattle.version_chain.specs.laws.Cut.{at_of-left_after}
-use Rattle.version_store.specs.Versions.{Row, Versions, content_at, versions_of, with_version, written, ArePlaced, AreApart, AreBelow, row_after, is_bare, unless_bare, tidied, written_and_cut, row_cut}
-use Rattle.collation.specs.Changes.{Change}
+use Rattle.version_store.specs.Versions.{Row, Versions, content_at, versions_of, with_version, written, ArePlaced, AreBelow, row_after, is_bare, unless_bare, tidied, written_and_cut, row_cut}
+use Rattle.collation.specs.Changes.{Change, AreOnce}
 use Rattle.version_store.specs.laws.Content.{get_same, content_alike, rows_written}
 
 -- ---- a reference that is tidied
@@ -81,7 +81,7 @@ row_one stamp horizon c q m =
 
 -- ---- all changes
 
-pub rows_cut : (stamp horizon : ℕ) (cs : List Change) (m : Versions) (r : Reference) → AreApart cs → versions_of (written_and_cut stamp horizon cs m) r ≡ row_cut stamp horizon (find ref_cmp r cs) (versions_of m r)
+pub rows_cut : (stamp horizon : ℕ) (cs : List Change) (m : Versions) (r : Reference) → AreOnce cs → versions_of (written_and_cut stamp horizon cs m) r ≡ row_cut stamp horizon (find ref_cmp r cs) (versions_of m r)
 rows_cut stamp horizon [] m r apart = refl
 rows_cut stamp horizon (c ∷ cs) m r apart =
     rows_cut stamp horizon cs (tidied horizon c.0 (with_version stamp c m)) r apart.1
@@ -97,7 +97,7 @@ rows_cut stamp horizon (c ∷ cs) m r apart =
     by_tie false f = refl
 
 -- from the horizon on the content is as without the cut
-pub content_cut_at : (stamp horizon s : ℕ) (cs : List Change) (m : Versions) → AreApart cs → horizon ≤ s → content_at (written_and_cut stamp horizon cs m) s ≡ content_at (written stamp cs m) s
+pub content_cut_at : (stamp horizon s : ℕ) (cs : List Change) (m : Versions) → AreOnce cs → horizon ≤ s → content_at (written_and_cut stamp horizon cs m) s ≡ content_at (written stamp cs m) s
 content_cut_at stamp horizon s cs m apart le = content_alike _ _ s (λ r.
     ap (at_of s) (rows_cut stamp horizon cs m r apart) ∙ by_found (find ref_cmp r cs) (versions_of m r) ∙ ap (at_of s) (sym (rows_written stamp cs m r apart)))
   where

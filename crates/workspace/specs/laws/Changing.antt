@@ -13,16 +13,16 @@ use Rattle.std.specs.FinMap.{FinMap}
 use Rattle.std.specs.FinMap.Entries.{below_all, is_sorted, find-where_key, is_sorted-where_key}
 use Rattle.collation.specs.Reference.{Reference}
 use Rattle.collation.specs.Order.{ref_cmp, ref_eq}
-use Rattle.collation.specs.OrderLaws.{ref_cmp_total, ref_cmp-IsAntisymmetric, ref_ties, ref_eq_decides, is_equal, is_less, turned}
+use Rattle.collation.specs.laws.Order.{ref_cmp_total, ref_cmp-IsAntisymmetric, ref_ties, ref_eq_decides, is_equal, is_less, turned}
 use Rattle.collation.specs.Database.{Database, is_under}
 use Rattle.collation.specs.Levels.{is_before}
 use Rattle.collation.specs.Answers.{subtree_of}
-use Rattle.globals.specs.NearestLaws.{not_found_itself, none_pass, true_of}
-use Rattle.globals.specs.CutLaws.{under_between, before_end-earlier}
-use Rattle.workspace.specs.Layers.{Layer, is_killed, AreApart}
+use Rattle.globals.specs.laws.Nearest.{not_found_itself, none_pass, true_of}
+use Rattle.globals.specs.laws.Cuts.{under_between, before_end-earlier}
+use Rattle.workspace.specs.Layers.{Layer, is_killed, NoneUnderAnother}
 use Rattle.workspace.specs.laws.Layering.{get_over, not_before, before_end}
-use Rattle.workspace.specs.Changes.{IsOnce, AreChanges, set_changes, removed, removed_by}
-use Rattle.collation.specs.Changes.{Change, changed}
+use Rattle.workspace.specs.Changes.{AreChanges, set_changes, removed, removed_by}
+use Rattle.collation.specs.Changes.{Change, changed, AreOnce}
 
 abbrev Node : Type 0
 Node = Reference × List ℕ
@@ -87,14 +87,14 @@ none_of (Some x) h = absurd (cc)
 
 -- ---- what changes leave
 
-get_changed : (cs : List Change) (m : Database) (q : Reference) → IsOnce cs → finmap.get (changed cs m) q ≡ unwrap_or (finmap.find ref_cmp q cs) (finmap.get m q)
+get_changed : (cs : List Change) (m : Database) (q : Reference) → AreOnce cs → finmap.get (changed cs m) q ≡ unwrap_or (finmap.find ref_cmp q cs) (finmap.get m q)
 get_changed [] m q once = refl
 get_changed ((k, Some v) ∷ cs) m q once = get_changed cs (finmap.insert m k v) q once.1 ∙ ap (unwrap_or (finmap.find ref_cmp q cs)) (finmap.get-insert ref_cmp_total m k v q) ∙ by_test (eq_by_cmp ref_cmp q k) refl
   where
     by_test : (b : Bool) → eq_by_cmp ref_cmp q k ≡ b → unwrap_or (finmap.find ref_cmp q cs) (cond b (Some v) (finmap.get m q)) ≡ unwrap_or (cond b (Some (Some v)) (finmap.find ref_cmp q cs)) (finmap.get m q)
     by_test true tied =
         let q_is : q ≡ k = ref_cmp-IsAntisymmetric q k (is_equal (ref_cmp q k) tied) in
-        let none : finmap.find ref_cmp q cs ≡ None = none_of _ (sym (any_is q cs) ∙ ap (λ z. list_any (λ (d : Change). ref_eq z d.0) cs) q_is ∙ once.0) in
+        let none : finmap.find ref_cmp q cs ≡ None = ap (λ z. finmap.find ref_cmp z cs) q_is ∙ once.0 in
         ap (λ o. unwrap_or o (Some v)) none
     by_test false tied = refl
 get_changed ((k, None) ∷ cs) m q once = get_changed cs (finmap.remove m k) q once.1 ∙ ap (unwrap_or (finmap.find ref_cmp q cs)) (finmap.get-remove ref_cmp_total m k q) ∙ by_test (eq_by_cmp ref_cmp q k) refl
@@ -102,33 +102,30 @@ get_changed ((k, None) ∷ cs) m q once = get_changed cs (finmap.remove m k) q o
     by_test : (b : Bool) → eq_by_cmp ref_cmp q k ≡ b → unwrap_or (finmap.find ref_cmp q cs) (cond b None (finmap.get m q)) ≡ unwrap_or (cond b (Some None) (finmap.find ref_cmp q cs)) (finmap.get m q)
     by_test true tied =
         let q_is : q ≡ k = ref_cmp-IsAntisymmetric q k (is_equal (ref_cmp q k) tied) in
-        let none : finmap.find ref_cmp q cs ≡ None = none_of _ (sym (any_is q cs) ∙ ap (λ z. list_any (λ (d : Change). ref_eq z d.0) cs) q_is ∙ once.0) in
+        let none : finmap.find ref_cmp q cs ≡ None = ap (λ z. finmap.find ref_cmp z cs) q_is ∙ once.0 in
         ap (λ o. unwrap_or o None) none
     by_test false tied = refl
 
 -- ---- each once
 
-not_any : {X : Type 0} (q : Reference) (cs : List (Reference × X)) → finmap.find ref_cmp q cs ≡ None → list_any (λ (c : Reference × X). ref_eq q c.0) cs ≡ false
-not_any q cs e = any_is q cs ∙ ap is_some e
-
-once_set : (es : List Node) → is_sorted ref_cmp es ≡ true → IsOnce (set_changes es)
+once_set : (es : List Node) → is_sorted ref_cmp es ≡ true → AreOnce (set_changes es)
 once_set [] h = tt
 once_set (e ∷ es) h =
-    (not_any e.0 (set_changes es) (find_set e.0 es ∙ ap (option_map (λ v. Some v)) (not_found_itself ref_cmp ref_cmp_total ref_cmp-IsAntisymmetric e.0 es (first_so _ _ h))), once_set es (second_so (below_all ref_cmp e.0 es) _ h))
+    (find_set e.0 es ∙ ap (option_map (λ v. Some v)) (not_found_itself ref_cmp ref_cmp_total ref_cmp-IsAntisymmetric e.0 es (first_so _ _ h)), once_set es (second_so (below_all ref_cmp e.0 es) _ h))
 
-once_removed : (written : Database) (es : List Node) → is_sorted ref_cmp es ≡ true → IsOnce (removed written es)
+once_removed : (written : Database) (es : List Node) → is_sorted ref_cmp es ≡ true → AreOnce (removed written es)
 once_removed written [] h = tt
 once_removed written (e ∷ es) h = by_test (finmap.contains_key written e.0) refl (once_removed written es (second_so (below_all ref_cmp e.0 es) _ h))
   where
-    by_test : (b : Bool) → finmap.contains_key written e.0 ≡ b → IsOnce (removed written es) → IsOnce (cond b (removed written es) ((e.0, None) ∷ removed written es))
+    by_test : (b : Bool) → finmap.contains_key written e.0 ≡ b → AreOnce (removed written es) → AreOnce (cond b (removed written es) ((e.0, None) ∷ removed written es))
     by_test true is rest = rest
     by_test false is rest =
-        (not_any e.0 (removed written es) (find_removed written e.0 es ∙ (λ i. cond (is i) None (gone (not_found_itself ref_cmp ref_cmp_total ref_cmp-IsAntisymmetric e.0 es (first_so _ _ h) i)))), rest)
+        (find_removed written e.0 es ∙ (λ i. cond (is i) None (gone (not_found_itself ref_cmp ref_cmp_total ref_cmp-IsAntisymmetric e.0 es (first_so _ _ h) i))), rest)
 
-once_both : (cs ds : List Change) → IsOnce cs → IsOnce ds → ((q : Reference) → is_some (finmap.find ref_cmp q cs) ≡ true → finmap.find ref_cmp q ds ≡ None) → IsOnce (cs ++ ds)
+once_both : (cs ds : List Change) → AreOnce cs → AreOnce ds → ((q : Reference) → is_some (finmap.find ref_cmp q cs) ≡ true → finmap.find ref_cmp q ds ≡ None) → AreOnce (cs ++ ds)
 once_both [] ds a b apart = b
 once_both (c ∷ cs) ds a b apart = (
-  not_any c.0 (cs ++ ds) (find_two c.0 cs ds ∙ (λ i. option_or (none_of _ (sym (any_is c.0 cs) ∙ a.0) i) (apart c.0 (ap is_some here) i))),
+  find_two c.0 cs ds ∙ (λ i. option_or (a.0 i) (apart c.0 (ap is_some here) i)),
   once_both cs ds a.1 b (λ q h. apart q (later q (eq_by_cmp ref_cmp q c.0) h)),
 )
   where
@@ -155,7 +152,7 @@ find_change w m q =
     ∙ (λ i. option_or ((find_set q (finmap.entries w.written) ∙ ap (option_map (λ v. Some v)) (sym (finmap.get-entries w.written q))) i)
     ((find_removed w.written q (killed_entries w m) ∙ ap (λ o. cond (finmap.contains_key w.written q) None (gone o)) killed_at) i))
 
-once_changes : (w : Layer) (m : Database) → IsOnce (changes_of w m)
+once_changes : (w : Layer) (m : Database) → AreOnce (changes_of w m)
 once_changes w m =
     once_both (set_changes (finmap.entries w.written)) (removed w.written (killed_entries w m)) (once_set (finmap.entries w.written) (true_of _ (finmap.entries_sorted w.written)))
     (once_removed w.written (killed_entries w m) (true_of _ (is_sorted-where_key ref_cmp (is_killed w.killed) (finmap.entries m) (finmap.entries_sorted m)))) (λ q h.
@@ -259,7 +256,7 @@ removed_by_roots written m (k ∷ ks) roots =
     (λ x y q l p. none_beyond k.0 x ks roots.0 (before_end-earlier k.0 x y l (before_end k.0 y p)) q)
     (λ x p q. none_beyond k.0 x ks roots.0 (before_end k.0 x p) q) (finmap.entries m) (true_of _ (finmap.entries_sorted m)))
 
-module _ {X : Type 0} (d : FinMap ref_cmp X) (was : AreApart d) where
+module _ {X : Type 0} (d : FinMap ref_cmp X) (was : NoneUnderAnother d) where
   AreThere : List (Reference × X) → Type 0
   AreThere fs = (r : Reference) → list_any (λ (f : Reference × X). ref_eq r f.0) fs ≡ true → finmap.contains_key d r ≡ true
 
@@ -291,7 +288,7 @@ module _ {X : Type 0} (d : FinMap ref_cmp X) (was : AreApart d) where
   are_roots = roots_in (finmap.entries d) (true_of _ (finmap.entries_sorted d)) (λ r t. ap is_some (finmap.get-entries d r) ∙ sym (any_is r (finmap.entries d)) ∙ t)
 
 -- the changes as they are listed
-pub listed : {X : Type 0} (w : Layer) (m written : Database) (d : FinMap ref_cmp X) (cs : List Change) → record { written = written; killed = finmap.keys d } ≡ w → AreApart d → cs ≡ set_changes (finmap.entries written) ++ removed_by written m (finmap.entries d) → AreChanges w m cs
+pub listed : {X : Type 0} (w : Layer) (m written : Database) (d : FinMap ref_cmp X) (cs : List Change) → record { written = written; killed = finmap.keys d } ≡ w → NoneUnderAnother d → cs ≡ set_changes (finmap.entries written) ++ removed_by written m (finmap.entries d) → AreChanges w m cs
 listed w m written d cs is was e =
     let v : Layer = record { written = written; killed = finmap.keys d } in
     subst (λ z. AreChanges z m cs) is (subst (AreChanges v m) (sym (e ∙ ap (λ l. set_changes (finmap.entries written) ++ l) (removed_by_roots written m (finmap.entries d) (are_roots d was)))) (are_changes v m))

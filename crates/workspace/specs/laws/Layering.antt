@@ -13,15 +13,15 @@ use Rattle.std.specs.FinMap as finmap
 use Rattle.std.specs.FinMap.{FinMap}
 use Rattle.collation.specs.Reference.{Reference}
 use Rattle.collation.specs.Order.{ref_cmp, ref_eq}
-use Rattle.collation.specs.OrderLaws.{ref_cmp_total, ref_cmp-IsAntisymmetric, ref_ties, ref_eq_decides, turned}
+use Rattle.collation.specs.laws.Order.{ref_cmp_total, ref_cmp-IsAntisymmetric, ref_ties, ref_eq_decides, turned}
 use Rattle.collation.specs.Database.{Database, is_under, begins_with}
 use Rattle.collation.specs.Levels.{is_before}
 use Rattle.globals.specs.Entries.{nearest_entry}
 use Rattle.collation.specs.Answers.{set_all}
-use Rattle.globals.specs.NearestLaws.{IsNearest, any_nearest, nearest_is, nearest_none}
-use Rattle.globals.specs.CutLaws.{under_between, before_end-earlier}
-use Rattle.globals.specs.ChangingLaws.{get_set, kill_subtree}
-use Rattle.workspace.specs.Layers.{Layer, nothing_written, is_killed, laid_over, decides, AreApart, IsKiller}
+use Rattle.globals.specs.laws.Nearest.{IsNearest, any_nearest, nearest_is, nearest_none}
+use Rattle.globals.specs.laws.Cuts.{under_between, before_end-earlier}
+use Rattle.globals.specs.laws.Changing.{get_set, kill_subtree}
+use Rattle.workspace.specs.Layers.{Layer, nothing_written, is_killed, laid_over, decides, NoneUnderAnother, IsKiller}
 
 -- ---- what each reference has
 
@@ -143,7 +143,7 @@ nothing_there (x ∷ es) e = absurd (omega arith)
 pub keys_of_empty : (X : Type 0) → finmap.keys (finmap.empty {X = X} {R = ref_cmp}) ≡ []
 keys_of_empty X = ap (map (λ (e : Reference × X). e.0)) (nothing_there _ (sym (finmap.len-entries finmap.empty) ∙ finmap.len-empty ref_cmp X))
 
-pub apart_empty : (X : Type 0) → AreApart (finmap.empty {X = X} {R = ref_cmp})
+pub apart_empty : (X : Type 0) → NoneUnderAnother (finmap.empty {X = X} {R = ref_cmp})
 apart_empty X = record { apart = λ r s p q u. let none : false ≡ true = sym (ap is_some (finmap.get-empty ref_cmp r)) ∙ p in absurd (cc) }
 
 -- a key under which x is
@@ -259,7 +259,7 @@ killed_covers d r x h = both_ways _ _ (λ k. or_left (is_killed (finmap.keys d) 
     back true is e = let by = killer d r h in killed_by d x by.0 (record { there = by.1.there; above = under_again by.0 r x by.1.above is })
     back false is e = or_nothing (is_killed (finmap.keys d) x) ∙ ap (λ b. is_killed (finmap.keys d) x || b) (sym is) ∙ e
 
-pub apart_more : {X : Type 0} (d : FinMap ref_cmp X) (r : Reference) (v : X) → AreApart d → is_killed (finmap.keys d) r ≡ false → AreApart (more_killed d r v)
+pub apart_more : {X : Type 0} (d : FinMap ref_cmp X) (r : Reference) (v : X) → NoneUnderAnother d → is_killed (finmap.keys d) r ≡ false → NoneUnderAnother (more_killed d r v)
 apart_more d r v was free = record { apart = λ a b p q u. by_old a b u (was_there d r v a p) (was_there d r v b q) }
   where
     by_old : (a b : Reference) → is_under a b ≡ true → (a ≡ r) ⊎ ((finmap.contains_key d a ≡ true) × (is_under r a ≡ false)) → (b ≡ r) ⊎ ((finmap.contains_key d b ≡ true) × (is_under r b ≡ false)) → a ≡ b
@@ -277,7 +277,7 @@ none_killed d x is = false_from_ne_true _ (λ h.
     absurd (cc))
 
 -- where killed references stand apart, the last that doesn't stand after x is the one above x, if there is one
-pub last_kills : {X : Type 0} (d : FinMap ref_cmp X) (x : Reference) (f : Reference × X) → AreApart d → nearest_entry false (λ r. not (is_lt (ref_cmp x r))) d ≡ Some f → is_killed (finmap.keys d) x ≡ is_under f.0 x
+pub last_kills : {X : Type 0} (d : FinMap ref_cmp X) (x : Reference) (f : Reference × X) → NoneUnderAnother d → nearest_entry false (λ r. not (is_lt (ref_cmp x r))) d ≡ Some f → is_killed (finmap.keys d) x ≡ is_under f.0 x
 last_kills d x f was is = both_ways _ _ onward (λ u. killed_by d x f.0 (record { there = ap is_some found.there; above = u }))
   where
     found : IsNearest false (λ r. not (is_lt (ref_cmp x r))) d f

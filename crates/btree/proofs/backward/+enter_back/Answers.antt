@@ -2,7 +2,7 @@ use Rattle.std.proofs.Common.{◌<◌, ◌≤◌, ◌+◌, ◌++◌, suc, length
 use denote.Param.Weighed.{most}
 use Rattle.std.proofs.lemmas.List.{reverse-append}
 use borrow.Author.Tests.{ltb-true, ltb-false}
-use Rattle.btree.specs.Falls.{most_le-height}
+use Rattle.btree.specs.laws.Falls.{most_le-height}
 use Rattle.btree.specs.Rows.{weave}
 use Rattle.btree.specs.Walk.{ahead, left_back_of, HasRoomBelow}
 use Rattle.btree.proofs.Places.{within, within_none, within_at}

@@ -1,5 +1,5 @@
 use Rattle.canonic_number.specs.Number.{scale}
-use Rattle.canonic_number.specs.DigitLaws.{unsigned_above_0, below_positive, above_negative}
+use Rattle.canonic_number.specs.laws.Digits.{unsigned_above_0, below_positive, above_negative}
 use Rattle.canonic_number.proofs.compare.cmp_numerals.Goals as goal
 
 pub returns-in-true-false : goal.returns-in-true-false

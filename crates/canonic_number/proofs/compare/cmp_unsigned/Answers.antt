@@ -1,6 +1,6 @@
 use Rattle.std.proofs.Common.{◌∙◌}
 use Rattle.canonic_number.specs.Number.{scale}
-use Rattle.canonic_number.specs.DigitLaws.{magnitudes_cmp}
+use Rattle.canonic_number.specs.laws.Digits.{magnitudes_cmp}
 use Rattle.canonic_number.proofs.compare.cmp_unsigned.Goals as goal
 
 pub returns : goal.returns

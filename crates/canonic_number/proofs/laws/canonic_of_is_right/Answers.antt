@@ -1,4 +1,4 @@
-use Rattle.canonic_number.specs.LiteralLaws.{answers_are_canonic, answers_keep_the_value, equal_answers, canonic_is_literal, canonic_stays}
+use Rattle.canonic_number.specs.laws.Literal.{answers_are_canonic, answers_keep_the_value, equal_answers, canonic_is_literal, canonic_stays}
 use Rattle.canonic_number.proofs.laws.canonic_of_is_right.Goals as goal
 
 pub returns-clause-canonic : goal.returns-clause-canonic

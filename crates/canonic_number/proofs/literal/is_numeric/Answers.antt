@@ -1,7 +1,7 @@
 use Rattle.std.proofs.Common.{◌≡◌, sym, ◌∙◌, arith}
 use Rattle.std.proofs.lemmas.Grind.{common_steps}
 use Rattle.canonic_number.specs.Literal.{is_numeric}
-use Rattle.canonic_number.specs.LiteralLaws.{literal_is_spelled}
+use Rattle.canonic_number.specs.laws.Literal.{literal_is_spelled}
 use Rattle.canonic_number.proofs.literal.is_numeric.Goals as goal
 
 pub returns-clause-grammar : goal.returns-clause-grammar

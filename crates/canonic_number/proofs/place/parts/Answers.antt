@@ -1,6 +1,6 @@
 use Rattle.std.proofs.Common.{◌≡◌, ◌<◌, ◌+◌, ◌-◌, length, refl, sym, ap, inl, inr, ◌∙◌, arith, ◌++◌}
 use Rattle.std.proofs.lemmas.Bool.Decides.{nat_tests}
-use Rattle.canonic_number.specs.PlaceLaws.{length-after_zeros}
+use Rattle.canonic_number.specs.laws.Place.{length-after_zeros}
 use Rattle.canonic_number.proofs.Zeros.{significant-fraction, significant-whole, place-fraction, place-whole}
 use Rattle.canonic_number.proofs.place.parts.Goals as goal
 

@@ -1,6 +1,6 @@
 use Rattle.std.proofs.Common.{◌≡◌, sym, ◌∙◌}
 use Rattle.canonic_number.specs.Number.{is_canonic}
-use Rattle.canonic_number.specs.GrammarLaws.{canonic_is_spelled}
+use Rattle.canonic_number.specs.laws.Grammar.{canonic_is_spelled}
 use Rattle.canonic_number.proofs.read.is_canonic.Goals as goal
 
 pub returns-clause-grammar : goal.returns-clause-grammar

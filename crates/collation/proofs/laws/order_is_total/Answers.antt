@@ -1,4 +1,4 @@
-use Rattle.collation.specs.OrderLaws.{subscript_cmp_total, ref_cmp_total, subscript_cmp-IsAntisymmetric, ref_cmp-IsAntisymmetric}
+use Rattle.collation.specs.laws.Order.{subscript_cmp_total, ref_cmp_total, subscript_cmp-IsAntisymmetric, ref_cmp-IsAntisymmetric}
 use Rattle.collation.proofs.laws.order_is_total.Goals as goal
 
 pub returns-clause-subscripts : goal.returns-clause-subscripts

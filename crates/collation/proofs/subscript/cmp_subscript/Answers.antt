@@ -1,6 +1,6 @@
 use Rattle.std.proofs.Common.{sym, ◌∙◌, arith}
 use Rattle.canonic_number.specs.Number.{scale}
-use Rattle.collation.specs.OrderLaws.{number_first, number_second, no_numbers}
+use Rattle.collation.specs.laws.Order.{number_first, number_second, no_numbers}
 use Rattle.collation.proofs.Subscripts.{numbers_as}
 use Rattle.collation.proofs.subscript.cmp_subscript.Goals as goal
 

@@ -1,4 +1,4 @@
-use Rattle.globals.specs.TellingLaws.{below_so}
+use Rattle.globals.specs.laws.Telling.{below_so}
 use Rattle.globals.proofs.laws.descendants_are_under.Goals as goal
 
 pub returns : goal.returns

@@ -1,4 +1,4 @@
-use Rattle.globals.specs.ChangingLaws.{kill_subtree}
+use Rattle.globals.specs.laws.Changing.{kill_subtree}
 use Rattle.globals.proofs.laws.kill_kills_the_subtree.Goals as goal
 
 pub returns : goal.returns

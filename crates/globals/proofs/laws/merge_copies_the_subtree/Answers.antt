@@ -1,4 +1,4 @@
-use Rattle.globals.specs.ChangingLaws.{merge_subtree}
+use Rattle.globals.specs.laws.Changing.{merge_subtree}
 use Rattle.globals.proofs.laws.merge_copies_the_subtree.Goals as goal
 
 pub returns : goal.returns

@@ -1,4 +1,4 @@
-use Rattle.globals.specs.TellingLaws.{order_tells}
+use Rattle.globals.specs.laws.Telling.{order_tells}
 use Rattle.globals.proofs.laws.order_answers_the_nearest_sibling.Goals as goal
 
 pub returns : goal.returns

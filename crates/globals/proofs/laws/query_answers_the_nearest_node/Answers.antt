@@ -1,4 +1,4 @@
-use Rattle.globals.specs.TellingLaws.{query_tells}
+use Rattle.globals.specs.laws.Telling.{query_tells}
 use Rattle.globals.proofs.laws.query_answers_the_nearest_node.Goals as goal
 
 pub returns : goal.returns

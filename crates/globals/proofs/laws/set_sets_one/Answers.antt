@@ -1,4 +1,4 @@
-use Rattle.globals.specs.ChangingLaws.{set_one}
+use Rattle.globals.specs.laws.Changing.{set_one}
 use Rattle.globals.proofs.laws.set_sets_one.Goals as goal
 
 pub returns : goal.returns

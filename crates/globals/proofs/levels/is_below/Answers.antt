@@ -2,7 +2,7 @@ use Rattle.std.proofs.Common.{sym, ap, ◌∙◌, not, ◌≡◌, true, false}
 use Rattle.std.specs.Prelude.{◌&&◌}
 use Rattle.collation.specs.Database.{is_under}
 use Rattle.collation.specs.Order.{ref_eq}
-use Rattle.globals.specs.TellingLaws.{below_so}
+use Rattle.globals.specs.laws.Telling.{below_so}
 use Rattle.globals.proofs.levels.is_below.Goals as goal
 
 pub returns-then-is_under : goal.returns-then-is_under

@@ -3,7 +3,7 @@ use Rattle.std.specs.Prelude.{map}
 use Rattle.std.specs.List.{list_any, list_all}
 use Rattle.collation.specs.Reference.{Reference}
 use Rattle.collation.specs.Database.{is_under}
-use Rattle.globals.specs.MergingLaws.{all_under, more_copied, no_more_copied, deep_found, still_shallow, first_under}
+use Rattle.globals.specs.laws.Merging.{all_under, more_copied, no_more_copied, deep_found, still_shallow, first_under}
 use Rattle.globals.specs.Copies.{copied, is_deep}
 use Rattle.globals.proofs.merge.copies_of.Goals as goal
 

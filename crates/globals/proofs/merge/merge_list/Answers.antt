@@ -1,5 +1,5 @@
 use Rattle.std.proofs.Common.{sym, ◌∙◌}
-use Rattle.globals.specs.TellingLaws.{apart_from_itself}
+use Rattle.globals.specs.laws.Telling.{apart_from_itself}
 use Rattle.globals.proofs.merge.merge_list.Goals as goal
 
 pub returns-then-is_overlap-clause-itself : goal.returns-then-is_overlap-clause-itself

@@ -1,5 +1,5 @@
 use Rattle.std.proofs.Common.{sym, ◌∙◌, Some, None}
-use Rattle.globals.specs.SeekLaws.{data_found}
+use Rattle.globals.specs.laws.Seeks.{data_found}
 use Rattle.globals.proofs.node.has_descendants.Goals as goal
 
 pub returns-in-Some : goal.returns-in-Some

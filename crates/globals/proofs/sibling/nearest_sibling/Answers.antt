@@ -1,6 +1,6 @@
 use Rattle.std.proofs.Common.{sym, None}
 use Rattle.collation.specs.Answers.{is_forward}
-use Rattle.globals.specs.SeekLaws.{order_found, sibling_found}
+use Rattle.globals.specs.laws.Seeks.{order_found, sibling_found}
 use Rattle.globals.proofs.sibling.nearest_sibling.Goals as goal
 
 pub returns-in-Some-clause-answer : goal.returns-in-Some-clause-answer

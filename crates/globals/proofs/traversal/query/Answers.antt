@@ -1,7 +1,7 @@
 use Rattle.std.proofs.Common.{◌≡◌, true, false, sym, ap, ◌∙◌, Some, None, cond}
 use Rattle.collation.specs.Levels.{has_name}
 use Rattle.collation.specs.Answers.{is_forward}
-use Rattle.globals.specs.SeekLaws.{query_found}
+use Rattle.globals.specs.laws.Seeks.{query_found}
 use Rattle.globals.proofs.traversal.query.Goals as goal
 
 pub returns-then-has_name : goal.returns-then-has_name

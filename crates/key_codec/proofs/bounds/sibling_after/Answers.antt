@@ -2,7 +2,7 @@ use Rattle.std.proofs.Common.{◌≡◌, ◌∷◌, ◌++◌, [], sym, subst, ar
 use Rattle.std.proofs.lemmas.Grind.{common_steps}
 use Rattle.key_codec.specs.Key.{key_of}
 use Rattle.key_codec.specs.Bounds.{AreBounds}
-use Rattle.key_codec.specs.BoundLaws.{are_bounds}
+use Rattle.key_codec.specs.laws.Bounds.{are_bounds}
 use Rattle.key_codec.proofs.bounds.sibling_after.Goals as goal
 
 pub returns-clause-bounds : goal.returns-clause-bounds

@@ -1,7 +1,7 @@
 use Rattle.std.proofs.Common.{List, ℕ, ◌∷◌, ◌++◌, [], sym, subst}
 use Rattle.key_codec.specs.Key.{key_of}
 use Rattle.key_codec.specs.Bounds.{AreBounds}
-use Rattle.key_codec.specs.BoundLaws.{are_bounds}
+use Rattle.key_codec.specs.laws.Bounds.{are_bounds}
 use Rattle.key_codec.proofs.bounds.sibling_before.Goals as goal
 
 pub returns-clause-bounds : goal.returns-clause-bounds

@@ -1,6 +1,6 @@
 use Rattle.std.proofs.Common.{sym, subst}
 use Rattle.key_codec.specs.Bounds.{IsPrefixOf}
-use Rattle.key_codec.specs.BoundLaws.{is_prefix}
+use Rattle.key_codec.specs.laws.Bounds.{is_prefix}
 use Rattle.key_codec.proofs.bounds.subtree_prefix.Goals as goal
 
 pub returns-clause-prefix : goal.returns-clause-prefix

@@ -1,4 +1,4 @@
-use Rattle.key_codec.specs.BoundLaws.{compare_as_references, equal_keys, no_subscript_begins, begin_as_references}
+use Rattle.key_codec.specs.laws.Bounds.{compare_as_references, equal_keys, no_subscript_begins, begin_as_references}
 use Rattle.key_codec.proofs.laws.keys_are_as_references.Goals as goal
 
 pub returns-clause-order : goal.returns-clause-order

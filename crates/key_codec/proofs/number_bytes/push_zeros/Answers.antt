@@ -1,5 +1,5 @@
 use Rattle.std.proofs.Common.{◌≡◌, ◌∙◌, ◌-◌, ◌+◌, suc, arith}
-use Rattle.key_codec.specs.GrownLaws.{goes_on_more, goes_on_then}
+use Rattle.key_codec.specs.laws.Grown.{goes_on_more, goes_on_then}
 use Rattle.key_codec.proofs.Showing.{zeros_more}
 use Rattle.key_codec.proofs.number_bytes.push_zeros.Goals as goal
 

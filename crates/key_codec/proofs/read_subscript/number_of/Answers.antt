@@ -2,7 +2,7 @@ use Rattle.std.proofs.Common.{◌≡◌, ap, sym, ◌∙◌, subst, map, true, f
 use Rattle.std.specs.Prelude.{nat_le}
 use Rattle.std.specs.List.{list_all}
 use Rattle.canonic_number.specs.Number.{scale}
-use Rattle.canonic_number.specs.Place.{place_at, signed, written_at}
+use Rattle.canonic_number.specs.Place.{point_at, signed, written_at}
 use Rattle.key_codec.specs.Reading.{digit_of, IsNumberOf, IsNumberKey}
 use Rattle.key_codec.proofs.Reading.{HasKeyParts, key_parts, digit_bytes, read_back, found_number}
 use Rattle.key_codec.proofs.read_subscript.number_of.Goals as goal
@@ -10,7 +10,7 @@ use Rattle.key_codec.proofs.read_subscript.number_of.Goals as goal
 pub returns-in_default-clause-none : goal.returns-in_default-clause-none
 returns-in_default-clause-none c = λ s is.
     let has : HasKeyParts c.args.negative c.args.byte c.args.front.now s = key_parts c.args.negative c.args.byte c.args.front.now s c.requires is in
-    c.in_default.ensures.none (place_at scale s) has.above has.within has.point
+    c.in_default.ensures.none (point_at scale s) has.above has.within has.point
 
 pub returns-then-not-are_digit_bytes-clause-none : goal.returns-then-not-are_digit_bytes-clause-none
 returns-then-not-are_digit_bytes-clause-none c = λ s is.

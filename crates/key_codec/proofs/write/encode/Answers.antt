@@ -1,6 +1,6 @@
 use Rattle.std.proofs.Common.{sym, subst}
 use Rattle.key_codec.specs.Bounds.{KeepsOrder, IsPrefixOf}
-use Rattle.key_codec.specs.BoundLaws.{keeps_order, is_prefix}
+use Rattle.key_codec.specs.laws.Bounds.{keeps_order, is_prefix}
 use Rattle.key_codec.proofs.write.encode.Goals as goal
 
 pub returns-clause-order : goal.returns-clause-order

@@ -2,7 +2,7 @@ use Rattle.std.proofs.Common.{List, ◌∷◌, [], sym, subst, refl, ◌∙◌}
 use Rattle.std.proofs.lemmas.List.{map-append}
 use Rattle.std.specs.FinMap as finmap
 use Rattle.listing.proofs.Gathered.{Entry, Stands, stands_first, stands_next, begun, begun_more, begun_out, wrote_all, from_start, listed_so_far}
-use Rattle.listing.specs.BytesLaws.{on_err}
+use Rattle.listing.specs.laws.Bytes.{on_err}
 use Rattle.listing.proofs.nodes.write_listing_after.Goals as goal
 
 pub nodes-init : goal.nodes-init

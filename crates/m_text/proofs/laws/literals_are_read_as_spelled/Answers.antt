@@ -1,6 +1,6 @@
-use Rattle.m_text.specs.LiteralLaws.{literal_found, literal_read}
-use Rattle.m_text.specs.WrittenLaws.{literal_form, literal_again}
-use Rattle.m_text.specs.RunLaws.{runs_are_runs, runs_joined}
+use Rattle.m_text.specs.laws.Literal.{literal_found, literal_read}
+use Rattle.m_text.specs.laws.Written.{literal_form, literal_again}
+use Rattle.m_text.specs.laws.Runs.{runs_are_runs, runs_joined}
 use Rattle.m_text.proofs.laws.literals_are_read_as_spelled.Goals as goal
 
 pub returns-clause-found : goal.returns-clause-found

@@ -1,5 +1,5 @@
-use Rattle.m_text.specs.PlaceLaws.{place_found, place_read}
-use Rattle.m_text.specs.WrittenLaws.{reference_again}
+use Rattle.m_text.specs.laws.Place.{place_found, place_read}
+use Rattle.m_text.specs.laws.Written.{reference_again}
 use Rattle.m_text.proofs.laws.references_are_read_as_spelled.Goals as goal
 
 pub returns-clause-found : goal.returns-clause-found

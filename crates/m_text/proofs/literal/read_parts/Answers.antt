@@ -1,7 +1,7 @@
 use Rattle.std.proofs.Common.{◌-◌, ◌+◌, length, arith}
 use Rattle.std.proofs.lemmas.Result.{err_from_is_err_and}
 use Rattle.m_text.specs.Literal.{part_at}
-use Rattle.m_text.specs.LoopLaws.{reads_on, reads_last, read_refused, none_left}
+use Rattle.m_text.specs.laws.Loops.{reads_on, reads_last, read_refused, none_left}
 use Rattle.m_text.proofs.literal.read_parts.Goals as goal
 
 pub returns-in_err-behind : goal.returns-in_err-behind

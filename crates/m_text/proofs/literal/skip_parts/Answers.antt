@@ -1,7 +1,7 @@
 use Rattle.std.proofs.Common.{◌-◌, ◌+◌, length, arith}
 use Rattle.std.proofs.lemmas.Result.{err_from_is_err_and}
 use Rattle.m_text.specs.Literal.{part_at}
-use Rattle.m_text.specs.LoopLaws.{skips_on, skips_last, skip_refused, none_to_skip}
+use Rattle.m_text.specs.laws.Loops.{skips_on, skips_last, skip_refused, none_to_skip}
 use Rattle.m_text.proofs.literal.skip_parts.Goals as goal
 
 pub returns-in_err-behind : goal.returns-in_err-behind

@@ -1,6 +1,6 @@
 use Rattle.std.proofs.Common.{◌-◌, ◌+◌, length, arith}
 use Rattle.m_text.specs.Place.{subscript_at}
-use Rattle.m_text.specs.LoopLaws.{reads_on, reads_last, read_refused, none_left}
+use Rattle.m_text.specs.laws.Loops.{reads_on, reads_last, read_refused, none_left}
 use Rattle.m_text.proofs.Drafted.{Stands}
 use Rattle.m_text.proofs.place.read_list.Goals as goal
 

@@ -1,6 +1,6 @@
 use Rattle.std.proofs.Common.{◌≡◌, ℕ, List, ◌++◌, ◌∷◌, ◌<◌, [], length, ap, ◌∙◌, append_assoc, arith}
 use Rattle.std.proofs.lemmas.Bool.Decides.{nat_tests}
-use Rattle.key_codec.specs.GrownLaws.{goes_on_more, goes_on_then}
+use Rattle.key_codec.specs.laws.Grown.{goes_on_more, goes_on_then}
 use Rattle.m_text.specs.Written.{parted, run_text, runs}
 use Rattle.m_text.proofs.Runs.{parted_more}
 use Rattle.m_text.proofs.write.write_runs.Goals as goal

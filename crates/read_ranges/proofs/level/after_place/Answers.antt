@@ -2,7 +2,7 @@ use Rattle.std.proofs.Common.{sym, ap, ◌∙◌}
 use Rattle.std.specs.Prelude.{not, Bool}
 use Rattle.collation.specs.Reference.{Reference}
 use Rattle.globals.specs.Cuts.{is_after, is_past}
-use Rattle.globals.specs.CutLaws.{not_before_end}
+use Rattle.globals.specs.laws.Cuts.{not_before_end}
 use Rattle.read_ranges.proofs.level.after_place.Goals as goal
 
 pub returns-else-is_open : goal.returns-else-is_open

@@ -1,4 +1,4 @@
-use Rattle.m_text.specs.FaultLaws.{place_answers}
+use Rattle.m_text.specs.laws.Faults.{place_answers}
 use Rattle.script.proofs.finish.place_of.Goals as goal
 
 pub returns : goal.returns

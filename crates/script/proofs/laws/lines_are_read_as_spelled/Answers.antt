@@ -1,5 +1,5 @@
-use Rattle.script.specs.WordLaws.{one_word}
-use Rattle.script.specs.LineLaws.{line_spelled, line_judged, line_not_spelled, line_unspelled}
+use Rattle.script.specs.laws.Words.{one_word}
+use Rattle.script.specs.laws.Line.{line_spelled, line_judged, line_not_spelled, line_unspelled}
 use Rattle.script.proofs.laws.lines_are_read_as_spelled.Goals as goal
 
 pub returns-clause-found : goal.returns-clause-found

@@ -1,5 +1,5 @@
 use Rattle.std.proofs.Common.{◌-◌, ◌+◌, length, arith}
-use Rattle.m_text.specs.LoopLaws.{reads_on, reads_last, read_refused, none_left}
+use Rattle.m_text.specs.laws.Loops.{reads_on, reads_last, read_refused, none_left}
 use Rattle.script.specs.Locking.{lock_name_at}
 use Rattle.script.proofs.Naming.{Stands}
 use Rattle.script.proofs.lock.read_list.Goals as goal

@@ -1,4 +1,4 @@
-use Rattle.key_codec.specs.GrownLaws.{goes_on_either}
+use Rattle.key_codec.specs.laws.Grown.{goes_on_either}
 use Rattle.script.proofs.reply.write_answer.Goals as goal
 
 pub returns-in-Value-clause-kept : goal.returns-in-Value-clause-kept

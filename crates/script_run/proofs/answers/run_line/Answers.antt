@@ -1,5 +1,5 @@
 use Rattle.std.proofs.Common.{Bool, ap, sym, subst, ◌∙◌, ◌||◌, refl}
-use Rattle.listing.specs.BytesLaws.{on_err}
+use Rattle.listing.specs.laws.Bytes.{on_err}
 use Rattle.journal.specs.History.{initial, IsLegal}
 use Rattle.journal.specs.Story.{Machine}
 use Rattle.script_run.specs.OpenJobs.{open_after}

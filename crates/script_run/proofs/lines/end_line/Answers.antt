@@ -1,4 +1,4 @@
-use Rattle.listing.specs.BytesLaws.{on_err}
+use Rattle.listing.specs.laws.Bytes.{on_err}
 use Rattle.script_run.proofs.Runs.{Broke-before}
 use Rattle.std.proofs.Common.{refl}
 use Rattle.script_run.proofs.Stopped.{Stopped-before}

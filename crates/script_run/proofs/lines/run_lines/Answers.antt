@@ -1,7 +1,7 @@
 use Rattle.std.proofs.Common.{◌∙◌, ap, refl, arith}
 use Rattle.std.specs.Io.BufRead.{strip_last}
 use Rattle.std.specs.Prelude.{List, ℕ}
-use Rattle.listing.specs.BytesLaws.{on_err}
+use Rattle.listing.specs.laws.Bytes.{on_err}
 use Rattle.script_run.proofs.Runs.{RanFront-none, more_lines, broke_lines, no_more_lines}
 use Rattle.script_run.proofs.Stopped.{passed_on, stopped_lines}
 use Rattle.script_run.proofs.lines.run_lines.Goals as goal

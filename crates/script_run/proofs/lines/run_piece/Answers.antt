@@ -1,7 +1,7 @@
 use Rattle.std.proofs.Common.{◌≡◌, ◌+◌, ◌-◌, ◌++◌, suc, List, ℕ, length, take, drop, ap, ◌∙◌, add-one, refl}
 use Rattle.std.specs.Io.BufRead.{strip_last}
 use Rattle.script_run.proofs.Runs.{no_end_piece, joined_lines, joined_broke, joined_broke_first, RanFront-none, RanFront-is, BrokeFront-before, BrokeFront-after, nothing_begun}
-use Rattle.listing.specs.BytesLaws.{rest_of, on_err}
+use Rattle.listing.specs.laws.Bytes.{rest_of, on_err}
 use Rattle.script_run.proofs.Stopped.{passed_on, StoppedFront-before, StoppedFront-after, joined_stopped, joined_stopped_first}
 use Rattle.script_run.proofs.lines.run_piece.Goals as goal
 

@@ -1,4 +1,4 @@
-use Rattle.listing.specs.BytesLaws.{on_err}
+use Rattle.listing.specs.laws.Bytes.{on_err}
 use Rattle.script_run.proofs.Runs.{broke_last, broke_halts, broke_ending, ended}
 use Rattle.std.proofs.Common.{refl}
 use Rattle.script_run.proofs.Stopped.{passed_on, stopped_last, stopped_halts, stopped_ending}

@@ -1,7 +1,7 @@
 use Rattle.std.proofs.Common.{◌≡◌, length, refl, ◌∙◌, arith}
 use Rattle.std.proofs.lemmas.Bool.Decides.{nat_tests}
 use Rattle.script_run.proofs.Stands.{answered, begun_at, begun_piece, begun_end, wrote_all, stands_first, stands_next}
-use Rattle.listing.specs.BytesLaws.{on_err}
+use Rattle.listing.specs.laws.Bytes.{on_err}
 use Rattle.script_run.proofs.Stopped.{is_memory, gathered_at, gathered_piece, gathered_end}
 use Rattle.script_run.proofs.run.run_pieces.Goals as goal
 

@@ -1,5 +1,5 @@
 use Rattle.script_run.proofs.Stands.{begun_first}
-use Rattle.listing.specs.BytesLaws.{on_err, WritesBeginning-all}
+use Rattle.listing.specs.laws.Bytes.{on_err, WritesBeginning-all}
 use Rattle.script_run.proofs.Stopped.{is_error, kept_first, kept_all, begun_left}
 use Rattle.script_run.proofs.run.run_with.Goals as goal
 

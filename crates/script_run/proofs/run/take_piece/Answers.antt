@@ -1,5 +1,5 @@
 use Rattle.std.proofs.Common.{refl}
-use Rattle.listing.specs.BytesLaws.{on_err}
+use Rattle.listing.specs.laws.Bytes.{on_err}
 use Rattle.script_run.proofs.Runs.{BrokeFront-after, RanFront-written}
 use Rattle.script_run.proofs.run.take_piece.Goals as goal
 

@@ -1,10 +1,10 @@
 use Rattle.std.proofs.Common.{sym, ap, subst, ◌∙◌, ◌++◌}
-use Rattle.key_codec.specs.Key.{subscript_key, short_form, IsSubscript}
+use Rattle.key_codec.specs.Key.{subscript_key, short_form, IsSubscriptWithin}
 use Rattle.key_codec.proofs.Children.{kept, reads_back, last_fits, below_key_is}
 use Rattle.key_codec.proofs.key.Key.below.Goals as goal
 
 pub push_subscript-requires : goal.push_subscript-requires
-push_subscript-requires c = subst (IsSubscript short_form) (sym c.as_slice-2.ensures) (last_fits c.args.self.now c.args.subscript.now c.requires)
+push_subscript-requires c = subst (IsSubscriptWithin short_form) (sym c.as_slice-2.ensures) (last_fits c.args.self.now c.args.subscript.now c.requires)
 
 pub invariant_of-result : goal.invariant_of-result
 invariant_of-result c =

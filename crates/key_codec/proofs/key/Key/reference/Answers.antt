@@ -1,5 +1,5 @@
 use Rattle.std.proofs.Common.{◌∙◌}
-use Rattle.key_codec.specs.BoundLaws.{equal_keys}
+use Rattle.key_codec.specs.laws.Bounds.{equal_keys}
 use Rattle.key_codec.proofs.key.Key.reference.Goals as goal
 
 pub returns : goal.returns

@@ -2,7 +2,7 @@ use Rattle.std.proofs.Common.{◌∙◌}
 use Rattle.std.specs.Ordering.{nat_cmp}
 use Rattle.std.specs.Cmp.Lexicographic.{slice_cmp}
 use Rattle.collation.specs.Order.{ref_cmp}
-use Rattle.key_codec.specs.BoundLaws.{compare_as_references}
+use Rattle.key_codec.specs.laws.Bounds.{compare_as_references}
 use Rattle.key_codec.proofs.key.KeyOrd.cmp.Goals as goal
 
 pub returns : goal.returns

@@ -1,5 +1,5 @@
 use Rattle.std.proofs.Common.{ap, subst, ◌∙◌}
-use Rattle.key_codec.specs.Key.{IsReference, key_of}
+use Rattle.key_codec.specs.Key.{IsFaultless, key_of}
 use Rattle.key_codec.proofs.Reading.{HasReference, has_reference}
 use Rattle.key_codec.proofs.Showing.{closed_parent, level_key, level_fits, last_shorter}
 use Rattle.key_codec.proofs.place.Place.level.Goals as goal
@@ -24,4 +24,4 @@ returns-clause-value c =
     ∙ ap key_of (closed_parent c.self.inside.key c.self.inside.is_open c.args.self.now c.self.view_is c.if-self.false)
 
 pub returns-clause-form : goal.returns-clause-form
-returns-clause-form c = subst IsReference (closed_parent c.self.inside.key c.self.inside.is_open c.args.self.now c.self.view_is c.if-self.false) (level_fits c.self.inside.key c.as_slice-bytes.ensures.form)
+returns-clause-form c = subst IsFaultless (closed_parent c.self.inside.key c.self.inside.is_open c.args.self.now c.self.view_is c.if-self.false) (level_fits c.self.inside.key c.as_slice-bytes.ensures.form)

@@ -1,6 +1,6 @@
 use Rattle.std.proofs.Common.{◌≡◌, Some, ◌++◌, ◌∷◌, [], ap, ◌∙◌}
 use Rattle.key_codec.specs.Key.{key_of}
-use Rattle.key_codec.specs.RangeLaws.{range_members}
+use Rattle.key_codec.specs.laws.Range.{range_members}
 use Rattle.key_codec.proofs.range.KeyRange.under.Goals as goal
 
 pub returns-clause-members : goal.returns-clause-members

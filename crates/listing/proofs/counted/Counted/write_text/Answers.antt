@@ -1,6 +1,6 @@
 use Rattle.std.proofs.Common.{refl, arith}
 use Rattle.std.proofs.lemmas.Grind.{common_steps}
-use Rattle.listing.specs.BytesLaws.{written_more}
+use Rattle.listing.specs.laws.Bytes.{written_more}
 use Rattle.listing.proofs.counted.Counted.write_text.Goals as goal
 
 pub loop-done-preserved : goal.loop-done-preserved

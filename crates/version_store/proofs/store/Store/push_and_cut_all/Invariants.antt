@@ -1,6 +1,7 @@
 use Rattle.std.proofs.Common.{◌≡◌, ◌+◌, ◌≤◌, length}
 use Rattle.std.specs.Vec.Iter.{into_iter_items}
-use Rattle.version_store.specs.Versions.{written_and_cut, ArePlaced, AreApart, AreBelow}
+use Rattle.collation.specs.Changes.{AreOnce}
+use Rattle.version_store.specs.Versions.{written_and_cut, ArePlaced, AreBelow}
 use Rattle.version_store.proofs.store.Store.push_and_cut_all.Given as goal
 
 abbrev pub invariant-loop-key : goal.invariant-loop-key
@@ -8,7 +9,7 @@ invariant-loop-key l = record {
   can_next : goal.iterator-loop-key.can_next l.key-iterator;
   is_finite : goal.iterator-loop-key.is_finite l.key-iterator;
   placed : ArePlaced l.self.versions (into_iter_items l.key-iterator);
-  apart : AreApart (into_iter_items l.key-iterator);
+  apart : AreOnce (into_iter_items l.key-iterator);
   newest : AreBelow l.stamp l.self.versions (into_iter_items l.key-iterator);
   versions : written_and_cut l.stamp l.horizon (into_iter_items l.key-iterator) l.self.versions ≡ written_and_cut l.stamp l.horizon l.fn.changes.items l.initial.self.versions;
   present : l.self.present ≡ l.initial.self.present;

@@ -1,5 +1,5 @@
 use Rattle.std.proofs.Common.{sym, ap, subst, ◌∙◌}
-use Rattle.workspace.specs.Layers.{Layer, is_killed, AreApart}
+use Rattle.workspace.specs.Layers.{Layer, is_killed, NoneUnderAnother}
 use Rattle.workspace.specs.laws.Layering.{apart_more, over_kill, decides_kill}
 use Rattle.workspace.proofs.Layered.{kills_again, kills_more, root_killed}
 use Rattle.workspace.proofs.writes.Workspace.kill.Goals as goal
@@ -21,7 +21,7 @@ pub invariant_of-self-2 : goal.invariant_of-self-2
 invariant_of-self-2 c =
     let free = ap (λ (w : Layer). is_killed w.killed c.args.key) c.self.view_is ∙ sym c.is_killed.ensures ∙ c.if-is_killed.false in
     let more = c.in_ok-kill_both.ensures.killed ∙ root_killed c.self.inside.killed c.args.key tt free in
-    subst AreApart (sym more) (apart_more c.self.inside.killed c.args.key tt c.self.invariant free)
+    subst NoneUnderAnother (sym more) (apart_more c.self.inside.killed c.args.key tt c.self.invariant free)
 
 pub returns-clause-over : goal.returns-clause-over
 returns-clause-over c =

@@ -1,0 +1,6 @@
+pub mod Blocking
+pub mod Counting
+pub mod Entries
+pub mod Order
+pub mod Resources
+pub mod Zeros

@@ -1,0 +1,10 @@
+pub mod Faults
+pub mod Front
+pub mod Literal
+pub mod Loops
+pub mod Parted
+pub mod Parts
+pub mod Place
+pub mod Reading
+pub mod Runs
+pub mod Written

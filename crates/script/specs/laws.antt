@@ -1,0 +1,4 @@
+pub mod Commands
+pub mod Line
+pub mod Locking
+pub mod Words
