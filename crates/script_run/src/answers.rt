@@ -104,7 +104,7 @@ fn run_line<W: Write>(
 ) -> Result<(), ListingFault>
     ensures ran { OnOk result (Ran (line.now ∷ []) script.old script.new (W.contents writer.old.inner) (W.contents writer.new.inner)) }
     ensures err { OnErr result (Broke (line.now ∷ []) script.old (W.contents writer.old.inner) (W.contents writer.new.inner)) }
-    ensures nonempty_line { OnOk result (writer.new.failures ≡ writer.old.failures) }
+    ensures kept { OnOk result (writer.new.failures ≡ writer.old.failures) }
     ensures counted { IsErrOf result ListingFault.Write → IsOneMore writer.old.failures writer.new.failures }
     ensures memory { IsErrOf result ListingFault.Memory → writer.new.failures ≡ writer.old.failures }
     ensures stopped { IsErrOf result ListingFault.Memory → Stopped (line.now ∷ []) script.old script.new (W.contents writer.old.inner) (W.contents writer.new.inner) }
