@@ -192,6 +192,13 @@ def one_key_while_open(file, count):
     write(file, (f"1 SET ^A={i}" for i in range(count)))
 
 
+def queue_by_transactions(file, count):
+    """Each node is taken from the front by a transaction of its own."""
+    sets(file, range(1, count + 1))
+    for i in range(1, count + 1):
+        write(file, ["1 TSTART", '1 $ORDER(^A(""))', f"1 KILL ^A({i})", "1 TCOMMIT"])
+
+
 def queue_while_open(file, count):
     """Killed nodes are kept as absences for a transaction, and each $ORDER passes over them."""
     sets(file, range(1, count + 1))
