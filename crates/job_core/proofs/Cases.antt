@@ -154,13 +154,14 @@ module _ (job : ℕ) (old : Engine) (whole : IsWhole old) where
 
   pub committed : (new : Engine) (s : Session) → finmap.get old.sessions job ≡ Some s → s.level ≤ 1 → has_been_overtaken s.work old.journal.units ≡ false → new.journal.units ≡ old.journal.units ++ Whole s.work.job s.work.exchanges ∷ []
       → new.locks ≡ (after_unit (Whole s.work.job s.work.exchanges) (after old.journal.units initial)).locks → Agreement new.store new.journal.units
-      → ((q : ℕ) (v : Session) → finmap.get old.sessions q ≡ Some v → new.store.cut ≤ v.work.start) → new.sessions ≡ finmap.remove old.sessions job → IsStep job Commit Committed old new
+      → ((q : ℕ) (v : Session) → finmap.get (finmap.remove old.sessions job) q ≡ Some v → new.store.cut ≤ v.work.start) → new.sessions ≡ finmap.remove old.sessions job → IsStep job Commit Committed old new
   committed new s is low over units locks agreed kept closed =
       let t = some s is in
       let o = whole.opened job s is in
-      let left : IsJoined new.store new.journal.units new.locks old.sessions = joined_unit old.store new.store old.journal.units new.journal.units old.locks new.locks old.sessions (Whole s.work.job s.work.exchanges) whole units agreed locks kept in
+      let others : IsJoined old.store old.journal.units old.locks (finmap.remove old.sessions job) = joined_closed old.store old.journal.units old.locks old.sessions job whole in
+      let left : IsJoined new.store new.journal.units new.locks (finmap.remove old.sessions job) = joined_unit old.store new.store old.journal.units new.journal.units old.locks new.locks (finmap.remove old.sessions job) (Whole s.work.job s.work.exchanges) others units agreed locks kept in
       step_done job Commit old new
-      (subst (IsJoined new.store new.journal.units new.locks) (sym closed) (joined_closed new.store new.journal.units new.locks old.sessions job left))
+      (subst (IsJoined new.store new.journal.units new.locks) (sym closed) left)
       Committed (outer_reply s false is low over)
       ((λ i. machine_of (units i) (closed i)) ∙ machine_closed (old.journal.units ++ Whole s.work.job s.work.exchanges ∷ []) old.sessions job
       ∙ ap (λ j. close job (add_unit (Whole j s.work.exchanges) (machine_shown old))) o.whose ∙ ap (λ v. told_commit job v (machine_shown old)) (sym t))

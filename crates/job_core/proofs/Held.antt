@@ -1,8 +1,8 @@
 -- Sessions by job as a finite map.
-use Rattle.std.proofs.Common.{[], ◌∷◌, ◌≡◌, ◌≤◌, ℕ, List, Bool, true, false, refl, sym, ap, subst, ◌∙◌, arith}
+use Rattle.std.proofs.Common.{length, [], ◌∷◌, ◌≡◌, ◌≤◌, ℕ, List, Bool, true, false, refl, sym, ap, subst, ◌∙◌, arith}
 use Rattle.std.specs.Prelude.{cond, min, Option, Some, None, IsSome, IfSome, Result, Ok, Err}
 use Rattle.std.specs.Ordering.{nat_cmp, eq_by_cmp}
-use Rattle.std.specs.Cmp.{nat_cmp_total}
+use Rattle.std.specs.Cmp.{nat_cmp_total, eq_by_cmp_equiv}
 use Rattle.std.specs.Map.{lookup}
 use Rattle.std.specs.BTreeMap.{is_at}
 use Rattle.std.specs.FinMap as finmap
@@ -41,6 +41,30 @@ session_changed f es fs m job s w was is puts done = inserted es fs m job w was 
 
 pub session_absent : (f : Session → Session) (es fs : Rows) (m : Sessions) (job : ℕ) → finmap.from_entries es ≡ m → None ≡ lookup (is_at (nat_cmp job)) es → fs ≡ es → finmap.from_entries fs ≡ with_session f job m
 session_absent f es fs m job was is same = ap finmap.from_entries same ∙ was ∙ ap (changed_at f job m) (sym (got es m job None was is))
+
+-- where there is one entry, it is the job's, if that has one
+only_there : (e : ℕ × Session) (m : Sessions) (job : ℕ) → finmap.from_entries (e ∷ []) ≡ m → IsSome (finmap.get m job) → eq_by_cmp nat_cmp job e.0 ≡ true
+only_there e m job was some = by_test (eq_by_cmp nat_cmp job e.0) refl (subst IsSome (got (e ∷ []) m job _ was refl) some)
+  where
+    by_test : (b : Bool) → eq_by_cmp nat_cmp job e.0 ≡ b → IsSome (cond b (Some e.1) None) → eq_by_cmp nat_cmp job e.0 ≡ true
+    by_test true is there = is
+    by_test false is there = absurd (cc)
+
+pub only_job : (es : Rows) (m : Sessions) (job : ℕ) → finmap.from_entries es ≡ m → length es ≡ 1 → IsSome (finmap.get m job) → finmap.remove m job ≡ finmap.empty
+only_job [] m job was one some = absurd (cc)
+only_job (e ∷ f ∷ es) m job was one some = absurd (cc)
+only_job (e ∷ []) m job was one some = sym (removed (e ∷ []) [] m job was (λ q. by_key q (eq_by_cmp nat_cmp job q) refl))
+  where
+    here : eq_by_cmp nat_cmp job e.0 ≡ true
+    here = only_there e m job was some
+
+    by_entry : (q : ℕ) (b : Bool) → eq_by_cmp nat_cmp q e.0 ≡ b → eq_by_cmp nat_cmp job q ≡ false → None ≡ cond b (Some e.1) None
+    by_entry q true is other = let laws = eq_by_cmp_equiv nat_cmp_total in let same : eq_by_cmp nat_cmp job q ≡ true = laws.congr job e.0 q here ∙ laws.symm e.0 q ∙ is in absurd (cc)
+    by_entry q false is other = refl
+
+    by_key : (q : ℕ) (b : Bool) → eq_by_cmp nat_cmp job q ≡ b → None ≡ cond b None (cond (eq_by_cmp nat_cmp q e.0) (Some e.1) None)
+    by_key q true is = refl
+    by_key q false is = by_entry q (eq_by_cmp nat_cmp q e.0) refl is
 
 -- ---- where the transactions began
 

@@ -1,11 +1,13 @@
 //! What all jobs share: store, journal, lock table and open transactions.
 ghost use Rattle.std.specs.Prelude.{◌≡◌, ◌<◌, ◌-◌, ◌^◌, [], length, IsSome, IfSome, IfErr};
+ghost use Rattle.std.specs.FinMap as finmap;
 ghost use Rattle.refusal.specs.declared.Refusal.{Refusal};
 ghost use Rattle.journal.specs.Story.{nothing_done};
 ghost use Rattle.validate_commit.specs.Agreement.{Agreement, IsNext};
 ghost use Rattle.job_core.specs.Joined.{IsWhole, IsHorizon, IsPushed, machine_shown};
 
 use crate::sessions::Sessions;
+use collation::Job;
 use collector::{Progress, turn};
 use journal::Journal;
 use lock_table::LockTable;
@@ -44,6 +46,16 @@ impl Engine {
         ensures { IsHorizon result self.now.store.present self.now.sessions }
     {
         match self.sessions.oldest() {
+            Some(stamp) => Some(stamp.min(self.store.now())),
+            None => None,
+        }
+    }
+
+    /// The same beside the job's transaction, where that is open.
+    pub(crate) fn oldest_beside(&self, job: Job) -> Option<u64>
+        ensures { IsSome (finmap.get self.now.sessions job) → IsHorizon result self.now.store.present (finmap.remove self.now.sessions job) }
+    {
+        match self.sessions.oldest_beside(job) {
             Some(stamp) => Some(stamp.min(self.store.now())),
             None => None,
         }

@@ -1,5 +1,5 @@
 //! The open transactions of all jobs.
-ghost use Rattle.std.specs.Prelude.{◌≡◌, ◌≤◌, ◌-◌, ◌^◌, ℕ, Bool, true, false, None, Some, is_some, OnOk, OnErr, IfOk, IfSome, IfErr, IsErrOf, MatchOption, length};
+ghost use Rattle.std.specs.Prelude.{◌≡◌, ◌≤◌, ◌-◌, ◌^◌, ℕ, Bool, true, false, None, Some, is_some, IsSome, OnOk, OnErr, IfOk, IfSome, IfErr, IsErrOf, MatchOption, length};
 ghost use Rattle.std.specs.Option.{option_copied};
 ghost use Rattle.std.specs.FinMap as finmap;
 ghost use Rattle.refusal.specs.declared.Refusal.{Refusal};
@@ -117,6 +117,17 @@ impl Sessions {
         ensures { MatchOption result (self.now ≡ finmap.empty) (λ stamp. AreFrom stamp self.now) }
     {
         if self.by_job.is_empty() {
+            None
+        } else {
+            Some(self.oldest)
+        }
+    }
+
+    /// The same of the other jobs' transactions, where one of them is open and the job's own is.
+    pub(crate) fn oldest_beside(&self, job: Job) -> Option<u64>
+        ensures { IsSome (finmap.get self.now job) → MatchOption result (finmap.remove self.now job ≡ finmap.empty) (λ stamp. AreFrom stamp (finmap.remove self.now job)) }
+    {
+        if self.by_job.len() == 1 {
             None
         } else {
             Some(self.oldest)

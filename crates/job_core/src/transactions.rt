@@ -57,7 +57,7 @@ impl Engine {
         requires level { IfSome (finmap.get self.old.sessions job) (λ session. session.level ≤ 1) }
         ensures { IsStep job Commit result self.old self.new }
     {
-        let oldest = self.oldest();
+        let oldest = self.oldest_beside(job);
         let verdict = match self.sessions.get(job) {
             Some(session) => commit(
                 self.alloc,

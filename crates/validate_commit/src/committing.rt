@@ -8,7 +8,7 @@ ghost use Rattle.journal.specs.Kept.{HasNoRoom};
 ghost use Rattle.journal.specs.declared.unit.Unit.TheVariants.{Whole};
 ghost use Rattle.validate_commit.specs.Agreement.{Agreement};
 ghost use Rattle.validate_commit.specs.Working.{IsWorkOn};
-ghost use Rattle.validate_commit.specs.Verdicts.{IsVerdict, IsCauseAtCommit};
+ghost use Rattle.validate_commit.specs.Verdicts.{IsVerdict, IsStoreLeft, IsCauseAtCommit};
 
 use crate::work::Work;
 use crate::writing::write;
@@ -75,8 +75,8 @@ fn prepare(
 }
 
 /// Commits a transaction: where no unit after its start touched what it has read, it becomes a unit, and its writes are
-/// done at that unit's stamp; else the verdict is `Restart`, and nothing has changed. `oldest` is the least start of the
-/// other open transactions, if there are any: versions that only older stamps see may go.
+/// done at that unit's stamp, and the store is cut; else the verdict is `Restart`, and nothing has changed. `oldest` is the
+/// least start of the other open transactions, if there are any: versions that only older stamps see go.
 ///
 /// Refusals, after which content at each stamp, versions, units, locks and the transaction are as they were:
 /// `StampsUsedUp` where the journal is full; `OutOfMemory`.
@@ -96,6 +96,7 @@ pub fn commit(
     ensures verdict { IfOk result (λ verdict. IsVerdict verdict work.now journal.old.units journal.new.units locks.old locks.new) }
     ensures agreed { Agreement store.new journal.new.units }
     ensures cut { OnOk result (store.new.cut ≤ max store.old.cut (unwrap_or oldest (length journal.new.units))) }
+    ensures left { IfOk result (λ verdict. IsStoreLeft verdict (unwrap_or oldest (length journal.new.units)) store.old store.new) }
     ensures units { OnErr result (journal.new.units ≡ journal.old.units) }
     ensures locks { OnErr result (locks.new ≡ locks.old) }
     ensures rows { OnErr result ((x : Reference) → versions_of store.new.versions x ≡ versions_of store.old.versions x) }

@@ -1,8 +1,11 @@
-use Rattle.std.proofs.Common.{sym, ap, subst, ◌∙◌, ◌≤◌}
+use Rattle.std.proofs.Common.{refl, sym, ap, subst, ◌∙◌, ◌≤◌}
+use Rattle.std.specs.Prelude.{IsSome}
+use Rattle.std.specs.FinMap as finmap
 use Rattle.collation.specs.Locks.{locks_after_commit}
+use Rattle.version_store.specs.Versions.{Stored}
 use Rattle.job_core.specs.Sessions.{machine_of}
 use Rattle.job_core.proofs.Held.{some_of}
-use Rattle.job_core.proofs.Joined.{horizon_keeps}
+use Rattle.job_core.proofs.Joined.{horizon_keeps, joined_closed}
 use Rattle.job_core.proofs.Cases.{no_commit, committed, not_committed, left_whole, overtaken}
 use Rattle.job_core.proofs.engine.Engine.commit_outermost.Goals as goal
 
@@ -22,9 +25,9 @@ pub restart-requires : goal.restart-requires
 restart-requires c =
     let told = c.commit-verdict.ensures in
     let verdict = rw (c.in-Ok-Restart.is, c.in-Ok-Restart.field-0-is) at told.verdict in
+    let left = rw (c.in-Ok-Restart.is, c.in-Ok-Restart.field-0-is) at told.left in
     left_whole c.args.job c.args.self.now c.requires.whole c.commit-verdict.new.store c.commit-verdict.new.journal c.commit-verdict.new.locks verdict.1.0 verdict.1.1 told.agreed
-    (λ q v there. horizon_keeps c.oldest-oldest.result c.args.self.now.store.present c.args.self.now.store.cut c.commit-verdict.new.store.cut _ c.args.self.now.sessions c.oldest-oldest.ensures (rw c.in-Ok-Restart.is at told.cut) q v there
-    (let o = c.requires.whole.opened q v there in o.kept))
+    (λ q v there. subst (λ (t : Stored). t.cut ≤ v.work.start) (sym left) (let o = c.requires.whole.opened q v there in o.kept))
 
 pub returns-in-Ok-Committed : goal.returns-in-Ok-Committed
 returns-in-Ok-Committed c =
@@ -32,10 +35,11 @@ returns-in-Ok-Committed c =
     let verdict = rw (c.in-Ok-Committed.is, c.in-Ok-Committed.field-0-is) at told.verdict in
     let s = c.in-Some.session.now in
     let there = sym c.in-Some.ensures in
+    let others = joined_closed c.args.self.now.store c.args.self.now.journal.units c.args.self.now.locks c.args.self.now.sessions c.args.job c.requires.whole in
     committed c.args.job c.args.self.now c.requires.whole (record { alloc = c.args.self.now.alloc; store = c.commit-verdict.new.store; journal = c.commit-verdict.new.journal; locks = c.commit-verdict.new.locks; sessions = c.close.new.self })
     s there (some_of (λ v. v.level ≤ 1) _ s there c.requires.level) verdict.0 verdict.1.0 (verdict.1.1.0 ∙ ap (locks_after_commit s.work.job) c.requires.whole.locks) told.agreed
-    (λ q v held. horizon_keeps c.oldest-oldest.result c.args.self.now.store.present c.args.self.now.store.cut c.commit-verdict.new.store.cut _ c.args.self.now.sessions c.oldest-oldest.ensures (rw c.in-Ok-Committed.is at told.cut) q v held
-    (let o = c.requires.whole.opened q v held in o.kept))
+    (λ q v held. horizon_keeps c.oldest_beside-oldest.result c.args.self.now.store.present c.args.self.now.store.cut c.commit-verdict.new.store.cut _ (finmap.remove c.args.self.now.sessions c.args.job) (c.oldest_beside-oldest.ensures (subst IsSome (sym there) refl)) (rw c.in-Ok-Committed.is at told.cut) q v held
+    (let o = others.opened q v held in o.kept))
     c.close.ensures
 
 pub returns-in-Ok-Restart : goal.returns-in-Ok-Restart
