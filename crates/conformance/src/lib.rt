@@ -1,13 +1,12 @@
-//! Tests of scripts, lines and steps. Tests of the texts below them stand in `text_tests`; what happens where memory is
-//! refused is the program `refused_memory`; the scripts of `examples/` are run by the program `example_runs`.
+//! Tests of scripts, of lines with their replies, and of steps. How lines are read is tested in `text_tests`; what happens
+//! where memory is refused is the program `refused_memory`; the scripts of `examples/` are run by the program
+//! `example_runs`.
 //!
 //! Expected values come from docs/RULES.md and docs/FORMATS.md, never from the program. Commands are made from lines.
 #![tactic(auto)]
 
 #[cfg(test)]
 mod answers;
-#[cfg(test)]
-mod columns;
 #[cfg(test)]
 mod commands;
 #[cfg(test)]
@@ -19,8 +18,6 @@ mod locks;
 #[cfg(test)]
 mod malformed;
 #[cfg(test)]
-mod readings;
-#[cfg(test)]
 mod scripts;
 #[cfg(test)]
 mod steps;
@@ -30,5 +27,3 @@ mod streams;
 mod transactions;
 #[cfg(test)]
 mod views;
-#[cfg(test)]
-mod words;

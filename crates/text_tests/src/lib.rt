@@ -1,10 +1,13 @@
 //! Tests of the language and its texts: refusals, canonic numbers, the order, literals and references as text, key
-//! bytes. Tests of scripts and steps stand in `conformance`.
+//! bytes, what a line is read as and where it is at fault, the words of `mrun`. Tests of scripts and steps stand in
+//! `conformance`.
 //!
 //! Expected values come from docs/RULES.md and docs/FORMATS.md, never from the program. A test owns at most one or two
 //! values, and a table's row is one call (docs/PROVING.md).
 #![tactic(auto)]
 
+#[cfg(test)]
+mod columns;
 #[cfg(test)]
 mod comparing;
 #[cfg(test)]
@@ -16,6 +19,10 @@ mod numbers;
 #[cfg(test)]
 mod order;
 #[cfg(test)]
+mod readings;
+#[cfg(test)]
 mod references;
 #[cfg(test)]
 mod refusals;
+#[cfg(test)]
+mod words;
