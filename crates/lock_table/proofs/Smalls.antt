@@ -97,10 +97,3 @@ unentried (x ∷ es) e = absurd (omega arith)
 pub empty_counted : (es : List (Resource × ℕ)) (m : Counts) → finmap.from_entries es ≡ m → length es ≡ 0 → (x : Resource) → count_of m x ≡ 0
 empty_counted es m was none x = ap (λ c. count_of c x) (sym was ∙ ap finmap.from_entries (unentried es none)) ∙ ap (λ o. unwrap_or o 0) (finmap.get-empty resource_cmp x)
 
-pub onward : {A E P Q : Type 0} (r : Result A E) → (P → Q) → OnOk r P → OnOk r Q
-onward (Ok a) f p = f p
-onward (Err e) f p = tt
-
-pub err_always : {A E P : Type 0} (r : Result A E) → P → OnErr r P
-err_always (Ok a) p = tt
-err_always (Err e) p = p
