@@ -1,6 +1,6 @@
 -- Rows by job as a lock state, and the trie beside them.
 use Rattle.std.proofs.Common.{◌≡◌, ◌<◌, ℕ, List, Bool, true, false, refl, sym, ap, subst, ◌∙◌, ◌⊎◌, inl, inr}
-use Rattle.std.specs.Prelude.{cond, Option, Some, None, IsSome, unwrap_or, is_some, IfErr, IfOk, Result, Ok, Err, OnOk, OnErr}
+use Rattle.std.specs.Prelude.{cond, Option, Some, None, IsSome, unwrap_or, is_some, IfErr, Result}
 use Rattle.std.specs.Ordering.{nat_cmp, is_eq, eq_by_cmp}
 use Rattle.std.specs.Cmp.{nat_cmp_total, tied_itself}
 use Rattle.std.specs.Option.{option_map}

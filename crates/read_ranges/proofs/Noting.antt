@@ -1,5 +1,5 @@
 -- What a command has read lies between two cuts, and nothing else does.
-use Rattle.std.proofs.Common.{◌≡◌, ℕ, Bool, true, false, List, [], refl, sym, ap, subst, ◌∙◌}
+use Rattle.std.proofs.Common.{◌≡◌, ℕ, Bool, true, false, List, [], sym, ap, subst, ◌∙◌}
 use Rattle.std.specs.Prelude.{not, ◌&&◌, ◌||◌, Option, Result, Ok, Err, OnOk}
 use Rattle.std.proofs.Math.Bool.{not-not}
 use Rattle.collation.specs.declared.direction.Direction.{Direction}
@@ -11,12 +11,12 @@ use Rattle.collation.specs.Answers.{follows, is_forward}
 use Rattle.command.specs.declared.access.DataCommand.{DataCommand}
 use Rattle.command.specs.declared.access.DataCommand.TheVariants.{Merge, Look}
 use Rattle.command.specs.declared.access.Look.{Look as LookCommand}
-use Rattle.command.specs.declared.access.Look.TheVariants.{Data, Get, Order, Query}
+use Rattle.command.specs.declared.access.Look.TheVariants.{Data, Get}
 use Rattle.command.specs.declared.access.Answer.{Answer}
-use Rattle.command.specs.declared.access.Answer.TheVariants.{Done, Value, Number, Found}
+use Rattle.command.specs.declared.access.Answer.TheVariants.{Value, Found}
 use Rattle.journal.specs.Touching.{read_set, order_read, query_read}
 use Rattle.globals.specs.declared.cut.Cut.{Cut}
-use Rattle.globals.specs.Fitting.{IsSiblingOrNone, IsOrderAnswer, IsQueryAnswer}
+use Rattle.globals.specs.Fitting.{IsQueryAnswer}
 use Rattle.serial.specs.ReadRanges.{is_from_level, level_end, root_of}
 use Rattle.serial.specs.laws.ReadRanges.{reads_range}
 use Rattle.read_ranges.specs.declared.range.ReadRange.{ReadRange}
