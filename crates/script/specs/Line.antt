@@ -4,6 +4,7 @@ use Rattle.std.specs.Prelude.{◌≡◌, ⊤, ℕ, Bool, ◌&&◌, ◌||◌, ◌
 use Rattle.refusal.specs.declared.Refusal.{Refusal}
 use Rattle.refusal.specs.declared.Refusal.TheVariants.{BadLine, BadJob, OutOfMemory}
 use Rattle.command.specs.declared.request.Command.{Command}
+use Rattle.m_text.specs.Reading.{◌>>=◌}
 use Rattle.m_text.specs.Literal.{front_digits, past_digits, number_from}
 use Rattle.m_text.specs.Place.{unless}
 use Rattle.script.specs.Commands.{begins_blank, past_blank, blank_at, command_at, command_fault}

@@ -7,7 +7,7 @@ use Rattle.collation.specs.Bytes as byte
 use Rattle.collation.specs.Reference.{Resource}
 use Rattle.collation.specs.declared.lock.LockCommand.{LockCommand}
 use Rattle.collation.specs.declared.lock.LockCommand.TheVariants.{Release, Only, More, Fewer}
-use Rattle.m_text.specs.Reading.{begins_with_byte, parted_at, then_closing}
+use Rattle.m_text.specs.Reading.{◌>>=◌, begins_with_byte, parted_at, then_closing}
 use Rattle.m_text.specs.Literal.{front_digits, past_digits}
 use Rattle.m_text.specs.Place.{named_at, ref_fault}
 use Rattle.script.specs.declared.lock.Form.{Form}
