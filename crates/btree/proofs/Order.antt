@@ -41,11 +41,6 @@ each_insert P zero xs x s p = (p, s)
 each_insert P (suc i) [] x s p = (p, tt)
 each_insert P (suc i) (y ∷ xs) x s p = (s.0, each_insert P i xs x s.1 p)
 
-pub any_default : {A : Type 0} (xs : List A) (i : ℕ) (d e : A) → i < length xs → get_or xs i d ≡ get_or xs i e
-any_default [] i d e p = absurd (omega arith)
-any_default (x ∷ xs) zero d e p = refl
-any_default (x ∷ xs) (suc i) d e p = any_default xs i d e (omega arith)
-
 module _ {K V : Type 0} (R : K → K → Ordering) where
   -- what holds at a place and passes down the order holds before it
   pub taken_down : (P : K × V → Type 0) → ((x y : K × V) → R x.0 y.0 ≡ Less → P y → P x) → (es : List (K × V)) (i : ℕ) (d : K × V) → Ascends R es → i < length es → P (get_or es i d) → Each P (take (suc i) es)

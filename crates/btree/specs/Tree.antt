@@ -1,6 +1,5 @@
 -- What a tree is seen as, and what holds of its root.
 use Rattle.std.specs.Prelude.{ℕ, suc, ◌<◌, ◌≤◌, List, refl}
-use Rattle.std.specs.FinMap.{FinMap, from_sorted}
 use Rattle.std.specs.Coded.{Coded, code_by, coded×, coded_ℕ, coded_list}
 use Rattle.std.specs.declared.cmp.Ordering.{Ordering}
 use Rattle.btree.specs.Order.{Ascends}
@@ -24,7 +23,3 @@ pub record IsRoot {K V : Type 0} (R : K → K → Ordering) (root : Branch K V) 
   pub most : root.count ≤ 32
   pub full : IsFull root
   pub inner : 0 < root.height → 0 < root.count
-
--- the finite map of these pairs
-abbrev pub map_of : {K V : Type 0} (R : K → K → Ordering) → Content K V → FinMap R V
-map_of R c = from_sorted c.pairs

@@ -4,7 +4,7 @@ ghost use Rattle.std.specs.Option.{option_copied};
 ghost use Rattle.command.specs.Data.{data_refusal, data_reply, look_refusal, look_reply, found_reply};
 ghost use Rattle.command.specs.declared.access.Look.TheVariants.{Order as order_command};
 ghost use Rattle.globals.specs.Answering.{IsRuleOrMemory, early_refusal, copies_of};
-ghost use Rattle.globals.specs.Fitting.{IsAnswerOf, IsLookAnswer, IsOrderAnswer, IsQueryAnswer};
+ghost use Rattle.globals.specs.Fitting.{IsAnswerOf, IsLookAnswer, IsOrderAnswer};
 
 use crate::{OrderedView, data, merge_list, order, query};
 use collation::{Direction, Text};

@@ -1,6 +1,6 @@
 -- A log and its draft, step by step.
 use Rattle.std.proofs.Common.{inl, inr, drop, length-append, append-nil, ◌≡◌, ℕ, ◌+◌, ◌<◌, List, [], ◌∷◌, ◌++◌, length, refl, ap, sym, ◌∙◌, subst, arith, suc, Option, Some, None}
-use Rattle.std.specs.Prelude.{IsSome, IfSome, option_map}
+use Rattle.std.specs.Prelude.{IsSome, IfSome}
 use Rattle.std.specs.List.{flat_map}
 use Rattle.std.proofs.lemmas.List.{drop_at}
 use Rattle.std.proofs.lemmas.Option.{some_pair_parts}
@@ -29,19 +29,10 @@ written_is draft blank job u e w fits owner =
     let written : draft ≡ unit_bytes u = w ∙ ap (λ t. t ++ unit_bytes u) e in
     record { is = ap unit_in written ∙ unit_again u fits; written = written; fits = fits; owner = owner }
 
--- a draft's job is that of its unit
-pub owner_of : (job : Option ℕ) (draft : List ℕ) → IsUnitDraft job draft → job ≡ option_map job_of (drafted job draft)
-owner_of None draft h = refl
-owner_of (Some job) draft h = ap (λ j. Some j) h.1.owner ∙ ap (option_map job_of) (sym h.1.is)
-
 -- and its bytes are those of its unit
 pub bytes_of : (job : Option ℕ) (draft : List ℕ) → IsUnitDraft job draft → IfSome (drafted job draft) (λ u. draft ≡ unit_bytes u)
 bytes_of None draft h = tt
 bytes_of (Some job) draft h = subst (λ o. IfSome o (λ u. draft ≡ unit_bytes u)) (sym h.1.is) h.1.written
-
-pub fits_of : (job : Option ℕ) (draft : List ℕ) → IsUnitDraft job draft → IfSome (drafted job draft) FitsUnit
-fits_of None draft h = tt
-fits_of (Some job) draft h = subst (λ o. IfSome o FitsUnit) (sym h.1.is) h.1.fits
 
 -- ---- a unit more
 
@@ -77,10 +68,6 @@ pushed_keeps (Some u) bytes new count newest some h = (h.stands, h.ends)
 pub pushed_units : (o : Option JournalUnit) (bytes new : List ℕ) (count newest : ℕ) → IfSome o (Pushed bytes new count newest) → IfSome o (λ u. units_in (count + 1) new ≡ units_in count bytes ++ u ∷ [])
 pushed_units None bytes new count newest h = tt
 pushed_units (Some u) bytes new count newest h = h.units
-
--- the same log with more room
-pub keeps_same : (log bytes : List ℕ) (count newest : ℕ) → bytes ≡ log → Stands log count (units_in count log) × EndsAt log newest (units_in count log) → Stands bytes count (units_in count bytes) × EndsAt bytes newest (units_in count bytes)
-keeps_same log bytes count newest e h = subst (λ t. Stands t count (units_in count t) × EndsAt t newest (units_in count t)) (sym e) h
 
 -- ---- reading
 

@@ -1,5 +1,5 @@
 -- Where one key goes on from another, and with which subscript.
-use Rattle.std.proofs.Common.{◌≡◌, ◌≢◌, ℕ, append-nil, ◌+◌, ◌-◌, ◌≤◌, Bool, List, [], ◌∷◌, ◌++◌, true, false, refl, ap, sym, subst, ◌∙◌, Option, Some, None, cond, Bor, length, take, drop, arith, zero, suc}
+use Rattle.std.proofs.Common.{◌≡◌, ◌≢◌, ℕ, append-nil, ◌+◌, ◌-◌, ◌≤◌, Bool, List, [], ◌∷◌, ◌++◌, true, false, refl, ap, sym, subst, ◌∙◌, Option, Some, None, cond, Bor, length, take, drop, arith}
 use Rattle.std.proofs.lemmas.List.{append_cancel_left}
 use Rattle.std.proofs.lemmas.Bool.{and_from}
 use Rattle.std.proofs.lemmas.Bool.Decides.{nat_tests, Decides-eqb}
@@ -16,8 +16,7 @@ use Rattle.collation.specs.Reference.{Reference}
 use Rattle.collation.specs.Database.{begins_with, is_under}
 use Rattle.collation.specs.Levels.{child, child_of, without_last}
 use Rattle.key_codec.specs.Key.{IsFaultless, IsSubscriptWithin, key_of, short_form, subscript_key, subscripts_key, AreSubscriptsWithin}
-use Rattle.key_codec.specs.laws.Key.{short_form_is, are_subscripts, no_fault, not_over, not_too_many, fits_short, begins_under, has_tag, key_of-append, one_subscript, under_begins}
-use Rattle.key_codec.specs.Reading.{BeginsWith, BeginsWithNone}
+use Rattle.key_codec.specs.laws.Key.{short_form_is, are_subscripts, no_fault, not_over, not_too_many, fits_short, begins_under, key_of-append, under_begins}
 use Rattle.key_codec.specs.laws.Bounds.{equal_keys}
 use Rattle.key_codec.specs.Back.{reference_of}
 use Rattle.key_codec.specs.laws.Back.{key_again, is_reference_again, reference_of_key}
@@ -72,23 +71,6 @@ behind r x rest a b e =
       all = on.all;
       child = ap (λ t. cond t (child r.subscripts x.subscripts) None) named ∙ on.child;
     }
-
--- the subscript that is read behind the key is the child, and there is none where none can be read
-pub child_read : (r x : Reference) (rest s u : List ℕ) → Behind r x rest → BeginsWith rest s u → Some s ≡ child_of r x
-child_read r x rest s u is begins = at is.more is.bounds is.bytes is.child
-  where
-    at : (more : List (List ℕ)) → AreSubscriptsWithin short_form more → rest ≡ subscripts_key short_form more → child_of r x ≡ first more → Some s ≡ child_of r x
-    at [] a e c = let key = has_tag short_form s in let none : [] ≡ (key.tag ∷ key.rest) ++ u = sym e ∙ begins.1 ∙ ap (λ t. t ++ u) key.is in absurd (cc)
-    at (m ∷ more) a e c =
-        let one = one_subscript short_form short_form_is s m u (subscripts_key short_form more) begins.0 a.0 (sym begins.1 ∙ e) in
-        ap Some one.0 ∙ sym c
-
-pub child_unread : (r x : Reference) (rest : List ℕ) → Behind r x rest → BeginsWithNone rest → None ≡ child_of r x
-child_unread r x rest is none = at is.more is.bounds is.bytes is.child
-  where
-    at : (more : List (List ℕ)) → AreSubscriptsWithin short_form more → rest ≡ subscripts_key short_form more → child_of r x ≡ first more → None ≡ child_of r x
-    at [] a e c = sym c
-    at (m ∷ more) a e c = absurd (none m (subscripts_key short_form more) a.0 e)
 
 -- what isn't under a reference has no child of it on its way
 child_begins : (rs xs : List (List ℕ)) → is_some (child rs xs) ≡ true → begins_with xs rs ≡ true
@@ -159,17 +141,6 @@ kept bytes r is e = record { key = sym (key_again bytes r is e); form = is_refer
 pub reads_back : (bytes : List ℕ) (r : Reference) → IsFaultless r → bytes ≡ key_of r → reference_of bytes ≡ r
 reads_back bytes r is e = ap reference_of e ∙ reference_of_key r is
 
--- all but the last of a reference's subscripts
-take_all_but_last : (n : ℕ) (xs : List (List ℕ)) → n + 1 ≡ length xs → take n xs ≡ without_last xs
-take_all_but_last n [] e = absurd (omega arith)
-take_all_but_last zero (x ∷ []) e = refl
-take_all_but_last (suc n) (x ∷ []) e = absurd (omega arith)
-take_all_but_last zero (x ∷ y ∷ ys) e = absurd (omega arith)
-take_all_but_last (suc n) (x ∷ y ∷ ys) e = ap (λ zs. x ∷ zs) (take_all_but_last n (y ∷ ys) (omega arith))
-
-pub take_front : (xs : List (List ℕ)) → 1 ≤ length xs → take (length xs - 1) xs ≡ without_last xs
-take_front xs l = take_all_but_last (length xs - 1) xs (omega arith)
-
 front_shorter : (xs : List (List ℕ)) → length (without_last xs) ≤ length xs
 front_shorter [] = omega arith
 front_shorter (x ∷ []) = omega arith
@@ -185,17 +156,6 @@ front_faultless xs e =
     let few : nat_lt 31 (length xs) ≡ false = (not_over (nat_lt 31 (length xs)) _ e).0 in
     let fewer : nat_lt 31 (length (without_last xs)) ≡ false = grind (arith, nat_tests, front_shorter xs) in
     rw fewer (no_fault (without_last xs) (front_some xs (are_subscripts xs (not_too_many xs e))))
-
--- one level up from a reference
-pub record IsAbove (r a : Reference) : Type 0 where
-  pub same : a ≡ record { name = r.name; subscripts = without_last r.subscripts }
-  pub form : IsFaultless (record { name = r.name; subscripts = without_last r.subscripts })
-
-pub above_is : (r : Reference) (name : List ℕ) (subscripts : List (List ℕ)) → name ≡ r.name → is_name r.name ≡ true → subscripts ≡ without_last r.subscripts → reference_fault subscripts ≡ None → IsAbove r (record { name = name; subscripts = subscripts })
-above_is r name subscripts n is s f = record {
-  same = λ i. record { name = n i; subscripts = s i };
-  form = record { name = is; subscripts = ap reference_fault (sym s) ∙ f };
-}
 
 -- ---- one level below
 

@@ -52,18 +52,6 @@ other_not_canonic bytes text rest h e =
     let has : HasText bytes h.subscript h.rest = has_text bytes h.subscript h.rest h.form h.key in
     ap is_canonic (sym same) ∙ has.other
 
--- no other first byte
-pub record IsTag (tag : ℕ) : Type 0 where
-  pub low : 2 ≤ tag
-  pub high : tag ≤ 5
-
-pub tagged : (bytes : List ℕ) (tag : ℕ) (behind : List ℕ) → HasFirst bytes → bytes ≡ tag ∷ behind → IsTag tag
-tagged bytes tag behind h e =
-    let key : HasTag (subscript_key short_form h.subscript) = has_tag short_form h.subscript in
-    let both : tag ∷ behind ≡ key.tag ∷ (key.rest ++ h.rest) = sym e ∙ h.key ∙ ap (λ t. t ++ h.rest) key.is in
-    let same : tag ≡ key.tag = cc in
-    record { low = omega (arith, key.low, same); high = omega (arith, key.high, same) }
-
 pub not_empty : (bytes : List ℕ) → HasFirst bytes → bytes ≡ [] → ⊥
 not_empty bytes h e =
     let key : HasTag (subscript_key short_form h.subscript) = has_tag short_form h.subscript in
@@ -209,9 +197,6 @@ rest_less keys h =
 -- the level of a place that isn't open
 pub closed_parent : (k : Reference) (o : Bool) (p : Spot) → record { reference = k; is_open = o } ≡ p → o ≡ false → record { name = k.name; subscripts = without_last k.subscripts } ≡ parent_of p
 closed_parent k o p v e = ap (λ b. cond b k (record { name = k.name; subscripts = without_last k.subscripts })) (sym e) ∙ ap parent_of v
-
-pub open_parent : (k : Reference) (o : Bool) (p : Spot) → record { reference = k; is_open = o } ≡ p → o ≡ true → k ≡ parent_of p
-open_parent k o p v e = ap (λ b. cond b k (record { name = k.name; subscripts = without_last k.subscripts })) (sym e) ∙ ap parent_of v
 
 pub child_first_ok : {E : Type 0} (r x : Reference) (rest : List ℕ) (o : Result (Option (List ℕ)) E) → Behind r x rest → IfOk o (λ c. c ≡ first (subscripts_up_to (length rest) rest)) → IfOk o (λ c. c ≡ child_of r x)
 child_first_ok r x rest (Ok o) is e = child_first r x rest o is e

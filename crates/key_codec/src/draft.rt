@@ -1,5 +1,5 @@
 //! Keys while their references are read, subscript by subscript.
-ghost use Rattle.std.specs.Prelude.{◌≡◌, ◌==◌, ◌<◌, ◌≤◌, ◌++◌, ◌+◌, [], IfErr, IfOk, MatchResult, None, Some, OnOk, false, length, true};
+ghost use Rattle.std.specs.Prelude.{◌≡◌, ◌<◌, ◌≤◌, ◌++◌, ◌+◌, [], IfErr, IfOk, None, Some, OnOk, false, true};
 ghost use Rattle.std.specs.Option.{option_or};
 ghost use Rattle.collation.specs.Limits.{most_subscripts};
 ghost use Rattle.collation.specs.Reference.{Reference};

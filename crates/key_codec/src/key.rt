@@ -1,12 +1,11 @@
 //! Keys: references that are kept as their key bytes.
-ghost use Rattle.std.specs.Prelude.{◌≡◌, None, [], ◌∷◌, ◌++◌, ◌≢◌, ◌≤◌, ◌⊎◌, List, ℕ, IfErr, IfNone, IfOk, IfSome, OnOk, MatchResult, false, true, length, nat_lt};
+ghost use Rattle.std.specs.Prelude.{◌≡◌, None, [], ◌∷◌, ◌++◌, ◌≢◌, ◌≤◌, ◌⊎◌, List, ℕ, IfNone, IfOk, IfSome, MatchResult, false, true, length, nat_lt};
 ghost use Rattle.collation.specs.Limits.{most_subscripts};
 ghost use Rattle.collation.specs.Reference.{Reference};
-ghost use Rattle.collation.specs.Faults.{reference_fault};
 ghost use Rattle.collation.specs.Name.{is_name};
 ghost use Rattle.collation.specs.Database.{is_under as is_under_spec};
 ghost use Rattle.collation.specs.Answers.{moved as moved_spec};
-ghost use Rattle.collation.specs.Levels.{child_of, without_last as front_spec};
+ghost use Rattle.collation.specs.Levels.{child_of};
 ghost use Rattle.key_codec.specs.Back.{reference_of};
 ghost use Rattle.key_codec.specs.Kept.{Keeps};
 ghost use Rattle.key_codec.specs.Key as spec;

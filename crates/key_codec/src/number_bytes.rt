@@ -1,5 +1,5 @@
 //! A number from the bytes of its place and digits.
-ghost use Rattle.std.specs.Prelude.{◌≡◌, ◌<◌, ◌≤◌, ◌↔◌, ◌+◌, ◌*◌, ◌++◌, ◌&&◌, ℕ, IfNone, IfOk, IfSome, IsTrue, OnOk, map, nat_le, replicate};
+ghost use Rattle.std.specs.Prelude.{◌≡◌, ◌<◌, ◌≤◌, ◌↔◌, ◌+◌, ◌*◌, ◌++◌, ◌&&◌, ℕ, IfNone, IfSome, IsTrue, OnOk, map, nat_le, replicate};
 ghost use Rattle.std.specs.List.{list_all};
 ghost use Rattle.canonic_number.specs.Number.{scale};
 ghost use Rattle.canonic_number.specs.Place.{pointed, signed, written_at};

@@ -3,7 +3,7 @@ ghost use Rattle.std.specs.Prelude.{◌≡◌, ◌++◌, ◌∷◌, IfErr, IfNon
 ghost use Rattle.std.specs.List.{list_all, position};
 ghost use Rattle.collation.specs.Reference.{Reference};
 ghost use Rattle.key_codec.specs.Key as spec;
-ghost use Rattle.key_codec.specs.Key.{short_form, IsFaultless, IsSubscriptWithin, AreSubscriptsWithin};
+ghost use Rattle.key_codec.specs.Key.{short_form, IsFaultless, AreSubscriptsWithin};
 
 use crate::END;
 use crate::read_subscript::read_subscript;

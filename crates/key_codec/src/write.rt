@@ -1,5 +1,5 @@
 //! The key of a reference.
-ghost use Rattle.std.specs.Prelude.{◌≡◌, ◌≤◌, ◌++◌, ◌-◌, IfErr, IfOk, OnOk, None, [], ◌∷◌, map};
+ghost use Rattle.std.specs.Prelude.{◌≡◌, ◌≤◌, ◌++◌, ◌-◌, IfErr, IfOk, OnOk, None, map};
 ghost use Rattle.canonic_number.specs.Number.{limit, scale};
 ghost use Rattle.collation.specs.Faults.{reference_fault, subscripts_fault};
 ghost use Rattle.key_codec.specs.Bounds.{KeepsOrder, IsPrefixOf};

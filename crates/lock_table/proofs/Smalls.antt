@@ -1,6 +1,6 @@
 -- Counts as std's map keeps them.
 use Rattle.std.proofs.Common.{◌≡◌, ◌≤◌, ◌<◌, ℕ, List, [], ◌∷◌, length, Bool, true, false, refl, sym, ap, subst, ◌∙◌, arith}
-use Rattle.std.specs.Prelude.{cond, max, min, Option, Some, None, IsSome, unwrap_or, Result, Ok, Err, OnOk, OnErr}
+use Rattle.std.specs.Prelude.{cond, max, min, Option, Some, None, IsSome, unwrap_or}
 use Rattle.std.specs.Ordering.{eq_by_cmp}
 use Rattle.std.specs.Map.{lookup}
 use Rattle.std.specs.BTreeMap.{is_at}
@@ -96,11 +96,3 @@ unentried (x ∷ es) e = absurd (omega arith)
 -- a map without entries
 pub empty_counted : (es : List (Resource × ℕ)) (m : Counts) → finmap.from_entries es ≡ m → length es ≡ 0 → (x : Resource) → count_of m x ≡ 0
 empty_counted es m was none x = ap (λ c. count_of c x) (sym was ∙ ap finmap.from_entries (unentried es none)) ∙ ap (λ o. unwrap_or o 0) (finmap.get-empty resource_cmp x)
-
-pub onward : {A E P Q : Type 0} (r : Result A E) → (P → Q) → OnOk r P → OnOk r Q
-onward (Ok a) f p = f p
-onward (Err e) f p = tt
-
-pub err_always : {A E P : Type 0} (r : Result A E) → P → OnErr r P
-err_always (Ok a) p = tt
-err_always (Err e) p = p

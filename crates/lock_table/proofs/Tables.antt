@@ -1,6 +1,6 @@
 -- Rows by job as a lock state, and the trie beside them.
 use Rattle.std.proofs.Common.{◌≡◌, ◌<◌, ℕ, List, Bool, true, false, refl, sym, ap, subst, ◌∙◌, ◌⊎◌, inl, inr}
-use Rattle.std.specs.Prelude.{cond, Option, Some, None, IsSome, unwrap_or, is_some, IfErr, IfOk, Result, Ok, Err, OnOk, OnErr}
+use Rattle.std.specs.Prelude.{cond, Option, Some, None, IsSome, unwrap_or, is_some, IfErr, Result}
 use Rattle.std.specs.Ordering.{nat_cmp, is_eq, eq_by_cmp}
 use Rattle.std.specs.Cmp.{nat_cmp_total, tied_itself}
 use Rattle.std.specs.Option.{option_map}
@@ -15,6 +15,7 @@ use Rattle.collation.specs.laws.Order.{is_equal}
 use Rattle.collation.specs.Locks.{count_of, JobLocks, LockState, no_locks, locks_of, is_blocked, changed, job_wants}
 use Rattle.collation.specs.laws.Blocking.{blocked_tells}
 use Rattle.lock_trie.specs.Held.{Held, held_count, IsHeldByAnother}
+use Rattle.lock_trie.specs.laws.Results.{if_err_onward}
 use Rattle.lock_trie.specs.laws.Mapped.{seen, is_inserted, is_removed}
 use Rattle.lock_table.specs.declared.row.Form.{Form}
 use Rattle.lock_table.specs.Rows.{want_by, is_full_by, IsKept, AreOthersSame}
@@ -79,10 +80,6 @@ row_joined before trie es fs job l joined puts others kept other x = by_test (eq
     by_test : (b : Bool) → eq_by_cmp nat_cmp other job ≡ b → held_count trie other x ≡ count_of (locks_of other (finmap.from_entries fs)).held x
     by_test true e = ap (λ j. held_count trie j x) (same_job other job e) ∙ kept x ∙ ap (λ s. count_of s.held x) (sym (now true e))
     by_test false e = others other x (other_job other job e) ∙ joined other x ∙ ap (λ s. count_of s.held x) (sym (now false e))
-
--- a job without an entry, or one that has nothing, comes or goes
-pub made_joined : (trie : Held) (es fs : List (ℕ × JobLocks)) (job : ℕ) → RowsMatchTrie trie (finmap.from_entries es) → None ≡ lookup (is_at (nat_cmp job)) es → Puts es fs job no_locks → RowsMatchTrie trie (finmap.from_entries fs)
-made_joined trie es fs job joined is puts = row_joined trie trie es fs job no_locks joined puts (λ other x apart. refl) (λ x. joined job x ∙ ap (λ o. count_of (unwrap_or o no_locks).held x) (got es (finmap.from_entries es) job None refl is))
 
 pub removed_joined : (trie : Held) (m n : LockState) (job : ℕ) → RowsMatchTrie trie m → locks_of job m ≡ no_locks → n ≡ finmap.remove m job → RowsMatchTrie trie n
 removed_joined trie m n job joined none is other x = joined other x ∙ ap (λ s. count_of s.held x) (by_test (eq_by_cmp nat_cmp other job) refl)
@@ -182,18 +179,6 @@ blocked_is trie m job n false joined some none = by_test (is_blocked m job n) re
         absurd (none refl (t.0, t.1, (t.2.0, subst (λ c. 0 < c) (sym (joined t.0 t.2.0)) t.2.1, t.2.2)))
     by_test false e = sym e
 
-pub onward : {A E P Q : Type 0} (r : Result A E) → (P → Q) → OnOk r P → OnOk r Q
-onward (Ok a) f p = f p
-onward (Err e) f p = tt
-
-pub err_onward : {A E P Q : Type 0} (r : Result A E) → (P → Q) → OnErr r P → OnErr r Q
-err_onward (Ok a) f p = tt
-err_onward (Err e) f p = f p
-
-pub if_err_onward : {A E : Type 0} {P Q : E → Type 0} (r : Result A E) → ((e : E) → P e → Q e) → IfErr r P → IfErr r Q
-if_err_onward (Ok a) f p = tt
-if_err_onward (Err e) f p = f e p
-
 pub full_along : (form : Form) (ns : List Resource) (l s : JobLocks) (b : Bool) → l ≡ s → is_full_by form ns l.want ≡ b → is_full_by form ns s.want ≡ b
 full_along form ns l s b is full = ap (λ (j : JobLocks). is_full_by form ns j.want) (sym is) ∙ full
 
@@ -227,10 +212,6 @@ copied_some f (Some a) = refl
 pub refused_by : (b : Bool) (refusal : Refusal) → (refusal ≡ OutOfMemory) ⊎ ((refusal ≡ LockCountFull) × (b ≡ true)) → (refusal ≡ OutOfMemory) ⊎ (cond b (Some LockCountFull) None ≡ Some refusal)
 refused_by b refusal (inl e) = inl e
 refused_by b refusal (inr p) = inr (ap (λ t. cond t (Some LockCountFull) None) p.1 ∙ ap Some (sym p.0))
-
-pub if_ok_onward : {A E : Type 0} {P Q : A → Type 0} (r : Result A E) → ((a : A) → P a → Q a) → IfOk r P → IfOk r Q
-if_ok_onward (Ok a) f p = f a p
-if_ok_onward (Err e) f p = tt
 
 pub wants_nothing : (es : List (ℕ × JobLocks)) (m : LockState) (job : ℕ) → finmap.from_entries es ≡ m → None ≡ lookup (is_at (nat_cmp job)) es → finmap.empty ≡ (locks_of job m).want
 wants_nothing es m job was is = sym (ap (λ o. (unwrap_or o no_locks).want) (got es m job None was is))

@@ -1,7 +1,6 @@
 //! LOCK as a command: what it replies, whether it is refused, and what it leaves.
 ghost use Rattle.std.specs.Prelude.{true, false, ◌⊎◌, ◌≡◌, None, Some, OnOk, OnErr, IfErr};
 ghost use Rattle.std.specs.List.{list_any};
-ghost use Rattle.std.specs.FinMap as finmap;
 ghost use Rattle.collation.specs.Locks.{locks_of, lock_reply, lock_refusal, locks_after};
 ghost use Rattle.lock_table.specs.Counted.{is_over};
 

@@ -1,5 +1,5 @@
 //! What a job keeps in a transaction beside its held counts, and what LOCK does there.
-ghost use Rattle.std.specs.Prelude.{true, false, ◌⊎◌, if◌then◌else◌, ◌≡◌, ◌≤◌, ◌-◌, ℕ, min, OnOk, OnErr, IfErr, IfOk};
+ghost use Rattle.std.specs.Prelude.{true, false, ◌⊎◌, if◌then◌else◌, ◌≡◌, ◌≤◌, ◌-◌, min, OnOk, OnErr, IfErr, IfOk};
 ghost use Rattle.std.specs.List.{list_any};
 ghost use Rattle.std.specs.FinMap as finmap;
 ghost use Rattle.collation.specs.Limits.{most_locks};

@@ -1,5 +1,5 @@
 //! What a job holds in the trie is brought up to its counts, or down to them.
-ghost use Rattle.std.specs.Prelude.{true, false, ◌⊎◌, if◌then◌else◌, ◌≡◌, ◌≤◌, ◌<◌, ◌+◌, max, min, ℕ, OnOk, OnErr, IfErr};
+ghost use Rattle.std.specs.Prelude.{true, ◌⊎◌, if◌then◌else◌, ◌≡◌, ◌≤◌, ◌<◌, ◌+◌, max, min, OnOk, OnErr, IfErr};
 ghost use Rattle.std.specs.List.{list_any};
 ghost use Rattle.collation.specs.Limits.{most_locks};
 ghost use Rattle.collation.specs.Reference.{Resource};

@@ -1,11 +1,9 @@
 //! One job's counts.
-ghost use Rattle.std.specs.Prelude.{true, false, ◌⊎◌, if◌then◌else◌, ◌≡◌, ◌≤◌, ℕ, Bool, None, Some, OnOk, OnErr, IfErr, IfOk};
-ghost use Rattle.std.specs.List.{list_any};
-ghost use Rattle.std.specs.FinMap as finmap;
+ghost use Rattle.std.specs.Prelude.{true, false, ◌⊎◌, ◌≡◌, None, Some, OnOk, OnErr, IfErr, IfOk};
 ghost use Rattle.collation.specs.Reference.{Resource};
 ghost use Rattle.collation.specs.Locks.{count_of, no_locks, job_wants, job_commits, job_goes_back};
 ghost use Rattle.lock_table.specs.Counted.{is_listed, less};
-ghost use Rattle.lock_table.specs.Rows.{AreWithin, inside_locks, in_its_mode, enters, want_by, want_in, is_full_by, IsHeldIn, IsInsideSame, IsKept, AreOthersSame};
+ghost use Rattle.lock_table.specs.Rows.{AreWithin, inside_locks, enters, want_by, is_full_by, IsHeldIn, IsInsideSame, IsKept, AreOthersSame};
 
 use crate::counts::Counts;
 use crate::inside::{Inside, fewer, more, only, wanted_among};

@@ -1,5 +1,5 @@
 //! The counts of all jobs, and the trie of what they hold.
-ghost use Rattle.std.specs.Prelude.{true, false, not, ◌⊎◌, if◌then◌else◌, ◌≡◌, ℕ, Bool, None, Some, is_some, OnOk, OnErr, IfErr, IfOk};
+ghost use Rattle.std.specs.Prelude.{true, false, ◌⊎◌, if◌then◌else◌, ◌≡◌, None, Some, is_some, OnOk, OnErr, IfErr, IfOk};
 ghost use Rattle.std.specs.List.{list_any};
 ghost use Rattle.std.specs.FinMap as finmap;
 ghost use Rattle.collation.specs.declared.lock.LockCommand.TheVariants.{Release, Only, More, Fewer};

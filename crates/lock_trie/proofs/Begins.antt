@@ -53,9 +53,6 @@ put_others old new path job c is x other apart = is x other ∙ by_test (eq_by_c
 
 -- ---- counts along a path
 
-pub along_none : (f : ℕ → ℕ) (old : Path → ℕ → ℕ) (path : Path) (job : ℕ) → IsAlong f old old path job 0
-along_none f old path job = record { on = λ x b h. absurd (omega arith); off = λ x other no_. refl }
-
 pub along_next : (f : ℕ → ℕ) (old now next : Path → ℕ → ℕ) (path : Path) (job i : ℕ) → i ≤ length path → IsAlong f old now path job i → IsPutAt now next (take i path) job (f (now (take i path) job)) → IsAlong f old next path job (i + 1)
 along_next f old now next path job i h along put = record { on = on; off = off }
   where

@@ -103,9 +103,6 @@ some_tallied P (y ∷ held) h = by_test (P y) refl h (some_tallied P held)
 
 -- ---- counts at and below
 
-pub tallied_none : (own within : Path → ℕ) → ((x : Path) → own x ≡ 0) → ((x : Path) → within x ≡ 0) → IsTallied own within
-tallied_none own within no_own no_within = record { held = []; owns = no_own; withins = no_within }
-
 pub held_below : (own within : Path → ℕ) → IsTallied own within → (p : Path) → 0 < within p → (x : Path) × (begins_with x p ≡ true) × (0 < own x)
 held_below own within are p h =
     let s = some_tallied (λ y. begins_with y p) are.held (subst (λ v. 0 < v) (are.withins p) h) in

@@ -146,9 +146,6 @@ few_on ks left more e n few kept =
     let one = no_longer (λ f. not (is_killed ks f.0)) (e ∷ []) in
     omega (arith, few, l, one)
 
-pub all_looked_at : (ks : List Reference) (found left after : List Node) → left ++ without_killed ks after ≡ without_killed ks found → after ≡ [] → left ≡ without_killed ks found
-all_looked_at ks found left after so none = sym (append-nil left) ∙ ap (λ l. left ++ without_killed ks l) (sym none) ∙ so
-
 pub kept_one : (ks : List Reference) (left : List Node) (e : Node) → is_killed ks e.0 ≡ false → left ++ e ∷ [] ≡ left ++ without_killed ks (e ∷ [])
 kept_one ks left e free = ap (λ b. left ++ cond (not b) (e ∷ []) []) (sym free)
 
@@ -156,10 +153,6 @@ pub kept_none : (ks : List Reference) (left : List Node) (e : Node) → is_kille
 kept_none ks left e killed = sym (append-nil left) ∙ ap (λ b. left ++ cond (not b) (e ∷ []) []) (sym killed)
 
 -- ---- two lists as one
-
-pub joined_end : (xs : List Node) → joined xs [] ≡ xs
-joined_end [] = refl
-joined_end (a ∷ xs) = refl
 
 module _ (xs ys xs_on ys_on : List Node) (a b : Node) (xs_is : xs ≡ a ∷ xs_on) (ys_is : ys ≡ b ∷ ys_on) where
   pub first_own : ref_cmp a.0 b.0 ≡ Less → (x y : List Node) → joined (xs ++ x) (ys ++ y) ≡ a ∷ joined (xs_on ++ x) (ys ++ y)

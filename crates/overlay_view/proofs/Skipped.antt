@@ -18,7 +18,7 @@ use Rattle.globals.specs.laws.Cuts.{stands_before-earlier, before_end-earlier, u
 use Rattle.globals.specs.declared.cut.Cut.{Cut}
 use Rattle.globals.specs.Cuts.{stands_before}
 use Rattle.workspace.specs.Layers.{is_killed, IsKiller}
-use Rattle.workspace.specs.laws.Layering.{not_before, before_end}
+use Rattle.globals.specs.laws.Under.{not_before, before_end}
 use Rattle.overlay_view.specs.Merging.{toward, is_beyond_cut, is_left}
 use Rattle.overlay_view.proofs.Nearness.{Node, found, none_found, is_nearest, none_nearest, nearest_alike, fewer}
 

@@ -1,5 +1,5 @@
 -- What a command has read lies between two cuts, and nothing else does.
-use Rattle.std.proofs.Common.{◌≡◌, ℕ, Bool, true, false, List, [], refl, sym, ap, subst, ◌∙◌}
+use Rattle.std.proofs.Common.{◌≡◌, ℕ, Bool, true, false, List, [], sym, ap, subst, ◌∙◌}
 use Rattle.std.specs.Prelude.{not, ◌&&◌, ◌||◌, Option, Result, Ok, Err, OnOk}
 use Rattle.std.proofs.Math.Bool.{not-not}
 use Rattle.collation.specs.declared.direction.Direction.{Direction}
@@ -11,12 +11,12 @@ use Rattle.collation.specs.Answers.{follows, is_forward}
 use Rattle.command.specs.declared.access.DataCommand.{DataCommand}
 use Rattle.command.specs.declared.access.DataCommand.TheVariants.{Merge, Look}
 use Rattle.command.specs.declared.access.Look.{Look as LookCommand}
-use Rattle.command.specs.declared.access.Look.TheVariants.{Data, Get, Order, Query}
+use Rattle.command.specs.declared.access.Look.TheVariants.{Data, Get}
 use Rattle.command.specs.declared.access.Answer.{Answer}
-use Rattle.command.specs.declared.access.Answer.TheVariants.{Done, Value, Number, Found}
+use Rattle.command.specs.declared.access.Answer.TheVariants.{Value, Found}
 use Rattle.journal.specs.Touching.{read_set, order_read, query_read}
 use Rattle.globals.specs.declared.cut.Cut.{Cut}
-use Rattle.globals.specs.Fitting.{IsSiblingOrNone, IsOrderAnswer, IsQueryAnswer}
+use Rattle.globals.specs.Fitting.{IsQueryAnswer}
 use Rattle.serial.specs.ReadRanges.{is_from_level, level_end, root_of}
 use Rattle.serial.specs.laws.ReadRanges.{reads_range}
 use Rattle.read_ranges.specs.declared.range.ReadRange.{ReadRange}
@@ -54,14 +54,6 @@ get_noted old new look r default answer decided is none more =
 
 -- ---- $ORDER
 
-pub order_noted : (old new : List ReadRange) (p : Spot) (direction : Direction) (answer : Answer) (t : List ℕ) → answer ≡ Value t
-    → ((x : Reference) → is_in_one new x ≡ (is_in_one old x || order_read (is_forward direction) p (Value t) x)) → (decided : Bool) → IsNoted old new (Look (Order p direction)) answer decided
-order_noted old new p direction answer t is more decided =
-    subst (λ (a : Answer). IsNoted old new (Look (Order p direction)) a decided) (sym is) (noted old new (Look (Order p direction)) (Value t) decided _ (λ own d x. refl) more)
-
-pub leveled : (p : Spot) (answer : Answer) (t : List ℕ) → answer ≡ Value t → IsOrderAnswer p answer → (has_level p ≡ true) × IsSiblingOrNone p t
-leveled p answer t is fits = subst (λ (a : Answer). IsOrderAnswer p a) is fits
-
 pub siblings_forward : (old new : List ReadRange) (p : Spot) (direction : Direction) (t : List ℕ) (low : Cut) (end : Reference) → direction ≡ Forward → has_level p ≡ true
     → ((x : Reference) → not (stands_before low x) ≡ is_after (not p.is_open) p.reference x) → end ≡ level_end (parent_of p) t
     → ((x : Reference) → is_in_one new x ≡ (is_in_one old x || (not (stands_before low x) && is_before true end x)))
@@ -79,11 +71,6 @@ siblings_backward old new p direction t low high back level starts ends more x =
     more x ∙ ap (λ b. is_in_one old x || b) ((λ i. starts x i && ends x i) ∙ sym (law.order_backward p t level) ∙ (λ i. order_read (is_forward (sym back i)) p (Value t) x))
 
 -- ---- $QUERY
-
-pub found_noted : (old new : List ReadRange) (p : Spot) (direction : Direction) (answer : Answer) (r : Reference) → answer ≡ Found r
-    → ((x : Reference) → is_in_one new x ≡ (is_in_one old x || query_read (is_forward direction) p (Found r) x)) → (decided : Bool) → IsNoted old new (Look (Query p direction)) answer decided
-found_noted old new p direction answer r is more decided =
-    subst (λ (a : Answer). IsNoted old new (Look (Query p direction)) a decided) (sym is) (noted old new (Look (Query p direction)) (Found r) decided _ (λ own d x. refl) more)
 
 pub named : (p : Spot) (answer : Answer) (r : Reference) → answer ≡ Found r → IsQueryAnswer p answer → has_name p.reference r ≡ true
 named p answer r is fits = subst (λ (a : Answer). IsQueryAnswer p a) is fits
@@ -105,14 +92,6 @@ pub up_to_backward : (old new : List ReadRange) (p : Spot) (direction : Directio
 up_to_backward old new p direction high r back name ends more x =
     let law = reads_range (λ _. false) x in
     more x ∙ ap (λ b. is_in_one old x || b) ((λ i. not (is_before false r x) && ends x i) ∙ sym (law.query_backward p r name) ∙ (λ i. query_read (is_forward (sym back i)) p (Found r) x))
-
--- an answer that isn't a reference
-pub none_noted : (old new : List ReadRange) (p : Spot) (direction : Direction) (answer : Answer) → ((r : Reference) → answer ≡ Found r → ⊥)
-    → ((x : Reference) → is_in_one new x ≡ (is_in_one old x || follows (is_forward direction) p x)) → (decided : Bool) → IsNoted old new (Look (Query p direction)) answer decided
-none_noted old new p direction Done none more decided = noted old new (Look (Query p direction)) Done decided _ (λ own d x. refl) more
-none_noted old new p direction (Value t) none more decided = noted old new (Look (Query p direction)) (Value t) decided _ (λ own d x. refl) more
-none_noted old new p direction (Number n) none more decided = noted old new (Look (Query p direction)) (Number n) decided _ (λ own d x. refl) more
-none_noted old new p direction (Found r) none more decided = absurd (none r refl)
 
 pub rest_forward : (old new : List ReadRange) (p : Spot) (direction : Direction) (start name : Reference) → direction ≡ Forward → start ≡ p.reference → name ≡ root_of p.reference
     → ((x : Reference) → is_in_one new x ≡ (is_in_one old x || (not (not (is_after false start x)) && is_before true name x)))

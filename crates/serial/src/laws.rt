@@ -1,5 +1,5 @@
 //! The laws of transactions.
-ghost use Rattle.std.specs.Prelude.{◌≡◌, ◌≤◌, ◌↔◌, ℕ, Bool, true, false, List, length};
+ghost use Rattle.std.specs.Prelude.{◌≡◌, ◌≤◌, ◌↔◌, true, false, List, length};
 ghost use Rattle.collation.specs.Reference.{Reference};
 ghost use Rattle.collation.specs.Database.{Database};
 ghost use Rattle.journal.specs.declared.unit.Exchange.{Exchange};

@@ -8,11 +8,11 @@ use Rattle.version_chain.specs.Cut.{cut_of, if_value, left_after}
 use Rattle.std.proofs.Common.{set}
 use Rattle.version_chain.specs.Slots.{slot_at, slots_with}
 use Rattle.version_chain.specs.Links.{line_versions}
-use Rattle.version_chain.specs.Chains.{ChainsState, chain_at, versions_at, listed, lists_seen, seen_slot, Updates}
+use Rattle.version_chain.specs.Chains.{ChainsState, versions_at, listed, lists_seen, seen_slot, Updates}
 use Rattle.version_chain.specs.declared.version.Version.{Version}
 use Rattle.version_chain.proofs.ChainsLemmas.{versions_there, Updates-line, Updates-opened}
 use Rattle.version_chain.specs.Tidy.{IsNewerThan, IsTidy, AreTidy, since_at}
-use Rattle.version_chain.specs.laws.Versions.{leb_yes, leb_no}
+use Rattle.version_chain.specs.laws.Versions.{leb_no}
 use Rattle.version_chain.specs.laws.Cut.{cut_late, cut_early, left_after-cut_of, IsAbove-left_after}
 
 module _ {V : Type 0} where

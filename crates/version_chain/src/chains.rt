@@ -1,6 +1,6 @@
 //! Chains by id, in one pool.
 ghost use Rattle.std.specs.Prelude.{◌≡◌, ℕ, ◌+◌, ◌<◌, ◌≤◌, [], ◌∷◌, Some, None, IsTrue, ◌↔◌, length, option_copied, slice_set, IfOk, OnErr};
-ghost use Rattle.version_chain.specs.Slots.{slot_at, entry_value};
+ghost use Rattle.version_chain.specs.Slots.{slot_at};
 ghost use Rattle.version_chain.specs.Links.{line_versions};
 ghost use Rattle.version_chain.specs.Tidy.{since_at as since_at_spec};
 

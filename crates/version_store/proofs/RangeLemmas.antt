@@ -1,5 +1,5 @@
 -- The newest stamp between two cuts, from what a walk over the tree passes.
-use Rattle.std.proofs.Common.{◌≡◌, ℕ, [], ◌∷◌, refl, sym, ap, ◌∙◌, arith}
+use Rattle.std.proofs.Common.{◌≡◌, ℕ, [], ◌∷◌, refl, sym, ap, ◌∙◌}
 use Rattle.std.specs.Prelude.{Bool, true, false, not, ◌&&◌, cond, filter, Option, Some, None}
 use Rattle.std.specs.Cmp.{first_so, second_so}
 use Rattle.std.specs.FinMap.{is_sorted}
@@ -10,17 +10,10 @@ use Rattle.globals.specs.declared.cut.Cut.{Cut}
 use Rattle.globals.specs.Cuts.{stands_before}
 use Rattle.globals.specs.laws.Nearest.{none_pass, still_fails}
 use Rattle.globals.specs.laws.Cuts.{stands_before-earlier}
-use Rattle.version_chain.specs.Versions.{newest_of}
 use Rattle.version_chain.specs.Chains.{versions_at}
 use Rattle.version_store.specs.Versions.{later, newest_among, newest_between}
 use Rattle.version_store.specs.Tied.{rows, versions_in, newest_below}
 use Rattle.version_store.proofs.TiedLemmas.{State, Pairs, entries_in, below_rows}
-
-later_assoc : (a b c : Option ℕ) → later (later a b) c ≡ later a (later b c)
-later_assoc None b c = refl
-later_assoc (Some a) None c = refl
-later_assoc (Some a) (Some b) None = refl
-later_assoc (Some a) (Some b) (Some c) = ap Some (omega arith)
 
 later_none : (a : Option ℕ) → later a None ≡ a
 later_none None = refl
@@ -38,9 +31,6 @@ filter_rows P H c (p ∷ ps) = by_test (P p.0) (filter_rows P H c ps)
 pub range_start : (low high : Cut) (c : State) (ps : Pairs) → is_sorted ref_cmp ps ≡ true → newest_below high c (filter (λ p. not (stands_before low p.0)) ps) ≡ newest_between low high (versions_in c ps)
 range_start low high c ps h = ap newest_among (filter_rows (λ x. not (stands_before low x)) (stands_before high) c ps ∙ sym (ap (filter (λ e. not (stands_before low e.0) && stands_before high e.0)) (entries_in c ps h)))
 
-pub range_end : (high : Cut) (c : State) (n t : Option ℕ) (ps : Pairs) → ps ≡ [] → later n (newest_below high c ps) ≡ t → n ≡ t
-range_end high c n t ps none is = sym (later_none n) ∙ ap (λ qs. later n (newest_below high c qs)) (sym none) ∙ is
-
 pub range_past : (high : Cut) (c : State) (n t : Option ℕ) (qs ps : Pairs) (p : Reference × ℕ) → qs ≡ p ∷ ps → is_sorted ref_cmp qs ≡ true → stands_before high p.0 ≡ false → later n (newest_below high c qs) ≡ t → n ≡ t
 range_past high c n t qs ps p are h out is =
     let h : is_sorted ref_cmp (p ∷ ps) ≡ true = ap (is_sorted ref_cmp) (sym are) ∙ h in
@@ -49,12 +39,6 @@ range_past high c n t qs ps p are h out is =
     sym (ap (λ ps. later n (newest_below high c ps)) are
     ∙ ap (λ b. later n (newest_among (cond b ((p.0, versions_at c p.1) ∷ filter (λ e. stands_before high e.0) (rows c ps)) (filter (λ e. stands_before high e.0) (rows c ps))))) out
     ∙ ap (λ l. later n (newest_among l)) none ∙ later_none n) ∙ is
-
-pub range_step : (high : Cut) (c : State) (n t : Option ℕ) (qs ps : Pairs) (p : Reference × ℕ) → qs ≡ p ∷ ps → stands_before high p.0 ≡ true → later n (newest_below high c qs) ≡ t → later (later n (newest_of (versions_at c p.1))) (newest_below high c ps) ≡ t
-range_step high c n t qs ps p are inside is =
-    later_assoc n (newest_of (versions_at c p.1)) (newest_below high c ps)
-    ∙ sym (ap (λ b. later n (newest_among (cond b ((p.0, versions_at c p.1) ∷ filter (λ e. stands_before high e.0) (rows c ps)) (filter (λ e. stands_before high e.0) (rows c ps))))) inside)
-    ∙ ap (λ ps. later n (newest_below high c ps)) (sym are) ∙ is
 
 pub sorted_rest : (qs ps : Pairs) (p : Reference × ℕ) → qs ≡ p ∷ ps → is_sorted ref_cmp qs ≡ true → is_sorted ref_cmp ps ≡ true
 sorted_rest qs ps p are h = second_so (below_all ref_cmp p.0 ps) _ (ap (is_sorted ref_cmp) (sym are) ∙ h)

@@ -16,7 +16,7 @@ use Rattle.version_chain.specs.Versions.{at_of, newest_of, IsAbove, IsFalling}
 use Rattle.btree.specs.Order.{without}
 use Rattle.version_chain.specs.Cut.{left_after}
 use Rattle.version_chain.specs.laws.Cut.{IsAbove-left_after, IsFalling-left_after}
-use Rattle.version_chain.specs.Chains.{ChainsState, chain_at, versions_at, listed, IsOpen, Updates, open_count}
+use Rattle.version_chain.specs.Chains.{ChainsState, chain_at, versions_at, listed, IsOpen, Updates}
 use Rattle.version_chain.specs.laws.Chains.{slot_count, open_count_updated}
 use Rattle.version_store.specs.Versions.{Row, Versions, versions_of, content_at, with_version, is_bare}
 use Rattle.version_store.specs.laws.Content.{get_content}
@@ -60,16 +60,6 @@ versions_none c = empty_of_len _ (len-entries _ ∙ ap (λ (es : List (Reference
 
 pub get_at : (c : State) (ps : Pairs) (q : Reference) (id : ℕ) → is_sorted ref_cmp ps ≡ true → find ref_cmp q ps ≡ Some id → get (versions_in c ps) q ≡ Some (versions_at c id)
 get_at c ps q id h at = get_in c ps q h ∙ ap (option_map (versions_at c)) at
-
-pub tied_none : (c : State) (now : ℕ) → c ≡ record { chains = []; spare = 0 } → IsTied [] c now
-tied_none c now empty = record {
-  sorted = refl;
-  opened = λ q id e. absurd (cc);
-  apart = λ q r id e f. absurd (cc);
-  settled = λ q id e. absurd (cc);
-  falls = λ q id e. absurd (cc);
-  counted = ap open_count empty;
-}
 
 same_get : (m n : Versions) → ((q : Reference) → get m q ≡ get n q) → m ≡ n
 same_get m n is = same_map ref_cmp_total ref_cmp-IsAntisymmetric m n is

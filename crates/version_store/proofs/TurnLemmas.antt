@@ -1,5 +1,5 @@
 -- Keys that are copied off a walk over the tree, until there are so many.
-use Rattle.std.proofs.Common.{◌≡◌, ℕ, zero, suc, ◌-◌, ◌<◌, ◌≤◌, List, [], ◌∷◌, ◌++◌, length, refl, sym, ap, ◌∙◌, arith}
+use Rattle.std.proofs.Common.{◌≡◌, ℕ, zero, suc, ◌-◌, ◌<◌, List, [], ◌∷◌, ◌++◌, length, refl, sym, ap, ◌∙◌, arith}
 use Rattle.std.proofs.lemmas.List.{append-nil, append_assoc, length_push, length-map, take_all}
 use Rattle.std.specs.Prelude.{Bool, true, false, not, cond, filter, take, None, Some, Result, Ok, Err, OnOk}
 use Rattle.std.specs.Cmp.{first_so}
@@ -32,15 +32,6 @@ turn_more ks rest n k less =
 pub turn_step : (ks js left rest all : List Reference) (n : ℕ) (k : Reference) → js ≡ ks ++ k ∷ [] → left ≡ k ∷ rest → length ks < n → ks ++ take (n - length ks) left ≡ all → js ++ take (n - length js) rest ≡ all
 turn_step ks js left rest all n k pushed steps less is =
     ap (λ l. l ++ take (n - length l) rest) pushed ∙ turn_more ks rest n k less ∙ ap (λ l. ks ++ take (n - length ks) l) (sym steps) ∙ is
-
--- there are so many
-pub turn_full : (ks rest : List Reference) (n : ℕ) → n ≤ length ks → ks ++ take (n - length ks) rest ≡ ks
-turn_full ks rest n full =
-    let none : n - length ks ≡ 0 = omega (arith, full) in
-    ap (λ i. ks ++ take i rest) none ∙ append-nil ks
-
-pub turn_stop : (ks rest all : List Reference) (n : ℕ) → n ≤ length ks → ks ++ take (n - length ks) rest ≡ all → ks ≡ all
-turn_stop ks rest all n full is = sym (turn_full ks rest n full) ∙ is
 
 -- nothing is left
 pub turn_none : (ks : List Reference) (n : ℕ) → ks ++ take n [] ≡ ks

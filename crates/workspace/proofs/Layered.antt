@@ -11,7 +11,8 @@ use Rattle.collation.specs.Database.{Database, is_under}
 use Rattle.workspace.specs.Layers.{Layer, nothing_written, is_killed}
 use Rattle.key_map.specs.Members.{keys_under, removed_all}
 use Rattle.key_map.specs.laws.Removal.{get_removed, any_under}
-use Rattle.workspace.specs.laws.Layering.{more_killed, get_more, killed_by, under_itself, KillsUnder, keys_of_empty, killed_covers, killed_more, more_killed}
+use Rattle.workspace.specs.laws.Layering.{more_killed, get_more, killed_by, KillsUnder, keys_of_empty, killed_covers, killed_more}
+use Rattle.globals.specs.laws.Under.{under_itself}
 
 abbrev pub layer : {X : Type 0} → Database → FinMap ref_cmp X → Layer
 layer written d = record { written = written; killed = finmap.keys d }

@@ -1,24 +1,18 @@
 -- What $ORDER and $QUERY answer on any database fits the command.
-use Rattle.std.proofs.Common.{◌≡◌, ℕ, Bool, true, List, [], refl, sym, subst, ◌∙◌, inl, inr}
-use Rattle.std.specs.Prelude.{Option, Some, None, IfSome, unwrap_or}
+use Rattle.std.proofs.Common.{◌≡◌, ℕ, Bool, true, List, refl, sym, subst, ◌∙◌}
+use Rattle.std.specs.Prelude.{Option, Some, None}
 use Rattle.std.specs.Option.{option_map}
 use Rattle.std.specs.Cmp.{first_so}
 use Rattle.collation.specs.Reference.{Reference, Spot}
 use Rattle.collation.specs.Order.{ref_cmp}
 use Rattle.collation.specs.Database.{Database}
 use Rattle.globals.specs.Entries.{nearest_entry}
-use Rattle.collation.specs.Levels.{parent_of, below, has_name}
+use Rattle.collation.specs.Levels.{has_name}
 use Rattle.collation.specs.Answers.{follows, query_of}
-use Rattle.key_codec.specs.Key.{IsFaultless}
 use Rattle.command.specs.Data.{found_reply}
 use Rattle.globals.specs.laws.Nearest.{nearest_passes}
 use Rattle.globals.specs.laws.Nearness.{query_is}
-use Rattle.globals.specs.Fitting.{IsSiblingOrNone, IsQueryAnswer}
-
--- an answer of `order`, written as $ORDER's
-pub sibling_or_none : (p : Spot) (answer : Option (List ℕ)) → IfSome answer (λ s. IsFaultless (below (parent_of p) s)) → IsSiblingOrNone p (unwrap_or answer [])
-sibling_or_none p None fits = inl refl
-sibling_or_none p (Some s) fits = inr fits
+use Rattle.globals.specs.Fitting.{IsQueryAnswer}
 
 -- what $QUERY finds has the name of the place
 pub query_named : (forward : Bool) (p : Spot) (m : Database) (r : Reference) → query_of forward p m ≡ Some r → has_name p.reference r ≡ true

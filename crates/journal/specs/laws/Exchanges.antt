@@ -43,10 +43,6 @@ tells_more old roomy draft blank new count e h same b d fits n few =
       fit = Each-more es e h.fit fits;
     }
 
--- the same log with more room
-pub tells_same : (old new : List ℕ) (count : ℕ) → AreExchangeBytes old count (exchanges_in count old) → new ≡ old → AreExchangeBytes new count (exchanges_in count new)
-tells_same old new count h e = subst (λ t. AreExchangeBytes t count (exchanges_in count t)) (sym e) h
-
 pub tells_itself : (new : List ℕ) (count : ℕ) (es : List Exchange) → AreExchangeBytes new count es → AreExchangeBytes new count (exchanges_in count new)
 tells_itself new count es h = subst (AreExchangeBytes new count) (sym (exchanges_again new count es h)) h
 

@@ -31,10 +31,6 @@ closed_part-whole [] e = refl
 closed_part-whole (s ∷ []) e = rw e refl
 closed_part-whole (s ∷ t ∷ ss) e = ap (λ x. s ∷ x) (closed_part-whole (t ∷ ss) e)
 
--- the fault of the first goes before that of the others
-first_fault : (s : List ℕ) → Option Refusal
-first_fault s = cond (length s == 0) (Some EmptySubscript) (cond (nat_lt limit (length s)) (Some SubscriptTooLong) None)
-
 by_first : (a b : Bool) (rest : Option Refusal) → cond a (Some EmptySubscript) (cond b (Some SubscriptTooLong) rest) ≡ option_or (cond a (Some EmptySubscript) (cond b (Some SubscriptTooLong) None)) rest
 by_first true b rest = refl
 by_first false true rest = refl

@@ -80,7 +80,3 @@ Passes-Appends a b c x y h k = subst (Appends a c) (sym h.rest) (Appends-more a 
 -- a beginning of what was gathered was written
 pub Passes-begun : (a b c : Option (List ℕ)) (x y : List ℕ) → WritesFront a b x y → WritesBeginning b c y → WritesBeginning a c x
 Passes-begun a b c x y h k = subst (WritesBeginning a c) (sym h.rest) (WritesBeginning-then a b c h.written y h.appended k)
-
--- what was written of it is a beginning
-pub Passes-beginning : (a b : Option (List ℕ)) (x y : List ℕ) → WritesFront a b x y → WritesBeginning a b x
-Passes-beginning a b x y h = subst (WritesBeginning a b) (sym h.rest) (WritesBeginning-longer a b h.written y (WritesBeginning-all a b h.written h.appended))

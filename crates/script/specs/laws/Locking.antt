@@ -190,9 +190,6 @@ timeout_breaks rest (timeout all some few) ends = refl
 
 -- a sign, names and a timeout
 
-locking_is : (text : List ℕ) (c d : LockCommand) → c ≡ d → IsLocking text c → IsLocking text d
-locking_is text c d e form = rw (← e) form
-
 pub locking_found : (bytes : List ℕ) (c : LockCommand) (rest : List ℕ) → locking_at bytes ≡ Some (c, rest) → FoundOf IsLocking bytes c rest
 unfolding locking_at
 locking_found bytes c rest e =

@@ -20,7 +20,8 @@ use Rattle.collation.specs.Answers.{subtree_of}
 use Rattle.globals.specs.laws.Nearest.{not_found_itself, none_pass, true_of}
 use Rattle.globals.specs.laws.Cuts.{under_between, before_end-earlier}
 use Rattle.workspace.specs.Layers.{Layer, is_killed, NoneUnderAnother}
-use Rattle.workspace.specs.laws.Layering.{get_over, not_before, before_end}
+use Rattle.globals.specs.laws.Under.{not_before, before_end}
+use Rattle.workspace.specs.laws.Layering.{get_over}
 use Rattle.workspace.specs.Changes.{AreChanges, set_changes, removed, removed_by}
 use Rattle.collation.specs.Changes.{Change, changed, AreOnce}
 

@@ -1,25 +1,25 @@
 -- Writes laid over a database: what each reference has, and what one more write does.
 use Rattle.std.proofs.Common.{◌≡◌, ℕ, Bool, true, false, List, [], ◌∷◌, ◌++◌, length, ◌⊎◌, refl, sym, ap, subst, ◌∙◌, inl, inr, arith}
-use Rattle.std.specs.Prelude.{cond, not, ◌||◌, nat_eq, map, is_some, Option, Some, None}
+use Rattle.std.specs.Prelude.{cond, not, ◌||◌, map, is_some, Option, Some, None}
 use Rattle.std.proofs.lemmas.Bool.{and_from, or_left, or_right, false_from_ne_true}
 use Rattle.std.specs.Option.{option_or}
 use Rattle.std.specs.declared.cmp.Ordering.{Ordering}
 use Rattle.std.specs.declared.cmp.Ordering.TheVariants.{Less, Equal, Greater}
 use Rattle.std.specs.Ordering.{is_lt, eq_by_cmp}
-use Rattle.std.specs.Cmp.{both_ways, first_so, second_so}
-use Rattle.std.specs.Cmp.Lexicographic.{pointwise, bytes_decides}
+use Rattle.std.specs.Cmp.{both_ways}
 use Rattle.std.specs.List.{list_any}
 use Rattle.std.specs.FinMap as finmap
 use Rattle.std.specs.FinMap.{FinMap}
 use Rattle.collation.specs.Reference.{Reference}
 use Rattle.collation.specs.Order.{ref_cmp, ref_eq}
 use Rattle.collation.specs.laws.Order.{ref_cmp_total, ref_cmp-IsAntisymmetric, ref_ties, ref_eq_decides, turned}
-use Rattle.collation.specs.Database.{Database, is_under, begins_with}
+use Rattle.collation.specs.Database.{Database, is_under}
 use Rattle.collation.specs.Levels.{is_before}
 use Rattle.globals.specs.Entries.{nearest_entry}
 use Rattle.collation.specs.Answers.{set_all}
 use Rattle.globals.specs.laws.Nearest.{IsNearest, any_nearest, nearest_is, nearest_none}
 use Rattle.globals.specs.laws.Cuts.{under_between, before_end-earlier}
+use Rattle.globals.specs.laws.Under.{under_again, not_before, before_end}
 use Rattle.globals.specs.laws.Changing.{get_set, kill_subtree}
 use Rattle.workspace.specs.Layers.{Layer, nothing_written, is_killed, laid_over, decides, NoneUnderAnother, IsKiller}
 
@@ -164,38 +164,6 @@ killed_by {X} d x r by = any_nearest (λ r. is_under r x) d ∙ by_found (neares
     by_found : (o : Option (Reference × X)) → nearest_entry true (λ r. is_under r x) d ≡ o → is_some o ≡ true
     by_found None e = let none : false ≡ true = sym (ap is_some (nearest_none ref_cmp ref_cmp_total ref_cmp-IsAntisymmetric true (λ r. is_under r x) d e r by.above)) ∙ by.there in absurd (cc)
     by_found (Some f) e = refl
-
--- ---- what is under a reference
-
-begins_itself : (xs : List (List ℕ)) → begins_with xs xs ≡ true
-begins_itself [] = refl
-begins_itself (x ∷ xs) = and_from _ _ ((bytes_decides x x).1 refl) (begins_itself xs)
-
-pub under_itself : (r : Reference) → is_under r r ≡ true
-under_itself r = and_from _ _ ((bytes_decides r.name r.name).1 refl) (begins_itself r.subscripts)
-
-begins_again : (xs ys zs : List (List ℕ)) → begins_with ys zs ≡ true → begins_with xs ys ≡ true → begins_with xs zs ≡ true
-begins_again xs ys [] a b = refl
-begins_again xs [] (z ∷ zs) a b = absurd (cc)
-begins_again [] (y ∷ ys) (z ∷ zs) a b = absurd (cc)
-begins_again (x ∷ xs) (y ∷ ys) (z ∷ zs) a b =
-    let first : y ≡ z = (bytes_decides y z).0 (first_so _ _ a) in
-    let second : x ≡ y = (bytes_decides x y).0 (first_so _ _ b) in
-    and_from _ _ ((bytes_decides x z).1 (second ∙ first)) (begins_again xs ys zs (second_so (pointwise nat_eq y z) _ a) (second_so (pointwise nat_eq x y) _ b))
-
--- what is under something under r is under r
-pub under_again : (r s x : Reference) → is_under r s ≡ true → is_under s x ≡ true → is_under r x ≡ true
-under_again r s x a b =
-    let first : r.name ≡ s.name = (bytes_decides r.name s.name).0 (first_so _ _ a) in
-    let second : s.name ≡ x.name = (bytes_decides s.name x.name).0 (first_so _ _ b) in
-    and_from _ _ ((bytes_decides r.name x.name).1 (first ∙ second)) (begins_again x.subscripts s.subscripts r.subscripts (second_so (pointwise nat_eq r.name s.name) _ a) (second_so (pointwise nat_eq s.name x.name) _ b))
-
--- what is under r doesn't stand before it, but before the end of all under it
-pub not_before : (r x : Reference) → is_under r x ≡ true → not (is_lt (ref_cmp x r)) ≡ true
-not_before r x u = first_so (not (is_lt (ref_cmp x r))) _ (sym (under_between r x) ∙ u)
-
-pub before_end : (r x : Reference) → is_under r x ≡ true → is_before true r x ≡ true
-before_end r x u = second_so (not (is_lt (ref_cmp x r))) _ (sym (under_between r x) ∙ u)
 
 -- ---- one more killed reference
 

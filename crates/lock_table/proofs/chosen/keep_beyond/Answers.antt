@@ -1,4 +1,4 @@
-use Rattle.lock_table.proofs.Smalls.{onward}
+use Rattle.lock_trie.specs.laws.Results.{onward}
 use Rattle.lock_table.proofs.Less.{beyond_taken, beyond_kept}
 use Rattle.lock_table.proofs.chosen.keep_beyond.Goals as goal
 

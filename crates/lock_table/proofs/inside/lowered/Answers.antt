@@ -1,5 +1,5 @@
 use Rattle.lock_table.specs.Counted.{less}
-use Rattle.lock_table.proofs.Tables.{if_ok_onward}
+use Rattle.lock_trie.specs.laws.Results.{if_ok_onward}
 use Rattle.lock_table.proofs.Less.{lowered_list}
 use Rattle.lock_table.proofs.inside.lowered.Goals as goal
 

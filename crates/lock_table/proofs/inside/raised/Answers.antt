@@ -1,4 +1,4 @@
-use Rattle.lock_table.proofs.Tables.{if_ok_onward}
+use Rattle.lock_trie.specs.laws.Results.{if_ok_onward}
 use Rattle.lock_table.proofs.Less.{raised_list}
 use Rattle.lock_table.proofs.inside.raised.Goals as goal
 

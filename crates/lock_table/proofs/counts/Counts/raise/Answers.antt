@@ -1,4 +1,5 @@
-use Rattle.lock_table.proofs.Smalls.{onward, raised_by, raised_not}
+use Rattle.lock_table.proofs.Smalls.{raised_by, raised_not}
+use Rattle.lock_trie.specs.laws.Results.{onward}
 use Rattle.lock_table.proofs.counts.Counts.raise.Goals as goal
 
 pub returns-then-n-count-clause-ok : goal.returns-then-n-count-clause-ok

@@ -1,5 +1,5 @@
 use Rattle.std.proofs.Common.{sym, ◌∙◌}
-use Rattle.lock_table.proofs.Smalls.{onward}
+use Rattle.lock_trie.specs.laws.Results.{onward}
 use Rattle.lock_table.proofs.Rows.{not_inside, outside_allowed}
 use Rattle.lock_table.proofs.row.Row.outside.Goals as goal
 

@@ -1,5 +1,5 @@
 use Rattle.std.proofs.Common.{ap, ◌∙◌, Some, ◌+◌}
-use Rattle.lock_trie.proofs.Results.{onward, err_onward}
+use Rattle.lock_trie.specs.laws.Results.{onward, err_onward}
 use Rattle.lock_trie.proofs.AtPaths.{put_at, kept_at, found_at, put_found, is_there_marks}
 use Rattle.lock_trie.specs.Marks.{marked}
 use Rattle.lock_trie.proofs.paths.Paths.add.Goals as goal

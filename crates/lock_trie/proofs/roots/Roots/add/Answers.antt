@@ -1,5 +1,5 @@
 use Rattle.std.proofs.Common.{ap, ◌∙◌, Some, ◌+◌}
-use Rattle.lock_trie.proofs.Results.{onward, err_onward}
+use Rattle.lock_trie.specs.laws.Results.{onward, err_onward}
 use Rattle.lock_trie.proofs.AtNames.{put_under, kept_under, found_under, is_there_root}
 use Rattle.lock_trie.proofs.roots.Roots.add.Goals as goal
 

@@ -1,7 +1,7 @@
-use Rattle.std.proofs.Common.{ℕ, ◌∷◌, Some, None, sym, ap, ◌∙◌, subst, arith, length}
+use Rattle.std.proofs.Common.{ℕ, ◌∷◌, Some, None, sym, ap, ◌∙◌, subst, arith}
 use Rattle.std.specs.Prelude.{max}
 use Rattle.version_chain.specs.Versions.{IsAbove, IsFalling, cells_of}
-use Rattle.version_chain.specs.Cut.{cut_of, left_after}
+use Rattle.version_chain.specs.Cut.{left_after}
 use Rattle.version_chain.specs.Links.{line_versions}
 use Rattle.version_chain.specs.Chains.{versions_at, listed}
 use Rattle.version_chain.specs.Tidy.{IsTidy}
