@@ -83,8 +83,8 @@ impl<K: Ord, V> Tree<K, V> {
         ensures visited { result.1.visits ≤ self.now.depth }
     {
         let mut trail = Trail::new();
-        let value = self.root.get(key, &mut trail);
-        (value, trail)
+        let found = self.root.get(key, &mut trail);
+        (found, trail)
     }
 
     /// The first pair whose key does not stand before a point, and how many nodes were visited.
