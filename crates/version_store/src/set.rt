@@ -13,13 +13,7 @@ use std::alloc::{AllocError, Global};
 
 impl Store {
     // Sets a reference that is placed, and cuts it; else the value comes back, and where the look-up went.
-    fn set_placed(
-        &mut self,
-        stamp: u64,
-        cut: u64,
-        key: &Key,
-        value: Text,
-    ) -> Option<(Text, Trail)>
+    fn set_placed(&mut self, stamp: u64, cut: u64, key: &Key, value: Text) -> Option<(Text, Trail)>
         requires stamp { self.old.present < stamp }
         requires cut { cut ≤ stamp }
         requires reserved { 0 < self.old.spare }
