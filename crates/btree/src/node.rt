@@ -168,15 +168,17 @@ impl<K: Ord, V> Node<K, V> {
         ensures found { option_map (λ v. v.now) result ≡ find K.cmp key.now self.now.pairs }
         ensures visited { trail.new.visits ≤ trail.old.visits + self.now.height + 1 }
     {
-        let (entries, kids) = self.read(&mut trail.visits);
-        match place(entries, key) {
-            Ok(at) => Some(&entries[at].1),
-            Err(at) => {
-                trail.note(at);
-                match kids.get(at) {
-                    None => None,
-                    Some(kid) => kid.get(key, trail),
-                }
+        let mut here = self;
+        loop {
+            let (entries, kids) = here.read(&mut trail.visits);
+            let at = match place(entries, key) {
+                Ok(at) => return Some(&entries[at].1),
+                Err(at) => at,
+            };
+            trail.note(at);
+            match kids.get(at) {
+                None => return None,
+                Some(kid) => here = kid,
             }
         }
     }

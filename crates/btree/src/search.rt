@@ -27,50 +27,38 @@ pub fn place<K: Ord, V>(row: &[(K, V)], key: &K) -> Result<usize, usize>
     Err(low)
 }
 
-// Whether a key stands after the pair before a place, if there is one.
-fn is_after_pair_before<K: Ord, V>(row: &[(K, V)], key: &K, at: usize) -> bool
-    requires sorted { Ascends K.cmp row.now }
-    requires in_range { at ≤ length row.now }
-    ensures { result ≡ true → Each (IsBefore K.cmp key.now) (take at row.now) }
+// Where a search compares next: before and then behind the place that is near, as long as that may be it, else in the middle.
+fn probe(low: usize, high: usize, near: usize) -> usize
+    requires { low < high }
+    ensures low { low ≤ result }
+    ensures high { result < high }
 {
-    if at == 0 {
-        return true;
-    }
-    match key.cmp(&row[at - 1].0) {
-        Ordering::Greater => true,
-        _ => false,
+    if low < near && near <= high {
+        near - 1
+    } else if low == near {
+        near
+    } else {
+        low + (high - low) / 2
     }
 }
 
-// Whether a key stands before the pair at a place, if there is one.
-fn is_before_pair_at<K: Ord, V>(row: &[(K, V)], key: &K, at: usize) -> bool
-    requires sorted { Ascends K.cmp row.now }
-    requires in_range { at ≤ length row.now }
-    ensures { result ≡ true → Each (IsAfter K.cmp key.now) (drop at row.now) }
-{
-    if at == row.len() {
-        return true;
-    }
-    match key.cmp(&row[at].0) {
-        Ordering::Less => true,
-        _ => false,
-    }
-}
-
-/// Where a key is, or where it would go. Where that is the place that is given two comparisons tell so.
-pub fn place_near<K: Ord, V>(row: &[(K, V)], key: &K, at: usize) -> Result<usize, usize>
+/// Where a key is, or where it would go. Where that is the place that is near two comparisons tell so.
+pub fn place_near<K: Ord, V>(row: &[(K, V)], key: &K, near: usize) -> Result<usize, usize>
     requires { Ascends K.cmp row.now }
     ensures found { IfOk result (λ i. (i < length row.now) × ((d : K × V) → K.cmp key.now (slice_index_or row.now i d).0 ≡ Equal)) }
     ensures gap { IfErr result (λ i. (i ≤ length row.now) × Each (IsBefore K.cmp key.now) (take i row.now) × Each (IsAfter K.cmp key.now) (drop i row.now)) }
 {
-    if at <= row.len() {
-        if is_after_pair_before(row, key, at) {
-            if is_before_pair_at(row, key, at) {
-                return Err(at);
-            }
+    let mut low = 0;
+    let mut high = row.len();
+    while low < high {
+        let at = probe(low, high, near);
+        match key.cmp(&row[at].0) {
+            Ordering::Less => high = at,
+            Ordering::Equal => return Ok(at),
+            Ordering::Greater => low = at + 1,
         }
     }
-    place(row, key)
+    Err(low)
 }
 
 /// How many keys stand before a point.
