@@ -48,6 +48,9 @@ pub fn place_near<K: Ord, V>(row: &[(K, V)], key: &K, near: usize) -> Result<usi
     ensures found { IfOk result (λ i. (i < length row.now) × ((d : K × V) → K.cmp key.now (slice_index_or row.now i d).0 ≡ Equal)) }
     ensures gap { IfErr result (λ i. (i ≤ length row.now) × Each (IsBefore K.cmp key.now) (take i row.now) × Each (IsAfter K.cmp key.now) (drop i row.now)) }
 {
+    if near > row.len() {
+        return place(row, key);
+    }
     let mut low = 0;
     let mut high = row.len();
     while low < high {
