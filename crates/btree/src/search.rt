@@ -42,7 +42,7 @@ fn probe(low: usize, high: usize, near: usize) -> usize
     }
 }
 
-/// Where a key is, or where it would go. Where that is the place that is near two comparisons tell so.
+/// Where a key is, or where it would go. Where it would go to the place that is near, two comparisons tell so.
 pub fn place_near<K: Ord, V>(row: &[(K, V)], key: &K, near: usize) -> Result<usize, usize>
     requires { Ascends K.cmp row.now }
     ensures found { IfOk result (λ i. (i < length row.now) × ((d : K × V) → K.cmp key.now (slice_index_or row.now i d).0 ≡ Equal)) }
