@@ -22,7 +22,7 @@
 //! deep: what recurs, dropping a tree too, recurs at most so often, and a walk keeps its way down in itself.
 //!
 //! Read `specs/Order.antt`, `specs/Tree.antt` and `root.rt`; for the nodes `specs/Rows.antt`, `node.rt`, `split.rt`,
-//! `ease.rt`, `mend.rt`.
+//! `ease.rt`, `mend.rt`; for the way of a look-up `trail.rt`.
 //! Not promised: which node holds a pair; any time.
 #![tactic(auto)]
 
@@ -36,8 +36,10 @@ mod row;
 mod search;
 mod seek;
 mod split;
+mod trail;
 
 pub use backward::WalkBack;
 pub use forward::Walk;
 pub use root::Tree;
 pub use seek::Point;
+pub use trail::Trail;

@@ -8,9 +8,10 @@ ghost use Rattle.btree.specs.Rows.{branch_of, sizes_of, IsNode, RowsHaveRoom, Ha
 use crate::ease::ease;
 use crate::mend::{append_reserved, mend, take_at};
 use crate::row::{cut_anew, replace_value};
-use crate::search::{count_before, entry_at, entry_before, place};
+use crate::search::{count_before, entry_at, entry_before, place, place_near};
 use crate::seek::Point;
 use crate::split::{Beside, insert_leaf, put_beside, spare_rows, split_long};
+use crate::trail::Trail;
 use std::alloc::{AllocError, AllocFailed, Global};
 use std::marker::Model;
 use std::mem;
@@ -160,20 +161,25 @@ impl<K, V> Node<K, V> {
 }
 
 impl<K: Ord, V> Node<K, V> {
-    /// The value of a key.
-    pub fn get(&self, key: &K, visits: &mut usize) -> Option<&V>
+    /// The value of a key. Its way down goes on the trail.
+    pub fn get(&self, key: &K, trail: &mut Trail) -> Option<&V>
         requires sorted { Ascends K.cmp self.now.pairs }
-        requires counts { visits.old + self.now.height < 2 ^ 63 }
+        requires counts { trail.old.visits + self.now.height < 2 ^ 63 }
         ensures found { option_map (λ v. v.now) result ≡ find K.cmp key.now self.now.pairs }
-        ensures visited { visits.new ≤ visits.old + self.now.height + 1 }
+        ensures visited { trail.new.visits ≤ trail.old.visits + self.now.height + 1 }
     {
-        let (entries, kids) = self.read(visits);
-        match place(entries, key) {
-            Ok(at) => Some(&entries[at].1),
-            Err(at) => match kids.get(at) {
-                None => None,
-                Some(kid) => kid.get(key, visits),
-            },
+        let mut here = self;
+        loop {
+            let (entries, kids) = here.read(&mut trail.visits);
+            let at = match place(entries, key) {
+                Ok(at) => return Some(&entries[at].1),
+                Err(at) => at,
+            };
+            trail.note(at);
+            match kids.get(at) {
+                None => return None,
+                Some(kid) => here = kid,
+            }
         }
     }
 
@@ -265,12 +271,15 @@ impl<K: Drop, V: Drop> Node<K, V> {
 pub type Inserted<K, V> = (Option<V>, Option<Beside<K, V>>);
 
 impl<K: Ord + Drop, V: Drop> Node<K, V> {
-    /// Sets the value of a key. Where there is no memory, nothing changes, and both come back.
+    /// Sets the value of a key, by a trail, so many levels below the root. Where there is no memory, nothing changes, and
+    /// both come back.
     pub fn insert(
         &mut self,
         alloc: Global,
         key: K,
         value: V,
+        trail: &Trail,
+        level: usize,
     ) -> Result<Inserted<K, V>, AllocFailed<(K, V)>>
         requires sorted { Ascends K.cmp self.old.pairs }
         requires fits { self.old.count ≤ 32 }
@@ -280,7 +289,8 @@ impl<K: Ord + Drop, V: Drop> Node<K, V> {
         ensures handed_back { IfErr result (λ refused. refused.value ≡ (key, value)) }
         ensures refused { OnErr result (self.new ≡ self.old) }
     {
-        let at = match place(&self.entries, &key) {
+        let near = trail.place(level);
+        let at = match place_near(&self.entries, &key, near) {
             Ok(at) => return Ok((Some(replace_value(&mut self.entries, at, value)), None)),
             Err(at) => at,
         };
@@ -293,7 +303,8 @@ impl<K: Ord + Drop, V: Drop> Node<K, V> {
                 value: (key, value),
             });
         };
-        let (before, beside) = self.kids[at].insert(alloc, key, value)?;
+        let below = level.wrapping_add(1);
+        let (before, beside) = self.kids[at].insert(alloc, key, value, trail, below)?;
         let Some(beside) = beside else {
             ease(&mut self.entries, &mut self.kids, at);
             return Ok((before, None));

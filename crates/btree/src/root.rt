@@ -10,6 +10,7 @@ use crate::backward::WalkBack;
 use crate::forward::Walk;
 use crate::node::Node;
 use crate::seek::Point;
+use crate::trail::Trail;
 use std::alloc::{AllocFailed, Global};
 use std::marker::Model;
 
@@ -72,9 +73,18 @@ impl<K: Ord, V> Tree<K, V> {
         ensures found { option_map (λ v. v.now) result.0 ≡ entries.find K.cmp key.now self.now.pairs }
         ensures visited { result.1 ≤ self.now.depth }
     {
-        let mut visits = 0;
-        let value = self.root.get(key, &mut visits);
-        (value, visits)
+        let (value, trail) = self.look_up(key);
+        (value, trail.visits())
+    }
+
+    /// The value of a key, and where its look-up went.
+    pub fn look_up(&self, key: &K) -> (Option<&V>, Trail)
+        ensures found { option_map (λ v. v.now) result.0 ≡ entries.find K.cmp key.now self.now.pairs }
+        ensures visited { result.1.visits ≤ self.now.depth }
+    {
+        let mut trail = Trail::new();
+        let found = self.root.get(key, &mut trail);
+        (found, trail)
     }
 
     /// The first pair whose key does not stand before a point, and how many nodes were visited.
@@ -148,6 +158,24 @@ impl<K: Ord + Drop, V: Drop> Tree<K, V> {
         ensures handed_back { IfErr result (λ refused. refused.value ≡ (key, value)) }
         ensures refused { OnErr result (self.new ≡ self.old) }
     {
+        self.insert_by(alloc, key, value, &Trail::new())
+    }
+
+    /// Sets the value of a key as `insert` does, by the trail of a look-up of this key: the search in each node is then two
+    /// comparisons. With any other trail it does the same and only takes longer.
+    pub fn insert_by(
+        &mut self,
+        alloc: Global,
+        key: K,
+        value: V,
+        trail: &Trail,
+    ) -> Result<Option<V>, AllocFailed<(K, V)>>
+        ensures before { IfOk result (λ before. before ≡ entries.find K.cmp key self.old.pairs) }
+        ensures put { IfOk result (λ _. self.new.pairs ≡ entries.put K.cmp key value self.old.pairs) }
+        ensures depth { IfOk result (λ _. (self.old.depth ≤ self.new.depth) × (self.new.depth ≤ self.old.depth + 1)) }
+        ensures handed_back { IfErr result (λ refused. refused.value ≡ (key, value)) }
+        ensures refused { OnErr result (self.new ≡ self.old) }
+    {
         if self.len == usize::MAX {
             return Err(AllocFailed {
                 value: (key, value),
@@ -158,7 +186,7 @@ impl<K: Ord + Drop, V: Drop> Tree<K, V> {
                 value: (key, value),
             });
         };
-        let (before, beside) = self.root.insert(alloc, key, value)?;
+        let (before, beside) = self.root.insert(alloc, key, value, trail, 0)?;
         self.len += 1 - count(&before);
         if let Some(beside) = beside {
             self.root.rise(entries, kids, beside);

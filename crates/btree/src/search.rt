@@ -27,6 +27,43 @@ pub fn place<K: Ord, V>(row: &[(K, V)], key: &K) -> Result<usize, usize>
     Err(low)
 }
 
+// Where a search compares next: before and then behind the place that is near, as long as that may be it, else in the middle.
+fn probe(low: usize, high: usize, near: usize) -> usize
+    requires { low < high }
+    ensures low { low ≤ result }
+    ensures high { result < high }
+{
+    if low < near && near <= high {
+        near - 1
+    } else if low == near {
+        near
+    } else {
+        low + (high - low) / 2
+    }
+}
+
+/// Where a key is, or where it would go. Where it would go to the place that is near, two comparisons tell so.
+pub fn place_near<K: Ord, V>(row: &[(K, V)], key: &K, near: usize) -> Result<usize, usize>
+    requires { Ascends K.cmp row.now }
+    ensures found { IfOk result (λ i. (i < length row.now) × ((d : K × V) → K.cmp key.now (slice_index_or row.now i d).0 ≡ Equal)) }
+    ensures gap { IfErr result (λ i. (i ≤ length row.now) × Each (IsBefore K.cmp key.now) (take i row.now) × Each (IsAfter K.cmp key.now) (drop i row.now)) }
+{
+    if near > row.len() {
+        return place(row, key);
+    }
+    let mut low = 0;
+    let mut high = row.len();
+    while low < high {
+        let at = probe(low, high, near);
+        match key.cmp(&row[at].0) {
+            Ordering::Less => high = at,
+            Ordering::Equal => return Ok(at),
+            Ordering::Greater => low = at + 1,
+        }
+    }
+    Err(low)
+}
+
 /// How many keys stand before a point.
 pub fn count_before<K: Ord, V, P: Point<K>>(row: &[(K, V)], point: &P) -> usize
     requires { Ascends K.cmp row.now }

@@ -2,7 +2,7 @@
 ghost use Rattle.std.specs.Prelude.{nat_lt};
 ghost use Rattle.structure_tests.specs.laws.Numbers.{below_below};
 
-use btree::{Point, Tree};
+use btree::{Point, Trail, Tree};
 use std::alloc::{AllocError, Global};
 use std::collections::BTreeMap;
 
@@ -102,6 +102,60 @@ fn number_of(found: (Option<(&u64, &u64)>, usize)) -> Option<u64> {
         None => None,
         Some((number, _)) => Some(*number),
     }
+}
+
+// The trail by which a step inserts: in turn that of the key's look-up, of another key's, of one in another tree, and none.
+fn trail_of(tree: &Tree<u64, u64>, other: &Tree<u64, u64>, key: u64, step: u64) -> Trail {
+    match step % 4 {
+        0 => tree.look_up(&key).1,
+        1 => tree.look_up(&(key / 2)).1,
+        2 => other.look_up(&key).1,
+        _ => Trail::new(),
+    }
+}
+
+// Whether a look-up with its trail tells what one without tells.
+fn is_look_up_alike(tree: &Tree<u64, u64>, key: u64) -> bool {
+    let (value, trail) = tree.look_up(&key);
+    let (same, visits) = tree.get(&key);
+    value == same && trail.visits() == visits
+}
+
+// Whether insertions by trails, of which most are wrong, do what those without do.
+fn are_insertions_alike(
+    alloc: Global,
+    order: Order,
+    other: &Tree<u64, u64>,
+    tree: &mut Tree<u64, u64>,
+    plain: &mut Tree<u64, u64>,
+) -> Result<bool, AllocError> {
+    for step in 0..10_000 {
+        let key = key_of(order, step);
+        let trail = trail_of(tree, other, key, step);
+        let before = tree.insert_by(alloc, key, step, &trail)?;
+        let same = before == plain.insert(alloc, key, step)? && tree.depth() == plain.depth();
+        if !same || !is_look_up_alike(tree, key) {
+            return Ok(false);
+        }
+    }
+    Ok(true)
+}
+
+fn are_trees_alike(tree: &Tree<u64, u64>, plain: &Tree<u64, u64>) -> bool {
+    for ((key, value), (plain_key, plain_value)) in tree.iter().zip(plain.iter()) {
+        if *key != *plain_key || *value != *plain_value {
+            return false;
+        }
+    }
+    tree.len() == plain.len()
+}
+
+fn do_trails_change_nothing(alloc: Global, order: Order) -> Result<bool, AllocError> {
+    let other = threes(alloc)?;
+    let mut tree = Tree::new(alloc);
+    let mut plain = Tree::new(alloc);
+    let alike = are_insertions_alike(alloc, order, &other, &mut tree, &mut plain)?;
+    Ok(alike && are_trees_alike(&tree, &plain))
 }
 
 // Whether a walk on from a number, and one back from it, pass the multiples of three and end.
@@ -213,6 +267,14 @@ fn tree_of_falling_keys_answers_as_std_map(rt: HostRuntime) -> Result<(), AllocE
 #[test]
 fn tree_of_mixed_keys_answers_as_std_map(rt: HostRuntime) -> Result<(), AllocError> {
     assert!(rt; is_alike(rt.alloc(), Order::Mixed)?);
+    Ok(())
+}
+
+#[test]
+fn wrong_trails_change_nothing_of_an_insertion(rt: HostRuntime) -> Result<(), AllocError> {
+    assert!(rt; do_trails_change_nothing(rt.alloc(), Order::Rising)?);
+    assert!(rt; do_trails_change_nothing(rt.alloc(), Order::Falling)?);
+    assert!(rt; do_trails_change_nothing(rt.alloc(), Order::Mixed)?);
     Ok(())
 }
 

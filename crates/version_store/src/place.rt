@@ -6,7 +6,7 @@ ghost use Rattle.version_store.specs.Versions.{Versions, content_at, versions_of
 ghost use Rattle.version_store.specs.Tied.{AreKeysOf};
 
 use crate::store::Store;
-use btree::Walk;
+use btree::{Trail, Walk};
 use collation::Text;
 use globals::Cut;
 use key_codec::Key;
@@ -38,14 +38,14 @@ fn count_along(walk: Walk<'_, Key, ChainId>, changes: &[(Key, Option<Text>)]) ->
 }
 
 impl Store {
-    // Gives a reference without a chain an empty one.
-    fn place_new(&mut self, alloc: Global, key: Key) -> Result<(), AllocError>
+    // Gives a reference without a chain an empty one, by the trail of its look-up.
+    fn place_new(&mut self, alloc: Global, key: Key, trail: &Trail) -> Result<(), AllocError>
         requires { finmap.get self.old.versions key ≡ None }
         ensures ok { OnOk result (self.new ≡ record self.old { versions = finmap.insert self.old.versions key [] }) }
         ensures err { OnErr result (self.new ≡ self.old) }
     {
         match self.chains.open() {
-            Ok(id) => match self.tree.insert(alloc, key, id) {
+            Ok(id) => match self.tree.insert_by(alloc, key, id, trail) {
                 Ok(_) => Ok(()),
                 Err(back) => {
                     drop(back);
@@ -67,11 +67,12 @@ impl Store {
         ensures rows { (r : Reference) → versions_of self.new.versions r ≡ versions_of self.old.versions r }
         ensures content { (s : ℕ) → content_at self.new.versions s ≡ content_at self.old.versions s }
     {
-        if self.is_placed(key) {
+        let (is_placed, trail) = self.look_up(key);
+        if is_placed {
             return Ok(());
         }
         let copy = key.clone()?;
-        self.place_new(alloc, copy)
+        self.place_new(alloc, copy, &trail)
     }
 
     // Gives the reference of each change an empty chain, if it has none.

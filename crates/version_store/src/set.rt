@@ -6,20 +6,22 @@ ghost use Rattle.collation.specs.Reference.{Reference};
 ghost use Rattle.version_store.specs.Versions.{IsSetAt, content_at, versions_of, row_cut};
 
 use crate::store::Store;
+use btree::Trail;
 use collation::Text;
 use key_codec::Key;
 use std::alloc::{AllocError, Global};
 
 impl Store {
-    // Sets a reference that is placed, and cuts it; else the value comes back.
-    fn set_placed(&mut self, stamp: u64, cut: u64, key: &Key, value: Text) -> Option<Text>
+    // Sets a reference that is placed, and cuts it; else the value comes back, and where the look-up went.
+    fn set_placed(&mut self, stamp: u64, cut: u64, key: &Key, value: Text) -> Option<(Text, Trail)>
         requires stamp { self.old.present < stamp }
         requires cut { cut ≤ stamp }
         requires reserved { 0 < self.old.spare }
         ensures { MatchOption result (IsSetAt stamp cut (key.now, Some value) self.old self.new)
-            (λ back. (back ≡ value) × (finmap.get self.old.versions key.now ≡ None) × (self.new ≡ self.old)) }
+            (λ back. (back.0 ≡ value) × (finmap.get self.old.versions key.now ≡ None) × (self.new ≡ self.old)) }
     {
-        match self.tree.get(key).0 {
+        let (found, trail) = self.tree.look_up(key);
+        match found {
             Some(id) => {
                 let id = *id;
                 self.present = stamp;
@@ -27,11 +29,11 @@ impl Store {
                 self.chains.push_and_cut(id, stamp, Some(value), cut);
                 None
             }
-            None => Some(value),
+            None => Some((value, trail)),
         }
     }
 
-    // Places a reference that isn't, and sets it.
+    // Places a reference that isn't, by the trail of its look-up, and sets it.
     fn set_new(
         &mut self,
         alloc: Global,
@@ -39,6 +41,7 @@ impl Store {
         cut: u64,
         key: Key,
         value: Text,
+        trail: &Trail,
     ) -> Result<(), AllocError>
         requires stamp { self.old.present < stamp }
         requires cut { cut ≤ stamp }
@@ -54,7 +57,7 @@ impl Store {
                 return Err(error);
             }
         };
-        match self.tree.insert(alloc, key, id) {
+        match self.tree.insert_by(alloc, key, id, trail) {
             Ok(_) => {
                 self.present = stamp;
                 self.cut = cut;
@@ -97,13 +100,13 @@ impl Store {
                 drop(key);
                 Ok(())
             }
-            Some(value) => self.set_new(alloc, stamp, cut, key, value),
+            Some((value, trail)) => self.set_new(alloc, stamp, cut, key, value, &trail),
         }
     }
 
     /// Sets one reference at a stamp, which is now from here on, and raises the cut to the horizon, where it is below:
-    /// as `write_and_cut` of this one change, but the reference need not be placed. One look-up where it is placed, two
-    /// where it isn't.
+    /// as `write_and_cut` of this one change, but the reference need not be placed. One look-up; where it isn't placed the
+    /// key then goes in by the look-up's trail.
     ///
     /// Refusals: `AllocError`. After it a cell may be reserved; nothing else has changed.
     pub fn set_and_cut(

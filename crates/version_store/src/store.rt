@@ -9,7 +9,7 @@ ghost use Rattle.version_store.specs.Versions.{content_at, content_now, versions
 ghost use Rattle.version_store.specs.Tied.{versions_in};
 
 use crate::snapshot::Snapshot;
-use btree::Tree;
+use btree::{Trail, Tree};
 use collation::Text;
 use key_codec::Key;
 use refusal::Refusal;
@@ -83,7 +83,15 @@ impl Store {
     pub fn is_placed(&self, key: &Key) -> bool
         ensures { result ≡ finmap.contains_key self.now.versions key.now }
     {
-        self.tree.get(key).0.is_some()
+        self.look_up(key).0
+    }
+
+    // Whether the reference has a chain, and where the look-up went.
+    pub(crate) fn look_up(&self, key: &Key) -> (bool, Trail)
+        ensures { result.0 ≡ finmap.contains_key self.now.versions key.now }
+    {
+        let (id, trail) = self.tree.look_up(key);
+        (id.is_some(), trail)
     }
 
     /// What the versions are read from: the tree of the placed references, and the chains under its ids.

@@ -12,8 +12,8 @@ use Rattle.btree.proofs.Places.{entries_ascend, kid_at}
 use Rattle.btree.proofs.Growth.{node_fits, found_here, grown_here, missed_leaf, grown_leaf, found_below, grown_below, node_below, kid_sorted, no_kids, one_longer, below_kids, full_at, spare_for}
 use Rattle.btree.proofs.node.Node.+insert.Goals as goal
 
-pub place-requires : goal.place-requires
-place-requires g t c = rw c.deref.ensures.value (entries_ascend g.K.Ord.cmp c.self.inside.entries.items c.self.inside.kids.items (subst (λ b. Ascends g.K.Ord.cmp b.pairs) (sym c.self.view_is) c.requires.sorted))
+pub place_near-requires : goal.place_near-requires
+place_near-requires g t c = rw c.deref.ensures.value (entries_ascend g.K.Ord.cmp c.self.inside.entries.items c.self.inside.kids.items (subst (λ b. Ascends g.K.Ord.cmp b.pairs) (sym c.self.view_is) c.requires.sorted))
 
 pub invariant_of-self : goal.invariant_of-self
 invariant_of-self g t c =

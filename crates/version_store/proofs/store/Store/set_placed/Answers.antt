@@ -9,14 +9,14 @@ use Rattle.version_store.proofs.store.Store.set_placed.Goals as goal
 pub push_and_cut-requires-clause-newest : goal.push_and_cut-requires-clause-newest
 push_and_cut-requires-clause-newest c =
     let s = c.self.inside in
-    let at = rw c.in-Some.is at c.get.ensures.found in
+    let at = rw c.in-Some.is at c.look_up.ensures.found in
     let later = rw (← c.self.view_is) at c.requires.stamp in
     above_at s.present c.args.stamp _ later (c.self.invariant.0.settled c.args.key.now c.in-Some.id.now (sym at))
 
 pub invariant_of-self : goal.invariant_of-self
 invariant_of-self c =
     let s = c.self.inside in
-    let at = rw c.in-Some.is at c.get.ensures.found in
+    let at = rw c.in-Some.is at c.look_up.ensures.found in
     let later : s.present < c.args.stamp = rw (← c.self.view_is) at c.requires.stamp in
     let low = low_in s.chains s.tree.pairs s.present c.self.invariant.0 c.args.key.now in
     let tied : IsTied s.tree.pairs s.chains c.args.stamp = tied_later s.chains s.tree.pairs s.present c.args.stamp c.self.invariant.0 (omega (arith, later)) in
@@ -26,7 +26,7 @@ invariant_of-self c =
 pub returns-in-Some : goal.returns-in-Some
 returns-in-Some c =
     let s = c.self.inside in
-    let at = rw c.in-Some.is at c.get.ensures.found in
+    let at = rw c.in-Some.is at c.look_up.ensures.found in
     let later : s.present < c.args.stamp = rw (← c.self.view_is) at c.requires.stamp in
     let low = low_in s.chains s.tree.pairs s.present c.self.invariant.0 c.args.key.now in
     let tied : IsTied s.tree.pairs s.chains c.args.stamp = tied_later s.chains s.tree.pairs s.present c.args.stamp c.self.invariant.0 (omega (arith, later)) in
@@ -41,5 +41,5 @@ returns-in-Some c =
 pub returns-in-None : goal.returns-in-None
 returns-in-None c =
     let s = c.self.inside in
-    let at = rw c.in-None.is at c.get.ensures.found in
+    let at = rw c.in-None.is at c.look_up.ensures.found in
     (refl, rw (← c.self.view_is) (none_in s.chains s.tree.pairs c.args.key.now c.self.invariant.0.sorted at), refl)

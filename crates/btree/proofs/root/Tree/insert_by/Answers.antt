@@ -2,7 +2,7 @@ use Rattle.std.proofs.Common.{◌≡◌, ◌-◌, ◌+◌, length, ap, subst, �
 use Rattle.std.specs.FinMap.Entries.{put}
 use Rattle.btree.specs.Rows.{HasBecome}
 use Rattle.btree.proofs.Roots.{root_kept, root_risen, length_put, low}
-use Rattle.btree.proofs.root.Tree.insert.Goals as goal
+use Rattle.btree.proofs.root.Tree.insert_by.Goals as goal
 
 pub invariant_of-self-in-Some-1 : goal.invariant_of-self-in-Some-1
 invariant_of-self-in-Some-1 g c =
