@@ -165,7 +165,8 @@ impl<K: Ord, V> Node<K, V> {
         requires sorted { Ascends K.cmp self.now.pairs }
         requires counts { visits.old + self.now.height < 2 ^ 63 }
         ensures found { option_map (λ v. v.now) result ≡ find K.cmp key.now self.now.pairs }
-        ensures visited { visits.new ≤ visits.old + self.now.height + 1 }
+        ensures visited { (visits.old < visits.new) × (visits.new ≤ visits.old + self.now.height + 1) }
+        ensures missed { result ≡ None → visits.new ≡ visits.old + self.now.height + 1 }
     {
         let (entries, kids) = self.read(visits);
         match place(entries, key) {
@@ -182,7 +183,7 @@ impl<K: Ord, V> Node<K, V> {
         requires sorted { Ascends K.cmp self.now.pairs }
         requires counts { visits.old + self.now.height < 2 ^ 63 }
         ensures found { option_map (λ p. (p.0.now, p.1.now)) result ≡ first_from (P.before point.now) self.now.pairs }
-        ensures visited { visits.new ≤ visits.old + self.now.height + 1 }
+        ensures visited { visits.new ≡ visits.old + self.now.height + 1 }
     {
         let (entries, kids) = self.read(visits);
         let at = count_before(entries, point);
@@ -200,7 +201,7 @@ impl<K: Ord, V> Node<K, V> {
         requires sorted { Ascends K.cmp self.now.pairs }
         requires counts { visits.old + self.now.height < 2 ^ 63 }
         ensures found { option_map (λ p. (p.0.now, p.1.now)) result ≡ last_before (P.before point.now) self.now.pairs }
-        ensures visited { visits.new ≤ visits.old + self.now.height + 1 }
+        ensures visited { visits.new ≡ visits.old + self.now.height + 1 }
     {
         let (entries, kids) = self.read(visits);
         let at = count_before(entries, point);
