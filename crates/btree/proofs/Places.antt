@@ -64,6 +64,11 @@ module _ {K V : Type 0} where
       let k = each_at (IsKid 16 x.height) (x ∷ ks) i d h s.kids in
       (ap suc k.level, record { level = refl; least = k.least; most = k.most; full = k.full })
 
+  -- a node that has no kid at a place among its pairs is a leaf
+  pub leaf_at : (i : ℕ) (es : List (K × V)) (ks : List (Branch K V)) → IsNode es ks → i ≤ length es → length ks ≤ i → height_of ks ≡ 0
+  leaf_at i es [] s p h = refl
+  leaf_at i es (k ∷ ks) s p h = let fits = s.fits (omega arith) in absurd (omega (arith, fits))
+
 module _ {K V : Type 0} (R : K → K → Ordering) where
   each_entry : (P : K × V → Type 0) (es : List (K × V)) (ks : List (Branch K V)) → Each P (weave es ks) → Each P es
   each_entry P [] ks h = tt

@@ -166,7 +166,8 @@ impl<K: Ord, V> Node<K, V> {
         requires sorted { Ascends K.cmp self.now.pairs }
         requires counts { trail.old.visits + self.now.height < 2 ^ 63 }
         ensures found { option_map (λ v. v.now) result ≡ find K.cmp key.now self.now.pairs }
-        ensures visited { trail.new.visits ≤ trail.old.visits + self.now.height + 1 }
+        ensures visited { (trail.old.visits < trail.new.visits) × (trail.new.visits ≤ trail.old.visits + self.now.height + 1) }
+        ensures missed { result ≡ None → trail.new.visits ≡ trail.old.visits + self.now.height + 1 }
     {
         let mut here = self;
         loop {
@@ -188,7 +189,7 @@ impl<K: Ord, V> Node<K, V> {
         requires sorted { Ascends K.cmp self.now.pairs }
         requires counts { visits.old + self.now.height < 2 ^ 63 }
         ensures found { option_map (λ p. (p.0.now, p.1.now)) result ≡ first_from (P.before point.now) self.now.pairs }
-        ensures visited { visits.new ≤ visits.old + self.now.height + 1 }
+        ensures visited { visits.new ≡ visits.old + self.now.height + 1 }
     {
         let (entries, kids) = self.read(visits);
         let at = count_before(entries, point);
@@ -206,7 +207,7 @@ impl<K: Ord, V> Node<K, V> {
         requires sorted { Ascends K.cmp self.now.pairs }
         requires counts { visits.old + self.now.height < 2 ^ 63 }
         ensures found { option_map (λ p. (p.0.now, p.1.now)) result ≡ last_before (P.before point.now) self.now.pairs }
-        ensures visited { visits.new ≤ visits.old + self.now.height + 1 }
+        ensures visited { visits.new ≡ visits.old + self.now.height + 1 }
     {
         let (entries, kids) = self.read(visits);
         let at = count_before(entries, point);

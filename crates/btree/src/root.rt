@@ -68,10 +68,11 @@ impl<K: Ord, V> Tree<K, V> {
         self.len() == 0
     }
 
-    /// The value of a key, and how many nodes were visited.
+    /// The value of a key, and how many nodes were visited: one a level, down to the key, or to a leaf where it isn't there.
     pub fn get(&self, key: &K) -> (Option<&V>, usize)
         ensures found { option_map (λ v. v.now) result.0 ≡ entries.find K.cmp key.now self.now.pairs }
-        ensures visited { result.1 ≤ self.now.depth }
+        ensures visited { (1 ≤ result.1) × (result.1 ≤ self.now.depth) }
+        ensures missed { result.0 ≡ None → result.1 ≡ self.now.depth }
     {
         let (value, trail) = self.look_up(key);
         (value, trail.visits())
@@ -80,27 +81,28 @@ impl<K: Ord, V> Tree<K, V> {
     /// The value of a key, and where its look-up went.
     pub fn look_up(&self, key: &K) -> (Option<&V>, Trail)
         ensures found { option_map (λ v. v.now) result.0 ≡ entries.find K.cmp key.now self.now.pairs }
-        ensures visited { result.1.visits ≤ self.now.depth }
+        ensures visited { (1 ≤ result.1.visits) × (result.1.visits ≤ self.now.depth) }
+        ensures missed { result.0 ≡ None → result.1.visits ≡ self.now.depth }
     {
         let mut trail = Trail::new();
         let found = self.root.get(key, &mut trail);
         (found, trail)
     }
 
-    /// The first pair whose key does not stand before a point, and how many nodes were visited.
+    /// The first pair whose key does not stand before a point, and how many nodes were visited: one a level.
     pub fn first_from<P: Point<K>>(&self, point: &P) -> (Option<(&K, &V)>, usize)
         ensures found { option_map (λ p. (p.0.now, p.1.now)) result.0 ≡ find (λ e. not (P.before point.now e.0)) self.now.pairs }
-        ensures visited { result.1 ≤ self.now.depth }
+        ensures visited { result.1 ≡ self.now.depth }
     {
         let mut visits = 0;
         let found = self.root.first_from(point, &mut visits);
         (found, visits)
     }
 
-    /// The last pair whose key stands before a point, and how many nodes were visited.
+    /// The last pair whose key stands before a point, and how many nodes were visited: one a level.
     pub fn last_before<P: Point<K>>(&self, point: &P) -> (Option<(&K, &V)>, usize)
         ensures found { option_map (λ p. (p.0.now, p.1.now)) result.0 ≡ find_last (λ e. P.before point.now e.0) self.now.pairs }
-        ensures visited { result.1 ≤ self.now.depth }
+        ensures visited { result.1 ≡ self.now.depth }
     {
         let mut visits = 0;
         let found = self.root.last_before(point, &mut visits);

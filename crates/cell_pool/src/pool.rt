@@ -1,5 +1,5 @@
 //! The pool: free cells, counts, and the pages that they lie in.
-ghost use Rattle.std.specs.Prelude.{◌≡◌, ◌+◌, ◌^◌, ◌<◌, ◌≤◌, [], IfOk, OnErr, MatchResult};
+ghost use Rattle.std.specs.Prelude.{◌≡◌, ◌+◌, ◌^◌, ◌<◌, ◌≤◌, max, [], IfOk, OnErr, MatchResult};
 ghost use Rattle.cell_pool.specs.Ownership.{IsIn};
 ghost use Rattle.cell_pool.specs.Pool.{PoolState, Within, Filled};
 
@@ -93,7 +93,8 @@ impl<T> Pool<T> {
         value
     }
 
-    /// Makes at least `n` cells spare, in whole pages. Cells that are out stay where they are.
+    /// Makes at least `n` cells spare, in whole pages, and no page more than that takes. Cells that are out stay where they
+    /// are.
     ///
     /// Refusals: `AllocError` where fewer than `n` were spare and there is no memory for so many, nor for `n` cells at
     /// all: at most 2^50 pages, of cells smaller than 2^57 bytes. Pages that were added before it stay.
@@ -102,6 +103,7 @@ impl<T> Pool<T> {
         ensures pages { Within self.old.pages self.new.pages }
         ensures spare { self.old.spare ≤ self.new.spare }
         ensures room { IfOk result (λ _. n ≤ self.new.spare) }
+        ensures most { self.new.spare ≤ max self.old.spare (n + 63) }
         ensures full { OnErr result (self.old.spare < n) }
     {
         while self.spare < n {
@@ -116,6 +118,7 @@ impl<T> Pool<T> {
         ensures pages { Within self.old.pages self.new.pages }
         ensures spare { self.old.spare ≤ self.new.spare }
         ensures room { IfOk result (λ _. self.new.spare ≡ self.old.spare + 64) }
+        ensures err { OnErr result (self.new ≡ self.old) }
     {
         if self.leases.len() >= MAX_PAGES || !is_small::<T>() {
             return Err(AllocError);

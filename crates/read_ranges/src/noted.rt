@@ -1,5 +1,5 @@
 //! The ranges that a transaction has read.
-ghost use Rattle.std.specs.Prelude.{◌≡◌, Bool, ◌||◌, ◌<◌, true, false, [], length, take, IfOk, OnOk, OnErr};
+ghost use Rattle.std.specs.Prelude.{◌≡◌, Bool, ◌+◌, ◌||◌, ◌<◌, ◌≤◌, true, false, [], length, take, IfOk, OnOk, OnErr};
 ghost use Rattle.collation.specs.Reference.{Reference};
 ghost use Rattle.collation.specs.Levels.{has_level, has_name, parent_of};
 ghost use Rattle.collation.specs.Answers.{follows, is_forward};
@@ -87,6 +87,7 @@ impl Ranges {
         requires { IsAnswerOf command.now answer.now }
         ensures noted { OnOk result (IsNoted self.old self.new command.now answer.now decided) }
         ensures behind { OnOk result (KeepsFormerRanges command.now self.old self.new) }
+        ensures few { length self.new ≤ length self.old + 1 }
         ensures err { OnErr result (self.new ≡ self.old) }
     {
         match command {
@@ -106,6 +107,7 @@ impl Ranges {
     ) -> Result<(), AllocError>
         requires { IsLookAnswer look.now answer.now }
         ensures noted { OnOk result (IsNoted self.old self.new (look_command look.now) answer.now decided) }
+        ensures few { length self.new ≤ length self.old + 1 }
         ensures err { OnErr result (self.new ≡ self.old) }
     {
         match look {
@@ -130,6 +132,7 @@ impl Ranges {
     ) -> Result<(), AllocError>
         requires { IsOrderAnswer place.now answer.now }
         ensures noted { (decided : Bool) → OnOk result (IsNoted self.old self.new (look_command (order_command place.now direction)) answer.now decided) }
+        ensures few { length self.new ≤ length self.old + 1 }
         ensures err { OnErr result (self.new ≡ self.old) }
     {
         match answer {
@@ -152,6 +155,7 @@ impl Ranges {
         requires level { has_level place.now ≡ true }
         requires end { end.now ≡ level_end_spec (parent_of place.now) answer.now }
         ensures more { OnOk result ((x : Reference) → is_in_one self.new x ≡ (is_in_one self.old x || order_read (is_forward direction) place.now (Value answer.now) x)) }
+        ensures few { length self.new ≤ length self.old + 1 }
         ensures err { OnErr result (self.new ≡ self.old) }
     {
         match direction {
@@ -175,6 +179,7 @@ impl Ranges {
     ) -> Result<(), AllocError>
         requires { IsQueryAnswer place.now answer.now }
         ensures noted { (decided : Bool) → OnOk result (IsNoted self.old self.new (look_command (query_command place.now direction)) answer.now decided) }
+        ensures few { length self.new ≤ length self.old + 1 }
         ensures err { OnErr result (self.new ≡ self.old) }
     {
         match answer {
@@ -195,6 +200,7 @@ impl Ranges {
     ) -> Result<(), AllocError>
         requires { has_name place.now.reference found.now ≡ true }
         ensures more { OnOk result ((x : Reference) → is_in_one self.new x ≡ (is_in_one self.old x || query_read (is_forward direction) place.now (Found found.now) x)) }
+        ensures few { length self.new ≤ length self.old + 1 }
         ensures err { OnErr result (self.new ≡ self.old) }
     {
         match direction {
@@ -212,6 +218,7 @@ impl Ranges {
     ) -> Result<(), AllocError>
         requires { name.now ≡ root_of place.now.reference }
         ensures more { OnOk result ((x : Reference) → is_in_one self.new x ≡ (is_in_one self.old x || follows (is_forward direction) place.now x)) }
+        ensures few { length self.new ≤ length self.old + 1 }
         ensures err { OnErr result (self.new ≡ self.old) }
     {
         match direction {
@@ -223,6 +230,7 @@ impl Ranges {
     // Puts in what lies between two cuts: into one of the last ranges that it joins, or else as a range of its own.
     fn add(&mut self, low: Cut<'_>, high: Cut<'_>) -> Result<(), AllocError>
         ensures more { OnOk result ((x : Reference) → is_in_one self.new x ≡ (is_in_one self.old x || between low.entry high.entry x)) }
+        ensures few { length self.new ≤ length self.old + 1 }
         ensures err { OnErr result (self.new ≡ self.old) }
     {
         let first = self.list.len().saturating_sub(NEAR);
@@ -238,6 +246,7 @@ impl Ranges {
     fn push(&mut self, low: Cut<'_>, high: Cut<'_>) -> Result<(), AllocError>
         ensures more { OnOk result ((x : Reference) → is_in_one self.new x ≡ (is_in_one self.old x || between low.entry high.entry x)) }
         ensures behind { OnOk result (take (length self.old) self.new ≡ self.old) }
+        ensures few { length self.new ≤ length self.old + 1 }
         ensures err { OnErr result (self.new ≡ self.old) }
     {
         self.list.reserve(1)?;
@@ -251,6 +260,7 @@ impl Ranges {
         requires { i < length self.now }
         ensures joined { IfOk result (λ joined. joined ≡ true → (x : Reference) → is_in_one self.new x ≡ (is_in_one self.old x || between low.entry high.entry x)) }
         ensures apart { IfOk result (λ joined. joined ≡ false → self.new ≡ self.old) }
+        ensures length { length self.new ≡ length self.old }
         ensures err { OnErr result (self.new ≡ self.old) }
     {
         self.list[i].take_in(low, high)

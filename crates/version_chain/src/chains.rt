@@ -1,5 +1,5 @@
 //! Chains by id, in one pool.
-ghost use Rattle.std.specs.Prelude.{◌≡◌, ℕ, ◌+◌, ◌<◌, ◌≤◌, [], ◌∷◌, Some, None, IsTrue, ◌↔◌, length, option_copied, slice_set, IfOk, OnErr};
+ghost use Rattle.std.specs.Prelude.{◌≡◌, ℕ, ◌+◌, ◌<◌, ◌≤◌, [], ◌∷◌, Some, None, IsTrue, ◌↔◌, max, length, option_copied, slice_set, IfOk, OnErr};
 ghost use Rattle.version_chain.specs.Slots.{slot_at};
 ghost use Rattle.version_chain.specs.Links.{line_versions};
 ghost use Rattle.version_chain.specs.Tidy.{since_at as since_at_spec};
@@ -100,13 +100,15 @@ impl<V: Drop> Chains<V> {
         self.pool.spare()
     }
 
-    /// Reserves cells, so that there are at least `cells`, and keeps those there are.
+    /// Reserves cells, so that there are at least `cells`, in pages of 64 and no page more than that takes, and keeps those
+    /// there are.
     ///
     /// Refusals: `AllocError` where fewer were reserved and memory is wanting. No chain changes.
     pub fn reserve(&mut self, cells: usize) -> Result<(), AllocError>
         ensures chains { self.new.chains ≡ self.old.chains }
         ensures spare { self.old.spare ≤ self.new.spare }
         ensures room { IfOk result (λ _. cells ≤ self.new.spare) }
+        ensures most { self.new.spare ≤ max self.old.spare (cells + 63) }
         ensures full { OnErr result (self.old.spare < cells) }
     {
         self.pool.reserve(cells)

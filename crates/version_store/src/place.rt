@@ -1,5 +1,5 @@
 //! Room for changes: chains for references, and cells for versions.
-ghost use Rattle.std.specs.Prelude.{◌≡◌, ℕ, ◌≤◌, [], None, OnOk, OnErr, length, true, map, drop};
+ghost use Rattle.std.specs.Prelude.{◌≡◌, ℕ, ◌+◌, ◌≤◌, max, [], None, OnOk, OnErr, length, true, map, drop};
 ghost use Rattle.std.specs.FinMap as finmap;
 ghost use Rattle.collation.specs.Reference.{Reference};
 ghost use Rattle.version_store.specs.Versions.{Versions, content_at, versions_of, placed, all_placed};
@@ -113,6 +113,7 @@ impl Store {
         ensures kept { self.new ≡ record self.old { spare = self.new.spare } }
         ensures spare { self.old.spare ≤ self.new.spare }
         ensures room { OnOk result (cells ≤ self.new.spare) }
+        ensures most { self.new.spare ≤ max self.old.spare (cells + 63) }
     {
         self.chains.reserve(cells)
     }
@@ -134,6 +135,7 @@ impl Store {
         ensures cut { self.new.cut ≡ self.old.cut }
         ensures mark { self.new.mark ≡ self.old.mark }
         ensures spare { self.old.spare ≤ self.new.spare }
+        ensures most { self.new.spare ≤ max self.old.spare (length changes.now + 63) }
     {
         self.reserve(changes.len())?;
         let placed = self.count_placed(changes);

@@ -1,5 +1,5 @@
 //! One reference set at a new stamp, and placed on the way.
-ghost use Rattle.std.specs.Prelude.{◌≡◌, ℕ, ◌<◌, ◌≤◌, [], ◌∷◌, None, Some, max, OnOk, OnErr, MatchOption};
+ghost use Rattle.std.specs.Prelude.{◌≡◌, ℕ, ◌+◌, ◌<◌, ◌≤◌, [], ◌∷◌, None, Some, max, OnOk, OnErr, MatchOption};
 ghost use Rattle.std.specs.FinMap as finmap;
 ghost use Rattle.collation.specs.Order.{ref_cmp};
 ghost use Rattle.collation.specs.Reference.{Reference};
@@ -17,8 +17,9 @@ impl Store {
         requires stamp { self.old.present < stamp }
         requires cut { cut ≤ stamp }
         requires reserved { 0 < self.old.spare }
-        ensures { MatchOption result (IsSetAt stamp cut (key.now, Some value) self.old self.new)
+        ensures set { MatchOption result (IsSetAt stamp cut (key.now, Some value) self.old self.new)
             (λ back. (back.0 ≡ value) × (finmap.get self.old.versions key.now ≡ None) × (self.new ≡ self.old)) }
+        ensures spare { self.old.spare ≤ self.new.spare + 1 }
     {
         let (found, trail) = self.tree.look_up(key);
         match found {
@@ -47,6 +48,7 @@ impl Store {
         requires cut { cut ≤ stamp }
         requires none { finmap.get self.old.versions key ≡ None }
         ensures ok { OnOk result (IsSetAt stamp cut (key, Some value) self.old self.new) }
+        ensures spare { self.old.spare ≤ self.new.spare + 1 }
         ensures err { OnErr result (self.new ≡ self.old) }
     {
         let id = match self.chains.open() {
@@ -86,6 +88,7 @@ impl Store {
         requires cut { cut ≤ stamp }
         ensures ok { OnOk result (IsSetAt stamp cut (key, Some value) self.old self.new) }
         ensures err { OnErr result (self.new ≡ record self.old { spare = self.new.spare }) }
+        ensures spare { self.old.spare ≤ self.new.spare + 1 }
     {
         match self.reserve(1) {
             Ok(()) => {}
@@ -124,6 +127,7 @@ impl Store {
         ensures rows { OnOk result ((r : Reference) → versions_of self.new.versions r ≡ row_cut stamp self.new.cut (finmap.find ref_cmp r ((key, Some value) ∷ [])) (versions_of self.old.versions r)) }
         ensures set { OnOk result (IsSetAt stamp (max self.old.cut horizon) (key, Some value) self.old self.new) }
         ensures err { OnErr result (self.new ≡ record self.old { spare = self.new.spare }) }
+        ensures spare { self.old.spare ≤ self.new.spare + 1 }
     {
         let cut = self.cut.max(horizon);
         self.place_and_set(alloc, stamp, cut, key, value)

@@ -3,7 +3,7 @@ use Rattle.std.proofs.Common.{◌≡◌, ◌<◌, ◌≤◌, ◌+◌, length, ap
 use borrow.Author.Tests.{ltb-true, ltb-false}
 use Rattle.std.specs.List.{slice_get}
 use Rattle.btree.specs.Order.{Ascends, first_from}
-use Rattle.btree.proofs.Places.{entries_ascend, within_none, within_at, within_ascends, kid_at, first_within}
+use Rattle.btree.proofs.Places.{entries_ascend, within_none, within_at, within_ascends, kid_at, leaf_at, first_within}
 use Rattle.btree.proofs.node.Node.+first_from.Goals as goal
 
 pub count_before-at-requires : goal.count_before-at-requires
@@ -44,3 +44,24 @@ returns-in-Some-first_from-clause-found g t c =
     sym (ap (λ b. first_from (g.P.Point.before c.args.point.now) b.pairs) (sym c.read.ensures.same_view)
     ∙ first_within g.K.Ord.cmp (g.P.Point.before c.args.point.now) (g.met.P.Point.downward c.args.point.now) c.count_before-at.result c.read.result.0.now c.read.result.1.now sorted c.count_before-at.ensures.in_range c.count_before-at.ensures.before c.count_before-at.ensures.after
     ∙ ap (λ o. option_or o (slice_get c.read.result.0.now c.count_before-at.result)) found)
+
+pub returns-in-None-clause-visited : goal.returns-in-None-clause-visited
+returns-in-None-clause-visited g t c =
+    let high : length c.read.result.1.now ≤ c.count_before-at.result = ltb-false _ _ (sym c.in-None.ensures.lookup.0) in
+    let leaf = leaf_at c.count_before-at.result c.read.result.0.now c.read.result.1.now c.read.ensures.sound c.count_before-at.ensures.in_range high in
+    let level = ap (λ b. b.height) c.read.ensures.same_view in
+    omega (arith, leaf, level, c.read.ensures.visit)
+
+pub returns-in-None-first_from-clause-visited : goal.returns-in-None-first_from-clause-visited
+returns-in-None-first_from-clause-visited g t c =
+    let low : c.count_before-at.result < length c.read.result.1.now = ltb-true _ _ (sym c.in-Some.ensures.lookup.0) in
+    let kid = (kid_at c.count_before-at.result c.read.result.0.now c.read.result.1.now c.in-Some.kid.now c.read.ensures.sound low).0 in
+    let level : c.in-Some.kid.now.height + 1 ≡ c.args.self.now.height = rw c.in-Some.ensures.lookup.1 (omega (arith, kid, ap (λ b. b.height) c.read.ensures.same_view)) in
+    omega (arith, level, c.in-None-first_from.ensures.visited, c.read.ensures.visit)
+
+pub returns-in-Some-first_from-clause-visited : goal.returns-in-Some-first_from-clause-visited
+returns-in-Some-first_from-clause-visited g t c =
+    let low : c.count_before-at.result < length c.read.result.1.now = ltb-true _ _ (sym c.in-Some.ensures.lookup.0) in
+    let kid = (kid_at c.count_before-at.result c.read.result.0.now c.read.result.1.now c.in-Some.kid.now c.read.ensures.sound low).0 in
+    let level : c.in-Some.kid.now.height + 1 ≡ c.args.self.now.height = rw c.in-Some.ensures.lookup.1 (omega (arith, kid, ap (λ b. b.height) c.read.ensures.same_view)) in
+    omega (arith, level, c.in-Some-first_from.ensures.visited, c.read.ensures.visit)

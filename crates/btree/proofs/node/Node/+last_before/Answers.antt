@@ -2,7 +2,7 @@ use Rattle.std.specs.Option.{option_or}
 use Rattle.std.proofs.Common.{◌≡◌, ◌<◌, ◌≤◌, ◌+◌, length, take, ap, subst, sym, ◌∙◌, arith, rules}
 use borrow.Author.Tests.{ltb-true, ltb-false}
 use Rattle.btree.specs.Order.{Ascends, last_before, last_of}
-use Rattle.btree.proofs.Places.{entries_ascend, within_none, within_at, within_ascends, kid_at, last_within}
+use Rattle.btree.proofs.Places.{entries_ascend, within_none, within_at, within_ascends, kid_at, leaf_at, last_within}
 use Rattle.btree.proofs.node.Node.+last_before.Goals as goal
 
 pub count_before-at-requires : goal.count_before-at-requires
@@ -43,3 +43,24 @@ returns-in-Some-last_before-clause-found g t c =
     sym (ap (λ b. last_before (g.P.Point.before c.args.point.now) b.pairs) (sym c.read.ensures.same_view)
     ∙ last_within g.K.Ord.cmp (g.P.Point.before c.args.point.now) (g.met.P.Point.downward c.args.point.now) c.count_before-at.result c.read.result.0.now c.read.result.1.now sorted c.count_before-at.ensures.in_range c.count_before-at.ensures.before c.count_before-at.ensures.after
     ∙ ap (λ o. option_or o (last_of (take c.count_before-at.result c.read.result.0.now))) found)
+
+pub returns-in-None-clause-visited : goal.returns-in-None-clause-visited
+returns-in-None-clause-visited g t c =
+    let high : length c.read.result.1.now ≤ c.count_before-at.result = ltb-false _ _ (sym c.in-None.ensures.lookup.0) in
+    let leaf = leaf_at c.count_before-at.result c.read.result.0.now c.read.result.1.now c.read.ensures.sound c.count_before-at.ensures.in_range high in
+    let level = ap (λ b. b.height) c.read.ensures.same_view in
+    omega (arith, leaf, level, c.read.ensures.visit)
+
+pub returns-in-None-last_before-clause-visited : goal.returns-in-None-last_before-clause-visited
+returns-in-None-last_before-clause-visited g t c =
+    let low : c.count_before-at.result < length c.read.result.1.now = ltb-true _ _ (sym c.in-Some.ensures.lookup.0) in
+    let kid = (kid_at c.count_before-at.result c.read.result.0.now c.read.result.1.now c.in-Some.kid.now c.read.ensures.sound low).0 in
+    let level : c.in-Some.kid.now.height + 1 ≡ c.args.self.now.height = rw c.in-Some.ensures.lookup.1 (omega (arith, kid, ap (λ b. b.height) c.read.ensures.same_view)) in
+    omega (arith, level, c.in-None-last_before.ensures.visited, c.read.ensures.visit)
+
+pub returns-in-Some-last_before-clause-visited : goal.returns-in-Some-last_before-clause-visited
+returns-in-Some-last_before-clause-visited g t c =
+    let low : c.count_before-at.result < length c.read.result.1.now = ltb-true _ _ (sym c.in-Some.ensures.lookup.0) in
+    let kid = (kid_at c.count_before-at.result c.read.result.0.now c.read.result.1.now c.in-Some.kid.now c.read.ensures.sound low).0 in
+    let level : c.in-Some.kid.now.height + 1 ≡ c.args.self.now.height = rw c.in-Some.ensures.lookup.1 (omega (arith, kid, ap (λ b. b.height) c.read.ensures.same_view)) in
+    omega (arith, level, c.in-Some-last_before.ensures.visited, c.read.ensures.visit)

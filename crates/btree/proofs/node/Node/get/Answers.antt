@@ -2,11 +2,11 @@ use Rattle.std.proofs.Common.{◌≡◌, ◌<◌, ◌≤◌, ◌+◌, length, re
 use borrow.Author.Tests.{ltb-true, ltb-false}
 use Rattle.std.specs.FinMap.Entries.{find}
 use Rattle.btree.specs.Order.{Ascends}
-use Rattle.btree.proofs.Places.{entries_ascend, within_none, within_at, within_ascends, kid_at, find_entry, find_within}
+use Rattle.btree.proofs.Places.{entries_ascend, within_none, within_at, within_ascends, kid_at, leaf_at, find_entry, find_within}
 use Rattle.btree.proofs.node.Node.get.Goals as goal
 
 pub loop-at-init : goal.loop-at-init
-loop-at-init g c = record { sorted = c.requires.sorted; counts = omega arith; found = refl }
+loop-at-init g c = record { sorted = c.requires.sorted; low = omega arith; counts = refl; found = refl }
 
 pub place-requires : goal.place-requires
 place-requires g c = entries_ascend g.K.Ord.cmp c.read.result.0.now c.read.result.1.now (subst (λ b. Ascends g.K.Ord.cmp b.pairs) (sym c.read.ensures.same_view) c.loop-at.invariant.sorted)
@@ -36,7 +36,22 @@ loop-at-preserved g c =
     record {
       sorted = subst (λ b. Ascends g.K.Ord.cmp b.pairs) (sym c.in-Some.ensures.lookup.1) (subst (Ascends g.K.Ord.cmp) below
           (within_ascends g.K.Ord.cmp c.in-Err.at c.read.result.0.now c.read.result.1.now c.in-Err.ensures.gap.0 sorted));
+      low = omega (arith, c.note.ensures, c.read.ensures.visit, c.loop-at.invariant.low);
       counts = omega (arith, level, c.note.ensures, c.read.ensures.visit, c.loop-at.invariant.counts);
       found = sym (ap (λ b. find g.K.Ord.cmp c.args.key.now b.pairs) (sym c.read.ensures.same_view) ∙ found
           ∙ ap (find g.K.Ord.cmp c.args.key.now) (below ∙ ap (λ b. b.pairs) (sym c.in-Some.ensures.lookup.1))) ∙ c.loop-at.invariant.found;
     }
+
+pub returns-in-Ok-clause-visited : goal.returns-in-Ok-clause-visited
+returns-in-Ok-clause-visited g c = (omega (arith, c.read.ensures.visit, c.loop-at.invariant.low), omega (arith, c.read.ensures.visit, c.loop-at.invariant.counts))
+
+pub returns-in-None-clause-visited : goal.returns-in-None-clause-visited
+returns-in-None-clause-visited g c =
+    (omega (arith, c.note.ensures, c.read.ensures.visit, c.loop-at.invariant.low), omega (arith, c.note.ensures, c.read.ensures.visit, c.loop-at.invariant.counts))
+
+pub returns-in-None-clause-missed : goal.returns-in-None-clause-missed
+returns-in-None-clause-missed g c = λ _.
+    let high : length c.read.result.1.now ≤ c.in-Err.at = ltb-false _ _ (sym c.in-None.ensures.lookup.0) in
+    let leaf = leaf_at c.in-Err.at c.read.result.0.now c.read.result.1.now c.read.ensures.sound c.in-Err.ensures.gap.0 high in
+    let level = ap (λ b. b.height) c.read.ensures.same_view in
+    omega (arith, leaf, level, c.note.ensures, c.read.ensures.visit, c.loop-at.invariant.counts)

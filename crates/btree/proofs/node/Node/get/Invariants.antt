@@ -6,7 +6,8 @@ use Rattle.btree.proofs.node.Node.get.Given as goal
 abbrev pub invariant-loop-at : goal.invariant-loop-at
 invariant-loop-at g l = record {
   sorted : Ascends g.K.Ord.cmp l.here.pairs;
-  counts : l.trail.visits + l.here.height ≤ l.fn.trail.visits + l.fn.self.height;
+  low : l.fn.trail.visits ≤ l.trail.visits;
+  counts : l.trail.visits + l.here.height ≡ l.fn.trail.visits + l.fn.self.height;
   found : find g.K.Ord.cmp l.fn.key l.here.pairs ≡ find g.K.Ord.cmp l.fn.key l.fn.self.pairs;
 }
 

@@ -23,8 +23,8 @@ invariant_of-self c =
     let is = cut_at_once s.chains c.push_and_cut.new.self s.tree.pairs c.args.stamp c.in-Some.id.now c.args.stamp c.args.cut c.args.key.now (Some c.args.value) tied at c.push_and_cut.ensures.chains (omega arith) (above_at s.present c.args.stamp _ later low) in
     (is.tied, c.requires.cut)
 
-pub returns-in-Some : goal.returns-in-Some
-returns-in-Some c =
+pub returns-in-Some-clause-set : goal.returns-in-Some-clause-set
+returns-in-Some-clause-set c =
     let s = c.self.inside in
     let at = rw c.in-Some.is at c.look_up.ensures.found in
     let later : s.present < c.args.stamp = rw (← c.self.view_is) at c.requires.stamp in
@@ -38,8 +38,8 @@ returns-in-Some c =
       mark = refl;
     })
 
-pub returns-in-None : goal.returns-in-None
-returns-in-None c =
+pub returns-in-None-clause-set : goal.returns-in-None-clause-set
+returns-in-None-clause-set c =
     let s = c.self.inside in
     let at = rw c.in-None.is at c.look_up.ensures.found in
     (refl, rw (← c.self.view_is) (none_in s.chains s.tree.pairs c.args.key.now c.self.invariant.0.sorted at), refl)
