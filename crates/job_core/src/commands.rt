@@ -4,7 +4,8 @@ ghost use Rattle.refusal.specs.declared.Refusal.{Refusal};
 ghost use Rattle.command.specs.Data.{data_refusal, data_reply, data_after};
 ghost use Rattle.journal.specs.declared.unit.Unit.TheVariants.{Lone};
 ghost use Rattle.journal.specs.Kept.{job_of};
-ghost use Rattle.version_store.specs.Versions.{content_now};
+ghost use Rattle.collation.specs.Reference.{Reference};
+ghost use Rattle.version_store.specs.Versions.{content_now, versions_of};
 ghost use Rattle.validate_commit.specs.Agreement.{Agreement, IsNext};
 ghost use Rattle.globals.specs.Answering.{early_refusal};
 ghost use Rattle.job_core.specs.Causes.{IsCauseOf};
@@ -23,7 +24,7 @@ use version_store::Store;
 /// Does a data command of a job outside a transaction, in one step, on a store and a journal that agree.
 ///
 /// On `Ok` the answer is the command's on the database, the journal has its unit, and the receipt names it. A refusal
-/// leaves database and journal as they were; its cause is the command's own rule, else a full journal
+/// leaves database, versions, cut and journal as they were; its cause is the command's own rule, else a full journal
 /// (`StampsUsedUp`), or want of memory, which never hides a rule that is looked at before memory is asked for.
 ///
 /// `oldest` is the least stamp whose content is still asked for, where there is one: up to it, or else up to now, the
@@ -49,6 +50,9 @@ pub fn lone(
     ensures cause { IfErr result (λ refusal. IsCauseOf refusal command (content_now store.old) (length journal.old.units)) }
     ensures agreed { Agreement store.new journal.new.units }
     ensures cut { store.new.cut ≤ max store.old.cut (unwrap_or oldest (length journal.new.units)) }
+    ensures left { OnOk result (store.new.cut ≡ max store.old.cut (unwrap_or oldest (length journal.new.units))) }
+    ensures same_cut { OnErr result (store.new.cut ≡ store.old.cut) }
+    ensures rows { OnErr result ((x : Reference) → versions_of store.new.versions x ≡ versions_of store.old.versions x) }
 {
     match prepare(alloc, store, journal, job, &command) {
         Ok((answer, found)) => match do_command(alloc, store, journal, command, found, oldest) {
@@ -117,6 +121,9 @@ fn do_command(
     ensures receipt { IfOk result (λ receipt. IfSome journal.old.prepared (λ unit. receipt ≡ record { job = job_of unit; number = length journal.new.units; unit = unit })) }
     ensures refused { OnErr result ((journal.new.units ≡ journal.old.units) × (content_now store.new ≡ content_now store.old)) }
     ensures cut { store.new.cut ≤ max store.old.cut (unwrap_or oldest (length journal.new.units)) }
+    ensures left { OnOk result (store.new.cut ≡ max store.old.cut (unwrap_or oldest (length journal.new.units))) }
+    ensures same_cut { OnErr result (store.new.cut ≡ store.old.cut) }
+    ensures rows { OnErr result ((x : Reference) → versions_of store.new.versions x ≡ versions_of store.old.versions x) }
 {
     match command {
         DataCommand::Set(key, value) => {
@@ -157,6 +164,9 @@ fn do_prepared(
     ensures receipt { IfOk result (λ receipt. IfSome journal.old.prepared (λ unit. receipt ≡ record { job = job_of unit; number = length journal.new.units; unit = unit })) }
     ensures refused { OnErr result ((journal.new.units ≡ journal.old.units) × (content_now store.new ≡ content_now store.old)) }
     ensures cut { store.new.cut ≤ max store.old.cut (unwrap_or oldest (length journal.new.units)) }
+    ensures left { OnOk result (store.new.cut ≡ max store.old.cut (unwrap_or oldest (length journal.new.units))) }
+    ensures same_cut { OnErr result (store.new.cut ≡ store.old.cut) }
+    ensures rows { OnErr result ((x : Reference) → versions_of store.new.versions x ≡ versions_of store.old.versions x) }
 {
     match store.place_keys(alloc, &changes) {
         Ok(()) => Ok(write(store, journal, changes, oldest)),
