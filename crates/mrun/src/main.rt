@@ -2,10 +2,10 @@
 //!
 //! It prints a line `job reply` for each line that isn't empty, then `--` and the listing of the database.
 //! What is printed is what `script_run::run_with` promises, the exit status is `script_run::status_of` of its outcome
-//! and the text of a fault is `script_run::Fault::text`; this file only collects the words, opens the file and prints
+//! and the text of a fault is `script_run::Fault::text`; this file only collects the arguments, opens the file and prints
 //! what went wrong:
 //!
-//! 0, all replies are accepted; 1, a reply is an `error`; 2, a fault, or wrong words, told on standard error.
+//! 0, all replies are accepted; 1, a reply is an `error`; 2, a fault, or wrong arguments; standard error says which.
 #![tactic(auto)]
 
 use clap::error::ErrorKind;
@@ -47,15 +47,15 @@ impl<'a, P: Eprint + AllocGlobal> RefusalLog for ErrorLog<'a, P> {
     }
 }
 
-// Word `i` of the command line, or none after the last.
-fn word_at(rt: &(impl Env + AllocGlobal), i: usize) -> Result<Option<Vec<u8>>, AllocError> {
+// Argument `i` of the command line, or none after the last.
+fn argument_at(rt: &(impl Env + AllocGlobal), i: usize) -> Result<Option<Vec<u8>>, AllocError> {
     let mut size = 256usize;
     for _ in 0..usize::BITS {
-        let mut word = Vec::from_elem(rt.alloc(), 0u8, size)?;
-        match rt.arg(i, word.as_mut_slice()) {
+        let mut argument = Vec::from_elem(rt.alloc(), 0u8, size)?;
+        match rt.arg(i, argument.as_mut_slice()) {
             Ok(n) => {
-                word.truncate(n);
-                return Ok(Some(word));
+                argument.truncate(n);
+                return Ok(Some(argument));
             }
             Err(FillError::NotPresent) => return Ok(None),
             Err(FillError::TooLong) => size = size.saturating_mul(2),
@@ -64,45 +64,45 @@ fn word_at(rt: &(impl Env + AllocGlobal), i: usize) -> Result<Option<Vec<u8>>, A
     Err(AllocError)
 }
 
-// The words as bytes. The first is the program's name.
-fn words_of(rt: &(impl Env + AllocGlobal)) -> Result<Vec<Vec<u8>>, AllocError> {
-    let mut words = Vec::new(rt.alloc());
+// The arguments as bytes. The first is the program's name.
+fn arguments_of(rt: &(impl Env + AllocGlobal)) -> Result<Vec<Vec<u8>>, AllocError> {
+    let mut arguments = Vec::new(rt.alloc());
     for i in 0..usize::MAX {
-        match word_at(rt, i)? {
-            Some(word) => words.push(word)?,
+        match argument_at(rt, i)? {
+            Some(argument) => arguments.push(argument)?,
             None => break,
         }
     }
-    Ok(words)
+    Ok(arguments)
 }
 
 // Prints a fault's line, and answers its exit status.
-fn told(rt: &impl Eprint, fault: Fault) -> u8 {
+fn print_fault(rt: &impl Eprint, fault: Fault) -> u8 {
     let _ = eprintln!(rt; "mrun: {fault}");
     status_of(&Err(fault))
 }
 
 // Prints that a file can't be opened, and why, and answers the exit status.
-fn told_of_file(rt: &impl Eprint, name: &str, why: io::Error) -> u8 {
+fn print_unopened(rt: &impl Eprint, name: &str, why: io::Error) -> u8 {
     let fault = Fault::Read;
     let _ = eprintln!(rt; "mrun: {fault}: {name}: {why}");
     status_of(&Err(fault))
 }
 
 // Prints that a file's name isn't UTF-8, which std's paths are, and answers the exit status.
-fn told_of_name(rt: &impl Eprint) -> u8 {
+fn print_bad_name(rt: &impl Eprint) -> u8 {
     let fault = Fault::Read;
     let _ = eprintln!(rt; "mrun: {fault}: the name of the file isn't UTF-8");
     status_of(&Err(fault))
 }
 
-// Prints help, the version or what is wrong with the words, and answers the exit status.
-fn told_of_words(rt: &(impl Print + Eprint), error: clap::Error) -> u8 {
+// Prints help, the version or what is wrong with the arguments, and answers the exit status.
+fn print_help_or_error(rt: &(impl Print + Eprint), error: clap::Error) -> u8 {
     if error.kind() == ErrorKind::OutOfMemory {
-        return told(rt, Fault::Memory);
+        return print_fault(rt, Fault::Memory);
     }
     if error.print(rt).is_err() {
-        return told(rt, Fault::Write);
+        return print_fault(rt, Fault::Write);
     }
     if error.use_stderr() { 2 } else { 0 }
 }
@@ -128,26 +128,26 @@ fn run_from<R: Read + Drop>(rt: &(impl Print + Eprint + AllocGlobal), args: Args
     status_of(&outcome)
 }
 
-fn run_words(rt: &(impl Files + Print + Eprint + Input + AllocGlobal), words: &[Vec<u8>]) -> u8 {
-    let args = match args_of(rt.alloc(), words) {
+fn run_with_arguments(rt: &(impl Files + Print + Eprint + Input + AllocGlobal), arguments: &[Vec<u8>]) -> u8 {
+    let args = match args_of(rt.alloc(), arguments) {
         Ok(args) => args,
-        Err(error) => return told_of_words(rt, error),
+        Err(error) => return print_help_or_error(rt, error),
     };
-    let Some(name) = args.file.and_then(|place| words.get(place)) else {
+    let Some(name) = args.file.and_then(|place| arguments.get(place)) else {
         return run_from(rt, args, rt.reader());
     };
     let Ok(path) = std::str::from_utf8(name) else {
-        return told_of_name(rt);
+        return print_bad_name(rt);
     };
     match fs::open(rt, path) {
         Ok(file) => run_from(rt, args, file),
-        Err(why) => told_of_file(rt, path, why),
+        Err(why) => print_unopened(rt, path, why),
     }
 }
 
 fn main(rt: HostRuntime) -> ExitCode {
-    match words_of(&rt) {
-        Ok(words) => ExitCode::from(run_words(&rt, &words)),
-        Err(AllocError) => ExitCode::from(told(&rt, Fault::Memory)),
+    match arguments_of(&rt) {
+        Ok(arguments) => ExitCode::from(run_with_arguments(&rt, &arguments)),
+        Err(AllocError) => ExitCode::from(print_fault(&rt, Fault::Memory)),
     }
 }

@@ -1,9 +1,9 @@
-//! The command line of `mrun`: what its words ask for.
+//! The command line of `mrun`: what its arguments ask for.
 //!
-//! Words are bytes, since a word may be of any bytes. The parser reads one that isn't UTF-8 with each bad sequence
-//! replaced; the file is told by its place among the words, so that its own bytes are kept and no other file is opened.
+//! Arguments are bytes, since one may be of any bytes. The parser reads one that isn't UTF-8 with each bad sequence
+//! replaced; its answer says which argument is the file, so that its own bytes are kept and no other file is opened.
 //!
-//! No contract says what the words ask for: tests run the parser on them.
+//! No contract says what the arguments ask for: tests run the parser on them.
 #![tactic(auto)]
 
 use clap::builder::ValueParser;
@@ -30,10 +30,10 @@ Lines can be typed: each gets its reply at once, and Ctrl-D on an empty line end
 Exit status: 0, all replies are accepted; 1, a reply is an `error`; 2, input can't be read, output can't be
 written, memory ran out, or the words above are wrong.";
 
-/// What the words ask for.
+/// What the arguments ask for.
 #[derive(Clone, Copy, Debug, PartialEq, Eq)]
 pub struct Args {
-    /// Which of the words is the file, or none for standard input.
+    /// Which of the arguments is the file, or none for standard input.
     pub file: Option<usize>,
     /// Whether `--` and the listing are printed.
     pub listed: bool,
@@ -75,22 +75,22 @@ fn command<'a>(alloc: Global) -> Result<Command<'a>, Error> {
     Ok(command)
 }
 
-// The first word of this text. The program's name comes before it, and only options and their values can have the same
+// The first argument of this text. The program's name comes before it, and only options and their values can have the same
 // text; they are of ASCII, so then their bytes are the file's too.
-fn place_of(words: &[String], text: &str) -> Option<usize> {
-    for i in 1..words.len() {
-        if words[i].as_str() == text {
+fn place_of(arguments: &[String], text: &str) -> Option<usize> {
+    for i in 1..arguments.len() {
+        if arguments[i].as_str() == text {
             return Some(i);
         }
     }
     None
 }
 
-/// What the words ask for; the first is the program's name. An error's text is for the user: help and the version too.
-pub fn args_of(alloc: Global, words: &[Vec<u8>]) -> Result<Args, Error> {
+/// What the arguments ask for; the first is the program's name. An error's text is for the user: help and the version too.
+pub fn args_of(alloc: Global, arguments: &[Vec<u8>]) -> Result<Args, Error> {
     let mut texts = Vec::new(alloc);
-    for word in words {
-        texts.push(String::from_utf8_lossy(alloc, word)?)?;
+    for argument in arguments {
+        texts.push(String::from_utf8_lossy(alloc, argument)?)?;
     }
     let matches = command(alloc)?.try_get_matches_from(&texts)?;
     let file = match matches.get_str("FILE") {
