@@ -33,9 +33,6 @@ wanted_is held inside_fewer x a b r a_is b_is r_is = r_is ∙ ap (λ z. z - b) a
 abbrev pub IsOver : List Resource → List Resource → Counts → Type 0
 IsOver over ns fewer = (x : Resource) → times x over ≡ times x ns - count_of fewer x
 
-pub all_over : (fewer : Counts) (ns : List Resource) → ((x : Resource) → count_of fewer x ≡ 0) → IsOver ns ns fewer
-all_over fewer ns none x = let e : count_of fewer x ≡ 0 = none x in omega arith
-
 pub more_held : (h f a h2 f2 a2 : Counts) (ns over : List Resource) (had : Bool) → HasNoZeros h → AreWithin h f a → IsOver over ns f → had ≡ true → h2 ≡ cond had (more_of over h) h → a2 ≡ more_of over a → f2 ≡ fewer_of ns f
     → three h2 f2 a2 ≡ job_wants true (cond had (more_of ns (less h f)) (less h f)) (three h f a)
 more_held h f a h2 f2 a2 ns over had none within is had_is h_is a_is f_is =
@@ -165,9 +162,6 @@ less_all h f none is = same_counts (less h f) finmap.empty (none_less h f none) 
     let e : count_of f x ≡ count_of h x = ap (λ c. count_of c x) is in
     let z : count_of finmap.empty x ≡ 0 = no_count x in
     omega arith)
-
-pub within_all : (h f all a : Counts) → all ≡ h → AreWithin h f a → AreWithin h all a
-within_all h f all a is within = record { fewer_held = λ x. let e : count_of all x ≡ count_of h x = ap (λ c. count_of c x) is in omega arith; added_held = within.added_held }
 
 pub only_wanted : (h f all a : Counts) (l : JobLocks) (ns : List Resource) (had : Bool) → HasNoZeros h → all ≡ h → l ≡ job_wants true (cond had (more_of ns (less h all)) (less h all)) (three h all a) → l ≡ job_wants true (cond had (more_of ns finmap.empty) finmap.empty) (three h f a)
 only_wanted h f all a l ns had none is done = done ∙ ap (λ w. job_wants true (cond had (more_of ns w) w) (three h f a)) (less_all h all none is)

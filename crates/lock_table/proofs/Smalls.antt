@@ -1,6 +1,6 @@
 -- Counts as std's map keeps them.
 use Rattle.std.proofs.Common.{◌≡◌, ◌≤◌, ◌<◌, ℕ, List, [], ◌∷◌, length, Bool, true, false, refl, sym, ap, subst, ◌∙◌, arith}
-use Rattle.std.specs.Prelude.{cond, max, min, Option, Some, None, IsSome, unwrap_or, Result, Ok, Err, OnOk, OnErr}
+use Rattle.std.specs.Prelude.{cond, max, min, Option, Some, None, IsSome, unwrap_or, Result, Ok, Err, OnOk}
 use Rattle.std.specs.Ordering.{eq_by_cmp}
 use Rattle.std.specs.Map.{lookup}
 use Rattle.std.specs.BTreeMap.{is_at}
@@ -100,7 +100,3 @@ empty_counted es m was none x = ap (λ c. count_of c x) (sym was ∙ ap finmap.f
 pub onward : {A E P Q : Type 0} (r : Result A E) → (P → Q) → OnOk r P → OnOk r Q
 onward (Ok a) f p = f p
 onward (Err e) f p = tt
-
-pub err_always : {A E P : Type 0} (r : Result A E) → P → OnErr r P
-err_always (Ok a) p = tt
-err_always (Err e) p = p

@@ -80,10 +80,7 @@ row_joined before trie es fs job l joined puts others kept other x = by_test (eq
     by_test true e = ap (λ j. held_count trie j x) (same_job other job e) ∙ kept x ∙ ap (λ s. count_of s.held x) (sym (now true e))
     by_test false e = others other x (other_job other job e) ∙ joined other x ∙ ap (λ s. count_of s.held x) (sym (now false e))
 
--- a job without an entry, or one that has nothing, comes or goes
-pub made_joined : (trie : Held) (es fs : List (ℕ × JobLocks)) (job : ℕ) → RowsMatchTrie trie (finmap.from_entries es) → None ≡ lookup (is_at (nat_cmp job)) es → Puts es fs job no_locks → RowsMatchTrie trie (finmap.from_entries fs)
-made_joined trie es fs job joined is puts = row_joined trie trie es fs job no_locks joined puts (λ other x apart. refl) (λ x. joined job x ∙ ap (λ o. count_of (unwrap_or o no_locks).held x) (got es (finmap.from_entries es) job None refl is))
-
+-- a job that has nothing goes
 pub removed_joined : (trie : Held) (m n : LockState) (job : ℕ) → RowsMatchTrie trie m → locks_of job m ≡ no_locks → n ≡ finmap.remove m job → RowsMatchTrie trie n
 removed_joined trie m n job joined none is other x = joined other x ∙ ap (λ s. count_of s.held x) (by_test (eq_by_cmp nat_cmp other job) refl)
   where

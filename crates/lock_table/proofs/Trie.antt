@@ -30,8 +30,5 @@ recounted_same t job n v is other x = by_tests (eq_by_cmp nat_cmp other job) (eq
     by_tests true false e f = refl
     by_tests false d e f = refl
 
-pub recounted_as : (old new : Held) (job : ℕ) (n : Resource) (v w : ℕ) → v ≡ w → IsRecounted old new job n v → IsRecounted old new job n w
-recounted_as old new job n v w e is other x = is other x ∙ ap (λ z. cond (eq_by_cmp nat_cmp other job && eq_by_cmp resource_cmp x n) z (held_count old other x)) e
-
 pub others_along : (old now new : Held) (job : ℕ) → IsSame now new → AreOthersSame old now job → AreOthersSame old new job
 others_along old now new job same others other x apart = same other x ∙ others other x apart
