@@ -81,6 +81,7 @@ row_joined before trie es fs job l joined puts others kept other x = by_test (eq
     by_test true e = ap (λ j. held_count trie j x) (same_job other job e) ∙ kept x ∙ ap (λ s. count_of s.held x) (sym (now true e))
     by_test false e = others other x (other_job other job e) ∙ joined other x ∙ ap (λ s. count_of s.held x) (sym (now false e))
 
+-- a job that has nothing goes
 pub removed_joined : (trie : Held) (m n : LockState) (job : ℕ) → RowsMatchTrie trie m → locks_of job m ≡ no_locks → n ≡ finmap.remove m job → RowsMatchTrie trie n
 removed_joined trie m n job joined none is other x = joined other x ∙ ap (λ s. count_of s.held x) (by_test (eq_by_cmp nat_cmp other job) refl)
   where

@@ -18,7 +18,7 @@
 //! Invariants:
 //! (1) the counts at and below a path are those of all held paths that begin with it (`specs/Tallied.antt`);
 //! (2) no held count is above 65,535;
-//! (3) nodes and roots without counts have no entry (not stated: no clause could tell).
+//! (3) nodes and roots without counts have no entry: what takes counts away takes the entry too, where none is left (`gone`).
 //!
 //! `blocked` looks once at the path's node for what is at and below it, and once at each beginning of the path for what is
 //! held there, at two jobs of a node at most. `add` and `take_away` change the node and one count for each beginning. So

@@ -1,6 +1,8 @@
 //! Counts by job.
-ghost use Rattle.std.specs.Prelude.{true, false, ◌≡◌, ◌<◌, ◌+◌, ◌-◌, ℕ, OnOk, OnErr};
-ghost use Rattle.lock_trie.specs.Marks.{marked, IsCountPut};
+ghost use Rattle.std.specs.Prelude.{true, false, ◌≡◌, ◌<◌, ◌≤◌, ◌+◌, ◌-◌, ℕ, None, OnOk, OnErr};
+ghost use Rattle.std.specs.Ordering.{nat_cmp};
+ghost use Rattle.std.specs.BTreeMap.{get};
+ghost use Rattle.lock_trie.specs.Marks.{marked, IsCountPut, HasMarks};
 
 use std::alloc::{AllocError, Global};
 use std::collections::BTreeMap;
@@ -50,7 +52,8 @@ impl Marks {
 
     /// The job's count is n less; at none its entry goes. Takes no memory.
     pub fn take(&mut self, job: u16, n: u64)
-        ensures { IsCountPut (marked self.old) (marked self.new) job (marked self.old job - n) }
+        ensures count { IsCountPut (marked self.old) (marked self.new) job (marked self.old job - n) }
+        ensures gone { marked self.old job ≤ n → get nat_cmp self.new.map job ≡ None }
     {
         let count = self.count(job);
         if count <= n {
@@ -77,7 +80,8 @@ impl Marks {
 
     /// Whether no job has an entry.
     pub fn is_empty(&self) -> bool
-        ensures { result ≡ true → (job : ℕ) → marked self.now job ≡ 0 }
+        ensures none { result ≡ true → (job : ℕ) → marked self.now job ≡ 0 }
+        ensures some { result ≡ false → HasMarks self.now }
     {
         self.map.is_empty()
     }

@@ -1,6 +1,6 @@
 //! Counts by path and job.
 ghost use Rattle.std.specs.Prelude.{true, false, ◌≡◌, ◌<◌, ◌+◌, ◌-◌, ℕ, OnOk, OnErr};
-ghost use Rattle.lock_trie.specs.Paths.{Path, marked_at, IsPutAt, AreKept};
+ghost use Rattle.lock_trie.specs.Paths.{Path, marked_at, IsPutAt, AreKept, HasPaths, IsNotBareAt};
 
 use crate::marks::Marks;
 use collation::Text;
@@ -87,7 +87,8 @@ impl Paths {
     }
 
     fn is_bare(&self, path: &[Text]) -> bool
-        ensures { result ≡ true → (job : ℕ) → marked_at self.now path.now job ≡ 0 }
+        ensures none { result ≡ true → (job : ℕ) → marked_at self.now path.now job ≡ 0 }
+        ensures some { result ≡ false → IsNotBareAt self.now path.now }
     {
         match self.map.get(path) {
             Some(marks) => marks.is_empty(),
@@ -97,7 +98,8 @@ impl Paths {
 
     /// The job's count at the path is n less; a path without counts goes. Takes no memory.
     pub fn take(&mut self, job: u16, path: &[Text], n: u64)
-        ensures { IsPutAt (marked_at self.old) (marked_at self.new) path.now job (marked_at self.old path.now job - n) }
+        ensures count { IsPutAt (marked_at self.old) (marked_at self.new) path.now job (marked_at self.old path.now job - n) }
+        ensures gone { IsNotBareAt self.new path.now }
     {
         self.lower(job, path, n);
         if self.is_bare(path) {
@@ -118,7 +120,8 @@ impl Paths {
 
     /// Whether no path has an entry.
     pub fn is_empty(&self) -> bool
-        ensures { result ≡ true → (x : Path) (job : ℕ) → marked_at self.now x job ≡ 0 }
+        ensures none { result ≡ true → (x : Path) (job : ℕ) → marked_at self.now x job ≡ 0 }
+        ensures some { result ≡ false → HasPaths self.now }
     {
         self.map.is_empty()
     }

@@ -2,7 +2,7 @@
 ghost use Rattle.std.specs.Prelude.{true, false, ◌||◌, ◌≡◌, ◌≤◌, ◌<◌, ◌+◌, ◌-◌, ℕ, length, OnOk, OnErr};
 ghost use Rattle.collation.specs.Limits.{most_locks};
 ghost use Rattle.collation.specs.Database.{begins_with};
-ghost use Rattle.lock_trie.specs.Paths.{Path, marked_at, IsPutAt, AreKept};
+ghost use Rattle.lock_trie.specs.Paths.{Path, marked_at, IsPutAt, AreKept, HasPaths};
 ghost use Rattle.lock_trie.specs.Tallied.{IsAlong};
 
 use crate::paths::Paths;
@@ -140,8 +140,9 @@ impl Root {
 
     /// Whether nothing is held.
     pub fn is_empty(&self) -> bool
-        ensures { result ≡ true → (x : Path) (job : ℕ) → marked_at self.now x job ≡ 0 }
+        ensures none { result ≡ true → (x : Path) (job : ℕ) → marked_at self.now x job ≡ 0 }
+        ensures some { result ≡ false → HasPaths self.now }
     {
-        self.own.is_empty() && self.within.is_empty()
+        self.own.is_empty()
     }
 }

@@ -3,7 +3,7 @@ ghost use Rattle.std.specs.Prelude.{true, false, ◌||◌, ◌≡◌, ◌≤◌,
 ghost use Rattle.collation.specs.Limits.{most_locks};
 ghost use Rattle.collation.specs.Database.{begins_with};
 ghost use Rattle.lock_trie.specs.Paths.{Path};
-ghost use Rattle.lock_trie.specs.Roots.{held_at, IsHeldPut, AreHeldSame};
+ghost use Rattle.lock_trie.specs.Roots.{held_at, IsHeldPut, AreHeldSame, IsNotBareUnder};
 
 use crate::root::Root;
 use collation::Text;
@@ -92,7 +92,8 @@ impl Roots {
     }
 
     fn is_bare(&self, name: &[u8]) -> bool
-        ensures { result ≡ true → (x : Path) (job : ℕ) → held_at self.now name.now x job ≡ 0 }
+        ensures none { result ≡ true → (x : Path) (job : ℕ) → held_at self.now name.now x job ≡ 0 }
+        ensures some { result ≡ false → IsNotBareUnder self.now name.now }
     {
         match self.map.get(name) {
             Some(root) => root.is_empty(),
@@ -102,7 +103,8 @@ impl Roots {
 
     /// The job holds the path n times fewer; a name under which nothing is held goes. Takes no memory.
     pub fn take_away(&mut self, job: u16, name: &[u8], path: &[Text], n: u32)
-        ensures { IsHeldPut (held_at self.old) (held_at self.new) name.now path.now job (held_at self.old name.now path.now job - n) }
+        ensures count { IsHeldPut (held_at self.old) (held_at self.new) name.now path.now job (held_at self.old name.now path.now job - n) }
+        ensures gone { IsNotBareUnder self.new name.now }
     {
         self.lower(job, name, path, n);
         if self.is_bare(name) {

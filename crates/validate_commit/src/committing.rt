@@ -1,5 +1,5 @@
 //! The commit of a transaction: it becomes a unit, or begins anew, or nothing happens.
-ghost use Rattle.std.specs.Prelude.{◌≡◌, ℕ, ◌≤◌, ◌<◌, ◌-◌, ◌^◌, Some, length, vec_len, max, unwrap_or, IfSome, IfOk, OnOk, OnErr, IfErr};
+ghost use Rattle.std.specs.Prelude.{◌≡◌, ℕ, ◌≤◌, ◌<◌, ◌-◌, ◌^◌, true, Some, length, vec_len, max, unwrap_or, IfSome, IfOk, OnOk, OnErr, IfErr, IsOk};
 ghost use Rattle.collation.specs.Reference.{Reference};
 ghost use Rattle.serial.specs.Machine.{state_at};
 ghost use Rattle.version_store.specs.Versions.{content_at, versions_of, ArePlaced};
@@ -8,7 +8,7 @@ ghost use Rattle.journal.specs.Kept.{HasNoRoom};
 ghost use Rattle.journal.specs.declared.unit.Unit.TheVariants.{Whole};
 ghost use Rattle.validate_commit.specs.Agreement.{Agreement};
 ghost use Rattle.validate_commit.specs.Working.{IsWorkOn};
-ghost use Rattle.validate_commit.specs.Verdicts.{IsVerdict, IsStoreLeft, IsCauseAtCommit};
+ghost use Rattle.validate_commit.specs.Verdicts.{has_been_overtaken, IsVerdict, IsStoreLeft, IsCauseAtCommit};
 
 use crate::work::Work;
 use crate::writing::write;
@@ -79,7 +79,8 @@ fn prepare(
 /// least start of the other open transactions, if there are any: versions that only older stamps see go.
 ///
 /// Refusals, after which content at each stamp, versions, units, locks and the transaction are as they were:
-/// `StampsUsedUp` where the journal is full; `OutOfMemory`.
+/// `StampsUsedUp` where the journal is full; `OutOfMemory`. A transaction that was overtaken is never refused: its verdict takes
+/// no memory.
 pub fn commit(
     alloc: Global,
     store: &mut Store,
@@ -104,6 +105,7 @@ pub fn commit(
     ensures present { OnErr result (store.new.present ≡ store.old.present) }
     ensures same_cut { OnErr result (store.new.cut ≡ store.old.cut) }
     ensures cause { IfErr result (λ refusal. IsCauseAtCommit refusal work.now journal.old.units) }
+    ensures sure { has_been_overtaken work.now journal.old.units ≡ true → IsOk result }
 {
     if work.is_overtaken(store) {
         return Ok(Verdict::Restart);

@@ -6,5 +6,5 @@ use Rattle.lock_trie.proofs.root.lower.Goals as goal
 pub loop-i-preserved : goal.loop-i-preserved
 loop-i-preserved c = record {
   in_range = omega arith;
-  along = along_next (λ v. v - c.args.n) (marked_at c.args.within.now) (marked_at c.loop-i.within) (marked_at c.take.new.self) c.args.path.now c.args.job c.loop-i.i (omega arith) c.loop-i.invariant.along c.take.ensures;
+  along = along_next (λ v. v - c.args.n) (marked_at c.args.within.now) (marked_at c.loop-i.within) (marked_at c.take.new.self) c.args.path.now c.args.job c.loop-i.i (omega arith) c.loop-i.invariant.along c.take.ensures.count;
 }

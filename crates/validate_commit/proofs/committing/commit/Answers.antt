@@ -1,4 +1,4 @@
-use Rattle.std.proofs.Common.{◌≡◌, inl, inr, refl, sym, ap, subst, ◌∙◌, ◌∷◌, ◌++◌, [], false, arith}
+use Rattle.std.proofs.Common.{◌≡◌, inl, inr, refl, sym, ap, subst, ◌∙◌, ◌∷◌, ◌++◌, [], true, false, arith}
 use Rattle.journal.specs.declared.unit.Unit.TheVariants.{Whole}
 use Rattle.journal.specs.History.{initial, after}
 use Rattle.workspace.specs.Changes.{AreChanges}
@@ -32,3 +32,9 @@ returns-in-Err-clause-cause c =
       | inl memory ↦ inl memory
       | inr full ↦ inr (full.0, (none, omega (arith, full.1)))
     ]
+
+pub returns-in-Err-clause-sure : goal.returns-in-Err-clause-sure
+returns-in-Err-clause-sure c = λ was.
+    let none : has_been_overtaken c.args.work.now c.args.journal.now.units ≡ false = sym (c.is_overtaken.ensures c.args.journal.now.units c.requires.agreed c.requires.work c.requires.kept) ∙ c.if-is_overtaken.false in
+    let both : true ≡ false = sym was ∙ none in
+    absurd (cc)

@@ -9,7 +9,7 @@ returns-in-Some c =
     let same = found_at c.args.self.now.map c.args.path.now (Some c.in-Some.marks.now) c.in-Some.ensures.value in
     put_at c.args.self.now.map (c.get_mut.follows.lender c.take.new.self) c.args.path.now c.args.job _ c.take.new.self
     ((c.get_mut.follows.holds c.take.new.self).3 (is_there_marks _ c.in-Some.marks.now c.in-Some.ensures.value))
-    (put_found (marked c.in-Some.marks.now) (marked c.take.new.self) _ c.args.job _ _ c.take.ensures same (ap (λ v. v - c.args.n) (same c.args.job)))
+    (put_found (marked c.in-Some.marks.now) (marked c.take.new.self) _ c.args.job _ _ c.take.ensures.count same (ap (λ v. v - c.args.n) (same c.args.job)))
 
 pub returns-in_default : goal.returns-in_default
 returns-in_default c = rw c.get_mut.follows.holds-at-none (none_at _ c.args.path.now c.args.job c.args.n (λ other. sym (found_at c.args.self.now.map c.args.path.now None (ap option_copied_mut (sym c.in_default.is) ∙ c.get_mut.ensures.value) other)))

@@ -12,7 +12,7 @@ invariant_of-self-in-Ok-raise c =
 
 pub invariant_of-self-in-Err-raise : goal.invariant_of-self-in-Err-raise
 invariant_of-self-in-Err-raise c =
-    root_kept c.self.inside.own c.take.new.self c.self.inside.within c.raise.new.within (put_back (marked_at c.self.inside.own) (marked_at c.add.new.self) (marked_at c.take.new.self) c.args.path.now c.args.job _ c.in-Ok.ensures.ok c.take.ensures) c.in-Err-raise.ensures.err c.self.invariant
+    root_kept c.self.inside.own c.take.new.self c.self.inside.within c.raise.new.within (put_back (marked_at c.self.inside.own) (marked_at c.add.new.self) (marked_at c.take.new.self) c.args.path.now c.args.job _ c.in-Ok.ensures.ok c.take.ensures.count) c.in-Err-raise.ensures.err c.self.invariant
 
 pub returns-in-Err-raise-clause-err : goal.returns-in-Err-raise-clause-err
-returns-in-Err-raise-clause-err c = rw (← c.self.view_is) (put_back (marked_at c.self.inside.own) (marked_at c.add.new.self) (marked_at c.take.new.self) c.args.path.now c.args.job _ c.in-Ok.ensures.ok c.take.ensures)
+returns-in-Err-raise-clause-err c = rw (← c.self.view_is) (put_back (marked_at c.self.inside.own) (marked_at c.add.new.self) (marked_at c.take.new.self) c.args.path.now c.args.job _ c.in-Ok.ensures.ok c.take.ensures.count)
