@@ -75,12 +75,12 @@ pub record IsSpare {K V : Type 0} (pairs kids : ℕ) (es : Vec (K × V) Global) 
   pub room : 32 ≤ pairs → 33 ≤ vec_capacity es
   pub kids_room : 32 ≤ pairs → 0 < kids → 34 ≤ vec_capacity ks
 
--- a node that holds the given pairs now, alone or with a pair and a node behind it
+-- a node that holds the given pairs now, alone or with a pair and a node after it
 abbrev pub HasBecome : {K V : Type 0} → ℕ → ℕ → List (K × V) → Branch K V → Option ((K × V) × Branch K V) → Type 0
 HasBecome fewest height pairs new None = IsKid fewest height new × (new.pairs ≡ pairs)
 HasBecome fewest height pairs new (Some s) = IsKid 16 height new × IsKid 16 height s.1 × (new.pairs ++ s.0 ∷ s.1.pairs ≡ pairs)
 
--- the rows once such a pair and node stand behind the i-th kid
+-- the rows once such a pair and node stand after the i-th kid
 abbrev pub with_pair : {K V : Type 0} → List (K × V) → ℕ → Option ((K × V) × Branch K V) → List (K × V)
 with_pair es i None = es
 with_pair es i (Some s) = insert es i s.0

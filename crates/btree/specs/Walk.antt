@@ -5,7 +5,7 @@ use Rattle.btree.specs.Branch.{Branch}
 use Rattle.btree.specs.Rows.{first_pairs, rest, weave}
 use Rattle.btree.specs.declared.forward.Left.{Left}
 
--- pairs, each with the kid behind it
+-- pairs, each with the kid after it
 abbrev pub behind : {K V : Type 0} → List (K × V) → List (Branch K V) → List (K × V)
 behind [] ks = []
 behind (e ∷ es) ks = e ∷ weave es ks

@@ -50,7 +50,7 @@ fn push_back<'a, K, V>(path: &mut Path<'a, K, V>, entries: &'a [(K, V)], kids: &
     path.push(Left { entries, kids });
 }
 
-// Puts pairs, each with the kid before it, and the kid behind the last on the others, down to the last leaf.
+// Puts pairs, each with the kid before it, and the kid after the last on the others, down to the last leaf.
 fn enter_back<'a, K, V>(path: &mut Path<'a, K, V>, entries: &'a [(K, V)], kids: &'a [Node<K, V>])
     requires room { length path.old.items < 16 }
     requires path { IsPath 0 path.old.items }

@@ -16,7 +16,7 @@
 //! `[4 5 6]` too long: 5 goes up between 3 and 7, and `[3 5 7] / [1 2] [4] [6] [8]` is left, whose root splits too.
 //!
 //! Before it comes to that, a kid that an insertion has filled gives half of what it has more to the kid before or
-//! behind it (`ease.rt`), so that keys in order leave nodes of 30 pairs. A kid with a pair too few gets some likewise.
+//! after it (`ease.rt`), so that keys in order leave nodes of 30 pairs. A kid with a pair too few gets some likewise.
 //!
 //! An empty tree takes no memory, and one of a single node a row of 4, 8, 14 or 33 places. A tree is at most 16 levels
 //! deep: what recurs, dropping a tree too, recurs at most so often, and a walk keeps its way down in itself.

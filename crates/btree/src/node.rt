@@ -268,7 +268,7 @@ impl<K: Drop, V: Drop> Node<K, V> {
     }
 }
 
-/// The value before, and the pair and node behind this one, if there were too many pairs.
+/// The value before, and the pair and node after this one, if there were too many pairs.
 pub type Inserted<K, V> = (Option<V>, Option<Beside<K, V>>);
 
 impl<K: Ord + Drop, V: Drop> Node<K, V> {

@@ -85,7 +85,7 @@ pub fn replace_pair<T>(row: &mut Vec<T>, at: usize, pair: T) -> T
     mem::replace(&mut row[at], pair)
 }
 
-/// Moves the first elements of a row behind another that has room, all but so many.
+/// Moves the first elements of a row after another that has room, all but so many.
 pub fn move_first<T>(from: &mut Vec<T>, to: &mut Vec<T>, left: usize)
     requires some { left ≤ length from.old.items }
     requires room { length to.old.items + length from.old.items ≤ left + vec_capacity to.old }

@@ -27,7 +27,7 @@ pub fn place<K: Ord, V>(row: &[(K, V)], key: &K) -> Result<usize, usize>
     Err(low)
 }
 
-// Where a search compares next: before and then behind the place that is near, as long as that may be it, else in the middle.
+// Where a search compares next: before and then after the place that is near, as long as that may be it, else in the middle.
 fn probe(low: usize, high: usize, near: usize) -> usize
     requires { low < high }
     ensures low { low ≤ result }

@@ -22,7 +22,7 @@ impl Model for Key {
 }
 
 impl Key {
-    /// Digits, and so many full stops behind them, 28 at most.
+    /// Digits, and so many full stops after them, 28 at most.
     pub fn of(digits: [u8; 10], stops: u8) -> Key {
         let mut room = [b'.'; 39];
         room[..10].copy_from_slice(&digits);

@@ -24,6 +24,6 @@ abbrev pub shortest : Bool → List ℕ → List ℕ → List ℕ
 shortest negative whole fraction =
     if length whole == 0 && length fraction == 0 then 48 ∷ [] else signed negative (whole ++ with_point fraction)
 
--- the literal without the zeros before its first digit that counts and without those at its fraction's end
+-- the literal without leading zeros, and without trailing zeros of its fraction
 abbrev pub canonic_of : List ℕ → List ℕ
 canonic_of s = shortest (is_negative s) (after_zeros (whole_part (magnitude s))) (before_zeros (fraction_part (magnitude s)))

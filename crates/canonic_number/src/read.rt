@@ -15,7 +15,7 @@ pub struct Numeral<'a> {
     pub fraction: &'a [u8],
 }
 
-// Whether a '-' stands in front, and what stands behind it.
+// Whether a '-' stands in front, and what stands after it.
 pub(crate) fn split_sign(text: &[u8]) -> (bool, &[u8])
     ensures sign { result.0 ≡ number.is_negative text.now }
     ensures magnitude { result.1.now ≡ number.magnitude text.now }
@@ -32,7 +32,7 @@ fn point_of(magnitude: &[u8]) -> Option<usize>
     magnitude.iter().position(|byte| *byte == b'.')
 }
 
-// What stands before the point, and what behind it where there is one.
+// What stands before the point, and what after it where there is one.
 pub(crate) fn split_point(magnitude: &[u8]) -> (&[u8], Option<&[u8]>)
     ensures whole { result.0.now ≡ number.whole_part magnitude.now }
     ensures point { is_some result.1 ≡ is_some (position number.is_point magnitude.now) }

@@ -112,7 +112,7 @@ impl LockName {
         self.has_caret
     }
 
-    /// What stands behind the caret.
+    /// What stands after the caret.
     pub fn reference(&self) -> &Ref
         ensures { result.now ≡ self.now.reference }
     {

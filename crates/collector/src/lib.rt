@@ -5,7 +5,7 @@
 //! out. What anybody can still see doesn't change: content at each stamp from the cut on is as before.
 //!
 //! A `turn` visits at most so many keys, in their order, from the key after the mark on, and on at the first where it comes to
-//! the end; the key visited last is the new mark, so the next turn goes on behind it. A `pass` visits each key once.
+//! the end; the key visited last is the new mark, so the next turn goes on after it. A `pass` visits each key once.
 //!
 //! With `^A` at 3 absent, 2 "y" and 1 "x", and `^B` at 2 "z" and 1 "w", a pass at 3 takes out `^A` and leaves `^B` at 2 "z":
 //! 2 visited, 4 dropped, 1 removed. A turn at 2 with limit 1 leaves `^A` at 3 absent and 2 "y", and marks `^A`.

@@ -4,7 +4,7 @@ use refusal::Refusal;
 use script::{Drafts, read_line, write_reply};
 use std::alloc::Global;
 
-/// Does the line and puts its reply, as text, behind what stands in `out`.
+/// Does the line and puts its reply, as text, after what stands in `out`.
 pub fn answer(
     alloc: Global,
     core: &mut JobCore,

@@ -38,8 +38,8 @@ fn first_other_beginning(alloc: Global, line: &[u8], whole: &[usize]) -> Option<
     None
 }
 
-// A beginning is a line where a part of the value ends, or behind it: after `"value"`, `$CHAR(10)`, and wherever the
-// last text has an even number of quotes. The other is a line as `L`, as `LOCK`, behind its list, and with each digit.
+// A beginning is a line where a part of the value ends, or after it: after `"value"`, `$CHAR(10)`, and wherever the
+// last text has an even number of quotes. The other is a line as `L`, as `LOCK`, after its list, and with each digit.
 #[test]
 fn each_beginning_of_a_long_line_is_refused_unless_it_is_a_line(
     rt: HostRuntime,

@@ -43,7 +43,7 @@ impl<'v> Run<'v> {
         self.places.len()
     }
 
-    /// Puts a node behind the others.
+    /// Puts a node after the others.
     pub fn push(&mut self, key: &'v Key, value: &'v Text)
         requires { length self.old < 32 }
         ensures { self.new ≡ self.old ++ (key.now, value.now) ∷ [] }

@@ -272,7 +272,7 @@ module _ (job : ℕ) (old : Engine) (whole : IsWhole old) where
 pub of_unit : (P : JournalUnit → Type 0) (p : Option JournalUnit) (u : JournalUnit) → p ≡ Some u → IfSome p P → P u
 of_unit P p u is told = subst (λ o. IfSome o P) is told
 
--- a unit was pushed behind those that stood together, and the lock table is what it leaves
+-- a unit was pushed after those that stood together, and the lock table is what it leaves
 pub pushed_whole : (old new : Engine) (j : Kept) (l : LockState) (u : JournalUnit) → IsWhole old → j.units ≡ old.journal.units → l ≡ (after_unit u (after old.journal.units initial)).locks → IsPushed u (record old { journal = j; locks = l }) new → IsWhole new
 pushed_whole old new j l u whole units locks pushed =
     subst (IsJoined new.store new.journal.units new.locks) (sym pushed.sessions)

@@ -51,7 +51,7 @@ impl Engine {
         }
     }
 
-    /// The same beside the job's transaction, where that is open.
+    /// As `oldest`, of the other jobs' transactions alone, where the job's own is open.
     pub(crate) fn oldest_beside(&self, job: Job) -> Option<u64>
         ensures { IsSome (finmap.get self.now.sessions job) → IsHorizon result self.now.store.present (finmap.remove self.now.sessions job) }
     {

@@ -123,7 +123,7 @@ impl Sessions {
         }
     }
 
-    /// The same of the other jobs' transactions, where one of them is open and the job's own is.
+    /// As `oldest`, of the other jobs' transactions alone, where the job's own is open.
     pub(crate) fn oldest_beside(&self, job: Job) -> Option<u64>
         ensures { IsSome (finmap.get self.now job) → MatchOption result (finmap.remove self.now job ≡ finmap.empty) (λ stamp. AreFrom stamp (finmap.remove self.now job)) }
     {

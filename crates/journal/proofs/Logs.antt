@@ -36,7 +36,7 @@ bytes_of (Some job) draft h = subst (λ o. IfSome o (λ u. draft ≡ unit_bytes 
 
 -- ---- a unit more
 
--- a log with a unit behind it
+-- a log with a unit after it
 pub record Pushed (bytes new : List ℕ) (count newest : ℕ) (u : JournalUnit) : Type 0 where
   pub stands : Stands new (count + 1) (units_in (count + 1) new)
   pub ends : EndsAt new newest (units_in (count + 1) new)

@@ -40,7 +40,7 @@ caret_byte false = 0
 abbrev pub name_bytes : Resource → List ℕ
 name_bytes n = caret_byte n.has_caret ∷ reference_bytes n.reference
 
--- lock names: how many, and one behind the other
+-- lock names: how many, and one after the other
 abbrev pub names_bytes : List Resource → List ℕ
 names_bytes ns = number_bytes (length ns) ++ flat_map name_bytes ns
 
@@ -130,7 +130,7 @@ lock_bytes (Fewer ns) = names_bytes ns
 
 -- ---- units
 
--- what stands behind the job
+-- what stands after the job
 abbrev pub deed_bytes : JournalUnit → List ℕ
 deed_bytes (Lone job command answer) = answered_bytes command answer
 deed_bytes (Whole job exchanges) = 56 ∷ (number_bytes (length exchanges) ++ flat_map exchange_bytes exchanges)

@@ -31,7 +31,7 @@ o >>= f = option_and_then f o
 abbrev pub wide_at : Width → List ℕ → Option (ℕ × List ℕ)
 wide_at w bytes = if nat_le (byte_len w) (length bytes) then Some (from_be_bytes w (take (byte_len w) bytes), drop (byte_len w) bytes) else None
 
--- each reader answers what it read and the bytes behind it
+-- each reader answers what it read and the bytes after it
 unfoldable pub number_at : List ℕ → Option (ℕ × List ℕ)
 number_at [] = None
 number_at (b ∷ bytes) = if nat_lt b 254 then Some (b, bytes) else (if b == 254 then wide_at w16 bytes else wide_at w64 bytes)
@@ -60,7 +60,7 @@ unfoldable pub name_at : List ℕ → Option (Resource × List ℕ)
 name_at [] = None
 name_at (b ∷ bytes) = reference_at bytes >>= λ r. Some (record { has_caret = caret_of b; reference = r.0 }, r.1)
 
--- so many, one behind the other
+-- so many, one after the other
 abbrev pub list_at : {A : Type 0} → (List ℕ → Option (A × List ℕ)) → ℕ → List ℕ → Option (List A × List ℕ)
 list_at f zero bytes = Some ([], bytes)
 list_at f (suc n) bytes = f bytes >>= λ x. list_at f n x.1 >>= λ xs. Some (x.0 ∷ xs.0, xs.1)
@@ -140,7 +140,7 @@ answer_at kind bytes =
     else (if kind == 2 then count_at bytes
     else found_at bytes))
 
--- a command with its answer, behind their tag
+-- a command with its answer, after their tag
 unfoldable pub answered_at : ℕ → List ℕ → Option (Exchange × List ℕ)
 answered_at tag bytes = data_command_at (tag / 4) bytes >>= λ c. answer_at (tag % 4) c.1 >>= λ a. Some (record { command = c.0; answer = a.0 }, a.1)
 
@@ -181,7 +181,7 @@ has_had flags = flags % 2 == 1
 abbrev pub locked_at : ℕ → ℕ → List ℕ → Option (JournalUnit × List ℕ)
 locked_at job tag bytes = lock_command_at (tag / 4) bytes >>= λ l. Some (Lock job (is_inside (tag % 4)) l.0 (has_had (tag % 4)), l.1)
 
--- what stands behind the job, after its tag
+-- what stands after the job, after its tag
 unfoldable pub deed_at : ℕ → ℕ → List ℕ → Option (JournalUnit × List ℕ)
 deed_at job tag bytes =
     if nat_lt tag 56 then lone_at job tag bytes

@@ -114,7 +114,7 @@ impl Journal {
         self.log.as_slice().len()
     }
 
-    /// The bytes of the units, one behind the other, in the format of docs/FORMATS.md, "Units".
+    /// The bytes of the units, one after the other, in the format of docs/FORMATS.md, "Units".
     pub fn as_slice(&self) -> &[u8]
         ensures bytes { result.now ≡ flat_map unit_bytes self.now.units }
         ensures fit { Each FitsUnit self.now.units }

@@ -1,4 +1,4 @@
-//! The log: the bytes of unit behind unit.
+//! The log: the bytes of unit after unit.
 ghost use Rattle.std.specs.Prelude.{◌≡◌, ◌≤◌, ◌+◌, ◌<◌, ◌++◌, [], ◌∷◌, List, drop, length, IsSome, IfSome, IfOk, OnOk, MatchOption};
 ghost use Rattle.std.specs.List.{flat_map};
 ghost use Rattle.journal.specs.declared.unit.Unit.{Unit as JournalUnit};

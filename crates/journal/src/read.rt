@@ -1,4 +1,4 @@
-//! Units read back from bytes. Each reader answers what it read and the bytes behind it.
+//! Units read back from bytes. Each reader answers what it read and the bytes after it.
 ghost use Rattle.std.specs.Prelude.{◌≡◌, None, Some, IfErr, IfOk};
 ghost use Rattle.std.specs.Int.{w16, w64};
 ghost use Rattle.journal.specs.Reading as reading;
@@ -148,7 +148,7 @@ fn read_name(alloc: Global, bytes: &[u8]) -> Result<(LockName, &[u8]), Unread>
     Ok((LockName::new(*caret == 1, reference), rest))
 }
 
-// So many names, put behind those that stand there.
+// So many names, put after those that stand there.
 fn read_each_name(alloc: Global, count: u64, bytes: &[u8]) -> Result<(Vec<LockName>, &[u8]), Unread>
     ensures some { IfOk result (λ p. reading.list_at reading.name_at count bytes.now ≡ Some (p.0.items, p.1.now)) }
     ensures none { IfErr result (λ e. e ≡ Unread.Form → reading.list_at reading.name_at count bytes.now ≡ None) }

@@ -1,4 +1,4 @@
-//! Units written as bytes, behind what stands there. A refusal may leave a part of them.
+//! Units written as bytes, after what stands there. A refusal may leave a part of them.
 ghost use Rattle.std.specs.Prelude.{◌≡◌, ◌≤◌, ◌+◌, ◌*◌, ◌++◌, [], ◌∷◌, OnOk, vec_len, vec_capacity};
 ghost use Rattle.std.specs.List.{flat_map};
 ghost use Rattle.collation.specs.Limits.{most_jobs};
@@ -200,7 +200,7 @@ fn push_answer(bytes: &mut Vec<u8>, answer: &Answer) -> Result<(), AllocError>
     }
 }
 
-// A command with its answer, behind one tag for both kinds.
+// A command with its answer, after one tag for both kinds.
 pub(crate) fn push_answered(
     bytes: &mut Vec<u8>,
     command: &DataCommand,
@@ -251,7 +251,7 @@ fn push_lock_names(bytes: &mut Vec<u8>, command: &LockCommand) -> Result<(), All
     }
 }
 
-// A LOCK behind its tag.
+// A LOCK after its tag.
 pub(crate) fn push_lock(
     bytes: &mut Vec<u8>,
     inside: bool,

@@ -88,7 +88,7 @@ pub fn push_access(line: &mut Vec<u8>, n: u64) -> Result<(), AllocError> {
     push_rest(line, n)
 }
 
-// What stands behind it.
+// What stands after it.
 fn push_rest(line: &mut Vec<u8>, n: u64) -> Result<(), AllocError> {
     match n % 9 {
         0 => {

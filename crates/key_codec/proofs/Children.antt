@@ -23,7 +23,7 @@ use Rattle.key_codec.specs.laws.Back.{key_again, is_reference_again, reference_o
 use Rattle.key_codec.specs.Kept.{Keeps}
 use Rattle.key_codec.specs.Shown.{first}
 
--- the second list is the first and more behind it
+-- the second list is the first and more after it
 pub record HasMore (rs xs : List (List ℕ)) : Type 0 where
   pub more : List (List ℕ)
   pub all : xs ≡ rs ++ more
@@ -46,7 +46,7 @@ behind_some : (rs more : List (List ℕ)) → AreSubscriptsWithin short_form (rs
 behind_some [] more a = a
 behind_some (r ∷ rs) more a = behind_some rs more a.1
 
--- the bytes behind a key that begins another
+-- the bytes after a key that begins another
 pub record Behind (r x : Reference) (rest : List ℕ) : Type 0 where
   pub name : r.name ≡ x.name
   pub more : List (List ℕ)

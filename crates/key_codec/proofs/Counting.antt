@@ -8,18 +8,18 @@ use Rattle.key_codec.specs.laws.Back.{no_end, escaped_free}
 use Rattle.key_codec.specs.Reading.{tag_of, digit_byte, number_end}
 use Rattle.key_codec.proofs.Reading.{HasNumber, has_number, HasText, has_text, tails}
 
--- what the test of a first end byte says of the bytes behind it
+-- what the test of a first end byte says of the bytes after it
 abbrev pub IsPast : ℕ → List ℕ → Option (Bor (List ℕ)) → Type 0
 IsPast end bytes r = (xs v : List ℕ) → list_all (λ b. not (nat_eq b end)) xs ≡ true → bytes ≡ xs ++ end ∷ v → MatchOption r ⊥ (λ rest. rest.now ≡ v)
 
--- behind a number
+-- after a number
 pub past_number : (n : Bool) (byte : ℕ) (bytes behind s u : List ℕ) (r : Option (Bor (List ℕ))) → IsSubscriptWithin short_form s → tag_of n ∷ bytes ≡ subscript_key short_form s ++ u → bytes ≡ byte ∷ behind → IsPast (number_end n) behind r → MatchOption r ⊥ (λ rest. rest.now ≡ u)
 past_number n byte bytes behind s u r bounds h e past =
     let has : HasNumber n bytes s u = has_number n bytes s u bounds h in
     let form = has.placed.form in
     past (map (digit_byte n) (digits_of s)) u (no_end n (digits_of s) form.digits) (tails _ _ _ _ (sym e ∙ has.behind))
 
--- behind a text
+-- after a text
 pub past_text : (bytes behind s u : List ℕ) (r : Option (Bor (List ℕ))) → IsSubscriptWithin short_form s → bytes ≡ subscript_key short_form s ++ u → bytes ≡ 5 ∷ behind → IsPast 0 behind r → MatchOption r ⊥ (λ rest. rest.now ≡ u)
 past_text bytes behind s u r bounds h e past =
     let has : HasText behind s u = has_text behind s u bounds (sym e ∙ h) in

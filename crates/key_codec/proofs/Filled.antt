@@ -1,4 +1,4 @@
--- Two strings in an array, one behind the other.
+-- Two strings in an array, one after the other.
 use Rattle.std.proofs.Common.{◌≡◌, ℕ, ◌+◌, ◌-◌, ◌≤◌, List, ◌++◌, length, take, drop, ap, ◌∙◌, sym, arith}
 use Rattle.std.specs.Prelude.{replicate}
 use Rattle.std.proofs.Math.Seq.{take-append-add}
@@ -28,7 +28,7 @@ zeros_left m n room fits =
     let left : room - m - (m + n - m) ≡ room - (m + n) = omega (arith, fits) in
     ap (drop (m + n - m)) (drop-replicate m room none) ∙ drop-replicate (m + n - m) (room - m) none ∙ ap (λ k. replicate k none) left
 
--- what is behind them is as it was: the rest of the zeros
+-- what is after them is as it was: the rest of the zeros
 pub rest_filled : (f s one two : List ℕ) (room : ℕ) → one ≡ f → two ≡ s → length f + length s ≤ room
     → drop (length f + length s) (take (length f) (one ++ drop (length f) (replicate room 0)) ++ (two ++ post_of (length f) (length f + length s - length f) (one ++ drop (length f) (replicate room 0)))) ≡ replicate (room - (length f + length s)) 0
 rest_filled f s one two room is is_too fits = behind (replicate room 0)

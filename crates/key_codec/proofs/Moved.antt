@@ -18,7 +18,7 @@ use Rattle.key_codec.proofs.Children.{Behind, behind, kept, reads_back}
 abbrev pub IsCount : List ℕ → ℕ → Type 0
 IsCount bytes n = (ss : List (List ℕ)) → AreSubscriptsWithin short_form ss → bytes ≡ subscripts_key short_form ss → n ≡ length ss
 
--- a reference has as many subscripts as are counted behind its name's end
+-- a reference has as many subscripts as are counted after its name's end
 pub depth_is : (bytes front rest : List ℕ) (x : Reference) (n : ℕ) → IsFaultless x → bytes ≡ front ++ 0 ∷ rest → list_all (λ b. not (nat_eq b 0)) front ≡ true → bytes ≡ key_of x → IsCount rest n → n ≡ length x.subscripts
 depth_is bytes front rest x n is b free e counted =
     let has : HasReference front rest x = has_reference bytes front rest x is b free e in
@@ -27,7 +27,7 @@ depth_is bytes front rest x n is b free e counted =
 pub few_subscripts : (x : Reference) → IsFaultless x → length x.subscripts ≤ 31
 few_subscripts x is = ltb-false _ _ (not_over (nat_lt 31 (length x.subscripts)) _ is.subscripts).0
 
--- what stands behind a reference is moved behind another
+-- what stands after a reference is moved after another
 left_behind : (b x : Reference) (rest : List ℕ) (is : Behind b x rest) → drop (length b.subscripts) x.subscripts ≡ is.more
 left_behind b x rest is = ap (drop (length b.subscripts)) is.all ∙ drop-append_seam b.subscripts is.more
 
@@ -40,7 +40,7 @@ moved_depth a b x rest n k is e counted =
     let more : k ≡ length (drop (length b.subscripts) x.subscripts) = counted is.more is.bounds is.bytes ∙ ap length (sym (left_behind b x rest is)) in
     omega (arith, e, more, length-append a.subscripts (drop (length b.subscripts) x.subscripts))
 
--- subscripts within the limit, one list behind the other
+-- subscripts within the limit, one list after the other
 both_some : (xs ys : List (List ℕ)) → AreSubscriptsWithin short_form xs → AreSubscriptsWithin short_form ys → AreSubscriptsWithin short_form (xs ++ ys)
 both_some [] ys p q = q
 both_some (x ∷ xs) ys p q = (p.0, both_some xs ys p.1 q)

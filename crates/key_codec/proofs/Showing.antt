@@ -117,7 +117,7 @@ fewer xs ys x e = let n : length xs ≡ length (x ∷ ys) = ap length e in omega
 pub all_keys : (keys : List ℕ) (ss : List (List ℕ)) → AreSubscriptsWithin short_form ss → keys ≡ subscripts_key short_form ss → subscripts_up_to (length keys) keys ≡ ss
 all_keys keys ss a e = ap (λ t. subscripts_up_to (length t) t) e ∙ subscripts_back (length (subscripts_key short_form ss)) ss a (omega arith)
 
--- what stands next behind a key is the child
+-- what stands next after a key is the child
 pub child_first : (r x : Reference) (rest : List ℕ) (o : Option (List ℕ)) → Behind r x rest → o ≡ first (subscripts_up_to (length rest) rest) → o ≡ child_of r x
 child_first r x rest o is e = e ∙ ap first (all_keys rest is.more is.bounds is.bytes) ∙ sym is.child
 

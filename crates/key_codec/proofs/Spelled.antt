@@ -121,7 +121,7 @@ level_lists : (xs : List ℕ) → slice_cmp nat_cmp xs xs ≡ Equal
 level_lists [] = refl
 level_lists (x ∷ xs) = then_equal (nat_cmp x x) (slice_cmp nat_cmp xs xs) (level x x refl) ∙ level_lists xs
 
--- behind equal beginnings the rest decides
+-- after equal beginnings the rest decides
 pub behind_equal : (n : ℕ) (xs ys : List ℕ) → n ≤ length xs → n ≤ length ys → take n xs ≡ take n ys → slice_cmp nat_cmp xs ys ≡ slice_cmp nat_cmp (drop n xs) (drop n ys)
 behind_equal n xs ys long wide same =
     in_chunks n xs ys long wide
@@ -138,7 +138,7 @@ first_decides Less t unequal = refl
 first_decides Equal t unequal = absurd (unequal refl)
 first_decides Greater t unequal = refl
 
--- eight unequal bytes behind equal ones decide
+-- eight unequal bytes after equal ones decide
 pub eight_decide : (n : ℕ) (xs ys : List ℕ) (r : Ordering) → n + 8 ≤ length xs → n + 8 ≤ length ys → take n xs ≡ take n ys → r ≡ slice_cmp nat_cmp (take 8 (drop n xs)) (take 8 (drop n ys)) → (r ≡ Equal → ⊥) → r ≡ slice_cmp nat_cmp xs ys
 eight_decide n xs ys r long wide same is unequal =
     let left = length-drop n xs in

@@ -11,12 +11,12 @@ abbrev pub before_end : ℕ → List ℕ → List ℕ
 before_end end [] = []
 before_end end (b ∷ bs) = if b == end then [] else b ∷ before_end end bs
 
--- what stands behind it
+-- what stands after it
 abbrev pub behind_end : ℕ → List ℕ → List ℕ
 behind_end end [] = []
 behind_end end (b ∷ bs) = if b == end then bs else behind_end end bs
 
--- a text from its escaped bytes: 1 and the byte behind it stand for one byte
+-- a text from its escaped bytes: 1 and the byte after it stand for one byte
 abbrev pub unescaped : List ℕ → List ℕ
 unescaped [] = []
 unescaped (suc zero ∷ b ∷ bs) = (b - 1) ∷ unescaped bs
@@ -30,12 +30,12 @@ place_from negative byte = if negative then 2 * scale + 1 - byte else byte - 2
 abbrev pub number_text_from : Bool → ℕ → List ℕ → List ℕ
 number_text_from negative byte bytes = signed negative (written_at scale (place_from negative byte) (map (digit_of negative) bytes))
 
--- a subscript, and the bytes behind its key
+-- a subscript, and the bytes after its key
 pub record FirstSubscript : Type 0 where
   pub subscript : List ℕ
   pub rest : List ℕ
 
--- a number from the bytes behind its first
+-- a number from the bytes after its first
 abbrev pub first_number : Bool → List ℕ → FirstSubscript
 first_number negative [] = record { subscript = []; rest = [] }
 first_number negative (byte ∷ bytes) = record { subscript = number_text_from negative byte (before_end (number_end negative) bytes); rest = behind_end (number_end negative) bytes }
@@ -48,12 +48,12 @@ first_subscript_of (tag ∷ bytes) =
     else (if tag == 3 then record { subscript = 48 ∷ []; rest = bytes }
     else (if tag == 4 then first_number false bytes else record { subscript = unescaped (before_end 0 bytes); rest = behind_end 0 bytes }))
 
--- one subscript behind another, at most so many
+-- one subscript after another, at most so many
 abbrev pub subscripts_up_to : ℕ → List ℕ → List (List ℕ)
 subscripts_up_to zero bytes = []
 subscripts_up_to (suc n) [] = []
 subscripts_up_to (suc n) (b ∷ bytes) = (first_subscript_of (b ∷ bytes)).subscript ∷ subscripts_up_to n (first_subscript_of (b ∷ bytes)).rest
 
--- the name is what stands before the first 0, and the subscripts stand behind it, each in at least one byte
+-- the name is what stands before the first 0, and the subscripts stand after it, each in at least one byte
 unfoldable pub reference_of : List ℕ → Reference
 reference_of bytes = record { name = before_end 0 bytes; subscripts = subscripts_up_to (length bytes) (behind_end 0 bytes) }

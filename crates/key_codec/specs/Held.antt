@@ -7,7 +7,7 @@ abbrev pub bytes_of : Held → List ℕ
 bytes_of (Short len room) = take len room
 bytes_of (Long bytes) = bytes.items
 
--- behind so many bytes the room is zeros
+-- after so many bytes the room is zeros
 abbrev pub IsFilled : ℕ → List ℕ → Type 0
 IsFilled len room = (len ≤ 38) × (drop len room ≡ replicate (38 - len) 0)
 

@@ -28,7 +28,7 @@ pub record HasFirst (bytes : List ℕ) : Type 0 where
   pub form : IsSubscriptWithin short_form subscript
   pub key : bytes ≡ subscript_key short_form subscript ++ rest
 
--- the keys of some subscripts, one behind the other
+-- the keys of some subscripts, one after the other
 pub record AreKeys (bytes : List ℕ) : Type 0 where
   pub subscripts : List (List ℕ)
   pub form : AreSubscriptsWithin short_form subscripts

@@ -13,7 +13,7 @@ use std::marker::Model;
 // subscripts fit.
 const MOST_SHORT: usize = 38;
 
-// Short bytes lie at the front of the room, and behind them it is zeros: so two rooms are compared whole.
+// Short bytes lie at the front of the room, and after them it is zeros: so two rooms are compared whole.
 #[derive(Debug, Drop)]
 enum Held {
     Short(u8, [u8; 38]),
@@ -37,7 +37,7 @@ impl Model for KeyBytes {
     ghost invariant = { λ k. IsHeld k.held };
 }
 
-// The one, and the other behind it, in the value.
+// The one, and the other after it, in the value.
 fn short(first: &[u8], second: &[u8]) -> KeyBytes
     requires { length first.now + length second.now ≤ 38 }
     ensures { result ≡ first.now ++ second.now }
@@ -51,7 +51,7 @@ fn short(first: &[u8], second: &[u8]) -> KeyBytes
     }
 }
 
-// The one, and the other behind it, in an allocation of their size.
+// The one, and the other after it, in an allocation of their size.
 fn long(alloc: Global, first: &[u8], second: &[u8]) -> Result<Vec<u8>, AllocError>
     ensures { IfOk result (λ bytes. bytes.items ≡ first.now ++ second.now) }
 {
@@ -91,7 +91,7 @@ fn compare_rooms(first: &[u8; 38], second: &[u8; 38]) -> Ordering
     compare_eight(&eight_at(first, 30), &eight_at(second, 30))
 }
 
-// Rooms compare as the bytes in them, since both are zeros behind these: where the rooms are equal, the shorter bytes
+// Rooms compare as the bytes in them, since both are zeros after these: where the rooms are equal, the shorter bytes
 // stand first.
 fn compare_short(len: u8, room: &[u8; 38], other_len: u8, other_room: &[u8; 38]) -> Ordering
     requires first { IsFilled len room.now }
@@ -106,7 +106,7 @@ fn compare_short(len: u8, room: &[u8; 38], other_len: u8, other_room: &[u8; 38])
 }
 
 impl KeyBytes {
-    /// The one, and the other behind it. Takes memory only past 38 bytes.
+    /// The one, and the other after it. Takes memory only past 38 bytes.
     pub(crate) fn joined(alloc: Global, first: &[u8], second: &[u8]) -> Result<KeyBytes, AllocError>
         ensures bytes { IfOk result (λ bytes. bytes ≡ first.now ++ second.now) }
         ensures short { length first.now + length second.now ≤ 38 → IsOk result }

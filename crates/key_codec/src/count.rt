@@ -9,7 +9,7 @@ use crate::read::split_at_end;
 use crate::read_subscript::{end_of, take_byte};
 use crate::{ABOVE_ZERO, BELOW_ZERO, END, TEXT, ZERO};
 
-// How many subscripts these keys are, one behind the other.
+// How many subscripts these keys are, one after the other.
 pub(crate) fn count_subscripts(bytes: &[u8]) -> usize
     ensures count { (ss : List (List ℕ)) → AreSubscriptsWithin short_form ss → bytes.now ≡ spec.subscripts_key short_form ss → result ≡ length ss }
     ensures few { result ≤ length bytes.now }
@@ -47,7 +47,7 @@ fn skip_number(negative: bool, bytes: &[u8]) -> Option<&[u8]>
     skip_past(digits, end_of(negative))
 }
 
-// What stands behind the first such byte.
+// What stands after the first such byte.
 fn skip_past(bytes: &[u8], end: u8) -> Option<&[u8]>
     ensures behind { (xs u : List ℕ) → list_all (λ b. not (nat_eq b end)) xs ≡ true → bytes.now ≡ xs ++ end ∷ u → MatchOption result ⊥ (λ rest. rest.now ≡ u) }
     ensures shorter { IfSome result (λ rest. length rest.now ≤ length bytes.now) }

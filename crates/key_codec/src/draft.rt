@@ -98,14 +98,14 @@ impl KeyDraft {
         Ok(())
     }
 
-    /// Puts one subscript behind the others.
+    /// Puts one subscript after the others.
     pub fn push(&mut self, subscript: &[u8]) -> Result<(), AllocError>
         ensures { (r : Reference) → IsDraft self.old r → OnOk result (IsDraft self.new (longer r subscript.now)) }
     {
         self.push_judged(subscript, parts(subscript))
     }
 
-    /// The same, of a subscript that was judged: its parts where it is a canonic number, else none.
+    /// As `push`, of a subscript that was judged: its parts where it is a canonic number, else none.
     pub fn push_judged(
         &mut self,
         subscript: &[u8],

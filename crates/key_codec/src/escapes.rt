@@ -63,7 +63,7 @@ fn next_byte(bytes: &[u8]) -> Option<(u8, &[u8])>
     }
 }
 
-// The same behind a byte 1.
+// The byte whose escape goes on here, after its byte 1, and what follows it.
 fn next_escaped(bytes: &[u8]) -> Option<(u8, &[u8])>
     ensures some { IfSome result (λ p. 1 ∷ bytes.now ≡ escape p.0 ++ p.1.now) }
     ensures shorter { IfSome result (λ p. length p.1.now < length bytes.now) }

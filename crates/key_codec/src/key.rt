@@ -123,7 +123,7 @@ impl Key {
         }
     }
 
-    // What stands behind the other key, where this one begins with it.
+    // What stands after the other key, where this one begins with it.
     fn behind(&self, root: &Key) -> Option<&[u8]>
         ensures some { IfSome result (λ rest. spec.key_of self.now ≡ spec.key_of root.now ++ rest.now) }
         ensures none { IfNone result ((rest : List ℕ) → spec.key_of self.now ≢ spec.key_of root.now ++ rest) }

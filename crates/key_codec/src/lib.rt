@@ -1,17 +1,17 @@
 //! References as key bytes, which compare byte by byte as the references do.
 //!
 //! Callers see a key as a list of bytes: `key_of` of its reference (`specs/Key.antt`). The name, 00, then each
-//! subscript behind a byte that tells its kind, and each with an end, so that no subscript's bytes begin another's.
+//! subscript after a byte that tells its kind, and each with an end, so that no subscript's bytes begin another's.
 //!
 //! `Key` is a reference that is kept as these bytes; callers see it as the reference. A `Place` is a key and whether an empty
 //! subscript follows it. A `KeyDraft` is what is read of either so far, whatever faults it has.
 //!
 //! (1) Keys compare as references, a beginning first, and no two references have one key.
 //! (2) A key begins with another exactly where its reference is the other or lies under it.
-//! (3) From a reference's key on, and before its key with byte 06 behind it, lie the keys of what is under it.
+//! (3) From a reference's key on, and before its key with byte 06 after it, lie the keys of what is under it.
 //!
 //! `^A(10,0)` has the key 41 00 04 82 02 00 03: the name and its end; a number above zero whose point stands
-//! behind two digits, its digit 1, its end; zero.
+//! after two digits, its digit 1, its end; zero.
 //!
 //! Read `specs/Key.antt`, `specs/Back.antt` and `specs/Bounds.antt`, then `write.rt`, `read.rt`, `key.rt`, `order.rt`,
 //! `bounds.rt`, `range.rt`. The laws of order, beginnings and bounds hold over any limit of subscripts and any width

@@ -25,7 +25,7 @@ pub(crate) fn place_of(negative: bool, byte: u8) -> Option<usize>
     }
 }
 
-// The same, where a number has this byte.
+// As `place_of`, of a byte that a number has.
 pub(crate) fn place_from(negative: bool, byte: u8) -> usize
     ensures { result ≡ back.place_from negative byte }
 {
@@ -84,7 +84,7 @@ pub(crate) fn push_number(
     }
 }
 
-// The same without a sign.
+// As `push_number`, without a sign.
 fn push_magnitude(
     out: &mut Vec<u8>,
     negative: bool,
@@ -103,7 +103,7 @@ fn push_magnitude(
     }
 }
 
-// As many digits before the point, zeros where there are no more, and the rest behind it.
+// As many digits before the point, zeros where there are no more, and the rest after it.
 fn push_pointed(
     out: &mut Vec<u8>,
     negative: bool,

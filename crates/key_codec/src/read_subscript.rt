@@ -1,4 +1,4 @@
-//! One subscript of a key: its text, and the bytes behind it.
+//! One subscript of a key: its text, and the bytes after it.
 ghost use Rattle.std.specs.Prelude.{◌≡◌, ◌↔◌, [], ◌∷◌, List, ℕ, map, not, nat_eq, true, IfOk, IfNone, IfSome, IsTrue};
 ghost use Rattle.std.specs.List.{list_all};
 ghost use Rattle.canonic_number.specs.Number.{scale};

@@ -74,7 +74,7 @@ impl KeySubscript<'_> {
 
     /// Writes it at the end of `out`.
     ///
-    /// Where memory is refused a part may stand behind what stood in `out`.
+    /// Where memory is refused a part may stand after what stood in `out`.
     pub fn push_to(&self, out: &mut Vec<u8>) -> Result<(), AllocError>
         ensures ok { OnOk result (out.new.items ≡ out.old.items ++ self.now) }
         ensures kept { GoesOnFrom out.old.items out.new.items }
@@ -134,7 +134,7 @@ fn first_number(negative: bool, bytes: &[u8]) -> (KeySubscript<'_>, &[u8])
     (KeySubscript { shown }, rest)
 }
 
-// The same of another text.
+// The other string whose key stands in front, less its first byte, and what follows it.
 fn first_other(bytes: &[u8]) -> (KeySubscript<'_>, &[u8])
     requires { HasFirst (5 ∷ bytes.now) }
     ensures subscript { result.0 ≡ (first_subscript_of (5 ∷ bytes.now)).subscript }

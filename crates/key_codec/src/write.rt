@@ -88,7 +88,7 @@ pub(crate) fn push_subscript(key: &mut Vec<u8>, subscript: &[u8]) -> Result<(), 
     push_judged(key, subscript, parts(subscript))
 }
 
-// The same of a subscript that was judged.
+// As `push_subscript`, of a subscript that was judged.
 pub(crate) fn push_judged(
     key: &mut Vec<u8>,
     subscript: &[u8],

@@ -17,7 +17,7 @@ use Rattle.globals.specs.laws.Cuts.{under_between, before_end-earlier}
 use Rattle.key_map.specs.Members.{keys_under}
 
 module _ (r : Reference) where
-  -- what stands behind something past the end is past it too
+  -- what stands after something past the end is past it too
   past_end : (x y : Reference) → is_before true r x ≡ false → ref_cmp x y ≡ Less → is_under r y ≡ false
   past_end x y b l = false_from_ne_true _ (λ u.
       let t = before_end-earlier r x y l (second_so (not (is_lt (ref_cmp y r))) _ (sym (under_between r y) ∙ u)) in

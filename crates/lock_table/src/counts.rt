@@ -73,7 +73,7 @@ impl Counts {
         }
     }
 
-    /// The same counts once more.
+    /// A copy of the counts.
     pub fn copy(&self) -> Result<Counts, AllocError>
         ensures { IfOk result (λ counts. counts ≡ self.now) }
     {

@@ -64,7 +64,7 @@ pub unnamed : (text word : List ℕ) → word ≡ front_word text → (length wo
 unfolding named_at
 unnamed text word w none = ap (λ t. cond t None (option_map (λ x. (record { name = front_word text; subscripts = x.0 }, x.1)) (subscripts_at (past_word text)))) (ap (λ (u : List ℕ). length u == 0) (sym w) ∙ none)
 
--- behind a caret
+-- after a caret
 pub place_is : (text rest : List ℕ) → begins_with_byte 94 text ≡ true → rest ≡ drop 1 text → place_at text ≡ named_at rest
 unfolding place_at
 place_is text rest e r = rw e (ap named_at (sym r))

@@ -11,7 +11,7 @@ pub fn literals_are_read_as_spelled()
     ensures runs { RunsAreTheLongest }
 {}
 
-/// The same of references: what is written of one is read as it again.
+/// A reference is read as what it spells and as no other, and what is written of one is read as it again.
 pub fn references_are_read_as_spelled()
     ensures found { ReadReferencesAreSpelled }
     ensures again { SpelledReferencesAreRead }

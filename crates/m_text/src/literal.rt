@@ -99,7 +99,7 @@ pub(crate) fn lend_literal(text: &[u8]) -> Option<(&[u8], &[u8])>
     }
 }
 
-// The same of a subscript: with its parts, where it is a canonic number, so that its grammar is judged once.
+// As `lend_literal`, of a subscript: with its parts, where it is a canonic number, so that its grammar is judged once.
 #[tactic(auto, using(crate::proofs::Numbers::canonic_texts), unfolding(crate::specs::Literal::literal_at, crate::specs::Literal::numeric_at))]
 pub(crate) fn lend_judged(text: &[u8]) -> Option<(&[u8], Option<NumberParts<'_>>, &[u8])>
     ensures string { IfSome result (λ x. literal_at text.now ≡ Some (x.0.now, x.2.now)) }

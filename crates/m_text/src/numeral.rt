@@ -10,7 +10,7 @@ use collation::Text;
 use refusal::Refusal;
 use std::alloc::Global;
 
-// What stands behind the sign.
+// What stands after the sign.
 fn split_sign(text: &[u8]) -> (bool, &[u8])
     ensures sign { result.0 ≡ number.is_negative text.now }
     ensures magnitude { result.1.now ≡ number.magnitude text.now }

@@ -79,7 +79,7 @@ pub(crate) fn read_quoted<'a>(text: &'a [u8], out: &mut Text) -> Result<&'a [u8]
     Err(Refusal::BadLine)
 }
 
-// What follows a quoted text, from behind its opening quote.
+// What follows a quoted text, from after its opening quote.
 #[tactic(auto, using(crate::proofs::QuotedRuns::runs), unfolding(crate::specs::Literal::quoted_at))]
 pub(crate) fn skip_quoted(text: &[u8]) -> Result<&[u8], Refusal>
     ensures { GivesExactly (λ rest. rest.now) result (rest_of (quoted_at text.now)) }
@@ -94,7 +94,7 @@ pub(crate) fn skip_quoted(text: &[u8]) -> Result<&[u8], Refusal>
     Err(Refusal::BadLine)
 }
 
-// The same, as it is written.
+// A string parted at its first quote, which is written twice.
 fn split_doubled(text: &[u8]) -> Option<(&[u8], &[u8])>
     ensures { MatchOption result (flat_map doubled text.now ≡ text.now)
         (λ x. (flat_map doubled text.now ≡ x.0.now ++ (byte.quote ∷ byte.quote ∷ flat_map doubled x.1.now)) × (length x.1.now < length text.now)) }

@@ -128,7 +128,10 @@ fn run_from<R: Read + Drop>(rt: &(impl Print + Eprint + AllocGlobal), args: Args
     status_of(&outcome)
 }
 
-fn run_with_arguments(rt: &(impl Files + Print + Eprint + Input + AllocGlobal), arguments: &[Vec<u8>]) -> u8 {
+fn run_with_arguments(
+    rt: &(impl Files + Print + Eprint + Input + AllocGlobal),
+    arguments: &[Vec<u8>],
+) -> u8 {
     let args = match args_of(rt.alloc(), arguments) {
         Ok(args) => args,
         Err(error) => return print_help_or_error(rt, error),

@@ -23,13 +23,13 @@ use Rattle.overlay_view.specs.Merging.{without_killed, joined, IsJustBehind}
 use Rattle.overlay_view.proofs.Nearness.{Node, no_more}
 use Rattle.overlay_view.proofs.Skipped.{left_after, has_left_so}
 
--- ---- behind a reference
+-- ---- after a reference
 
 false_of_not : (b : Bool) → not b ≡ true → b ≡ false
 false_of_not true h = absurd (cc)
 false_of_not false h = refl
 
--- behind a killed reference stands what is behind all that is killed with it
+-- after a killed reference stands what is after all that is killed with it
 pub behind_killed : (ks : List Reference) (x r : Reference) → IsKiller ks x r → (y : Reference) → is_killed ks y ≡ false → is_before true r y ≡ not (is_lt (ref_cmp x y))
 behind_killed ks x r kills y free = sym (not-not (is_before true r y)) ∙ ap not (both_ways _ _ (λ h. ap is_lt (left_after true r x y kills.above h)) onward)
   where
@@ -87,7 +87,7 @@ module _ (from : Cut) (m : Database) (most : ℕ) (found : List Node) (e : Node)
   some_found : 1 ≤ length found
   some_found = let n : length (drop (length found - 1) found) ≡ 1 = ap length last in omega (arith, n, length-drop (length found - 1) found)
 
-  -- all of it is killed: nothing is lost where it goes on behind
+  -- all of it is killed: nothing is lost where it goes on after
   pub passed_on : (ks : List Reference) (cut : Cut) → IsJustBehind ks e.0 cut → without_killed ks found ≡ [] → without_killed ks (entries_from cut m) ≡ without_killed ks (entries_from from m)
   passed_on ks cut behind none =
       sym (behind_same ks e.0 cut behind (finmap.entries m)) ∙ ap (without_killed ks) rest_is

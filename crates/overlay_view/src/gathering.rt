@@ -10,7 +10,7 @@ use key_codec::Key;
 use std::cmp::Ordering;
 use workspace::Workspace;
 
-// Puts a node behind the others, unless it is killed.
+// Puts a node after the others, unless it is killed.
 fn push_unkilled<'v>(workspace: &Workspace, key: &'v Key, value: &'v Text, left: &mut Run<'v>)
     requires { length left.old < 32 }
     ensures { left.new ≡ left.old ++ without_killed workspace.now.killed ((key.now, value.now) ∷ []) }
@@ -35,7 +35,7 @@ fn unkilled<'v>(workspace: &Workspace, found: &Run<'v>) -> Run<'v>
     left
 }
 
-// Behind a reference, and where it is killed behind all that is killed with it.
+// After a reference, and where it is killed after all that is killed with it.
 fn behind<'v>(workspace: &'v Workspace, key: &'v Key) -> Cut<'v>
     ensures { IsJustBehind workspace.now.killed key.now result }
 {
@@ -46,7 +46,7 @@ fn behind<'v>(workspace: &'v Workspace, key: &'v Key) -> Cut<'v>
 }
 
 // The first nodes of a view from the cut on that aren't killed: at most so many, and none only where there is none. Of a
-// killed range it asks the view for one run, and then for what stands behind the range.
+// killed range it asks the view for one run, and then for what stands after the range.
 pub fn gather_left<'v, V: OrderedView>(
     workspace: &'v Workspace,
     view: &'v V,

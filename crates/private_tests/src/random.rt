@@ -127,7 +127,7 @@ fn are_same(own: &Workspace, start: &KeyMap<Text>, plain: &KeyMap<Text>) -> bool
     is_within(&overlay, plain) && is_within(plain, &overlay) && same_backward(&overlay, plain)
 }
 
-// Ten values, in both maps, and the seed behind them.
+// Ten values, in both maps, and the seed after them.
 fn fill(
     alloc: Global,
     start: &mut KeyMap<Text>,

@@ -199,7 +199,7 @@ fn push_query(
     push_end(is_forward, out)
 }
 
-// A word, a reference, and what stands behind it.
+// A word, a reference, and what stands after it.
 fn push_words(word: &[u8], place: usize, end: &[u8], out: &mut Vec<u8>) -> Result<(), AllocError> {
     out.extend_from_slice(word)?;
     push_place(place, out)?;
@@ -225,7 +225,7 @@ fn push_data(alloc: Global, act: Act, out: &mut Vec<u8>) -> Result<(), AllocErro
     }
 }
 
-/// The act's text, behind its job.
+/// The act's text, after its job.
 pub fn push_act(alloc: Global, act: Act, out: &mut Vec<u8>) -> Result<(), AllocError> {
     match act {
         Act::Lock(sign, first, second) => push_lock(sign, (first, second), out),

@@ -120,7 +120,7 @@ impl Seen {
         None
     }
 
-    /// The node that is next to the place in this direction; backward an open place stands behind all under it.
+    /// The node that is next to the place in this direction; backward an open place stands after all under it.
     pub fn query(&mut self, place: usize, is_open: bool, is_forward: bool) -> Option<usize> {
         for step in 0..PLACES {
             let other = if is_forward { step } else { PLACES - 1 - step };

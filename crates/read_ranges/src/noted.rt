@@ -73,7 +73,7 @@ impl Ranges {
     /// Notes what an answered command has read. `decided` tells whether the transaction's own writes decide what a
     /// $GET's reference has; of other commands it says nothing.
     ///
-    /// A command that changes the database reads nothing, or a range that is put behind the others, so that it can be taken
+    /// A command that changes the database reads nothing, or a range that is put after the others, so that it can be taken
     /// back. What a command that looks has read may lie in one of the last ranges.
     ///
     /// Where memory is refused nothing has changed.
@@ -242,7 +242,7 @@ impl Ranges {
         self.push(low, high)
     }
 
-    // Puts what lies between two cuts behind the others, as a range of its own.
+    // Puts what lies between two cuts after the others, as a range of its own.
     fn push(&mut self, low: Cut<'_>, high: Cut<'_>) -> Result<(), AllocError>
         ensures more { OnOk result ((x : Reference) → is_in_one self.new x ≡ (is_in_one self.old x || between low.entry high.entry x)) }
         ensures behind { OnOk result (take (length self.old) self.new ≡ self.old) }

@@ -1,7 +1,7 @@
 //! Why a call is refused: one enum for every crate above.
 //!
 //! A refusal has a number and a name, and is printed as both: `7 NeedSubscript`.
-//! Callers see these as `number_of`, `name_of` and `refusal_text` of `specs/Refusal.antt`.
+//! Callers see these as `refusal_number`, `name_of` and `refusal_text` of `specs/Refusal.antt`.
 //! After every refusal the state is what it was before the call.
 #![tactic(auto)]
 
@@ -37,7 +37,7 @@ pub enum Refusal {
     LevelTooDeep = 10,
     /// A lock's count would pass 65,535.
     LockCountFull = 11,
-    /// A job isn't 1 to 4,096, or is already open.
+    /// A job isn't 1 to 4,096.
     BadJob = 12,
     /// A transaction would hold more than 65,535 data commands.
     TransactionTooLong = 13,

@@ -11,7 +11,7 @@ use Rattle.m_text.specs.laws.Place.{place_found}
 behind : (all text rest : List ℕ) → all ≡ text ++ rest → length rest ≤ length all
 behind all text rest e = omega (arith, ap length e, length-append text rest)
 
--- behind a literal
+-- after a literal
 pub past_literal : (text s rest : List ℕ) → literal_at text ≡ Some (s, rest) → length rest ≤ length text
 past_literal text s rest e = let found = literal_found text s rest e in behind text found.text rest found.parts
 
@@ -22,7 +22,7 @@ rest_of_literal text rest e = at (literal_at text) e (λ s r f. past_literal tex
     at None f h = absurd cc
     at (Some x) f h = let shorter = h x.0 x.1 refl in omega (arith, shorter, ap length (same_Some x.1 rest f))
 
--- behind a reference or place
+-- after a reference or place
 pub rest_of_place : (text rest : List ℕ) → rest_of (place_at text) ≡ Some rest → length rest ≤ length text
 rest_of_place text rest e = at (place_at text) e (λ r t f. let found = place_found text r t f in behind text found.text t found.parts)
   where

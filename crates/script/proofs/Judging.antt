@@ -22,7 +22,7 @@ bad_line line refusal h = absurd h
 abbrev job_number : List ℕ → ℕ
 job_number line = number_from 0 (front_digits line)
 
--- behind the digits of a line of the grammar stands a blank
+-- after the digits of a line of the grammar stands a blank
 blank_behind : (t u : Bool) (line : List ℕ) (c : Command) → (begins_blank (past_digits line)) ≡ u → cond t None (cond u (Some (past_blank (past_digits line))) None >>= λ rest. command_at rest >>= end_of) ≡ Some c → u ≡ true
 blank_behind t true line c p e = refl
 blank_behind true false line c p e = absurd cc

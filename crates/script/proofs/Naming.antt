@@ -65,7 +65,7 @@ on_ok (Err e) f h = tt
 pub same_name : (n : Resource) (caret : Bool) (r : Reference) → n.has_caret ≡ caret → n.reference ≡ r → n ≡ record { has_caret = caret; reference = r }
 same_name n caret r p q = λ i. record { has_caret = p i; reference = q i }
 
--- a name behind others
+-- a name after others
 
 pub name_after : (text named rest : List ℕ) (caret : Bool) (r : Reference) (ns : List Resource) → caret ≡ begins_with_byte 94 text → named ≡ past_caret text → named_at named ≡ Some (r, rest) →
     with_front ns (lock_name_at text) ≡ Some (ns ++ record { has_caret = caret; reference = r } ∷ [], rest)

@@ -32,7 +32,7 @@ use Rattle.script.proofs.Due.{due_other}
 pub merged : (word : DataWord) (text rest : List ℕ) (r s : Reference) → word ≡ data_words.Merge → source_at text ≡ Some (s, rest) → tail_at word r text ≡ Some (Merge r s, rest)
 merged word text rest r s e f = ap (λ w. tail_at w r text) e ∙ ap (λ (read : Option (Reference × List ℕ)). read >>= λ source. Some (Merge r source.0, source.1)) f
 
--- behind the reference
+-- after the reference
 tail_is : (word : DataWord) (text rest : List ℕ) (r : Reference) → place_at text ≡ Some (r, rest) → operands_at word text ≡ tail_at word r rest
 unfolding operands_at
 tail_is word text rest r e = ap (λ (read : Option (Reference × List ℕ)). read >>= λ place. tail_at word place.0 place.1) e
@@ -45,7 +45,7 @@ pub unfound : (word : DataWord) (text : List ℕ) (refusal : Refusal) → IsUnre
 unfolding operands_at
 unfound word text refusal h = refused_too refusal (place_at text) (operands_at word text) (λ none. ap (λ (read : Option (Reference × List ℕ)). read >>= λ place. tail_at word place.0 place.1) none) h
 
--- behind a blank, and in parentheses
+-- after a blank, and in parentheses
 pub change_is : (word : DataWord) (text rest behind : List ℕ) (d : DataCommand) → blank_at text ≡ Some rest → operands_at word rest ≡ Some (d, behind) → behind_act (words.Access word) text ≡ Some (Access d, behind)
 change_is word text rest behind d e f =
     ap (λ (read : Option (List ℕ)). read >>= λ rest. ◌>>=◌ {B = Command × List ℕ} (operands_at word rest) (λ command. Some (Access command.0, command.1))) e
@@ -57,7 +57,7 @@ look_is word text rest behind last d e f g =
     ∙ ap (λ (read : Option (DataCommand × List ℕ)). read >>= λ command. ◌>>=◌ {B = Command × List ℕ} (after_byte 41 command.1) (λ rest. Some (Access command.0, rest))) f
     ∙ ap (λ (read : Option (List ℕ)). ◌>>=◌ {B = Command × List ℕ} read (λ rest. Some (Access d, rest))) g
 
--- behind LOCK's word, where more than a blank stands there
+-- after LOCK's word, where more than a blank stands there
 pub names_are : (text past rest behind : List ℕ) (c : LockCommand) → past ≡ past_blank text → (length past == 0) ≡ false → blank_at text ≡ Some rest → locking_at rest ≡ Some (c, behind) → lock_at text ≡ Some (Lock c, behind)
 unfolding lock_at
 names_are text past rest behind c p some e f =

@@ -81,7 +81,7 @@ direction_at text =
       Some (direction, x.1))
     else Some (Forward, text)
 
--- what a word wants behind its reference r
+-- what a word wants after its reference r
 abbrev pub tail_at : DataWord → Reference → List ℕ → Option (DataCommand × List ℕ)
 tail_at data_words.Set r text = set_value_at text >>= λ value. Some (Set r value.0, value.1)
 tail_at data_words.Kill r text = Some (Kill r, text)
@@ -91,13 +91,13 @@ tail_at data_words.Get r text = default_at text >>= λ default. Some (Look (Get 
 tail_at data_words.Order r text = direction_at text >>= λ direction. Some (Look (Order (spot_of r) direction.0), direction.1)
 tail_at data_words.Query r text = direction_at text >>= λ direction. Some (Look (Query (spot_of r) direction.0), direction.1)
 
--- a reference, and what the word wants behind it
+-- a reference, and what the word wants after it
 unfoldable pub operands_at : DataWord → List ℕ → Option (DataCommand × List ℕ)
 operands_at word text = do
   place ← place_at text
   tail_at word place.0 place.1
 
--- behind LOCK's word: nothing but a blank, or a blank and names
+-- after LOCK's word: nothing but a blank, or a blank and names
 unfoldable pub lock_at : List ℕ → Option (Command × List ℕ)
 lock_at text =
     if length (past_blank text) == 0
@@ -117,7 +117,7 @@ command_of alone_words.Halt = Halt
 command_of alone_words.Level = Level
 command_of alone_words.Restarts = Restarts
 
--- what an act wants behind its word: a blank and operands, lock names, or nothing
+-- what an act wants after its word: a blank and operands, lock names, or nothing
 abbrev pub behind_act : Word → List ℕ → Option (Command × List ℕ)
 behind_act (words.Access word) text = do
   rest ← blank_at text
@@ -126,7 +126,7 @@ behind_act (words.Access word) text = do
 behind_act words.Lock text = lock_at text
 behind_act (words.Alone word) text = Some (command_of word, text)
 
--- what a function wants behind its word: operands in parentheses, or nothing; LOCK is none
+-- what a function wants after its word: operands in parentheses, or nothing; LOCK is none
 abbrev pub behind_function : Word → List ℕ → Option (Command × List ℕ)
 behind_function (words.Access word) text = do
   rest ← after_byte byte.opening text

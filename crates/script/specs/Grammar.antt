@@ -47,7 +47,7 @@ pub data IsDirection : List ℕ → Direction → Type 0 where
   no_direction : IsDirection [] Forward
   direction : {text value : List ℕ} {d : Direction} → IsLiteral text value → direction_of value ≡ Some d → IsDirection (byte.comma ∷ text) d
 
--- what a word wants behind its reference r
+-- what a word wants after its reference r
 pub data IsTail : DataWord → Reference → List ℕ → DataCommand → Type 0 where
   set : {r : Reference} {text value : List ℕ} → IsLiteral text value → IsTail data_words.Set r (byte.equals_sign ∷ text) (Set r value)
   kill : {r : Reference} → IsTail data_words.Kill r [] (Kill r)
@@ -57,7 +57,7 @@ pub data IsTail : DataWord → Reference → List ℕ → DataCommand → Type 0
   order_of : {r : Reference} {text : List ℕ} {d : Direction} → IsDirection text d → IsTail data_words.Order r text (Look (Order (spot_of r) d))
   query_of : {r : Reference} {text : List ℕ} {d : Direction} → IsDirection text d → IsTail data_words.Query r text (Look (Query (spot_of r) d))
 
--- a reference, and what the word wants behind it
+-- a reference, and what the word wants after it
 pub record IsOperands (word : DataWord) (text : List ℕ) (c : DataCommand) : Type 0 where
   pub place : List ℕ
   pub tail : List ℕ
@@ -106,7 +106,7 @@ pub record IsLocking (text : List ℕ) (c : LockCommand) : Type 0 where
   pub asked : c ≡ locking form resources
   pub parts : text ≡ sign ++ (listed ++ ending)
 
--- a word, a blank and what the word wants, or a word alone; a function stands behind '$', its operands in parentheses
+-- a word, a blank and what the word wants, or a word alone; a function stands after '$', its operands in parentheses
 pub data IsCommand : List ℕ → Command → Type 0 where
   act : {word : DataWord} {letters blank text : List ℕ} {c : DataCommand} → is_function (words.Access word) ≡ false → IsWord (words.Access word) letters → IsBlank blank → IsOperands word text c → IsCommand (letters ++ (blank ++ text)) (Access c)
   function : {word : DataWord} {letters text : List ℕ} {c : DataCommand} → is_function (words.Access word) ≡ true → IsWord (words.Access word) letters → IsOperands word text c → IsCommand (byte.dollar ∷ (letters ++ (byte.opening ∷ (text ++ byte.closing ∷ [])))) (Access c)

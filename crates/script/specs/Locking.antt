@@ -1,4 +1,4 @@
--- What stands behind LOCK's word, and the first fault of its names. Source: docs/FORMATS.md, "Lines".
+-- What stands after LOCK's word, and the first fault of its names. Source: docs/FORMATS.md, "Lines".
 -- Read locking_at, then lock_fault.
 use Rattle.std.specs.Prelude.{ℕ, Bool, ◌&&◌, ◌==◌, nat_le, nat_lt, if◌then◌else◌, List, [], ◌∷◌, length, drop, Option, None, Some}
 use Rattle.std.specs.Option.{option_map, option_or}

@@ -34,7 +34,7 @@ Says second r (data_sentences.Get default) c = c ≡ Look (Get r default)
 Says second r (data_sentences.Order direction) c = c ≡ Look (Order (spot_of r) direction)
 Says second r (data_sentences.Query direction) c = c ≡ Look (Query (spot_of r) direction)
 
--- what is read behind the reference r says the command that is there
+-- what is read after the reference r says the command that is there
 abbrev pub Tells : KeyDraft → Reference → Result (DataSentence × Bor (List ℕ)) Refusal → Option (DataCommand × List ℕ) → Type 0
 Tells second r (Ok x) read = (c : DataCommand) × (read ≡ Some (c, x.1.now)) × Says second r x.0 c
 Tells second r (Err refusal) read = IsUnread refusal read

@@ -10,7 +10,7 @@ pub enum Expected {
     Blank,
     /// The word of a command, or `$` and that of a function.
     Command,
-    /// The word of a function, behind its `$`.
+    /// The word of a function, after its `$`.
     Function,
     /// A reference, with its caret.
     Reference,
@@ -24,9 +24,9 @@ pub enum Expected {
     Value,
     /// The sign between what is set and its value or source.
     Equals,
-    /// The parenthesis behind a function's word.
+    /// The parenthesis after a function's word.
     Opening,
-    /// The parenthesis behind a function's operands.
+    /// The parenthesis after a function's operands.
     Closing,
     /// One more, or the end of a list.
     CommaOrClosing,

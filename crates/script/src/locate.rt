@@ -204,7 +204,7 @@ impl<'a> Look<'a> {
         }
     }
 
-    // What stands behind LOCK's word.
+    // What stands after LOCK's word.
     fn lock(&mut self)
         ensures { length self.new.rest.now ≤ length self.old.rest.now }
     {
@@ -229,7 +229,7 @@ impl<'a> Look<'a> {
         }
     }
 
-    // What a word wants behind its reference.
+    // What a word wants after its reference.
     fn tail(&mut self, alloc: Global, word: DataWord)
         ensures { length self.new.rest.now ≤ length self.old.rest.now }
     {
@@ -368,7 +368,7 @@ fn command_in(line: &[u8]) -> &[u8]
     past_blank(rest)
 }
 
-// What stands behind the word of a line's command.
+// What stands after the word of a line's command.
 fn operands_in(line: &[u8]) -> &[u8]
     ensures { length result.now ≤ length line.now }
 {
@@ -378,7 +378,7 @@ fn operands_in(line: &[u8]) -> &[u8]
     after(b'(', rest).unwrap_or(past_blank(rest))
 }
 
-// What stands behind the first operand and the byte after that.
+// What stands after the first operand and the byte after that.
 fn second_operand(operands: &[u8]) -> &[u8]
     ensures { length result.now ≤ length operands.now }
 {

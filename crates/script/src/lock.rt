@@ -1,4 +1,4 @@
-//! What stands behind LOCK's word, whatever faults its names have.
+//! What stands after LOCK's word, whatever faults its names have.
 ghost use Rattle.std.specs.Prelude.{◌≡◌, List};
 ghost use Rattle.collation.specs.Bytes as byte;
 ghost use Rattle.collation.specs.Reference.{Resource};

@@ -125,7 +125,7 @@ fn read_direction(alloc: Global, text: &[u8]) -> Result<(Direction, &[u8]), Refu
     }
 }
 
-// What a word wants behind its reference.
+// What a word wants after its reference.
 fn read_tail<'a>(
     alloc: Global,
     word: DataWord,
@@ -160,7 +160,7 @@ fn read_tail<'a>(
     }
 }
 
-// A reference, and what a word wants behind it.
+// A reference, and what a word wants after it.
 fn read_operands<'a>(
     alloc: Global,
     word: DataWord,
@@ -175,7 +175,7 @@ fn read_operands<'a>(
     }
 }
 
-// What stands behind LOCK's word: nothing but a blank, or a blank and names.
+// What stands after LOCK's word: nothing but a blank, or a blank and names.
 #[tactic(auto, unfolding(crate::specs::Commands::lock_at))]
 fn read_lock<'a>(
     alloc: Global,
@@ -194,7 +194,7 @@ fn read_lock<'a>(
     }
 }
 
-// What stands behind the word of a data command that is an act.
+// What stands after the word of a data command that is an act.
 fn read_change<'a>(
     alloc: Global,
     word: DataWord,
@@ -210,7 +210,7 @@ fn read_change<'a>(
     }
 }
 
-// What stands behind the word of a data command that is a function.
+// What stands after the word of a data command that is a function.
 fn read_look<'a>(
     alloc: Global,
     word: DataWord,

@@ -80,7 +80,7 @@ Stopped-before ls old new a u o = record {
   passes = subst (λ (ts : List ℕ). WritesFront a a ts new.out.items) (o ∙ sym (append-nil old.out.items)) (Passes-none a new.out.items);
 }
 
--- answers, those of which one is lost, and the lines behind them
+-- answers, those of which one is lost, and the lines after them
 each-then : (s t : Machine) (xs ys lost : List Answer) → AreAnswers s xs → t ≡ left_by xs s → AreAnswers t (ys ++ lost) → AreAnswers s ((xs ++ ys) ++ lost)
 each-then s t xs ys lost h e k = subst (AreAnswers s) (sym (append_assoc xs ys lost)) (AreAnswers-append s t xs (ys ++ lost) h e k)
 
@@ -135,7 +135,7 @@ pub stopped_lines : (text line : List ℕ) (at end : ℕ) (old mid new : Script)
 stopped_lines text line at end old mid new p q r le so_far first e stopped =
     StoppedFront-more text (drop at text) (drop (at + (end + 1)) text) (nonempty_line line) old mid new p q r so_far stopped (next-line text line at end le first e)
 
--- in the lines behind the one that had begun
+-- in the lines after the one that had begun
 pub joined_stopped : (begun piece line rest : List ℕ) (end : ℕ) (a b c : Script) (p q r : Option (List ℕ)) → has_no_end begun ≡ true → IsFirstByte (is_byte 10) piece (Some end) → line ≡ strip_last 13 (begun ++ take end piece)
     → rest ≡ drop (suc end) piece → Ran (nonempty_line line) a b p q → StoppedFront rest b c q r → StoppedFront (begun ++ piece) a c p r
 joined_stopped begun piece line rest end a b c p q r none found line-is rest-is ran front =
@@ -241,7 +241,7 @@ passes-next old new last before more out behind left w o k =
     (ap (λ (o : List ℕ). text_of before ++ ((o ++ text_of more) ++ behind)) o ∙ sym (append_assoc (text_of before) (text_of more) behind) ∙ ap (λ (ts : List ℕ). ts ++ behind) (sym (flat_map-append _ before more)))
     (passes-first old new last (text_of before) ((out ++ text_of more) ++ behind) left w k)
 
--- the lines before a piece, those answered in it, those that weren't, and those behind it
+-- the lines before a piece, those answered in it, those that weren't, and those after it
 lines-known : (before more lost : List (List ℕ)) (unread behind all : List (List ℕ)) → all ≡ (before ++ (more ++ (lost ++ unread))) ++ behind → all ≡ (before ++ more) ++ (lost ++ (unread ++ behind))
 lines-known before more lost unread behind all e =
     e ∙ append_assoc before (more ++ (lost ++ unread)) behind ∙ ap (λ (l : List (List ℕ)). before ++ l) (append_assoc more (lost ++ unread) behind ∙ ap (λ (l : List (List ℕ)). more ++ l) (append_assoc lost unread behind))

@@ -172,7 +172,7 @@ pub record IsEndingFront (listed : Bool) (unanswered : List (List ℕ)) (m : Dat
   pub front : IsListedFront m nodes
   pub headed : text ≡ codes "--\n" ++ nodes
 
--- the first lines were answered, each of their replies was written, and none in part; where they are all, a front of what follows may stand behind
+-- the first lines were answered, each of their replies was written, and none in part; where they are all, a front of what follows may stand after
 pub record HasKept (listed : Bool) (bytes : List ℕ) (old new : Option (List ℕ)) : Type 0 where
   pub answers : List Answer
   pub unanswered : List (List ℕ)

@@ -21,7 +21,7 @@ pub fn stories_are_legal()
         → IsSound (story_of steps replies nothing_done).units t }
 {}
 
-/// The same of a run of the machine, which never wants memory.
+/// The units of a run of the machine, which never wants memory, are legal too.
 pub fn runs_are_legal()
     ensures { (steps : List (ℕ × Command)) → IsLegal (run_of steps nothing_done).units initial }
 {}

@@ -44,7 +44,7 @@ fn push_key(
     Ok(())
 }
 
-// Puts the keys of a length behind the others: one of the letter alone, and some with another letter somewhere.
+// Puts the keys of a length after the others: one of the letter alone, and some with another letter somewhere.
 fn push_keys(alloc: Global, keys: &mut Vec<Key>, length: usize) -> Result<(), Refusal> {
     push_key(alloc, keys, length, 64, b'n')?;
     for place in [0, 3, 4, 11, 12, 27, 28, 33, 34] {

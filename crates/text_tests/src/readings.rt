@@ -10,7 +10,7 @@ use std::test::Fail;
 // A line, and what it asks; or the name of its refusal.
 type Row = (&'static str, &'static str);
 
-// A caret where there is one, the name, and each subscript behind a stroke.
+// A caret where there is one, the name, and each subscript after a stroke.
 fn push_name(name: &LockName, out: &mut Vec<u8>) -> Result<(), AllocError> {
     if name.has_caret() {
         out.push(b'^')?;
@@ -204,7 +204,7 @@ fn lines_that_are_no_locks_get_bad_line(rt: HostRuntime) -> Result<(), Fail> {
     Ok(())
 }
 
-// The limits are those of references; a name taken from the line before would show behind a fault.
+// The limits are those of references; a name taken from the line before would show after a fault.
 #[test]
 fn the_first_fault_of_lock_names_decides(rt: HostRuntime) -> Result<(), Fail> {
     let rows = [

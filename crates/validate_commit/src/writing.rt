@@ -13,7 +13,7 @@ use key_codec::Key;
 use std::alloc::{AllocError, Global};
 use version_store::Store;
 
-/// Pushes the prepared unit, and writes its changes at the stamp that is its number. The unit is legal behind those before
+/// Pushes the prepared unit, and writes its changes at the stamp that is its number. The unit is legal after those before
 /// it, and the changes are what it leaves at just the references that it touches.
 ///
 /// `oldest` is the least stamp whose content is still asked for; with none only that at the new stamp is. Versions of the

@@ -14,7 +14,7 @@ pub all_at : (qs rs ps : List Ptr) → qs ≡ rs → AllOf rs ps → AllOf qs ps
 all_at qs rs ps e h = subst (λ l. AllOf l ps) (sym e) h
 
 module _ {V : Type 0} where
-  -- the first version of a link, and the chain behind it
+  -- the first version of a link, and the chain after it
   pub versions_next : (o : Option (Cell (Version V))) (c : Cell (Version V)) (v : Version V) (k : Entry V) (older : Option (Cell (Version V))) → o ≡ Some c → v ≡ c.value
       → from_version v ≡ k ∷ versions older → versions o ≡ k ∷ versions older
   versions_next o c v k older e same is = ap versions e ∙ sym (ap from_version same) ∙ is

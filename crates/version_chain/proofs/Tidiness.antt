@@ -37,7 +37,7 @@ module _ {V : Type 0} where
   tail_same : (v : Entry V) (us vs : List (Entry V)) → v ∷ us ≡ v ∷ vs → us ≡ vs
   tail_same v us vs e = cc
 
-  -- where a version is kept early others behind it, it isn't at most the horizon
+  -- where a version is kept early others after it, it isn't at most the horizon
   value_only : (v : Entry V) (x : Option V) (vs : List (Entry V)) → if_value v x ≡ v ∷ vs → vs ≡ []
   value_only v None vs e = absurd cc
   value_only v (Some x) vs e = cc

@@ -46,7 +46,7 @@ pages_below (Some c) = c.page ∷ c.value
 abbrev pub page_step : {V : Type 0} → Version-F V (List Ptr) → List Ptr
 page_step f = pages_below (older_in f.held)
 
--- the pages of the cells behind a version
+-- the pages of the cells after a version
 abbrev pub pages_behind : {V : Type 0} → Version V → List Ptr
 pages_behind {V} = fold-Version V (List Ptr) page_step
 

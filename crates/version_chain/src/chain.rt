@@ -28,7 +28,7 @@ pub(crate) fn at<V>(line: Option<&Version<V>>, stamp: u64) -> Option<&V>
     }
 }
 
-// The same from a version on.
+// As `at`, from a version on.
 fn at_version<V>(newest: &Version<V>, stamp: u64) -> Option<&V>
     ensures { option_copied result ≡ at_of stamp (from_version newest.now) }
 {

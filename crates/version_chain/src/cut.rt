@@ -1,6 +1,6 @@
 //! What a cut at a horizon leaves of a chain.
 //!
-//! The versions after the horizon are turned round onto a list of their own, what stands behind them is given back but for
+//! The versions after the horizon are turned round onto a list of their own, what stands after them is given back but for
 //! one value, and the versions are turned round onto that: no memory, no recursion, and each cell stays where it is.
 ghost use Rattle.std.specs.Prelude.{true, false, [], ◌∷◌, ◌≡◌, ◌≤◌, ◌<◌, ◌+◌, List, length, option_copied};
 ghost use denote.RawPtr.{Ptr};

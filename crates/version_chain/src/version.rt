@@ -82,7 +82,7 @@ impl<V> Version<V> {
         (stamp, value, older)
     }
 
-    /// The same, lent.
+    /// As `parts`, lent.
     pub(crate) fn as_parts(&self) -> (u64, Option<&V>, Option<&Cell<Version<V>>>)
         ensures { from_version self.now ≡ (result.0, option_copied result.1) ∷ versions (option_copied result.2) }
     {

@@ -105,7 +105,7 @@ prev_in B c ps s h = sym (ap (find_last (λ e. B e.0)) (entries_content (version
 
 -- ---- the ids that a walk passes are open
 
--- the first pair is found by its key, and those behind it by theirs
+-- the first pair is found by its key, and those after it by theirs
 first_found : (p : Reference × ℕ) (ps : Pairs) → finmap.find ref_cmp p.0 (p ∷ ps) ≡ Some p.1
 first_found p ps = ap (λ r. cond r (Some p.1) (finmap.find ref_cmp p.0 ps)) (let laws = eq_by_cmp_equiv ref_cmp_total in laws.refl p.0)
 
@@ -162,7 +162,7 @@ pub open_reverse : (c : State) (ps : Pairs) → AreOpen c ps → AreOpen c (reve
 open_reverse c [] opened = tt
 open_reverse c (p ∷ ps) opened = subst (AreOpen c) (sym (reverse-append (p ∷ []) ps)) (open_append c (reverse ps) (p ∷ []) (open_reverse c ps opened.1) (opened.0, tt))
 
--- ---- the first key behind another
+-- ---- the first key after another
 
 first_row : (c : State) (P : Reference → Bool) (ps : Pairs) → find (λ e. P e.0) (rows c ps) ≡ option_map (λ p. (p.0, versions_at c p.1)) (find (λ p. P p.0) ps)
 first_row c P [] = refl

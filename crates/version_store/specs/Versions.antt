@@ -152,7 +152,7 @@ is_bare (Some (v ∷ vs)) = false
 abbrev pub keys_of : {X : Type 0} → List (Reference × X) → List Reference
 keys_of = map (λ e. e.0)
 
--- the placed references as a collector visits them: those behind the mark, then the others
+-- the placed references as a collector visits them: those after the mark, then the others
 abbrev pub in_turn : Option Reference → Versions → List Reference
 in_turn mark m = filter (is_behind mark) (keys_of (finmap.entries m)) ++ filter (λ r. not (is_behind mark r)) (keys_of (finmap.entries m))
 

@@ -30,7 +30,7 @@ fn first_valued<'v>(
     None
 }
 
-// The same, backwards.
+// As `first_valued`, backwards.
 fn last_valued<'v>(
     walk: WalkBack<'v, Key, ChainId>,
     chains: &'v Chains<Text>,

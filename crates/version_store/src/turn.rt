@@ -31,7 +31,7 @@ fn copy_keys(
     Ok(())
 }
 
-// The same of those that stand before a cut.
+// As `copy_keys`, of the keys that stand before a cut.
 fn copy_keys_before(
     walk: Walk<'_, Key, ChainId>,
     high: Cut<'_>,
@@ -54,7 +54,7 @@ fn copy_keys_before(
 }
 
 impl Store {
-    // Puts copies of the keys that are next in turn behind the others.
+    // Puts copies of the keys that are next in turn after the others.
     fn copy_next(&self, limit: usize, keys: &mut Vec<Key>) -> Result<(), AllocError>
         requires { length keys.old.items ≡ 0 }
         ensures { OnOk result (keys.new.items ≡ next_in_turn limit self.now) }
@@ -69,7 +69,7 @@ impl Store {
         }
     }
 
-    /// Copies of the keys that a collector visits next: those behind the mark, and then, from the first on, the others; at
+    /// Copies of the keys that a collector visits next: those after the mark, and then, from the first on, the others; at
     /// most so many. They are the caller's, so that each can be cut and dropped. Takes memory for the list, and for each key
     /// of over 38 bytes.
     ///

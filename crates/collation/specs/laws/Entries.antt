@@ -25,7 +25,7 @@ module _ {K X : Type 0} (R : K → K → Ordering) (o : IsTotalOrder R) (same : 
   not_found_itself x [] h = refl
   not_found_itself x (e ∷ es) h = rw (is_less (R x e.0) (first_so _ _ h)) (not_found_itself x es (second_so (is_lt (R x e.0)) _ h))
 
-  -- a key found behind the first isn't the first
+  -- a key found after the first isn't the first
   found_behind : (f : K × X) (fs : List (K × X)) (q : K) (x : X) → below_all R f.0 fs ≡ true → finmap.find R q fs ≡ Some x → eq_by_cmp R q f.0 ≡ false
   found_behind f fs q x below is = by_test (eq_by_cmp R q f.0) refl
     where

@@ -48,7 +48,7 @@ pub number_first : (a b : List ℕ) → is_canonic a ≡ true → is_canonic b �
 unfolding subscript_cmp
 number_first a b p q = rw (p, q) refl
 
--- a text that is no number stands behind a number
+-- a text that is no number stands after a number
 pub number_second : (a b : List ℕ) → is_canonic a ≡ false → is_canonic b ≡ true → subscript_cmp a b ≡ Greater
 unfolding subscript_cmp
 number_second a b p q = rw (p, q) refl

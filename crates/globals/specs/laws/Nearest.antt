@@ -41,7 +41,7 @@ module _ {K X : Type 0} (R : K → K → Ordering) where
         | false ↦ λ p. none_after P x es (second_so (is_lt (R x e.0)) _ h) never
       ] refl
 
-  -- what is found behind a key comes after it
+  -- what is found after a key comes after it
   pub later_found : (P : K → Bool) (x : K) (es : List (K × X)) (e : K × X) → below_all R x es ≡ true → find (λ e. P e.0) es ≡ Some e → R x e.0 ≡ Less
   later_found P x [] e h is = absurd (cc)
   later_found P x (f ∷ fs) e h is = elim (P f.0) as (λ b. cond b (Some f) (find (λ e. P e.0) fs) ≡ Some e → R x e.0 ≡ Less) [
@@ -49,7 +49,7 @@ module _ {K X : Type 0} (R : K → K → Ordering) where
     | false ↦ λ is. later_found P x fs e (second_so (is_lt (R x f.0)) _ h) is
   ] is
 
-  -- nothing behind a key is kept by a test that fails there
+  -- nothing after a key is kept by a test that fails there
   pub none_pass : (P : K → Bool) (x : K) (es : List (K × X)) → ((y : K) → R x y ≡ Less → P y ≡ false) → below_all R x es ≡ true → filter (λ e. P e.0) es ≡ []
   none_pass P x [] fails h = refl
   none_pass P x (e ∷ es) fails h = rw (fails e.0 (is_less _ (first_so _ _ h))) (none_pass P x es fails (second_so (is_lt (R x e.0)) _ h))
@@ -166,7 +166,7 @@ module _ {K X : Type 0} (R : K → K → Ordering) (o : IsTotalOrder R) (same : 
   not_found_itself x [] h = refl
   not_found_itself x (e ∷ es) h = rw (is_less (R x e.0) (first_so _ _ h)) (not_found_itself x es (second_so (is_lt (R x e.0)) _ h))
 
-  -- where a key passes and the first doesn't, it is sought behind the first
+  -- where a key passes and the first doesn't, it is sought after the first
   behind_first : (P : K → Bool) (x : K) (f : K × X) (fs : List (K × X)) → P x ≡ true → P f.0 ≡ false → finmap.find R x (f ∷ fs) ≡ finmap.find R x fs
   behind_first P x f fs p n = by_order (R x f.0) refl
     where
@@ -182,7 +182,7 @@ module _ {K X : Type 0} (R : K → K → Ordering) (o : IsTotalOrder R) (same : 
     | false ↦ λ b is. behind_first P x f fs p b ∙ none_first P fs is x p
   ] refl is
 
-  -- a key after the first is sought behind it
+  -- a key after the first is sought after it
   behind : (x : K) (f : K × X) (fs : List (K × X)) → R f.0 x ≡ Less → finmap.find R x (f ∷ fs) ≡ finmap.find R x fs
   behind x f fs l = let t : R x f.0 ≡ Greater = turned o f.0 x Less l in rw t refl
 

@@ -1,4 +1,4 @@
--- From a member of what doesn't stand before a cut to those behind it.
+-- From a member of what doesn't stand before a cut to those after it.
 use Rattle.std.proofs.Common.{◌≡◌, ℕ, Bool, true, false, List, [], ◌∷◌, ◌++◌, refl, sym, ap, subst, ◌∙◌, Some}
 use Rattle.std.specs.Prelude.{cond, not, filter}
 use Rattle.std.specs.declared.cmp.Ordering.{Ordering}
@@ -52,7 +52,7 @@ module _ {K X : Type 0} (R : K → K → Ordering) where
               (rw (tied_itself o e.0, rest, after) refl)
         ] refl is
 
--- behind a key stands an end of the order
+-- after a key stands an end of the order
 behind_key : {K : Type 0} (R : K → K → Ordering) → IsTotalOrder R → (a x y : K) → R x y ≡ Less → not (is_lt (R a y)) ≡ true → not (is_lt (R a x)) ≡ true
 behind_key R o a x y l h = by_test (is_lt (R a x)) refl
   where
@@ -60,7 +60,7 @@ behind_key R o a x y l h = by_test (is_lt (R a x)) refl
     by_test true t = let less : is_lt (R a y) ≡ true = ap is_lt (o.trans a x y (is_less _ t) l) in absurd (cc)
     by_test false t = refl
 
--- what follows a member in the list stands behind it
+-- what follows a member in the list stands after it
 behind : {K X : Type 0} (R : K → K → Ordering) (o : IsTotalOrder R) (B : K → Bool) (early : (x y : K) → R x y ≡ Less → B y ≡ true → B x ≡ true) (es init rest : List (K × X)) (e : K × X)
     → is_sorted R es ≡ true → filter (λ f. not (B f.0)) es ≡ init ++ e ∷ rest → filter (λ f. not (not (is_lt (R e.0 f.0)))) es ≡ rest
 behind R o B early es [] rest e h is = tails e e _ _ (sym (step R o B early es e h (head_found (λ f. not (B f.0)) es rest e is)) ∙ is)

@@ -31,7 +31,7 @@ no_exchanges bytes = refl
 pub tells_none : (bytes : List ℕ) → bytes ≡ [] → AreExchangeBytes bytes 0 (exchanges_in 0 bytes)
 tells_none bytes e = subst (AreExchangeBytes bytes 0) (sym (no_exchanges bytes)) (record { written = e; number = refl; few = omega arith; fit = tt })
 
--- one more behind them
+-- one more after them
 pub tells_more : (old roomy draft blank new : List ℕ) (count : ℕ) (e : Exchange) → AreExchangeBytes old count (exchanges_in count old) → roomy ≡ old → blank ≡ [] → draft ≡ blank ++ exchange_bytes e → FitsExchange e → new ≡ roomy ++ draft → count + 1 < 2 ^ 64 →
     AreExchangeBytes new (count + 1) (exchanges_in count old ++ e ∷ [])
 tells_more old roomy draft blank new count e h same b d fits n few =

@@ -29,7 +29,7 @@ pub IsLegal-rest : (us vs : List JournalUnit) (s : State) → IsLegal (us ++ vs)
 IsLegal-rest [] vs s h = h
 IsLegal-rest (u ∷ us) vs s h = IsLegal-rest us vs (after_unit u s) h.1
 
--- a unit behind others, with more behind it, is legal at its place
+-- a unit after others, with more after it, is legal at its place
 pub IsLegal-unit : (us vs : List JournalUnit) (u : JournalUnit) (s : State) → IsLegal (us ++ u ∷ vs) s → IsLegalUnit u (after us s)
 IsLegal-unit us vs u s h = (IsLegal-rest us (u ∷ vs) s h).0
 
@@ -43,7 +43,7 @@ pub AreRight-rest : (es fs : List Exchange) (m : Database) → AreRight (es ++ f
 AreRight-rest [] fs m h = h
 AreRight-rest (e ∷ es) fs m h = AreRight-rest es fs (data_after e.command m) h.1
 
--- a unit behind others leaves what it leaves after them
+-- a unit after others leaves what it leaves after them
 pub after-unit : (us : List JournalUnit) (u : JournalUnit) (s : State) → after (us ++ u ∷ []) s ≡ after_unit u (after us s)
 after-unit us u s = after-append us (u ∷ []) s
 

@@ -87,7 +87,7 @@ number_text n s placed sign short =
     ∙ ap (λ p. signed n (written_at scale p (digits_of s))) (place_back n (point_at scale s) (omega (arith, placed.bound)))
     ∙ ap (λ m. signed m (written_at scale (point_at scale s) (digits_of s))) (sym sign) ∙ sym placed.text
 
--- a number's bytes, behind the first
+-- a number's bytes, after the first
 number_back : (n : Bool) (s u : List ℕ) → IsPlaced scale s → is_negative s ≡ n → length s ≤ scale + 1 →
     first_number n (place_byte n (point_at scale s) ∷ (map (digit_byte n) (digits_of s) ++ number_end n ∷ u)) ≡ record { subscript = s; rest = u }
 number_back n s u placed sign short =
@@ -111,7 +111,7 @@ text_back s u =
     ap (λ t. first_subscript_of (5 ∷ t)) (append_assoc (escaped s) (0 ∷ []) u)
     ∙ (λ i. record { subscript = (ap unescaped (front_back 0 (escaped s) u (escaped_free s)) ∙ escaped_back s) i; rest = rest_back 0 (escaped s) u (escaped_free s) i })
 
--- a subscript's key reads back as the subscript, and what stands behind is left
+-- a subscript's key reads back as the subscript, and what stands after is left
 pub subscript_back : (s u : List ℕ) → IsSubscriptWithin short_form s → first_subscript_of (subscript_key short_form s ++ u) ≡ record { subscript = s; rest = u }
 subscript_back s u bounds =
     elim (is_canonic s) as (λ t. is_canonic s ≡ t → first_subscript_of (subscript_key short_form s ++ u) ≡ record { subscript = s; rest = u }) [

@@ -44,7 +44,7 @@ module _ (form : KeyForm) where
       same_front a (subscript_key form s ++ subscripts_key form more) (6 ∷ []) ∙ ap (λ t. slice_cmp nat_cmp (t ++ subscripts_key form more) (6 ∷ [])) key.is
       ∙ ap (λ o. ordering_then o (slice_cmp nat_cmp (key.rest ++ subscripts_key form more) [])) (sym (nat_cmp_is key.tag 6 Less key.high))
 
-  -- everything under a reference lies from its key on and before its key with byte 6 behind it, and nothing else does
+  -- everything under a reference lies from its key on and before its key with byte 6 after it, and nothing else does
   pub under_between : IsKeyForm form → (r x : Reference) → FitsForm form r → FitsForm form x → IsUnder r x ↔ (IsUpTo (key_in form r) (key_in form x) × BytesAreBefore (key_in form x) (key_in form r ++ 6 ∷ []))
   under_between is r x a b = (
     λ e. let on = under_begins form r x e in (

@@ -70,7 +70,7 @@ no_fault (s ∷ ss) a =
     let short : nat_lt limit (length s) ≡ false = grind (arith, nat_tests, is.short) in
     rw (some, short) (no_fault ss a.1)
 
--- where there is no fault the count is none, and neither is what stands behind it
+-- where there is no fault the count is none, and neither is what stands after it
 pub not_over : (b : Bool) (o : Option Refusal) → cond b (Some Refusal.TooManySubscripts) o ≡ None → (b ≡ false) × (o ≡ None)
 not_over true o e = absurd (cc)
 not_over false o e = (refl, e)
@@ -82,12 +82,12 @@ not_too_many ss e = (not_over (nat_lt most_subscripts (length ss)) _ e).1
 pub fits_short : (r : Reference) → IsFaultless r → FitsForm short_form r
 fits_short r is = record { name = is.name; subscripts = are_subscripts r.subscripts (not_too_many r.subscripts is.subscripts) }
 
--- the keys of two lists of subscripts stand one behind the other
+-- the keys of two lists of subscripts stand one after the other
 pub subscripts_key-append : (form : KeyForm) (xs ys : List (List ℕ)) → subscripts_key form (xs ++ ys) ≡ subscripts_key form xs ++ subscripts_key form ys
 subscripts_key-append form [] ys = refl
 subscripts_key-append form (x ∷ xs) ys = ap (λ t. subscript_key form x ++ t) (subscripts_key-append form xs ys) ∙ sym (append_assoc (subscript_key form x) (subscripts_key form xs) (subscripts_key form ys))
 
--- the key of a reference with further subscripts is its key and theirs behind it
+-- the key of a reference with further subscripts is its key and theirs after it
 pub key_of-append : (r : Reference) (more : List (List ℕ)) → key_of (record { name = r.name; subscripts = r.subscripts ++ more }) ≡ key_of r ++ subscripts_key short_form more
 key_of-append r more = ap (λ t. r.name ++ 0 ∷ t) (subscripts_key-append short_form r.subscripts more) ∙ sym (append_assoc r.name (0 ∷ subscripts_key short_form r.subscripts) (subscripts_key short_form more))
 

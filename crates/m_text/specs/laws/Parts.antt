@@ -107,7 +107,7 @@ codes_found bytes s rest e = parted_found code_at IsCode 44 code_found bytes s r
 codes_read : (codes s rest : List ℕ) → IsParted IsCode 44 codes s → parted_at code_at 44 (codes ++ 41 ∷ rest) ≡ Some (s, 41 ∷ rest)
 codes_read codes s rest forms = parted_read code_at IsCode 44 (Ends is_no_digit) code_read (λ r. refl) (λ t x form. form.some) codes s (41 ∷ rest) forms refl refl
 
--- codes behind $C
+-- codes after $C
 
 guarded : {X : Type 0} → (t : Bool) (x : Option X) (y : X) → cond t x None ≡ Some y → (t ≡ true) × (x ≡ Some y)
 guarded true x y e = (refl, e)

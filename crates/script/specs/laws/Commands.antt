@@ -1,4 +1,4 @@
--- What stands behind a command's word: what is read of it is spelled so, and what is spelled so is read.
+-- What stands after a command's word: what is read of it is spelled so, and what is spelled so is read.
 use Rattle.std.proofs.Common.{◌≡◌, ℕ, Bool, true, false, cond, List, [], ◌∷◌, ◌++◌, drop, Option, Some, None, refl, sym, ap, ◌∙◌, append_assoc}
 use Rattle.std.proofs.lemmas.Option.{some_pair_parts, cond_some}
 use Rattle.std.specs.Option.{option_map}
@@ -49,7 +49,7 @@ then_found read Form Tail make found form bytes c rest e =
     let p = some_pair_parts (make a.0.0) c a.0.1 rest a.2 in
     found_is Tail bytes (make a.0.0) c a.0.1 rest p.0 p.1 (record { text = of.text; form = form of.text a.0.0 of.form; parts = of.parts })
 
--- the byte b, and a form behind it
+-- the byte b, and a form after it
 record IsBehind {A : Type 0} (b : ℕ) (Form : List ℕ → A → Type 0) (text : List ℕ) (x : A) : Type 0 where
   inner : List ℕ
   form : Form inner x

@@ -96,7 +96,7 @@ not_function word e = at (is_function word) refl e
     at true f e = absurd cc
     at false f e = refl
 
--- the command behind letters that are a word
+-- the command after letters that are a word
 abbrev FoundBehind : List ℕ → List ℕ → Command → List ℕ → Type 0
 FoundBehind front bytes c rest = FoundOf IsCommand (front ++ bytes) c rest
 
@@ -221,7 +221,7 @@ tail_read tail e =
     let p = run_is ends_blank is_blank blank_kind tail [] e tt in
     ap past_blank (sym (append-nil tail)) ∙ p.1
 
--- behind letters that are a word stands no letter
+-- after letters that are a word stands no letter
 act_read : (word : Word) (letters more : List ℕ) (c : Command) (rest : List ℕ) → is_function word ≡ false → IsWord word letters → Ends ends_letters more → begins_with_byte 36 more ≡ false → behind_act word more ≡ Some (c, rest) → command_at (letters ++ more) ≡ Some (c, rest)
 unfolding command_at acts_at
 act_read word letters more c rest kind is ends other behind =

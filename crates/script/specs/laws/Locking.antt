@@ -1,4 +1,4 @@
--- What stands behind LOCK's word: what is read of it is spelled so, and what is spelled so is read.
+-- What stands after LOCK's word: what is read of it is spelled so, and what is spelled so is read.
 use Rattle.std.proofs.Common.{◌≡◌, ℕ, ◌<◌, Bool, true, false, cond, List, [], ◌∷◌, ◌++◌, length, drop, Option, Some, None, refl, sym, ap, ◌∙◌, append_assoc, arith, length-append}
 use Rattle.std.proofs.lemmas.Bool.{eqb-true, and_parts, and_from, ltb-true, leb-true, lt-ltb, le-leb}
 use Rattle.std.proofs.lemmas.Option.{some_pair_parts, cond_some}

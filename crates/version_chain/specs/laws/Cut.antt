@@ -7,7 +7,7 @@ use Rattle.version_chain.specs.laws.Versions.{leb_yes, leb_no, below_of}
 use Rattle.version_chain.specs.Cut.{covers, uncovered, without_old_absence, left_after, cut_of, if_value, newest_value}
 
 module _ {V : Type 0} where
-  -- behind a version that is not after the horizon nothing is left
+  -- after a version that is not after the horizon nothing is left
   covered_all : (h : ℕ) (newer vs : List (Entry V)) → covers h newer ≡ true → uncovered h newer vs ≡ []
   covered_all h newer [] e = refl
   covered_all h newer (v ∷ vs) e =
