@@ -13,6 +13,7 @@ use Rattle.std.specs.FinMap.Entries.{below_all, is_sorted-where_key}
 use Rattle.collation.specs.Reference.{Reference}
 use Rattle.collation.specs.Order.{ref_cmp}
 use Rattle.collation.specs.laws.Order.{ref_cmp_total, ref_cmp-IsAntisymmetric, is_equal}
+use Rattle.btree.specs.Order as order
 use Rattle.globals.specs.Entries.{nearest_entry, find_last}
 use Rattle.version_chain.specs.Versions.{at_of}
 use Rattle.version_chain.specs.Chains.{versions_at, IsOpen}
@@ -39,6 +40,39 @@ find_seen P c s (p ∷ ps) = by_case (P p.0) refl (at_of s (versions_at c p.1)) 
 pub next_in : (B : Reference → Bool) (c : State) (ps : Pairs) (s : ℕ) → is_sorted ref_cmp ps ≡ true
     → first_of (seen_at s (rows c (filter (λ p. not (B p.0)) ps))) ≡ nearest_entry true (λ x. not (B x)) (content_at (versions_in c ps) s)
 next_in B c ps s h = sym (ap (find (λ e. not (B e.0))) (entries_content (versions_in c ps) s ∙ ap (seen_at s) (entries_in c ps h)) ∙ find_seen (λ x. not (B x)) c s ps)
+
+is_first : {q p : Reference × ℕ} → Some q ≡ Some p → q ≡ p
+is_first at = cc
+
+-- what passes a test begins with the first that does
+first_left : (P : Reference → Bool) (ps : Pairs) (p : Reference × ℕ) → find (λ e. P e.0) ps ≡ Some p → (later : Pairs) × (filter (λ e. P e.0) ps ≡ p ∷ later)
+first_left P [] p at = absurd (cc)
+first_left P (q ∷ ps) p at = by_test (P q.0) at (first_left P ps p)
+  where
+    by_test : (b : Bool) → cond b (Some q) (find (λ e. P e.0) ps) ≡ Some p
+        → (find (λ e. P e.0) ps ≡ Some p → (later : Pairs) × (filter (λ e. P e.0) ps ≡ p ∷ later))
+        → (later : Pairs) × (cond b (q ∷ filter (λ e. P e.0) ps) (filter (λ e. P e.0) ps) ≡ p ∷ later)
+    by_test true at rest = (filter (λ e. P e.0) ps, cc)
+    by_test false at rest = rest at
+
+none_left : (P : Reference → Bool) (ps : Pairs) → find (λ e. P e.0) ps ≡ None → filter (λ e. P e.0) ps ≡ []
+none_left P [] none = refl
+none_left P (q ∷ ps) none = by_test (P q.0) none (none_left P ps)
+  where
+    by_test : (b : Bool) → cond b (Some q) (find (λ e. P e.0) ps) ≡ None → (find (λ e. P e.0) ps ≡ None → filter (λ e. P e.0) ps ≡ [])
+        → cond b (q ∷ filter (λ e. P e.0) ps) (filter (λ e. P e.0) ps) ≡ []
+    by_test true none rest = absurd (cc)
+    by_test false none rest = rest none
+
+pub none_next : (B : Reference → Bool) (c : State) (ps : Pairs) (s : ℕ) → is_sorted ref_cmp ps ≡ true → find (λ p. not (B p.0)) ps ≡ None
+    → nearest_entry true (λ x. not (B x)) (content_at (versions_in c ps) s) ≡ None
+none_next B c ps s h none = sym (next_in B c ps s h) ∙ ap (λ left. first_of (seen_at s (rows c left))) (none_left (λ x. not (B x)) ps none)
+
+pub first_next : (B : Reference → Bool) (c : State) (ps : Pairs) (s : ℕ) (p : Reference × ℕ) (x : List ℕ) → is_sorted ref_cmp ps ≡ true → find (λ p. not (B p.0)) ps ≡ Some p → at_of s (versions_at c p.1) ≡ Some x
+    → nearest_entry true (λ x. not (B x)) (content_at (versions_in c ps) s) ≡ Some (p.0, x)
+first_next B c ps s p x h at has =
+    let left = first_left (λ x. not (B x)) ps p at in
+    sym (next_in B c ps s h) ∙ ap (λ left. first_of (seen_at s (rows c left))) left.1 ∙ ap (λ o. first_of (with_value p.0 o (seen_at s (rows c left.0)))) has
 
 -- what is seen of the rows that pass a test
 seen_filter : (P : Reference → Bool) (c : State) (s : ℕ) (ps : Pairs) → filter (λ e. P e.0) (seen_at s (rows c ps)) ≡ seen_at s (rows c (filter (λ p. P p.0) ps))
@@ -103,6 +137,44 @@ pub prev_in : (B : Reference → Bool) (c : State) (ps : Pairs) (s : ℕ) → is
     → first_of (seen_at s (rows c (reverse (filter (λ p. B p.0) ps)))) ≡ nearest_entry false B (content_at (versions_in c ps) s)
 prev_in B c ps s h = sym (ap (find_last (λ e. B e.0)) (entries_content (versions_in c ps) s ∙ ap (seen_at s) (entries_in c ps h)) ∙ find_last_seen B c s ps)
 
+none_before : (P : Reference → Bool) (ps : Pairs) → order.find_last (λ e. P e.0) ps ≡ None → filter (λ e. P e.0) ps ≡ []
+none_before P [] none = refl
+none_before P (q ∷ ps) none = by_rest (order.find_last (λ e. P e.0) ps) refl (P q.0) none (none_before P ps)
+  where
+    by_rest : (o : Option (Reference × ℕ)) → order.find_last (λ e. P e.0) ps ≡ o → (b : Bool) → option_or o (cond b (Some q) None) ≡ None
+        → (order.find_last (λ e. P e.0) ps ≡ None → filter (λ e. P e.0) ps ≡ [])
+        → cond b (q ∷ filter (λ e. P e.0) ps) (filter (λ e. P e.0) ps) ≡ []
+    by_rest (Some x) is b none rest = absurd (cc)
+    by_rest None is true none rest = absurd (cc)
+    by_rest None is false none rest = rest is
+
+-- what passes a test ends with the last that does
+last_left : (P : Reference → Bool) (ps : Pairs) (p : Reference × ℕ) → order.find_last (λ e. P e.0) ps ≡ Some p → (earlier : Pairs) × (filter (λ e. P e.0) ps ≡ earlier ++ p ∷ [])
+last_left P [] p at = absurd (cc)
+last_left P (q ∷ ps) p at = by_rest (order.find_last (λ e. P e.0) ps) refl (P q.0) at (last_left P ps p) (none_before P ps)
+  where
+    by_rest : (o : Option (Reference × ℕ)) → order.find_last (λ e. P e.0) ps ≡ o → (b : Bool) → option_or o (cond b (Some q) None) ≡ Some p
+        → (order.find_last (λ e. P e.0) ps ≡ Some p → (earlier : Pairs) × (filter (λ e. P e.0) ps ≡ earlier ++ p ∷ []))
+        → (order.find_last (λ e. P e.0) ps ≡ None → filter (λ e. P e.0) ps ≡ [])
+        → (earlier : Pairs) × (cond b (q ∷ filter (λ e. P e.0) ps) (filter (λ e. P e.0) ps) ≡ earlier ++ p ∷ [])
+    by_rest (Some x) is true at rest none = let r = rest (is ∙ at) in (q ∷ r.0, ap (λ l. q ∷ l) r.1)
+    by_rest (Some x) is false at rest none = rest (is ∙ at)
+    by_rest None is true at rest none = ([], ap (λ l. q ∷ l) (none is) ∙ ap (λ r. r ∷ []) (is_first at))
+    by_rest None is false at rest none = absurd (cc)
+
+pub none_prev : (B : Reference → Bool) (c : State) (ps : Pairs) (s : ℕ) → is_sorted ref_cmp ps ≡ true → order.find_last (λ p. B p.0) ps ≡ None
+    → nearest_entry false B (content_at (versions_in c ps) s) ≡ None
+none_prev B c ps s h none = sym (prev_in B c ps s h) ∙ ap (λ left. first_of (seen_at s (rows c (reverse left)))) (none_before B ps none)
+
+pub last_prev : (B : Reference → Bool) (c : State) (ps : Pairs) (s : ℕ) (p : Reference × ℕ) (x : List ℕ) → is_sorted ref_cmp ps ≡ true → order.find_last (λ p. B p.0) ps ≡ Some p → at_of s (versions_at c p.1) ≡ Some x
+    → nearest_entry false B (content_at (versions_in c ps) s) ≡ Some (p.0, x)
+last_prev B c ps s p x h at has =
+    let left = last_left B ps p at in
+    sym (prev_in B c ps s h)
+    ∙ ap (λ left. first_of (seen_at s (rows c (reverse left)))) left.1
+    ∙ ap (λ left. first_of (seen_at s (rows c left))) (reverse-append left.0 (p ∷ []))
+    ∙ ap (λ o. first_of (with_value p.0 o (seen_at s (rows c (reverse left.0))))) has
+
 -- ---- the ids that a walk passes are open
 
 -- the first pair is found by its key, and those after it by theirs
@@ -134,6 +206,23 @@ open_filter c P (p ∷ ps) opened = by_test (P p) (open_filter c P ps opened.1)
     by_test : (b : Bool) → AreOpen c (filter P ps) → AreOpen c (cond b (p ∷ filter P ps) (filter P ps))
     by_test true rest = (opened.0, rest)
     by_test false rest = rest
+
+pub open_first : (c : State) (P : Reference → Bool) (ps : Pairs) (p : Reference × ℕ) → AreOpen c ps → find (λ e. P e.0) ps ≡ Some p → IsOpen c p.1
+open_first c P (q ∷ ps) p opened at = by_test (P q.0) at (open_first c P ps p opened.1)
+  where
+    by_test : (b : Bool) → cond b (Some q) (find (λ e. P e.0) ps) ≡ Some p → (find (λ e. P e.0) ps ≡ Some p → IsOpen c p.1) → IsOpen c p.1
+    by_test true at rest = subst (λ (r : Reference × ℕ). IsOpen c r.1) (is_first at) opened.0
+    by_test false at rest = rest at
+open_first c P [] p opened at = absurd (cc)
+
+open_part : (c : State) (xs : Pairs) (p : Reference × ℕ) → AreOpen c (xs ++ p ∷ []) → IsOpen c p.1
+open_part c [] p opened = opened.0
+open_part c (x ∷ xs) p opened = open_part c xs p opened.1
+
+pub open_last : (c : State) (P : Reference → Bool) (ps : Pairs) (p : Reference × ℕ) → AreOpen c ps → order.find_last (λ e. P e.0) ps ≡ Some p → IsOpen c p.1
+open_last c P ps p opened at =
+    let left = last_left P ps p at in
+    open_part c left.0 p (subst (AreOpen c) left.1 (open_filter c (λ e. P e.0) ps opened))
 
 -- ---- the keys that a walk passes are placed
 

@@ -72,20 +72,33 @@ fn gather_valued<'v>(
 }
 
 impl Store {
-    // The first reference that has a value at the stamp and doesn't stand before the cut, with the value.
+    // The first reference that has a value at the stamp and doesn't stand before the cut, with the value. Mostly that is
+    // the first of all, which is found without a walk.
     pub(crate) fn next_at(&self, cut: Cut<'_>, stamp: u64) -> Option<(&Key, &Text)>
         ensures { option_map (λ e. (e.0.now, e.1.now)) result ≡ first_from_cut cut.entry (content_at self.now.versions stamp) }
     {
-        let walk = self.tree.from(&CutPoint { cut });
-        first_valued(walk, &self.chains, stamp)
+        let point = CutPoint { cut };
+        match self.tree.first_from(&point).0 {
+            None => None,
+            Some((key, id)) => match self.chains.at(*id, stamp) {
+                Some(text) => Some((key, text)),
+                None => first_valued(self.tree.from(&point), &self.chains, stamp),
+            },
+        }
     }
 
-    // The last reference that has a value at the stamp and stands before the cut, with the value.
+    // The last reference that has a value at the stamp and stands before the cut, with the value; found as in `next_at`.
     pub(crate) fn prev_at(&self, cut: Cut<'_>, stamp: u64) -> Option<(&Key, &Text)>
         ensures { option_map (λ e. (e.0.now, e.1.now)) result ≡ last_before_cut cut.entry (content_at self.now.versions stamp) }
     {
-        let walk = self.tree.back_from(&CutPoint { cut });
-        last_valued(walk, &self.chains, stamp)
+        let point = CutPoint { cut };
+        match self.tree.last_before(&point).0 {
+            None => None,
+            Some((key, id)) => match self.chains.at(*id, stamp) {
+                Some(text) => Some((key, text)),
+                None => last_valued(self.tree.back_from(&point), &self.chains, stamp),
+            },
+        }
     }
 
     // The first references that have a value at the stamp and don't stand before the cut, with the values; at most so many.
