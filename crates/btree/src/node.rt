@@ -1,5 +1,5 @@
 //! A node: pairs of its own, and, unless it is a leaf, a kid before, between and after them.
-ghost use Rattle.std.specs.Prelude.{IfOk, IfErr, OnErr, IsSome, None, Some, ◌⊎◌, suc, ◌++◌, ◌∷◌, [], length, vec_capacity, ◌≡◌, ◌+◌, ◌^◌, ◌<◌, ◌≤◌};
+ghost use Rattle.std.specs.Prelude.{IfOk, IfErr, OnOk, OnErr, IsSome, None, Some, ◌⊎◌, suc, ◌++◌, ◌∷◌, [], length, vec_capacity, ◌≡◌, ◌+◌, ◌^◌, ◌<◌, ◌≤◌};
 ghost use Rattle.std.specs.Option.{option_map};
 ghost use Rattle.std.specs.FinMap.Entries.{find, put};
 ghost use Rattle.btree.specs.Order.{Ascends, first_from, last_before, without};
@@ -7,7 +7,7 @@ ghost use Rattle.btree.specs.Rows.{branch_of, sizes_of, IsNode, RowsHaveRoom, Ha
 
 use crate::ease::ease;
 use crate::mend::{append_reserved, mend, take_at};
-use crate::row::{cut_anew, replace_value};
+use crate::row::{cut_anew, insert_reserved, replace_value};
 use crate::search::{count_before, entry_at, entry_before, place, place_near};
 use crate::seek::Point;
 use crate::split::{Beside, insert_leaf, put_beside, spare_rows, split_long};
@@ -313,6 +313,39 @@ impl<K: Ord + Drop, V: Drop> Node<K, V> {
         put_beside(&mut self.entries, &mut self.kids, at, Some(beside));
         let beside = split_long(&mut self.entries, &mut self.kids, spare, spare_kids);
         Ok((before, beside))
+    }
+
+    /// Puts a key that isn't there, with its value, into a leaf with places left, by a trail, so many levels below the root.
+    /// No node is split or eased, and no memory taken. Where that isn't so nothing changes, and both come back.
+    pub fn put_in_leaf(
+        &mut self,
+        key: K,
+        value: V,
+        trail: &Trail,
+        level: usize,
+    ) -> Result<(), (K, V)>
+        requires sorted { Ascends K.cmp self.old.pairs }
+        requires fits { self.old.count ≤ 32 }
+        ensures missed { OnOk result (find K.cmp key self.old.pairs ≡ None) }
+        ensures same_size { IsKid self.old.count self.old.height self.new }
+        ensures put { OnOk result (self.new.pairs ≡ put K.cmp key value self.old.pairs) }
+        ensures handed_back { IfErr result (λ back. back ≡ (key, value)) }
+        ensures kept { OnErr result (self.new ≡ self.old) }
+    {
+        let near = trail.place(level);
+        let at = match place_near(&self.entries, &key, near) {
+            Ok(_) => return Err((key, value)),
+            Err(at) => at,
+        };
+        if !self.kids.is_empty() {
+            let below = level.wrapping_add(1);
+            return self.kids[at].put_in_leaf(key, value, trail, below);
+        }
+        if self.entries.len() > 30 || self.entries.capacity() < 33 {
+            return Err((key, value));
+        }
+        insert_reserved(&mut self.entries, at, (key, value));
+        Ok(())
     }
 
     /// Sets the value of a key that is there, and gives the one before. Where it isn't, the value comes back.

@@ -163,9 +163,8 @@ impl<K: Ord + Drop, V: Drop> Tree<K, V> {
         self.insert_by(alloc, key, value, &Trail::new())
     }
 
-    /// Sets the value of a key as `insert` does, by the trail of a look-up of this key: the search in each node is then two
-    /// comparisons. With any other trail it does the same and only takes longer.
-    pub fn insert_by(
+    // As `insert_by`, by way of each node on the way down, which is split or eased where that is due.
+    fn insert_splitting(
         &mut self,
         alloc: Global,
         key: K,
@@ -194,6 +193,35 @@ impl<K: Ord + Drop, V: Drop> Tree<K, V> {
             self.root.rise(entries, kids, beside);
         }
         Ok(before)
+    }
+
+    /// Sets the value of a key as `insert` does, by the trail of a look-up of this key: the search in each node is then two
+    /// comparisons. With any other trail it does the same and only takes longer.
+    pub fn insert_by(
+        &mut self,
+        alloc: Global,
+        key: K,
+        value: V,
+        trail: &Trail,
+    ) -> Result<Option<V>, AllocFailed<(K, V)>>
+        ensures before { IfOk result (λ before. before ≡ entries.find K.cmp key self.old.pairs) }
+        ensures put { IfOk result (λ _. self.new.pairs ≡ entries.put K.cmp key value self.old.pairs) }
+        ensures depth { IfOk result (λ _. (self.old.depth ≤ self.new.depth) × (self.new.depth ≤ self.old.depth + 1)) }
+        ensures handed_back { IfErr result (λ refused. refused.value ≡ (key, value)) }
+        ensures refused { OnErr result (self.new ≡ self.old) }
+    {
+        if self.len == usize::MAX {
+            return Err(AllocFailed {
+                value: (key, value),
+            });
+        }
+        match self.root.put_in_leaf(key, value, trail, 0) {
+            Ok(()) => {
+                self.len += 1;
+                Ok(None)
+            }
+            Err((key, value)) => self.insert_splitting(alloc, key, value, trail),
+        }
     }
 
     /// Sets the value of a key that is there, and gives the one before. It takes no memory.
