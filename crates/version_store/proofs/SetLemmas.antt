@@ -1,25 +1,25 @@
 -- One reference that is set to a value.
-use Rattle.std.proofs.Common.{◌≡◌, ℕ, suc, ◌+◌, ◌<◌, ◌≤◌, List, [], ◌∷◌, refl, sym, ap, ◌∙◌, subst, arith}
-use Rattle.std.specs.Prelude.{Bool, true, false, cond, leb, Option, Some, None, Result, Ok, Err, OnOk, OnErr}
+use Rattle.std.proofs.Common.{◌≡◌, ℕ, suc, ◌<◌, ◌≤◌, List, [], ◌∷◌, refl, sym, ap, ◌∙◌, subst, arith}
+use Rattle.std.specs.Prelude.{Bool, true, false, cond, leb, Option, Some, None, Result, Ok, Err, OnOk}
 use Rattle.std.specs.Ordering.{eq_by_cmp}
 use Rattle.std.specs.Cmp.{eq_by_cmp_equiv}
 use Rattle.std.specs.FinMap as finmap
-use Rattle.std.specs.FinMap.{find, put, is_sorted, get, get-insert, get-remove, same_map}
+use Rattle.std.specs.FinMap.{find, put, get, get-insert, get-remove, same_map}
 use Rattle.std.specs.FinMap.Entries.{find-put}
 use Rattle.collation.specs.Reference.{Reference}
 use Rattle.collation.specs.Order.{ref_cmp}
 use Rattle.collation.specs.laws.Order.{ref_cmp_total, ref_cmp-IsAntisymmetric}
-use Rattle.version_chain.specs.Versions.{IsAbove, cells_of}
+use Rattle.version_chain.specs.Versions.{IsAbove}
 use Rattle.version_chain.specs.laws.Versions.{leb_yes}
 use Rattle.version_chain.specs.Cut.{left_after, cut_of}
 use Rattle.version_chain.specs.laws.Cut.{left_after-cut_of}
-use Rattle.version_chain.specs.Chains.{listed, chain_at, versions_at, cells_at, Updates}
+use Rattle.version_chain.specs.Chains.{listed, chain_at, versions_at, Updates}
 use Rattle.collation.specs.Changes.{Change, set_to, changed}
-use Rattle.version_store.specs.Versions.{Row, Versions, Stored, versions_of, content_at, with_version, row_cut, is_bare, tidied, IsSetAt, KeepsCells, cells_under}
+use Rattle.version_store.specs.Versions.{Row, Versions, Stored, versions_of, content_at, with_version, row_cut, is_bare, tidied, IsSetAt}
 use Rattle.version_store.specs.laws.Content.{content_written, content_before, content_settled}
 use Rattle.version_store.specs.laws.Cutting.{rows_cut, content_cut_at}
 use Rattle.version_store.specs.Tied.{versions_in, IsTied}
-use Rattle.version_store.proofs.TiedLemmas.{State, Pairs, row_in, pushed, tied_update}
+use Rattle.version_store.proofs.TiedLemmas.{State, Pairs, pushed, tied_update}
 
 pub above_at : (now stamp : ℕ) (vs : Row) → now < stamp → IsAbove (suc now) vs → IsAbove stamp vs
 above_at now stamp [] later low = tt
@@ -152,22 +152,3 @@ module _ (old new : Stored) (stamp cut : ℕ) (c : Change) (is : IsSetAt stamp c
   set_rows r =
       ap (λ m. versions_of m r) is.versions ∙ rows_cut stamp cut (c ∷ []) old.versions r (refl, tt)
       ∙ ap (λ h. row_cut stamp h (find ref_cmp r (c ∷ [])) (versions_of old.versions r)) (sym is.cut_is)
-
--- ---- cells
-
--- a placed reference has the cells of its chain
-pub cells_in : (c : State) (ps : Pairs) (k : Reference) (id : ℕ) → is_sorted ref_cmp ps ≡ true → Some id ≡ find ref_cmp k ps → cells_under (versions_in c ps) k ≡ cells_at c id
-cells_in c ps k id sorted at = ap (λ (vs : Row). cells_of vs) (row_in c ps k id sorted at)
-
--- one that isn't has none
-pub no_cells : (m : Versions) (k : Reference) → get m k ≡ None → cells_under m k ≡ 0
-no_cells m k none = ap (λ (o : Option Row). cells_of (listed o)) none
-
--- nor has a chain that was opened for it
-pub no_cells_at : (c : State) (id : ℕ) → chain_at c id ≡ Some [] → cells_at c id ≡ 0
-no_cells_at c id fresh = ap (λ (o : Option Row). cells_of (listed o)) fresh
-
--- cells are kept where it was done, and where all is as it was
-pub cells_either : {T E : Type 0} (r : Result T E) (k : Reference) (old new : Stored) → OnOk r (KeepsCells k old new) → OnErr r (new ≡ old) → KeepsCells k old new
-cells_either (Ok x) k old new done kept = done
-cells_either (Err e) k old new done kept = subst (λ s. KeepsCells k old s) (sym kept) refl

@@ -114,6 +114,15 @@ abbrev pub AreBelow : ℕ → Versions → List Change → Type 0
 AreBelow stamp m [] = Unit {0}
 AreBelow stamp m (c ∷ cs) = IsAbove stamp (versions_of m c.0) × AreBelow stamp m cs
 
+-- how many cells the versions of the changes' references take
+abbrev pub cells_over : List Change → Versions → ℕ
+cells_over [] m = 0
+cells_over (c ∷ cs) m = cells_under m c.0 + cells_over cs m
+
+-- the cells that versions of these references no longer take are spare, and no others
+abbrev pub KeepCells : List Change → Stored → Stored → Type 0
+KeepCells cs old new = new.spare + cells_over cs new.versions ≡ old.spare + cells_over cs old.versions
+
 -- ---- the newest stamp in a range
 
 abbrev pub later : Option ℕ → Option ℕ → Option ℕ

@@ -1,6 +1,6 @@
 use Rattle.std.proofs.Common.{◌≡◌, ap, arith}
 use Rattle.version_store.specs.Versions.{Stored, cells_under}
-use Rattle.version_store.proofs.SetLemmas.{cells_either}
+use Rattle.version_store.proofs.CellLemmas.{cells_either}
 use Rattle.version_store.proofs.store.Store.place_and_set.Goals as goal
 
 pub returns-in-Some-clause-most : goal.returns-in-Some-clause-most

@@ -3,7 +3,8 @@ use Rattle.std.specs.FinMap.{put}
 use Rattle.collation.specs.Order.{ref_cmp}
 use Rattle.version_store.specs.Tied.{versions_in}
 use Rattle.version_store.proofs.TiedLemmas.{versions_put, tied_put, tied_back, tied_later, not_in}
-use Rattle.version_store.proofs.SetLemmas.{versions_set, tied_set, pushed_fresh, found_put, cells_in, no_cells, no_cells_at}
+use Rattle.version_store.proofs.SetLemmas.{versions_set, tied_set, pushed_fresh, found_put}
+use Rattle.version_store.proofs.CellLemmas.{cells_in, no_cells, no_cells_at}
 use Rattle.version_store.proofs.store.Store.set_new.Goals as goal
 
 pub invariant_of-self-in-Ok-insert_by : goal.invariant_of-self-in-Ok-insert_by

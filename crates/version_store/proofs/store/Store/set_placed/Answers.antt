@@ -3,7 +3,8 @@ use Rattle.std.specs.Prelude.{Some}
 use Rattle.version_store.specs.Tied.{versions_in, IsTied}
 use Rattle.version_store.proofs.TiedLemmas.{low_in, tied_later, none_in}
 use Rattle.version_store.proofs.CutLemmas.{cut_at_once}
-use Rattle.version_store.proofs.SetLemmas.{above_at, set_there, cells_in}
+use Rattle.version_store.proofs.SetLemmas.{above_at, set_there}
+use Rattle.version_store.proofs.CellLemmas.{cells_in}
 use Rattle.version_store.proofs.store.Store.set_placed.Goals as goal
 
 pub push_and_cut-requires-clause-newest : goal.push_and_cut-requires-clause-newest
