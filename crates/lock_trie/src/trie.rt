@@ -52,6 +52,7 @@ impl LockTrie {
         requires { held_count self.old job name.now + n ≤ most_locks }
         ensures ok { OnOk result (IsRecounted self.old self.new job name.now (held_count self.old job name.now + n)) }
         ensures err { OnErr result (IsSame self.old self.new) }
+        ensures none { n ≡ 0 → self.new ≡ self.old }
     {
         if n == 0 {
             return Ok(());

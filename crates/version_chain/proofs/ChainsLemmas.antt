@@ -168,6 +168,14 @@ module _ {V : Type 0} where
   count_seen (None ∷ slots) = let e = count_seen slots in omega (arith, e, sum_by-cons (λ o. cond (is_some o) 1 0) None (lists_seen slots), sum_by-cons (λ o. cond (is_some o) 1 0) None slots)
   count_seen (Some line ∷ slots) = let e = count_seen slots in omega (arith, e, sum_by-cons (λ o. cond (is_some o) 1 0) (Some (line_versions line)) (lists_seen slots), sum_by-cons (λ o. cond (is_some o) 1 0) (Some line) slots)
 
+  -- where each number is held each id is open
+  pub full_seen : (slots : List (Slot V)) (s : ChainsState V) (spare : ℕ) → record { chains = lists_seen slots; spare = spare } ≡ s
+      → count_by is_some slots ≡ length slots → open_count s ≡ number_count s
+  full_seen slots s spare e full =
+      let n = length-map slots seen_slot in let m = ap (λ (z : ChainsState V). length z.chains) e in
+      let k = ap (λ (z : ChainsState V). count_by is_some z.chains) e in let j = count_seen slots in
+      omega (arith, n, m, k, j, full)
+
   -- a number that is new where only that of closed chains is left
   pub open_seen : (slots : List (Slot V)) (i : ℕ) (s : ChainsState V) (spare : ℕ) → record { chains = lists_seen slots; spare = spare } ≡ s
       → i ≤ length slots → (i ≡ length slots → count_by is_some slots ≡ length slots) → open_count s < number_count s → i < number_count s

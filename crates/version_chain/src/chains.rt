@@ -116,13 +116,14 @@ impl<V: Drop> Chains<V> {
 
     /// Opens a chain without versions. Ids that were closed are used again before there is a new one.
     ///
-    /// Refusals: `AllocError`. After it nothing has changed.
+    /// Refusals: `AllocError` where no closed id is left and memory is wanting. After it nothing has changed.
     pub fn open(&mut self) -> Result<ChainId, AllocError>
         ensures vacant { IfOk result (λ id. chain_at self.old id ≡ None) }
         ensures chains { IfOk result (λ id. Updates self.old self.new id (Some [])) }
         ensures reused { IfOk result (λ id. open_count self.old < number_count self.old → id < number_count self.old) }
         ensures small { IfOk result (λ id. id ≤ number_count self.old) }
         ensures spare { self.new.spare ≡ self.old.spare }
+        ensures full { OnErr result (open_count self.old ≡ number_count self.old) }
         ensures err { OnErr result (self.new ≡ self.old) }
     {
         match self.lines.insert() {

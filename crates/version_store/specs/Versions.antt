@@ -1,6 +1,6 @@
 -- What a store is seen as: for each placed reference its versions, newest first.
 -- Read Versions, content_at, written and changed (of `collation`); specs/laws/Content.antt has their laws.
-use Rattle.std.specs.Prelude.{◌≡◌, ◌≤◌, ℕ, Bool, true, false, not, ◌&&◌, cond, max, List, [], ◌∷◌, ◌++◌, Option, Some, None, filter, map, take, refl}
+use Rattle.std.specs.Prelude.{◌≡◌, ◌+◌, ◌≤◌, ℕ, Bool, true, false, not, ◌&&◌, cond, max, List, [], ◌∷◌, ◌++◌, Option, Some, None, filter, map, take, refl}
 use Rattle.std.specs.Coded.{Coded, code_by, coded×, coded_ℕ, coded_list, coded_option}
 use Rattle.std.specs.FinMap as finmap
 use Rattle.std.specs.FinMap.{FinMap, code}
@@ -10,7 +10,7 @@ use Rattle.collation.specs.Database.{Database, reference_code}
 use Rattle.collation.specs.Changes.{Change}
 pub use Rattle.collation.specs.Changes.{changed}
 use Rattle.std.specs.Ordering.{is_lt}
-use Rattle.version_chain.specs.Versions.{Entry, newest_of, at_of, IsAbove}
+use Rattle.version_chain.specs.Versions.{Entry, newest_of, at_of, IsAbove, cells_of}
 use Rattle.version_chain.specs.Chains.{listed}
 use Rattle.version_chain.specs.Cut.{left_after}
 use Rattle.globals.specs.declared.cut.Cut.{Cut}
@@ -62,6 +62,14 @@ content_now s = content_at s.versions s.present
 abbrev pub versions_of : Versions → Reference → Row
 versions_of m r = listed (finmap.get m r)
 
+-- how many cells the versions of a reference take
+abbrev pub cells_under : Versions → Reference → ℕ
+cells_under m r = cells_of (versions_of m r)
+
+-- the cells that its versions no longer take are spare, and no others
+abbrev pub KeepsCells : Reference → Stored → Stored → Type 0
+KeepsCells r old new = new.spare + cells_under new.versions r ≡ old.spare + cells_under old.versions r
+
 -- the first of a list
 abbrev pub first_of : {A : Type 0} → List A → Option A
 first_of [] = None
@@ -105,6 +113,15 @@ ArePlaced m (c ∷ cs) = (finmap.contains_key m c.0 ≡ true) × ArePlaced m cs
 abbrev pub AreBelow : ℕ → Versions → List Change → Type 0
 AreBelow stamp m [] = Unit {0}
 AreBelow stamp m (c ∷ cs) = IsAbove stamp (versions_of m c.0) × AreBelow stamp m cs
+
+-- how many cells the versions of the changes' references take
+abbrev pub cells_over : List Change → Versions → ℕ
+cells_over [] m = 0
+cells_over (c ∷ cs) m = cells_under m c.0 + cells_over cs m
+
+-- the cells that versions of these references no longer take are spare, and no others
+abbrev pub KeepCells : List Change → Stored → Stored → Type 0
+KeepCells cs old new = new.spare + cells_over cs new.versions ≡ old.spare + cells_over cs old.versions
 
 -- ---- the newest stamp in a range
 

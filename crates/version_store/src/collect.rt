@@ -6,7 +6,7 @@ ghost use Rattle.refusal.specs.declared.Refusal.{Refusal};
 ghost use Rattle.globals.specs.Entries.{nearest_entry};
 ghost use Rattle.globals.specs.Cuts.{stands_before};
 ghost use Rattle.version_chain.specs.Cut.{left_after};
-ghost use Rattle.version_store.specs.Versions.{content_at, versions_of, is_behind, is_bare, tidied};
+ghost use Rattle.version_store.specs.Versions.{KeepsCells, content_at, versions_of, is_behind, is_bare, tidied};
 
 use crate::store::Store;
 use globals::Cut;
@@ -62,6 +62,7 @@ impl Store {
         ensures cut { self.new.cut ≡ self.old.cut }
         ensures mark { self.new.mark ≡ self.old.mark }
         ensures spare { self.old.spare ≤ self.new.spare }
+        ensures cells { KeepsCells key.now self.old self.new }
     {
         match self.tree.get(key).0 {
             Some(id) => self.chains.cut(*id, horizon),
@@ -105,6 +106,7 @@ impl Store {
         ensures cut { self.new.cut ≡ self.old.cut }
         ensures mark { self.new.mark ≡ self.old.mark }
         ensures spare { self.old.spare ≤ self.new.spare }
+        ensures cells { KeepsCells key.now self.old self.new }
     {
         match self.tree.get(key).0 {
             Some(id) => {

@@ -3,7 +3,7 @@ ghost use Rattle.std.specs.Prelude.{◌≡◌, ℕ, ◌+◌, ◌<◌, ◌≤◌,
 ghost use Rattle.std.specs.FinMap as finmap;
 ghost use Rattle.collation.specs.Order.{ref_cmp};
 ghost use Rattle.collation.specs.Reference.{Reference};
-ghost use Rattle.version_store.specs.Versions.{IsSetAt, content_at, versions_of, row_cut};
+ghost use Rattle.version_store.specs.Versions.{IsSetAt, KeepsCells, cells_under, content_at, versions_of, row_cut};
 
 use crate::store::Store;
 use btree::Trail;
@@ -20,6 +20,7 @@ impl Store {
         ensures set { MatchOption result (IsSetAt stamp cut (key.now, Some value) self.old self.new)
             (λ back. (back.0 ≡ value) × (finmap.get self.old.versions key.now ≡ None) × (self.new ≡ self.old)) }
         ensures spare { self.old.spare ≤ self.new.spare + 1 }
+        ensures cells { KeepsCells key.now self.old self.new }
     {
         let (found, trail) = self.tree.look_up(key);
         match found {
@@ -49,6 +50,7 @@ impl Store {
         requires none { finmap.get self.old.versions key ≡ None }
         ensures ok { OnOk result (IsSetAt stamp cut (key, Some value) self.old self.new) }
         ensures spare { self.old.spare ≤ self.new.spare + 1 }
+        ensures cells { OnOk result (KeepsCells key self.old self.new) }
         ensures err { OnErr result (self.new ≡ self.old) }
     {
         let id = match self.chains.open() {
@@ -89,6 +91,7 @@ impl Store {
         ensures ok { OnOk result (IsSetAt stamp cut (key, Some value) self.old self.new) }
         ensures err { OnErr result (self.new ≡ record self.old { spare = self.new.spare }) }
         ensures spare { self.old.spare ≤ self.new.spare + 1 }
+        ensures most { self.new.spare + cells_under self.new.versions key ≤ max self.old.spare 64 + cells_under self.old.versions key }
     {
         match self.reserve(1) {
             Ok(()) => {}
@@ -111,7 +114,8 @@ impl Store {
     /// as `write_and_cut` of this one change, but the reference need not be placed. One look-up; where it isn't placed the
     /// key then goes in by the look-up's trail.
     ///
-    /// Refusals: `AllocError`. After it a cell may be reserved; nothing else has changed.
+    /// Refusals: `AllocError`. After it a cell may be reserved; nothing else has changed. Cells are reserved only where none is,
+    /// and then a page of 64.
     pub fn set_and_cut(
         &mut self,
         alloc: Global,
@@ -128,6 +132,7 @@ impl Store {
         ensures set { OnOk result (IsSetAt stamp (max self.old.cut horizon) (key, Some value) self.old self.new) }
         ensures err { OnErr result (self.new ≡ record self.old { spare = self.new.spare }) }
         ensures spare { self.old.spare ≤ self.new.spare + 1 }
+        ensures most { self.new.spare + cells_under self.new.versions key ≤ max self.old.spare 64 + cells_under self.old.versions key }
     {
         let cut = self.cut.max(horizon);
         self.place_and_set(alloc, stamp, cut, key, value)

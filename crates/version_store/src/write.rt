@@ -5,7 +5,7 @@ ghost use Rattle.collation.specs.Order.{ref_cmp};
 ghost use Rattle.collation.specs.Reference.{Reference};
 ghost use Rattle.collation.specs.Changes.{AreOnce};
 ghost use Rattle.version_chain.specs.Versions.{IsAbove};
-ghost use Rattle.version_store.specs.Versions.{content_at, versions_of, row_after, with_version, written, written_and_cut, changed, row_cut, tidied, ArePlaced, AreBelow};
+ghost use Rattle.version_store.specs.Versions.{KeepsCells, KeepCells, content_at, versions_of, row_after, with_version, written, written_and_cut, changed, row_cut, tidied, ArePlaced, AreBelow};
 
 use crate::store::Store;
 use collation::Text;
@@ -23,6 +23,7 @@ impl Store {
         ensures cut { self.new.cut ≡ self.old.cut }
         ensures mark { self.new.mark ≡ self.old.mark }
         ensures spare { self.old.spare ≤ self.new.spare + 1 }
+        ensures cells { KeepsCells key.now self.old self.new }
     {
         match self.tree.get(key).0 {
             Some(id) => self.chains.push_reserved(*id, stamp, value),
@@ -42,6 +43,7 @@ impl Store {
         ensures cut { self.new.cut ≡ self.old.cut }
         ensures mark { self.new.mark ≡ self.old.mark }
         ensures spare { self.old.spare ≤ self.new.spare + vec_len changes }
+        ensures cells { KeepCells changes.items self.old self.new }
     {
         for (key, value) in changes {
             self.push_one(stamp, &key, value);
@@ -65,6 +67,7 @@ impl Store {
         ensures cut { self.new.cut ≡ self.old.cut }
         ensures mark { self.new.mark ≡ self.old.mark }
         ensures spare { self.old.spare ≤ self.new.spare + vec_len changes }
+        ensures cells { KeepCells changes.items self.old self.new }
     {
         self.present = stamp;
         self.push_all(stamp, changes);
@@ -82,6 +85,7 @@ impl Store {
         ensures cut { self.new.cut ≡ self.old.cut }
         ensures mark { self.new.mark ≡ self.old.mark }
         ensures spare { self.old.spare ≤ self.new.spare + 1 }
+        ensures cells { KeepsCells key.now self.old self.new }
     {
         match self.tree.get(key).0 {
             Some(id) => {
@@ -107,6 +111,7 @@ impl Store {
         ensures cut { self.new.cut ≡ self.old.cut }
         ensures mark { self.new.mark ≡ self.old.mark }
         ensures spare { self.old.spare ≤ self.new.spare }
+        ensures cells { KeepsCells key.now self.old self.new }
     {
         match self.tree.remove(key) {
             Some(id) => self.chains.close(id),
@@ -125,6 +130,7 @@ impl Store {
         ensures cut { self.new.cut ≡ self.old.cut }
         ensures mark { self.new.mark ≡ self.old.mark }
         ensures spare { self.old.spare ≤ self.new.spare + 1 }
+        ensures cells { KeepsCells key.now self.old self.new }
     {
         match value {
             Some(text) => self.push_and_cut(stamp, horizon, key, Some(text)),
@@ -150,6 +156,7 @@ impl Store {
         ensures cut { self.new.cut ≡ self.old.cut }
         ensures mark { self.new.mark ≡ self.old.mark }
         ensures spare { self.old.spare ≤ self.new.spare + vec_len changes }
+        ensures cells { KeepCells changes.items self.old self.new }
     {
         for (key, value) in changes {
             self.write_one(stamp, horizon, &key, value);
@@ -174,6 +181,7 @@ impl Store {
         ensures cut { self.new.cut ≡ max self.old.cut horizon }
         ensures mark { self.new.mark ≡ self.old.mark }
         ensures spare { self.old.spare ≤ self.new.spare + vec_len changes }
+        ensures cells { KeepCells changes.items self.old self.new }
     {
         let cut = self.cut.max(horizon);
         self.present = stamp;

@@ -107,14 +107,14 @@ content_cut_at stamp horizon s cs m apart le = content_alike _ _ s (λ r.
 
 -- ---- what a list of changes asks for still holds after the first
 
-other_key : (k : Reference) (c : Change) (cs : List Change) → find ref_cmp k (c ∷ cs) ≡ None → eq_by_cmp ref_cmp c.0 k ≡ false
+pub other_key : (k : Reference) (c : Change) (cs : List Change) → find ref_cmp k (c ∷ cs) ≡ None → eq_by_cmp ref_cmp c.0 k ≡ false
 other_key k c cs none = let laws = eq_by_cmp_equiv ref_cmp_total in laws.symm c.0 k ∙ by_tie (eq_by_cmp ref_cmp k c.0) none
   where
     by_tie : (t : Bool) → cond t (Some c.1) (find ref_cmp k cs) ≡ None → t ≡ false
     by_tie true e = absurd (cc)
     by_tie false e = refl
 
-other_keys : (k : Reference) (c : Change) (cs : List Change) → find ref_cmp k (c ∷ cs) ≡ None → find ref_cmp k cs ≡ None
+pub other_keys : (k : Reference) (c : Change) (cs : List Change) → find ref_cmp k (c ∷ cs) ≡ None → find ref_cmp k cs ≡ None
 other_keys k c cs = by_tie (eq_by_cmp ref_cmp k c.0)
   where
     by_tie : (t : Bool) → cond t (Some c.1) (find ref_cmp k cs) ≡ None → find ref_cmp k cs ≡ None
@@ -130,7 +130,7 @@ below_elsewhere : (stamp : ℕ) (k : Reference) (m n : Versions) (cs : List Chan
 below_elsewhere stamp k m n [] same e p = tt
 below_elsewhere stamp k m n (c ∷ cs) same e p = (subst (λ o. IsAbove stamp (listed o)) (sym (same c.0 (other_key k c cs e))) p.0, below_elsewhere stamp k m n cs same (other_keys k c cs e) p.1)
 
-get_one : (stamp horizon : ℕ) (c : Change) (m : Versions) (q : Reference) → eq_by_cmp ref_cmp q c.0 ≡ false → get (tidied horizon c.0 (with_version stamp c m)) q ≡ get m q
+pub get_one : (stamp horizon : ℕ) (c : Change) (m : Versions) (q : Reference) → eq_by_cmp ref_cmp q c.0 ≡ false → get (tidied horizon c.0 (with_version stamp c m)) q ≡ get m q
 get_one stamp horizon c m q other =
     get_tidied horizon c.0 q (with_version stamp c m) other
     ∙ get-insert ref_cmp_total m c.0 ((stamp, c.1) ∷ versions_of m c.0) q ∙ ap (λ b. cond b (Some ((stamp, c.1) ∷ versions_of m c.0)) (get m q)) other

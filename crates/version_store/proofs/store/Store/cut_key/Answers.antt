@@ -1,8 +1,9 @@
-use Rattle.std.proofs.Common.{◌+◌, length, sym, ap, ◌∙◌}
+use Rattle.std.proofs.Common.{◌+◌, length, sym, ap, ◌∙◌, arith}
 use Rattle.version_chain.specs.Chains.{listed}
 use Rattle.version_store.specs.Tied.{versions_in}
 use Rattle.version_store.specs.laws.Content.{content_cut}
 use Rattle.version_store.proofs.TiedLemmas.{row_in, not_placed, cut_row, tied_cut}
+use Rattle.version_store.proofs.CellLemmas.{cells_in}
 use Rattle.version_store.proofs.store.Store.cut_key.Goals as goal
 
 pub invariant_of-self : goal.invariant_of-self
@@ -36,3 +37,11 @@ returns-clause-content c = λ n le.
     let at = rw c.in-Some.is at c.get.ensures.found in
     let same = cut_row s.chains c.cut.new.self s.tree.pairs s.present c.in-Some.id.now c.args.horizon c.args.key.now c.self.invariant.0 at c.cut.ensures.chains in
     rw (← c.self.view_is, same) (content_cut (versions_in s.chains s.tree.pairs) c.args.key.now c.args.horizon n le)
+
+pub returns-clause-cells : goal.returns-clause-cells
+returns-clause-cells c =
+    let s = c.self.inside in
+    let at = rw c.in-Some.is at c.get.ensures.found in
+    let was = cells_in s.chains s.tree.pairs c.args.key.now c.in-Some.id.now c.self.invariant.0.sorted at in
+    let is = cells_in c.cut.new.self s.tree.pairs c.args.key.now c.in-Some.id.now c.self.invariant.0.sorted at in
+    rw (← c.self.view_is) (omega (arith, was, is, c.cut.ensures.spare))

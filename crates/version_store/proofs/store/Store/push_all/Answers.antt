@@ -1,7 +1,8 @@
 use Rattle.std.proofs.Common.{◌≡◌, ◌∷◌, ◌∙◌, arith, rules}
 use Rattle.std.specs.Vec.Iter.{into_iter_items}
-use Rattle.version_store.specs.Versions.{versions_of}
+use Rattle.version_store.specs.Versions.{versions_of, with_version}
 use Rattle.version_store.specs.laws.Content.{placed_on, below_on}
+use Rattle.version_store.proofs.CellLemmas.{cells_elsewhere, get_with, cells_last}
 use Rattle.version_store.proofs.store.Store.push_all.Goals as goal
 
 pub loop-key-preserved : goal.loop-key-preserved
@@ -14,7 +15,11 @@ loop-key-preserved c =
     let versions = rw steps at now.versions in
     let room = rw steps at now.room in
     let spare = rw steps at now.spare in
+    let cells = rw steps at now.cells in
     let m = c.loop-key.self.versions in
+    let kept = rw c.push_one.ensures.versions at c.push_one.ensures.cells in
+    let others = cells_elsewhere c.in-Some.key m (with_version c.args.stamp (c.in-Some.key, c.in-Some.value) m) _ (get_with c.args.stamp (c.in-Some.key, c.in-Some.value) m) apart.0 in
+    let last = cells_last c.args.stamp _ (with_version c.args.stamp (c.in-Some.key, c.in-Some.value) m) _ c.in-Some.key apart.1 apart.0 versions in
     let row = (c.args.stamp, c.in-Some.value) ∷ versions_of m c.in-Some.key in
     rw c.push_one.ensures.versions (record {
       can_next = tt;
@@ -28,4 +33,5 @@ loop-key-preserved c =
       mark = c.push_one.ensures.mark ∙ now.mark;
       room = omega (arith, room, c.push_one.ensures.spare);
       spare = omega (arith, spare, room, c.push_one.ensures.spare);
+      cells = omega (arith, cells, kept, others, last);
     })

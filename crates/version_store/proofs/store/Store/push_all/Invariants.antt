@@ -1,7 +1,7 @@
 use Rattle.std.proofs.Common.{◌≡◌, ◌+◌, ◌≤◌, length}
 use Rattle.std.specs.Vec.Iter.{into_iter_items}
 use Rattle.collation.specs.Changes.{AreOnce}
-use Rattle.version_store.specs.Versions.{written, ArePlaced, AreBelow}
+use Rattle.version_store.specs.Versions.{written, cells_over, ArePlaced, AreBelow}
 use Rattle.version_store.proofs.store.Store.push_all.Given as goal
 
 abbrev pub invariant-loop-key : goal.invariant-loop-key
@@ -17,4 +17,6 @@ invariant-loop-key l = record {
   mark : l.self.mark ≡ l.initial.self.mark;
   room : length (into_iter_items l.key-iterator) ≤ l.self.spare;
   spare : l.initial.self.spare + length (into_iter_items l.key-iterator) ≤ l.self.spare + length l.fn.changes.items;
+  cells : l.self.spare + cells_over (into_iter_items l.key-iterator) l.self.versions + cells_over l.fn.changes.items (written l.stamp l.fn.changes.items l.initial.self.versions)
+      ≡ l.initial.self.spare + cells_over l.fn.changes.items l.initial.self.versions + cells_over (into_iter_items l.key-iterator) (written l.stamp l.fn.changes.items l.initial.self.versions);
 }

@@ -1,7 +1,8 @@
-use Rattle.std.proofs.Common.{subst}
+use Rattle.std.proofs.Common.{subst, arith}
 use Rattle.version_chain.specs.Versions.{IsAbove}
 use Rattle.version_store.proofs.TiedLemmas.{row_in, not_placed}
 use Rattle.version_store.proofs.CutLemmas.{cut_at_once, tied_bare, versions_bare, versions_left}
+use Rattle.version_store.proofs.CellLemmas.{cells_in, no_cells_left}
 use Rattle.version_store.proofs.store.Store.push_and_cut.Goals as goal
 
 pub push_and_cut-requires-clause-newest : goal.push_and_cut-requires-clause-newest
@@ -54,3 +55,23 @@ returns-in-None-newest-clause-versions c =
     let is = cut_at_once s.chains c.push_and_cut.new.self s.tree.pairs s.present c.in-Some.id.now c.args.stamp c.args.horizon c.args.key.now c.args.value c.self.invariant.0 at c.push_and_cut.ensures.chains low newest in
     let none = rw c.in-None-newest.is at c.newest.ensures.newest in
     rw (← c.self.view_is, c.remove.ensures.pairs) (versions_bare s.chains c.push_and_cut.new.self s.tree.pairs s.present c.in-Some.id.now c.args.stamp c.args.horizon c.args.key.now c.args.value is at c.close.new.self c.close.ensures.chains none)
+
+pub returns-in-Some-newest-clause-cells : goal.returns-in-Some-newest-clause-cells
+returns-in-Some-newest-clause-cells c =
+    let s = c.self.inside in
+    let at = rw c.in-Some.is at c.get.ensures.found in
+    let was = cells_in s.chains s.tree.pairs c.args.key.now c.in-Some.id.now c.self.invariant.0.sorted at in
+    let is = cells_in c.push_and_cut.new.self s.tree.pairs c.args.key.now c.in-Some.id.now c.self.invariant.0.sorted at in
+    rw (← c.self.view_is) (omega (arith, was, is, c.push_and_cut.ensures.spare))
+
+pub returns-in-None-newest-clause-cells : goal.returns-in-None-newest-clause-cells
+returns-in-None-newest-clause-cells c =
+    let s = c.self.inside in
+    let at = rw c.in-Some.is at c.get.ensures.found in
+    let low = rw (← c.self.view_is) at c.requires.stamp in
+    let newest = rw (← c.self.view_is) at c.requires.newest in
+    let is = cut_at_once s.chains c.push_and_cut.new.self s.tree.pairs s.present c.in-Some.id.now c.args.stamp c.args.horizon c.args.key.now c.args.value c.self.invariant.0 at c.push_and_cut.ensures.chains low newest in
+    let tied = is.tied in
+    let was = cells_in s.chains s.tree.pairs c.args.key.now c.in-Some.id.now c.self.invariant.0.sorted at in
+    let gone = no_cells_left c.push_and_cut.new.self c.close.new.self s.tree.pairs s.present c.in-Some.id.now c.args.key.now tied at c.close.ensures.chains in
+    rw (← c.self.view_is, c.remove.ensures.pairs) (omega (arith, was, gone, c.push_and_cut.ensures.spare, c.close.ensures.spare))

@@ -1,6 +1,7 @@
 use Rattle.std.proofs.Common.{sym, subst, arith}
 use Rattle.version_chain.specs.Versions.{IsAbove}
 use Rattle.version_store.proofs.TiedLemmas.{row_in, not_placed, pushed, tied_update}
+use Rattle.version_store.proofs.CellLemmas.{cells_in}
 use Rattle.version_store.proofs.store.Store.push_one.Goals as goal
 
 pub push_reserved-requires-clause-newest : goal.push_reserved-requires-clause-newest
@@ -30,3 +31,11 @@ returns-clause-versions c =
     let s = c.self.inside in
     let at = rw c.in-Some.is at c.get.ensures.found in
     rw (← c.self.view_is) (pushed s.chains c.push_reserved.new.self s.tree.pairs s.present c.in-Some.id.now c.args.stamp c.args.key.now c.args.value c.self.invariant.0 at c.push_reserved.ensures.chains)
+
+pub returns-clause-cells : goal.returns-clause-cells
+returns-clause-cells c =
+    let s = c.self.inside in
+    let at = rw c.in-Some.is at c.get.ensures.found in
+    let was = cells_in s.chains s.tree.pairs c.args.key.now c.in-Some.id.now c.self.invariant.0.sorted at in
+    let is = cells_in c.push_reserved.new.self s.tree.pairs c.args.key.now c.in-Some.id.now c.self.invariant.0.sorted at in
+    rw (← c.self.view_is) (omega (arith, was, is, c.push_reserved.ensures.spare))

@@ -4,6 +4,7 @@ use Rattle.version_store.specs.Tied.{versions_in, IsTied}
 use Rattle.version_store.proofs.TiedLemmas.{low_in, tied_later, none_in}
 use Rattle.version_store.proofs.CutLemmas.{cut_at_once}
 use Rattle.version_store.proofs.SetLemmas.{above_at, set_there}
+use Rattle.version_store.proofs.CellLemmas.{cells_in}
 use Rattle.version_store.proofs.store.Store.set_placed.Goals as goal
 
 pub push_and_cut-requires-clause-newest : goal.push_and_cut-requires-clause-newest
@@ -43,3 +44,11 @@ returns-in-None-clause-set c =
     let s = c.self.inside in
     let at = rw c.in-None.is at c.look_up.ensures.found in
     (refl, rw (← c.self.view_is) (none_in s.chains s.tree.pairs c.args.key.now c.self.invariant.0.sorted at), refl)
+
+pub returns-in-Some-clause-cells : goal.returns-in-Some-clause-cells
+returns-in-Some-clause-cells c =
+    let s = c.self.inside in
+    let at = rw c.in-Some.is at c.look_up.ensures.found in
+    let was = cells_in s.chains s.tree.pairs c.args.key.now c.in-Some.id.now c.self.invariant.0.sorted at in
+    let is = cells_in c.push_and_cut.new.self s.tree.pairs c.args.key.now c.in-Some.id.now c.self.invariant.0.sorted at in
+    rw (← c.self.view_is) (omega (arith, was, is, c.push_and_cut.ensures.spare))
