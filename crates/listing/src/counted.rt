@@ -76,10 +76,12 @@ impl<W: Write> Counted<W> {
         }
     }
 
-    /// Writes a text. After a fault a beginning of it was written, and one more failure is counted.
+    /// Writes a text. After a fault a beginning of it was written, and one more failure is counted. For an empty text no
+    /// call is made, so it has none.
     pub fn write_text(&mut self, text: &[u8]) -> Result<(), WriteFault>
         ensures ok { OnOk result (Appends (W.contents self.old.inner) (W.contents self.new.inner) text.now) }
         ensures err { OnErr result (WritesBeginning (W.contents self.old.inner) (W.contents self.new.inner) text.now) }
+        ensures some { OnErr result (0 < length text.now) }
         ensures kept { OnOk result (self.new.failures ≡ self.old.failures) }
         ensures counted { OnErr result (IsOneMore self.old.failures self.new.failures) }
     {
@@ -98,6 +100,7 @@ impl<W: Write> Counted<W> {
         ensures empty { OnOk result (out.new.items ≡ []) }
         ensures err { OnErr result (WritesBeginning (W.contents self.old.inner) (W.contents self.new.inner) out.old.items) }
         ensures left { OnErr result (out.new.items ≡ out.old.items) }
+        ensures some { OnErr result (0 < length out.old.items) }
         ensures kept { OnOk result (self.new.failures ≡ self.old.failures) }
         ensures counted { OnErr result (IsOneMore self.old.failures self.new.failures) }
     {
@@ -114,6 +117,8 @@ impl<W: Write> Counted<W> {
         ensures bounded { OnOk result (length out.new.items < GATHERED_BYTES) }
         ensures err { OnErr result (WritesBeginning (W.contents self.old.inner) (W.contents self.new.inner) out.old.items) }
         ensures left { OnErr result (out.new.items ≡ out.old.items) }
+        ensures full { OnErr result (GATHERED_BYTES ≤ length out.old.items) }
+        ensures few { length out.old.items < GATHERED_BYTES → (self.new.inner ≡ self.old.inner) × (out.new.items ≡ out.old.items) }
         ensures kept { OnOk result (self.new.failures ≡ self.old.failures) }
         ensures counted { OnErr result (IsOneMore self.old.failures self.new.failures) }
     {

@@ -4,6 +4,7 @@ pub mod Locking
 pub mod Commands
 pub mod Sentence
 pub mod Text
+pub mod Expected
 pub mod Grammar
 pub mod Statements
 pub mod laws

@@ -1,4 +1,7 @@
 //! What was expected where a line is at fault.
+ghost use Rattle.std.specs.Prelude.{◌≡◌};
+ghost use Rattle.script.specs.Expected as expected;
+
 use refusal::Refusal;
 
 /// What should stand where a refused line is at fault.
@@ -42,7 +45,9 @@ pub enum Expected {
 
 impl Expected {
     /// A short text of it.
-    pub fn text(self) -> &'static str {
+    pub fn text(self) -> &'static str
+        ensures { result.now ≡ expected.expected_text self }
+    {
         match self {
             Expected::Job => "a job, 1 to 4096",
             Expected::Blank => "a blank",
@@ -66,7 +71,9 @@ impl Expected {
 }
 
 // What a line of the grammar lacks that is refused so.
-fn rule_text(refusal: Refusal) -> &'static str {
+fn rule_text(refusal: Refusal) -> &'static str
+    ensures { result.now ≡ expected.rule_text refusal }
+{
     match refusal {
         Refusal::BadLine => "a line of the grammar",
         Refusal::BadName => "a letter or %, then letters and digits, at most 31 bytes",

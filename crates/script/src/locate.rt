@@ -1,5 +1,5 @@
 //! Where a refused line is at fault: a second look at it, for refused lines alone.
-ghost use Rattle.std.specs.Prelude.{◌≡◌, ◌≤◌, ◌+◌, length, IfSome};
+ghost use Rattle.std.specs.Prelude.{◌≡◌, ◌≢◌, ◌≤◌, ◌+◌, length, IfSome};
 
 use crate::Expected;
 use crate::blank::{begins_blank, past_blank};
@@ -404,7 +404,8 @@ fn faulty_operand(alloc: Global, operands: &[u8]) -> &[u8]
 
 // What is left of a line of the grammar where the operand begins that a refusal speaks of, or its command.
 fn fault_in(alloc: Global, line: &[u8], refusal: Refusal) -> &[u8]
-    ensures { length result.now ≤ length line.now }
+    ensures within { length result.now ≤ length line.now }
+    ensures job { refusal ≡ Refusal.BadJob → result.now ≡ line.now }
 {
     match refusal {
         Refusal::BadJob => line,
@@ -435,6 +436,8 @@ fn column_of(line: &[u8], rest: &[u8]) -> usize
 pub fn locate_fault(alloc: Global, line: &[u8], refusal: Refusal) -> LocatedFault
     ensures low { 1 ≤ result.column }
     ensures high { result.column ≤ length line.now + 1 }
+    ensures job { refusal ≡ Refusal.BadJob → result.column ≡ 1 }
+    ensures rule { refusal ≢ Refusal.BadLine → result.expected ≡ Expected.Rule refusal }
 {
     if refusal == Refusal::BadLine {
         let (rest, expected) = stop_of(alloc, line);

@@ -1,5 +1,5 @@
 //! Lines cut out of the pieces that are read.
-ghost use Rattle.std.specs.Prelude.{◌≡◌, ◌++◌, [], true, length, drop, ◌≤◌, if◌then◌else◌, is_ok, IfOk, OnOk, OnErr, IsErrOf};
+ghost use Rattle.std.specs.Prelude.{◌≡◌, ◌++◌, [], true, length, drop, ◌≤◌, vec_capacity, if◌then◌else◌, is_ok, IfOk, OnOk, OnErr, IsErrOf};
 ghost use Rattle.std.specs.Io.BufRead.{strip_last};
 ghost use Rattle.bstr.specs.Find.{IsFirstByte, is_byte};
 ghost use Rattle.collation.specs.Bytes as byte;
@@ -72,7 +72,8 @@ fn extend_line(begun: &mut Vec<u8>, text: &[u8]) -> Result<(), AllocError>
 
 // The line that had begun is done. What a long one took is given back.
 fn end_begun(alloc: Global, begun: &mut Vec<u8>)
-    ensures { begun.new.items ≡ [] }
+    ensures empty { begun.new.items ≡ [] }
+    ensures room { vec_capacity begun.new ≤ LONG_LINE_BYTES }
 {
     if begun.capacity() > LONG_LINE_BYTES {
         *begun = Vec::new(alloc);
