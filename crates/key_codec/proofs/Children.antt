@@ -1,12 +1,14 @@
 -- Where one key goes on from another, and with which subscript.
-use Rattle.std.proofs.Common.{◌≡◌, ◌≢◌, ℕ, append-nil, ◌+◌, ◌-◌, ◌≤◌, Bool, List, [], ◌∷◌, ◌++◌, true, false, refl, ap, sym, subst, ◌∙◌, Option, Some, None, cond, Bor, length, take, drop, arith}
+use Rattle.std.proofs.Common.{◌≡◌, ◌≢◌, ℕ, append-nil, ◌+◌, ◌≤◌, Bool, List, [], ◌∷◌, ◌++◌, true, false, refl, ap, sym, subst, ◌∙◌, Option, Some, None, cond, Bor, length, take, drop, arith}
 use Rattle.std.proofs.lemmas.List.{append_cancel_left}
 use Rattle.std.proofs.lemmas.Bool.{and_from}
 use Rattle.std.proofs.lemmas.Bool.Decides.{nat_tests, Decides-eqb}
 use Rattle.std.proofs.lemmas.Slice.Eq.{strip_prefix_is}
 use Rattle.std.specs.Bool.{Decides, one_answer}
-use Rattle.std.specs.Prelude.{is_some, ◌&&◌, nat_eq, nat_lt, IfSome, IfNone, MatchOption}
-use Rattle.collation.specs.Name.{is_name}
+use Rattle.std.specs.Prelude.{is_some, ◌&&◌, ◌||◌, ◌==◌, nat_eq, nat_le, nat_lt, IfSome, IfNone, MatchOption}
+use Rattle.std.specs.Char.{is_ascii_alphabetic}
+use Rattle.std.specs.List.{list_all}
+use Rattle.collation.specs.Name.{is_name, is_letter_or_digit}
 use Rattle.collation.specs.Faults.{reference_fault}
 use Rattle.collation.specs.Order.{ref_eq}
 use Rattle.collation.specs.laws.Order.{ref_eq_decides}
@@ -172,3 +174,10 @@ below_key_is r t level bytes l e =
 
 pub root_is : (r : Reference) → is_name r.name ≡ true → IsFaultless (record { name = r.name; subscripts = [] })
 root_is r is = record { name = is; subscripts = refl }
+
+-- a name has at most 31 bytes
+pub name_short : (xs : List ℕ) → is_name xs ≡ true → length xs ≤ 31
+name_short [] e = omega arith
+name_short (b ∷ bs) e =
+    let fits : nat_le (length (b ∷ bs)) 31 ≡ true = second_so (list_all is_letter_or_digit bs) _ (second_so (b == 37 || is_ascii_alphabetic b) _ e) in
+    grind (arith, nat_tests)

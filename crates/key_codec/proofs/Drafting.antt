@@ -10,7 +10,7 @@ use Rattle.collation.specs.Reference.{Reference, Spot}
 use Rattle.collation.specs.Name.{is_name}
 use Rattle.collation.specs.Faults.{subscripts_fault, reference_fault, ends_open, closed_part}
 use Rattle.key_codec.specs.Key.{short_form, subscript_key, subscripts_key, key_of, IsFaultless}
-use Rattle.key_codec.specs.Draft.{IsDraft, longer, place_due, reference_due, place_of, IsDueOrMemory, open_fault}
+use Rattle.key_codec.specs.Draft.{IsDraft, longer, place_due, reference_due, place_of, IsDueOrMemory, IsDueOrLong, open_fault}
 use Rattle.key_codec.specs.laws.Draft.{ends_open-more, closed_part-more, closed_part-whole, fault-closed, fault-pushed, fault-opened, AreFaultless, faultless}
 use Rattle.key_codec.specs.declared.draft.KeyDraft.{KeyDraft}
 use Rattle.key_codec.proofs.Reading.{keys-push}
@@ -195,3 +195,12 @@ closed_err (Err refusal) p r is e h = inr (reference_good r true is (sym h.0 ∙
 pub due_too : (r : Reference) (refusal : Refusal) → IsDueOrMemory refusal (place_due r) → IsDueOrMemory refusal (reference_due r)
 due_too r refusal (inl m) = inl m
 due_too r refusal (inr e) = inr (reference_too r refusal e)
+
+-- the same of a refusal that memory alone is told for where the key is long
+pub closed_due : (res : Result Reference Refusal) (p : Spot) (r : Reference) → IsGood r → p ≡ place_of r → MatchResult res (λ key. (p.is_open ≡ false) × (key ≡ p.reference)) (λ refusal. (p.is_open ≡ true) × (refusal ≡ EmptySubscript)) → IfErr res (λ refusal. IsDueOrLong refusal (reference_due r) r)
+closed_due (Ok key) p r is e h = tt
+closed_due (Err refusal) p r is e h = inl (reference_good r true is (sym h.0 ∙ ap (λ (q : Spot). q.is_open) e) ∙ ap Some (sym h.1))
+
+pub long_too : (r : Reference) (refusal : Refusal) → IsDueOrLong refusal (place_due r) r → IsDueOrLong refusal (reference_due r) r
+long_too r refusal (inl e) = inl (reference_too r refusal e)
+long_too r refusal (inr h) = inr h

@@ -9,7 +9,7 @@ use Rattle.collation.specs.Limits.{most_subscripts}
 use Rattle.collation.specs.Reference.{Reference, Spot}
 use Rattle.collation.specs.Name.{is_name}
 use Rattle.collation.specs.Faults.{subscripts_fault, reference_fault, place_fault, ends_open, closed_part}
-use Rattle.key_codec.specs.Key.{short_form, subscripts_key}
+use Rattle.key_codec.specs.Key.{short_form, subscripts_key, key_of}
 use Rattle.key_codec.specs.declared.draft.KeyDraft.{KeyDraft}
 
 -- the reference with one subscript more
@@ -54,3 +54,7 @@ pub record IsSpelled (d : KeyDraft) : Type 0 where
 -- the refusal is due, or memory ran out
 abbrev pub IsDueOrMemory : Refusal → Option Refusal → Type 0
 IsDueOrMemory refusal due = (refusal ≡ OutOfMemory) ⊎ (due ≡ Some refusal)
+
+-- the refusal is due, or memory ran out for a faultless place whose key has over 38 bytes
+abbrev pub IsDueOrLong : Refusal → Option Refusal → Reference → Type 0
+IsDueOrLong refusal due r = (due ≡ Some refusal) ⊎ ((refusal ≡ OutOfMemory) × (place_due r ≡ None) × (38 < length (key_of (place_of r).reference)))

@@ -1,5 +1,5 @@
 -- Which bytes a key holds: in the value, or in an allocation.
-use Rattle.std.specs.Prelude.{◌≡◌, ℕ, ◌-◌, ◌≤◌, List, take, drop, replicate}
+use Rattle.std.specs.Prelude.{◌≡◌, ℕ, ◌-◌, ◌<◌, ◌≤◌, List, length, take, drop, replicate}
 use Rattle.key_codec.specs.declared.bytes.Held.{Held}
 use Rattle.key_codec.specs.declared.bytes.Held.TheVariants.{Short, Long}
 
@@ -11,6 +11,7 @@ bytes_of (Long bytes) = bytes.items
 abbrev pub IsFilled : ℕ → List ℕ → Type 0
 IsFilled len room = (len ≤ 38) × (drop len room ≡ replicate (38 - len) 0)
 
+-- what fits into the value lies there
 abbrev pub IsHeld : Held → Type 0
 IsHeld (Short len room) = IsFilled len room
-IsHeld (Long bytes) = Unit {0}
+IsHeld (Long bytes) = 38 < length bytes.items

@@ -153,9 +153,11 @@ impl KeyBytes {
 }
 
 impl Clone for KeyBytes {
-    ghost use Rattle.std.specs.Prelude.{◌≡◌};
+    ghost use Rattle.std.specs.Prelude.{◌≡◌, ◌≤◌, length};
 
     ghost is_clone = { λ a b. a ≡ b };
+
+    ghost is_infallible = { λ b. length b ≤ 38 };
 
     fn clone(&self) -> Result<KeyBytes, AllocError> {
         match &self.held {

@@ -5,7 +5,7 @@ ghost use Rattle.collation.specs.Limits.{most_subscripts};
 ghost use Rattle.collation.specs.Reference.{Reference};
 ghost use Rattle.key_codec.specs.Key as spec;
 ghost use Rattle.key_codec.specs.Key.{short_form, IsSubscriptWithin};
-ghost use Rattle.key_codec.specs.Draft.{IsDraft, IsSpelled, IsJudged, IsDueOrMemory, longer, place_due, place_of, reference_due, open_fault};
+ghost use Rattle.key_codec.specs.Draft.{IsDraft, IsSpelled, IsJudged, IsDueOrMemory, IsDueOrLong, longer, place_due, place_of, reference_due, open_fault};
 
 use crate::write::push_judged;
 use crate::{END, Key, Place};
@@ -147,6 +147,7 @@ impl KeyDraft {
         requires { IsSpelled self.now }
         ensures ok { (r : Reference) → IsDraft self.now r → IfOk result (λ p. (place_due r ≡ None) × (p ≡ place_of r)) }
         ensures err { (r : Reference) → IsDraft self.now r → IfErr result (λ refusal. IsDueOrMemory refusal (place_due r)) }
+        ensures long { (r : Reference) → IsDraft self.now r → IfErr result (λ refusal. IsDueOrLong refusal (place_due r) r) }
     {
         match self.place_fault() {
             Some(fault) => Err(fault),
@@ -164,6 +165,7 @@ impl KeyDraft {
         requires { IsSpelled self.now }
         ensures ok { (r : Reference) → IsDraft self.now r → IfOk result (λ key. (reference_due r ≡ None) × (key ≡ r)) }
         ensures err { (r : Reference) → IsDraft self.now r → IfErr result (λ refusal. IsDueOrMemory refusal (reference_due r)) }
+        ensures long { (r : Reference) → IsDraft self.now r → IfErr result (λ refusal. IsDueOrLong refusal (reference_due r) r) }
     {
         match self.place(alloc) {
             Ok(place) => place.into_key(),

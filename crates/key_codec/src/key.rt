@@ -1,5 +1,5 @@
 //! Keys: references that are kept as their key bytes.
-ghost use Rattle.std.specs.Prelude.{◌≡◌, None, [], ◌∷◌, ◌++◌, ◌≢◌, ◌≤◌, ◌⊎◌, List, ℕ, IfNone, IfOk, IfSome, MatchResult, false, true, length, nat_lt};
+ghost use Rattle.std.specs.Prelude.{◌≡◌, None, [], ◌∷◌, ◌++◌, ◌≢◌, ◌≤◌, ◌⊎◌, List, ℕ, IfNone, IfOk, IfSome, IsOk, MatchResult, false, true, length, nat_lt};
 ghost use Rattle.collation.specs.Limits.{most_subscripts};
 ghost use Rattle.collation.specs.Reference.{Reference};
 ghost use Rattle.collation.specs.Name.{is_name};
@@ -57,15 +57,17 @@ impl Key {
     /// The key with these bytes, which are known to be a reference's. Takes memory only past 38 bytes.
     pub fn from_slice(alloc: Global, bytes: &[u8]) -> Result<Key, AllocError>
         requires { Keeps bytes.now (reference_of bytes.now) }
-        ensures { IfOk result (λ key. key ≡ reference_of bytes.now) }
+        ensures key { IfOk result (λ key. key ≡ reference_of bytes.now) }
+        ensures short { length bytes.now ≤ 38 → IsOk result }
     {
         let bytes = KeyBytes::joined(alloc, bytes, &[])?;
         Ok(Key { bytes })
     }
 
-    /// The key of the name alone, without subscripts.
+    /// The key of the name alone, without subscripts. It has at most 32 bytes, so it is never refused.
     pub fn root(&self, alloc: Global) -> Result<Key, AllocError>
-        ensures { IfOk result (λ key. key ≡ record { name = self.now.name; subscripts = [] }) }
+        ensures sure { IsOk result }
+        ensures key { IfOk result (λ key. key ≡ record { name = self.now.name; subscripts = [] }) }
     {
         let bytes = KeyBytes::joined(alloc, self.name(), &[END])?;
         Ok(Key { bytes })
@@ -183,10 +185,14 @@ impl Key {
 }
 
 impl Clone for Key {
-    ghost use Rattle.std.specs.Prelude.{◌≡◌};
+    ghost use Rattle.std.specs.Prelude.{◌≡◌, ◌≤◌, length};
+    ghost use Rattle.key_codec.specs.Key.{key_of};
 
     ghost is_clone = { λ a b. a ≡ b };
 
+    ghost is_infallible = { λ k. length (key_of k) ≤ 38 };
+
+    /// A copy. Fails only for want of memory, and never where the key has at most 38 bytes.
     fn clone(&self) -> Result<Key, AllocError> {
         let bytes = self.bytes.clone()?;
         Ok(Key { bytes })

@@ -1,5 +1,5 @@
 //! Places: where $ORDER and $QUERY start.
-ghost use Rattle.std.specs.Prelude.{◌≡◌, IfOk, IfSome, MatchResult, false, true};
+ghost use Rattle.std.specs.Prelude.{◌≡◌, ◌≤◌, length, IfOk, IfSome, IsOk, MatchResult, false, true};
 ghost use Rattle.collation.specs.Levels.{below, child_of, parent_of};
 ghost use Rattle.key_codec.specs.Key as spec;
 ghost use Rattle.key_codec.specs.Key.{IsFaultless};
@@ -100,7 +100,8 @@ impl Place {
     /// The key of the level of the last subscript: one level up, or where it is open the place's own. Takes memory only past
     /// 38 bytes.
     pub fn level_key(&self, alloc: Global) -> Result<Key, AllocError>
-        ensures { IfOk result (λ key. key ≡ parent_of self.now) }
+        ensures key { IfOk result (λ key. key ≡ parent_of self.now) }
+        ensures short { length (spec.key_of (parent_of self.now)) ≤ 38 → IsOk result }
     {
         Key::from_slice(alloc, self.level())
     }

@@ -329,6 +329,51 @@ fn overlay_of_a_thousand_looks_up_one_node_in_32(rt: HostRuntime) -> Result<(), 
     Ok(())
 }
 
+// Whether an overlay finds the nodes next to a reference, at and under which all is killed, and by how many look-ups of what is
+// below: the one after, and the one before.
+fn beside_counts(
+    own: &Workspace,
+    start: &KeyMap<Text>,
+    killed: &Key,
+) -> ((bool, u64), (bool, u64)) {
+    let below = Counting::new(start);
+    let overlay = Overlay::new(own, &below);
+    let is_next = overlay.next(Cut::Before(killed)).is_some();
+    let on = below.taken();
+    let is_prev = overlay.prev(Cut::Past(killed)).is_some();
+    ((is_next, on), (is_prev, below.taken()))
+}
+
+fn beside_killed_counts(
+    alloc: Global,
+    own: &mut Workspace,
+    start: &KeyMap<Text>,
+) -> Result<((bool, u64), (bool, u64)), Refusal> {
+    kill(alloc, own, b"A4")?;
+    let killed = key_of(alloc, b"A4")?;
+    let counts = beside_counts(own, start, &killed);
+    drop(killed);
+    Ok(counts)
+}
+
+fn beside_killed_counts_in_thousand(alloc: Global) -> Result<((bool, u64), (bool, u64)), Refusal> {
+    let start = thousand(alloc)?;
+    let mut own = Workspace::new(alloc);
+    let counts = beside_killed_counts(alloc, &mut own, &start);
+    drop(own);
+    drop(start);
+    counts
+}
+
+// One look-up finds the range's first or last node, and one what stands beyond all hundred.
+#[test]
+fn overlay_passes_over_a_killed_range_by_two_look_ups(rt: HostRuntime) -> Result<(), Fail> {
+    let (next, prev) = beside_killed_counts_in_thousand(rt.alloc())?;
+    assert_eq!(rt; next, (true, 2));
+    assert_eq!(rt; prev, (true, 2));
+    Ok(())
+}
+
 // The nodes of a run by their last subscripts.
 fn is_run(run: &Run<'_>, wanted: &[u8]) -> bool {
     for index in 0..wanted.len() {

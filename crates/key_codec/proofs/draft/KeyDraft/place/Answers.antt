@@ -14,5 +14,5 @@ pub returns-in_ok-key-in-None-clause-ok : goal.returns-in_ok-key-in-None-clause-
 returns-in_ok-key-in-None-clause-ok c = λ r is.
     let none : place_due r ≡ None = sym (c.place_fault.ensures r is) ∙ c.in-None.is in
     let fine : IsGood r = good r none in
-    let same = c.in_ok-key-in-None.ensures ∙ reads_back c.as_slice.result.now (place_of r).reference (good_form r fine) (c.as_slice.ensures.value ∙ good_bytes c.args.self.now r is fine) in
+    let same = c.in_ok-key-in-None.ensures.key ∙ reads_back c.as_slice.result.now (place_of r).reference (good_form r fine) (c.as_slice.ensures.value ∙ good_bytes c.args.self.now r is fine) in
     (none, c.new.ensures ∙ (λ i. record { reference = same i; is_open = is.open_end i }))
