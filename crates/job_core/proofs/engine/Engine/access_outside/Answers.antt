@@ -1,13 +1,14 @@
+use Rattle.std.proofs.Common.{length, arith}
 use Rattle.job_core.proofs.Joined.{horizon_keeps}
 use Rattle.job_core.proofs.DataCommands.{answered_outside, refused_outside}
 use Rattle.job_core.proofs.engine.Engine.access_outside.Goals as goal
 
 pub returns-in-Ok : goal.returns-in-Ok
 returns-in-Ok c = answered_outside c.args.job c.args.command c.args.self.now c.requires.whole (c.in-Ok.answer, c.in-Ok._receipt) c.in-Ok.answer c.lone.new.store c.lone.new.journal c.requires.none c.in-Ok.ensures.answer c.in-Ok.ensures.accepted c.in-Ok.ensures.unit c.in-Ok.ensures.agreed
-    (λ q v there. horizon_keeps c.oldest-oldest.result c.args.self.now.store.present c.args.self.now.store.cut c.lone.new.store.cut _ c.args.self.now.sessions c.oldest-oldest.ensures c.in-Ok.ensures.cut q v there (let o = c.requires.whole.opened q v there in o.kept))
+    (λ q v there. horizon_keeps c.oldest-oldest.result c.args.self.now.store.present c.args.self.now.store.cut c.lone.new.store.cut (length c.lone.new.journal.units) c.args.self.now.sessions c.oldest-oldest.ensures (omega (arith, c.in-Ok.ensures.left)) q v there (let o = c.requires.whole.opened q v there in o.kept))
     c.in-Ok.ensures.early
 
 pub returns-in-Err : goal.returns-in-Err
 returns-in-Err c = refused_outside c.args.job c.args.command c.args.self.now c.requires.whole c.in-Err.refusal c.lone.new.store c.lone.new.journal c.requires.none c.in-Err.ensures.cause c.in-Err.ensures.refused.0 c.in-Err.ensures.agreed
-    (λ q v there. horizon_keeps c.oldest-oldest.result c.args.self.now.store.present c.args.self.now.store.cut c.lone.new.store.cut _ c.args.self.now.sessions c.oldest-oldest.ensures c.in-Err.ensures.cut q v there (let o = c.requires.whole.opened q v there in o.kept))
+    (λ q v there. horizon_keeps c.oldest-oldest.result c.args.self.now.store.present c.args.self.now.store.cut c.lone.new.store.cut 0 c.args.self.now.sessions c.oldest-oldest.ensures (omega (arith, c.in-Err.ensures.same_cut)) q v there (let o = c.requires.whole.opened q v there in o.kept))
     c.in-Err.ensures.early

@@ -1,4 +1,4 @@
-use Rattle.std.proofs.Common.{refl, sym, ap, subst, ◌∙◌, ◌≤◌}
+use Rattle.std.proofs.Common.{refl, sym, ap, subst, ◌∙◌, ◌≤◌, length, arith}
 use Rattle.std.specs.Prelude.{IsSome}
 use Rattle.std.specs.FinMap as finmap
 use Rattle.collation.specs.Locks.{locks_after_commit}
@@ -33,12 +33,13 @@ pub returns-in-Ok-Committed : goal.returns-in-Ok-Committed
 returns-in-Ok-Committed c =
     let told = c.commit-verdict.ensures in
     let verdict = rw (c.in-Ok-Committed.is, c.in-Ok-Committed.field-0-is) at told.verdict in
+    let left = rw (c.in-Ok-Committed.is, c.in-Ok-Committed.field-0-is) at told.left in
     let s = c.in-Some.session.now in
     let there = sym c.in-Some.ensures in
     let others = joined_closed c.args.self.now.store c.args.self.now.journal.units c.args.self.now.locks c.args.self.now.sessions c.args.job c.requires.whole in
     committed c.args.job c.args.self.now c.requires.whole (record { alloc = c.args.self.now.alloc; store = c.commit-verdict.new.store; journal = c.commit-verdict.new.journal; locks = c.commit-verdict.new.locks; sessions = c.close.new.self })
     s there (some_of (λ v. v.level ≤ 1) _ s there c.requires.level) verdict.0 verdict.1.0 (verdict.1.1.0 ∙ ap (locks_after_commit s.work.job) c.requires.whole.locks) told.agreed
-    (λ q v held. horizon_keeps c.oldest_beside-oldest.result c.args.self.now.store.present c.args.self.now.store.cut c.commit-verdict.new.store.cut _ (finmap.remove c.args.self.now.sessions c.args.job) (c.oldest_beside-oldest.ensures (subst IsSome (sym there) refl)) (rw c.in-Ok-Committed.is at told.cut) q v held
+    (λ q v held. horizon_keeps c.oldest_beside-oldest.result c.args.self.now.store.present c.args.self.now.store.cut c.commit-verdict.new.store.cut (length c.commit-verdict.new.journal.units) (finmap.remove c.args.self.now.sessions c.args.job) (c.oldest_beside-oldest.ensures (subst IsSome (sym there) refl)) (omega (arith, left.0)) q v held
     (let o = others.opened q v held in o.kept))
     c.close.ensures
 
