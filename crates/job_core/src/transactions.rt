@@ -128,18 +128,13 @@ impl Engine {
         requires { IsWhole self.old }
         ensures { IsStep job Restart result self.old self.new }
     {
-        let (took_lock, restarts, start) = match self.sessions.get(job) {
-            Some(session) => (
-                session.took_lock,
-                session.restarts.saturating_add(1),
-                session.work.start(),
-            ),
+        let (took_lock, restarts) = match self.sessions.get(job) {
+            Some(session) => (session.took_lock, session.restarts.saturating_add(1)),
             None => return Reply::Refused(Refusal::NoTransaction),
         };
         match self.go_back(job, took_lock) {
             Ok(()) => {
                 self.sessions.begin_anew(job, self.store.now());
-                self.sessions.look_again(start);
                 Reply::Restarted(restarts)
             }
             Err(refusal) => Reply::Refused(refusal),

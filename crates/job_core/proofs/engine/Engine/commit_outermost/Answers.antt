@@ -1,11 +1,10 @@
 use Rattle.std.proofs.Common.{refl, sym, ap, subst, ◌∙◌, ◌≤◌, length, arith}
 use Rattle.std.specs.Prelude.{IsSome}
-use Rattle.std.specs.FinMap as finmap
 use Rattle.collation.specs.Locks.{locks_after_commit}
 use Rattle.version_store.specs.Versions.{Stored}
 use Rattle.job_core.specs.Sessions.{machine_of}
 use Rattle.job_core.proofs.Held.{some_of}
-use Rattle.job_core.proofs.Joined.{horizon_keeps, joined_closed}
+use Rattle.job_core.proofs.Joined.{horizon_keeps_others, joined_closed}
 use Rattle.job_core.proofs.Cases.{no_commit, committed, not_committed, left_whole, overtaken}
 use Rattle.job_core.proofs.engine.Engine.commit_outermost.Goals as goal
 
@@ -39,7 +38,7 @@ returns-in-Ok-Committed c =
     let others = joined_closed c.args.self.now.store c.args.self.now.journal.units c.args.self.now.locks c.args.self.now.sessions c.args.job c.requires.whole in
     committed c.args.job c.args.self.now c.requires.whole (record { alloc = c.args.self.now.alloc; store = c.commit-verdict.new.store; journal = c.commit-verdict.new.journal; locks = c.commit-verdict.new.locks; sessions = c.close.new.self })
     s there (some_of (λ v. v.level ≤ 1) _ s there c.requires.level) verdict.0 verdict.1.0 (verdict.1.1.0 ∙ ap (locks_after_commit s.work.job) c.requires.whole.locks) told.agreed
-    (λ q v held. horizon_keeps c.oldest_beside-oldest.result c.args.self.now.store.present c.args.self.now.store.cut c.commit-verdict.new.store.cut (length c.commit-verdict.new.journal.units) (finmap.remove c.args.self.now.sessions c.args.job) (c.oldest_beside-oldest.ensures (subst IsSome (sym there) refl)) (omega (arith, left.0)) q v held
+    (λ q v held. horizon_keeps_others c.args.job c.oldest_beside-oldest.result c.args.self.now.store.present c.args.self.now.store.cut c.commit-verdict.new.store.cut (length c.commit-verdict.new.journal.units) c.args.self.now.sessions (c.oldest_beside-oldest.ensures (subst IsSome (sym there) refl)) (omega (arith, left.0)) q v held
     (let o = others.opened q v held in o.kept))
     c.close.ensures
 
