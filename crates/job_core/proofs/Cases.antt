@@ -16,7 +16,7 @@ use Rattle.journal.specs.Kept.{Kept, HasNoRoom}
 use Rattle.collation.specs.Reference.{Reference}
 use Rattle.journal.specs.History.{initial, after, after_unit, IsLegalUnit}
 use Rattle.journal.specs.Touching.{touched}
-use Rattle.journal.specs.Story.{Machine, transaction_of, add_unit, put_transaction, close, begin, told_level, told_commit, told_back, told}
+use Rattle.journal.specs.Story.{Transaction, Machine, transaction_of, add_unit, put_transaction, close, begin, told_level, told_commit, told_back, told}
 use Rattle.serial.specs.Machine.{reply_to_start, restarted, reply_to_commit, reply_to_rollback, reply_to_restart, level_of, restarts_of, reply_with_room, reply_of, IsReply, is_overtaken}
 use Rattle.version_store.specs.Versions.{Stored}
 use Rattle.validate_commit.specs.Agreement.{Agreement, IsNext}
@@ -265,6 +265,16 @@ module _ (job : ℕ) (old : Engine) (whole : IsWhole old) where
       → IsStep job Restart (Refused refusal) old mid
   not_restarted s mid refusal is then same units cause =
       step_no_room job Restart old mid then refusal (restarted (shown s)) cause.0 (ap reply_to_restart (some s is)) (backed_length s is cause.1) (λ i. machine_of (units i) (same i)) (ap (early_of Restart) (some s is)) (ap (takes_none Restart) (some s is) ∙ ap not cause.1)
+
+-- a restart isn't told as a commit
+pub never_committed : (job : ℕ) (reply : Reply) (m : Machine) → reply ≡ Committed → IsReply job Restart reply m → ⊥
+never_committed job reply m is (inl e) = by_room (nat_lt (2 ^ 64 - 1) (length (told job Restart (reply_with_room job Restart m) m).units)) (transaction_of job m) (sym is ∙ e)
+  where
+    by_room : (b : Bool) (o : Option Transaction) → Committed ≡ cond b (Refused StampsUsedUp) (reply_to_restart o) → ⊥
+    by_room true o never = absurd (cc)
+    by_room false None never = absurd (cc)
+    by_room false (Some t) never = absurd (cc)
+never_committed job reply m is (inr memory) = let never = sym is ∙ memory in absurd (cc)
 
 -- ---- a unit that changes no reference
 

@@ -51,10 +51,10 @@ collected e o h store whole horizon is present cut content late =
   where
     within : (p : Option ℕ) → IsHorizon p e.store.present e.sessions → h ≡ unwrap_or p e.store.present → h ≤ e.store.present
     within None none is = omega (arith, is)
-    within (Some stamp) from is = omega (arith, is, from.0)
+    within (Some stamp) from is = omega (arith, is, from.1.1)
 
 -- a turn that was refused, and wasn't for a horizon after now, was refused for memory
 pub for_memory : (o : Option ℕ) (h present : ℕ) (ss : Sessions) (refusal : Refusal) → IsHorizon o present ss → h ≡ unwrap_or o present → ((refusal ≡ Ahead) × (present < h)) ⊎ ((refusal ≡ OutOfMemory) × (h ≤ present)) → refusal ≡ OutOfMemory
 for_memory None h present ss refusal none is (inl ahead) = absurd (omega (arith, is, ahead.1))
-for_memory (Some stamp) h present ss refusal from is (inl ahead) = absurd (omega (arith, is, ahead.1, from.0))
+for_memory (Some stamp) h present ss refusal from is (inl ahead) = absurd (omega (arith, is, ahead.1, from.1.1))
 for_memory o h present ss refusal horizon is (inr memory) = memory.0

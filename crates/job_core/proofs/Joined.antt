@@ -1,6 +1,6 @@
 -- How units and sessions change, and all still stand together.
 use Rattle.std.proofs.Common.{◌≡◌, ◌≤◌, ℕ, List, [], ◌∷◌, ◌++◌, length, Bool, true, false, refl, sym, ap, subst, ◌∙◌, arith, length-append}
-use Rattle.std.specs.Prelude.{cond, max, Option, Some, None, IfSome, unwrap_or}
+use Rattle.std.specs.Prelude.{cond, min, max, Option, Some, None, IfSome, unwrap_or}
 use Rattle.std.specs.Ordering.{nat_cmp, eq_by_cmp}
 use Rattle.std.specs.Cmp.{nat_cmp_total}
 use Rattle.std.specs.FinMap as finmap
@@ -17,10 +17,10 @@ use Rattle.validate_commit.specs.Working.{Working, IsWorkOn, just_begun}
 use Rattle.validate_commit.specs.laws.Agreement.{state_at-first}
 use Rattle.validate_commit.specs.laws.Working.{work_nothing}
 use Rattle.job_core.specs.declared.sessions.Session.{Session}
-use Rattle.job_core.specs.Sessions.{Sessions}
+use Rattle.job_core.specs.Sessions.{Sessions, IsLeastStart}
 use Rattle.journal.specs.Kept.{Kept}
 use Rattle.job_core.specs.declared.engine.Engine.{Engine}
-use Rattle.job_core.specs.Joined.{IsOpenTransaction, IsJoined, IsHorizon, IsPushed}
+use Rattle.job_core.specs.Joined.{IsOpenTransaction, IsJoined, IsHorizon, IsHorizonBeside, IsPushed}
 
 -- a session stays open where the store keeps its start and units are only joined behind
 open_later : (store new : Stored) (units more : List JournalUnit) (job : ℕ) (s : Session) → IsOpenTransaction store units job s → new.cut ≤ s.work.start → IsOpenTransaction new (units ++ more) job s
@@ -96,7 +96,24 @@ open_anew store units job s is same = record {
 -- a horizon keeps what open transactions began with
 pub horizon_keeps : (o : Option ℕ) (now old_cut new_cut top : ℕ) (ss : Sessions) → IsHorizon o now ss → new_cut ≤ max old_cut (unwrap_or o top) → (job : ℕ) (s : Session) → finmap.get ss job ≡ Some s → old_cut ≤ s.work.start → new_cut ≤ s.work.start
 horizon_keeps None now old_cut new_cut top ss none cut job s there kept = let nowhere = sym (finmap.get-empty nat_cmp job) ∙ ap (λ m. finmap.get m job) (sym none) ∙ there in absurd (cc)
-horizon_keeps (Some stamp) now old_cut new_cut top ss is cut job s there kept = let from : stamp ≤ s.work.start = is.1 job s there in omega (arith, cut, kept, from)
+horizon_keeps (Some stamp) now old_cut new_cut top ss is cut job s there kept = let least = is.1.0 in omega (arith, cut, kept, is.1.1, least.from job s there)
+
+-- what stands where the job's own transaction is gone stood there before
+was_there : (ss : Sessions) (job q : ℕ) (v : Session) → finmap.get (finmap.remove ss job) q ≡ Some v → finmap.get ss q ≡ Some v
+was_there ss job q v there = by_key (eq_by_cmp nat_cmp q job) (sym (finmap.get-remove nat_cmp_total ss job q) ∙ there)
+  where
+    by_key : (b : Bool) → cond b None (finmap.get ss q) ≡ Some v → finmap.get ss q ≡ Some v
+    by_key true never = absurd (cc)
+    by_key false is = is
+
+-- one that doesn't count the job's own transaction alone keeps what the others began with
+pub horizon_keeps_others : (job : ℕ) (o : Option ℕ) (now old_cut new_cut top : ℕ) (ss : Sessions) → IsHorizonBeside job o now ss → new_cut ≤ max old_cut (unwrap_or o top) → (q : ℕ) (v : Session) → finmap.get (finmap.remove ss job) q ≡ Some v → old_cut ≤ v.work.start → new_cut ≤ v.work.start
+horizon_keeps_others job None now old_cut new_cut top ss none cut q v there kept = horizon_keeps None now old_cut new_cut top (finmap.remove ss job) none cut q v there kept
+horizon_keeps_others job (Some stamp) now old_cut new_cut top ss is cut q v there kept = horizon_keeps (Some stamp) now old_cut new_cut top ss is cut q v (was_there ss job q v there) kept
+
+-- the lesser of the least start and now
+pub horizon_of : (least now stamp : ℕ) (ss : Sessions) → IsLeastStart least ss → stamp ≡ min least now → IsHorizon (Some stamp) now ss
+horizon_of least now stamp ss is same = (least, (is, same))
 
 pub joined_nothing : (store : Stored) (units : List JournalUnit) (locks : LockState) (ss : Sessions) → Agreement store units → units ≡ [] → locks ≡ finmap.empty → ss ≡ finmap.empty → IsJoined store units locks ss
 joined_nothing store units locks ss agreed none free empty = record {
@@ -113,6 +130,7 @@ quiet_pushed (Some u) old store journal o more agreed cut horizon = record {
   units = more;
   agreed = agreed;
   kept = λ job s there kept. horizon_keeps o old.store.present old.store.cut store.cut (length journal.units) old.sessions horizon (omega (arith, cut)) job s there kept;
+  left = record { horizon = o; is = horizon; cut = cut ∙ ap (λ n. max old.store.cut (unwrap_or o n)) (sym agreed.present) };
   locks = refl;
   sessions = refl;
 }

@@ -1,6 +1,6 @@
 -- How store, journal, lock table and sessions stand together, and what a step of a job does.
 -- Read IsJoined, then IsStep.
-use Rattle.std.specs.Prelude.{◌≡◌, ◌≤◌, ◌<◌, ◌-◌, ◌^◌, ℕ, nat_lt, Bool, true, false, not, is_some, List, [], ◌∷◌, ◌++◌, length, Option, None, Some, if◌then◌else◌}
+use Rattle.std.specs.Prelude.{◌≡◌, ◌≤◌, ◌<◌, ◌-◌, ◌^◌, ℕ, nat_lt, min, max, unwrap_or, Bool, true, false, not, is_some, List, [], ◌∷◌, ◌++◌, length, Option, None, Some, if◌then◌else◌}
 use Rattle.std.specs.FinMap as finmap
 use Rattle.refusal.specs.declared.Refusal.{Refusal}
 use Rattle.refusal.specs.declared.Refusal.TheVariants.{NoTransaction, LevelTooDeep, TransactionTooLong}
@@ -16,12 +16,15 @@ use Rattle.journal.specs.declared.unit.Unit.TheVariants.{Lock as LockUnit}
 use Rattle.journal.specs.History.{initial, after}
 use Rattle.journal.specs.Story.{Transaction, Machine, transaction_of, told}
 use Rattle.serial.specs.Machine.{state_at, reply_of, IsReply}
-use Rattle.version_store.specs.Versions.{Stored}
+use Rattle.collation.specs.Reference.{Reference}
+use Rattle.version_store.specs.Versions.{Stored, next_in_turn}
+use Rattle.collector.specs.declared.turning.Progress.{Progress}
+use Rattle.collector.specs.Turn.{row_left, IsProgress}
 use Rattle.validate_commit.specs.Agreement.{Agreement}
 use Rattle.validate_commit.specs.Working.{IsWorkOn}
 use Rattle.job_core.specs.declared.sessions.Session.{Session}
 use Rattle.job_core.specs.declared.engine.Engine.{Engine}
-use Rattle.job_core.specs.Sessions.{Sessions, machine_of, AreFrom}
+use Rattle.job_core.specs.Sessions.{Sessions, machine_of, IsLeastStart}
 use Rattle.globals.specs.Answering.{early_refusal}
 
 -- the transaction is its job's, the store has kept the content of its start, and what it has done is right there
@@ -43,10 +46,29 @@ IsWhole e = IsJoined e.store e.journal.units e.locks e.sessions
 abbrev pub machine_shown : Engine → Machine
 machine_shown e = machine_of e.journal.units e.sessions
 
--- no open transaction began before the stamp, which isn't after now; or none is open
+-- the stamp is the least start of the open transactions, or now where that is less; or none is open
 abbrev pub IsHorizon : Option ℕ → ℕ → Sessions → Type 0
 IsHorizon None now ss = ss ≡ finmap.empty
-IsHorizon (Some stamp) now ss = (stamp ≤ now) × AreFrom stamp ss
+IsHorizon (Some stamp) now ss = (least : ℕ) × (IsLeastStart least ss × (stamp ≡ min least now))
+
+-- the same, but the job's own transaction isn't counted where no other is open
+abbrev pub IsHorizonBeside : ℕ → Option ℕ → ℕ → Sessions → Type 0
+IsHorizonBeside job None now ss = finmap.remove ss job ≡ finmap.empty
+IsHorizonBeside job (Some stamp) now ss = IsHorizon (Some stamp) now ss
+
+-- the store is cut at such a stamp, or at the newest where there is none
+pub record IsCutAt (At : Option ℕ → Type 0) (old new : Stored) : Type 0 where
+  pub horizon : Option ℕ
+  pub is : At horizon
+  pub cut : new.cut ≡ max old.cut (unwrap_or horizon new.present)
+
+-- a turn of the collector at the horizon, or at now where no transaction is open, over so many keys; and what it counts
+pub record HasCollected (limit : ℕ) (told : Progress) (old new : Engine) : Type 0 where
+  pub horizon : Option ℕ
+  pub is : IsHorizon horizon old.store.present old.sessions
+  pub cut : new.store.cut ≡ max old.store.cut (unwrap_or horizon old.store.present)
+  pub rows : (r : Reference) → finmap.get new.store.versions r ≡ row_left (unwrap_or horizon old.store.present) (next_in_turn limit old.store) old.store.versions r
+  pub progress : IsProgress (unwrap_or horizon old.store.present) (next_in_turn limit old.store) old.store.versions told
 
 -- ---- a step
 
@@ -91,11 +113,12 @@ pub record IsStep (job : ℕ) (command : Command) (reply : Reply) (old new : Eng
   pub early : (refusal : Refusal) → early_of command (transaction_of job (machine_shown old)) ≡ Some refusal → reply ≡ Refused refusal
   pub sure : takes_none command (transaction_of job (machine_shown old)) ≡ true → reply ≡ reply_of job command (machine_shown old)
 
--- a unit was pushed that changes no reference
+-- a unit was pushed that changes no reference, and the store is cut at the horizon
 pub record IsPushed (unit : JournalUnit) (old new : Engine) : Type 0 where
   pub units : new.journal.units ≡ old.journal.units ++ unit ∷ []
   pub agreed : Agreement new.store new.journal.units
   pub kept : (job : ℕ) → (s : Session) → finmap.get old.sessions job ≡ Some s → old.store.cut ≤ s.work.start → new.store.cut ≤ s.work.start
+  pub left : IsCutAt (λ horizon. IsHorizon horizon old.store.present old.sessions) old.store new.store
   pub locks : new.locks ≡ old.locks
   pub sessions : new.sessions ≡ old.sessions
 

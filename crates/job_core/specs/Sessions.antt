@@ -1,7 +1,8 @@
 -- What is kept of each open transaction, and how the machine is read off it.
 -- Read Session of declared.sessions, shown, machine_of.
-use Rattle.std.specs.Prelude.{◌≡◌, ◌≤◌, ◌<◌, ◌+◌, ◌-◌, ◌^◌, ℕ, min, true, false, List, [], ◌∷◌, ◌++◌, map, length, Option, None, Some, Result, Ok, Err}
+use Rattle.std.specs.Prelude.{◌≡◌, ◌⊎◌, ◌≤◌, ◌<◌, ◌+◌, ◌-◌, ◌^◌, ℕ, min, true, false, List, [], ◌∷◌, ◌++◌, map, length, Option, None, Some, Result, Ok, Err}
 use Rattle.std.specs.Ordering.{nat_cmp}
+use Rattle.std.specs.Option.{option_map}
 use Rattle.std.specs.FinMap as finmap
 use Rattle.std.specs.FinMap.{FinMap}
 use Rattle.refusal.specs.declared.Refusal.{Refusal}
@@ -57,10 +58,31 @@ with_session f job ss = changed_at f job ss (finmap.get ss job)
 abbrev pub AreFrom : ℕ → Sessions → Type 0
 AreFrom stamp ss = (job : ℕ) → (s : Session) → finmap.get ss job ≡ Some s → stamp ≤ s.work.start
 
--- the least of a number and the starts
-abbrev pub least_from : ℕ → List (ℕ × Session) → ℕ
-least_from n [] = n
-least_from n (e ∷ es) = least_from (min n e.1.work.start) es
+-- where the job's transaction began
+abbrev pub begun_at : ℕ → Sessions → Option ℕ
+begun_at job ss = option_map (λ (s : Session). s.work.start) (finmap.get ss job)
+
+-- the stamp is the least start of the open transactions
+pub record IsLeastStart (stamp : ℕ) (ss : Sessions) : Type 0 where
+  pub from : AreFrom stamp ss
+  pub job : ℕ
+  pub session : Session
+  pub there : finmap.get ss job ≡ Some session
+  pub start : session.work.start ≡ stamp
+
+-- the same, where one is open
+abbrev pub IsLeastIfAny : ℕ → Sessions → Type 0
+IsLeastIfAny stamp ss = (ss ≡ finmap.empty) ⊎ IsLeastStart stamp ss
+
+-- the lesser of a number, if there is one, and another
+abbrev pub lesser_of : Option ℕ → ℕ → ℕ
+lesser_of None n = n
+lesser_of (Some m) n = min m n
+
+-- the least of a number, if there is one, and the starts
+abbrev pub least_of : Option ℕ → List (ℕ × Session) → Option ℕ
+least_of o [] = o
+least_of o (e ∷ es) = least_of (Some (lesser_of o e.1.work.start)) es
 
 -- ---- a data command in a transaction
 

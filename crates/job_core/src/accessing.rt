@@ -1,8 +1,8 @@
 //! A data command of a job, outside a transaction or in one.
-ghost use Rattle.std.specs.Prelude.{◌≡◌, ◌≤◌, Some, None, length};
+ghost use Rattle.std.specs.Prelude.{◌≡◌, ◌⊎◌, ◌≤◌, Some, None, length};
 ghost use Rattle.std.specs.FinMap as finmap;
 ghost use Rattle.command.specs.declared.request.Command.TheVariants.{Access};
-ghost use Rattle.job_core.specs.Joined.{IsWhole, IsStep};
+ghost use Rattle.job_core.specs.Joined.{IsWhole, IsStep, IsHorizon, IsCutAt};
 ghost use Rattle.std.specs.Prelude.{IsSome};
 
 use crate::commands::lone;
@@ -29,7 +29,8 @@ impl Engine {
     fn access_outside(&mut self, job: Job, command: DataCommand) -> Reply
         requires whole { IsWhole self.old }
         requires none { finmap.get self.old.sessions job ≡ None }
-        ensures { IsStep job (Access command) result self.old self.new }
+        ensures step { IsStep job (Access command) result self.old self.new }
+        ensures left { (self.new.journal.units ≡ self.old.journal.units) ⊎ IsCutAt (λ horizon. IsHorizon horizon self.old.store.present self.old.sessions) self.old.store self.new.store }
     {
         let oldest = self.oldest();
         match lone(

@@ -5,7 +5,9 @@ ghost use Rattle.command.specs.Data.{data_refusal, data_reply, data_after};
 ghost use Rattle.journal.specs.declared.unit.Unit.TheVariants.{Lone};
 ghost use Rattle.journal.specs.Kept.{job_of};
 ghost use Rattle.collation.specs.Reference.{Reference};
-ghost use Rattle.version_store.specs.Versions.{content_now, versions_of};
+ghost use Rattle.std.specs.FinMap.{find};
+ghost use Rattle.collation.specs.Order.{ref_cmp};
+ghost use Rattle.version_store.specs.Versions.{content_now, versions_of, row_cut};
 ghost use Rattle.validate_commit.specs.Agreement.{Agreement, IsNext};
 ghost use Rattle.globals.specs.Answering.{early_refusal};
 ghost use Rattle.job_core.specs.Causes.{IsCauseOf};
@@ -28,7 +30,7 @@ use version_store::Store;
 /// (`StampsUsedUp`), or want of memory, which never hides a rule that is looked at before memory is asked for.
 ///
 /// `oldest` is the least stamp whose content is still asked for, where there is one: up to it, or else up to now, the
-/// references that are changed are cut.
+/// references that are changed are cut, so that of their versions those go that nobody sees any more.
 pub fn lone(
     alloc: Global,
     store: &mut Store,
@@ -49,9 +51,9 @@ pub fn lone(
     ensures early { (refusal : Refusal) → early_refusal command ≡ Some refusal → IsErrOf result refusal }
     ensures cause { IfErr result (λ refusal. IsCauseOf refusal command (content_now store.old) (length journal.old.units)) }
     ensures agreed { Agreement store.new journal.new.units }
-    ensures cut { store.new.cut ≤ max store.old.cut (unwrap_or oldest (length journal.new.units)) }
     ensures left { OnOk result (store.new.cut ≡ max store.old.cut (unwrap_or oldest (length journal.new.units))) }
     ensures same_cut { OnErr result (store.new.cut ≡ store.old.cut) }
+    ensures written { OnOk result ((x : Reference) → versions_of store.new.versions x ≡ row_cut (length journal.new.units) store.new.cut (find ref_cmp x (found_changes command (content_now store.old) ++ own_change command)) (versions_of store.old.versions x)) }
     ensures rows { OnErr result ((x : Reference) → versions_of store.new.versions x ≡ versions_of store.old.versions x) }
 {
     match prepare(alloc, store, journal, job, &command) {
@@ -120,9 +122,9 @@ fn do_command(
     ensures units { OnOk result (IfSome journal.old.prepared (λ unit. journal.new.units ≡ journal.old.units ++ unit ∷ [])) }
     ensures receipt { IfOk result (λ receipt. IfSome journal.old.prepared (λ unit. receipt ≡ record { job = job_of unit; number = length journal.new.units; unit = unit })) }
     ensures refused { OnErr result ((journal.new.units ≡ journal.old.units) × (content_now store.new ≡ content_now store.old)) }
-    ensures cut { store.new.cut ≤ max store.old.cut (unwrap_or oldest (length journal.new.units)) }
     ensures left { OnOk result (store.new.cut ≡ max store.old.cut (unwrap_or oldest (length journal.new.units))) }
     ensures same_cut { OnErr result (store.new.cut ≡ store.old.cut) }
+    ensures written { OnOk result ((x : Reference) → versions_of store.new.versions x ≡ row_cut (length journal.new.units) store.new.cut (find ref_cmp x (found.items ++ own_change command)) (versions_of store.old.versions x)) }
     ensures rows { OnErr result ((x : Reference) → versions_of store.new.versions x ≡ versions_of store.old.versions x) }
 {
     match command {
@@ -163,9 +165,9 @@ fn do_prepared(
     ensures units { OnOk result (IfSome journal.old.prepared (λ unit. journal.new.units ≡ journal.old.units ++ unit ∷ [])) }
     ensures receipt { IfOk result (λ receipt. IfSome journal.old.prepared (λ unit. receipt ≡ record { job = job_of unit; number = length journal.new.units; unit = unit })) }
     ensures refused { OnErr result ((journal.new.units ≡ journal.old.units) × (content_now store.new ≡ content_now store.old)) }
-    ensures cut { store.new.cut ≤ max store.old.cut (unwrap_or oldest (length journal.new.units)) }
     ensures left { OnOk result (store.new.cut ≡ max store.old.cut (unwrap_or oldest (length journal.new.units))) }
     ensures same_cut { OnErr result (store.new.cut ≡ store.old.cut) }
+    ensures written { OnOk result ((x : Reference) → versions_of store.new.versions x ≡ row_cut (length journal.new.units) store.new.cut (find ref_cmp x changes.items) (versions_of store.old.versions x)) }
     ensures rows { OnErr result ((x : Reference) → versions_of store.new.versions x ≡ versions_of store.old.versions x) }
 {
     match store.place_keys(alloc, &changes) {

@@ -1,10 +1,10 @@
 //! What all jobs share: store, journal, lock table and open transactions.
-ghost use Rattle.std.specs.Prelude.{◌≡◌, ◌<◌, ◌-◌, ◌^◌, [], length, IsSome, IfSome, IfErr};
+ghost use Rattle.std.specs.Prelude.{◌≡◌, ◌<◌, ◌≤◌, ◌-◌, ◌^◌, [], length, IsSome, IfSome, IfOk, IfErr};
 ghost use Rattle.std.specs.FinMap as finmap;
 ghost use Rattle.refusal.specs.declared.Refusal.{Refusal};
 ghost use Rattle.journal.specs.Story.{nothing_done};
 ghost use Rattle.validate_commit.specs.Agreement.{Agreement, IsNext};
-ghost use Rattle.job_core.specs.Joined.{IsWhole, IsHorizon, IsPushed, machine_shown};
+ghost use Rattle.job_core.specs.Joined.{IsWhole, IsHorizon, IsHorizonBeside, HasCollected, IsPushed, machine_shown};
 
 use crate::sessions::Sessions;
 use collation::Job;
@@ -41,7 +41,7 @@ impl Engine {
         }
     }
 
-    /// The least stamp whose content is still asked for, where a transaction is open.
+    /// The least stamp whose content is still asked for, where a transaction is open: the least start.
     pub(crate) fn oldest(&self) -> Option<u64>
         ensures { IsHorizon result self.now.store.present self.now.sessions }
     {
@@ -51,9 +51,9 @@ impl Engine {
         }
     }
 
-    /// As `oldest`, of the other jobs' transactions alone, where the job's own is open.
+    /// As `oldest`, but none where the job's own transaction is the only one.
     pub(crate) fn oldest_beside(&self, job: Job) -> Option<u64>
-        ensures { IsSome (finmap.get self.now.sessions job) → IsHorizon result self.now.store.present (finmap.remove self.now.sessions job) }
+        ensures { IsSome (finmap.get self.now.sessions job) → IsHorizonBeside job result self.now.store.present self.now.sessions }
     {
         match self.sessions.oldest_beside(job) {
             Some(stamp) => Some(stamp.min(self.store.now())),
@@ -68,6 +68,8 @@ impl Engine {
         requires { IsWhole self.old }
         ensures whole { IsWhole self.new }
         ensures machine { machine_shown self.new ≡ machine_shown self.old }
+        ensures turn { IfOk result (λ progress. HasCollected limit progress self.old self.new) }
+        ensures few { IfOk result (λ progress. progress.visited ≤ limit) }
         ensures cause { IfErr result (λ refusal. refusal ≡ Refusal.OutOfMemory) }
     {
         let horizon = self.oldest().unwrap_or(self.store.now());

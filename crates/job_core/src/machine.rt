@@ -1,5 +1,5 @@
 //! The state machine of all jobs: one step, and the run of a list.
-ghost use Rattle.std.specs.Prelude.{◌≡◌, true, Some, IfOk, OnErr, IsErrOf, length};
+ghost use Rattle.std.specs.Prelude.{◌≡◌, ◌≤◌, true, Some, IfOk, OnErr, IsErrOf, length};
 ghost use Rattle.refusal.specs.declared.Refusal.{Refusal};
 ghost use Rattle.journal.specs.History.{initial, after, IsLegal};
 ghost use Rattle.journal.specs.Story.{nothing_done, transaction_of, told, story_of};
@@ -117,6 +117,7 @@ impl JobCore {
     /// Refusals: `OutOfMemory`, after which nothing has changed.
     pub fn collect(&mut self, limit: usize) -> Result<Progress, Refusal>
         ensures same { self.new ≡ self.old }
+        ensures few { IfOk result (λ progress. progress.visited ≤ limit) }
         ensures memory { OnErr result (IsErrOf result Refusal.OutOfMemory) }
         ensures legal { IsLegal self.new.units initial }
     {

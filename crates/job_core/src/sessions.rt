@@ -1,12 +1,14 @@
 //! The open transactions of all jobs.
-ghost use Rattle.std.specs.Prelude.{◌≡◌, ◌≤◌, ◌-◌, ◌^◌, ℕ, Bool, true, false, None, Some, is_some, IsSome, OnOk, OnErr, IfOk, IfSome, IfErr, IsErrOf, MatchOption, length};
+ghost use Rattle.std.specs.Prelude.{◌≡◌, ◌⊎◌, ◌≤◌, ◌-◌, ◌^◌, ℕ, Bool, true, false, None, Some, is_some, IsSome, OnOk, OnErr, IfOk, IfSome, IfErr, IsErrOf, MatchOption, length};
 ghost use Rattle.std.specs.Option.{option_copied};
 ghost use Rattle.std.specs.FinMap as finmap;
 ghost use Rattle.refusal.specs.declared.Refusal.{Refusal};
 ghost use Rattle.command.specs.Data.{data_refusal, data_reply};
 ghost use Rattle.version_store.specs.Versions.{content_at};
 ghost use Rattle.validate_commit.specs.Working.{IsWorkOn, IsCauseInside, seen};
-ghost use Rattle.job_core.specs.Sessions.{Sessions as SessionMap, at_level, after_lock, anew, just_opened, with_session, AreFrom, least_from, IsReadable, IsAnsweredOrRefused, HasAnsweredAt};
+ghost use Rattle.job_core.specs.Sessions.{Sessions as SessionMap, begun_at, at_level, after_lock, anew, just_opened, with_session, AreFrom, IsLeastStart, IsLeastIfAny, lesser_of, least_of, IsReadable, IsAnsweredOrRefused, HasAnsweredAt};
+ghost use Rattle.std.specs.BTreeMap.{IsOrdered};
+ghost use Rattle.std.specs.Ordering.{nat_cmp};
 
 use collation::Job;
 use command::{Answer, DataCommand};
@@ -62,18 +64,57 @@ impl Session {
     }
 }
 
-// The least start of these transactions.
-fn least_start(by_job: &BTreeMap<u16, Session>) -> u64
-    ensures { result ≡ least_from (2 ^ 64 - 1) by_job.now.entries }
+// The lesser of a stamp, if there is one, and another.
+fn lesser(stamp: Option<u64>, other: u64) -> u64
+    ensures { result ≡ lesser_of stamp other }
 {
-    let mut least = u64::MAX;
+    match stamp {
+        Some(stamp) => stamp.min(other),
+        None => other,
+    }
+}
+
+// The least start of these transactions, if there are any.
+fn least_start(by_job: &BTreeMap<u16, Session>) -> Option<u64>
+    ensures least { result ≡ least_of None by_job.now.entries }
+    ensures ordered { IsOrdered nat_cmp by_job.now }
+{
+    let mut least = None;
     'sessions: for (_, session) in by_job.iter() {
-        least = least.min(session.work.start());
+        least = Some(lesser(least, session.work.start()));
     }
     least
 }
 
-/// The open transaction of each job that has one, and a stamp at or before the start of each.
+// The least start of these transactions. It is `oldest`, unless one that began there is over, or has begun anew: then it is
+// looked for.
+fn look_again(by_job: &BTreeMap<u16, Session>, oldest: u64, start: u64) -> u64
+    requires { (start ≡ oldest) ⊎ IsLeastIfAny oldest (finmap.from_entries by_job.now.entries) }
+    ensures { IsLeastIfAny result (finmap.from_entries by_job.now.entries) }
+{
+    if start == oldest {
+        least_start(by_job).unwrap_or(oldest)
+    } else {
+        oldest
+    }
+}
+
+// The job's transaction, if one is open, begins anew where so many units stand. Answers where it had begun.
+fn restart_at(by_job: &mut BTreeMap<u16, Session>, job: Job, start: u64) -> Option<u64>
+    ensures anew { finmap.from_entries by_job.new.entries ≡ with_session (anew start) job (finmap.from_entries by_job.old.entries) }
+    ensures before { result ≡ begun_at job (finmap.from_entries by_job.old.entries) }
+{
+    match by_job.get_mut(&job.number()) {
+        Some(session) => {
+            let before = session.work.start();
+            session.begin_anew(start);
+            Some(before)
+        }
+        None => None,
+    }
+}
+
+/// The open transaction of each job that has one, and the least of their starts.
 #[derive(Drop)]
 pub(crate) struct Sessions {
     by_job: BTreeMap<u16, Session>,
@@ -83,7 +124,7 @@ pub(crate) struct Sessions {
 impl Model for Sessions {
     ghost use Rattle.std.specs.FinMap as finmap;
     ghost use Rattle.job_core.specs.Codes.{session_map_code};
-    ghost use Rattle.job_core.specs.Sessions.{Sessions as SessionMap, AreFrom};
+    ghost use Rattle.job_core.specs.Sessions.{Sessions as SessionMap, IsLeastIfAny};
 
     ghost Value = { SessionMap };
 
@@ -91,7 +132,7 @@ impl Model for Sessions {
 
     ghost view = { λ s. finmap.from_entries s.by_job.entries };
 
-    ghost invariant = { λ s. AreFrom s.oldest (finmap.from_entries s.by_job.entries) };
+    ghost invariant = { λ s. IsLeastIfAny s.oldest (finmap.from_entries s.by_job.entries) };
 }
 
 impl Sessions {
@@ -112,9 +153,9 @@ impl Sessions {
         self.by_job.get(&job.number())
     }
 
-    /// A stamp that no open transaction began before, where one is open.
+    /// The least start, where a transaction is open.
     pub(crate) fn oldest(&self) -> Option<u64>
-        ensures { MatchOption result (self.now ≡ finmap.empty) (λ stamp. AreFrom stamp self.now) }
+        ensures { MatchOption result (self.now ≡ finmap.empty) (λ stamp. IsLeastStart stamp self.now) }
     {
         if self.by_job.is_empty() {
             None
@@ -123,9 +164,9 @@ impl Sessions {
         }
     }
 
-    /// As `oldest`, of the other jobs' transactions alone, where the job's own is open.
+    /// As `oldest`, but none where the job's own transaction is the only one.
     pub(crate) fn oldest_beside(&self, job: Job) -> Option<u64>
-        ensures { IsSome (finmap.get self.now job) → MatchOption result (finmap.remove self.now job ≡ finmap.empty) (λ stamp. AreFrom stamp (finmap.remove self.now job)) }
+        ensures { IsSome (finmap.get self.now job) → MatchOption result (finmap.remove self.now job ≡ finmap.empty) (λ stamp. IsLeastStart stamp self.now) }
     {
         if self.by_job.len() == 1 {
             None
@@ -138,6 +179,7 @@ impl Sessions {
     fn oldest_with(&self, start: u64) -> u64
         ensures low { result ≤ start }
         ensures from { AreFrom result self.now }
+        ensures least { (result ≡ start) ⊎ IsLeastStart result self.now }
     {
         match self.oldest() {
             Some(stamp) => stamp.min(start),
@@ -147,6 +189,7 @@ impl Sessions {
 
     /// A transaction of the job, which has none, begins where so many units stand.
     pub(crate) fn open(&mut self, alloc: Global, job: Job, start: u64) -> Result<(), AllocError>
+        requires { finmap.get self.old job ≡ None }
         ensures opened { OnOk result (self.new ≡ finmap.insert self.old job (just_opened job start)) }
         ensures err { OnErr result (self.new ≡ self.old) }
     {
@@ -175,16 +218,7 @@ impl Sessions {
         ensures { self.new ≡ finmap.remove self.old job }
     {
         if let Some(session) = self.by_job.remove(&job.number()) {
-            self.look_again(session.work.start());
-        }
-    }
-
-    /// A transaction that began at this stamp is over, or has begun anew: where it was the oldest, another is.
-    pub(crate) fn look_again(&mut self, start: u64)
-        ensures { self.new ≡ self.old }
-    {
-        if start == self.oldest {
-            self.oldest = least_start(&self.by_job);
+            self.oldest = look_again(&self.by_job, self.oldest, session.work.start());
         }
     }
 
@@ -211,8 +245,8 @@ impl Sessions {
         requires { IfSome (finmap.get self.old job) (λ session. session.work.start ≤ start) }
         ensures { self.new ≡ with_session (anew start) job self.old }
     {
-        if let Some(session) = self.by_job.get_mut(&job.number()) {
-            session.begin_anew(start);
+        if let Some(before) = restart_at(&mut self.by_job, job, start) {
+            self.oldest = look_again(&self.by_job, self.oldest, before);
         }
     }
 

@@ -4,7 +4,8 @@ ghost use Rattle.std.specs.FinMap as finmap;
 ghost use Rattle.command.specs.declared.request.Command.TheVariants.{Start, Commit, Rollback, Restart, Level, Restarts};
 ghost use Rattle.journal.specs.declared.unit.Unit.TheVariants.{Back};
 ghost use Rattle.journal.specs.Kept.{HasNoRoom};
-ghost use Rattle.job_core.specs.Joined.{IsWhole, IsStep};
+ghost use Rattle.job_core.specs.Joined.{IsWhole, IsStep, IsHorizonBeside, IsCutAt};
+ghost use Rattle.command.specs.declared.request.Reply.{Reply};
 
 use crate::engine::Engine;
 use collation::{Job, MOST_LEVELS};
@@ -55,7 +56,8 @@ impl Engine {
     fn commit_outermost(&mut self, job: Job) -> Reply
         requires whole { IsWhole self.old }
         requires level { IfSome (finmap.get self.old.sessions job) (λ session. session.level ≤ 1) }
-        ensures { IsStep job Commit result self.old self.new }
+        ensures step { IsStep job Commit result self.old self.new }
+        ensures left { result ≡ Reply.Committed → IsCutAt (λ horizon. IsHorizonBeside job horizon self.old.store.present self.old.sessions) self.old.store self.new.store }
     {
         let oldest = self.oldest_beside(job);
         let verdict = match self.sessions.get(job) {
@@ -128,18 +130,13 @@ impl Engine {
         requires { IsWhole self.old }
         ensures { IsStep job Restart result self.old self.new }
     {
-        let (took_lock, restarts, start) = match self.sessions.get(job) {
-            Some(session) => (
-                session.took_lock,
-                session.restarts.saturating_add(1),
-                session.work.start(),
-            ),
+        let (took_lock, restarts) = match self.sessions.get(job) {
+            Some(session) => (session.took_lock, session.restarts.saturating_add(1)),
             None => return Reply::Refused(Refusal::NoTransaction),
         };
         match self.go_back(job, took_lock) {
             Ok(()) => {
                 self.sessions.begin_anew(job, self.store.now());
-                self.sessions.look_again(start);
                 Reply::Restarted(restarts)
             }
             Err(refusal) => Reply::Refused(refusal),

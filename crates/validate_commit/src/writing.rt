@@ -66,6 +66,7 @@ pub fn write_set(
     ensures units { OnOk result (IfSome journal.old.prepared (λ unit. journal.new.units ≡ journal.old.units ++ unit ∷ [])) }
     ensures receipt { IfOk result (λ receipt. IfSome journal.old.prepared (λ unit. receipt ≡ record { job = job_of unit; number = length journal.new.units; unit = unit })) }
     ensures cut { OnOk result (store.new.cut ≡ max store.old.cut (unwrap_or oldest (length journal.new.units))) }
+    ensures rows { OnOk result ((r : Reference) → versions_of store.new.versions r ≡ row_cut (length journal.new.units) store.new.cut (find ref_cmp r ((key, Some value) ∷ [])) (versions_of store.old.versions r)) }
     ensures refused { OnErr result ((journal.new ≡ journal.old) × (store.new ≡ record store.old { spare = store.new.spare })) }
 {
     let stamp = store.now() + 1;

@@ -1,4 +1,4 @@
-use Rattle.std.proofs.Common.{sym, ◌∙◌}
+use Rattle.std.proofs.Common.{sym}
 use Rattle.job_core.proofs.Cases.{no_restart, restarted_anew, not_restarted, begun_before}
 use Rattle.job_core.proofs.engine.Engine.restart.Goals as goal
 
@@ -9,8 +9,8 @@ pub returns-in-None : goal.returns-in-None
 returns-in-None c = no_restart c.args.job c.args.self.now c.requires (sym c.in-None.ensures)
 
 pub returns-in-Ok : goal.returns-in-Ok
-returns-in-Ok c = restarted_anew c.args.job c.args.self.now c.requires c.in-Some.session.now c.go_back.new.self c.look_again.new.self c.now.result c.saturating_add.result (sym c.in-Some.ensures) c.go_back.ensures.whole c.go_back.ensures.sessions c.in-Ok.ensures.units
-    c.now.ensures.present c.saturating_add.ensures (c.look_again.ensures ∙ c.begin_anew.ensures)
+returns-in-Ok c = restarted_anew c.args.job c.args.self.now c.requires c.in-Some.session.now c.go_back.new.self c.begin_anew.new.self c.now.result c.saturating_add.result (sym c.in-Some.ensures) c.go_back.ensures.whole c.go_back.ensures.sessions c.in-Ok.ensures.units
+    c.now.ensures.present c.saturating_add.ensures c.begin_anew.ensures
 
 pub returns-in-Err : goal.returns-in-Err
 returns-in-Err c = not_restarted c.args.job c.args.self.now c.requires c.in-Some.session.now c.go_back.new.self c.in-Err.refusal (sym c.in-Some.ensures) c.go_back.ensures.whole c.go_back.ensures.sessions c.in-Err.ensures.refused c.in-Err.ensures.cause

@@ -1,7 +1,7 @@
 use Rattle.std.proofs.Common.{sym, ap, ◌∙◌, refl}
 use Rattle.std.specs.Option.{option_copied_mut}
 use Rattle.job_core.specs.Sessions.{IsReadable}
-use Rattle.job_core.proofs.Held.{is_there, got, inserted, some_of, from_changed, answered_at, answered_nowhere, answered_start}
+use Rattle.job_core.proofs.Held.{is_there, got, inserted, some_of, least_changed, answered_at, answered_nowhere, answered_start}
 use Rattle.job_core.proofs.sessions.Sessions.access.Goals as goal
 use Rattle.job_core.proofs.sessions.Sessions.access.Goals.{in-Some, in-None}
 
@@ -14,7 +14,7 @@ pub invariant_of-self : goal.invariant_of-self
 invariant_of-self c = elim c.match-get_mut.branch [
   | in-Some w ↦
       let there = w.in-Some.ensures.value in
-      rw w.self-inside-is (from_changed c.self.inside.oldest c.self.inside.by_job.entries (c.get_mut.follows.lender w.access.new.self).entries c.number.result w.in-Some.session.now w.access.new.self c.self.invariant there
+      rw w.self-inside-is (least_changed c.self.inside.oldest c.self.inside.by_job.entries (c.get_mut.follows.lender w.access.new.self).entries c.number.result w.in-Some.session.now w.access.new.self c.self.invariant there
       ((c.get_mut.follows.holds w.access.new.self).3 (is_there _ w.in-Some.session.now there)).0 (answered_start c.args.command w.access.result c.args.store.now w.in-Some.session.now w.access.new.self w.access.ensures))
   | in-None w ↦ rw (w.self-inside-is, c.get_mut.follows.holds-at-none) c.self.invariant
 ]

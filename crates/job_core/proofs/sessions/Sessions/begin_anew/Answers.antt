@@ -1,26 +1,17 @@
-use Rattle.std.proofs.Common.{sym, ap, ◌∙◌, refl}
-use Rattle.std.specs.Option.{option_copied_mut}
-use Rattle.job_core.specs.Sessions.{anew}
-use Rattle.job_core.proofs.Held.{is_there, got, session_changed, session_absent, from_changed, some_of, starts_at}
+use Rattle.std.proofs.Common.{ap, ◌∙◌}
+use Rattle.std.specs.FinMap as finmap
+use Rattle.job_core.specs.Sessions.{anew, with_session}
+use Rattle.job_core.proofs.Held.{least_anew, anew_nowhere}
 use Rattle.job_core.proofs.sessions.Sessions.begin_anew.Goals as goal
-use Rattle.job_core.proofs.sessions.Sessions.begin_anew.Goals.{in-Some, in_default}
 
-pub invariant_of-self : goal.invariant_of-self
-invariant_of-self c = elim c.match-get_mut.branch [
-  | in-Some w ↦
-      let there = w.in-Some.ensures.value in
-      rw w.self-inside-is (from_changed c.self.inside.oldest c.self.inside.by_job.entries (c.get_mut.follows.lender w.begin_anew.new.self).entries c.number.result w.in-Some.session.now w.begin_anew.new.self c.self.invariant there
-      ((c.get_mut.follows.holds w.begin_anew.new.self).3 (is_there _ w.in-Some.session.now there)).0 (starts_at w.in-Some.session.now _ w.begin_anew.new.self c.args.start w.begin_anew.ensures refl (some_of _ _ w.in-Some.session.now (got c.self.inside.by_job.entries c.args.self.now c.args.job _ c.self.view_is (rw c.number.ensures.value at there)) c.requires)))
-  | in_default w ↦ rw (w.self-inside-is, c.get_mut.follows.holds-at-none) c.self.invariant
-]
+pub look_again-self-inside-requires : goal.look_again-self-inside-requires
+look_again-self-inside-requires c = least_anew c.self.inside.oldest (finmap.from_entries c.self.inside.by_job.entries) (finmap.from_entries c.restart_at.new.by_job.entries) c.args.job c.args.start c.in-Some.before c.self.invariant c.restart_at.ensures.anew c.in-Some.ensures.before (rw (← c.self.view_is) at c.requires)
 
-pub returns : goal.returns
-returns c = elim c.match-get_mut.branch [
-  | in-Some w ↦
-      let there = w.in-Some.ensures.value in
-      rw w.self-inside-is (session_changed (anew c.args.start) c.self.inside.by_job.entries (c.get_mut.follows.lender w.begin_anew.new.self).entries c.args.self.now c.args.job w.in-Some.session.now w.begin_anew.new.self c.self.view_is (rw c.number.ensures.value at there)
-      (rw c.number.ensures.value at ((c.get_mut.follows.holds w.begin_anew.new.self).3 (is_there _ w.in-Some.session.now there)).0) w.begin_anew.ensures)
-  | in_default w ↦
-      rw w.self-inside-is (session_absent (anew c.args.start) c.self.inside.by_job.entries c.get_mut.follows.lender-at-none.entries c.args.self.now c.args.job c.self.view_is
-      (rw c.number.ensures.value at (ap option_copied_mut (sym w.in_default.is) ∙ c.get_mut.ensures.value)) (rw c.get_mut.follows.holds-at-none refl))
-]
+pub returns-in-Some : goal.returns-in-Some
+returns-in-Some c = c.restart_at.ensures.anew ∙ ap (with_session (anew c.args.start) c.args.job) c.self.view_is
+
+pub returns-in_default : goal.returns-in_default
+returns-in_default c = c.restart_at.ensures.anew ∙ ap (with_session (anew c.args.start) c.args.job) c.self.view_is
+
+pub invariant_of-self-in_default : goal.invariant_of-self-in_default
+invariant_of-self-in_default c = anew_nowhere c.self.inside.oldest (finmap.from_entries c.self.inside.by_job.entries) (finmap.from_entries c.restart_at.new.by_job.entries) c.args.job c.args.start c.self.invariant c.restart_at.ensures.anew c.in_default.ensures.before

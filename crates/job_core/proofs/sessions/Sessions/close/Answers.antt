@@ -1,15 +1,18 @@
-use Rattle.std.proofs.Common.{refl, sym, subst, ◌∙◌}
+use Rattle.std.proofs.Common.{refl, sym, subst, ◌⊎◌, ◌≡◌}
 use Rattle.std.specs.FinMap as finmap
-use Rattle.job_core.specs.Sessions.{AreFrom}
-use Rattle.job_core.proofs.Held.{removed, from_removed}
+use Rattle.job_core.specs.Sessions.{IsLeastIfAny}
+use Rattle.job_core.proofs.Held.{got, removed, least_removed}
 use Rattle.job_core.proofs.sessions.Sessions.close.Goals as goal
 
-pub invariant_of-self : goal.invariant_of-self
-invariant_of-self c = subst (AreFrom c.self.inside.oldest) (sym (removed c.self.inside.by_job.entries c.remove.new.self.entries (finmap.from_entries c.self.inside.by_job.entries) c.number.result refl c.remove.ensures.updates.0))
-    (from_removed c.self.inside.oldest (finmap.from_entries c.self.inside.by_job.entries) c.number.result c.self.invariant)
+pub look_again-self-inside-requires : goal.look_again-self-inside-requires
+look_again-self-inside-requires c =
+    let m = finmap.from_entries c.self.inside.by_job.entries in
+    let s = c.in-Some.session in
+    rw c.start.ensures (subst (λ n. (s.work.start ≡ c.self.inside.oldest) ⊎ IsLeastIfAny c.self.inside.oldest n) (sym (removed c.self.inside.by_job.entries c.remove.new.self.entries m c.number.result refl c.in-Some.ensures.updates.0))
+    (least_removed c.self.inside.oldest m c.number.result s c.self.invariant (got c.self.inside.by_job.entries m c.number.result _ refl c.in-Some.ensures.value)))
 
 pub returns-in-Some : goal.returns-in-Some
-returns-in-Some c = c.look_again.ensures ∙ removed c.self.inside.by_job.entries c.remove.new.self.entries c.args.self.now c.args.job c.self.view_is (rw c.number.ensures.value at c.in-Some.ensures.updates.0)
+returns-in-Some c = removed c.self.inside.by_job.entries c.remove.new.self.entries c.args.self.now c.args.job c.self.view_is (rw c.number.ensures.value at c.in-Some.ensures.updates.0)
 
 pub returns-in_default : goal.returns-in_default
 returns-in_default c = removed c.self.inside.by_job.entries c.remove.new.self.entries c.args.self.now c.args.job c.self.view_is (rw c.number.ensures.value at c.in_default.ensures.updates.0)
