@@ -120,8 +120,8 @@ cells_over [] m = 0
 cells_over (c ∷ cs) m = cells_under m c.0 + cells_over cs m
 
 -- the cells that versions of these references no longer take are spare, and no others
-abbrev pub KeepCells : List Change → Stored → Stored → Type 0
-KeepCells cs old new = new.spare + cells_over cs new.versions ≡ old.spare + cells_over cs old.versions
+abbrev pub AllKeepCells : List Change → Stored → Stored → Type 0
+AllKeepCells cs old new = new.spare + cells_over cs new.versions ≡ old.spare + cells_over cs old.versions
 
 -- ---- the newest stamp in a range
 

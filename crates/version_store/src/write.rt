@@ -5,7 +5,7 @@ ghost use Rattle.collation.specs.Order.{ref_cmp};
 ghost use Rattle.collation.specs.Reference.{Reference};
 ghost use Rattle.collation.specs.Changes.{AreOnce};
 ghost use Rattle.version_chain.specs.Versions.{IsAbove};
-ghost use Rattle.version_store.specs.Versions.{KeepsCells, KeepCells, content_at, versions_of, row_after, with_version, written, written_and_cut, changed, row_cut, tidied, ArePlaced, AreBelow};
+ghost use Rattle.version_store.specs.Versions.{KeepsCells, AllKeepCells, content_at, versions_of, row_after, with_version, written, written_and_cut, changed, row_cut, tidied, ArePlaced, AreBelow};
 
 use crate::store::Store;
 use collation::Text;
@@ -43,7 +43,7 @@ impl Store {
         ensures cut { self.new.cut ≡ self.old.cut }
         ensures mark { self.new.mark ≡ self.old.mark }
         ensures spare { self.old.spare ≤ self.new.spare + vec_len changes }
-        ensures cells { KeepCells changes.items self.old self.new }
+        ensures cells { AllKeepCells changes.items self.old self.new }
     {
         for (key, value) in changes {
             self.push_one(stamp, &key, value);
@@ -67,7 +67,7 @@ impl Store {
         ensures cut { self.new.cut ≡ self.old.cut }
         ensures mark { self.new.mark ≡ self.old.mark }
         ensures spare { self.old.spare ≤ self.new.spare + vec_len changes }
-        ensures cells { KeepCells changes.items self.old self.new }
+        ensures cells { AllKeepCells changes.items self.old self.new }
     {
         self.present = stamp;
         self.push_all(stamp, changes);
@@ -156,7 +156,7 @@ impl Store {
         ensures cut { self.new.cut ≡ self.old.cut }
         ensures mark { self.new.mark ≡ self.old.mark }
         ensures spare { self.old.spare ≤ self.new.spare + vec_len changes }
-        ensures cells { KeepCells changes.items self.old self.new }
+        ensures cells { AllKeepCells changes.items self.old self.new }
     {
         for (key, value) in changes {
             self.write_one(stamp, horizon, &key, value);
@@ -181,7 +181,7 @@ impl Store {
         ensures cut { self.new.cut ≡ max self.old.cut horizon }
         ensures mark { self.new.mark ≡ self.old.mark }
         ensures spare { self.old.spare ≤ self.new.spare + vec_len changes }
-        ensures cells { KeepCells changes.items self.old self.new }
+        ensures cells { AllKeepCells changes.items self.old self.new }
     {
         let cut = self.cut.max(horizon);
         self.present = stamp;
