@@ -1,5 +1,5 @@
 //! The unit that is prepared, as bytes.
-ghost use Rattle.std.specs.Prelude.{◌≡◌, [], None, Some, IfSome, OnOk, OnErr, option_map};
+ghost use Rattle.std.specs.Prelude.{◌≡◌, ◌≤◌, [], vec_capacity, None, Some, IfSome, OnOk, OnErr, option_map};
 ghost use Rattle.journal.specs.declared.unit.Unit.TheVariants.{Lone, Whole, Lock, Back, End};
 ghost use Rattle.journal.specs.Format.{unit_bytes};
 ghost use Rattle.journal.specs.Kept.{job_of};
@@ -36,7 +36,8 @@ impl Model for Draft {
 
 // No bytes; the memory that only a large unit needed is given back.
 fn empty(bytes: &mut Vec<u8>)
-    ensures { bytes.new.items ≡ [] }
+    ensures none { bytes.new.items ≡ [] }
+    ensures kept { vec_capacity bytes.new ≤ 65536 }
 {
     if bytes.capacity() > MOST_KEPT {
         *bytes = Vec::new(*bytes.allocator());

@@ -1,5 +1,5 @@
 //! The log: the bytes of unit after unit.
-ghost use Rattle.std.specs.Prelude.{◌≡◌, ◌≤◌, ◌+◌, ◌<◌, ◌++◌, [], ◌∷◌, List, drop, length, IsSome, IfSome, IfOk, OnOk, MatchOption};
+ghost use Rattle.std.specs.Prelude.{◌≡◌, ◌≤◌, ◌+◌, ◌<◌, ◌++◌, [], ◌∷◌, List, drop, length, IsSome, IfSome, IfOk, IsOk, OnOk, MatchOption};
 ghost use Rattle.std.specs.List.{flat_map};
 ghost use Rattle.journal.specs.declared.unit.Unit.{Unit as JournalUnit};
 ghost use Rattle.journal.specs.Format.{unit_bytes};
@@ -91,6 +91,7 @@ impl Log {
     pub(crate) fn make_room(&mut self, more: usize) -> Result<(), AllocError>
         ensures units { self.new.units ≡ self.old.units }
         ensures room { OnOk result (more ≤ self.new.spare) }
+        ensures sure { more ≤ self.old.spare → IsOk result }
     {
         write::make_room(&mut self.bytes, more)
     }

@@ -1,5 +1,5 @@
 //! Units written as bytes, after what stands there. A refusal may leave a part of them.
-ghost use Rattle.std.specs.Prelude.{◌≡◌, ◌≤◌, ◌+◌, ◌*◌, ◌++◌, [], ◌∷◌, OnOk, vec_len, vec_capacity};
+ghost use Rattle.std.specs.Prelude.{◌≡◌, ◌≤◌, ◌+◌, ◌*◌, ◌++◌, [], ◌∷◌, OnOk, IsOk, vec_len, vec_capacity};
 ghost use Rattle.std.specs.List.{flat_map};
 ghost use Rattle.collation.specs.Limits.{most_jobs};
 ghost use Rattle.journal.specs.Format as format;
@@ -18,6 +18,7 @@ pub(crate) fn make_room(bytes: &mut Vec<u8>, more: usize) -> Result<(), AllocErr
     ensures len { vec_len bytes.new ≡ vec_len bytes.old }
     ensures capacity { vec_capacity bytes.old ≤ vec_capacity bytes.new }
     ensures room { OnOk result (vec_len bytes.new + more ≤ vec_capacity bytes.new) }
+    ensures sure { vec_len bytes.old + more ≤ vec_capacity bytes.old → IsOk result }
 {
     match bytes.reserve(more) {
         Ok(()) => Ok(()),
