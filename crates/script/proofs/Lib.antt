@@ -3,3 +3,4 @@ pub mod Behind
 pub mod Judging
 pub mod Naming
 pub mod Sentences
+pub mod Words

@@ -1,6 +1,6 @@
 //! Lines.
-ghost use Rattle.std.specs.Prelude.{◌≡◌, ◌&&◌, Some, None, if◌then◌else◌};
-ghost use Rattle.m_text.specs.Literal.{number_from};
+ghost use Rattle.std.specs.Prelude.{◌≡◌, ℕ, List, Some, None, if◌then◌else◌};
+ghost use Rattle.m_text.specs.Literal.{front_digits, past_digits, number_from};
 ghost use Rattle.script.specs.Sentence.{FindsAll};
 ghost use Rattle.script.specs.Line.{IsReading, IsRefusalOf, is_job, ends_digits as ends_digits_spec, spelled_by, reading_of, job_of_line};
 
@@ -37,12 +37,11 @@ fn ends_digits(rest: &[u8]) -> bool
     rest.is_empty() || begins_blank(rest)
 }
 
-// The job that is printed before a refusal.
+// The job that is printed before a refusal, of a line that begins with these digits.
 #[tactic(auto, unfolding(crate::specs::Line::job_of_line))]
-fn printed_job(line: &[u8]) -> Option<Job>
-    ensures { result ≡ job_of_line line.now }
+fn printed_job(digits: &[u8], rest: &[u8]) -> Option<Job>
+    ensures { (line : List ℕ) → front_digits line ≡ digits.now → past_digits line ≡ rest.now → result ≡ job_of_line line }
 {
-    let (digits, rest) = split_digits(line);
     if ends_digits(rest) {
         job_at(digits)
     } else {
@@ -50,11 +49,16 @@ fn printed_job(line: &[u8]) -> Option<Job>
     }
 }
 
+// The sentence of a line that begins with these digits.
 #[tactic(auto, unfolding(crate::specs::Line::spelled_by))]
-fn read_spelled_line(alloc: Global, line: &[u8], drafts: &mut Drafts) -> Result<Sentence, Refusal>
-    ensures { FindsAll drafts.new result (spelled_by line.now) }
+fn read_spelled(
+    alloc: Global,
+    digits: &[u8],
+    rest: &[u8],
+    drafts: &mut Drafts,
+) -> Result<Sentence, Refusal>
+    ensures { (line : List ℕ) → front_digits line ≡ digits.now → past_digits line ≡ rest.now → FindsAll drafts.new result (spelled_by line) }
 {
-    let (digits, rest) = split_digits(line);
     if digits.is_empty() {
         return Err(Refusal::BadLine);
     }
@@ -82,8 +86,9 @@ pub fn read_line(
 ) -> Result<(Job, Command), LineFault>
     ensures { IsReading line.now result }
 {
-    let job = printed_job(line);
-    let sentence = match read_spelled_line(alloc, line, drafts) {
+    let (digits, rest) = split_digits(line);
+    let job = printed_job(digits, rest);
+    let sentence = match read_spelled(alloc, digits, rest, drafts) {
         Ok(sentence) => sentence,
         Err(refusal) => return Err(LineFault { refusal, job }),
     };

@@ -1,6 +1,7 @@
 //! The words of commands.
 ghost use Rattle.std.specs.Prelude.{◌≡◌, [], ◌∷◌};
 ghost use Rattle.std.specs.List.{find};
+ghost use Rattle.m_text.specs.Literal as literal;
 ghost use Rattle.script.specs.Words as words;
 
 use m_text::is_word;
@@ -37,10 +38,18 @@ pub(crate) enum AloneWord {
     Restarts,
 }
 
+// As `is_word`, which looks at letters only where there are as many as the word has.
+#[tactic(auto, using(crate::proofs::Words::of_other_length))]
+fn is_whole_word(word: &[u8], letters: &[u8]) -> bool
+    ensures { result ≡ literal.is_word word.now letters.now }
+{
+    word.len() == letters.len() && is_word(word, letters)
+}
+
 fn is_either(short: &[u8], long: &[u8], letters: &[u8]) -> bool
     ensures { result ≡ words.is_either short.now long.now letters.now }
 {
-    is_word(short, letters) || is_word(long, letters)
+    is_whole_word(short, letters) || is_whole_word(long, letters)
 }
 
 fn is_named_data(word: DataWord, letters: &[u8]) -> bool
