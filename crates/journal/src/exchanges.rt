@@ -5,17 +5,19 @@ ghost use Rattle.journal.specs.Exchanges.{IsMarkOf};
 ghost use Rattle.journal.specs.Format as format;
 ghost use Rattle.journal.specs.Stored.{FitExchanges};
 
-use crate::write::{make_room, push_answered};
+use crate::write::push_answered;
 use command::{Answer, DataCommand};
 use std::alloc::{AllocError, Global};
 use std::marker::Model;
+
+// The room that a log begins with, where there is memory for it: for three or four usual commands.
+const FIRST_ROOM: usize = 64;
 
 /// The data commands of an open transaction with their answers, as bytes. It is seen as their list.
 #[derive(Debug, Drop)]
 pub struct ExchangeLog {
     bytes: Vec<u8>,
     count: u64,
-    draft: Vec<u8>,
 }
 
 impl Model for ExchangeLog {
@@ -37,6 +39,15 @@ pub struct ExchangeMark {
     pub(crate) count: u64,
 }
 
+// The first room, at once. Where it is refused, each command asks for as much as it needs.
+fn begin_room(bytes: &mut Vec<u8>)
+    ensures { bytes.new.items ≡ bytes.old.items }
+{
+    if bytes.capacity() == 0 {
+        let _begun = bytes.reserve_exact(FIRST_ROOM);
+    }
+}
+
 impl ExchangeLog {
     /// No exchange. Takes no memory.
     pub fn new(alloc: Global) -> ExchangeLog
@@ -45,7 +56,6 @@ impl ExchangeLog {
         ExchangeLog {
             bytes: Vec::new(alloc),
             count: 0,
-            draft: Vec::new(alloc),
         }
     }
 
@@ -65,6 +75,7 @@ impl ExchangeLog {
     }
 
     /// Adds a command that was done, with its answer. Where memory is refused nothing has changed.
+    #[tactic(auto, using(key_codec::specs::laws::Grown::back_to))]
     pub fn push(&mut self, command: &DataCommand, answer: &Answer) -> Result<(), AllocError>
         ensures ok { OnOk result (self.new ≡ self.old ++ (record { command = command.now; answer = answer.now }) ∷ []) }
         ensures err { OnErr result (self.new ≡ self.old) }
@@ -72,12 +83,18 @@ impl ExchangeLog {
         if self.count == u64::MAX {
             return Err(AllocError);
         }
-        self.draft.clear();
-        push_answered(&mut self.draft, command, answer)?;
-        make_room(&mut self.bytes, self.draft.len())?;
-        self.bytes.extend_from_slice(&self.draft)?;
-        self.count += 1;
-        Ok(())
+        begin_room(&mut self.bytes);
+        let before = self.bytes.len();
+        match push_answered(&mut self.bytes, command, answer) {
+            Ok(()) => {
+                self.count += 1;
+                Ok(())
+            }
+            Err(error) => {
+                self.bytes.truncate(before);
+                Err(error)
+            }
+        }
     }
 
     /// How far the log goes now.

@@ -153,8 +153,8 @@ impl Journal {
         ensures used_up { 2 ^ 64 - 1 < length self.old.units + 1 → IsErrOf result Refusal.StampsUsedUp }
         ensures cause { IfErr result (λ refusal. HasNoRoom refusal 1 (length self.old.units)) }
     {
-        self.draft.clear();
         if self.log.len() == u64::MAX {
+            self.draft.clear();
             return Err(Refusal::StampsUsedUp);
         }
         self.draft.write_lone(job, command, answer)?;
@@ -171,8 +171,8 @@ impl Journal {
         ensures used_up { 2 ^ 64 - 1 < length self.old.units + 1 → IsErrOf result Refusal.StampsUsedUp }
         ensures cause { IfErr result (λ refusal. HasNoRoom refusal 1 (length self.old.units)) }
     {
-        self.draft.clear();
         if self.log.len() == u64::MAX {
+            self.draft.clear();
             return Err(Refusal::StampsUsedUp);
         }
         self.draft.write_whole(job, exchanges)?;
@@ -194,8 +194,8 @@ impl Journal {
         ensures used_up { 2 ^ 64 - 1 < length self.old.units + 1 → IsErrOf result Refusal.StampsUsedUp }
         ensures cause { IfErr result (λ refusal. HasNoRoom refusal 1 (length self.old.units)) }
     {
-        self.draft.clear();
         if self.log.len() == u64::MAX {
+            self.draft.clear();
             return Err(Refusal::StampsUsedUp);
         }
         self.draft.write_lock(job, inside, command, had)?;
@@ -211,8 +211,8 @@ impl Journal {
         ensures used_up { 2 ^ 64 - 1 < length self.old.units + 1 → IsErrOf result Refusal.StampsUsedUp }
         ensures cause { IfErr result (λ refusal. HasNoRoom refusal 1 (length self.old.units)) }
     {
-        self.draft.clear();
         if self.log.len() == u64::MAX {
+            self.draft.clear();
             return Err(Refusal::StampsUsedUp);
         }
         self.draft.write_back(job)?;
@@ -228,8 +228,8 @@ impl Journal {
         ensures used_up { 2 ^ 64 - 1 < length self.old.units + 1 → IsErrOf result Refusal.StampsUsedUp }
         ensures cause { IfErr result (λ refusal. HasNoRoom refusal 1 (length self.old.units)) }
     {
-        self.draft.clear();
         if self.log.len() == u64::MAX {
+            self.draft.clear();
             return Err(Refusal::StampsUsedUp);
         }
         self.draft.write_end(job)?;

@@ -2,6 +2,7 @@
 ghost use Rattle.std.specs.Prelude.{◌≡◌, ◌≤◌, ◌+◌, ◌*◌, ◌++◌, [], ◌∷◌, OnOk, IsOk, vec_len, vec_capacity};
 ghost use Rattle.std.specs.List.{flat_map};
 ghost use Rattle.collation.specs.Limits.{most_jobs};
+ghost use Rattle.key_codec.specs.Grown.{GoesOnFrom};
 ghost use Rattle.journal.specs.Format as format;
 ghost use Rattle.journal.specs.declared.unit.Unit.TheVariants.{Lone, Whole, Lock, Back, End};
 ghost use Rattle.journal.specs.Stored.{FitsUnit, FitsString, FitsReference, FitsName, FitNames, FitsLook, FitsCommand, FitsAnswer, FitsLock, Each};
@@ -27,14 +28,16 @@ pub(crate) fn make_room(bytes: &mut Vec<u8>, more: usize) -> Result<(), AllocErr
 }
 
 fn push_bytes(bytes: &mut Vec<u8>, more: &[u8]) -> Result<(), AllocError>
-    ensures { OnOk result (bytes.new.items ≡ bytes.old.items ++ more.now) }
+    ensures bytes { OnOk result (bytes.new.items ≡ bytes.old.items ++ more.now) }
+    ensures kept { GoesOnFrom bytes.old.items bytes.new.items }
 {
     make_room(bytes, more.len())?;
     bytes.extend_from_slice(more)
 }
 
 fn push_byte(bytes: &mut Vec<u8>, byte: u8) -> Result<(), AllocError>
-    ensures { OnOk result (bytes.new.items ≡ bytes.old.items ++ byte ∷ []) }
+    ensures bytes { OnOk result (bytes.new.items ≡ bytes.old.items ++ byte ∷ []) }
+    ensures kept { GoesOnFrom bytes.old.items bytes.new.items }
 {
     make_room(bytes, 1)?;
     bytes.push_reserved(byte);
@@ -43,7 +46,8 @@ fn push_byte(bytes: &mut Vec<u8>, byte: u8) -> Result<(), AllocError>
 
 #[tactic(auto, unfolding(crate::specs::Format::number_bytes))]
 fn push_number(bytes: &mut Vec<u8>, number: u64) -> Result<(), AllocError>
-    ensures { OnOk result (bytes.new.items ≡ bytes.old.items ++ format.number_bytes number) }
+    ensures bytes { OnOk result (bytes.new.items ≡ bytes.old.items ++ format.number_bytes number) }
+    ensures kept { GoesOnFrom bytes.old.items bytes.new.items }
 {
     if number < 254 {
         push_byte(bytes, number as u8)
@@ -59,6 +63,7 @@ fn push_number(bytes: &mut Vec<u8>, number: u64) -> Result<(), AllocError>
 fn push_string(bytes: &mut Vec<u8>, string: &[u8]) -> Result<(), AllocError>
     ensures bytes { OnOk result (bytes.new.items ≡ bytes.old.items ++ format.string_bytes string.now) }
     ensures fits { FitsString string.now }
+    ensures kept { GoesOnFrom bytes.old.items bytes.new.items }
 {
     push_number(bytes, string.len() as u64)?;
     push_bytes(bytes, string)
@@ -67,6 +72,7 @@ fn push_string(bytes: &mut Vec<u8>, string: &[u8]) -> Result<(), AllocError>
 fn push_key(bytes: &mut Vec<u8>, key: &Key) -> Result<(), AllocError>
     ensures bytes { OnOk result (bytes.new.items ≡ bytes.old.items ++ format.reference_bytes key.now) }
     ensures fits { OnOk result (FitsReference key.now) }
+    ensures kept { GoesOnFrom bytes.old.items bytes.new.items }
 {
     push_string(bytes, key.as_slice())
 }
@@ -134,6 +140,7 @@ fn look_kind(look: &Look) -> u8
 fn push_look(bytes: &mut Vec<u8>, look: &Look) -> Result<(), AllocError>
     ensures bytes { OnOk result (bytes.new.items ≡ bytes.old.items ++ format.look_bytes look.now) }
     ensures fits { OnOk result (FitsLook look.now) }
+    ensures kept { GoesOnFrom bytes.old.items bytes.new.items }
 {
     match look {
         Look::Data(key) => push_key(bytes, key),
@@ -162,6 +169,7 @@ fn command_kind(command: &DataCommand) -> u8
 fn push_command(bytes: &mut Vec<u8>, command: &DataCommand) -> Result<(), AllocError>
     ensures bytes { OnOk result (bytes.new.items ≡ bytes.old.items ++ format.command_bytes command.now) }
     ensures fits { OnOk result (FitsCommand command.now) }
+    ensures kept { GoesOnFrom bytes.old.items bytes.new.items }
 {
     match command {
         DataCommand::Set(key, value) => {
@@ -192,6 +200,7 @@ fn answer_kind(answer: &Answer) -> u8
 fn push_answer(bytes: &mut Vec<u8>, answer: &Answer) -> Result<(), AllocError>
     ensures bytes { OnOk result (bytes.new.items ≡ bytes.old.items ++ format.answer_bytes answer.now) }
     ensures fits { OnOk result (FitsAnswer answer.now) }
+    ensures kept { GoesOnFrom bytes.old.items bytes.new.items }
 {
     match answer {
         Answer::Done => Ok(()),
@@ -210,6 +219,7 @@ pub(crate) fn push_answered(
     ensures bytes { OnOk result (bytes.new.items ≡ bytes.old.items ++ format.answered_bytes command.now answer.now) }
     ensures command_fits { OnOk result (FitsCommand command.now) }
     ensures answer_fits { OnOk result (FitsAnswer answer.now) }
+    ensures kept { GoesOnFrom bytes.old.items bytes.new.items }
 {
     push_byte(bytes, 4 * command_kind(command) + answer_kind(answer))?;
     push_command(bytes, command)?;

@@ -32,12 +32,12 @@ pub tells_none : (bytes : List ℕ) → bytes ≡ [] → AreExchangeBytes bytes 
 tells_none bytes e = subst (AreExchangeBytes bytes 0) (sym (no_exchanges bytes)) (record { written = e; number = refl; few = omega arith; fit = tt })
 
 -- one more after them
-pub tells_more : (old roomy draft blank new : List ℕ) (count : ℕ) (e : Exchange) → AreExchangeBytes old count (exchanges_in count old) → roomy ≡ old → blank ≡ [] → draft ≡ blank ++ exchange_bytes e → FitsExchange e → new ≡ roomy ++ draft → count + 1 < 2 ^ 64 →
+pub tells_more : (old new : List ℕ) (count : ℕ) (e : Exchange) → AreExchangeBytes old count (exchanges_in count old) → FitsExchange e → new ≡ old ++ exchange_bytes e → count + 1 < 2 ^ 64 →
     AreExchangeBytes new (count + 1) (exchanges_in count old ++ e ∷ [])
-tells_more old roomy draft blank new count e h same b d fits n few =
+tells_more old new count e h fits n few =
     let es = exchanges_in count old in
     record {
-      written = n ∙ ap (λ t. t ++ draft) (same ∙ h.written) ∙ ap (λ t. flat_map exchange_bytes es ++ t) (d ∙ ap (λ t. t ++ exchange_bytes e) b) ∙ flat_map_more exchange_bytes [] es e;
+      written = n ∙ ap (λ t. t ++ exchange_bytes e) h.written ∙ flat_map_more exchange_bytes [] es e;
       number = omega (arith, h.number, length-append es (e ∷ []));
       few = few;
       fit = Each-more es e h.fit fits;
