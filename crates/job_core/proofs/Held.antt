@@ -6,9 +6,10 @@ use Rattle.std.specs.Map.{keys_of}
 use Rattle.std.specs.Option.{option_map}
 use Rattle.std.proofs.lemmas.Bool.{cases_lt}
 use Rattle.std.proofs.lemmas.Map.Entries.{lookup_from_place}
-use Rattle.std.proofs.lemmas.Map.Keys.{IsDistinct-from_sorted}
+use Rattle.std.proofs.lemmas.Map.Keys.{IsDistinct-from_sorted, Less-from_sorted}
 use Rattle.collation.specs.laws.Order.{is_equal}
-use Rattle.std.specs.Ordering.{nat_cmp, eq_by_cmp}
+use Rattle.std.specs.Ordering.{nat_cmp, eq_by_cmp, is_eq}
+use Rattle.std.specs.declared.cmp.Ordering.TheVariants.{Less}
 use Rattle.std.specs.Cmp.{nat_cmp_total, eq_by_cmp_equiv}
 use Rattle.std.specs.Map.{lookup}
 use Rattle.std.specs.BTreeMap.{is_at}
@@ -72,6 +73,37 @@ only_job (e ∷ []) m job was one some = sym (removed (e ∷ []) [] m job was (�
     by_key : (q : ℕ) (b : Bool) → eq_by_cmp nat_cmp job q ≡ b → None ≡ cond b None (cond (eq_by_cmp nat_cmp q e.0) (Some e.1) None)
     by_key q true is = refl
     by_key q false is = by_entry q (eq_by_cmp nat_cmp q e.0) refl is
+
+-- where the job's goes and none is left, all keys are the job's
+all_alone : (m : Sessions) (job q : ℕ) (v : Session) → finmap.remove m job ≡ finmap.empty → finmap.get m q ≡ Some v → eq_by_cmp nat_cmp q job ≡ true
+all_alone m job q v gone there = by_key (eq_by_cmp nat_cmp q job) refl (sym (finmap.get-remove nat_cmp_total m job q) ∙ ap (λ t. finmap.get t q) gone ∙ finmap.get-empty nat_cmp q)
+  where
+    by_key : (b : Bool) → eq_by_cmp nat_cmp q job ≡ b → cond b None (finmap.get m q) ≡ None → eq_by_cmp nat_cmp q job ≡ true
+    by_key true is none = is
+    by_key false is none = let never = sym there ∙ none in absurd (cc)
+
+-- so more than one entry isn't the job's alone
+pub not_only_job : (es : Rows) (m : Sessions) (job : ℕ) → IsStrictlySortedBy nat_cmp (keys_of es) → finmap.from_entries es ≡ m → (length es ≡ 1 → ⊥) → IsSome (finmap.get m job) → finmap.remove m job ≡ finmap.empty → ⊥
+not_only_job [] m job rise was more some gone = let never = subst IsSome (got [] m job None was refl) some in absurd (cc)
+not_only_job (e ∷ []) m job rise was more some gone = more refl
+not_only_job (e ∷ f ∷ es) m job rise was more some gone =
+    let laws = eq_by_cmp_equiv nat_cmp_total in
+    let less : nat_cmp e.0 f.0 ≡ Less = Less-from_sorted nat_cmp (keys_of (e ∷ f ∷ es)) 0 1 0 rise (omega arith) (omega arith) in
+    let two = found (eq_by_cmp nat_cmp f.0 e.0) (eq_by_cmp nat_cmp f.0 f.0) (laws.refl f.0) in
+    let first : eq_by_cmp nat_cmp e.0 job ≡ true = all_alone m job e.0 e.1 gone (got (e ∷ f ∷ es) m e.0 (Some e.1) was (at_first (eq_by_cmp nat_cmp e.0 e.0) (laws.refl e.0))) in
+    let second : eq_by_cmp nat_cmp f.0 job ≡ true = all_alone m job f.0 two.0 gone (got (e ∷ f ∷ es) m f.0 (Some two.0) was two.1) in
+    let same : eq_by_cmp nat_cmp e.0 f.0 ≡ true = laws.congr e.0 job f.0 first ∙ laws.symm job f.0 ∙ second in
+    let never : true ≡ false = sym same ∙ ap is_eq less in
+    absurd (cc)
+  where
+    at_first : (b : Bool) → b ≡ true → Some e.1 ≡ cond b (Some e.1) (lookup (is_at (nat_cmp e.0)) (f ∷ es))
+    at_first true is = refl
+    at_first false is = absurd (cc)
+
+    found : (b c : Bool) → c ≡ true → (v : Session) × (Some v ≡ cond b (Some e.1) (cond c (Some f.1) (lookup (is_at (nat_cmp f.0)) es)))
+    found true c is = (e.1, refl)
+    found false true is = (f.1, refl)
+    found false false is = absurd (cc)
 
 -- ---- where the transactions began
 

@@ -109,7 +109,7 @@ was_there ss job q v there = by_key (eq_by_cmp nat_cmp q job) (sym (finmap.get-r
 -- one that doesn't count the job's own transaction alone keeps what the others began with
 pub horizon_keeps_others : (job : ℕ) (o : Option ℕ) (now old_cut new_cut top : ℕ) (ss : Sessions) → IsHorizonBeside job o now ss → new_cut ≤ max old_cut (unwrap_or o top) → (q : ℕ) (v : Session) → finmap.get (finmap.remove ss job) q ≡ Some v → old_cut ≤ v.work.start → new_cut ≤ v.work.start
 horizon_keeps_others job None now old_cut new_cut top ss none cut q v there kept = horizon_keeps None now old_cut new_cut top (finmap.remove ss job) none cut q v there kept
-horizon_keeps_others job (Some stamp) now old_cut new_cut top ss is cut q v there kept = horizon_keeps (Some stamp) now old_cut new_cut top ss is cut q v (was_there ss job q v there) kept
+horizon_keeps_others job (Some stamp) now old_cut new_cut top ss is cut q v there kept = horizon_keeps (Some stamp) now old_cut new_cut top ss is.1 cut q v (was_there ss job q v there) kept
 
 -- the lesser of the least start and now
 pub horizon_of : (least now stamp : ℕ) (ss : Sessions) → IsLeastStart least ss → stamp ≡ min least now → IsHorizon (Some stamp) now ss

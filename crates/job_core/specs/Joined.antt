@@ -51,10 +51,10 @@ abbrev pub IsHorizon : Option ℕ → ℕ → Sessions → Type 0
 IsHorizon None now ss = ss ≡ finmap.empty
 IsHorizon (Some stamp) now ss = (least : ℕ) × (IsLeastStart least ss × (stamp ≡ min least now))
 
--- the same, but the job's own transaction isn't counted where no other is open
+-- the same, but none where the job's own transaction is the only one
 abbrev pub IsHorizonBeside : ℕ → Option ℕ → ℕ → Sessions → Type 0
 IsHorizonBeside job None now ss = finmap.remove ss job ≡ finmap.empty
-IsHorizonBeside job (Some stamp) now ss = IsHorizon (Some stamp) now ss
+IsHorizonBeside job (Some stamp) now ss = ¬ (finmap.remove ss job ≡ finmap.empty) × IsHorizon (Some stamp) now ss
 
 -- the store is cut at such a stamp, or at the newest where there is none
 pub record IsCutAt (At : Option ℕ → Type 0) (old new : Stored) : Type 0 where

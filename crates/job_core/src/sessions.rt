@@ -166,7 +166,7 @@ impl Sessions {
 
     /// As `oldest`, but none where the job's own transaction is the only one.
     pub(crate) fn oldest_beside(&self, job: Job) -> Option<u64>
-        ensures { IsSome (finmap.get self.now job) → MatchOption result (finmap.remove self.now job ≡ finmap.empty) (λ stamp. IsLeastStart stamp self.now) }
+        ensures { IsSome (finmap.get self.now job) → MatchOption result (finmap.remove self.now job ≡ finmap.empty) (λ stamp. ¬ (finmap.remove self.now job ≡ finmap.empty) × IsLeastStart stamp self.now) }
     {
         if self.by_job.len() == 1 {
             None
