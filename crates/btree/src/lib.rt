@@ -30,6 +30,7 @@
 #![tactic(auto)]
 
 mod backward;
+mod between;
 mod ease;
 mod forward;
 mod mend;

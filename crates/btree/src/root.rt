@@ -215,7 +215,7 @@ impl<K: Ord + Drop, V: Drop> Tree<K, V> {
                 value: (key, value),
             });
         }
-        match self.root.put_in_leaf(key, value, trail, 0) {
+        match self.root.put_in_leaf(key, value, trail) {
             Ok(()) => {
                 self.len += 1;
                 Ok(None)
