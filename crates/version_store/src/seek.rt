@@ -82,9 +82,17 @@ impl Store {
             None => None,
             Some((key, id)) => match self.chains.at(*id, stamp) {
                 Some(text) => Some((key, text)),
-                None => first_valued(self.tree.from(&point), &self.chains, stamp),
+                None => self.walk_next_at(cut, stamp),
             },
         }
+    }
+
+    // As `next_at`, by a walk from the cut on. It has a path of half a kilobyte, which its caller isn't to clear.
+    #[inline(never)]
+    fn walk_next_at(&self, cut: Cut<'_>, stamp: u64) -> Option<(&Key, &Text)>
+        ensures { option_map (λ e. (e.0.now, e.1.now)) result ≡ first_from_cut cut.entry (content_at self.now.versions stamp) }
+    {
+        first_valued(self.tree.from(&CutPoint { cut }), &self.chains, stamp)
     }
 
     // The last reference that has a value at the stamp and stands before the cut, with the value; found as in `next_at`.
@@ -96,9 +104,17 @@ impl Store {
             None => None,
             Some((key, id)) => match self.chains.at(*id, stamp) {
                 Some(text) => Some((key, text)),
-                None => last_valued(self.tree.back_from(&point), &self.chains, stamp),
+                None => self.walk_prev_at(cut, stamp),
             },
         }
+    }
+
+    // As `prev_at`, by a walk back from the cut on.
+    #[inline(never)]
+    fn walk_prev_at(&self, cut: Cut<'_>, stamp: u64) -> Option<(&Key, &Text)>
+        ensures { option_map (λ e. (e.0.now, e.1.now)) result ≡ last_before_cut cut.entry (content_at self.now.versions stamp) }
+    {
+        last_valued(self.tree.back_from(&CutPoint { cut }), &self.chains, stamp)
     }
 
     // The first references that have a value at the stamp and don't stand before the cut, with the values; at most so many.
