@@ -59,16 +59,22 @@ fn gather_valued<'v>(
     requires opened { AreOpen chains.now walk }
     ensures { IsRun most result (seen_at stamp (rows chains.now walk.entry)) }
 {
+    let mut walk = walk;
     let mut run = Run::new();
-    for (key, id) in walk {
-        if let Some(text) = chains.at(*id, stamp) {
-            run.push(key, text);
-            if run.len() == most {
-                return run;
+    'rows: loop {
+        let row = walk.next_row();
+        if row.is_empty() {
+            return run;
+        }
+        for (key, id) in row {
+            if let Some(text) = chains.at(*id, stamp) {
+                run.push(key, text);
+                if run.len() == most {
+                    return run;
+                }
             }
         }
     }
-    run
 }
 
 impl Store {
@@ -87,7 +93,7 @@ impl Store {
         }
     }
 
-    // As `next_at`, by a walk from the cut on. It has a path of half a kilobyte, which its caller isn't to clear.
+    // As `next_at`, by a walk from the cut on. It stands apart since a walk's half kilobyte is cleared where a function begins.
     #[inline(never)]
     fn walk_next_at(&self, cut: Cut<'_>, stamp: u64) -> Option<(&Key, &Text)>
         ensures { option_map (λ e. (e.0.now, e.1.now)) result ≡ first_from_cut cut.entry (content_at self.now.versions stamp) }
