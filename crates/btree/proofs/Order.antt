@@ -164,11 +164,11 @@ module _ {K V : Type 0} (R : K → K → Ordering) (o : IsTotalOrder R) where
 
 -- ---- what is found from a point
 
-or_else_none : {A : Type 0} (a : Option A) → a ≡ option_or a Option.None
+pub or_else_none : {A : Type 0} (a : Option A) → a ≡ option_or a Option.None
 or_else_none Option.None = refl
 or_else_none (Option.Some x) = refl
 
-or_else_assoc : {A : Type 0} (a b c : Option A) → option_or (option_or a b) c ≡ option_or a (option_or b c)
+pub or_else_assoc : {A : Type 0} (a b c : Option A) → option_or (option_or a b) c ≡ option_or a (option_or b c)
 or_else_assoc Option.None b c = refl
 or_else_assoc (Option.Some x) b c = refl
 

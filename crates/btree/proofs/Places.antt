@@ -108,7 +108,7 @@ module _ {K V : Type 0} (R : K → K → Ordering) (o : IsTotalOrder R) where
       ap (find R key) (cut i es ks p) ∙ find_between R o key (before i es ks) (within i ks) (beyond i es ks)
       (before_each R (IsBefore R key) (before_down R o key) i es ks s h) (beyond_each R (IsAfter R key) (after_up R o key) i es ks s k)
 
-kept : {A : Type 0} (a : Option A) (x : A) (b : Option A) → option_or (option_or a (Option.Some x)) b ≡ option_or a (Option.Some x)
+pub kept : {A : Type 0} (a : Option A) (x : A) (b : Option A) → option_or (option_or a (Option.Some x)) b ≡ option_or a (Option.Some x)
 kept Option.None x b = refl
 kept (Option.Some y) x b = refl
 

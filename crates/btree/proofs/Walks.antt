@@ -12,6 +12,7 @@ use Rattle.btree.specs.Rows.{first_pairs, rest, weave, height_of, branch_of, IsN
 use Rattle.btree.specs.Walk.{behind, ahead, left_of, left_back_of, HasRoomBelow, IsPath}
 use Rattle.btree.specs.declared.forward.Left.{Left}
 use Rattle.btree.proofs.Order.{each_map, each_at, not_before_up}
+use Rattle.btree.proofs.Shapes.{weave_leaf}
 use Rattle.btree.proofs.Places.{before, within, beyond, cut, within_none, within_at, before_each, beyond_each}
 
 whole : {A : Type 0} (n : ℕ) (xs : List A) → n ≡ length xs → take n xs ≡ xs
@@ -121,6 +122,25 @@ module _ {K V : Type 0} where
   pub walk_step : (old rs new : List (Left K V)) (r : Left K V) (d : K × V) → old ≡ rs ++ r ∷ [] → 0 < length r.entries.now → left_of new ≡ weave (take (length r.entries.now - 1) (drop 1 r.entries.now)) r.kids.now ++ left_of rs → left_of old ≡ get_or r.entries.now 0 d ∷ left_of new
   walk_step old rs new r d e p f =
       ap left_of e ∙ left_push rs r ∙ ap (λ zs. zs ++ left_of rs) (behind_first r.entries.now r.kids.now d p) ∙ ap (λ zs. get_or r.entries.now 0 d ∷ zs) (sym (f ∙ ap (λ zs. weave zs r.kids.now ++ left_of rs) (later_all r.entries.now)))
+
+  leaf_behind : (es : List (K × V)) (ks : List (Branch K V)) → length ks ≡ 0 → behind es ks ≡ es
+  leaf_behind [] ks e = refl
+  leaf_behind (x ∷ es) [] e = ap (λ zs. x ∷ zs) (weave_leaf es)
+  leaf_behind (x ∷ es) (k ∷ ks) e = absurd (omega (arith, e))
+
+  -- a whole row, and a row of one pair
+  pub leaf_step : (old rs : List (Left K V)) (r : Left K V) → old ≡ rs ++ r ∷ [] → length r.kids.now ≡ 0 → left_of old ≡ r.entries.now ++ left_of rs
+  leaf_step old rs r e none = ap left_of e ∙ left_push rs r ∙ ap (λ zs. zs ++ left_of rs) (leaf_behind r.entries.now r.kids.now none)
+
+  behind_taken : (es : List (K × V)) (ks : List (Branch K V)) → 0 < length es → behind es ks ≡ take 1 es ++ weave (drop 1 es) ks
+  behind_taken [] ks p = absurd (omega arith)
+  behind_taken (x ∷ es) ks p = refl
+
+  pub pair_step : (old rs new : List (Left K V)) (r : Left K V) (row more : List (K × V)) → old ≡ rs ++ r ∷ [] → 0 < length r.entries.now → row ≡ take 1 r.entries.now → more ≡ drop 1 r.entries.now → left_of new ≡ weave more r.kids.now ++ left_of rs → left_of old ≡ row ++ left_of new
+  pair_step old rs new r row more e p f g h =
+      ap left_of e ∙ left_push rs r ∙ ap (λ zs. zs ++ left_of rs) (behind_taken r.entries.now r.kids.now p)
+      ∙ ap (λ zs. (zs ++ weave (drop 1 r.entries.now) r.kids.now) ++ left_of rs) (sym f) ∙ ap (λ zs. (row ++ weave zs r.kids.now) ++ left_of rs) (sym g)
+      ∙ append_assoc row (weave more r.kids.now) (left_of rs) ∙ ap (λ zs. row ++ zs) (sym h)
 
   pub step_back : (old rs new : List (Left K V)) (r : Left K V) (d : K × V) → old ≡ rs ++ r ∷ [] → 0 < length r.entries.now → left_back_of new ≡ reverse (weave (take (length r.entries.now - 1) r.entries.now) r.kids.now) ++ left_back_of rs → left_back_of old ≡ get_or r.entries.now (length r.entries.now - 1) d ∷ left_back_of new
   step_back old rs new r d is p f =

@@ -1,5 +1,5 @@
 //! A walk over pairs in order. It keeps a row for each node on its way down, in the walk itself, and takes no memory.
-ghost use Rattle.std.specs.Prelude.{◌≡◌, ◌+◌, ◌<◌, ◌≤◌, ◌++◌, not, length};
+ghost use Rattle.std.specs.Prelude.{◌≡◌, ◌+◌, ◌<◌, ◌≤◌, ◌++◌, not, length, []};
 ghost use Rattle.std.specs.Iterator.{YieldsFirstBy, item_count};
 ghost use Rattle.std.specs.List.{filter};
 ghost use Rattle.btree.specs.Order.{Ascends};
@@ -119,6 +119,23 @@ impl<'a, K, V> Walk<'a, K, V> {
         let (entries, kids) = root.rows();
         enter(&mut path, entries, kids);
         Walk { path }
+    }
+
+    /// Takes the next pairs that stand side by side in memory: of a leaf all that is left of it. There are none only where
+    /// nothing is left.
+    pub fn next_row(&mut self) -> &'a [(K, V)]
+        ensures row { self.old ≡ result.now ++ self.new }
+        ensures end { result.now ≡ [] → self.old ≡ [] }
+    {
+        let Some(top) = self.path.pop() else {
+            return &[];
+        };
+        if top.kids.is_empty() {
+            return top.entries;
+        }
+        let (row, later) = top.entries.split_at(1);
+        enter(&mut self.path, later, top.kids);
+        row
     }
 }
 

@@ -15,8 +15,9 @@
 //! With leaves of at most 2 pairs in place of 32, an insertion of 5 into `[3] [7] / [1 2] [4 6] [8]` makes the leaf
 //! `[4 5 6]` too long: 5 goes up between 3 and 7, and `[3 5 7] / [1 2] [4] [6] [8]` is left, whose root splits too.
 //!
-//! Most insertions find a leaf with places left: they go down to it and put the pair there (`put_in_leaf`). Where it has
-//! none, a second way down takes the memory that splits may want and joins what comes up (`insert`).
+//! Most insertions come by the trail of a look-up that missed their key, to a leaf with places left: they go down to it and
+//! put the pair there, if its key stands between those next to the place (`put_in_leaf`, `between.rt`). Otherwise another
+//! way down takes the memory that splits may want and joins what comes up (`insert`).
 //!
 //! Before it comes to that, a kid that an insertion has filled gives half of what it has more to the kid before or
 //! after it (`ease.rt`), so that keys in order leave nodes of 30 pairs. A kid with a pair too few gets some likewise.
@@ -24,12 +25,13 @@
 //! An empty tree takes no memory, and one of a single node a row of 4, 8, 14 or 33 places. A tree is at most 16 levels
 //! deep: what recurs, dropping a tree too, recurs at most so often, and a walk keeps its way down in itself.
 //!
-//! Read `specs/Order.antt`, `specs/Tree.antt` and `root.rt`; for the nodes `specs/Rows.antt`, `node.rt`, `split.rt`,
-//! `ease.rt`, `mend.rt`; for the way of a look-up `trail.rt`.
+//! Read `specs/Order.antt`, `specs/Tree.antt` and `root.rt`; for the nodes `specs/Rows.antt`, `node.rt`, `between.rt`,
+//! `split.rt`, `ease.rt`, `mend.rt`; for the way of a look-up `trail.rt`.
 //! Not promised: which node holds a pair; any time.
 #![tactic(auto)]
 
 mod backward;
+mod between;
 mod ease;
 mod forward;
 mod mend;

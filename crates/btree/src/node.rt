@@ -3,11 +3,13 @@ ghost use Rattle.std.specs.Prelude.{IfOk, IfErr, OnOk, OnErr, IsSome, None, Some
 ghost use Rattle.std.specs.Option.{option_map};
 ghost use Rattle.std.specs.FinMap.Entries.{find, put};
 ghost use Rattle.btree.specs.Order.{Ascends, first_from, last_before, without};
+ghost use Rattle.btree.specs.Gap.{IsPutBetween};
 ghost use Rattle.btree.specs.Rows.{branch_of, sizes_of, IsNode, RowsHaveRoom, HasBecome, IsKid, IsFull, IsSpare, HasShrunk};
 
+use crate::between::{insert_between, key_after, key_before};
 use crate::ease::ease;
 use crate::mend::{append_reserved, mend, take_at};
-use crate::row::{cut_anew, insert_reserved, replace_value};
+use crate::row::{cut_anew, replace_value};
 use crate::search::{count_before, entry_at, entry_before, place, place_near};
 use crate::seek::Point;
 use crate::split::{Beside, insert_leaf, put_beside, spare_rows, split_long};
@@ -315,15 +317,10 @@ impl<K: Ord + Drop, V: Drop> Node<K, V> {
         Ok((before, beside))
     }
 
-    /// Puts a key that isn't there, with its value, into a leaf with places left, by a trail, so many levels below the root.
-    /// No node is split or eased, and no memory taken. Where that isn't so nothing changes, and both come back.
-    pub fn put_in_leaf(
-        &mut self,
-        key: K,
-        value: V,
-        trail: &Trail,
-        level: usize,
-    ) -> Result<(), (K, V)>
+    /// Puts a key that isn't there, with its value, into a leaf with places left, by the trail of a look-up that missed it: two
+    /// comparisons tell whether the trail ends where the key goes. No node is split or eased, and no memory taken. Where that
+    /// isn't so nothing changes, and both come back.
+    pub fn put_in_leaf(&mut self, key: K, value: V, trail: &Trail) -> Result<(), (K, V)>
         requires sorted { Ascends K.cmp self.old.pairs }
         requires fits { self.old.count ≤ 32 }
         ensures missed { OnOk result (find K.cmp key self.old.pairs ≡ None) }
@@ -332,20 +329,37 @@ impl<K: Ord + Drop, V: Drop> Node<K, V> {
         ensures handed_back { IfErr result (λ back. back ≡ (key, value)) }
         ensures kept { OnErr result (self.new ≡ self.old) }
     {
-        let near = trail.place(level);
-        let at = match place_near(&self.entries, &key, near) {
-            Ok(_) => return Err((key, value)),
-            Err(at) => at,
-        };
-        if !self.kids.is_empty() {
-            let below = level.wrapping_add(1);
-            return self.kids[at].put_in_leaf(key, value, trail, below);
-        }
-        if self.entries.len() > 30 || self.entries.capacity() < 33 {
+        self.put_between(key, value, trail, 0, None, None)
+    }
+
+    // As `put_in_leaf`, so many levels below the root, in a node whose pairs stand between the keys `low` and `high`, where
+    // there are any. Nothing is compared on the way down to the leaf.
+    fn put_between<'a>(
+        &mut self,
+        key: K,
+        value: V,
+        trail: &'a Trail,
+        level: usize,
+        low: Option<&'a K>,
+        high: Option<&'a K>,
+    ) -> Result<(), (K, V)>
+        requires { self.old.count ≤ 32 }
+        ensures put { OnOk result (IsPutBetween K.cmp key value (option_map (λ k. k.now) low.entry) (option_map (λ k. k.now) high.entry) self.old.pairs self.new.pairs) }
+        ensures same_size { IsKid self.old.count self.old.height self.new }
+        ensures handed_back { IfErr result (λ back. back ≡ (key, value)) }
+        ensures kept { OnErr result (self.new ≡ self.old) }
+    {
+        let at = trail.place(level);
+        if at > self.entries.len() {
             return Err((key, value));
         }
-        insert_reserved(&mut self.entries, at, (key, value));
-        Ok(())
+        if self.kids.is_empty() {
+            return insert_between(&mut self.entries, at, key, value, low, high);
+        }
+        let low = key_before(&self.entries, at, low);
+        let high = key_after(&self.entries, at, high);
+        let below = level.wrapping_add(1);
+        self.kids[at].put_between(key, value, trail, below, low, high)
     }
 
     /// Sets the value of a key that is there, and gives the one before. Where it isn't, the value comes back.

@@ -195,8 +195,9 @@ impl<K: Ord + Drop, V: Drop> Tree<K, V> {
         Ok(before)
     }
 
-    /// Sets the value of a key as `insert` does, by the trail of a look-up of this key: the search in each node is then two
-    /// comparisons. With any other trail it does the same and only takes longer.
+    /// Sets the value of a key as `insert` does, by the trail of a look-up of this key. Where that missed it, and its leaf has
+    /// places left, two comparisons in all tell its place; else there are two in each node. With any other trail it does the
+    /// same and only takes longer.
     pub fn insert_by(
         &mut self,
         alloc: Global,
@@ -215,7 +216,7 @@ impl<K: Ord + Drop, V: Drop> Tree<K, V> {
                 value: (key, value),
             });
         }
-        match self.root.put_in_leaf(key, value, trail, 0) {
+        match self.root.put_in_leaf(key, value, trail) {
             Ok(()) => {
                 self.len += 1;
                 Ok(None)

@@ -1,5 +1,5 @@
 -- Cells, as they go from versions to what is spare and back.
-use Rattle.std.proofs.Common.{◌≡◌, ℕ, ◌+◌, List, [], ◌∷◌, refl, sym, ap, ◌∙◌, subst, arith}
+use Rattle.std.proofs.Common.{◌≡◌, ℕ, List, [], ◌∷◌, refl, sym, ap, ◌∙◌, subst, arith}
 use Rattle.std.specs.Prelude.{true, false, cond, Option, Some, None, Result, Ok, Err, OnOk, OnErr}
 use Rattle.std.specs.Ordering.{eq_by_cmp}
 use Rattle.std.specs.Cmp.{eq_by_cmp_equiv}
@@ -12,9 +12,9 @@ use Rattle.collation.specs.Changes.{Change, AreOnce}
 use Rattle.btree.specs.Order.{without}
 use Rattle.version_chain.specs.Versions.{cells_of}
 use Rattle.version_chain.specs.Chains.{listed, chain_at, cells_at, Updates}
-use Rattle.version_store.specs.Versions.{Row, Versions, Stored, versions_of, cells_under, cells_over, KeepsCells, with_version, tidied, written, written_and_cut, row_after, row_cut}
+use Rattle.version_store.specs.Versions.{Row, Versions, Stored, versions_of, cells_under, cells_over, KeepsCells, with_version, written, written_and_cut, row_after, row_cut}
 use Rattle.version_store.specs.laws.Content.{rows_written}
-use Rattle.version_store.specs.laws.Cutting.{rows_cut, other_key, other_keys, get_one}
+use Rattle.version_store.specs.laws.Cutting.{rows_cut, other_key, other_keys}
 use Rattle.version_store.specs.Tied.{versions_in, IsTied}
 use Rattle.version_store.proofs.TiedLemmas.{State, Pairs, row_in, versions_without}
 

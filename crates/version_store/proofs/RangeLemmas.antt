@@ -15,7 +15,7 @@ use Rattle.version_store.specs.Versions.{later, newest_among, newest_between}
 use Rattle.version_store.specs.Tied.{rows, versions_in, newest_below}
 use Rattle.version_store.proofs.TiedLemmas.{State, Pairs, entries_in, below_rows}
 
-later_none : (a : Option ℕ) → later a None ≡ a
+pub later_none : (a : Option ℕ) → later a None ≡ a
 later_none None = refl
 later_none (Some a) = refl
 

@@ -59,16 +59,22 @@ fn gather_valued<'v>(
     requires opened { AreOpen chains.now walk }
     ensures { IsRun most result (seen_at stamp (rows chains.now walk.entry)) }
 {
+    let mut walk = walk;
     let mut run = Run::new();
-    for (key, id) in walk {
-        if let Some(text) = chains.at(*id, stamp) {
-            run.push(key, text);
-            if run.len() == most {
-                return run;
+    'rows: loop {
+        let row = walk.next_row();
+        if row.is_empty() {
+            return run;
+        }
+        for (key, id) in row {
+            if let Some(text) = chains.at(*id, stamp) {
+                run.push(key, text);
+                if run.len() == most {
+                    return run;
+                }
             }
         }
     }
-    run
 }
 
 impl Store {
@@ -82,9 +88,17 @@ impl Store {
             None => None,
             Some((key, id)) => match self.chains.at(*id, stamp) {
                 Some(text) => Some((key, text)),
-                None => first_valued(self.tree.from(&point), &self.chains, stamp),
+                None => self.walk_next_at(cut, stamp),
             },
         }
+    }
+
+    // As `next_at`, by a walk from the cut on. It stands apart since a walk's half kilobyte is cleared where a function begins.
+    #[inline(never)]
+    fn walk_next_at(&self, cut: Cut<'_>, stamp: u64) -> Option<(&Key, &Text)>
+        ensures { option_map (λ e. (e.0.now, e.1.now)) result ≡ first_from_cut cut.entry (content_at self.now.versions stamp) }
+    {
+        first_valued(self.tree.from(&CutPoint { cut }), &self.chains, stamp)
     }
 
     // The last reference that has a value at the stamp and stands before the cut, with the value; found as in `next_at`.
@@ -96,9 +110,17 @@ impl Store {
             None => None,
             Some((key, id)) => match self.chains.at(*id, stamp) {
                 Some(text) => Some((key, text)),
-                None => last_valued(self.tree.back_from(&point), &self.chains, stamp),
+                None => self.walk_prev_at(cut, stamp),
             },
         }
+    }
+
+    // As `prev_at`, by a walk back from the cut on.
+    #[inline(never)]
+    fn walk_prev_at(&self, cut: Cut<'_>, stamp: u64) -> Option<(&Key, &Text)>
+        ensures { option_map (λ e. (e.0.now, e.1.now)) result ≡ last_before_cut cut.entry (content_at self.now.versions stamp) }
+    {
+        last_valued(self.tree.back_from(&CutPoint { cut }), &self.chains, stamp)
     }
 
     // The first references that have a value at the stamp and don't stand before the cut, with the values; at most so many.
