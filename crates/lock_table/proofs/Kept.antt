@@ -1,13 +1,14 @@
 -- What the trie has of a job after each change.
-use Rattle.std.proofs.Common.{zero, suc, ◌≡◌, ◌<◌, ◌≤◌, ◌+◌, ℕ, List, Bool, true, false, refl, sym, ap, subst, ◌∙◌, arith}
-use Rattle.std.specs.Prelude.{◌-◌, max, min}
+use Rattle.std.proofs.Common.{zero, suc, ◌≡◌, ◌<◌, ◌≤◌, ◌+◌, ℕ, List, [], ◌∷◌, length, Bool, true, false, refl, sym, ap, subst, ◌∙◌, arith}
+use Rattle.std.specs.Prelude.{cond, filter, ◌-◌, min}
+use Rattle.std.specs.Ordering.{eq_by_cmp}
 use Rattle.std.specs.FinMap as finmap
 use Rattle.collation.specs.Reference.{Resource}
-use Rattle.collation.specs.Locks.{Counts, count_of, more_of, fewer_of}
+use Rattle.collation.specs.Locks.{resource_cmp, Counts, count_of, more_of, fewer_of}
 use Rattle.collation.specs.LockStatements.{times}
 use Rattle.collation.specs.laws.Counting.{counts_tell}
 use Rattle.lock_trie.specs.Held.{Held, held_count}
-use Rattle.lock_table.specs.Counted.{AreCounts, AreRaised, AreLowered, is_listed}
+use Rattle.lock_table.specs.Counted.{AreCounts, AreLowered, is_listed}
 use Rattle.lock_table.specs.Rows.{IsHeldIn}
 use Rattle.lock_table.proofs.Lists.{unnamed_times}
 use Rattle.lock_table.proofs.Less.{no_count}
@@ -22,26 +23,32 @@ sum_is want new ns is x = let laws = counts_tell x in ap (λ c. count_of c x) is
 pub borne_by : (old new : Counts) (ns : List Resource) → new ≡ more_of ns old → AreCounts new → (x : Resource) → count_of old x + times x ns ≤ 65535
 borne_by old new ns is are x = let sum = sum_is old new ns is x in let small : count_of new x ≤ 65535 = are.small x in omega arith
 
-pub kept_more : (old t : Held) (job : ℕ) (held new : Counts) (ns : List Resource) → new ≡ more_of ns held → IsHeldIn old job held
-    → AreRaised (held_count old job) (held_count t job) (count_of new) → ((x : Resource) → is_listed x ns ≡ true → count_of new x ≤ held_count t job x) → IsHeldIn t job new
-kept_more old t job held new ns is kept raised named x = by_test (is_listed x ns) refl (kept x) (sum_is held new ns is x) (raised.above x) (raised.most x) (named x)
-  where
-    by_test : (b : Bool) → is_listed x ns ≡ b → held_count old job x ≡ count_of held x → count_of new x ≡ count_of held x + times x ns → held_count old job x ≤ held_count t job x → held_count t job x ≤ max (held_count old job x) (count_of new x)
-        → (b ≡ true → count_of new x ≤ held_count t job x) → held_count t job x ≡ count_of new x
-    by_test true e was sum above most named = let n = named refl in omega arith
-    by_test false e was sum above most named = let none : times x ns ≡ 0 = unnamed_times x ns e in omega arith
+-- the trie can have the list too
+pub held_fits : (t : Held) (job : ℕ) (held : Counts) (ns : List Resource) → IsHeldIn t job held → ((x : Resource) → count_of held x + times x ns ≤ 65535) → (x : Resource) → held_count t job x + times x ns ≤ 65535
+held_fits t job held ns kept small x = let k : held_count t job x ≡ count_of held x = kept x in let s : count_of held x + times x ns ≤ 65535 = small x in omega arith
 
--- a trie that was raised for names, and lowered for them again
-pub kept_undone : (old mid t : Held) (job : ℕ) (held target new : Counts) (ns : List Resource) → new ≡ held → target ≡ more_of ns held → IsHeldIn old job held
-    → AreRaised (held_count old job) (held_count mid job) (count_of target) → AreLowered (held_count mid job) (held_count t job) (count_of new)
-    → ((x : Resource) → is_listed x ns ≡ true → held_count t job x ≤ count_of new x) → IsHeldIn t job new
-kept_undone old mid t job held target new ns is target_is kept raised lowered named x =
-    by_test (is_listed x ns) refl (kept x ∙ sym (ap (λ c. count_of c x) is)) (ap (λ c. count_of c x) is) (sum_is held target ns target_is x) (raised.above x) (raised.most x) (lowered.below x) (lowered.least x) (named x)
+pub kept_more : (old t : Held) (job : ℕ) (held new : Counts) (ns : List Resource) → new ≡ more_of ns held → IsHeldIn old job held → ((x : Resource) → held_count t job x ≡ held_count old job x + times x ns) → IsHeldIn t job new
+kept_more old t job held new ns is kept added x = added x ∙ ap (λ v. v + times x ns) (kept x) ∙ sym (sum_is held new ns is x)
+
+pub kept_undone : (old t : Held) (job : ℕ) (held new : Counts) → new ≡ held → IsHeldIn old job held → ((x : Resource) → held_count t job x ≡ held_count old job x) → IsHeldIn t job new
+kept_undone old t job held new is kept same x = same x ∙ kept x ∙ ap (λ c. count_of c x) (sym is)
+
+-- ---- counts with room for a list
+
+times_most : (x : Resource) (ns : List Resource) → times x ns ≤ length ns
+times_most x [] = omega arith
+times_most x (n ∷ ns) = by_test (eq_by_cmp resource_cmp x n) (times_most x ns)
   where
-    by_test : (b : Bool) → is_listed x ns ≡ b → held_count old job x ≡ count_of new x → count_of new x ≡ count_of held x → count_of target x ≡ count_of held x + times x ns → held_count old job x ≤ held_count mid job x → held_count mid job x ≤ max (held_count old job x) (count_of target x)
-        → held_count t job x ≤ held_count mid job x → min (held_count mid job x) (count_of new x) ≤ held_count t job x → (b ≡ true → held_count t job x ≤ count_of new x) → held_count t job x ≡ count_of new x
-    by_test true e was same sum above most below least named = let n = named refl in omega arith
-    by_test false e was same sum above most below least named = let none : times x ns ≡ 0 = unnamed_times x ns e in omega arith
+    by_test : (b : Bool) → times x ns ≤ length ns → length (cond b (n ∷ filter (eq_by_cmp resource_cmp x) ns) (filter (eq_by_cmp resource_cmp x) ns)) ≤ suc (length ns)
+    by_test true h = omega arith
+    by_test false h = omega arith
+
+pub roomy : (held : Counts) (ns : List Resource) → AreCounts held → ((x : Resource) → is_listed x ns ≡ true → count_of held x + length ns ≤ 65535) → (x : Resource) → count_of held x + times x ns ≤ 65535
+roomy held ns are room x = by_test (is_listed x ns) refl (room x) (are.small x) (times_most x ns)
+  where
+    by_test : (b : Bool) → is_listed x ns ≡ b → (b ≡ true → count_of held x + length ns ≤ 65535) → count_of held x ≤ 65535 → times x ns ≤ length ns → count_of held x + times x ns ≤ 65535
+    by_test true e room small most = let r = room refl in omega arith
+    by_test false e room small most = let none : times x ns ≡ 0 = unnamed_times x ns e in omega arith
 
 -- a trie that is lowered to fewer counts
 pub kept_less : (old t : Held) (job : ℕ) (held new others : Counts) → ((x : Resource) → count_of new x ≤ count_of held x) → ((x : Resource) → count_of others x ≡ 0 → count_of new x ≡ count_of held x) → IsHeldIn old job held
@@ -59,15 +66,7 @@ none_kept old t job held others new is new_is kept lowered reached = kept_less o
     (λ x. let z : count_of new x ≡ 0 = ap (λ c. count_of c x) new_is ∙ no_count x in omega arith)
     (λ x h. ap (λ c. count_of c x) new_is ∙ no_count x ∙ sym h ∙ ap (λ c. count_of c x) is) kept lowered reached
 
--- a trie that is lowered for names
-pub kept_fewer : (old t : Held) (job : ℕ) (held new : Counts) (ns : List Resource) → new ≡ fewer_of ns held → IsHeldIn old job held
-    → AreLowered (held_count old job) (held_count t job) (count_of new) → ((x : Resource) → is_listed x ns ≡ true → held_count t job x ≤ count_of new x) → IsHeldIn t job new
-kept_fewer old t job held new ns is kept lowered named x =
+pub kept_fewer : (old t : Held) (job : ℕ) (held new : Counts) (ns : List Resource) → new ≡ fewer_of ns held → IsHeldIn old job held → ((x : Resource) → held_count t job x ≡ held_count old job x - times x ns) → IsHeldIn t job new
+kept_fewer old t job held new ns is kept taken x =
     let laws = counts_tell x in
-    let less : count_of new x ≡ count_of held x - times x ns = ap (λ c. count_of c x) is ∙ laws.fewer ns held in
-    by_test (is_listed x ns) refl (kept x) less (lowered.below x) (lowered.least x) (named x)
-  where
-    by_test : (b : Bool) → is_listed x ns ≡ b → held_count old job x ≡ count_of held x → count_of new x ≡ count_of held x - times x ns → held_count t job x ≤ held_count old job x → min (held_count old job x) (count_of new x) ≤ held_count t job x
-        → (b ≡ true → held_count t job x ≤ count_of new x) → held_count t job x ≡ count_of new x
-    by_test true e was less below least named = let n = named refl in omega arith
-    by_test false e was less below least named = let none : times x ns ≡ 0 = unnamed_times x ns e in omega arith
+    taken x ∙ ap (λ v. v - times x ns) (kept x) ∙ sym (ap (λ c. count_of c x) is ∙ laws.fewer ns held)

@@ -13,7 +13,7 @@ use Rattle.collation.specs.LockStatements.{times}
 use Rattle.collation.specs.laws.Counting.{resource_cmp_total, same_resource, counts_tell}
 use Rattle.lock_table.specs.Counted.{is_over, is_listed}
 
-once_itself : (n : Resource) (ns : List Resource) → 1 ≤ times n (n ∷ ns)
+pub once_itself : (n : Resource) (ns : List Resource) → 1 ≤ times n (n ∷ ns)
 once_itself n ns = subst (λ b. 1 ≤ length (cond b (n ∷ filter (eq_by_cmp resource_cmp n) ns) (filter (eq_by_cmp resource_cmp n) ns))) (sym (ap is_eq (tied_itself resource_cmp_total n))) (omega arith)
 
 -- a full count that is asked for once more goes over

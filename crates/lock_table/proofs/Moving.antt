@@ -1,6 +1,6 @@
 -- Counts are raised or lowered, name by name.
-use Rattle.std.proofs.Common.{zero, suc, ◌≡◌, ◌<◌, ◌≤◌, ℕ, List, [], ◌∷◌, length, drop, Bool, true, false, refl, sym, ap, subst, ◌∙◌, ◌⊎◌, inl, inr, arith}
-use Rattle.std.specs.Prelude.{cond, ◌||◌, ◌-◌, max, min, Some, unwrap_or}
+use Rattle.std.proofs.Common.{zero, suc, ◌≡◌, ◌<◌, ◌≤◌, ◌+◌, ℕ, List, [], ◌∷◌, length, take, drop, Bool, true, false, refl, sym, ap, subst, ◌∙◌, ◌⊎◌, inl, inr, arith}
+use Rattle.std.specs.Prelude.{cond, filter, ◌||◌, ◌-◌, max, min, Some, unwrap_or}
 use Rattle.std.specs.List.{All, list_any}
 use Rattle.std.specs.Ordering.{is_eq, eq_by_cmp}
 use Rattle.std.specs.Cmp.{tied_itself}
@@ -11,9 +11,12 @@ use Rattle.std.proofs.Math.Seq.{drop-cons}
 use Rattle.std.proofs.Math.ListN.{get_or}
 use Rattle.collation.specs.Reference.{Resource}
 use Rattle.collation.specs.Locks.{resource_cmp, Counts, count_of}
+use Rattle.collation.specs.LockStatements.{times}
 use Rattle.collation.specs.laws.Counting.{resource_cmp_total, resource_cmp-IsAntisymmetric, same_resource}
+use Rattle.collation.specs.laws.Zeros.{times_parted}
 use Rattle.lock_trie.specs.laws.Conflicts.{left_first, entry_counted, AreThere}
 use Rattle.lock_table.specs.Counted.{AreRaised, AreLowered, is_listed}
+use Rattle.lock_table.proofs.Lists.{once_itself}
 
 abbrev pub is_key : Resource → Resource × ℕ → Bool
 is_key x e = eq_by_cmp resource_cmp x e.0
@@ -73,12 +76,6 @@ reached_next now next others n v is one x later was = by_test (eq_by_cmp resourc
         inl (omega arith)
     by_test false t (inl high) = let next_is = to false t in inl (omega arith)
     by_test false t (inr any) = inr any
-
-pub raised_along : (old now next others : Resource → ℕ) → ((x : Resource) → next x ≡ now x) → AreRaised old now others → AreRaised old next others
-raised_along old now next others same raised = record {
-  above = λ x. let e = same x in let was = raised.above x in omega arith;
-  most = λ x. let e = same x in let was = raised.most x in omega arith;
-}
 
 -- ---- down
 
@@ -148,20 +145,6 @@ high_done now others ns i h left x named = elim (left x named) [
   | inr any ↦ let none : false ≡ true = sym (ap (is_listed x) (nothing_left ns i h)) ∙ any in absurd (cc)
 ]
 
-abbrev pub LowLeft : (Resource → ℕ) → (Resource → ℕ) → List Resource → ℕ → Type 0
-LowLeft now target ns i = (x : Resource) → is_listed x ns ≡ true → (now x ≤ target x) ⊎ (is_listed x (drop i ns) ≡ true)
-
-pub low_names_next : (now next target : Resource → ℕ) (ns : List Resource) (i k : ℕ) (n : Resource) (v : ℕ) → suc i ≡ k → i < length ns → n ≡ get_or ns i n → v ≡ target n → LoweredOne now next n v → LowLeft now target ns i → LowLeft next target ns k
-low_names_next now next target ns i k n v k_is h is v_is one left x named =
-    subst (λ j. (next x ≤ target x) ⊎ (is_listed x (drop j ns) ≡ true)) k_is
-    (low_next now next target n v v_is one x (is_listed x (drop (suc i) ns)) (subst (λ z. (now x ≤ target x) ⊎ (is_listed x z ≡ true)) (front ns i n h is) (left x named)))
-
-pub low_names_done : (now target : Resource → ℕ) (ns : List Resource) (i : ℕ) → length ns ≤ i → LowLeft now target ns i → (x : Resource) → is_listed x ns ≡ true → now x ≤ target x
-low_names_done now target ns i h left x named = elim (left x named) [
-  | inl low ↦ low
-  | inr any ↦ let none : false ≡ true = sym (ap (is_listed x) (nothing_left ns i h)) ∙ any in absurd (cc)
-]
-
 -- ---- over the entries of counts
 
 pub record Sinking (old now target : Resource → ℕ) (over : Counts) (rest : List (Resource × ℕ)) : Type 0 where
@@ -204,3 +187,71 @@ given_all before old now others rest same is sinking x =
     by_count : (n : ℕ) → count_of others x ≡ n → before x ≡ old x → now x ≤ old x → min (old x) (given_to before others x) ≤ now x → (0 < count_of others x → now x ≤ given_to before others x) → now x ≡ old x - count_of others x
     by_count zero e same below least reached = omega arith
     by_count (suc n) e same below least reached = let low = reached (omega arith) in omega arith
+
+-- ---- by a list of names, one each
+
+abbrev pub OneFewer : (Resource → ℕ) → (Resource → ℕ) → Resource → Type 0
+OneFewer now next n = (x : Resource) → next x ≡ cond (eq_by_cmp resource_cmp x n) (now n - 1) (now x)
+
+abbrev pub OneMore : (Resource → ℕ) → (Resource → ℕ) → Resource → Type 0
+OneMore now next n = (x : Resource) → next x ≡ cond (eq_by_cmp resource_cmp x n) (now n + 1) (now x)
+
+-- with those that are left it will be what all names leave
+abbrev pub FewerLeft : (Resource → ℕ) → (Resource → ℕ) → List Resource → ℕ → Type 0
+FewerLeft old now ns i = (x : Resource) → now x - times x (drop i ns) ≡ old x - times x ns
+
+abbrev pub MoreLeft : (Resource → ℕ) → (Resource → ℕ) → List Resource → ℕ → Type 0
+MoreLeft old now ns i = (x : Resource) → now x + times x (drop i ns) ≡ old x + times x ns
+
+pub fewer_next : (old now next : Resource → ℕ) (ns : List Resource) (i k : ℕ) (n : Resource) → suc i ≡ k → i < length ns → n ≡ get_or ns i n → OneFewer now next n → FewerLeft old now ns i → FewerLeft old next ns k
+fewer_next old now next ns i k n k_is h is one left x =
+    ap (λ j. next x - times x (drop j ns)) (sym k_is) ∙ by_test (eq_by_cmp resource_cmp x n) refl (one x) (ap (λ z. now x - times x z) (sym (front ns i n h is)) ∙ left x)
+  where
+    by_test : (b : Bool) → eq_by_cmp resource_cmp x n ≡ b → next x ≡ cond b (now n - 1) (now x)
+        → now x - length (cond b (n ∷ filter (eq_by_cmp resource_cmp x) (drop (suc i) ns)) (filter (eq_by_cmp resource_cmp x) (drop (suc i) ns))) ≡ old x - times x ns → next x - times x (drop (suc i) ns) ≡ old x - times x ns
+    by_test true t step whole = let same : now x ≡ now n = ap now (same_resource x n t) in omega arith
+    by_test false t step whole = omega arith
+
+pub more_next : (old now next : Resource → ℕ) (ns : List Resource) (i k : ℕ) (n : Resource) → suc i ≡ k → i < length ns → n ≡ get_or ns i n → OneMore now next n → MoreLeft old now ns i → MoreLeft old next ns k
+more_next old now next ns i k n k_is h is one left x =
+    ap (λ j. next x + times x (drop j ns)) (sym k_is) ∙ by_test (eq_by_cmp resource_cmp x n) refl (one x) (ap (λ z. now x + times x z) (sym (front ns i n h is)) ∙ left x)
+  where
+    by_test : (b : Bool) → eq_by_cmp resource_cmp x n ≡ b → next x ≡ cond b (now n + 1) (now x)
+        → now x + length (cond b (n ∷ filter (eq_by_cmp resource_cmp x) (drop (suc i) ns)) (filter (eq_by_cmp resource_cmp x) (drop (suc i) ns))) ≡ old x + times x ns → next x + times x (drop (suc i) ns) ≡ old x + times x ns
+    by_test true t step whole = let same : now x ≡ now n = ap now (same_resource x n t) in omega arith
+    by_test false t step whole = omega arith
+
+pub fewer_done : (old now : Resource → ℕ) (ns : List Resource) (i : ℕ) → length ns ≤ i → FewerLeft old now ns i → (x : Resource) → now x ≡ old x - times x ns
+fewer_done old now ns i h left x = let none : times x (drop i ns) ≡ 0 = ap (times x) (nothing_left ns i h) in let whole : now x - times x (drop i ns) ≡ old x - times x ns = left x in omega arith
+
+-- there is room for the next one
+pub more_fits : (old now : Resource → ℕ) (ns : List Resource) (i : ℕ) (n : Resource) → i < length ns → n ≡ get_or ns i n → ((x : Resource) → old x + times x ns ≤ 65535) → MoreLeft old now ns i → now n + 1 ≤ 65535
+more_fits old now ns i n h is small left =
+    let whole : now n + times n (drop i ns) ≡ old n + times n ns = left n in
+    let once : 1 ≤ times n (n ∷ drop (suc i) ns) = once_itself n (drop (suc i) ns) in
+    let same : times n (drop i ns) ≡ times n (n ∷ drop (suc i) ns) = ap (times n) (front ns i n h is) in
+    let s : old n + times n ns ≤ 65535 = small n in
+    omega arith
+
+-- those that came are taken back
+pub more_back : (old now mid new : Resource → ℕ) (ns : List Resource) (i : ℕ) → MoreLeft old now ns i → ((x : Resource) → mid x ≡ now x) → ((x : Resource) → new x ≡ mid x - times x (take i ns)) → (x : Resource) → new x ≡ old x
+more_back old now mid new ns i left same back x =
+    let whole : now x + times x (drop i ns) ≡ old x + times x ns = left x in
+    let parted : times x (take i ns) + times x (drop i ns) ≡ times x ns = times_parted x i ns in
+    let m : mid x ≡ now x = same x in
+    let b : new x ≡ mid x - times x (take i ns) = back x in
+    omega arith
+
+-- ---- room for a list
+
+abbrev pub RoomLeft : (Resource → ℕ) → List Resource → ℕ → Type 0
+RoomLeft counts ns i = (x : Resource) → is_listed x ns ≡ true → (counts x + length ns ≤ 65535) ⊎ (is_listed x (drop i ns) ≡ true)
+
+pub room_next : (counts : Resource → ℕ) (ns : List Resource) (i k : ℕ) (n : Resource) → suc i ≡ k → i < length ns → n ≡ get_or ns i n → counts n + length ns ≤ 65535 → RoomLeft counts ns i → RoomLeft counts ns k
+room_next counts ns i k n k_is h is room left x named =
+    subst (λ j. (counts x + length ns ≤ 65535) ⊎ (is_listed x (drop j ns) ≡ true)) k_is
+    (by_test (eq_by_cmp resource_cmp x n) refl (subst (λ z. (counts x + length ns ≤ 65535) ⊎ (is_listed x z ≡ true)) (front ns i n h is) (left x named)))
+  where
+    by_test : (b : Bool) → eq_by_cmp resource_cmp x n ≡ b → (counts x + length ns ≤ 65535) ⊎ ((b || is_listed x (drop (suc i) ns)) ≡ true) → (counts x + length ns ≤ 65535) ⊎ (is_listed x (drop (suc i) ns) ≡ true)
+    by_test true t was = let same : counts x ≡ counts n = ap counts (same_resource x n t) in inl (omega arith)
+    by_test false t was = was

@@ -1,7 +1,8 @@
 -- Counts as std's map keeps them.
 use Rattle.std.proofs.Common.{◌≡◌, ◌≤◌, ◌<◌, ℕ, List, [], ◌∷◌, length, Bool, true, false, refl, sym, ap, subst, ◌∙◌, arith}
 use Rattle.std.specs.Prelude.{cond, max, min, Option, Some, None, IsSome, unwrap_or}
-use Rattle.std.specs.Ordering.{eq_by_cmp}
+use Rattle.std.specs.Ordering.{is_eq, eq_by_cmp}
+use Rattle.std.specs.Cmp.{tied_itself}
 use Rattle.std.specs.Map.{lookup}
 use Rattle.std.specs.BTreeMap.{is_at}
 use Rattle.std.specs.FinMap as finmap
@@ -96,3 +97,31 @@ unentried (x ∷ es) e = absurd (omega arith)
 -- a map without entries
 pub empty_counted : (es : List (Resource × ℕ)) (m : Counts) → finmap.from_entries es ≡ m → length es ≡ 0 → (x : Resource) → count_of m x ≡ 0
 empty_counted es m was none x = ap (λ c. count_of c x) (sym was ∙ ap finmap.from_entries (unentried es none)) ∙ ap (λ o. unwrap_or o 0) (finmap.get-empty resource_cmp x)
+
+-- ---- a name that is put twice
+
+pub had_now : (m mid : Counts) (n : Resource) (v : ℕ) → mid ≡ finmap.insert m n v → 0 < v → 0 < count_of mid n
+had_now m mid n v is h = subst (λ k. 0 < k) (sym (ap (λ c. count_of c n) is ∙ count_insert m n v n ∙ ap (λ t. cond (is_eq t) v (count_of m n)) (tied_itself resource_cmp_total n))) h
+
+pub put_twice : (m mid new : Counts) (n : Resource) (v w : ℕ) → mid ≡ finmap.insert m n v → new ≡ finmap.insert mid n w → new ≡ finmap.insert m n w
+put_twice m mid new n v w mid_is new_is = finmap.same_map resource_cmp_total resource_cmp-IsAntisymmetric new (finmap.insert m n w) (λ q.
+    ap (λ c. finmap.get c q) new_is ∙ finmap.get-insert resource_cmp_total mid n w q ∙ ap (cond (eq_by_cmp resource_cmp q n) (Some w)) (ap (λ c. finmap.get c q) mid_is ∙ finmap.get-insert resource_cmp_total m n v q)
+    ∙ last (eq_by_cmp resource_cmp q n) (finmap.get m q) ∙ sym (finmap.get-insert resource_cmp_total m n w q))
+  where
+    last : (b : Bool) (o : Option ℕ) → cond b (Some w) (cond b (Some v) o) ≡ cond b (Some w) o
+    last true o = refl
+    last false o = refl
+
+put_itself : (m : Counts) (n : Resource) (v : ℕ) → v ≡ count_of m n → 0 < v → finmap.insert m n v ≡ m
+put_itself m n v is h = finmap.same_map resource_cmp_total resource_cmp-IsAntisymmetric (finmap.insert m n v) m (λ q. finmap.get-insert resource_cmp_total m n v q ∙ by_test q (eq_by_cmp resource_cmp q n) refl)
+  where
+    by_found : (o : Option ℕ) → v ≡ unwrap_or o 0 → Some v ≡ o
+    by_found None e = absurd (omega arith)
+    by_found (Some u) e = ap Some e
+
+    by_test : (q : Resource) (b : Bool) → eq_by_cmp resource_cmp q n ≡ b → cond b (Some v) (finmap.get m q) ≡ finmap.get m q
+    by_test q true e = by_found (finmap.get m n) is ∙ ap (finmap.get m) (sym (same_resource q n e))
+    by_test q false e = refl
+
+pub put_back : (m mid new : Counts) (n : Resource) (v w : ℕ) → mid ≡ finmap.insert m n w → new ≡ finmap.insert mid n v → v ≡ count_of m n → 0 < v → new ≡ m
+put_back m mid new n v w mid_is new_is is h = put_twice m mid new n w v mid_is new_is ∙ put_itself m n v is h

@@ -8,7 +8,7 @@ use Rattle.collation.specs.Reference.{Resource}
 use Rattle.collation.specs.laws.Order.{is_equal}
 use Rattle.collation.specs.Locks.{resource_cmp}
 use Rattle.collation.specs.laws.Counting.{same_resource}
-use Rattle.lock_trie.specs.Held.{Held, held_count, IsRecounted, IsSame}
+use Rattle.lock_trie.specs.Held.{Held, held_count, IsRecounted}
 use Rattle.lock_table.specs.Rows.{AreOthersSame}
 
 pub at_job : (old new : Held) (job : ℕ) (n : Resource) (v : ℕ) → IsRecounted old new job n v → (x : Resource) → held_count new job x ≡ cond (eq_by_cmp resource_cmp x n) v (held_count old job x)
@@ -29,6 +29,3 @@ recounted_same t job n v is other x = by_tests (eq_by_cmp nat_cmp other job) (eq
     by_tests true true e f = ap (λ j. held_count t j x) (nat_cmp-IsAntisymmetric other job (is_equal (nat_cmp other job) e)) ∙ ap (held_count t job) (same_resource x n f) ∙ is
     by_tests true false e f = refl
     by_tests false d e f = refl
-
-pub others_along : (old now new : Held) (job : ℕ) → IsSame now new → AreOthersSame old now job → AreOthersSame old new job
-others_along old now new job same others other x apart = same other x ∙ others other x apart

@@ -1,5 +1,5 @@
 //! Counts by lock name.
-ghost use Rattle.std.specs.Prelude.{true, ◌⊎◌, if◌then◌else◌, ◌≡◌, ◌≤◌, ◌<◌, ◌+◌, ◌-◌, max, min, OnOk, OnErr, IfErr, IfOk};
+ghost use Rattle.std.specs.Prelude.{true, length, ◌⊎◌, if◌then◌else◌, ◌≡◌, ◌≤◌, ◌<◌, ◌+◌, ◌-◌, max, min, OnOk, OnErr, IfErr, IfOk};
 ghost use Rattle.std.specs.List.{list_any};
 ghost use Rattle.std.specs.FinMap as finmap;
 ghost use Rattle.collation.specs.Limits.{most_locks};
@@ -84,16 +84,18 @@ impl Counts {
         })
     }
 
-    /// This name is had n times. A refusal leaves the counts as they were.
-    fn put(&mut self, name: &LockName, n: u32) -> Result<(), AllocError>
+    /// This name is had n times; answers how many times it was had. A refusal leaves the counts as they were.
+    fn put(&mut self, name: &LockName, n: u32) -> Result<u32, AllocError>
         requires small { n ≤ most_locks }
         requires some { 0 < n }
         ensures ok { OnOk result (self.new ≡ finmap.insert self.old name.now n) }
+        ensures before { IfOk result (λ before. before ≡ count_of self.old name.now) }
+        ensures small { IfOk result (λ before. before ≤ most_locks) }
         ensures err { OnErr result (self.new ≡ self.old) }
     {
         let key = name.clone()?;
         match self.map.insert(key, n) {
-            Ok(_) => Ok(()),
+            Ok(before) => Ok(before.unwrap_or(0)),
             Err(failed) => {
                 drop(failed);
                 Err(AllocError)
@@ -129,27 +131,35 @@ impl Counts {
         ensures err { OnErr result (self.new ≡ self.old) }
     {
         if count == 0 {
-            self.put(name, n)
+            match self.put(name, n) {
+                Ok(_) => Ok(()),
+                Err(refused) => Err(refused),
+            }
         } else {
             self.change(name, n);
             Ok(())
         }
     }
 
-    /// One more of this name.
+    /// One more of this name: a name that wasn't had is looked up once.
     fn add_one(&mut self, name: &LockName) -> Result<(), Refusal>
         ensures ok { OnOk result (self.new ≡ finmap.insert self.old name.now (count_of self.old name.now + 1)) }
         ensures err { OnErr result (self.new ≡ self.old) }
         ensures full { IfErr result (λ refusal. (refusal ≡ Refusal.OutOfMemory) ⊎ ((refusal ≡ Refusal.LockCountFull) × (most_locks ≤ count_of self.old name.now))) }
     {
-        let count = self.count(name);
+        let count = match self.put(name, 1) {
+            Ok(count) => count,
+            Err(_) => return Err(Refusal::OutOfMemory),
+        };
+        if count == 0 {
+            return Ok(());
+        }
         if count >= MOST {
+            self.change(name, count);
             return Err(Refusal::LockCountFull);
         }
-        match self.set(name, count, count + 1) {
-            Ok(()) => Ok(()),
-            Err(_) => Err(Refusal::OutOfMemory),
-        }
+        self.change(name, count + 1);
+        Ok(())
     }
 
     /// One fewer of this name. Takes no memory.
@@ -162,6 +172,18 @@ impl Counts {
         } else {
             self.change(name, count - 1);
         }
+    }
+
+    /// Whether each of these names could be had as many times more as there are names in the list. Takes no memory.
+    pub fn have_room(&self, names: &[LockName]) -> bool
+        ensures { result ≡ true → (x : Resource) → is_listed x names.now ≡ true → count_of self.now x + length names.now ≤ most_locks }
+    {
+        for name in names {
+            if names.len() > (MOST - self.count(name)) as usize {
+                return false;
+            }
+        }
+        true
     }
 
     /// One more of each name. Refusals: `LockCountFull` where that leaves a count above the highest;

@@ -1,12 +1,12 @@
-//! What a job holds in the trie is brought up to its counts, or down to them.
-ghost use Rattle.std.specs.Prelude.{true, ◌⊎◌, if◌then◌else◌, ◌≡◌, ◌≤◌, ◌<◌, ◌+◌, max, min, OnOk, OnErr, IfErr};
+//! What a job holds in the trie goes along with its counts.
+ghost use Rattle.std.specs.Prelude.{true, ◌⊎◌, if◌then◌else◌, ◌≡◌, ◌≤◌, ◌<◌, ◌+◌, ◌-◌, min, OnOk, OnErr, IfErr};
 ghost use Rattle.std.specs.List.{list_any};
 ghost use Rattle.collation.specs.Limits.{most_locks};
 ghost use Rattle.collation.specs.Reference.{Resource};
 ghost use Rattle.collation.specs.Locks.{count_of, more_of, fewer_of};
 ghost use Rattle.collation.specs.LockStatements.{times};
-ghost use Rattle.lock_trie.specs.Held.{held_count, IsRecounted, IsSame};
-ghost use Rattle.lock_table.specs.Counted.{AreRaised, AreLowered, less, is_over, is_listed};
+ghost use Rattle.lock_trie.specs.Held.{held_count, IsRecounted};
+ghost use Rattle.lock_table.specs.Counted.{less, is_over};
 ghost use Rattle.lock_table.specs.Rows.{IsHeldIn, AreOthersSame};
 
 use crate::counts::Counts;
@@ -14,20 +14,6 @@ use collation::LockName;
 use lock_trie::LockTrie;
 use refusal::Refusal;
 use std::alloc::AllocError;
-
-/// The job holds this name at least n times.
-fn raise(trie: &mut LockTrie, job: u16, name: &LockName, n: u32) -> Result<(), AllocError>
-    requires { n ≤ most_locks }
-    ensures ok { OnOk result (IsRecounted trie.old trie.new job name.now (max (held_count trie.old job name.now) n)) }
-    ensures err { OnErr result (IsSame trie.old trie.new) }
-{
-    let held = trie.count(job, name);
-    if n > held {
-        trie.add(job, name, n - held)
-    } else {
-        Ok(())
-    }
-}
 
 /// The job holds this name at most n times. Takes no memory.
 pub fn lower(trie: &mut LockTrie, job: u16, name: &LockName, n: u32)
@@ -39,33 +25,33 @@ pub fn lower(trie: &mut LockTrie, job: u16, name: &LockName, n: u32)
     }
 }
 
-/// The job holds each of these names at least as many times as the target says.
-/// Where memory is refused some may be raised: `lower_names` undoes that.
-pub fn raise_names(
-    trie: &mut LockTrie,
-    job: u16,
-    names: &[LockName],
-    target: &Counts,
-) -> Result<(), AllocError>
+/// The job holds each of these names once fewer. Takes no memory.
+fn take_names(trie: &mut LockTrie, job: u16, names: &[LockName])
     ensures others { AreOthersSame trie.old trie.new job }
-    ensures raised { AreRaised (held_count trie.old job) (held_count trie.new job) (count_of target.now) }
-    ensures ok { OnOk result ((x : Resource) → is_listed x names.now ≡ true → count_of target.now x ≤ held_count trie.new job x) }
+    ensures taken { (x : Resource) → held_count trie.new job x ≡ held_count trie.old job x - times x names.now }
 {
     for name in names {
-        raise(trie, job, name, target.count(name))?;
+        trie.take_away(job, name, 1);
     }
-    Ok(())
 }
 
-/// The job holds each of these names at most as many times as it is to hold it. Takes no memory.
-pub fn lower_names(trie: &mut LockTrie, job: u16, names: &[LockName], held: &Counts)
+/// The job holds each of these names once more. Where memory is refused it holds what it held.
+fn add_names(trie: &mut LockTrie, job: u16, names: &[LockName]) -> Result<(), AllocError>
+    requires { (x : Resource) → held_count trie.old job x + times x names.now ≤ most_locks }
     ensures others { AreOthersSame trie.old trie.new job }
-    ensures lowered { AreLowered (held_count trie.old job) (held_count trie.new job) (count_of held.now) }
-    ensures reached { (x : Resource) → is_listed x names.now ≡ true → held_count trie.new job x ≤ count_of held.now x }
+    ensures ok { OnOk result ((x : Resource) → held_count trie.new job x ≡ held_count trie.old job x + times x names.now) }
+    ensures err { OnErr result ((x : Resource) → held_count trie.new job x ≡ held_count trie.old job x) }
 {
-    for name in names {
-        lower(trie, job, name, held.count(name));
+    for i in 0..names.len() {
+        match trie.add(job, &names[i], 1) {
+            Ok(()) => {}
+            Err(refused) => {
+                take_names(trie, job, &names[..i]);
+                return Err(refused);
+            }
+        }
     }
+    Ok(())
 }
 
 /// The job, which holds what its counts say, holds these names once more each; where it can't have them all, only
@@ -86,6 +72,9 @@ pub fn hold_more(
     ensures full { IfErr result (λ refusal. (refusal ≡ Refusal.OutOfMemory) ⊎ ((refusal ≡ Refusal.LockCountFull) × (list_any (is_over names.now held.old) names.now ≡ true))) }
 {
     held.look();
+    if !had && held.have_room(names) {
+        return Ok(());
+    }
     match held.add_all(names) {
         Ok(()) => {}
         Err(refusal) => return Err(refusal),
@@ -95,11 +84,10 @@ pub fn hold_more(
         held.take_all(names);
         return Ok(());
     }
-    match raise_names(trie, job, names, held) {
+    match add_names(trie, job, names) {
         Ok(()) => Ok(()),
         Err(_) => {
             held.take_all(names);
-            lower_names(trie, job, names, held);
             Err(Refusal::OutOfMemory)
         }
     }
@@ -113,7 +101,7 @@ pub fn hold_fewer(trie: &mut LockTrie, job: u16, held: &mut Counts, names: &[Loc
     ensures others { AreOthersSame trie.old trie.new job }
 {
     held.take_all(names);
-    lower_names(trie, job, names, held);
+    take_names(trie, job, names);
 }
 
 /// Of what the job holds, which its counts say, as many fewer as the others have. Takes no memory.

@@ -1,6 +1,6 @@
 -- Beginnings of paths.
-use Rattle.std.proofs.Common.{zero, suc, ◌≡◌, ◌≤◌, ◌<◌, ◌+◌, ℕ, List, [], ◌∷◌, Bool, true, false, length, take, refl, sym, ap, ◌∙◌, arith}
-use Rattle.std.specs.Prelude.{cond, ◌-◌, ◌&&◌, nat_eq, nat_lt}
+use Rattle.std.proofs.Common.{zero, suc, ◌≡◌, ◌≤◌, ◌<◌, ◌+◌, ℕ, List, [], ◌∷◌, Bool, true, false, length, take, refl, sym, ap, subst, ◌∙◌, arith}
+use Rattle.std.specs.Prelude.{cond, ◌-◌, ◌&&◌, ◌||◌, nat_eq, nat_lt}
 use Rattle.std.specs.Cmp.{nat_eq_equiv}
 use Rattle.std.specs.Cmp.Lexicographic.{pointwise, lists_equiv, bytes_decides}
 use Rattle.std.specs.Ordering.{nat_cmp, is_eq, eq_by_cmp}
@@ -37,6 +37,26 @@ pub take_begins : (i : ℕ) (p : Path) → begins_with p (take i p) ≡ true
 take_begins zero p = refl
 take_begins (suc i) [] = refl
 take_begins (suc i) (q ∷ ps) = and_from _ _ (text_itself q) (take_begins i ps)
+
+-- a beginning that is as long as the path is the path
+whole_begins : (p x : Path) → begins_with p x ≡ true → length p ≤ length x → begins_with x p ≡ true
+whole_begins [] x b h = refl
+whole_begins (q ∷ ps) [] b h = absurd (omega arith)
+whole_begins (q ∷ ps) (y ∷ ys) b h =
+    let t : q ≡ y = same_text q y (first_so (pointwise nat_eq q y) (begins_with ps ys) b) in
+    and_from _ _ (subst (λ z. pointwise nat_eq y z ≡ true) (sym t) (text_itself y)) (whole_begins ps ys (second_so (pointwise nat_eq q y) (begins_with ps ys) b) (omega arith))
+
+-- what is nowhere at or below a path nor at a shorter beginning of it
+pub neither_way : (f : Path → ℕ) (p x : Path) → (begins_with x p ≡ true → f x ≡ 0) → (begins_with p x ≡ true → length x < length p → f x ≡ 0) → (begins_with x p || begins_with p x) ≡ true → f x ≡ 0
+neither_way f p x below above either = by_test (begins_with x p) refl either
+  where
+    by_length : begins_with x p ≡ false → begins_with p x ≡ true → (t : Bool) → nat_lt (length x) (length p) ≡ t → f x ≡ 0
+    by_length no_ b true l = above b (ltb-true (length x) (length p) l)
+    by_length no_ b false l = let yes_ : begins_with x p ≡ true = whole_begins p x b (ltb-false (length x) (length p) l) in absurd (cc)
+
+    by_test : (t : Bool) → begins_with x p ≡ t → (t || begins_with p x) ≡ true → f x ≡ 0
+    by_test true e either = below e
+    by_test false e either = by_length e either (nat_lt (length x) (length p)) refl
 
 -- ---- one count that is put
 

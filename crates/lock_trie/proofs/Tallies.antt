@@ -1,14 +1,14 @@
 -- Lists of held paths, and how many of them pass a test.
 use Rattle.std.proofs.Common.{zero, suc, ◌≡◌, ◌≤◌, ◌<◌, ◌+◌, ℕ, List, [], ◌∷◌, Bool, true, false, length, refl, sym, ap, subst, ◌∙◌, arith}
 use Rattle.std.specs.Prelude.{cond, ◌-◌, ◌&&◌, filter}
-use Rattle.std.specs.Cmp.{nat_cmp_total, tied_itself}
+use Rattle.std.specs.Cmp.{second_so, nat_cmp_total, tied_itself}
 use Rattle.std.specs.Ordering.{nat_cmp, is_eq, eq_by_cmp}
 use Rattle.std.specs.FinMap.{nat_cmp-IsAntisymmetric}
 use Rattle.collation.specs.laws.Order.{is_equal}
 use Rattle.collation.specs.Database.{begins_with}
 use Rattle.lock_trie.specs.declared.paths.Paths.{Paths}
 use Rattle.lock_trie.specs.Paths.{Path, path_cmp, marked_at, IsPutAt, AreKept}
-use Rattle.lock_trie.specs.Tallied.{IsTallied, IsAlong, IsRootOfCounts}
+use Rattle.lock_trie.specs.Tallied.{IsTallied, IsAlong, IsRootOfCounts, HasNoShorter}
 use Rattle.lock_trie.proofs.AtPaths.{same_path, path_itself}
 use Rattle.lock_trie.proofs.Begins.{begins_short, put_itself, put_others}
 
@@ -209,3 +209,22 @@ put_back old mid new path job n up down x other = down x other ∙ by_test (eq_b
         back ∙ ap (λ y. old y job) (sym (same_path x path d)) ∙ ap (old x) (sym (nat_cmp-IsAntisymmetric other job (is_equal (nat_cmp other job) e)))
     by_test true false e d = put_others old mid path job _ up x other (λ j s. let t : false ≡ true = sym d ∙ ap (λ y. eq_by_cmp path_cmp x y) (sym s) ∙ path_itself x in absurd (cc))
     by_test false b e d = put_others old mid path job _ up x other (λ j s. let t : false ≡ true = sym e ∙ ap (λ k. eq_by_cmp nat_cmp other k) (sym j) ∙ ap is_eq (tied_itself nat_cmp_total other) in absurd (cc))
+
+-- ---- the shortest path that may be held
+
+pub least_more : (own own_new : Paths) (path : Path) (job c least m : ℕ) → IsPutAt (marked_at own) (marked_at own_new) path job c → m ≤ least → m ≤ length path → HasNoShorter own least → HasNoShorter own_new m
+least_more own own_new path job c least m put low short none x other h =
+    put_others (marked_at own) (marked_at own_new) path job c put x other (λ j p. let e : length x ≡ length path = ap length p in absurd (omega arith)) ∙ none x other (omega arith)
+
+pub least_fewer : (own own_new : Paths) (path : Path) (job n least : ℕ) → IsPutAt (marked_at own) (marked_at own_new) path job (marked_at own path job - n) → HasNoShorter own least → HasNoShorter own_new least
+least_fewer own own_new path job n least put none x other h = put x other ∙ by_test (eq_by_cmp nat_cmp other job && eq_by_cmp path_cmp x path) refl
+  where
+    fewer : (v : ℕ) → v ≡ 0 → v - n ≡ 0
+    fewer v e = omega arith
+
+    by_test : (b : Bool) → (eq_by_cmp nat_cmp other job && eq_by_cmp path_cmp x path) ≡ b → cond b (marked_at own path job - n) (marked_at own x other) ≡ 0
+    by_test true e = fewer (marked_at own path job) (none path job (subst (λ y. length y < least) (same_path x path (second_so (eq_by_cmp nat_cmp other job) (eq_by_cmp path_cmp x path) e)) h))
+    by_test false e = none x other h
+
+pub least_kept : (own own_new : Paths) (least : ℕ) → AreKept (marked_at own) (marked_at own_new) → HasNoShorter own least → HasNoShorter own_new least
+least_kept own own_new least kept none x job h = kept x job ∙ none x job h

@@ -21,3 +21,7 @@ pub record IsAlong (f : ℕ → ℕ) (old new : Path → ℕ → ℕ) (path : Pa
 pub record IsRootOfCounts (own within : Paths) : Type 0 where
   pub tallied : (job : ℕ) → IsTallied (λ x. marked_at own x job) (λ x. marked_at within x job)
   pub small : (x : Path) (job : ℕ) → marked_at own x job ≤ most_locks
+
+-- no path with fewer subscripts is held
+abbrev pub HasNoShorter : Paths → ℕ → Type 0
+HasNoShorter own least = (x : Path) (job : ℕ) → length x < least → marked_at own x job ≡ 0

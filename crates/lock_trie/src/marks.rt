@@ -1,5 +1,5 @@
 //! Counts by job.
-ghost use Rattle.std.specs.Prelude.{true, false, ◌≡◌, ◌<◌, ◌≤◌, ◌+◌, ◌-◌, ℕ, None, OnOk, OnErr};
+ghost use Rattle.std.specs.Prelude.{true, false, ◌≡◌, ◌<◌, ◌≤◌, ◌+◌, ◌-◌, min, ℕ, None, OnOk, OnErr};
 ghost use Rattle.std.specs.Ordering.{nat_cmp};
 ghost use Rattle.std.specs.BTreeMap.{get};
 ghost use Rattle.lock_trie.specs.Marks.{marked, IsCountPut, HasMarks};
@@ -38,10 +38,14 @@ impl Marks {
         ensures ok { OnOk result (IsCountPut (marked self.old) (marked self.new) job (marked self.old job + n)) }
         ensures err { OnErr result ((other : ℕ) → marked self.new other ≡ marked self.old other) }
     {
-        let Some(count) = self.count(job).checked_add(n) else {
-            return Err(AllocError);
-        };
-        match self.map.insert(job, count) {
+        if let Some(count) = self.map.get_mut(&job) {
+            let Some(sum) = count.checked_add(n) else {
+                return Err(AllocError);
+            };
+            *count = sum;
+            return Ok(());
+        }
+        match self.map.insert(job, n) {
             Ok(_) => Ok(()),
             Err(failed) => {
                 drop(failed);
@@ -50,17 +54,19 @@ impl Marks {
         }
     }
 
-    /// The job's count is n less; at none its entry goes. Takes no memory.
-    pub fn take(&mut self, job: u16, n: u64)
+    /// The job's count is n less; answers how many were taken. At none its entry goes. Takes no memory.
+    pub fn take(&mut self, job: u16, n: u64) -> u64
         ensures count { IsCountPut (marked self.old) (marked self.new) job (marked self.old job - n) }
+        ensures taken { result ≡ min (marked self.old job) n }
         ensures gone { marked self.old job ≤ n → get nat_cmp self.new.map job ≡ None }
     {
-        let count = self.count(job);
-        if count <= n {
-            self.map.remove(&job);
-        } else if let Some(kept) = self.map.get_mut(&job) {
-            *kept = count - n;
+        if let Some(count) = self.map.get_mut(&job)
+            && *count > n
+        {
+            *count -= n;
+            return n;
         }
+        self.map.remove(&job).unwrap_or(0)
     }
 
     /// Whether a job other than this one has a count above 0.

@@ -1,5 +1,5 @@
 //! Counts by path and job.
-ghost use Rattle.std.specs.Prelude.{true, false, ◌≡◌, ◌<◌, ◌+◌, ◌-◌, ℕ, OnOk, OnErr};
+ghost use Rattle.std.specs.Prelude.{true, false, ◌≡◌, ◌<◌, ◌+◌, ◌-◌, min, ℕ, OnOk, OnErr};
 ghost use Rattle.lock_trie.specs.Paths.{Path, marked_at, IsPutAt, AreKept, HasPaths, IsNotBareAt};
 
 use crate::marks::Marks;
@@ -56,55 +56,46 @@ impl Paths {
         }
     }
 
-    fn has_entry(&self, path: &[Text]) -> bool
-        ensures { result ≡ false → (job : ℕ) → marked_at self.now path.now job ≡ 0 }
-    {
-        self.map.get(path).is_some()
-    }
-
     /// The job's count at the path is n greater. Refused where there is no memory, or no number so great: then all is
     /// as it was.
     pub fn add(&mut self, job: u16, path: &[Text], n: u64) -> Result<(), AllocError>
         ensures ok { OnOk result (IsPutAt (marked_at self.old) (marked_at self.new) path.now job (marked_at self.old path.now job + n)) }
         ensures err { OnErr result (AreKept (marked_at self.old) (marked_at self.new)) }
     {
-        if !self.has_entry(path) {
-            return self.put(job, path, n);
-        }
-        match self.map.get_mut(path) {
-            Some(marks) => marks.add(job, n),
-            None => Err(AllocError),
-        }
-    }
-
-    /// The job's count at the path is n less.
-    fn lower(&mut self, job: u16, path: &[Text], n: u64)
-        ensures { IsPutAt (marked_at self.old) (marked_at self.new) path.now job (marked_at self.old path.now job - n) }
-    {
         if let Some(marks) = self.map.get_mut(path) {
-            marks.take(job, n);
+            return marks.add(job, n);
         }
+        self.put(job, path, n)
     }
 
-    fn is_bare(&self, path: &[Text]) -> bool
-        ensures none { result ≡ true → (job : ℕ) → marked_at self.now path.now job ≡ 0 }
-        ensures some { result ≡ false → IsNotBareAt self.now path.now }
-    {
-        match self.map.get(path) {
-            Some(marks) => marks.is_empty(),
-            None => true,
-        }
-    }
-
-    /// The job's count at the path is n less; a path without counts goes. Takes no memory.
-    pub fn take(&mut self, job: u16, path: &[Text], n: u64)
+    /// The job's count at the path is n less; answers how many were taken, and whether the path has an entry without
+    /// counts now.
+    fn lower(&mut self, job: u16, path: &[Text], n: u64) -> (u64, bool)
         ensures count { IsPutAt (marked_at self.old) (marked_at self.new) path.now job (marked_at self.old path.now job - n) }
+        ensures taken { result.0 ≡ min (marked_at self.old path.now job) n }
+        ensures none { result.1 ≡ true → (other : ℕ) → marked_at self.new path.now other ≡ 0 }
+        ensures some { result.1 ≡ false → IsNotBareAt self.new path.now }
+    {
+        match self.map.get_mut(path) {
+            Some(marks) => {
+                let taken = marks.take(job, n);
+                (taken, marks.is_empty())
+            }
+            None => (0, false),
+        }
+    }
+
+    /// The job's count at the path is n less; answers how many were taken. A path without counts goes. Takes no memory.
+    pub fn take(&mut self, job: u16, path: &[Text], n: u64) -> u64
+        ensures count { IsPutAt (marked_at self.old) (marked_at self.new) path.now job (marked_at self.old path.now job - n) }
+        ensures taken { result ≡ min (marked_at self.old path.now job) n }
         ensures gone { IsNotBareAt self.new path.now }
     {
-        self.lower(job, path, n);
-        if self.is_bare(path) {
+        let (taken, is_bare) = self.lower(job, path, n);
+        if is_bare {
             drop(self.map.remove(path));
         }
+        taken
     }
 
     /// Whether a job other than this one has a count above 0 at the path. Takes no memory.

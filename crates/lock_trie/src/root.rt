@@ -16,12 +16,14 @@ use std::marker::Model;
 pub struct Root {
     own: Paths,
     within: Paths,
+    /// No held path has fewer subscripts, so none shorter is looked up to learn whether it is held.
+    least: usize,
 }
 
 impl Model for Root {
     ghost use Rattle.lock_trie.specs.declared.paths.Paths as declared;
     ghost use Rattle.lock_trie.specs.Codes.{paths_code};
-    ghost use Rattle.lock_trie.specs.Tallied.{IsRootOfCounts};
+    ghost use Rattle.lock_trie.specs.Tallied.{IsRootOfCounts, HasNoShorter};
 
     ghost Value = { declared.Paths };
 
@@ -29,7 +31,7 @@ impl Model for Root {
 
     ghost view = { λ r. r.own };
 
-    ghost invariant = { λ r. IsRootOfCounts r.own r.within };
+    ghost invariant = { λ r. IsRootOfCounts r.own r.within × HasNoShorter r.own r.least };
 }
 
 /// The job's counts at the beginnings of the path that are shorter than this are n less. Takes no memory.
@@ -68,6 +70,7 @@ impl Root {
         Root {
             own: Paths::new(alloc),
             within: Paths::new(alloc),
+            least: usize::MAX,
         }
     }
 
@@ -91,7 +94,10 @@ impl Root {
             Err(refused) => return Err(refused),
         }
         match raise(&mut self.within, job, path, n) {
-            Ok(()) => Ok(()),
+            Ok(()) => {
+                self.least = self.least.min(path.len());
+                Ok(())
+            }
             Err(refused) => {
                 self.own.take(job, path, n);
                 Err(refused)
@@ -103,17 +109,16 @@ impl Root {
     pub fn take_away(&mut self, job: u16, path: &[Text], n: u32)
         ensures { IsPutAt (marked_at self.old) (marked_at self.new) path.now job (marked_at self.old path.now job - n) }
     {
-        let taken = self.own.count(job, path).min(u64::from(n));
-        self.own.take(job, path, taken);
+        let taken = self.own.take(job, path, u64::from(n));
         lower(&mut self.within, job, path, taken, path.len() + 1);
     }
 
-    /// Whether a job other than this one holds a beginning of the path.
+    /// Whether a job other than this one holds a beginning of the path that is shorter than the path.
     fn is_blocked_above(&self, job: u16, path: &[Text]) -> bool
         ensures some { result ≡ true → (other : ℕ) × (other ≡ job → ⊥) × ((x : Path) × (0 < marked_at self.now x other) × (begins_with path.now x ≡ true)) }
-        ensures none { result ≡ false → (other : ℕ) (x : Path) → (other ≡ job → ⊥) → begins_with path.now x ≡ true → marked_at self.now x other ≡ 0 }
+        ensures none { result ≡ false → (other : ℕ) (x : Path) → (other ≡ job → ⊥) → begins_with path.now x ≡ true → length x < length path.now → marked_at self.now x other ≡ 0 }
     {
-        for i in 0..path.len() + 1 {
+        for i in self.least.min(path.len())..path.len() {
             if self.own.has_other(job, &path[..i]) {
                 return true;
             }
@@ -129,8 +134,8 @@ impl Root {
         self.within.has_other(job, path)
     }
 
-    /// Whether a job other than this one holds the path, a beginning of it or one that begins with it: a look at each
-    /// beginning, and one at the path. Takes no memory.
+    /// Whether a job other than this one holds the path, a beginning of it or one that begins with it: one look at the
+    /// path, and one at each beginning that has as many subscripts as a held path may have. Takes no memory.
     pub fn blocked(&self, job: u16, path: &[Text]) -> bool
         ensures some { result ≡ true → (other : ℕ) × (other ≡ job → ⊥) × ((x : Path) × (0 < marked_at self.now x other) × ((begins_with x path.now || begins_with path.now x) ≡ true)) }
         ensures none { result ≡ false → (other : ℕ) (x : Path) → (other ≡ job → ⊥) → (begins_with x path.now || begins_with path.now x) ≡ true → marked_at self.now x other ≡ 0 }

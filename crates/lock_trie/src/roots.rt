@@ -61,43 +61,30 @@ impl Roots {
         }
     }
 
-    fn has_entry(&self, name: &[u8]) -> bool
-        ensures { result ≡ false → (x : Path) (job : ℕ) → held_at self.now name.now x job ≡ 0 }
-    {
-        self.map.get(name).is_some()
-    }
-
     /// The job holds the path n times more. Refused where there is no memory: then all is as it was.
     pub fn add(&mut self, job: u16, name: &[u8], path: &[Text], n: u32) -> Result<(), AllocError>
         requires { held_at self.old name.now path.now job + n ≤ most_locks }
         ensures ok { OnOk result (IsHeldPut (held_at self.old) (held_at self.new) name.now path.now job (held_at self.old name.now path.now job + n)) }
         ensures err { OnErr result (AreHeldSame (held_at self.old) (held_at self.new)) }
     {
-        if !self.has_entry(name) {
-            return self.put(job, name, path, n);
-        }
-        match self.map.get_mut(name) {
-            Some(root) => root.add(job, path, n),
-            None => Err(AllocError),
-        }
-    }
-
-    /// The job holds the path n times fewer.
-    fn lower(&mut self, job: u16, name: &[u8], path: &[Text], n: u32)
-        ensures { IsHeldPut (held_at self.old) (held_at self.new) name.now path.now job (held_at self.old name.now path.now job - n) }
-    {
         if let Some(root) = self.map.get_mut(name) {
-            root.take_away(job, path, n);
+            return root.add(job, path, n);
         }
+        self.put(job, name, path, n)
     }
 
-    fn is_bare(&self, name: &[u8]) -> bool
-        ensures none { result ≡ true → (x : Path) (job : ℕ) → held_at self.now name.now x job ≡ 0 }
-        ensures some { result ≡ false → IsNotBareUnder self.now name.now }
+    /// The job holds the path n times fewer; answers whether the name has a root under which nothing is held now.
+    fn lower(&mut self, job: u16, name: &[u8], path: &[Text], n: u32) -> bool
+        ensures count { IsHeldPut (held_at self.old) (held_at self.new) name.now path.now job (held_at self.old name.now path.now job - n) }
+        ensures none { result ≡ true → (x : Path) (other : ℕ) → held_at self.new name.now x other ≡ 0 }
+        ensures some { result ≡ false → IsNotBareUnder self.new name.now }
     {
-        match self.map.get(name) {
-            Some(root) => root.is_empty(),
-            None => true,
+        match self.map.get_mut(name) {
+            Some(root) => {
+                root.take_away(job, path, n);
+                root.is_empty()
+            }
+            None => false,
         }
     }
 
@@ -106,8 +93,7 @@ impl Roots {
         ensures count { IsHeldPut (held_at self.old) (held_at self.new) name.now path.now job (held_at self.old name.now path.now job - n) }
         ensures gone { IsNotBareUnder self.new name.now }
     {
-        self.lower(job, name, path, n);
-        if self.is_bare(name) {
+        if self.lower(job, name, path, n) {
             drop(self.map.remove(name));
         }
     }
