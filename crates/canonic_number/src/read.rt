@@ -1,5 +1,5 @@
 //! Canonic numbers: the test, and the sign and digits of one.
-ghost use Rattle.std.specs.Prelude.{◌≡◌, ◌↔◌, [], IfSome, IsTrue, MatchOption, is_some};
+ghost use Rattle.std.specs.Prelude.{◌≡◌, ◌↔◌, [], IfSome, IsTrue, MatchOption, is_some, length, true};
 ghost use Rattle.std.specs.Char.{is_ascii_digit};
 ghost use Rattle.std.specs.List.{list_all, position};
 ghost use Rattle.canonic_number.specs.Number as number;
@@ -104,6 +104,40 @@ pub fn read_numeral(text: &[u8]) -> Option<Numeral<'_>>
         whole,
         fraction,
     })
+}
+
+// As `read_numeral`, of a text that is digits alone.
+#[tactic(auto, using(crate::proofs::Wholes::canonic_whole))]
+pub(crate) fn read_whole(digits: &[u8]) -> Option<Numeral<'_>>
+    requires { list_all is_ascii_digit digits.now ≡ true }
+    ensures canonic { is_some result ≡ number.is_canonic digits.now }
+    ensures parts { IfSome result (IsNumeralOf digits.now) }
+    ensures fraction { IfSome result (λ n. length n.fraction.now ≡ 0) }
+{
+    let (_, none) = digits.split_at(digits.len());
+    if is_zero(digits) {
+        return Some(Numeral {
+            negative: false,
+            whole: none,
+            fraction: none,
+        });
+    }
+    if digits.is_empty() || begins_with_0(digits) {
+        return None;
+    }
+    Some(Numeral {
+        negative: false,
+        whole: digits,
+        fraction: none,
+    })
+}
+
+/// As `is_canonic`, of a text that is known to be digits alone: they aren't looked at once more.
+pub fn is_whole_number(digits: &[u8]) -> bool
+    requires { list_all is_ascii_digit digits.now ≡ true }
+    ensures { result ≡ number.is_canonic digits.now }
+{
+    read_whole(digits).is_some()
 }
 
 /// Whether a text is a canonic number, of any length.
