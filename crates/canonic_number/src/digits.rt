@@ -11,7 +11,7 @@ pub(crate) fn are_digits(bytes: &[u8]) -> bool
     bytes.iter().all(u8::is_ascii_digit)
 }
 
-fn begins_with_0(digits: &[u8]) -> bool
+pub(crate) fn begins_with_0(digits: &[u8]) -> bool
     ensures { result ≡ number.begins_with_0 digits.now }
 {
     matches!(digits, [b'0', ..])
@@ -28,13 +28,6 @@ fn ends_with_0(digits: &[u8]) -> bool
     ensures { result ≡ place.ends_with_0 digits.now }
 {
     !digits.is_empty() && !ends_above_0(digits)
-}
-
-// Digits, the first not 0, or nothing.
-pub(crate) fn is_whole(digits: &[u8]) -> bool
-    ensures { result ≡ number.is_whole digits.now }
-{
-    are_digits(digits) && !begins_with_0(digits)
 }
 
 // Digits, the last not 0.

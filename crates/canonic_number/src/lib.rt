@@ -20,8 +20,8 @@
 pub use compare::cmp_numerals;
 pub use laws::{canonic_of_is_right, equal_values_are_equal_texts};
 pub use literal::{canonic_of, is_numeric};
-pub use place::{NumberParts, parts};
-pub use read::{Numeral, is_canonic, read_numeral};
+pub use place::{NumberParts, parts, whole_parts};
+pub use read::{Numeral, is_canonic, is_whole_number, read_numeral};
 
 mod compare;
 mod digits;

@@ -1,11 +1,14 @@
 //! A canonic number as its sign, the place of its point and its digits.
 ghost use Rattle.std.specs.Prelude.{◌≡◌, ◌++◌, true, IfSome, is_some};
+ghost use Rattle.std.specs.Char.{is_ascii_digit};
+ghost use Rattle.std.specs.List.{list_all};
 ghost use Rattle.canonic_number.specs.Number as number;
 ghost use Rattle.canonic_number.specs.Place as place;
 ghost use Rattle.canonic_number.specs.Parts.{is_ended};
 ghost use Rattle.canonic_number.specs.PartsOf.{IsPartsOf};
 
 use crate::digits::{after_zeros, before_zeros};
+use crate::read::read_whole;
 use crate::{Numeral, read_numeral};
 
 /// A canonic number as its sign and 0.d1 d2 .. dk times 10^p, where d1 and dk aren't zero.
@@ -49,6 +52,26 @@ pub fn parts(text: &[u8]) -> Option<NumberParts<'_>>
         whole: whole.len(),
         zeros: 0,
         first,
+        second: fraction,
+    })
+}
+
+/// As `parts`, of a text that is known to be digits alone: they aren't looked at once more.
+pub fn whole_parts(digits: &[u8]) -> Option<NumberParts<'_>>
+    requires { list_all is_ascii_digit digits.now ≡ true }
+    ensures canonic { is_some result ≡ number.is_canonic digits.now }
+    ensures parts { IfSome result (IsPartsOf digits.now) }
+{
+    let Numeral {
+        negative,
+        whole,
+        fraction,
+    } = read_whole(digits)?;
+    Some(NumberParts {
+        negative,
+        whole: whole.len(),
+        zeros: 0,
+        first: before_zeros(whole),
         second: fraction,
     })
 }

@@ -1,16 +1,16 @@
 -- A draft with one subscript more.
-use Rattle.std.proofs.Common.{◌≡◌, ℕ, ◌+◌, ◌<◌, ◌≤◌, Bool, true, false, cond, List, [], ◌∷◌, ◌++◌, length, Option, Some, None, Result, Ok, Err, OnOk, IfOk, IfErr, inl, inr, refl, ap, sym, ◌∙◌, arith, length-append, append_assoc}
+use Rattle.std.proofs.Common.{◌≡◌, ℕ, ◌+◌, ◌<◌, ◌≤◌, Bool, true, false, cond, List, [], ◌∷◌, ◌++◌, length, Option, Some, None, Result, Ok, Err, OnOk, refl, ap, sym, ◌∙◌, arith, length-append, append_assoc}
 use Rattle.std.proofs.lemmas.Bool.Decides.{nat_tests}
-use Rattle.std.specs.Prelude.{◌==◌, nat_lt, MatchResult}
+use Rattle.std.specs.Prelude.{◌==◌, nat_lt}
 use Rattle.std.specs.Option.{option_or}
 use Rattle.canonic_number.specs.Number.{limit}
 use Rattle.refusal.specs.declared.Refusal.{Refusal}
-use Rattle.refusal.specs.declared.Refusal.TheVariants.{EmptySubscript, SubscriptTooLong, TooManySubscripts, BadName}
-use Rattle.collation.specs.Reference.{Reference, Spot}
+use Rattle.refusal.specs.declared.Refusal.TheVariants.{SubscriptTooLong, TooManySubscripts, BadName}
+use Rattle.collation.specs.Reference.{Reference}
 use Rattle.collation.specs.Name.{is_name}
 use Rattle.collation.specs.Faults.{subscripts_fault, reference_fault, ends_open, closed_part}
 use Rattle.key_codec.specs.Key.{short_form, subscript_key, subscripts_key, key_of, IsFaultless}
-use Rattle.key_codec.specs.Draft.{IsDraft, longer, place_due, reference_due, place_of, IsDueOrMemory, IsDueOrLong, open_fault}
+use Rattle.key_codec.specs.Draft.{IsDraft, longer, place_due, reference_due, place_of, open_fault}
 use Rattle.key_codec.specs.laws.Draft.{ends_open-more, closed_part-more, closed_part-whole, fault-closed, fault-pushed, fault-opened, AreFaultless, faultless}
 use Rattle.key_codec.specs.declared.draft.KeyDraft.{KeyDraft}
 use Rattle.key_codec.proofs.Reading.{keys-push}
@@ -180,27 +180,3 @@ reference_good r is_open is o =
 
 pub closed_reference : (r : Reference) → ends_open r.subscripts ≡ false → (place_of r).reference ≡ r
 closed_reference r e = λ i. record { name = r.name; subscripts = closed_part-whole r.subscripts e i }
-
--- a reference of a place
-pub closed_ok : (res : Result Reference Refusal) (p : Spot) (r : Reference) → IsGood r → p ≡ place_of r → MatchResult res (λ key. (p.is_open ≡ false) × (key ≡ p.reference)) (λ refusal. (p.is_open ≡ true) × (refusal ≡ EmptySubscript)) → IfOk res (λ key. (reference_due r ≡ None) × (key ≡ r))
-closed_ok (Ok key) p r is e h =
-    let shut : false ≡ ends_open r.subscripts = sym h.0 ∙ ap (λ (q : Spot). q.is_open) e in
-    (reference_good r false is shut, h.1 ∙ ap (λ (q : Spot). q.reference) e ∙ closed_reference r (sym shut))
-closed_ok (Err refusal) p r is e h = tt
-
-pub closed_err : (res : Result Reference Refusal) (p : Spot) (r : Reference) → IsGood r → p ≡ place_of r → MatchResult res (λ key. (p.is_open ≡ false) × (key ≡ p.reference)) (λ refusal. (p.is_open ≡ true) × (refusal ≡ EmptySubscript)) → IfErr res (λ refusal. IsDueOrMemory refusal (reference_due r))
-closed_err (Ok key) p r is e h = tt
-closed_err (Err refusal) p r is e h = inr (reference_good r true is (sym h.0 ∙ ap (λ (q : Spot). q.is_open) e) ∙ ap Some (sym h.1))
-
-pub due_too : (r : Reference) (refusal : Refusal) → IsDueOrMemory refusal (place_due r) → IsDueOrMemory refusal (reference_due r)
-due_too r refusal (inl m) = inl m
-due_too r refusal (inr e) = inr (reference_too r refusal e)
-
--- the same of a refusal that memory alone is told for where the key is long
-pub closed_due : (res : Result Reference Refusal) (p : Spot) (r : Reference) → IsGood r → p ≡ place_of r → MatchResult res (λ key. (p.is_open ≡ false) × (key ≡ p.reference)) (λ refusal. (p.is_open ≡ true) × (refusal ≡ EmptySubscript)) → IfErr res (λ refusal. IsDueOrLong refusal (reference_due r) r)
-closed_due (Ok key) p r is e h = tt
-closed_due (Err refusal) p r is e h = inl (reference_good r true is (sym h.0 ∙ ap (λ (q : Spot). q.is_open) e) ∙ ap Some (sym h.1))
-
-pub long_too : (r : Reference) (refusal : Refusal) → IsDueOrLong refusal (place_due r) r → IsDueOrLong refusal (reference_due r) r
-long_too r refusal (inl e) = inl (reference_too r refusal e)
-long_too r refusal (inr h) = inr h

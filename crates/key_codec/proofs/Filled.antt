@@ -1,4 +1,4 @@
--- Two strings in an array, one after the other.
+-- A string in an array, and two of them, one after the other.
 use Rattle.std.proofs.Common.{◌≡◌, ℕ, ◌+◌, ◌-◌, ◌≤◌, List, ◌++◌, length, take, drop, ap, ◌∙◌, sym, arith}
 use Rattle.std.specs.Prelude.{replicate}
 use Rattle.std.proofs.Math.Seq.{take-append-add}
@@ -41,3 +41,9 @@ rest_filled f s one two room is is_too fits = behind (replicate room 0)
         let one_is : length one ≡ length f = ap length is in
         past_both (take (length f) (one ++ drop (length f) zeros)) two (post_of (length f) (length f + length s - length f) (one ++ drop (length f) zeros)) (length f) (length s)
         (length-take-le (length f) (one ++ drop (length f) zeros) (omega (arith, long, one_is))) (ap length is_too)
+
+-- one alone
+pub one_filled : (f one : List ℕ) (room : ℕ) → one ≡ f → drop (length f) (one ++ drop (length f) (replicate room 0)) ≡ replicate (room - length f) 0
+one_filled f one room is =
+    let none : ℕ = 0 in
+    drop-append-drop (length f) (replicate room 0) one (length f) (omega arith) (ap length is) ∙ drop-replicate (length f) room none

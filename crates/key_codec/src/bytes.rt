@@ -37,8 +37,20 @@ impl Model for KeyBytes {
     ghost invariant = { λ k. IsHeld k.held };
 }
 
+// The bytes in the value.
+fn short(bytes: &[u8]) -> KeyBytes
+    requires { length bytes.now ≤ 38 }
+    ensures { result ≡ bytes.now }
+{
+    let mut room = [0; 38];
+    room[..bytes.len()].copy_from_slice(bytes);
+    KeyBytes {
+        held: Held::Short(bytes.len() as u8, room),
+    }
+}
+
 // The one, and the other after it, in the value.
-fn short(first: &[u8], second: &[u8]) -> KeyBytes
+fn short_joined(first: &[u8], second: &[u8]) -> KeyBytes
     requires { length first.now + length second.now ≤ 38 }
     ensures { result ≡ first.now ++ second.now }
 {
@@ -112,10 +124,22 @@ impl KeyBytes {
         ensures short { length first.now + length second.now ≤ 38 → IsOk result }
     {
         if first.len().saturating_add(second.len()) <= MOST_SHORT {
-            return Ok(short(first, second));
+            return Ok(short_joined(first, second));
         }
         let held = Held::Long(long(alloc, first, second)?);
         Ok(KeyBytes { held })
+    }
+
+    /// The bytes of a slice. Takes memory only past 38 bytes.
+    pub(crate) fn from_slice(alloc: Global, bytes: &[u8]) -> Result<KeyBytes, AllocError>
+        ensures bytes { IfOk result (λ copy. copy ≡ bytes.now) }
+        ensures short { length bytes.now ≤ 38 → IsOk result }
+    {
+        if bytes.len() > MOST_SHORT {
+            let held = Held::Long(Vec::from_slice(alloc, bytes)?);
+            return Ok(KeyBytes { held });
+        }
+        Ok(short(bytes))
     }
 
     /// The bytes of a list, whose allocation is let go of where they are short.
@@ -123,7 +147,7 @@ impl KeyBytes {
         ensures { result ≡ bytes.items }
     {
         if bytes.len() <= MOST_SHORT {
-            return short(bytes.as_slice(), &[]);
+            return short(bytes.as_slice());
         }
         KeyBytes {
             held: Held::Long(bytes),

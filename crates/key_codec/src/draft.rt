@@ -167,9 +167,15 @@ impl KeyDraft {
         ensures err { (r : Reference) → IsDraft self.now r → IfErr result (λ refusal. IsDueOrMemory refusal (reference_due r)) }
         ensures long { (r : Reference) → IsDraft self.now r → IfErr result (λ refusal. IsDueOrLong refusal (reference_due r) r) }
     {
-        match self.place(alloc) {
-            Ok(place) => place.into_key(),
-            Err(refusal) => Err(refusal),
+        match self.place_fault() {
+            Some(fault) => Err(fault),
+            None => {
+                if self.ends_open {
+                    return Err(Refusal::EmptySubscript);
+                }
+                let key = Key::from_slice(alloc, self.bytes.as_slice())?;
+                Ok(key)
+            }
         }
     }
 }

@@ -60,7 +60,7 @@ impl Key {
         ensures key { IfOk result (λ key. key ≡ reference_of bytes.now) }
         ensures short { length bytes.now ≤ 38 → IsOk result }
     {
-        let bytes = KeyBytes::joined(alloc, bytes, &[])?;
+        let bytes = KeyBytes::from_slice(alloc, bytes)?;
         Ok(Key { bytes })
     }
 
