@@ -1,5 +1,6 @@
 //! The key of a reference.
-ghost use Rattle.std.specs.Prelude.{◌≡◌, ◌≤◌, ◌++◌, ◌-◌, IfErr, IfOk, OnOk, None, map};
+ghost use Rattle.std.specs.Prelude.{◌≡◌, ◌≤◌, ◌++◌, ◌-◌, IfErr, IfOk, OnOk, None, map, nat_lt};
+ghost use Rattle.std.specs.List.{list_all};
 ghost use Rattle.canonic_number.specs.Number.{limit, scale};
 ghost use Rattle.collation.specs.Faults.{reference_fault, subscripts_fault};
 ghost use Rattle.key_codec.specs.Bounds.{KeepsOrder, IsPrefixOf};
@@ -155,9 +156,21 @@ fn push_text(key: &mut Vec<u8>, text: &[u8]) -> Result<(), AllocError>
     Ok(())
 }
 
+// Whether the bytes of a text are their own escapes, as almost always.
+fn is_plain(text: &[u8]) -> bool
+    ensures { result ≡ list_all (λ b. nat_lt 1 b) text.now }
+{
+    text.iter().all(|byte| *byte > 1)
+}
+
+#[tactic(auto, using(crate::proofs::Plain::plain_escaped))]
 fn push_escaped(key: &mut Vec<u8>, text: &[u8]) -> Result<(), AllocError>
     ensures { OnOk result (key.new.items ≡ key.old.items ++ spec.escaped text.now) }
 {
+    if is_plain(text) {
+        key.extend_from_slice(text)?;
+        return Ok(());
+    }
     for byte in text {
         push_byte(key, *byte)?;
     }

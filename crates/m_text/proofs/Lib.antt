@@ -6,3 +6,4 @@ pub mod Numbers
 pub mod Runs
 pub mod Drafted
 pub mod Lent
+pub mod Wholes

@@ -1,15 +1,14 @@
 //! Literals.
 ghost use Rattle.std.specs.Prelude.{◌≡◌, ◌||◌, IfSome, Some, false};
 ghost use Rattle.collation.specs.Bytes as byte;
-ghost use Rattle.key_codec.specs.Draft.{IsJudged};
 ghost use Rattle.m_text.specs.Reading.{GivesUnlessMemory, GivesExactly, begins_with_byte, rest_of, with_front, parted_at};
 ghost use Rattle.m_text.specs.Literal.{part_at, literal_at};
 
 use crate::chars::{read_chars, skip_chars};
 use crate::front::after;
-use crate::numeral::{read_number, skip_number, split_number};
+use crate::numeral::{read_number, skip_number, split_number, split_whole};
 use crate::quoted::{lend_quoted, read_quoted, skip_quoted};
-use canonic_number::{NumberParts, is_canonic, parts};
+use canonic_number::{is_canonic, is_whole_number};
 use collation::Text;
 use refusal::Refusal;
 use std::alloc::Global;
@@ -65,7 +64,7 @@ fn skip_parts(text: &[u8]) -> Result<&[u8], Refusal>
 }
 
 // Whether a text begins as a quoted text or as `$C` does.
-fn begins_part(text: &[u8]) -> bool
+pub(crate) fn begins_part(text: &[u8]) -> bool
     ensures { result ≡ (begins_with_byte byte.quote text.now || begins_with_byte byte.dollar text.now) }
 {
     match text {
@@ -77,6 +76,24 @@ fn begins_part(text: &[u8]) -> bool
 // The canonic number at the front of a text, where a numeric literal is spelled as one, and what follows it.
 #[tactic(auto, using(crate::proofs::Numbers::canonic_texts), unfolding(crate::specs::Literal::literal_at, crate::specs::Literal::numeric_at))]
 fn lend_number(text: &[u8]) -> Option<(&[u8], &[u8])>
+    requires { (begins_with_byte byte.quote text.now || begins_with_byte byte.dollar text.now) ≡ false }
+    ensures { IfSome result (λ x. literal_at text.now ≡ Some (x.0.now, x.1.now)) }
+{
+    match split_whole(text) {
+        Some((digits, rest)) => {
+            if is_whole_number(digits) {
+                Some((digits, rest))
+            } else {
+                None
+            }
+        }
+        None => lend_other_number(text),
+    }
+}
+
+// As `lend_number`, of a number that isn't digits alone.
+#[tactic(auto, using(crate::proofs::Numbers::canonic_texts), unfolding(crate::specs::Literal::literal_at, crate::specs::Literal::numeric_at))]
+fn lend_other_number(text: &[u8]) -> Option<(&[u8], &[u8])>
     requires { (begins_with_byte byte.quote text.now || begins_with_byte byte.dollar text.now) ≡ false }
     ensures { IfSome result (λ x. literal_at text.now ≡ Some (x.0.now, x.1.now)) }
 {
@@ -96,23 +113,6 @@ pub(crate) fn lend_literal(text: &[u8]) -> Option<(&[u8], &[u8])>
         lend_quoted(text)
     } else {
         lend_number(text)
-    }
-}
-
-// As `lend_literal`, of a subscript: with its parts, where it is a canonic number, so that its grammar is judged once.
-#[tactic(auto, using(crate::proofs::Numbers::canonic_texts), unfolding(crate::specs::Literal::literal_at, crate::specs::Literal::numeric_at))]
-pub(crate) fn lend_judged(text: &[u8]) -> Option<(&[u8], Option<NumberParts<'_>>, &[u8])>
-    ensures string { IfSome result (λ x. literal_at text.now ≡ Some (x.0.now, x.2.now)) }
-    ensures judged { IfSome result (λ x. IsJudged x.0.now x.1) }
-{
-    if begins_part(text) {
-        let (string, rest) = lend_quoted(text)?;
-        return Some((string, parts(string), rest));
-    }
-    let (number, rest) = split_number(text);
-    match parts(number) {
-        Some(known) => Some((number, Some(known), rest)),
-        None => None,
     }
 }
 

@@ -1,10 +1,12 @@
 //! Numeric literals.
-ghost use Rattle.std.specs.Prelude.{◌≡◌, ◌≤◌, ◌+◌, length, take, drop, true, if◌then◌else◌};
-ghost use Rattle.std.specs.List.{position, position_or_len};
+ghost use Rattle.std.specs.Prelude.{◌≡◌, ◌≤◌, ◌+◌, length, take, drop, true, IfSome, if◌then◌else◌};
+ghost use Rattle.std.specs.Char.{is_ascii_digit};
+ghost use Rattle.std.specs.List.{list_all, position, position_or_len};
 ghost use Rattle.canonic_number.specs.Number as number;
 ghost use Rattle.m_text.specs.Reading.{GivesUnlessMemory, GivesExactly, rest_of};
 ghost use Rattle.m_text.specs.Literal as literal;
 
+use crate::front::{after, split_digits};
 use canonic_number::{canonic_of, is_numeric};
 use collation::Text;
 use refusal::Refusal;
@@ -56,6 +58,22 @@ pub(crate) fn split_number(text: &[u8]) -> (&[u8], &[u8])
 {
     let n = number_len(text);
     text.split_at(n)
+}
+
+// As `split_number`, where these bytes are digits alone: so each is looked at once.
+pub(crate) fn split_whole(text: &[u8]) -> Option<(&[u8], &[u8])>
+    ensures number { IfSome result (λ x. x.0.now ≡ take (literal.number_len text.now) text.now) }
+    ensures rest { IfSome result (λ x. x.1.now ≡ drop (literal.number_len text.now) text.now) }
+    ensures digits { IfSome result (λ x. list_all is_ascii_digit x.0.now ≡ true) }
+{
+    let (digits, rest) = split_digits(text);
+    if digits.is_empty() {
+        return None;
+    }
+    match after(b'.', rest) {
+        Some(_) => None,
+        None => Some((digits, rest)),
+    }
 }
 
 // A numeric literal at the front of a text: its canonic number, and what follows it.

@@ -1,14 +1,19 @@
 //! References and places, read straight into key bytes.
-ghost use Rattle.std.specs.Prelude.{◌≡◌, []};
+ghost use Rattle.std.specs.Prelude.{◌≡◌, ◌||◌, [], Some, false, true};
 ghost use Rattle.collation.specs.Bytes as byte;
 ghost use Rattle.collation.specs.Reference.{Reference};
-ghost use Rattle.key_codec.specs.Draft.{IsDraft};
+ghost use Rattle.canonic_number.specs.Number.{is_canonic};
+ghost use Rattle.key_codec.specs.Draft.{IsDraft, IsJudged};
 ghost use Rattle.m_text.specs.Drafts.{Drafts, DraftsSpelled};
-ghost use Rattle.m_text.specs.Reading.{Answers, GivesExactly, rest_of, with_front, parted_at};
+ghost use Rattle.m_text.specs.Literal.{literal_at};
+ghost use Rattle.m_text.specs.Reading.{Answers, GivesExactly, begins_with_byte, rest_of, with_front, parted_at};
 ghost use Rattle.m_text.specs.Place.{subscript_at, subscripts_at, named_at, place_at, ref_at, spot_at};
 
 use crate::front::{after, split_word};
-use crate::literal::{lend_judged, make_literal, skip_literal};
+use crate::literal::{begins_part, make_literal, skip_literal};
+use crate::numeral::{split_number, split_whole};
+use crate::quoted::lend_quoted;
+use canonic_number::{NumberParts, parts, whole_parts};
 use key_codec::{Key, KeyDraft, Place};
 use refusal::Refusal;
 use std::alloc::Global;
@@ -26,6 +31,55 @@ fn read_made<'a>(alloc: Global, text: &'a [u8], draft: &mut KeyDraft) -> Result<
     }
 }
 
+// Reads a quoted text or `$C`, and what is joined to it.
+fn read_string<'a>(alloc: Global, text: &'a [u8], draft: &mut KeyDraft) -> Result<&'a [u8], Refusal>
+    ensures { (r : Reference) → IsDraft draft.old r → Drafts draft.new r.name result (with_front r.subscripts (subscript_at text.now)) }
+{
+    match lend_quoted(text) {
+        Some((string, rest)) => {
+            draft.push(string)?;
+            Ok(rest)
+        }
+        None => read_made(alloc, text, draft),
+    }
+}
+
+// Reads a number whose parts are known, or makes it where it isn't canonic.
+fn read_judged<'a>(
+    alloc: Global,
+    text: &'a [u8],
+    number: &[u8],
+    known: Option<NumberParts<'_>>,
+    rest: &'a [u8],
+    draft: &mut KeyDraft,
+) -> Result<&'a [u8], Refusal>
+    requires judged { IsJudged number.now known }
+    requires lent { is_canonic number.now ≡ true → literal_at text.now ≡ Some (number.now, rest.now) }
+    ensures { (r : Reference) → IsDraft draft.old r → Drafts draft.new r.name result (with_front r.subscripts (subscript_at text.now)) }
+{
+    if known.is_none() {
+        return read_made(alloc, text, draft);
+    }
+    draft.push_judged(number, known)?;
+    Ok(rest)
+}
+
+#[tactic(auto, using(crate::proofs::Numbers::canonic_texts), unfolding(crate::specs::Literal::literal_at, crate::specs::Literal::numeric_at))]
+fn read_number<'a>(alloc: Global, text: &'a [u8], draft: &mut KeyDraft) -> Result<&'a [u8], Refusal>
+    requires { (begins_with_byte byte.quote text.now || begins_with_byte byte.dollar text.now) ≡ false }
+    ensures { (r : Reference) → IsDraft draft.old r → Drafts draft.new r.name result (with_front r.subscripts (subscript_at text.now)) }
+{
+    match split_whole(text) {
+        Some((digits, rest)) => {
+            read_judged(alloc, text, digits, whole_parts(digits), rest, draft)
+        }
+        None => {
+            let (number, rest) = split_number(text);
+            read_judged(alloc, text, number, parts(number), rest, draft)
+        }
+    }
+}
+
 fn read_subscript<'a>(
     alloc: Global,
     text: &'a [u8],
@@ -33,12 +87,10 @@ fn read_subscript<'a>(
 ) -> Result<&'a [u8], Refusal>
     ensures { (r : Reference) → IsDraft draft.old r → Drafts draft.new r.name result (with_front r.subscripts (subscript_at text.now)) }
 {
-    match lend_judged(text) {
-        Some((string, number, rest)) => {
-            draft.push_judged(string, number)?;
-            Ok(rest)
-        }
-        None => read_made(alloc, text, draft),
+    if begins_part(text) {
+        read_string(alloc, text, draft)
+    } else {
+        read_number(alloc, text, draft)
     }
 }
 
