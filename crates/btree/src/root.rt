@@ -160,7 +160,7 @@ impl<K: Ord + Drop, V: Drop> Tree<K, V> {
         ensures handed_back { IfErr result (λ refused. refused.value ≡ (key, value)) }
         ensures refused { OnErr result (self.new ≡ self.old) }
     {
-        self.insert_by(alloc, key, value, &Trail::new())
+        self.insert_splitting(alloc, key, value, &Trail::new())
     }
 
     // As `insert_by`, by way of each node on the way down, which is split or eased where that is due.
