@@ -173,7 +173,8 @@ impl KeyDraft {
                 if self.ends_open {
                     return Err(Refusal::EmptySubscript);
                 }
-                let key = Key::from_slice(alloc, self.bytes.as_slice())?;
+                let bytes = self.bytes.as_slice();
+                let key = Key::from_slice(alloc, bytes)?;
                 Ok(key)
             }
         }

@@ -15,7 +15,7 @@ pub from_slice-requires : goal.from_slice-requires
 from_slice-requires c =
     let r = c.requires.reference in
     let fine : IsGood r = good r (sym (c.place_fault.ensures r c.requires.draft) ∙ c.in-None.is) in
-    kept c.as_slice.result.now (place_of r).reference (good_form r fine) (c.as_slice.ensures.value ∙ good_bytes c.args.self.now r c.requires.draft fine)
+    kept c.as_slice-bytes.result.now (place_of r).reference (good_form r fine) (c.as_slice-bytes.ensures.value ∙ good_bytes c.args.self.now r c.requires.draft fine)
 
 pub returns-in-Some-clause-err : goal.returns-in-Some-clause-err
 returns-in-Some-clause-err c = λ r is. inr (reference_too r c.in-Some.fault (sym (c.place_fault.ensures r is) ∙ c.in-Some.is))
@@ -29,5 +29,5 @@ returns-in_ok-key-in-None-clause-ok c = λ r is.
     let fine : IsGood r = good r none in
     let shut : false ≡ ends_open r.subscripts = sym c.if-self.false ∙ is.open_end in (
       reference_good r false fine shut,
-      c.in_ok-key-in-None.ensures.key ∙ reads_back c.as_slice.result.now (place_of r).reference (good_form r fine) (c.as_slice.ensures.value ∙ good_bytes c.args.self.now r is fine) ∙ closed_reference r (sym shut),
+      c.in_ok-key-in-None.ensures.key ∙ reads_back c.as_slice-bytes.result.now (place_of r).reference (good_form r fine) (c.as_slice-bytes.ensures.value ∙ good_bytes c.args.self.now r is fine) ∙ closed_reference r (sym shut),
     )
