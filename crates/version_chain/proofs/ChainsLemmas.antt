@@ -7,15 +7,11 @@ use denote.RawPtr.{Ptr}
 use Rattle.cell_pool.specs.Pool.{Within}
 use Rattle.version_chain.specs.Slots.{slot_at, slots_with}
 use Rattle.version_chain.specs.Versions.{Entry, cells_of}
-use Rattle.version_chain.specs.Links.{line_versions, line_pages, AllOf}
+use Rattle.version_chain.specs.Links.{Line, line_versions, line_pages, AllOf}
 use Rattle.version_chain.specs.Chains.{ChainsState, listed, Updates, open_count, number_count, line_of, seen_slot, lists_seen, total, IsVersionLine, AllLines, IsChains}
-use Rattle.version_chain.specs.declared.version.Version.{Version}
-
-abbrev Line : Type 0 → Type 0
-Line V = Option (Version V)
 
 abbrev Slot : Type 0 → Type 0
-Slot V = Option (Option (Version V))
+Slot V = Option (Line V)
 
 all_within : (held more ps : List Ptr) → Within held more → AllOf held ps → AllOf more ps
 all_within held more [] w all = tt

@@ -7,9 +7,8 @@ use Rattle.version_chain.specs.Versions.{Entry, IsAbove}
 use Rattle.version_chain.specs.Cut.{cut_of, if_value, left_after}
 use Rattle.std.proofs.Common.{set}
 use Rattle.version_chain.specs.Slots.{slot_at, slots_with}
-use Rattle.version_chain.specs.Links.{line_versions}
+use Rattle.version_chain.specs.Links.{Line, line_versions}
 use Rattle.version_chain.specs.Chains.{ChainsState, versions_at, listed, lists_seen, seen_slot, Updates}
-use Rattle.version_chain.specs.declared.version.Version.{Version}
 use Rattle.version_chain.proofs.ChainsLemmas.{versions_there, Updates-line, Updates-opened}
 use Rattle.version_chain.specs.Tidy.{IsNewerThan, IsTidy, AreTidy, since_at}
 use Rattle.version_chain.specs.laws.Versions.{leb_no}
@@ -124,20 +123,20 @@ module _ {V : Type 0} where
   ]
 
   -- chains as callers see them
-  abbrev pub state_of : List (Option (Option (Version V))) → ℕ → ChainsState V
+  abbrev pub state_of : List (Option (Line V)) → ℕ → ChainsState V
   state_of slots spare = record { chains = lists_seen slots; spare = spare }
 
   -- a line is replaced
-  pub tidy_line : (h since latest : ℕ) (slots now : List (Option (Option (Version V)))) (id : ℕ) (x : Option (Option (Version V))) (o : Option (Version V)) → slot_at slots id ≡ Some o → now ≡ set slots id x → (spare new_spare : ℕ)
+  pub tidy_line : (h since latest : ℕ) (slots now : List (Option (Line V))) (id : ℕ) (x : Option (Line V)) (o : Line V) → slot_at slots id ≡ Some o → now ≡ set slots id x → (spare new_spare : ℕ)
       → AreTidy h since latest (state_of slots spare) → IsTidy h since latest (listed (seen_slot x)) → AreTidy h since latest (state_of now new_spare)
   tidy_line h since latest slots now id x o found made spare new_spare all one =
       tidy_updated h since latest (state_of slots spare) (state_of now new_spare) id (seen_slot x) (Updates-line slots now id x o found made (state_of slots spare) spare new_spare refl (seen_slot x) refl) all one
 
   -- a line is opened
-  pub tidy_opened : (h since latest : ℕ) (slots now : List (Option (Option (Version V)))) (id : ℕ) → id ≤ length slots → now ≡ slots_with slots id (Some None) → (spare : ℕ) → AreTidy h since latest (state_of slots spare) → AreTidy h since latest (state_of now spare)
+  pub tidy_opened : (h since latest : ℕ) (slots now : List (Option (Line V))) (id : ℕ) → id ≤ length slots → now ≡ slots_with slots id (Some None) → (spare : ℕ) → AreTidy h since latest (state_of slots spare) → AreTidy h since latest (state_of now spare)
   tidy_opened h since latest slots now id within made spare all =
       tidy_updated h since latest (state_of slots spare) (state_of now spare) id (Some []) (Updates-opened slots now id within made (state_of slots spare) spare spare refl) all (tt, λ never. absurd never)
 
   -- a line that a number finds
-  pub tidy_there : (h since latest : ℕ) (slots : List (Option (Option (Version V)))) (id : ℕ) (o : Option (Version V)) → slot_at slots id ≡ Some o → (spare : ℕ) → AreTidy h since latest (state_of slots spare) → IsTidy h since latest (line_versions o)
+  pub tidy_there : (h since latest : ℕ) (slots : List (Option (Line V))) (id : ℕ) (o : Line V) → slot_at slots id ≡ Some o → (spare : ℕ) → AreTidy h since latest (state_of slots spare) → IsTidy h since latest (line_versions o)
   tidy_there h since latest slots id o found spare all = subst (IsTidy h since latest) (versions_there slots id o found (state_of slots spare) spare refl) (all id)

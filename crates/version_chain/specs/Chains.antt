@@ -2,10 +2,9 @@
 -- Read chain_at, versions_at and Updates. IsChains is what the parts of a `Chains` owe each other.
 use Rattle.std.specs.Prelude.{◌≡◌, ◌≢◌, ℕ, ◌+◌, ◌<◌, Option, Some, None, is_some, IsSome, count_by, List, [], ◌∷◌, length, map}
 use denote.RawPtr.{Ptr}
-use Rattle.version_chain.specs.Links.{line_versions, line_pages, AllOf}
+use Rattle.version_chain.specs.Links.{Line, line_versions, line_pages, AllOf}
 use Rattle.version_chain.specs.Slots.{slot_at}
 use Rattle.version_chain.specs.Versions.{Entry, IsFalling, cells_of}
-use Rattle.version_chain.specs.declared.version.Version.{Version}
 
 -- by number the chain that is open there, and how many cells are reserved
 pub record ChainsState (V : Type 0) : Type 0 where
@@ -50,31 +49,31 @@ module _ {V : Type 0} where
 
   -- the rest is for the invariant
 
-  abbrev pub line_of : Option (Option (Version V)) → Option (Version V)
+  abbrev pub line_of : Option (Line V) → Line V
   line_of None = None
   line_of (Some line) = line
 
-  abbrev pub seen_slot : Option (Option (Version V)) → Option (List (Entry V))
+  abbrev pub seen_slot : Option (Line V) → Option (List (Entry V))
   seen_slot None = None
   seen_slot (Some line) = Some (line_versions line)
 
-  abbrev pub lists_seen : List (Option (Option (Version V))) → List (Option (List (Entry V)))
+  abbrev pub lists_seen : List (Option (Line V)) → List (Option (List (Entry V)))
   lists_seen = map seen_slot
 
   -- how many cells the chains have
-  abbrev pub total : List (Option (Option (Version V))) → ℕ
+  abbrev pub total : List (Option (Line V)) → ℕ
   total [] = 0
   total (slot ∷ rest) = cells_of (line_versions (line_of slot)) + total rest
 
   -- each cell is of one of the pages, and the stamps fall
-  abbrev pub IsVersionLine : List Ptr → Option (Version V) → Type 0
+  abbrev pub IsVersionLine : List Ptr → Line V → Type 0
   IsVersionLine held line = AllOf held (line_pages line) × IsFalling (line_versions line)
 
-  abbrev pub AllLines : List Ptr → List (Option (Option (Version V))) → Type 0
+  abbrev pub AllLines : List Ptr → List (Option (Line V)) → Type 0
   AllLines held [] = Unit {0}
   AllLines held (slot ∷ rest) = IsVersionLine held (line_of slot) × AllLines held rest
 
   -- the chains are sound, and have all cells that are out
-  pub record IsChains (held : List Ptr) (out : ℕ) (slots : List (Option (Option (Version V)))) : Type 0 where
+  pub record IsChains (held : List Ptr) (out : ℕ) (slots : List (Option (Line V))) : Type 0 where
     pub lines : AllLines held slots
     pub counted : out ≡ total slots

@@ -4,6 +4,7 @@ use denote.RawPtr.{Ptr}
 use Rattle.cell_pool.specs.declared.cell.Cell.{Cell}
 use Rattle.cell_pool.specs.Ownership.{IsIn}
 use Rattle.version_chain.specs.Versions.{Entry}
+use Rattle.version_chain.specs.declared.slots.Newest.{Newest}
 use Rattle.version_chain.specs.declared.version.Held.{Held}
 use Rattle.version_chain.specs.declared.version.Held.TheVariants.{Absence, Value, AbsenceOver, ValueOver}
 use Rattle.version_chain.specs.declared.version.Version.{Version}
@@ -55,14 +56,18 @@ abbrev pub pages : {V : Type 0} → Option (Cell (Version V)) → List Ptr
 pages None = []
 pages (Some c) = c.page ∷ pages_behind c.value
 
--- the versions of a chain, whose newest lies in no cell, and the pages of its cells
-abbrev pub line_versions : {V : Type 0} → Option (Version V) → List (Entry V)
-line_versions None = []
-line_versions (Some v) = from_version v
+-- a chain: its newest version, which lies in no cell, or none
+abbrev pub Line : Type 0 → Type 0
+Line V = Option (Newest V (Cell (Version V)))
 
-abbrev pub line_pages : {V : Type 0} → Option (Version V) → List Ptr
+-- the versions of a chain, and the pages of its cells
+abbrev pub line_versions : {V : Type 0} → Line V → List (Entry V)
+line_versions None = []
+line_versions (Some n) = (n.stamp, n.value) ∷ versions n.older
+
+abbrev pub line_pages : {V : Type 0} → Line V → List Ptr
 line_pages None = []
-line_pages (Some v) = pages_behind v
+line_pages (Some n) = pages n.older
 
 -- each of the cells is of one of those pages
 abbrev pub AllOf : List Ptr → List Ptr → Type 0

@@ -1,30 +1,41 @@
 //! One chain: its newest version, and the cells of those before it.
 ghost use Rattle.std.specs.Prelude.{◌≡◌, ◌+◌, ◌^◌, ◌<◌, [], ◌∷◌, length, option_copied};
+ghost use Rattle.version_chain.specs.Slots.{lent};
 ghost use Rattle.version_chain.specs.Links.{from_version, versions, pages, line_versions, line_pages, AllOf};
 ghost use Rattle.version_chain.specs.Versions.{newest_of, at_of, cells_of};
 
+use crate::slots::Newest;
 use crate::version::{Link, Version};
-use cell_pool::Pool;
+use cell_pool::{Cell, Pool};
 
 /// A chain: its newest version, or none.
-pub(crate) type Line<V> = Option<Version<V>>;
+pub(crate) type Line<V> = Option<Newest<V, Cell<Version<V>>>>;
 
-pub(crate) fn newest<V>(line: Option<&Version<V>>) -> Option<u64>
-    ensures { result ≡ newest_of (line_versions (option_copied line.entry)) }
+/// A chain that is lent.
+pub(crate) type LentLine<'a, V> = Option<Newest<&'a V, &'a Cell<Version<V>>>>;
+
+pub(crate) fn newest<V>(line: &LentLine<'_, V>) -> Option<u64>
+    ensures { result ≡ newest_of (line_versions (lent line.now)) }
 {
     match line {
         None => None,
-        Some(version) => Some(version.as_parts().0),
+        Some(newest) => Some(newest.stamp),
     }
 }
 
 /// The value of the newest version that is not after the stamp.
-pub(crate) fn at<V>(line: Option<&Version<V>>, stamp: u64) -> Option<&V>
-    ensures { option_copied result ≡ at_of stamp (line_versions (option_copied line.entry)) }
+pub(crate) fn at<V>(line: LentLine<'_, V>, stamp: u64) -> Option<&V>
+    ensures { option_copied result ≡ at_of stamp (line_versions (lent line.entry)) }
 {
-    match line {
+    let Some(newest) = line else {
+        return None;
+    };
+    if newest.stamp <= stamp {
+        return newest.value;
+    }
+    match newest.older {
         None => None,
-        Some(version) => at_version(version, stamp),
+        Some(cell) => at_version(cell.get(), stamp),
     }
 }
 
@@ -57,13 +68,18 @@ pub(crate) fn push<V>(
     ensures theirs { AllOf pool.old.pages (line_pages line) → AllOf pool.new.pages (line_pages result) }
     ensures counts { (pool.new.pages ≡ pool.old.pages) × (pool.new.out + cells_of (line_versions line) ≡ pool.old.out + cells_of (line_versions result)) × (pool.new.spare + pool.new.out ≡ pool.old.spare + pool.old.out) }
 {
-    match line {
-        None => Some(Version::new(stamp, value, None)),
-        Some(newest) => match pool.take(newest) {
-            Ok(cell) => Some(Version::new(stamp, value, Some(cell))),
+    let older = match line {
+        None => None,
+        Some(newest) => match pool.take(Version::of(newest)) {
+            Ok(cell) => Some(cell),
             Err(_back) => unreachable!(),
         },
-    }
+    };
+    Some(Newest {
+        stamp,
+        value,
+        older,
+    })
 }
 
 /// Gives all cells back, and counts them.
@@ -88,8 +104,13 @@ pub(crate) fn end<V: Drop>(pool: &mut Pool<Version<V>>, line: Line<V>)
 {
     match line {
         None => {}
-        Some(version) => {
-            let (_, _, older) = version.parts();
+        Some(
+            Newest {
+                stamp: _,
+                value: _,
+                older,
+            },
+        ) => {
             clear(pool, older);
         }
     }

@@ -1,14 +1,14 @@
 //! Chains by id, in one pool.
 ghost use Rattle.std.specs.Prelude.{◌≡◌, ℕ, ◌+◌, ◌<◌, ◌≤◌, [], ◌∷◌, Some, None, IsTrue, ◌↔◌, max, length, option_copied, slice_set, IfOk, OnErr};
-ghost use Rattle.version_chain.specs.Slots.{slot_at};
+ghost use Rattle.version_chain.specs.Slots.{slot_at, lent};
 ghost use Rattle.version_chain.specs.Links.{line_versions};
 ghost use Rattle.version_chain.specs.Tidy.{since_at as since_at_spec};
 
-use crate::chain::{Line, at, end, newest, push};
+use crate::chain::{LentLine, Line, at, end, newest, push};
 use crate::cut::{cut, push_and_cut};
 use crate::slots::Slots;
 use crate::version::Version;
-use cell_pool::Pool;
+use cell_pool::{Cell, Pool};
 use std::alloc::{AllocError, Global};
 use std::marker::Model;
 
@@ -31,7 +31,7 @@ impl Model for ChainId {
 /// Chains by id, and the pool that their cells are of. Its drop gives all cells back and ends the pool.
 pub struct Chains<V: Drop> {
     pool: Pool<Version<V>>,
-    lines: Slots<Version<V>>,
+    lines: Slots<V, Cell<Version<V>>>,
     // What is known of the chains, so that a write need not look at older versions that it can't drop: where the newest
     // version of a chain is after `since`, a cut at the horizon drops none of it. No version is after `latest`.
     horizon: u64,
@@ -52,13 +52,13 @@ impl<V: Drop> Model for Chains<V> {
 }
 
 // Puts a line back where it was taken out.
-fn put<V>(lines: &mut Slots<Version<V>>, number: usize, line: Line<V>)
+fn put<V>(lines: &mut Slots<V, Cell<Version<V>>>, number: usize, line: Line<V>)
     requires { slot_at lines.old number ≡ Some None }
     ensures { lines.new ≡ slice_set lines.old number (Some line) }
 {
     match lines.replace(number, line) {
         None => {}
-        Some(_version) => unreachable!(),
+        Some(_newest) => unreachable!(),
     }
 }
 
@@ -140,10 +140,10 @@ impl<V: Drop> Chains<V> {
     }
 
     // The newest version of an open chain.
-    fn line(&self, id: ChainId) -> Option<&Version<V>>
+    fn line(&self, id: ChainId) -> LentLine<'_, V>
         requires { IsOpen self.now id }
-        ensures there { chain_at self.now id ≡ Some (line_versions (option_copied result)) }
-        ensures falls { IsFalling (line_versions (option_copied result)) }
+        ensures there { chain_at self.now id ≡ Some (line_versions (lent result)) }
+        ensures falls { IsFalling (line_versions (lent result)) }
     {
         self.lines.get(id.number)
     }
@@ -154,7 +154,7 @@ impl<V: Drop> Chains<V> {
         ensures newest { result ≡ newest_of (versions_at self.now id) }
         ensures falls { IsFalling (versions_at self.now id) }
     {
-        newest(self.line(id))
+        newest(&self.line(id))
     }
 
     /// The value of the newest version that isn't after the stamp; none where there is no such version, or it is an absence.

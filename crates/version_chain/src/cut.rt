@@ -2,14 +2,15 @@
 //!
 //! The versions after the horizon are turned round onto a list of their own, what stands after them is given back but for
 //! one value, and the versions are turned round onto that: no memory, no recursion, and each cell stays where it is.
-ghost use Rattle.std.specs.Prelude.{true, false, [], ◌∷◌, ◌≡◌, ◌≤◌, ◌<◌, ◌+◌, List, length, option_copied};
+ghost use Rattle.std.specs.Prelude.{true, false, [], ◌∷◌, ◌≡◌, ◌≤◌, ◌<◌, ◌+◌, List, length};
 ghost use denote.RawPtr.{Ptr};
 ghost use Rattle.version_chain.specs.Links.{versions, pages, line_versions, line_pages, AllOf, back_onto, AllAfter, FromAtMost};
 ghost use Rattle.version_chain.specs.Versions.{cells_of, IsAbove};
 ghost use Rattle.version_chain.specs.Cut.{cut_of, newest_value};
 ghost use Rattle.version_chain.specs.Tidy.{IsNewerThan};
 
-use crate::chain::{Line, clear, newest, push};
+use crate::chain::{Line, clear, end, push};
+use crate::slots::Newest;
 use crate::version::{Link, Version};
 use cell_pool::Pool;
 
@@ -101,33 +102,51 @@ pub(crate) fn cut<V: Drop>(
 {
     match line {
         None => (None, 0),
-        Some(version) => {
-            let (stamp, value, older) = version.parts();
+        Some(
+            Newest {
+                stamp,
+                value,
+                older,
+            },
+        ) => {
             if stamp > horizon {
                 let (older, count) = cut_link(pool, older, horizon);
-                return (Some(Version::new(stamp, value, older)), count);
+                return (
+                    Some(Newest {
+                        stamp,
+                        value,
+                        older,
+                    }),
+                    count,
+                );
             }
             let count = clear(pool, older);
             if value.is_none() {
                 return (None, count + 1);
             }
-            (Some(Version::new(stamp, value, None)), count)
+            let left = Newest {
+                stamp,
+                value,
+                older: None,
+            };
+            (Some(left), count)
         }
     }
 }
 
 // Whether the newest version is after the stamp.
-fn is_newer<V>(line: Option<&Version<V>>, stamp: u64) -> bool
-    ensures { result ≡ true → IsNewerThan stamp (line_versions (option_copied line.entry)) }
+fn is_newer<V>(line: &Line<V>, stamp: u64) -> bool
+    ensures { result ≡ true → IsNewerThan stamp (line_versions line.now) }
 {
-    match newest(line) {
-        Some(newest) => newest > stamp,
+    match line {
+        Some(newest) => newest.stamp > stamp,
         None => false,
     }
 }
 
-/// Puts a version in front, and drops what a cut drops. Where the newest one so far is after `since`, it is known that no
-/// older one has to go, and none is looked at.
+/// Puts a version in front, and drops what a cut drops. A version that isn't after the horizon hides all others, so that
+/// these go and none takes a cell. Where the newest one so far is after `since`, it is known that no older one has to go, and
+/// none is looked at.
 pub(crate) fn push_and_cut<V: Drop>(
     pool: &mut Pool<Version<V>>,
     line: Line<V>,
@@ -145,7 +164,18 @@ pub(crate) fn push_and_cut<V: Drop>(
     ensures theirs { AllOf pool.new.pages (line_pages result) }
     ensures counts { (pool.new.pages ≡ pool.old.pages) × (pool.new.out + cells_of (line_versions line) ≡ pool.old.out + cells_of (line_versions result)) × (pool.new.spare + pool.new.out ≡ pool.old.spare + pool.old.out) }
 {
-    let tidy = is_newer(line.as_ref(), since);
+    if stamp <= horizon {
+        end(pool, line);
+        if value.is_none() {
+            return None;
+        }
+        return Some(Newest {
+            stamp,
+            value,
+            older: None,
+        });
+    }
+    let tidy = is_newer(&line, since);
     let pushed = push(pool, line, stamp, value);
     if tidy {
         return pushed;

@@ -1,7 +1,9 @@
 //! One version of a chain, with the link to the one before it.
 ghost use Rattle.std.specs.Prelude.{◌≡◌, ◌∷◌, option_copied};
-ghost use Rattle.version_chain.specs.Links.{from_version, pages_behind, versions, pages, value_in, older_in};
+ghost use Rattle.version_chain.specs.Links.{from_version, pages_behind, versions, pages, value_in, older_in, line_versions, line_pages};
+ghost use Rattle.std.specs.Prelude.{Some};
 
+use crate::slots::Newest;
 use cell_pool::Cell;
 
 /// The cell of a version, or none.
@@ -70,6 +72,19 @@ impl<V> Version<V> {
     {
         let held = Held::of(value, older);
         Version { stamp, held }
+    }
+
+    /// The newest version of a chain, before one comes in front of it.
+    pub(crate) fn of(newest: Newest<V, Cell<Version<V>>>) -> Version<V>
+        ensures versions { from_version result ≡ line_versions (Some newest) }
+        ensures pages { pages_behind result ≡ line_pages (Some newest) }
+    {
+        let Newest {
+            stamp,
+            value,
+            older,
+        } = newest;
+        Version::new(stamp, value, older)
     }
 
     /// Its stamp, its value, and the version before it.
