@@ -166,14 +166,14 @@ pub(crate) fn push_and_cut<V: Drop>(
 {
     if stamp <= horizon {
         end(pool, line);
-        if value.is_none() {
-            return None;
-        }
-        return Some(Newest {
-            stamp,
-            value,
-            older: None,
-        });
+        return match value {
+            None => None,
+            value => Some(Newest {
+                stamp,
+                value,
+                older: None,
+            }),
+        };
     }
     let tidy = is_newer(&line, since);
     let pushed = push(pool, line, stamp, value);
