@@ -4,6 +4,7 @@ ghost use Rattle.btree.specs.Rows.{weave, height_of, IsNode, RowsHaveRoom};
 
 use crate::mend::rejoin_kids;
 use crate::node::Node;
+use crate::share::Share;
 
 // Whether a node has places enough to take pairs from a full one. With fewer the same pairs would be moved too often.
 fn has_places<K, V>(node: &Node<K, V>) -> bool
@@ -12,9 +13,11 @@ fn has_places<K, V>(node: &Node<K, V>) -> bool
     node.count() < 29
 }
 
-/// Eases a node of which one kid may be full: the kid before it or the one after it gets half of what it has more.
+/// Eases a node of which one kid may be full: the kid before it or the one after it gets half of what it has more; the kid
+/// before the last all that it can hold, and so the one after the first.
 ///
-/// So keys that come in order leave nodes with 30 pairs behind them, where halves of split nodes would have 16.
+/// For keys that come in order fill the last node or the first: they leave nodes of 32 pairs behind them, where halves of split
+/// nodes would have 16, and each pair is moved once.
 pub fn ease<K: Drop, V: Drop>(entries: &mut Vec<(K, V)>, kids: &mut Vec<Node<K, V>>, at: usize)
     requires in_range { at < length kids.old.items }
     requires node { IsNode entries.old.items kids.old.items }
@@ -29,8 +32,18 @@ pub fn ease<K: Drop, V: Drop>(entries: &mut Vec<(K, V)>, kids: &mut Vec<Node<K, 
         return;
     }
     if at > 0 && has_places(&kids[at - 1]) {
-        rejoin_kids(entries, kids, at);
+        let share = if at + 1 == kids.len() {
+            Share::MostFirst
+        } else {
+            Share::Half
+        };
+        rejoin_kids(entries, kids, at, share);
     } else if at + 1 < kids.len() && has_places(&kids[at + 1]) {
-        rejoin_kids(entries, kids, at + 1);
+        let share = if at == 0 {
+            Share::MostSecond
+        } else {
+            Share::Half
+        };
+        rejoin_kids(entries, kids, at + 1, share);
     }
 }

@@ -20,7 +20,8 @@
 //! way down takes the memory that splits may want and joins what comes up (`insert`).
 //!
 //! Before it comes to that, a kid that an insertion has filled gives half of what it has more to the kid before or
-//! after it (`ease.rt`), so that keys in order leave nodes of 30 pairs. A kid with a pair too few gets some likewise.
+//! after it (`ease.rt`), and the last or first kid as much as the other can hold (`share.rt`), so that keys in order leave
+//! nodes of 32 pairs. A kid with a pair too few gets some likewise.
 //!
 //! An empty tree takes no memory, and one of a single node a row of 4, 8, 14 or 33 places. A tree is at most 16 levels
 //! deep: what recurs, dropping a tree too, recurs at most so often, and a walk keeps its way down in itself.
@@ -40,6 +41,7 @@ mod root;
 mod row;
 mod search;
 mod seek;
+mod share;
 mod split;
 mod trail;
 

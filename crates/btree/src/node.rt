@@ -12,6 +12,7 @@ use crate::mend::{append_reserved, mend, take_at};
 use crate::row::{cut_anew, replace_value};
 use crate::search::{count_before, entry_at, entry_before, place, place_near};
 use crate::seek::Point;
+use crate::share::Share;
 use crate::split::{Beside, insert_leaf, put_beside, spare_rows, split_long};
 use crate::trail::Trail;
 use std::alloc::{AllocError, AllocFailed, Global};
@@ -101,8 +102,8 @@ impl<K, V> Node<K, V> {
         self.entries.len()
     }
 
-    /// Joins what a pair parts: into this node, if one can hold all, or cut anew, half and half.
-    pub fn rejoin(&mut self, pair: (K, V), right: Node<K, V>) -> Option<Beside<K, V>>
+    /// Joins what a pair parts: into this node, if one can hold all, or cut anew.
+    pub fn rejoin(&mut self, pair: (K, V), right: Node<K, V>, share: Share) -> Option<Beside<K, V>>
     where
         K: Drop,
         V: Drop,
@@ -123,11 +124,11 @@ impl<K, V> Node<K, V> {
             append_reserved(&mut self.kids, right_kids);
             return None;
         }
-        let half = count - count / 2;
-        cut_anew(&mut self.entries, &mut right_entries, half + 1);
+        let first = share.first(count);
+        cut_anew(&mut self.entries, &mut right_entries, first + 1);
         let pair = self.entries.take_last();
         let kid_count = self.kids.len() + right_kids.len();
-        cut_anew(&mut self.kids, &mut right_kids, kid_count.min(half + 1));
+        cut_anew(&mut self.kids, &mut right_kids, kid_count.min(first + 1));
         Some((pair, Node::new(right_entries, right_kids)))
     }
 
