@@ -14,13 +14,14 @@
 //! (4) the numbers that are not open are linked, and the next id is the first of these;
 //! (5) a chain whose newest version is after `since` has none that a cut at the kept horizon drops (`specs/Tidy.antt`).
 //!
-//! `push_and_cut` is how a store writes: while a transaction is open the horizon stays, and by (5) no write looks at the
-//! versions that have come since. Where the horizon has moved, the next write of a chain looks at those after it.
+//! `push_and_cut` is how a store writes: a version that isn't after the horizon stands alone, and no other is looked at.
+//! While a transaction is open the horizon stays, and by (5) no write looks at the versions that have come since. Where the
+//! horizon has moved, the next write of a chain looks at those after it.
 //!
 //! With versions 9 "x", 7 absent, 4 "y", 2 "x": `cut(id, 6)` leaves 9, 7, 4; `cut(id, 8)` leaves 9.
 //!
-//! Read `specs/Chains.antt`, `specs/Versions.antt` and `specs/Cut.antt`, then `version.rt`, `chain.rt`, `cut.rt` and
-//! `chains.rt`. No code here is unsafe: the raw pointers are those of `cell_pool`.
+//! Read `specs/Chains.antt`, `specs/Versions.antt` and `specs/Cut.antt`, then `slots.rt`, `version.rt`, `chain.rt`, `cut.rt`
+//! and `chains.rt`. No code here is unsafe: the raw pointers are those of `cell_pool`.
 //! Not promised: which cell is used next, nor which of several closed ids; any time.
 #![tactic(auto)]
 
