@@ -3,6 +3,7 @@ pub mod Reference
 pub mod Limits
 pub mod Bytes
 pub mod Name
+pub mod Held
 pub mod Faults
 pub mod Database
 pub mod Changes

@@ -35,5 +35,6 @@ mod limits;
 mod lock;
 mod name;
 mod reference;
+mod room;
 mod subscript;
 mod text;

@@ -1,25 +1,60 @@
 //! Strings of bytes, short ones without an allocation.
-ghost use Rattle.std.specs.Prelude.{◌≡◌, ◌==◌, ◌++◌, ◌≤◌, [], length, IsOk, IfOk, OnOk, OnErr};
+ghost use Rattle.std.specs.Prelude.{◌≡◌, ◌==◌, ◌++◌, ◌+◌, ◌≤◌, ◌<◌, [], length, IsOk, IfOk, OnOk, OnErr};
 
-use smallvec::SmallVec;
+use crate::room::{MOST_SHORT, Room};
 use std::alloc::{AllocError, Global};
 use std::cmp::Ordering;
 use std::default::MadeWith;
+use std::fmt;
 use std::hash::{Hash, Hasher};
 use std::marker::Model;
 
-/// A string of bytes. Up to 16 lie in the value itself, since most subscripts and values are that short.
-#[derive(Debug, Drop)]
+// Short bytes lie in the value; longer ones lie behind one word, so that the value is no larger for them.
+#[derive(Drop)]
+enum Held {
+    Short(Room),
+    Long(Box<Vec<u8>>),
+}
+
+/// A string of bytes that takes 24 bytes. Up to 22 lie in the value itself, since most subscripts and values are that
+/// short.
+#[derive(Drop)]
 pub struct Text {
-    bytes: SmallVec<u8, 16>,
+    alloc: Global,
+    held: Held,
 }
 
 impl Model for Text {
     ghost use Rattle.std.specs.Prelude.{List, ℕ};
+    ghost use Rattle.collation.specs.Held.{bytes_of, IsHeld};
 
     ghost Value = { List ℕ };
 
-    ghost view = { λ t. t.bytes.items };
+    ghost view = { λ t. bytes_of t.held };
+
+    ghost invariant = { λ t. IsHeld t.held };
+}
+
+// These bytes in a box, where memory is had for it.
+fn boxed(alloc: Global, bytes: Vec<u8>) -> Result<Text, AllocError>
+    requires { 22 < length bytes.items }
+    ensures { IfOk result (λ text. text ≡ bytes.items) }
+{
+    let bytes = Box::new(alloc, bytes)?;
+    Ok(Text {
+        alloc,
+        held: Held::Long(bytes),
+    })
+}
+
+// The one, and the other after it, in an allocation of their size.
+fn joined(alloc: Global, first: &[u8], second: &[u8]) -> Result<Vec<u8>, AllocError>
+    ensures { IfOk result (λ bytes. bytes.items ≡ first.now ++ second.now) }
+{
+    let mut bytes = Vec::with_capacity(alloc, first.len().saturating_add(second.len()))?;
+    bytes.extend_from_slice(first)?;
+    bytes.extend_from_slice(second)?;
+    Ok(bytes)
 }
 
 impl Text {
@@ -28,31 +63,56 @@ impl Text {
         ensures { result ≡ [] }
     {
         Text {
-            bytes: SmallVec::new(alloc),
+            alloc,
+            held: Held::Short(Room::new()),
         }
     }
 
-    /// A copy of these bytes. Fails only for want of memory, and never at 16 bytes or fewer.
+    /// A copy of these bytes. Fails only for want of memory, and never at 22 bytes or fewer.
     pub fn from_slice(alloc: Global, bytes: &[u8]) -> Result<Text, AllocError>
         ensures ok { IfOk result (λ text. text ≡ bytes.now) }
-        ensures short { length bytes.now ≤ 16 → IsOk result }
+        ensures short { length bytes.now ≤ 22 → IsOk result }
     {
-        let bytes = SmallVec::from_slice(alloc, bytes)?;
-        Ok(Text { bytes })
+        if bytes.len() > MOST_SHORT {
+            return boxed(alloc, Vec::from_slice(alloc, bytes)?);
+        }
+        Ok(Text {
+            alloc,
+            held: Held::Short(Room::of(bytes)),
+        })
+    }
+
+    /// The bytes of a list, which is let go of in any case: where they are short they are copied into the value, and where
+    /// memory is refused nothing is left of them. Fails only for want of memory, and never at 22 bytes or fewer.
+    pub fn from_vec(bytes: Vec<u8>) -> Result<Text, AllocError>
+        ensures ok { IfOk result (λ text. text ≡ bytes.items) }
+        ensures short { length bytes.items ≤ 22 → IsOk result }
+    {
+        let alloc = *bytes.allocator();
+        if bytes.len() > MOST_SHORT {
+            return boxed(alloc, bytes);
+        }
+        Ok(Text {
+            alloc,
+            held: Held::Short(Room::of(bytes.as_slice())),
+        })
     }
 
     /// Its bytes.
     pub fn as_slice(&self) -> &[u8]
         ensures { result.now ≡ self.now }
     {
-        self.bytes.as_slice()
+        match &self.held {
+            Held::Short(room) => room.as_slice(),
+            Held::Long(bytes) => bytes.as_slice(),
+        }
     }
 
     /// How many bytes it has.
     pub fn len(&self) -> usize
         ensures { result ≡ length self.now }
     {
-        self.bytes.len()
+        self.as_slice().len()
     }
 
     /// Whether it is the empty string.
@@ -62,22 +122,23 @@ impl Text {
         self.len() == 0
     }
 
-    /// Puts these bytes at its end. Where memory is refused it stays as it was. It may be refused for a short text too, since
-    /// how much room there is isn't shown.
+    /// Puts these bytes at its end. Where memory is refused it stays as it was; a text that stays within 22 bytes needs none.
     pub fn extend_from_slice(&mut self, more: &[u8]) -> Result<(), AllocError>
         ensures ok { OnOk result (self.new ≡ self.old ++ more.now) }
         ensures err { OnErr result (self.new ≡ self.old) }
+        ensures short { length self.old + length more.now ≤ 22 → IsOk result }
     {
-        self.bytes.extend_from_slice(more)
-    }
-}
-
-impl From<Vec<u8>> for Text {
-    ghost from_gives = { λ bytes text. text ≡ bytes.items };
-
-    fn from(bytes: Vec<u8>) -> Text {
-        Text {
-            bytes: SmallVec::from_vec(bytes),
+        match &mut self.held {
+            Held::Short(room) => {
+                if room.as_slice().len().saturating_add(more.len()) <= MOST_SHORT {
+                    room.push(more);
+                    return Ok(());
+                }
+                let bytes = joined(self.alloc, room.as_slice(), more)?;
+                *self = boxed(self.alloc, bytes)?;
+                Ok(())
+            }
+            Held::Long(bytes) => bytes.extend_from_slice(more),
         }
     }
 }
@@ -92,17 +153,25 @@ impl MadeWith<Global> for Text {
     }
 }
 
+// Of the room only the bytes are shown.
+impl fmt::Debug for Text {
+    fn fmt<W: fmt::Write>(&self, f: &mut fmt::Formatter<W>) -> fmt::Result {
+        f.debug_struct("Text")
+            .field("bytes", &self.as_slice())
+            .finish()
+    }
+}
+
 impl Clone for Text {
     ghost use Rattle.std.specs.Prelude.{◌≡◌, ◌≤◌, length};
 
     ghost is_clone = { λ a b. a ≡ b };
 
-    ghost is_infallible = { λ t. length t ≤ 16 };
+    ghost is_infallible = { λ t. length t ≤ 22 };
 
-    /// A copy. Fails only for want of memory, and never at 16 bytes or fewer.
+    /// A copy. Fails only for want of memory, and never at 22 bytes or fewer.
     fn clone(&self) -> Result<Text, AllocError> {
-        let bytes = SmallVec::from_slice(*self.bytes.allocator(), self.as_slice())?;
-        Ok(Text { bytes })
+        Text::from_slice(self.alloc, self.as_slice())
     }
 }
 

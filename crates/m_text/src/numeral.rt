@@ -83,7 +83,7 @@ pub(crate) fn read_number(alloc: Global, text: &[u8]) -> Result<(Text, &[u8]), R
 {
     let (number, rest) = split_number(text);
     match canonic_of(alloc, number)? {
-        Some(canonic) => Ok((Text::from(canonic), rest)),
+        Some(canonic) => Ok((Text::from_vec(canonic)?, rest)),
         None => Err(Refusal::BadLine),
     }
 }

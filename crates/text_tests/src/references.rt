@@ -3,6 +3,7 @@ use collation::{Job, Name, Ref, Subscripts, Text};
 use refusal::Refusal;
 use std::alloc::Global;
 use std::hash::{BuildHasher, BuildHasherDefault, FoldHasher};
+use std::mem::size_of;
 use std::test::Fail;
 
 fn name_of(alloc: Global, bytes: &[u8]) -> Result<Name, Refusal> {
@@ -129,9 +130,35 @@ fn is_grown_to(alloc: Global, pieces: &[&[u8]], want: &[u8]) -> Result<bool, Ref
 
 #[test]
 fn texts_grow_past_their_room(rt: HostRuntime) -> Result<(), Fail> {
-    let long = [b'x'; 40];
+    let long = *b"forty bytes, of which no two at 22 meet.";
     assert!(rt; is_grown_to(rt.alloc(), &[], b"")?);
     assert!(rt; is_grown_to(rt.alloc(), &[b"ab", b"", b"c"], b"abc")?);
-    assert!(rt; is_grown_to(rt.alloc(), &[&long[..10], &long[10..]], &long)?);
+    for at in [21, 22, 23] {
+        assert!(rt; is_grown_to(rt.alloc(), &[&long[..10], &long[10..at]], &long[..at])?);
+        assert!(rt; is_grown_to(rt.alloc(), &[&long[..at], &long[at..]], &long)?);
+        assert!(rt; is_grown_to(rt.alloc(), &[&long[..10], &long[10..at], &long[at..]], &long)?);
+    }
     Ok(())
+}
+
+// Whether the bytes of a list, the copy of a slice and the copy of a text are these bytes, and equal.
+fn is_made_of(alloc: Global, bytes: &[u8]) -> Result<bool, Refusal> {
+    let made = Text::from_vec(Vec::from_slice(alloc, bytes)?)?;
+    let copy = Text::from_slice(alloc, bytes)?.clone()?;
+    Ok(made.as_slice() == bytes && copy.as_slice() == bytes && made == copy)
+}
+
+#[test]
+fn texts_are_made_of_lists_and_slices(rt: HostRuntime) -> Result<(), Fail> {
+    let long = *b"forty bytes, of which no two at 22 meet.";
+    for at in [0, 1, 21, 22, 23, 40] {
+        assert!(rt; is_made_of(rt.alloc(), &long[..at])?, "{at}");
+    }
+    Ok(())
+}
+
+// What a value takes in each version of a chain.
+#[test]
+fn a_text_takes_24_bytes(rt: HostRuntime) {
+    assert_eq!(rt; size_of::<Text>(), 24);
 }
