@@ -136,7 +136,13 @@ fn texts_grow_past_their_room(rt: HostRuntime) -> Result<(), Fail> {
     for at in [21, 22, 23] {
         assert!(rt; is_grown_to(rt.alloc(), &[&long[..10], &long[10..at]], &long[..at])?);
         assert!(rt; is_grown_to(rt.alloc(), &[&long[..at], &long[at..]], &long)?);
-        assert!(rt; is_grown_to(rt.alloc(), &[&long[..10], &long[10..at], &long[at..]], &long)?);
+        assert!(rt;
+            is_grown_to(
+                rt.alloc(),
+                &[&long[..10], &long[10..at], &long[at..]],
+                &long
+            )?
+        );
     }
     Ok(())
 }
