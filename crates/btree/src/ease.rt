@@ -17,7 +17,7 @@ fn has_places<K, V>(node: &Node<K, V>) -> bool
 /// before the last all that it can hold, and so the one after the first.
 ///
 /// For keys that come in order fill the last node or the first: they leave nodes of 32 pairs behind them, where halves of split
-/// nodes would have 16, and each pair is moved once.
+/// nodes would have 16, and a node is eased once for each 32 such insertions.
 pub fn ease<K: Drop, V: Drop>(entries: &mut Vec<(K, V)>, kids: &mut Vec<Node<K, V>>, at: usize)
     requires in_range { at < length kids.old.items }
     requires node { IsNode entries.old.items kids.old.items }
