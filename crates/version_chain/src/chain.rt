@@ -4,22 +4,21 @@ ghost use Rattle.version_chain.specs.Slots.{lent};
 ghost use Rattle.version_chain.specs.Links.{from_version, versions, pages, line_versions, line_pages, AllOf};
 ghost use Rattle.version_chain.specs.Versions.{newest_of, at_of, cells_of};
 
-use crate::slots::Newest;
-use crate::version::{Link, Version};
+use crate::version::{Held, Link, Version, lent_parts};
 use cell_pool::{Cell, Pool};
 
 /// A chain: its newest version, or none.
-pub(crate) type Line<V> = Option<Newest<V, Cell<Version<V>>>>;
+pub(crate) type Line<V> = Option<Held<V, Cell<Version<V>>>>;
 
 /// A chain that is lent.
-pub(crate) type LentLine<'a, V> = Option<Newest<&'a V, &'a Cell<Version<V>>>>;
+pub(crate) type LentLine<'a, V> = Option<Held<&'a V, &'a Cell<Version<V>>>>;
 
-pub(crate) fn newest<V>(line: &LentLine<'_, V>) -> Option<u64>
-    ensures { result ≡ newest_of (line_versions (lent line.now)) }
+pub(crate) fn newest<V>(line: LentLine<'_, V>) -> Option<u64>
+    ensures { result ≡ newest_of (line_versions (lent line.entry)) }
 {
     match line {
         None => None,
-        Some(newest) => Some(newest.stamp),
+        Some(newest) => Some(lent_parts(newest).0),
     }
 }
 
@@ -30,10 +29,11 @@ pub(crate) fn at<V>(line: LentLine<'_, V>, stamp: u64) -> Option<&V>
     let Some(newest) = line else {
         return None;
     };
-    if newest.stamp <= stamp {
-        return newest.value;
+    let (here, value, older) = lent_parts(newest);
+    if here <= stamp {
+        return value;
     }
-    match newest.older {
+    match older {
         None => None,
         Some(cell) => at_version(cell.get(), stamp),
     }
@@ -68,18 +68,13 @@ pub(crate) fn push<V>(
     ensures theirs { AllOf pool.old.pages (line_pages line) → AllOf pool.new.pages (line_pages result) }
     ensures counts { (pool.new.pages ≡ pool.old.pages) × (pool.new.out + cells_of (line_versions line) ≡ pool.old.out + cells_of (line_versions result)) × (pool.new.spare + pool.new.out ≡ pool.old.spare + pool.old.out) }
 {
-    let older = match line {
-        None => None,
-        Some(newest) => match pool.take(Version::of(newest)) {
-            Ok(cell) => Some(cell),
-            Err(_back) => unreachable!(),
-        },
+    let Some(newest) = line else {
+        return Some(Held::alone(stamp, value));
     };
-    Some(Newest {
-        stamp,
-        value,
-        older,
-    })
+    match pool.take(Version::behind(stamp, newest)) {
+        Ok(cell) => Some(Held::over(value, cell)),
+        Err(_back) => unreachable!(),
+    }
 }
 
 /// Gives all cells back, and counts them.
@@ -104,13 +99,8 @@ pub(crate) fn end<V: Drop>(pool: &mut Pool<Version<V>>, line: Line<V>)
 {
     match line {
         None => {}
-        Some(
-            Newest {
-                stamp: _,
-                value: _,
-                older,
-            },
-        ) => {
+        Some(newest) => {
+            let (_, _, older) = newest.parts();
             clear(pool, older);
         }
     }

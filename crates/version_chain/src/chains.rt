@@ -154,7 +154,7 @@ impl<V: Drop> Chains<V> {
         ensures newest { result ≡ newest_of (versions_at self.now id) }
         ensures falls { IsFalling (versions_at self.now id) }
     {
-        newest(&self.line(id))
+        newest(self.line(id))
     }
 
     /// The value of the newest version that isn't after the stamp; none where there is no such version, or it is an absence.
@@ -183,8 +183,8 @@ impl<V: Drop> Chains<V> {
         self.latest = self.latest.max(stamp);
     }
 
-    /// Adds the newest version of a chain, as `push_reserved` does, and drops what `cut` drops. Takes no memory. Older versions
-    /// that are known to stay aren't looked at: so many writes of one chain under one horizon cost what so many chains would.
+    /// Adds the newest version of a chain, as `push_reserved` does, and drops what `cut` drops. Takes no memory. Of older versions
+    /// that are known to stay it looks at one: so many writes of one chain under one horizon cost what so many chains would.
     pub fn push_and_cut(&mut self, id: ChainId, stamp: u64, value: Option<V>, horizon: u64)
         requires open { IsOpen self.old id }
         requires reserved { HasCell self.old id }

@@ -10,8 +10,7 @@ ghost use Rattle.version_chain.specs.Cut.{cut_of, newest_value};
 ghost use Rattle.version_chain.specs.Tidy.{IsNewerThan};
 
 use crate::chain::{Line, clear, end, push};
-use crate::slots::Newest;
-use crate::version::{Link, Version};
+use crate::version::{Held, Link, Version, lent_parts};
 use cell_pool::Pool;
 
 // The versions after the horizon, oldest first, and the others.
@@ -102,34 +101,17 @@ pub(crate) fn cut<V: Drop>(
 {
     match line {
         None => (None, 0),
-        Some(
-            Newest {
-                stamp,
-                value,
-                older,
-            },
-        ) => {
+        Some(newest) => {
+            let (stamp, value, older) = newest.parts();
             if stamp > horizon {
                 let (older, count) = cut_link(pool, older, horizon);
-                return (
-                    Some(Newest {
-                        stamp,
-                        value,
-                        older,
-                    }),
-                    count,
-                );
+                return (Some(Held::of(stamp, value, older)), count);
             }
             let count = clear(pool, older);
             if value.is_none() {
                 return (None, count + 1);
             }
-            let left = Newest {
-                stamp,
-                value,
-                older: None,
-            };
-            (Some(left), count)
+            (Some(Held::alone(stamp, value)), count)
         }
     }
 }
@@ -139,14 +121,14 @@ fn is_newer<V>(line: &Line<V>, stamp: u64) -> bool
     ensures { result ≡ true → IsNewerThan stamp (line_versions line.now) }
 {
     match line {
-        Some(newest) => newest.stamp > stamp,
+        Some(newest) => lent_parts(newest.lend()).0 > stamp,
         None => false,
     }
 }
 
 /// Puts a version in front, and drops what a cut drops. A version that isn't after the horizon hides all others, so that
 /// these go and none takes a cell. Where the newest one so far is after `since`, it is known that no older one has to go, and
-/// none is looked at.
+/// none is looked at but the first, whose cell keeps the stamp.
 pub(crate) fn push_and_cut<V: Drop>(
     pool: &mut Pool<Version<V>>,
     line: Line<V>,
@@ -168,11 +150,7 @@ pub(crate) fn push_and_cut<V: Drop>(
         end(pool, line);
         return match value {
             None => None,
-            value => Some(Newest {
-                stamp,
-                value,
-                older: None,
-            }),
+            Some(value) => Some(Held::Value(stamp, value)),
         };
     }
     let tidy = is_newer(&line, since);

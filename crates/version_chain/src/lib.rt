@@ -5,7 +5,8 @@
 //! `specs/laws/`: of what is seen at a stamp, of a cut, and of a change under one id.
 //!
 //! A chain is its newest version, in the slot of its id, with the raw pointer to the cell of the version before it, which
-//! holds the pointer to the next. So a chain of one version takes no cell. Invariants
+//! holds the pointer to the next. So a chain of one version takes no cell. A version with one before it keeps no stamp: the
+//! cell of that one does, beside it, so that a slot has one word for stamp or pointer. Invariants
 //! (`IsChains` of `specs/Chains.antt`, `AreSoundEntries` of `specs/Slots.antt`):
 //! (1) stamps fall strictly from the newest version on;
 //! (2) each cell of a chain is of the pool's pages, and the chains have as many cells as are out: one for each version but
@@ -15,8 +16,8 @@
 //! (5) a chain whose newest version is after `since` has none that a cut at the kept horizon drops (`specs/Tidy.antt`).
 //!
 //! `push_and_cut` is how a store writes: a version that isn't after the horizon stands alone, and no other is looked at.
-//! While a transaction is open the horizon stays, and by (5) no write looks at the versions that have come since. Where the
-//! horizon has moved, the next write of a chain looks at those after it.
+//! While a transaction is open the horizon stays, and by (5) a write looks at one of the versions that have come since, for the
+//! stamp that its cell keeps. Where the horizon has moved, the next write of a chain looks at those after it.
 //!
 //! With versions 9 "x", 7 absent, 4 "y", 2 "x": `cut(id, 6)` leaves 9, 7, 4; `cut(id, 8)` leaves 9.
 //!

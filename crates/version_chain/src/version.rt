@@ -1,90 +1,135 @@
 //! One version of a chain, with the link to the one before it.
-ghost use Rattle.std.specs.Prelude.{◌≡◌, ◌∷◌, option_copied};
-ghost use Rattle.version_chain.specs.Links.{from_version, pages_behind, versions, pages, value_in, older_in, line_versions, line_pages};
-ghost use Rattle.std.specs.Prelude.{Some};
+//!
+//! A version with one before it keeps no stamp: the cell of that one does, beside it.
+ghost use Rattle.std.specs.Prelude.{◌≡◌, ◌∷◌, [], Some, option_copied};
+ghost use Rattle.version_chain.specs.Slots.{lent_held};
+ghost use Rattle.version_chain.specs.Links.{newer_of, from_version, pages_behind, versions, pages, held_versions, held_pages};
 
-use crate::slots::Newest;
 use cell_pool::Cell;
 
 /// The cell of a version, or none.
 pub(crate) type Link<V> = Option<Cell<Version<V>>>;
 
-/// A value, or its absence, from a stamp on.
-pub(crate) struct Version<V> {
-    stamp: u64,
-    held: Held<V, Cell<Version<V>>>,
-}
-
-// One tag for both, value and link: a version is 8 bytes smaller than with two options.
+/// A value, or its absence: with its stamp, or over the version before it, whose cell keeps the stamp.
+///
+/// One tag for value and link, and one word for stamp or link.
 pub(crate) enum Held<V, L> {
-    Absence,
-    Value(V),
+    Absence(u64),
+    Value(u64, V),
     AbsenceOver(L),
     ValueOver(V, L),
 }
 
+/// A version in a cell.
+pub(crate) struct Version<V> {
+    // The stamp of the version in front of this one. Where none is in front, nothing is read from it.
+    newer: u64,
+    held: Held<V, Cell<Version<V>>>,
+}
+
 impl<V, L> Held<V, L> {
-    fn of(value: Option<V>, older: Option<L>) -> Held<V, L>
-        ensures value { value_in result ≡ value }
-        ensures older { older_in result ≡ older }
-    {
-        match value {
-            None => match older {
-                None => Held::Absence,
-                Some(older) => Held::AbsenceOver(older),
-            },
-            Some(value) => match older {
-                None => Held::Value(value),
-                Some(older) => Held::ValueOver(value, older),
-            },
-        }
-    }
-
-    fn parts(self) -> (Option<V>, Option<L>)
-        ensures value { result.0 ≡ value_in self }
-        ensures older { result.1 ≡ older_in self }
+    /// The version, lent.
+    pub(crate) fn lend(&self) -> Held<&V, &L>
+        ensures { lent_held result ≡ self.now }
     {
         match self {
-            Held::Absence => (None, None),
-            Held::Value(value) => (Some(value), None),
-            Held::AbsenceOver(older) => (None, Some(older)),
-            Held::ValueOver(value, older) => (Some(value), Some(older)),
-        }
-    }
-
-    fn as_parts(&self) -> (Option<&V>, Option<&L>)
-        ensures value { option_copied result.0 ≡ value_in self.now }
-        ensures older { option_copied result.1 ≡ older_in self.now }
-    {
-        match self {
-            Held::Absence => (None, None),
-            Held::Value(value) => (Some(value), None),
-            Held::AbsenceOver(older) => (None, Some(older)),
-            Held::ValueOver(value, older) => (Some(value), Some(older)),
+            Held::Absence(stamp) => Held::Absence(*stamp),
+            Held::Value(stamp, value) => Held::Value(*stamp, value),
+            Held::AbsenceOver(older) => Held::AbsenceOver(older),
+            Held::ValueOver(value, older) => Held::ValueOver(value, older),
         }
     }
 }
 
+impl<V> Held<V, Cell<Version<V>>> {
+    /// The only version of a chain.
+    pub(crate) fn alone(stamp: u64, value: Option<V>) -> Held<V, Cell<Version<V>>>
+        ensures versions { held_versions result ≡ (stamp, value) ∷ [] }
+        ensures pages { held_pages result ≡ [] }
+    {
+        match value {
+            None => Held::Absence(stamp),
+            Some(value) => Held::Value(stamp, value),
+        }
+    }
+
+    /// A version over one whose cell keeps the stamp already.
+    pub(crate) fn over(value: Option<V>, older: Cell<Version<V>>) -> Held<V, Cell<Version<V>>>
+        ensures versions { held_versions result ≡ (newer_of older.value, value) ∷ versions (Some older) }
+        ensures pages { held_pages result ≡ pages (Some older) }
+    {
+        match value {
+            None => Held::AbsenceOver(older),
+            Some(value) => Held::ValueOver(value, older),
+        }
+    }
+
+    /// A version of its parts: its stamp is written into the cell of the one before it.
+    pub(crate) fn of(stamp: u64, value: Option<V>, older: Link<V>) -> Held<V, Cell<Version<V>>>
+        ensures versions { held_versions result ≡ (stamp, value) ∷ versions older }
+        ensures pages { held_pages result ≡ pages older }
+    {
+        let Some(cell) = older else {
+            return Held::alone(stamp, value);
+        };
+        let (version, room) = cell.take();
+        Held::over(value, room.fill(version.put_behind(stamp)))
+    }
+
+    /// Its stamp, its value, and the version before it.
+    pub(crate) fn parts(self) -> (u64, Option<V>, Link<V>)
+        ensures versions { held_versions self ≡ (result.0, result.1) ∷ versions result.2 }
+        ensures pages { held_pages self ≡ pages result.2 }
+    {
+        match self {
+            Held::Absence(stamp) => (stamp, None, None),
+            Held::Value(stamp, value) => (stamp, Some(value), None),
+            Held::AbsenceOver(older) => (older.get().newer, None, Some(older)),
+            Held::ValueOver(value, older) => (older.get().newer, Some(value), Some(older)),
+        }
+    }
+}
+
+/// As `parts`, of a version that is lent.
+pub(crate) fn lent_parts<'a, V>(
+    held: Held<&'a V, &'a Cell<Version<V>>>,
+) -> (u64, Option<&'a V>, Option<&'a Cell<Version<V>>>)
+    ensures { held_versions (lent_held held.entry) ≡ (result.0, option_copied result.1) ∷ versions (option_copied result.2) }
+{
+    match held {
+        Held::Absence(stamp) => (stamp, None, None),
+        Held::Value(stamp, value) => (stamp, Some(value), None),
+        Held::AbsenceOver(older) => (older.get().newer, None, Some(older)),
+        Held::ValueOver(value, older) => (older.get().newer, Some(value), Some(older)),
+    }
+}
+
 impl<V> Version<V> {
+    /// A version that none is in front of, so that it doesn't matter what it keeps as `newer`.
     pub(crate) fn new(stamp: u64, value: Option<V>, older: Link<V>) -> Version<V>
         ensures versions { from_version result ≡ (stamp, value) ∷ versions older }
         ensures pages { pages_behind result ≡ pages older }
     {
-        let held = Held::of(value, older);
-        Version { stamp, held }
+        Version::behind(stamp, Held::of(stamp, value, older))
     }
 
-    /// The newest version of a chain, before one comes in front of it.
-    pub(crate) fn of(newest: Newest<V, Cell<Version<V>>>) -> Version<V>
-        ensures versions { from_version result ≡ line_versions (Some newest) }
-        ensures pages { pages_behind result ≡ line_pages (Some newest) }
+    /// A version behind one with this stamp.
+    pub(crate) fn behind(newer: u64, held: Held<V, Cell<Version<V>>>) -> Version<V>
+        ensures newer { newer_of result ≡ newer }
+        ensures versions { from_version result ≡ held_versions held }
+        ensures pages { pages_behind result ≡ held_pages held }
     {
-        let Newest {
-            stamp,
-            value,
-            older,
-        } = newest;
-        Version::new(stamp, value, older)
+        Version { newer, held }
+    }
+
+    // The same version, behind one with this stamp.
+    fn put_behind(self, newer: u64) -> Version<V>
+        ensures newer { newer_of result ≡ newer }
+        ensures versions { from_version result ≡ from_version self }
+        ensures pages { pages_behind result ≡ pages_behind self }
+    {
+        let Version { newer: _, held } = self;
+        Version { newer, held }
     }
 
     /// Its stamp, its value, and the version before it.
@@ -92,16 +137,14 @@ impl<V> Version<V> {
         ensures versions { from_version self ≡ (result.0, result.1) ∷ versions result.2 }
         ensures pages { pages_behind self ≡ pages result.2 }
     {
-        let Version { stamp, held } = self;
-        let (value, older) = held.parts();
-        (stamp, value, older)
+        let Version { newer: _, held } = self;
+        held.parts()
     }
 
     /// As `parts`, lent.
     pub(crate) fn as_parts(&self) -> (u64, Option<&V>, Option<&Cell<Version<V>>>)
         ensures { from_version self.now ≡ (result.0, option_copied result.1) ∷ versions (option_copied result.2) }
     {
-        let (value, older) = self.held.as_parts();
-        (self.stamp, value, older)
+        lent_parts(self.held.lend())
     }
 }
