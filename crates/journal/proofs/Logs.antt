@@ -1,13 +1,14 @@
--- A log and its draft, step by step.
-use Rattle.std.proofs.Common.{inl, inr, drop, length-append, append-nil, ◌≡◌, ℕ, ◌+◌, ◌<◌, List, [], ◌∷◌, ◌++◌, length, refl, ap, sym, ◌∙◌, subst, arith, suc, Option, Some, None}
-use Rattle.std.specs.Prelude.{IsSome, IfSome}
+-- A log and what stands behind its units, step by step.
+use Rattle.std.proofs.Common.{inl, inr, take, drop, length-append, append-nil, ◌≡◌, ℕ, ◌+◌, ◌≤◌, ◌<◌, List, [], ◌∷◌, ◌++◌, length, refl, ap, sym, ◌∙◌, subst, arith, suc, Option, Some, None, Result, Ok, Err, OnOk, OnErr}
+use Rattle.std.specs.Prelude.{IfSome}
 use Rattle.std.specs.List.{flat_map}
-use Rattle.std.proofs.lemmas.List.{drop_at}
+use Rattle.std.proofs.lemmas.List.{drop_at, take_at, take_all, drop_all, take-append-drop, length-drop, length-take-le}
 use Rattle.std.proofs.lemmas.Option.{some_pair_parts}
+use Rattle.key_codec.specs.Grown.{GoesOnFrom}
 use Rattle.journal.specs.declared.unit.Unit.{Unit as JournalUnit}
 use Rattle.journal.specs.Format.{unit_bytes}
 use Rattle.journal.specs.Kept.{job_of}
-use Rattle.journal.specs.Log.{units_in, unit_in, drafted, Stands, IsDraftOf, IsUnitDraft, IsLast, EndsAt}
+use Rattle.journal.specs.Log.{units_in, unit_in, Stands, KeepsUnits, IsUnitOf, IsLast, EndsAt}
 use Rattle.journal.specs.Reading.{unit_at}
 use Rattle.journal.specs.Stored.{FitsUnit}
 use Rattle.journal.specs.laws.Log.{units_again, unit_again, stands_none, stands_more}
@@ -21,53 +22,95 @@ none_in bytes = refl
 pub stands_empty : (bytes : List ℕ) → bytes ≡ [] → Stands bytes 0 (units_in 0 bytes)
 stands_empty bytes e = subst (Stands bytes 0) (sym (none_in bytes)) (subst (λ t. Stands t 0 []) (sym e) stands_none)
 
--- ---- drafts
+pub keeps_none : (bytes : List ℕ) → KeepsUnits bytes 0 0 0
+keeps_none bytes = record { within = omega arith; stands = stands_empty (take 0 bytes) refl; last = inl (none_in (take 0 bytes)) }
 
--- what was written on a blank draft
-pub written_is : (draft blank : List ℕ) (job : ℕ) (u : JournalUnit) → blank ≡ [] → draft ≡ blank ++ unit_bytes u → FitsUnit u → job ≡ job_of u → IsDraftOf draft job u
-written_is draft blank job u e w fits owner =
-    let written : draft ≡ unit_bytes u = w ∙ ap (λ t. t ++ unit_bytes u) e in
-    record { is = ap unit_in written ∙ unit_again u fits; written = written; fits = fits; owner = owner }
+-- ---- behind the units
 
--- and its bytes are those of its unit
-pub bytes_of : (job : Option ℕ) (draft : List ℕ) → IsUnitDraft job draft → IfSome (drafted job draft) (λ u. draft ≡ unit_bytes u)
-bytes_of None draft h = tt
-bytes_of (Some job) draft h = subst (λ o. IfSome o (λ u. draft ≡ unit_bytes u)) (sym h.1.is) h.1.written
+-- a log whose units are as they were
+pub record Stays (bytes new : List ℕ) (end count newest : ℕ) : Type 0 where
+  pub keeps : KeepsUnits new end count newest
+  pub units : units_in count (take end new) ≡ units_in count (take end bytes)
+
+stays : (bytes new : List ℕ) (end count newest : ℕ) → KeepsUnits bytes end count newest → end ≤ length new → take end new ≡ take end bytes → Stays bytes new end count newest
+stays bytes new end count newest h within e = record {
+  keeps = record {
+    within = within;
+    stands = subst (λ t. Stands t count (units_in count t)) (sym e) h.stands;
+    last = subst (λ t. EndsAt t newest (units_in count t)) (sym e) h.last;
+  };
+  units = ap (units_in count) e;
+}
+
+-- a log with nothing behind its units any more
+pub record Cut (bytes new : List ℕ) (end count newest : ℕ) : Type 0 where
+  pub stays : Stays bytes new end count newest
+  pub behind : drop end new ≡ []
+
+pub cut : (bytes new : List ℕ) (end count newest : ℕ) → KeepsUnits bytes end count newest → new ≡ take end bytes → Cut bytes new end count newest
+cut bytes new end count newest h e =
+    let long : length new ≡ end = ap length e ∙ length-take-le end bytes h.within in
+    record { stays = stays bytes new end count newest h (omega arith) (take_all end new (omega arith) ∙ e); behind = drop_all end new (omega arith) }
+
+-- where nothing stands behind the units, they end with the bytes
+ends_there : (bytes : List ℕ) (end : ℕ) → end ≤ length bytes → drop end bytes ≡ [] → length bytes ≡ end
+ends_there bytes end within none = omega (arith, within, length-drop end bytes, ap length none)
+
+-- a unit was written behind them, or nothing
+pub record Settled {T E : Type 0} (r : Result T E) (bytes new : List ℕ) (end count newest job : ℕ) (u : JournalUnit) : Type 0 where
+  pub stays : Stays bytes new end count newest
+  pub ok : OnOk r (IsUnitOf (drop end new) job u)
+  pub err : OnErr r (drop end new ≡ [])
+
+written_is : (bytes : List ℕ) (job : ℕ) (u : JournalUnit) → bytes ≡ unit_bytes u → FitsUnit u → job ≡ job_of u → IsUnitOf bytes job u
+written_is bytes job u written fits owner = record { is = ap unit_in written ∙ unit_again u fits; written = written; fits = fits; owner = owner }
+
+settled_by : {T E : Type 0} (r : Result T E) (bytes mid new : List ℕ) (end count newest job : ℕ) (u : JournalUnit) → KeepsUnits bytes end count newest → drop end bytes ≡ [] → OnOk r (mid ≡ bytes ++ unit_bytes u) → OnOk r (FitsUnit u) → GoesOnFrom bytes mid →
+    OnOk r (new ≡ mid) → OnErr r (new ≡ take end mid) → job ≡ job_of u → Settled r bytes new end count newest job u
+settled_by (Ok x) bytes mid new end count newest job u h none w fits on same back owner =
+    let long = ends_there bytes end h.within none in
+    let e : new ≡ bytes ++ unit_bytes u = same ∙ w in
+    let l : length new ≡ length bytes + length (unit_bytes u) = ap length e ∙ length-append bytes (unit_bytes u) in
+    let front : take end new ≡ take end bytes = ap (take end) e ∙ take_at bytes (unit_bytes u) end long ∙ sym (take_all end bytes (omega arith)) in
+    let behind : drop end new ≡ unit_bytes u = ap (drop end) e ∙ drop_at bytes (unit_bytes u) end long in
+    record { stays = stays bytes new end count newest h (omega arith) front; ok = written_is (drop end new) job u behind fits owner; err = tt }
+settled_by (Err x) bytes mid new end count newest job u h none w fits on same back owner =
+    let long = ends_there bytes end h.within none in
+    let e : new ≡ bytes = back ∙ ap (take end) on.split ∙ take_at bytes on.more end long in
+    let l : length new ≡ length bytes = ap length e in
+    record { stays = stays bytes new end count newest h (omega arith) (ap (take end) e); ok = tt; err = ap (drop end) e ∙ none }
+
+pub settled : {T E : Type 0} (r written : Result T E) (bytes mid new : List ℕ) (end count newest job : ℕ) (u : JournalUnit) → r ≡ written → KeepsUnits bytes end count newest → drop end bytes ≡ [] → OnOk written (mid ≡ bytes ++ unit_bytes u) → OnOk written (FitsUnit u) → GoesOnFrom bytes mid →
+    OnOk written (new ≡ mid) → OnErr written (new ≡ take end mid) → job ≡ job_of u → Settled r bytes new end count newest job u
+settled r written bytes mid new end count newest job u is h none w fits on same back owner = subst (λ x. Settled x bytes new end count newest job u) (sym is) (settled_by written bytes mid new end count newest job u h none w fits on same back owner)
 
 -- ---- a unit more
 
--- a log with a unit after it
-pub record Pushed (bytes new : List ℕ) (count newest : ℕ) (u : JournalUnit) : Type 0 where
-  pub stands : Stands new (count + 1) (units_in (count + 1) new)
-  pub ends : EndsAt new newest (units_in (count + 1) new)
-  pub units : units_in (count + 1) new ≡ units_in count bytes ++ u ∷ []
+-- a log whose units now go to the end of its bytes
+pub record Pushed (bytes : List ℕ) (end all count newest : ℕ) : Type 0 where
+  pub keeps : KeepsUnits bytes all (count + 1) newest
+  pub units : IfSome (unit_in (drop end bytes)) (λ u. units_in (count + 1) (take all bytes) ≡ units_in count (take end bytes) ++ u ∷ [])
+  pub behind : drop all bytes ≡ []
 
-pushed_by : (bytes draft new : List ℕ) (count newest : ℕ) (u : JournalUnit) → Stands bytes count (units_in count bytes) → draft ≡ unit_bytes u → FitsUnit u → new ≡ bytes ++ draft → newest ≡ length bytes → Pushed bytes new count newest u
-pushed_by bytes draft new count newest u stands written fits e at =
-    let us = units_in count bytes in
-    let more : Stands (bytes ++ unit_bytes u) (count + 1) (us ++ u ∷ []) = stands_more bytes count us u stands fits in
-    let moved : Stands new (count + 1) (us ++ u ∷ []) = subst (λ t. Stands t (count + 1) (us ++ u ∷ [])) (sym (e ∙ ap (λ t. bytes ++ t) written)) more in
-    let again : units_in (count + 1) new ≡ us ++ u ∷ [] = units_again new (count + 1) (us ++ u ∷ []) moved in
-    let l : length new ≡ length bytes + length draft = ap length e ∙ length-append bytes draft in
+pub pushed : (bytes : List ℕ) (end all count newest job : ℕ) (u : JournalUnit) → KeepsUnits bytes end count newest → IsUnitOf (drop end bytes) job u → all ≡ length bytes → Pushed bytes end all count end
+pushed bytes end all count newest job u h unit at =
+    let front = take end bytes in
+    let us = units_in count front in
+    let whole : take all bytes ≡ bytes = take_all all bytes (omega arith) in
+    let joined : take all bytes ≡ front ++ unit_bytes u = whole ∙ sym (take-append-drop end bytes) ∙ ap (λ t. front ++ t) unit.written in
+    let moved : Stands (take all bytes) (count + 1) (us ++ u ∷ []) = subst (λ t. Stands t (count + 1) (us ++ u ∷ [])) (sym joined) (stands_more front count us u h.stands unit.fits) in
+    let again : units_in (count + 1) (take all bytes) ≡ us ++ u ∷ [] = units_again (take all bytes) (count + 1) (us ++ u ∷ []) moved in
+    let within = h.within in
+    let long : length (take all bytes) ≡ length bytes = ap length whole in
     record {
-      stands = subst (Stands new (count + 1)) (sym again) moved;
-      ends = inr (us, u, record { is = again; written = ap (drop newest) e ∙ drop_at bytes draft newest (sym at) ∙ written; within = omega arith; fits = fits });
-      units = again;
+      keeps = record {
+        within = omega arith;
+        stands = subst (Stands (take all bytes) (count + 1)) (sym again) moved;
+        last = inr (us, u, record { is = again; written = ap (drop end) whole ∙ unit.written; within = omega arith; fits = unit.fits });
+      };
+      units = subst (λ o. IfSome o (λ v. units_in (count + 1) (take all bytes) ≡ us ++ v ∷ [])) (sym unit.is) again;
+      behind = drop_all all bytes (omega arith);
     }
-
--- the same of a draft's unit
-pub pushed : (o : Option JournalUnit) (bytes draft new : List ℕ) (count newest : ℕ) → Stands bytes count (units_in count bytes) → IfSome o (λ u. draft ≡ unit_bytes u) → IfSome o FitsUnit → new ≡ bytes ++ draft → newest ≡ length bytes →
-    IfSome o (Pushed bytes new count newest)
-pushed None bytes draft new count newest stands written fits e at = tt
-pushed (Some u) bytes draft new count newest stands written fits e at = pushed_by bytes draft new count newest u stands written fits e at
-
-pub pushed_keeps : (o : Option JournalUnit) (bytes new : List ℕ) (count newest : ℕ) → IsSome o → IfSome o (Pushed bytes new count newest) → Stands new (count + 1) (units_in (count + 1) new) × EndsAt new newest (units_in (count + 1) new)
-pushed_keeps None bytes new count newest some h = absurd (cc)
-pushed_keeps (Some u) bytes new count newest some h = (h.stands, h.ends)
-
-pub pushed_units : (o : Option JournalUnit) (bytes new : List ℕ) (count newest : ℕ) → IfSome o (Pushed bytes new count newest) → IfSome o (λ u. units_in (count + 1) new ≡ units_in count bytes ++ u ∷ [])
-pushed_units None bytes new count newest h = tt
-pushed_units (Some u) bytes new count newest h = h.units
 
 -- ---- reading
 
@@ -109,9 +152,6 @@ pub fewer_left : (us : List JournalUnit) (bytes : List ℕ) → 0 < length us �
 fewer_left us bytes h = let l : length (units_in 0 bytes) ≡ 0 = ap length (none_in bytes) in omega arith
 
 -- ---- the newest unit
-
-pub ends_none : (bytes : List ℕ) (newest : ℕ) → EndsAt bytes newest (units_in 0 bytes)
-ends_none bytes newest = inl (none_in bytes)
 
 -- what stands there reads as the last unit
 last_is : (bytes part rest : List ℕ) (newest : ℕ) (us before : List JournalUnit) (u v : JournalUnit) → IsLast bytes newest us before v → part ≡ drop newest bytes → unit_at part ≡ Some (u, rest) → us ≡ before ++ u ∷ []

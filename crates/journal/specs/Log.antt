@@ -1,5 +1,5 @@
--- What the bytes of a log stand for, and what a log and a draft keep.
-use Rattle.std.specs.Prelude.{◌≡◌, ◌⊎◌, drop, Result, Ok, Err, ℕ, ◌+◌, ◌≤◌, ◌<◌, ◌^◌, List, [], ◌∷◌, ◌++◌, length, Option, None, Some, ⊤, unwrap_or, option_map}
+-- What the bytes of a log stand for, and what a log and a journal keep.
+use Rattle.std.specs.Prelude.{◌≡◌, ◌⊎◌, take, drop, Result, Ok, Err, ℕ, ◌+◌, ◌≤◌, ◌<◌, ◌^◌, List, [], ◌∷◌, ◌++◌, length, Option, None, Some, unwrap_or, option_map}
 use Rattle.std.specs.List.{flat_map}
 use Rattle.journal.specs.declared.unit.Unit.{Unit as JournalUnit}
 use Rattle.journal.specs.Format.{unit_bytes}
@@ -7,10 +7,10 @@ use Rattle.journal.specs.Kept.{job_of}
 use Rattle.journal.specs.Reading.{list_at, unit_at}
 use Rattle.journal.specs.Stored.{Each, FitsUnit}
 
--- the units of a log, and how many bytes more there is room for
+-- the units of a log, and the bytes behind them
 pub record Logged : Type 0 where
   pub units : List JournalUnit
-  pub spare : ℕ
+  pub behind : List ℕ
 
 -- the first so many units of the bytes
 unfoldable pub units_in : ℕ → List ℕ → List JournalUnit
@@ -37,27 +37,28 @@ pub record IsLast (bytes : List ℕ) (from : ℕ) (us before : List JournalUnit)
 abbrev pub EndsAt : List ℕ → ℕ → List JournalUnit → Type 0
 EndsAt bytes from us = (us ≡ []) ⊎ ((before : List JournalUnit) × (u : JournalUnit) × IsLast bytes from us before u)
 
--- the unit that a draft of this job reads as; a draft of none is none
-abbrev pub drafted : Option ℕ → List ℕ → Option JournalUnit
-drafted None draft = None
-drafted (Some job) draft = unit_in draft
+-- what a log keeps: its units end here, and the last begins there
+pub record KeepsUnits (bytes : List ℕ) (end count newest : ℕ) : Type 0 where
+  pub within : end ≤ length bytes
+  pub stands : Stands (take end bytes) count (units_in count (take end bytes))
+  pub last : EndsAt (take end bytes) newest (units_in count (take end bytes))
 
--- a draft that is the unit of this job
-pub record IsDraftOf (draft : List ℕ) (job : ℕ) (u : JournalUnit) : Type 0 where
-  pub is : unit_in draft ≡ Some u
-  pub written : draft ≡ unit_bytes u
+-- bytes that are a unit of this job
+pub record IsUnitOf (bytes : List ℕ) (job : ℕ) (u : JournalUnit) : Type 0 where
+  pub is : unit_in bytes ≡ Some u
+  pub written : bytes ≡ unit_bytes u
   pub fits : FitsUnit u
   pub owner : job ≡ job_of u
 
--- what a draft keeps
-abbrev pub IsUnitDraft : Option ℕ → List ℕ → Type 0
-IsUnitDraft None draft = ⊤
-IsUnitDraft (Some job) draft = (u : JournalUnit) × IsDraftOf draft job u
+-- the unit that is prepared behind a log's units; where no job is noted there is none
+abbrev pub prepared_in : Option ℕ → Logged → Option JournalUnit
+prepared_in None log = None
+prepared_in (Some job) log = unit_in log.behind
 
--- there is room for this unit, if there is one, and a number
-abbrev pub HasRoom : Option JournalUnit → Logged → Type 0
-HasRoom None log = ⊤
-HasRoom (Some u) log = (length (unit_bytes u) ≤ log.spare) × (length log.units + 1 < 2 ^ 64)
+-- what a journal keeps: nothing behind its units, or a unit that has a number
+abbrev pub HoldsPrepared : Option ℕ → Logged → Type 0
+HoldsPrepared None log = log.behind ≡ []
+HoldsPrepared (Some job) log = (length log.units + 1 < 2 ^ 64) × ((u : JournalUnit) × IsUnitOf log.behind job u)
 
 -- a step of reading: the first unit, or nothing more for want of memory
 abbrev pub ReadsFirst : {E : Type 0} → List JournalUnit → Option (Result JournalUnit E) → List JournalUnit → Type 0

@@ -11,12 +11,13 @@
 //! (4) a receipt is made only by the push of its unit, and can't be copied;
 //! (5) the bytes are `unit_bytes` of each unit in turn (`specs/Format.antt`), and read back as these units.
 //!
-//! A unit is written and its room made by a `prepare_..`, which may be refused; `push_prepared` then can't be. A unit
-//! that is prepared and not pushed leaves no trace.
+//! A `prepare_..` writes a unit at the end of the bytes, behind those of the units, and may be refused; `push_prepared`
+//! then counts it among them, copies nothing and can't be refused. A unit that is prepared and not pushed leaves nothing
+//! but room.
 //! SET ^A(12345)=12345 of job 1 has 19 bytes: 01 00, 0A 41 00 04 85 02 03 04 05 06 00, 05 31 32 33 34 35.
 //!
 //! Read `specs/History.antt`, `specs/Touching.antt`, `specs/Story.antt`; then `specs/Format.antt` and
-//! `specs/Reading.antt`; then `list.rt`, `log.rt`, `draft.rt`.
+//! `specs/Reading.antt`; then `list.rt`, `log.rt`, `write.rt`.
 //! Not promised: the time of a unit's reading back.
 #![tactic(auto)]
 
@@ -29,7 +30,6 @@ pub use list::{Journal, Receipt};
 pub use unit::{Exchange, Exchanges, Unit};
 pub use units::Units;
 
-mod draft;
 mod exchanges;
 mod laws;
 mod list;

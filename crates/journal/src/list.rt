@@ -5,10 +5,8 @@ ghost use Rattle.journal.specs.declared.unit.Unit.{Unit as JournalUnit};
 ghost use Rattle.journal.specs.declared.unit.Unit.TheVariants.{Lone, Whole, Lock, Back, End};
 ghost use Rattle.journal.specs.Format.{unit_bytes};
 ghost use Rattle.journal.specs.Kept.{job_of, HasNoRoom};
-ghost use Rattle.journal.specs.Log.{HasRoom};
 ghost use Rattle.journal.specs.Stored.{Each, FitsUnit};
 
-use crate::draft::Draft;
 use crate::exchanges::ExchangeLog;
 use crate::log::Log;
 use crate::{Unit, Units};
@@ -19,22 +17,22 @@ use std::alloc::{AllocError, Global};
 use std::marker::Model;
 use std::snapshot::Snapshot;
 
-/// The units so far, as bytes, and one that is prepared or none. It only grows.
+/// The units so far, as bytes, and behind them one that is prepared or none. It only grows.
 #[derive(Debug, Drop)]
 pub struct Journal {
     log: Log,
-    draft: Draft,
+    prepared: Option<Job>,
 }
 
 impl Model for Journal {
     ghost use Rattle.journal.specs.Kept.{Kept};
-    ghost use Rattle.journal.specs.Log.{HasRoom};
+    ghost use Rattle.journal.specs.Log.{prepared_in, HoldsPrepared};
 
     ghost Value = { Kept };
 
-    ghost view = { λ j. record { units = j.log.units; prepared = j.draft } };
+    ghost view = { λ j. record { units = j.log.units; prepared = prepared_in j.prepared j.log } };
 
-    ghost invariant = { λ j. HasRoom j.draft j.log };
+    ghost invariant = { λ j. HoldsPrepared j.prepared j.log };
 }
 
 /// Says that a unit stands in the journal. It can't be copied.
@@ -42,7 +40,7 @@ impl Model for Journal {
 pub struct Receipt {
     job: Job,
     number: u64,
-    unit: Snapshot<Draft>,
+    before: Snapshot<Journal>,
 }
 
 impl Model for Receipt {
@@ -52,7 +50,7 @@ impl Model for Receipt {
 
     ghost Value = { Claim };
 
-    ghost view = { λ r. record { job = r.job; number = r.number; unit = unwrap_or r.unit.value (End r.job) } };
+    ghost view = { λ r. record { job = r.job; number = r.number; unit = unwrap_or r.before.value.prepared (End r.job) } };
 }
 
 impl Receipt {
@@ -71,23 +69,6 @@ impl Receipt {
     }
 }
 
-// Makes room in the log for what the draft has. Where memory is refused there is no draft.
-fn reserve(log: &mut Log, draft: &mut Draft) -> Result<(), AllocError>
-    requires { length log.old.units + 1 < 2 ^ 64 }
-    ensures units { log.new.units ≡ log.old.units }
-    ensures ok { OnOk result (draft.new ≡ draft.old) }
-    ensures room { HasRoom draft.new log.new }
-    ensures err { OnErr result (draft.new ≡ None) }
-{
-    match log.make_room(draft.as_slice().len()) {
-        Ok(()) => Ok(()),
-        Err(error) => {
-            draft.clear();
-            Err(error)
-        }
-    }
-}
-
 impl Journal {
     /// A journal without units. Takes no memory.
     pub fn new(alloc: Global) -> Journal
@@ -96,7 +77,7 @@ impl Journal {
     {
         Journal {
             log: Log::new(alloc),
-            draft: Draft::new(alloc),
+            prepared: None,
         }
     }
 
@@ -137,7 +118,7 @@ impl Journal {
         self.log.newest()
     }
 
-    /// Writes the unit of a data command outside a transaction, and makes room for it.
+    /// Writes the unit of a data command outside a transaction, behind the units.
     ///
     /// Refusals: `StampsUsedUp` exactly where the journal would pass 2^64 - 1 units, else `OutOfMemory`. After either
     /// the units are as they were, and none is prepared. What was prepared and not pushed before is gone.
@@ -153,17 +134,14 @@ impl Journal {
         ensures used_up { 2 ^ 64 - 1 < length self.old.units + 1 → IsErrOf result Refusal.StampsUsedUp }
         ensures cause { IfErr result (λ refusal. HasNoRoom refusal 1 (length self.old.units)) }
     {
-        if self.log.len() == u64::MAX {
-            self.draft.clear();
-            return Err(Refusal::StampsUsedUp);
-        }
-        self.draft.write_lone(job, command, answer)?;
-        reserve(&mut self.log, &mut self.draft)?;
+        self.prepared = None;
+        self.log.begin()?;
+        self.log.write_lone(job, command, answer)?;
+        self.prepared = Some(job);
         Ok(())
     }
 
-    /// Writes the unit of a transaction with these exchanges, and makes room for it, all at once; refused as
-    /// `prepare_lone`.
+    /// Writes the unit of a transaction with these exchanges; refused as `prepare_lone`.
     pub fn prepare_whole(&mut self, job: Job, exchanges: &ExchangeLog) -> Result<(), Refusal>
         ensures units { self.new.units ≡ self.old.units }
         ensures prepared { OnOk result (self.new.prepared ≡ Some (Whole job exchanges.now)) }
@@ -171,16 +149,14 @@ impl Journal {
         ensures used_up { 2 ^ 64 - 1 < length self.old.units + 1 → IsErrOf result Refusal.StampsUsedUp }
         ensures cause { IfErr result (λ refusal. HasNoRoom refusal 1 (length self.old.units)) }
     {
-        if self.log.len() == u64::MAX {
-            self.draft.clear();
-            return Err(Refusal::StampsUsedUp);
-        }
-        self.draft.write_whole(job, exchanges)?;
-        reserve(&mut self.log, &mut self.draft)?;
+        self.prepared = None;
+        self.log.begin()?;
+        self.log.write_whole(job, exchanges)?;
+        self.prepared = Some(job);
         Ok(())
     }
 
-    /// Writes the unit of a LOCK, and makes room for it; refused as `prepare_lone`.
+    /// Writes the unit of a LOCK; refused as `prepare_lone`.
     pub fn prepare_lock(
         &mut self,
         job: Job,
@@ -194,16 +170,14 @@ impl Journal {
         ensures used_up { 2 ^ 64 - 1 < length self.old.units + 1 → IsErrOf result Refusal.StampsUsedUp }
         ensures cause { IfErr result (λ refusal. HasNoRoom refusal 1 (length self.old.units)) }
     {
-        if self.log.len() == u64::MAX {
-            self.draft.clear();
-            return Err(Refusal::StampsUsedUp);
-        }
-        self.draft.write_lock(job, inside, command, had)?;
-        reserve(&mut self.log, &mut self.draft)?;
+        self.prepared = None;
+        self.log.begin()?;
+        self.log.write_lock(job, inside, command, had)?;
+        self.prepared = Some(job);
         Ok(())
     }
 
-    /// Writes the unit of a rollback or restart, and makes room for it; refused as `prepare_lone`.
+    /// Writes the unit of a rollback or restart; refused as `prepare_lone`.
     pub fn prepare_back(&mut self, job: Job) -> Result<(), Refusal>
         ensures units { self.new.units ≡ self.old.units }
         ensures prepared { OnOk result (self.new.prepared ≡ Some (Back job)) }
@@ -211,16 +185,14 @@ impl Journal {
         ensures used_up { 2 ^ 64 - 1 < length self.old.units + 1 → IsErrOf result Refusal.StampsUsedUp }
         ensures cause { IfErr result (λ refusal. HasNoRoom refusal 1 (length self.old.units)) }
     {
-        if self.log.len() == u64::MAX {
-            self.draft.clear();
-            return Err(Refusal::StampsUsedUp);
-        }
-        self.draft.write_back(job)?;
-        reserve(&mut self.log, &mut self.draft)?;
+        self.prepared = None;
+        self.log.begin()?;
+        self.log.write_back(job)?;
+        self.prepared = Some(job);
         Ok(())
     }
 
-    /// Writes the unit of a session's end, and makes room for it; refused as `prepare_lone`.
+    /// Writes the unit of a session's end; refused as `prepare_lone`.
     pub fn prepare_end(&mut self, job: Job) -> Result<(), Refusal>
         ensures units { self.new.units ≡ self.old.units }
         ensures prepared { OnOk result (self.new.prepared ≡ Some (End job)) }
@@ -228,32 +200,30 @@ impl Journal {
         ensures used_up { 2 ^ 64 - 1 < length self.old.units + 1 → IsErrOf result Refusal.StampsUsedUp }
         ensures cause { IfErr result (λ refusal. HasNoRoom refusal 1 (length self.old.units)) }
     {
-        if self.log.len() == u64::MAX {
-            self.draft.clear();
-            return Err(Refusal::StampsUsedUp);
-        }
-        self.draft.write_end(job)?;
-        reserve(&mut self.log, &mut self.draft)?;
+        self.prepared = None;
+        self.log.begin()?;
+        self.log.write_end(job)?;
+        self.prepared = Some(job);
         Ok(())
     }
 
-    /// Adds the prepared unit with the next number. Takes no memory.
+    /// Adds the prepared unit with the next number. Copies nothing and takes no memory.
     pub fn push_prepared(&mut self) -> Receipt
         requires { IsSome self.old.prepared }
         ensures units { IfSome self.old.prepared (λ unit. self.new.units ≡ self.old.units ++ unit ∷ []) }
         ensures none_left { self.new.prepared ≡ None }
         ensures receipt { IfSome self.old.prepared (λ unit. result ≡ record { job = job_of unit; number = length self.new.units; unit = unit }) }
     {
-        let Some(job) = self.draft.job() else {
+        let Some(job) = self.prepared else {
             unreachable!()
         };
-        let unit = Snapshot::of(&self.draft);
-        self.log.push(&self.draft);
-        self.draft.clear();
+        let before = Snapshot::of(&*self);
+        self.log.push();
+        self.prepared = None;
         Receipt {
             job,
             number: self.log.len(),
-            unit,
+            before,
         }
     }
 }

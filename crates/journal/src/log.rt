@@ -1,34 +1,49 @@
-//! The log: the bytes of unit after unit.
-ghost use Rattle.std.specs.Prelude.{◌≡◌, ◌≤◌, ◌+◌, ◌<◌, ◌++◌, [], ◌∷◌, List, drop, length, IsSome, IfSome, IfOk, IsOk, OnOk, MatchOption};
+//! The log: the bytes of unit after unit, and behind them those of a unit that is not yet one of them.
+ghost use Rattle.std.specs.Prelude.{◌≡◌, ◌≤◌, ◌-◌, ◌+◌, ◌<◌, ◌^◌, ◌++◌, [], ◌∷◌, List, ℕ, take, drop, length, IfSome, IfOk, IfErr, OnOk, OnErr, MatchOption};
 ghost use Rattle.std.specs.List.{flat_map};
+ghost use Rattle.refusal.specs.declared.Refusal.TheVariants.{StampsUsedUp};
 ghost use Rattle.journal.specs.declared.unit.Unit.{Unit as JournalUnit};
+ghost use Rattle.journal.specs.declared.unit.Unit.TheVariants.{Lone, Whole, Lock, Back, End};
 ghost use Rattle.journal.specs.Format.{unit_bytes};
-ghost use Rattle.journal.specs.Log.{HasRoom};
+ghost use Rattle.journal.specs.Log.{unit_in, IsUnitOf};
 ghost use Rattle.journal.specs.Stored.{Each, FitsUnit};
 
-use crate::draft::Draft;
+use crate::exchanges::ExchangeLog;
 use crate::read::{Unread, read_unit};
-use crate::{Unit, Units, write};
+use crate::write::{push_back, push_end, push_lock, push_lone, push_whole};
+use crate::{Unit, Units};
+use collation::{Job, LockCommand};
+use command::{Answer, DataCommand};
+use refusal::Refusal;
 use std::alloc::{AllocError, Global};
 use std::marker::Model;
 
-/// Units as bytes. It is seen as the units, and how many bytes more there is room for.
+/// Units as bytes, up to `end`. It is seen as the units, and the bytes behind them.
 #[derive(Debug, Drop)]
 pub(crate) struct Log {
     bytes: Vec<u8>,
+    end: usize,
     count: u64,
     newest: usize,
 }
 
 impl Model for Log {
-    ghost use Rattle.std.specs.Prelude.{◌-◌, vec_len, vec_capacity};
-    ghost use Rattle.journal.specs.Log.{Logged, units_in, Stands, EndsAt};
+    ghost use Rattle.std.specs.Prelude.{take, drop};
+    ghost use Rattle.journal.specs.Log.{Logged, units_in, KeepsUnits};
 
     ghost Value = { Logged };
 
-    ghost view = { λ l. record { units = units_in l.count l.bytes.items; spare = vec_capacity l.bytes - vec_len l.bytes } };
+    ghost view = { λ l. record { units = units_in l.count (take l.end l.bytes.items); behind = drop l.end l.bytes.items } };
 
-    ghost invariant = { λ l. Stands l.bytes.items l.count (units_in l.count l.bytes.items) × EndsAt l.bytes.items l.newest (units_in l.count l.bytes.items) };
+    ghost invariant = { λ l. KeepsUnits l.bytes.items l.end l.count l.newest };
+}
+
+// What stands before the end.
+fn front(bytes: &[u8], end: usize) -> &[u8]
+    requires { end ≤ length bytes.now }
+    ensures { result.now ≡ take end bytes.now }
+{
+    &bytes[..end]
 }
 
 // What stands from here on; nothing past the end.
@@ -42,12 +57,33 @@ fn from(bytes: &[u8], start: usize) -> &[u8]
     }
 }
 
+// What was written behind the end is taken away where memory was refused.
+fn settle(
+    bytes: &mut Vec<u8>,
+    end: usize,
+    written: Result<(), AllocError>,
+) -> Result<(), AllocError>
+    ensures same { result ≡ written }
+    ensures ok { OnOk written (bytes.new.items ≡ bytes.old.items) }
+    ensures err { OnErr written (bytes.new.items ≡ take end bytes.old.items) }
+{
+    match written {
+        Ok(()) => Ok(()),
+        Err(error) => {
+            bytes.truncate(end);
+            Err(error)
+        }
+    }
+}
+
 impl Log {
     pub(crate) fn new(alloc: Global) -> Log
-        ensures { result.units ≡ [] }
+        ensures units { result.units ≡ [] }
+        ensures behind { result.behind ≡ [] }
     {
         Log {
             bytes: Vec::new(alloc),
+            end: 0,
             count: 0,
             newest: 0,
         }
@@ -63,13 +99,17 @@ impl Log {
         ensures bytes { result.now ≡ flat_map unit_bytes self.now.units }
         ensures fit { Each FitsUnit self.now.units }
     {
-        self.bytes.as_slice()
+        &self.bytes[..self.end]
     }
 
     pub(crate) fn units(&self) -> Units<'_>
         ensures { result ≡ self.now.units }
     {
-        Units::new(*self.bytes.allocator(), &self.bytes, self.count)
+        Units::new(
+            *self.bytes.allocator(),
+            front(&self.bytes, self.end),
+            self.count,
+        )
     }
 
     /// The last unit, read back.
@@ -80,34 +120,107 @@ impl Log {
         if self.count == 0 {
             return Ok(None);
         }
-        match read_unit(*self.bytes.allocator(), from(&self.bytes, self.newest)) {
+        let last = from(front(&self.bytes, self.end), self.newest);
+        match read_unit(*self.bytes.allocator(), last) {
             Ok((unit, _)) => Ok(Some(unit)),
             Err(Unread::Memory) => Err(AllocError),
             Err(Unread::Form) => unreachable!(),
         }
     }
 
-    /// Makes room for so many bytes more.
-    pub(crate) fn make_room(&mut self, more: usize) -> Result<(), AllocError>
+    /// Takes away what stands behind the units. Refused where a unit more would have no number.
+    pub(crate) fn begin(&mut self) -> Result<(), Refusal>
         ensures units { self.new.units ≡ self.old.units }
-        ensures room { OnOk result (more ≤ self.new.spare) }
-        ensures sure { more ≤ self.old.spare → IsOk result }
+        ensures behind { self.new.behind ≡ [] }
+        ensures ok { OnOk result (length self.old.units + 1 < 2 ^ 64) }
+        ensures err { IfErr result (λ refusal. (refusal ≡ StampsUsedUp) × (2 ^ 64 - 1 < length self.old.units + 1)) }
     {
-        write::make_room(&mut self.bytes, more)
+        self.bytes.truncate(self.end);
+        if self.count == u64::MAX {
+            return Err(Refusal::StampsUsedUp);
+        }
+        Ok(())
     }
 
-    /// Adds the draft's unit. Takes no memory.
-    pub(crate) fn push(&mut self, draft: &Draft)
-        requires some { IsSome draft.now }
-        requires room { HasRoom draft.now self.old }
-        ensures { IfSome draft.now (λ unit. self.new.units ≡ self.old.units ++ unit ∷ []) }
+    /// Writes a data command outside a transaction behind the units. Where memory is refused nothing stands there.
+    pub(crate) fn write_lone(
+        &mut self,
+        job: Job,
+        command: &DataCommand,
+        answer: &Answer,
+    ) -> Result<(), AllocError>
+        requires { self.old.behind ≡ [] }
+        ensures units { self.new.units ≡ self.old.units }
+        ensures ok { OnOk result (IsUnitOf self.new.behind job (Lone job command.now answer.now)) }
+        ensures err { OnErr result (self.new.behind ≡ []) }
     {
-        let newest = self.bytes.len();
-        match self.bytes.extend_from_slice(draft.as_slice()) {
-            Ok(()) => {}
-            Err(_) => unreachable!(),
-        }
+        let written = push_lone(&mut self.bytes, job, command, answer);
+        settle(&mut self.bytes, self.end, written)
+    }
+
+    /// Writes a transaction; refused as `write_lone`.
+    pub(crate) fn write_whole(
+        &mut self,
+        job: Job,
+        exchanges: &ExchangeLog,
+    ) -> Result<(), AllocError>
+        requires { self.old.behind ≡ [] }
+        ensures units { self.new.units ≡ self.old.units }
+        ensures ok { OnOk result (IsUnitOf self.new.behind job (Whole job exchanges.now)) }
+        ensures err { OnErr result (self.new.behind ≡ []) }
+    {
+        let written = push_whole(&mut self.bytes, job, exchanges);
+        settle(&mut self.bytes, self.end, written)
+    }
+
+    /// Writes a LOCK; refused as `write_lone`.
+    pub(crate) fn write_lock(
+        &mut self,
+        job: Job,
+        inside: bool,
+        command: &LockCommand,
+        had: bool,
+    ) -> Result<(), AllocError>
+        requires { self.old.behind ≡ [] }
+        ensures units { self.new.units ≡ self.old.units }
+        ensures ok { OnOk result (IsUnitOf self.new.behind job (Lock job inside command.now had)) }
+        ensures err { OnErr result (self.new.behind ≡ []) }
+    {
+        let written = push_lock(&mut self.bytes, job, inside, command, had);
+        settle(&mut self.bytes, self.end, written)
+    }
+
+    /// Writes a rollback or restart; refused as `write_lone`.
+    pub(crate) fn write_back(&mut self, job: Job) -> Result<(), AllocError>
+        requires { self.old.behind ≡ [] }
+        ensures units { self.new.units ≡ self.old.units }
+        ensures ok { OnOk result (IsUnitOf self.new.behind job (Back job)) }
+        ensures err { OnErr result (self.new.behind ≡ []) }
+    {
+        let written = push_back(&mut self.bytes, job);
+        settle(&mut self.bytes, self.end, written)
+    }
+
+    /// Writes the end of a session; refused as `write_lone`.
+    pub(crate) fn write_end(&mut self, job: Job) -> Result<(), AllocError>
+        requires { self.old.behind ≡ [] }
+        ensures units { self.new.units ≡ self.old.units }
+        ensures ok { OnOk result (IsUnitOf self.new.behind job (End job)) }
+        ensures err { OnErr result (self.new.behind ≡ []) }
+    {
+        let written = push_end(&mut self.bytes, job);
+        settle(&mut self.bytes, self.end, written)
+    }
+
+    /// Makes the unit behind the units the last of them. Nothing is copied.
+    pub(crate) fn push(&mut self)
+        requires some { (job : ℕ) × (unit : JournalUnit) × IsUnitOf self.old.behind job unit }
+        requires number { length self.old.units + 1 < 2 ^ 64 }
+        ensures units { IfSome (unit_in self.old.behind) (λ unit. self.new.units ≡ self.old.units ++ unit ∷ []) }
+        ensures behind { self.new.behind ≡ [] }
+    {
+        self.newest = self.end;
+        self.end = self.bytes.len();
         self.count += 1;
-        self.newest = newest;
     }
 }

@@ -1,5 +1,5 @@
 //! Units written as bytes, after what stands there. A refusal may leave a part of them.
-ghost use Rattle.std.specs.Prelude.{◌≡◌, ◌≤◌, ◌+◌, ◌*◌, ◌++◌, [], ◌∷◌, OnOk, IsOk, vec_len, vec_capacity};
+ghost use Rattle.std.specs.Prelude.{◌≡◌, ◌≤◌, ◌+◌, ◌*◌, ◌++◌, [], ◌∷◌, length, OnOk, IsOk, vec_len, vec_capacity};
 ghost use Rattle.std.specs.List.{flat_map};
 ghost use Rattle.collation.specs.Limits.{most_jobs};
 ghost use Rattle.key_codec.specs.Grown.{GoesOnFrom};
@@ -13,13 +13,12 @@ use command::{Answer, DataCommand, Look};
 use key_codec::{Key, Place};
 use std::alloc::AllocError;
 
-// Room for so many bytes more; where twice the memory is refused, as much as is needed.
-pub(crate) fn make_room(bytes: &mut Vec<u8>, more: usize) -> Result<(), AllocError>
+// Makes room for so many bytes more, where there is too little: twice the memory, or where that is refused as much as is needed.
+#[inline(never)]
+fn grow(bytes: &mut Vec<u8>, more: usize) -> Result<(), AllocError>
     ensures items { bytes.new.items ≡ bytes.old.items }
     ensures len { vec_len bytes.new ≡ vec_len bytes.old }
-    ensures capacity { vec_capacity bytes.old ≤ vec_capacity bytes.new }
     ensures room { OnOk result (vec_len bytes.new + more ≤ vec_capacity bytes.new) }
-    ensures sure { vec_len bytes.old + more ≤ vec_capacity bytes.old → IsOk result }
 {
     match bytes.reserve(more) {
         Ok(()) => Ok(()),
@@ -27,46 +26,121 @@ pub(crate) fn make_room(bytes: &mut Vec<u8>, more: usize) -> Result<(), AllocErr
     }
 }
 
-fn push_bytes(bytes: &mut Vec<u8>, more: &[u8]) -> Result<(), AllocError>
-    ensures bytes { OnOk result (bytes.new.items ≡ bytes.old.items ++ more.now) }
-    ensures kept { GoesOnFrom bytes.old.items bytes.new.items }
+// Room for so many bytes more.
+fn make_room(bytes: &mut Vec<u8>, more: usize) -> Result<(), AllocError>
+    ensures items { bytes.new.items ≡ bytes.old.items }
+    ensures len { vec_len bytes.new ≡ vec_len bytes.old }
+    ensures room { OnOk result (vec_len bytes.new + more ≤ vec_capacity bytes.new) }
+    ensures sure { vec_len bytes.old + more ≤ vec_capacity bytes.old → IsOk result }
 {
-    make_room(bytes, more.len())?;
-    bytes.extend_from_slice(more)
+    if more <= bytes.capacity() - bytes.len() {
+        return Ok(());
+    }
+    grow(bytes, more)
+}
+
+// These bytes, where there is room for them.
+fn write_bytes(bytes: &mut Vec<u8>, more: &[u8])
+    requires { vec_len bytes.old + length more.now ≤ vec_capacity bytes.old }
+    ensures items { bytes.new.items ≡ bytes.old.items ++ more.now }
+    ensures len { vec_len bytes.new ≡ vec_len bytes.old + length more.now }
+    ensures capacity { vec_capacity bytes.old ≤ vec_capacity bytes.new }
+{
+    match bytes.extend_from_slice(more) {
+        Ok(()) => {}
+        Err(_) => unreachable!(),
+    }
+}
+
+// A number of more than one byte, where there is room for nine.
+#[inline(never)]
+#[tactic(auto, unfolding(crate::specs::Format::number_bytes))]
+fn write_wide(bytes: &mut Vec<u8>, number: u64)
+    requires wide { 254 ≤ number }
+    requires room { vec_len bytes.old + 9 ≤ vec_capacity bytes.old }
+    ensures items { bytes.new.items ≡ bytes.old.items ++ format.number_bytes number }
+    ensures len { vec_len bytes.new ≤ vec_len bytes.old + 9 }
+    ensures capacity { vec_capacity bytes.old ≤ vec_capacity bytes.new }
+{
+    if number < 65536 {
+        bytes.push_reserved(254);
+        write_bytes(bytes, &(number as u16).to_be_bytes());
+    } else {
+        bytes.push_reserved(255);
+        write_bytes(bytes, &number.to_be_bytes());
+    }
+}
+
+// A number, where there is room for nine bytes.
+#[tactic(auto, unfolding(crate::specs::Format::number_bytes))]
+fn write_number(bytes: &mut Vec<u8>, number: u64)
+    requires { vec_len bytes.old + 9 ≤ vec_capacity bytes.old }
+    ensures items { bytes.new.items ≡ bytes.old.items ++ format.number_bytes number }
+    ensures len { vec_len bytes.new ≤ vec_len bytes.old + 9 }
+    ensures capacity { vec_capacity bytes.old ≤ vec_capacity bytes.new }
+{
+    if number < 254 {
+        bytes.push_reserved(number as u8);
+    } else {
+        write_wide(bytes, number);
+    }
+}
+
+// A unit's job and tag, where there is room for ten bytes.
+fn write_head(bytes: &mut Vec<u8>, job: Job, tag: u8)
+    requires { vec_len bytes.old + 10 ≤ vec_capacity bytes.old }
+    ensures items { bytes.new.items ≡ bytes.old.items ++ (format.number_bytes job ++ tag ∷ []) }
+    ensures len { vec_len bytes.new ≤ vec_len bytes.old + 10 }
+    ensures capacity { vec_capacity bytes.old ≤ vec_capacity bytes.new }
+    ensures low { 1 ≤ job }
+    ensures high { job ≤ most_jobs }
+{
+    write_number(bytes, u64::from(job.number()));
+    bytes.push_reserved(tag);
 }
 
 fn push_byte(bytes: &mut Vec<u8>, byte: u8) -> Result<(), AllocError>
     ensures bytes { OnOk result (bytes.new.items ≡ bytes.old.items ++ byte ∷ []) }
     ensures kept { GoesOnFrom bytes.old.items bytes.new.items }
+    ensures sure { vec_len bytes.old + 1 ≤ vec_capacity bytes.old → IsOk result }
 {
     make_room(bytes, 1)?;
     bytes.push_reserved(byte);
     Ok(())
 }
 
-#[tactic(auto, unfolding(crate::specs::Format::number_bytes))]
 fn push_number(bytes: &mut Vec<u8>, number: u64) -> Result<(), AllocError>
     ensures bytes { OnOk result (bytes.new.items ≡ bytes.old.items ++ format.number_bytes number) }
     ensures kept { GoesOnFrom bytes.old.items bytes.new.items }
+    ensures sure { vec_len bytes.old + 9 ≤ vec_capacity bytes.old → IsOk result }
 {
-    if number < 254 {
-        push_byte(bytes, number as u8)
-    } else if number < 65536 {
-        push_byte(bytes, 254)?;
-        push_bytes(bytes, &(number as u16).to_be_bytes())
-    } else {
-        push_byte(bytes, 255)?;
-        push_bytes(bytes, &number.to_be_bytes())
-    }
+    make_room(bytes, 9)?;
+    write_number(bytes, number);
+    Ok(())
+}
+
+fn push_head(bytes: &mut Vec<u8>, job: Job, tag: u8) -> Result<(), AllocError>
+    ensures bytes { OnOk result (bytes.new.items ≡ bytes.old.items ++ (format.number_bytes job ++ tag ∷ [])) }
+    ensures low { OnOk result (1 ≤ job) }
+    ensures high { OnOk result (job ≤ most_jobs) }
+    ensures kept { GoesOnFrom bytes.old.items bytes.new.items }
+    ensures sure { vec_len bytes.old + 10 ≤ vec_capacity bytes.old → IsOk result }
+{
+    make_room(bytes, 10)?;
+    write_head(bytes, job, tag);
+    Ok(())
 }
 
 fn push_string(bytes: &mut Vec<u8>, string: &[u8]) -> Result<(), AllocError>
     ensures bytes { OnOk result (bytes.new.items ≡ bytes.old.items ++ format.string_bytes string.now) }
     ensures fits { FitsString string.now }
     ensures kept { GoesOnFrom bytes.old.items bytes.new.items }
+    ensures sure { vec_len bytes.old + (length string.now + 9) ≤ vec_capacity bytes.old → IsOk result }
 {
-    push_number(bytes, string.len() as u64)?;
-    push_bytes(bytes, string)
+    make_room(bytes, string.len() + 9)?;
+    write_number(bytes, string.len() as u64);
+    write_bytes(bytes, string);
+    Ok(())
 }
 
 fn push_key(bytes: &mut Vec<u8>, key: &Key) -> Result<(), AllocError>
@@ -80,6 +154,7 @@ fn push_key(bytes: &mut Vec<u8>, key: &Key) -> Result<(), AllocError>
 fn push_name(bytes: &mut Vec<u8>, name: &LockName) -> Result<(), AllocError>
     ensures bytes { OnOk result (bytes.new.items ≡ bytes.old.items ++ format.name_bytes name.now) }
     ensures fits { OnOk result (FitsName name.now) }
+    ensures kept { GoesOnFrom bytes.old.items bytes.new.items }
 {
     push_byte(bytes, u8::from(name.has_caret()))?;
     let key = Key::of(*bytes.allocator(), name.reference())?;
@@ -89,6 +164,7 @@ fn push_name(bytes: &mut Vec<u8>, name: &LockName) -> Result<(), AllocError>
 fn push_each(bytes: &mut Vec<u8>, names: &[LockName]) -> Result<(), AllocError>
     ensures bytes { OnOk result (bytes.new.items ≡ bytes.old.items ++ flat_map format.name_bytes names.now) }
     ensures fits { OnOk result (Each FitsName names.now) }
+    ensures kept { GoesOnFrom bytes.old.items bytes.new.items }
 {
     for name in names {
         push_name(bytes, name)?;
@@ -99,6 +175,7 @@ fn push_each(bytes: &mut Vec<u8>, names: &[LockName]) -> Result<(), AllocError>
 fn push_names(bytes: &mut Vec<u8>, names: &LockNames) -> Result<(), AllocError>
     ensures bytes { OnOk result (bytes.new.items ≡ bytes.old.items ++ format.names_bytes names.now) }
     ensures fits { OnOk result (FitNames names.now) }
+    ensures kept { GoesOnFrom bytes.old.items bytes.new.items }
 {
     let names = names.as_slice();
     push_number(bytes, names.len() as u64)?;
@@ -210,7 +287,29 @@ fn push_answer(bytes: &mut Vec<u8>, answer: &Answer) -> Result<(), AllocError>
     }
 }
 
-// A command with its answer, after one tag for both kinds.
+// One tag for both kinds.
+fn answered_tag(command: &DataCommand, answer: &Answer) -> u8
+    ensures { result ≡ 4 * format.command_kind command.now + format.answer_kind answer.now }
+{
+    4 * command_kind(command) + answer_kind(answer)
+}
+
+// A command with its answer, after their tag.
+fn push_tagged(
+    bytes: &mut Vec<u8>,
+    command: &DataCommand,
+    answer: &Answer,
+) -> Result<(), AllocError>
+    ensures bytes { OnOk result (bytes.new.items ≡ bytes.old.items ++ (format.command_bytes command.now ++ format.answer_bytes answer.now)) }
+    ensures command_fits { OnOk result (FitsCommand command.now) }
+    ensures answer_fits { OnOk result (FitsAnswer answer.now) }
+    ensures kept { GoesOnFrom bytes.old.items bytes.new.items }
+{
+    push_command(bytes, command)?;
+    push_answer(bytes, answer)
+}
+
+// A command with its answer, and their tag before them.
 pub(crate) fn push_answered(
     bytes: &mut Vec<u8>,
     command: &DataCommand,
@@ -221,9 +320,8 @@ pub(crate) fn push_answered(
     ensures answer_fits { OnOk result (FitsAnswer answer.now) }
     ensures kept { GoesOnFrom bytes.old.items bytes.new.items }
 {
-    push_byte(bytes, 4 * command_kind(command) + answer_kind(answer))?;
-    push_command(bytes, command)?;
-    push_answer(bytes, answer)
+    push_byte(bytes, answered_tag(command, answer))?;
+    push_tagged(bytes, command, answer)
 }
 
 fn lock_kind(command: &LockCommand) -> u8
@@ -253,6 +351,7 @@ fn lock_flags(inside: bool, had: bool) -> u8
 fn push_lock_names(bytes: &mut Vec<u8>, command: &LockCommand) -> Result<(), AllocError>
     ensures bytes { OnOk result (bytes.new.items ≡ bytes.old.items ++ format.lock_bytes command.now) }
     ensures fits { OnOk result (FitsLock command.now) }
+    ensures kept { GoesOnFrom bytes.old.items bytes.new.items }
 {
     match command {
         LockCommand::Release => Ok(()),
@@ -260,28 +359,6 @@ fn push_lock_names(bytes: &mut Vec<u8>, command: &LockCommand) -> Result<(), All
         LockCommand::More(names) => push_names(bytes, names),
         LockCommand::Fewer(names) => push_names(bytes, names),
     }
-}
-
-// A LOCK after its tag.
-pub(crate) fn push_lock(
-    bytes: &mut Vec<u8>,
-    inside: bool,
-    command: &LockCommand,
-    had: bool,
-) -> Result<(), AllocError>
-    ensures bytes { OnOk result (bytes.new.items ≡ bytes.old.items ++ (4 * format.lock_kind command.now + format.lock_flags inside had) ∷ format.lock_bytes command.now) }
-    ensures fits { OnOk result (FitsLock command.now) }
-{
-    push_byte(bytes, 4 * lock_kind(command) + lock_flags(inside, had))?;
-    push_lock_names(bytes, command)
-}
-
-fn push_job(bytes: &mut Vec<u8>, job: Job) -> Result<(), AllocError>
-    ensures bytes { OnOk result (bytes.new.items ≡ bytes.old.items ++ format.number_bytes job) }
-    ensures low { 1 ≤ job }
-    ensures high { job ≤ most_jobs }
-{
-    push_number(bytes, u64::from(job.number()))
 }
 
 // The unit of a data command outside a transaction.
@@ -293,13 +370,14 @@ pub(crate) fn push_lone(
 ) -> Result<(), AllocError>
     ensures bytes { OnOk result (bytes.new.items ≡ bytes.old.items ++ format.unit_bytes (Lone job command.now answer.now)) }
     ensures fits { OnOk result (FitsUnit (Lone job command.now answer.now)) }
+    ensures kept { GoesOnFrom bytes.old.items bytes.new.items }
 {
-    push_job(bytes, job)?;
-    push_answered(bytes, command, answer)
+    push_head(bytes, job, answered_tag(command, answer))?;
+    push_tagged(bytes, command, answer)
 }
 
 // The unit of a LOCK.
-pub(crate) fn push_locked(
+pub(crate) fn push_lock(
     bytes: &mut Vec<u8>,
     job: Job,
     inside: bool,
@@ -308,27 +386,28 @@ pub(crate) fn push_locked(
 ) -> Result<(), AllocError>
     ensures bytes { OnOk result (bytes.new.items ≡ bytes.old.items ++ format.unit_bytes (Lock job inside command.now had)) }
     ensures fits { OnOk result (FitsUnit (Lock job inside command.now had)) }
+    ensures kept { GoesOnFrom bytes.old.items bytes.new.items }
 {
-    push_job(bytes, job)?;
-    push_lock(bytes, inside, command, had)
+    push_head(bytes, job, 4 * lock_kind(command) + lock_flags(inside, had))?;
+    push_lock_names(bytes, command)
 }
 
 // The unit of a rollback or restart.
 pub(crate) fn push_back(bytes: &mut Vec<u8>, job: Job) -> Result<(), AllocError>
     ensures bytes { OnOk result (bytes.new.items ≡ bytes.old.items ++ format.unit_bytes (Back job)) }
     ensures fits { OnOk result (FitsUnit (Back job)) }
+    ensures kept { GoesOnFrom bytes.old.items bytes.new.items }
 {
-    push_job(bytes, job)?;
-    push_byte(bytes, 57)
+    push_head(bytes, job, 57)
 }
 
 // The unit of a session's end.
 pub(crate) fn push_end(bytes: &mut Vec<u8>, job: Job) -> Result<(), AllocError>
     ensures bytes { OnOk result (bytes.new.items ≡ bytes.old.items ++ format.unit_bytes (End job)) }
     ensures fits { OnOk result (FitsUnit (End job)) }
+    ensures kept { GoesOnFrom bytes.old.items bytes.new.items }
 {
-    push_job(bytes, job)?;
-    push_byte(bytes, 58)
+    push_head(bytes, job, 58)
 }
 
 // The unit of a transaction, from its exchanges' bytes.
@@ -339,10 +418,12 @@ pub(crate) fn push_whole(
 ) -> Result<(), AllocError>
     ensures bytes { OnOk result (bytes.new.items ≡ bytes.old.items ++ format.unit_bytes (Whole job exchanges.now)) }
     ensures fits { OnOk result (FitsUnit (Whole job exchanges.now)) }
+    ensures kept { GoesOnFrom bytes.old.items bytes.new.items }
 {
-    make_room(bytes, exchanges.as_slice().len().saturating_add(32))?;
-    push_job(bytes, job)?;
-    push_byte(bytes, 56)?;
-    push_number(bytes, exchanges.len())?;
-    push_bytes(bytes, exchanges.as_slice())
+    let text = exchanges.as_slice();
+    make_room(bytes, text.len() + 19)?;
+    write_head(bytes, job, 56);
+    write_number(bytes, exchanges.len());
+    write_bytes(bytes, text);
+    Ok(())
 }

@@ -1,4 +1,4 @@
-use Rattle.std.proofs.Common.{subst, ◌∙◌, ap, ◌≡◌, ◌++◌, ◌∷◌, [], List, drop}
+use Rattle.std.proofs.Common.{subst, ◌∙◌, ap, ◌≡◌, ◌++◌, ◌∷◌, [], List, take, drop}
 use Rattle.journal.specs.declared.unit.Unit.{Unit as JournalUnit}
 use Rattle.journal.specs.Log.{Logged}
 use Rattle.journal.proofs.Logs.{newest_read, newest_never_unread}
@@ -7,12 +7,14 @@ use Rattle.journal.proofs.log.Log.newest.Goals as goal
 pub returns-in-Ok : goal.returns-in-Ok
 returns-in-Ok c =
     let s = c.self.inside in
-    let part = c.from.ensures ∙ ap (drop s.newest) c.deref.ensures.value in
+    let bytes = take s.end s.bytes.items in
+    let part = c.from-last.ensures ∙ ap (drop s.newest) (c.front.ensures ∙ ap (take s.end) c.deref.ensures.value) in
     subst (λ (k : Logged). (before : List JournalUnit) × (k.units ≡ before ++ c.in-Ok.unit ∷ [])) c.self.view_is
-    (newest_read s.bytes.items c.from.result.now c.in-Ok.field-0-1.now s.count s.newest c.in-Ok.unit c.self.invariant.0 c.if-self-eq0.false c.self.invariant.1 part c.in-Ok.ensures.some)
+    (newest_read bytes c.from-last.result.now c.in-Ok.field-0-1.now s.count s.newest c.in-Ok.unit c.self.invariant.stands c.if-self-eq0.false c.self.invariant.last part c.in-Ok.ensures.some)
 
 pub unreachable-requires : goal.unreachable-requires
 unreachable-requires c =
     let s = c.self.inside in
-    let part = c.from.ensures ∙ ap (drop s.newest) c.deref.ensures.value in
-    newest_never_unread s.bytes.items c.from.result.now s.count s.newest c.self.invariant.0 c.if-self-eq0.false c.self.invariant.1 part (c.in-Err-Form.ensures.none c.in-Err-Form.field-0-is)
+    let bytes = take s.end s.bytes.items in
+    let part = c.from-last.ensures ∙ ap (drop s.newest) (c.front.ensures ∙ ap (take s.end) c.deref.ensures.value) in
+    newest_never_unread bytes c.from-last.result.now s.count s.newest c.self.invariant.stands c.if-self-eq0.false c.self.invariant.last part (c.in-Err-Form.ensures.none c.in-Err-Form.field-0-is)

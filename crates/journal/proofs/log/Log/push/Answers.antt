@@ -1,18 +1,18 @@
-use Rattle.std.proofs.Common.{rules, subst, ◌++◌, ◌≡◌, ◌∷◌, [], ◌+◌}
+use Rattle.std.proofs.Common.{rules, subst, sym, ◌++◌, ◌≡◌, ◌∷◌, [], ◌+◌, take}
 use Rattle.std.specs.Prelude.{IfSome}
-use Rattle.journal.specs.Log.{Logged, units_in}
-use Rattle.journal.proofs.Logs.{pushed, pushed_keeps, pushed_units}
+use Rattle.journal.specs.Log.{Logged, IsUnitOf, unit_in, units_in}
+use Rattle.journal.proofs.Logs.{pushed}
 use Rattle.journal.proofs.log.Log.push.Goals as goal
 
 pub invariant_of-self : goal.invariant_of-self
 invariant_of-self c =
     let s = c.self.inside in
-    pushed_keeps c.args.draft.now s.bytes.items c.extend_from_slice.new.self.items s.count c.len-newest.result c.requires.some
-    (pushed c.args.draft.now s.bytes.items c.as_slice.result.now c.extend_from_slice.new.self.items s.count c.len-newest.result c.self.invariant.0 c.as_slice.ensures.bytes c.as_slice.ensures.fits c.in-Ok.ensures.items (search rules))
+    let unit = subst (λ (k : Logged). IsUnitOf k.behind c.requires.some.0 c.requires.some.1) (sym c.self.view_is) c.requires.some.2 in
+    (pushed s.bytes.items s.end c.len-self-inside.result s.count s.newest c.requires.some.0 c.requires.some.1 c.self.invariant unit (search rules)).keeps
 
 pub returns : goal.returns
 returns c =
     let s = c.self.inside in
-    subst (λ (k : Logged). IfSome c.args.draft.now (λ u. units_in (s.count + 1) c.extend_from_slice.new.self.items ≡ k.units ++ u ∷ [])) c.self.view_is
-    (pushed_units c.args.draft.now s.bytes.items c.extend_from_slice.new.self.items s.count c.len-newest.result
-    (pushed c.args.draft.now s.bytes.items c.as_slice.result.now c.extend_from_slice.new.self.items s.count c.len-newest.result c.self.invariant.0 c.as_slice.ensures.bytes c.as_slice.ensures.fits c.in-Ok.ensures.items (search rules)))
+    let unit = subst (λ (k : Logged). IsUnitOf k.behind c.requires.some.0 c.requires.some.1) (sym c.self.view_is) c.requires.some.2 in
+    let h = pushed s.bytes.items s.end c.len-self-inside.result s.count s.newest c.requires.some.0 c.requires.some.1 c.self.invariant unit (search rules) in
+    record { units = subst (λ (k : Logged). IfSome (unit_in k.behind) (λ u. units_in (s.count + 1) (take c.len-self-inside.result s.bytes.items) ≡ k.units ++ u ∷ [])) c.self.view_is h.units; behind = h.behind }
