@@ -10,7 +10,7 @@ use Rattle.std.specs.FinMap.Entries.{find, put}
 use Rattle.btree.specs.Order.{Each, Ascends, IsBefore, IsAfter, last_of}
 use Rattle.btree.specs.Branch.{Branch}
 use Rattle.btree.specs.Rows.{first_pairs, rest, weave, branch_of, IsKid}
-use Rattle.btree.specs.Gap.{last_key, first_key, IsPutIn, IsPutBetween}
+use Rattle.btree.specs.Gap.{last_key, first_key, IsMissedBetween, IsPutIn, IsPutBetween}
 use Rattle.btree.proofs.Order.{last_taken, each_map, ascends_front, ascends_back, before_down, after_up, find_between, put_between, or_else_none, or_else_assoc}
 use Rattle.btree.proofs.Places.{before, beyond, cut, within_at, kept}
 use Rattle.btree.proofs.Growth.{weave_beside}
@@ -88,20 +88,64 @@ module _ {K V : Type 0} (R : K → K → Ordering) (o : IsTotalOrder R) (key : K
   each_after [] s h = tt
   each_after (x ∷ xs) s h = (h, each_map (λ y k. after_up R o key x y k h) xs s.0)
 
-  -- a pair inserted at a place between these keys
-  pub put_at : (v : V) (i : ℕ) (es fs : List (K × V)) (low high : Option K) → i ≤ length es → IfSome (option_or (last_key (take i es)) low) (λ k. R key k ≡ Greater) → IfSome (option_or (first_key (drop i es)) high) (λ k. R key k ≡ Less)
-      → fs ≡ insert es i (key, v) → IsPutBetween R key v low high es fs
-  put_at v i es fs low high p below above is us bs s l h =
+  -- all that stands around these pairs, cut at a place between these keys, is before the key or after it
+  around : (i : ℕ) (es us bs : List (K × V)) (low high : Option K) → i ≤ length es → IfSome (option_or (last_key (take i es)) low) (λ k. R key k ≡ Greater) → IfSome (option_or (first_key (drop i es)) high) (λ k. R key k ≡ Less)
+      → Ascends R (us ++ (es ++ bs)) → last_key us ≡ low → first_key bs ≡ high
+      → (us ++ (es ++ bs) ≡ (us ++ take i es) ++ (drop i es ++ bs)) × Each (IsBefore R key) (us ++ take i es) × Each (IsAfter R key) (drop i es ++ bs)
+  around i es us bs low high p below above s l h =
       let old : us ++ (es ++ bs) ≡ (us ++ take i es) ++ (drop i es ++ bs) = ap (λ zs. us ++ (zs ++ bs)) (split_at i es p) ∙ arranged us (take i es) [] (drop i es) bs in
-      let new : us ++ (fs ++ bs) ≡ (us ++ take i es) ++ ((key, v) ∷ (drop i es ++ bs)) = ap (λ zs. us ++ (zs ++ bs)) (is ∙ insert_split i es (key, v) p) ∙ arranged us (take i es) ((key, v) ∷ []) (drop i es) bs in
       let sorted : Ascends R ((us ++ take i es) ++ (drop i es ++ bs)) = subst (Ascends R) old s in
       let front = each_before (us ++ take i es) (ascends_front R (us ++ take i es) (drop i es ++ bs) sorted)
       (subst (λ k. IfSome k (λ k. R key k ≡ Greater)) (ap (option_or (last_key (take i es))) (sym l) ∙ sym (last_key-append us (take i es))) below) in
       let back = each_after (drop i es ++ bs) (ascends_back R (us ++ take i es) (drop i es ++ bs) sorted)
-      (subst (λ k. IfSome k (λ k. R key k ≡ Less)) (ap (option_or (first_key (drop i es))) (sym h) ∙ sym (first_key-append (drop i es) bs)) above) in (
-        ap (find R key) old ∙ find_between R o key (us ++ take i es) [] (drop i es ++ bs) front back,
-        new ∙ sym (ap (put R key v) old ∙ put_between R o key v (us ++ take i es) [] (drop i es ++ bs) front back),
+      (subst (λ k. IfSome k (λ k. R key k ≡ Less)) (ap (option_or (first_key (drop i es))) (sym h) ∙ sym (first_key-append (drop i es) bs)) above) in
+      (old, front, back)
+
+  -- a key at a place between these keys isn't there
+  pub missed_at : (i : ℕ) (es : List (K × V)) (low high : Option K) → i ≤ length es → IfSome (option_or (last_key (take i es)) low) (λ k. R key k ≡ Greater) → IfSome (option_or (first_key (drop i es)) high) (λ k. R key k ≡ Less)
+      → IsMissedBetween R key low high es
+  missed_at i es low high p below above us bs s l h =
+      let a = around i es us bs low high p below above s l h in
+      ap (find R key) a.0 ∙ find_between R o key (us ++ take i es) [] (drop i es ++ bs) a.1 a.2
+
+  -- a pair inserted at a place between these keys
+  pub put_at : (v : V) (i : ℕ) (es fs : List (K × V)) (low high : Option K) → i ≤ length es → IfSome (option_or (last_key (take i es)) low) (λ k. R key k ≡ Greater) → IfSome (option_or (first_key (drop i es)) high) (λ k. R key k ≡ Less)
+      → fs ≡ insert es i (key, v) → IsPutBetween R key v low high es fs
+  put_at v i es fs low high p below above is us bs s l h =
+      let a = around i es us bs low high p below above s l h in
+      let new : us ++ (fs ++ bs) ≡ (us ++ take i es) ++ ((key, v) ∷ (drop i es ++ bs)) = ap (λ zs. us ++ (zs ++ bs)) (is ∙ insert_split i es (key, v) p) ∙ arranged us (take i es) ((key, v) ∷ []) (drop i es) bs in (
+        ap (find R key) a.0 ∙ find_between R o key (us ++ take i es) [] (drop i es ++ bs) a.1 a.2,
+        new ∙ sym (ap (put R key v) a.0 ∙ put_between R o key v (us ++ take i es) [] (drop i es ++ bs) a.1 a.2),
       )
+
+module _ {K V : Type 0} (R : K → K → Ordering) (key : K) where
+  -- a key missed in the kid at a place, between the keys next to the kid
+  missed_kid : (i : ℕ) (es : List (K × V)) (ks : List (Branch K V)) (d : Branch K V) (low high below above : Option K) → i ≤ length es → i < length ks → below ≡ option_or (last_key (take i es)) low → above ≡ option_or (first_key (drop i es)) high
+      → IsMissedBetween R key below above (get_or ks i d).pairs → IsMissedBetween R key low high (weave es ks)
+  missed_kid i es ks d low high below above p q a b kid us bs s l h =
+      let old : us ++ (weave es ks ++ bs) ≡ (us ++ before i es ks) ++ ((get_or ks i d).pairs ++ (beyond i es ks ++ bs)) =
+      ap (λ zs. us ++ (zs ++ bs)) (cut i es ks p ∙ ap (λ zs. before i es ks ++ (zs ++ beyond i es ks)) (within_at i ks d q)) ∙ arranged us (before i es ks) (get_or ks i d).pairs (beyond i es ks) bs in
+      let last : last_key (us ++ before i es ks) ≡ below =
+      last_key-append us (before i es ks) ∙ ap (λ e. option_or (option_map (λ (e : K × V). e.0) e) (last_key us)) (last_of-before i es ks) ∙ ap (option_or (last_key (take i es))) l ∙ sym a in
+      let first : first_key (beyond i es ks ++ bs) ≡ above =
+      first_key-append (beyond i es ks) bs ∙ ap (λ e. option_or e (first_key bs)) (first_key-beyond i es ks) ∙ ap (option_or (first_key (drop i es))) h ∙ sym b in
+      ap (find R key) old ∙ kid (us ++ before i es ks) (beyond i es ks ++ bs) (subst (Ascends R) old s) last first
+
+  -- a node b of these rows, whose leaf or kid at a place misses it
+  pub missed_in_rows : (b : Branch K V) (es : List (K × V)) (ks : List (Branch K V)) (low high : Option K) → branch_of es ks ≡ b → ks ≡ [] → IsMissedBetween R key low high es → IsMissedBetween R key low high b.pairs
+  missed_in_rows b es ks low high is leaf missed =
+      let old : es ≡ b.pairs = sym (weave_leaf es) ∙ ap (weave es) (sym leaf) ∙ ap (λ x. x.pairs) is in
+      subst (λ zs. IsMissedBetween R key low high zs) old missed
+
+  pub missed_below_kid : (b : Branch K V) (i : ℕ) (es : List (K × V)) (ks : List (Branch K V)) (d : Branch K V) (low high below above : Option K) → branch_of es ks ≡ b → i ≤ length es → i < length ks → below ≡ option_or (last_key (take i es)) low → above ≡ option_or (first_key (drop i es)) high
+      → d ≡ get_or ks i d → IsMissedBetween R key below above d.pairs → IsMissedBetween R key low high b.pairs
+  missed_below_kid b i es ks d low high below above is p q f g there missed =
+      subst (λ (x : Branch K V). IsMissedBetween R key low high x.pairs) is
+      (missed_kid i es ks d low high below above p q f g (subst (λ (x : Branch K V). IsMissedBetween R key below above x.pairs) there missed))
+
+  -- a key missed in all
+  pub missed_whole : (es : List (K × V)) → IsMissedBetween R key None None es → Ascends R es → find R key es ≡ None
+  missed_whole es all s = subst (λ zs. find R key zs ≡ None) (append-nil es) (all [] [] (subst (Ascends R) (sym (append-nil es)) s) refl refl)
 
 module _ {K V : Type 0} (R : K → K → Ordering) (key : K) (v : V) where
   -- a pair put into the kid at a place, between the keys next to the kid

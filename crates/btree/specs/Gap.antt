@@ -13,6 +13,11 @@ abbrev pub first_key : {K X : Type 0} → List (K × X) → Option K
 first_key [] = None
 first_key (e ∷ es) = Some e.0
 
+-- whatever stands in order before and after the pairs, next to them the keys low and high: in the whole the key isn't there
+abbrev pub IsMissedBetween : {K X : Type 0} → (K → K → Ordering) → K → Option K → Option K → List (K × X) → Type 0
+IsMissedBetween {K} {X} R key low high es =
+    (us bs : List (K × X)) → Ascends R (us ++ (es ++ bs)) → last_key us ≡ low → first_key bs ≡ high → find R key (us ++ (es ++ bs)) ≡ None
+
 -- a key that wasn't among the pairs is put in
 abbrev pub IsPutIn : {K X : Type 0} → (K → K → Ordering) → K → X → List (K × X) → List (K × X) → Type 0
 IsPutIn R key value old new = (find R key old ≡ None) × (new ≡ put R key value old)

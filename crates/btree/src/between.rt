@@ -1,8 +1,8 @@
 //! A pair put between the pairs next to its place: two comparisons decide whether it goes there.
-ghost use Rattle.std.specs.Prelude.{◌≡◌, ◌<◌, ◌≤◌, true, length, take, drop, vec_capacity, IfSome, IfErr, OnOk, OnErr};
+ghost use Rattle.std.specs.Prelude.{◌≡◌, ◌<◌, ◌≤◌, true, length, take, drop, vec_capacity, IfSome, IsSome, IfErr, OnOk, OnErr};
 ghost use Rattle.std.specs.declared.cmp.Ordering.TheVariants.{Less, Greater};
 ghost use Rattle.std.specs.Option.{option_map, option_or};
-ghost use Rattle.btree.specs.Gap.{last_key, first_key, IsPutBetween};
+ghost use Rattle.btree.specs.Gap.{last_key, first_key, IsMissedBetween, IsPutBetween};
 
 use crate::row::insert_reserved;
 use std::cmp::Ordering;
@@ -42,6 +42,32 @@ fn is_between<K: Ord>(key: &K, low: Option<&K>, high: Option<&K>) -> bool
     match high {
         None => true,
         Some(high) => key.cmp(high) == Ordering::Less,
+    }
+}
+
+/// Where in a leaf's row a key goes that isn't there, told by the pair at a place and the one next to it; `low` and `high` are
+/// the keys next to the row. No answer where these two don't tell.
+pub fn gap_beside<K: Ord, V>(
+    row: &[(K, V)],
+    at: usize,
+    key: &K,
+    low: Option<&K>,
+    high: Option<&K>,
+) -> Option<usize>
+    ensures missed { IsSome result → IsMissedBetween K.cmp key.now (option_map (λ k. k.now) low.entry) (option_map (λ k. k.now) high.entry) row.now }
+{
+    if at >= row.len() {
+        return None;
+    }
+    let gap = match key.cmp(&row[at].0) {
+        Ordering::Less => at,
+        Ordering::Equal => return None,
+        Ordering::Greater => at + 1,
+    };
+    if is_between(key, key_before(row, gap, low), key_after(row, gap, high)) {
+        Some(gap)
+    } else {
+        None
     }
 }
 

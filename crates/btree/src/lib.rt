@@ -17,7 +17,8 @@
 //!
 //! Most insertions come by the trail of a look-up that missed their key, to a leaf with places left: they go down to it and
 //! put the pair there, if its key stands between those next to the place (`put_in_leaf`, `between.rt`). Otherwise another
-//! way down takes the memory that splits may want and joins what comes up (`insert`).
+//! way down takes the memory that splits may want and joins what comes up (`insert`). Keys in order need no look-up: the trail of
+//! the last one tells by the pair at its end and the one next to that whether a key isn't there (`misses_beside`).
 //!
 //! Before it comes to that, a kid that an insertion has filled gives half of what it has more to the kid before or
 //! after it (`ease.rt`), and the last or first kid as much as the other can hold (`share.rt`), so that keys in order leave

@@ -1,12 +1,12 @@
 //! A node: pairs of its own, and, unless it is a leaf, a kid before, between and after them.
-ghost use Rattle.std.specs.Prelude.{IfOk, IfErr, OnOk, OnErr, IsSome, None, Some, ◌⊎◌, suc, ◌++◌, ◌∷◌, [], length, vec_capacity, ◌≡◌, ◌+◌, ◌^◌, ◌<◌, ◌≤◌};
+ghost use Rattle.std.specs.Prelude.{true, IfOk, IfErr, OnOk, OnErr, IsSome, None, Some, ◌⊎◌, suc, ◌++◌, ◌∷◌, [], length, vec_capacity, ◌≡◌, ◌+◌, ◌^◌, ◌<◌, ◌≤◌};
 ghost use Rattle.std.specs.Option.{option_map};
 ghost use Rattle.std.specs.FinMap.Entries.{find, put};
 ghost use Rattle.btree.specs.Order.{Ascends, first_from, last_before, without};
-ghost use Rattle.btree.specs.Gap.{IsPutBetween};
+ghost use Rattle.btree.specs.Gap.{IsMissedBetween, IsPutBetween};
 ghost use Rattle.btree.specs.Rows.{branch_of, sizes_of, IsNode, RowsHaveRoom, HasBecome, IsKid, IsFull, IsSpare, HasShrunk};
 
-use crate::between::{insert_between, key_after, key_before};
+use crate::between::{gap_beside, insert_between, key_after, key_before};
 use crate::ease::ease;
 use crate::mend::{append_reserved, mend, take_at};
 use crate::row::{cut_anew, replace_value};
@@ -185,6 +185,44 @@ impl<K: Ord, V> Node<K, V> {
                 Some(kid) => here = kid,
             }
         }
+    }
+
+    /// Whether a key isn't there, told by the pair that a trail leads to and the one next to it. The trail then leads to where
+    /// the key goes. Where it answers `false` the key may be there or not.
+    pub fn misses_beside(&self, key: &K, trail: &mut Trail) -> bool
+        requires sorted { Ascends K.cmp self.now.pairs }
+        ensures missed { result ≡ true → find K.cmp key.now self.now.pairs ≡ None }
+    {
+        self.misses_between(key, trail, 0, None, None)
+    }
+
+    // As `misses_beside`, so many levels below the root, in a node whose pairs stand between the keys `low` and `high`, where
+    // there are any. Nothing is compared on the way down to the leaf.
+    fn misses_between<'a>(
+        &'a self,
+        key: &K,
+        trail: &mut Trail,
+        level: usize,
+        low: Option<&'a K>,
+        high: Option<&'a K>,
+    ) -> bool
+        ensures missed { result ≡ true → IsMissedBetween K.cmp key.now (option_map (λ k. k.now) low.entry) (option_map (λ k. k.now) high.entry) self.now.pairs }
+    {
+        let at = trail.place(level);
+        if at > self.entries.len() {
+            return false;
+        }
+        if self.kids.is_empty() {
+            let Some(gap) = gap_beside(&self.entries, at, key, low, high) else {
+                return false;
+            };
+            trail.put(level, gap);
+            return true;
+        }
+        let low = key_before(&self.entries, at, low);
+        let high = key_after(&self.entries, at, high);
+        let below = level.wrapping_add(1);
+        self.kids[at].misses_between(key, trail, below, low, high)
     }
 
     /// The first pair whose key does not stand before a point.

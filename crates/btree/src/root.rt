@@ -89,6 +89,15 @@ impl<K: Ord, V> Tree<K, V> {
         (found, trail)
     }
 
+    /// Whether a key isn't there, told by the pair that a trail leads to and the one next to it, in two comparisons and one
+    /// more: then the trail leads to where the key goes, as that of its look-up would. Where it answers `false` the key may be
+    /// there or not.
+    pub fn misses_beside(&self, key: &K, trail: &mut Trail) -> bool
+        ensures missed { result ≡ true → entries.find K.cmp key.now self.now.pairs ≡ None }
+    {
+        self.root.misses_beside(key, trail)
+    }
+
     /// The first pair whose key does not stand before a point, and how many nodes were visited: one a level.
     pub fn first_from<P: Point<K>>(&self, point: &P) -> (Option<(&K, &V)>, usize)
         ensures found { option_map (λ p. (p.0.now, p.1.now)) result.0 ≡ find (λ e. not (P.before point.now e.0)) self.now.pairs }

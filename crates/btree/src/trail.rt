@@ -35,8 +35,15 @@ impl Trail {
     pub(crate) fn note(&mut self, at: usize)
         ensures { self.new.visits ≡ self.old.visits }
     {
-        let level = self.visits.wrapping_sub(1) % 16;
-        self.places[level] = (at % 256) as u8;
+        let level = self.visits.wrapping_sub(1);
+        self.put(level, at);
+    }
+
+    // Notes the place in the node so many levels below the root.
+    pub(crate) fn put(&mut self, level: usize, at: usize)
+        ensures { self.new.visits ≡ self.old.visits }
+    {
+        self.places[level % 16] = (at % 256) as u8;
     }
 
     // The place that was noted so many levels below the root.

@@ -158,6 +158,27 @@ fn do_trails_change_nothing(alloc: Global, order: Order) -> Result<bool, AllocEr
     Ok(alike && are_trees_alike(&tree, &plain))
 }
 
+// How many of 10,000 insertions are told their place beside the last one; none where a key is told missing that is there.
+fn told_beside(alloc: Global, order: Order) -> Result<Option<u64>, AllocError> {
+    let mut tree = Tree::new(alloc);
+    let mut trail = Trail::new();
+    let mut told: u64 = 0;
+    for step in 0..10_000 {
+        let key = key_of(order, step);
+        let (value, own) = tree.look_up(&key);
+        let is_there = value.is_some();
+        if !tree.misses_beside(&key, &mut trail) {
+            trail = own;
+        } else if is_there {
+            return Ok(None);
+        } else {
+            told = told.saturating_add(1);
+        }
+        tree.insert_by(alloc, key, step, &trail)?;
+    }
+    Ok(Some(told))
+}
+
 // Whether a walk on from a number, and one back from it, pass the multiples of three and end.
 fn are_walks_whole(tree: &Tree<u64, u64>, from: u64, above: u64, count: usize) -> bool {
     let mut want = above;
@@ -275,6 +296,14 @@ fn wrong_trails_change_nothing_of_an_insertion(rt: HostRuntime) -> Result<(), Al
     assert!(rt; do_trails_change_nothing(rt.alloc(), Order::Rising)?);
     assert!(rt; do_trails_change_nothing(rt.alloc(), Order::Falling)?);
     assert!(rt; do_trails_change_nothing(rt.alloc(), Order::Mixed)?);
+    Ok(())
+}
+
+#[test]
+fn keys_in_order_are_told_their_place(rt: HostRuntime) -> Result<(), AllocError> {
+    assert!(rt; told_beside(rt.alloc(), Order::Rising)? >= Some(9_000));
+    assert!(rt; told_beside(rt.alloc(), Order::Falling)? >= Some(9_000));
+    assert!(rt; told_beside(rt.alloc(), Order::Mixed)?.is_some());
     Ok(())
 }
 

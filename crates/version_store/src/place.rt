@@ -1,5 +1,5 @@
 //! Room for changes: chains for references, and cells for versions.
-ghost use Rattle.std.specs.Prelude.{◌≡◌, ℕ, ◌+◌, ◌≤◌, max, [], None, OnOk, OnErr, length, true, map, drop};
+ghost use Rattle.std.specs.Prelude.{◌≡◌, ℕ, ◌+◌, ◌≤◌, max, [], None, IsSome, OnOk, OnErr, length, true, map, drop};
 ghost use Rattle.std.specs.FinMap as finmap;
 ghost use Rattle.collation.specs.Reference.{Reference};
 ghost use Rattle.version_store.specs.Versions.{Versions, content_at, versions_of, placed, all_placed};
@@ -60,6 +60,37 @@ impl Store {
         }
     }
 
+    // Where a reference goes that has no chain, told by the place of the last new one. Where it answers `None` it may have one.
+    pub(crate) fn place_beside(&mut self, key: &Key) -> Option<Trail>
+        ensures missed { IsSome result → finmap.get self.old.versions key.now ≡ None }
+        ensures same { self.new ≡ self.old }
+    {
+        let mut trail = self.near.trail()?;
+        if self.tree.misses_beside(key, &mut trail) {
+            self.near.told(trail);
+            return Some(trail);
+        }
+        self.near.was_in_vain();
+        None
+    }
+
+    // Where a reference goes that has no chain; `None` where it has one.
+    fn missed(&mut self, key: &Key) -> Option<Trail>
+        ensures missed { IsSome result → finmap.get self.old.versions key.now ≡ None }
+        ensures found { result ≡ None → finmap.contains_key self.old.versions key.now ≡ true }
+        ensures same { self.new ≡ self.old }
+    {
+        if let Some(trail) = self.place_beside(key) {
+            return Some(trail);
+        }
+        let (is_placed, trail) = self.look_up(key);
+        if is_placed {
+            return None;
+        }
+        self.near.note(&trail);
+        Some(trail)
+    }
+
     // Gives a reference an empty chain, if it has none.
     fn place(&mut self, alloc: Global, key: &Key) -> Result<(), AllocError>
         ensures ok { OnOk result (self.new ≡ record self.old { versions = placed key.now self.old.versions }) }
@@ -67,10 +98,9 @@ impl Store {
         ensures rows { (r : Reference) → versions_of self.new.versions r ≡ versions_of self.old.versions r }
         ensures content { (s : ℕ) → content_at self.new.versions s ≡ content_at self.old.versions s }
     {
-        let (is_placed, trail) = self.look_up(key);
-        if is_placed {
+        let Some(trail) = self.missed(key) else {
             return Ok(());
-        }
+        };
         let copy = key.clone()?;
         self.place_new(alloc, copy, &trail)
     }

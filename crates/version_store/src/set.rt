@@ -101,18 +101,24 @@ impl Store {
                 return Err(error);
             }
         }
+        if let Some(trail) = self.place_beside(&key) {
+            return self.set_new(alloc, stamp, cut, key, value, &trail);
+        }
         match self.set_placed(stamp, cut, &key, value) {
             None => {
                 drop(key);
                 Ok(())
             }
-            Some((value, trail)) => self.set_new(alloc, stamp, cut, key, value, &trail),
+            Some((value, trail)) => {
+                self.near.note(&trail);
+                self.set_new(alloc, stamp, cut, key, value, &trail)
+            }
         }
     }
 
     /// Sets one reference at a stamp, which is now from here on, and raises the cut to the horizon, where it is below:
-    /// as `write_and_cut` of this one change, but the reference need not be placed. One look-up; where it isn't placed the
-    /// key then goes in by the look-up's trail.
+    /// as `write_and_cut` of this one change, but the reference need not be placed. One look-up, or none where it goes beside
+    /// the last new reference; where it isn't placed the key then goes in by the trail of either.
     ///
     /// Refusals: `AllocError`. After it a cell may be reserved; nothing else has changed. Cells are reserved only where none is,
     /// and then a page of 64.

@@ -8,6 +8,7 @@ ghost use Rattle.version_chain.specs.Versions.{IsAbove, IsFalling};
 ghost use Rattle.version_store.specs.Versions.{content_at, content_now, versions_of};
 ghost use Rattle.version_store.specs.Tied.{versions_in};
 
+use crate::near::Near;
 use crate::snapshot::Snapshot;
 use btree::{Trail, Tree};
 use collation::Text;
@@ -25,6 +26,7 @@ pub struct Store {
     pub(crate) present: u64,
     pub(crate) cut: u64,
     pub(crate) mark: Option<Key>,
+    pub(crate) near: Near,
 }
 
 impl Model for Store {
@@ -52,6 +54,7 @@ impl Store {
             present: 0,
             cut: 0,
             mark: None,
+            near: Near::new(),
         }
     }
 
