@@ -46,6 +46,16 @@ impl Room {
         }
     }
 
+    /// A copy: of the whole room, which takes fewer instructions than of its bytes alone.
+    pub(crate) fn copy(&self) -> Room
+        ensures { result ≡ self.now }
+    {
+        Room {
+            len: self.len,
+            bytes: self.bytes,
+        }
+    }
+
     pub(crate) fn as_slice(&self) -> &[u8]
         ensures bytes { result.now ≡ self.now }
         ensures few { length self.now ≤ 22 }

@@ -171,7 +171,13 @@ impl Clone for Text {
 
     /// A copy. Fails only for want of memory, and never at 22 bytes or fewer.
     fn clone(&self) -> Result<Text, AllocError> {
-        Text::from_slice(self.alloc, self.as_slice())
+        match &self.held {
+            Held::Short(room) => Ok(Text {
+                alloc: self.alloc,
+                held: Held::Short(room.copy()),
+            }),
+            Held::Long(bytes) => Text::from_slice(self.alloc, bytes),
+        }
     }
 }
 

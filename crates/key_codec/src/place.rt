@@ -1,5 +1,5 @@
 //! Places: where $ORDER and $QUERY start.
-ghost use Rattle.std.specs.Prelude.{◌≡◌, ◌≤◌, length, IfOk, IfSome, IsOk, MatchResult, false, true};
+ghost use Rattle.std.specs.Prelude.{◌≡◌, ◌≤◌, length, IfOk, IfSome, IsOk, true};
 ghost use Rattle.collation.specs.Levels.{below, child_of, parent_of};
 ghost use Rattle.key_codec.specs.Key as spec;
 ghost use Rattle.key_codec.specs.Key.{IsFaultless};
@@ -8,7 +8,6 @@ use crate::read::split_at_end;
 use crate::shown::{first_child, last_key};
 use crate::{END, Key};
 use collation::Text;
-use refusal::Refusal;
 use std::alloc::{AllocError, Global};
 use std::marker::Model;
 
@@ -53,19 +52,6 @@ impl Place {
         ensures { result ≡ record { reference = key; is_open = is_open } }
     {
         Place { key, is_open }
-    }
-
-    /// The key of the reference. Refused, `EmptySubscript`, where the place is open.
-    pub fn into_key(self) -> Result<Key, Refusal>
-        ensures { MatchResult result (λ key. (self.is_open ≡ false) × (key ≡ self.reference))
-            (λ refusal. (self.is_open ≡ true) × (refusal ≡ Refusal.EmptySubscript)) }
-    {
-        if self.is_open {
-            drop(self.key);
-            Err(Refusal::EmptySubscript)
-        } else {
-            Ok(self.key)
-        }
     }
 
     /// The key of the reference without an empty last subscript.
