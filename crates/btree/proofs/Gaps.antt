@@ -30,6 +30,10 @@ pub if_some_map : {A B : Type 0} (f : A → B) (P : B → Type 0) (o : Option A)
 if_some_map f P None h = tt
 if_some_map f P (Some x) h = h
 
+pub if_some_on : {A : Type 0} {P Q : A → Type 0} (o : Option A) → ((x : A) → P x → Q x) → IfSome o P → IfSome o Q
+if_some_on None f p = tt
+if_some_on (Some x) f p = f x p
+
 split_at : {A : Type 0} (i : ℕ) (xs : List A) → i ≤ length xs → xs ≡ take i xs ++ drop i xs
 split_at zero xs p = refl
 split_at (suc i) [] p = absurd (omega arith)

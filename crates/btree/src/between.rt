@@ -1,5 +1,5 @@
 //! A pair put between the pairs next to its place: two comparisons decide whether it goes there.
-ghost use Rattle.std.specs.Prelude.{◌≡◌, ◌<◌, ◌≤◌, true, length, take, drop, vec_capacity, IfSome, IsSome, IfErr, OnOk, OnErr};
+ghost use Rattle.std.specs.Prelude.{◌≡◌, ◌<◌, ◌≤◌, true, false, length, take, drop, vec_capacity, IfSome, IsSome};
 ghost use Rattle.std.specs.declared.cmp.Ordering.TheVariants.{Less, Greater};
 ghost use Rattle.std.specs.Option.{option_map, option_or};
 ghost use Rattle.btree.specs.Gap.{last_key, first_key, IsMissedBetween, IsPutBetween};
@@ -83,29 +83,34 @@ fn has_place<K, V>(row: &Vec<(K, V)>) -> bool
 }
 
 /// Inserts a pair at a place of a leaf's row that has places left, if its key stands between those next to it; `low` and
-/// `high` are the keys next to the row.
+/// `high` are the keys next to the row. Answers whether it did: then the pair is taken, else it stays where it was.
 pub fn insert_between<K: Ord + Drop, V: Drop>(
     row: &mut Vec<(K, V)>,
     at: usize,
-    key: K,
-    value: V,
+    pair: &mut Option<(K, V)>,
     low: Option<&K>,
     high: Option<&K>,
-) -> Result<(), (K, V)>
+) -> bool
     requires in_range { at ≤ length row.old.items }
-    ensures put { OnOk result (IsPutBetween K.cmp key value (option_map (λ k. k.now) low.entry) (option_map (λ k. k.now) high.entry) row.old.items row.new.items) }
+    ensures put { result ≡ true → IfSome pair.old (λ p. IsPutBetween K.cmp p.0 p.1 (option_map (λ k. k.now) low.entry) (option_map (λ k. k.now) high.entry) row.old.items row.new.items) }
     ensures least { length row.old.items ≤ length row.new.items }
     ensures most { length row.old.items ≤ 32 → length row.new.items ≤ 32 }
     ensures room { (14 < length row.old.items → 33 ≤ vec_capacity row.old) → 14 < length row.new.items → 33 ≤ vec_capacity row.new }
-    ensures handed_back { IfErr result (λ back. back ≡ (key, value)) }
-    ensures kept { OnErr result (row.new ≡ row.old) }
+    ensures handed_back { result ≡ false → pair.new ≡ pair.old }
+    ensures kept { result ≡ false → row.new ≡ row.old }
 {
     if !has_place(row) {
-        return Err((key, value));
+        return false;
     }
-    if !is_between(&key, key_before(row, at, low), key_after(row, at, high)) {
-        return Err((key, value));
+    let Some((key, _)) = pair else {
+        return false;
+    };
+    if !is_between(key, key_before(row, at, low), key_after(row, at, high)) {
+        return false;
     }
-    insert_reserved(row, at, (key, value));
-    Ok(())
+    match pair.take() {
+        None => unreachable!(),
+        Some(pair) => insert_reserved(row, at, pair),
+    }
+    true
 }

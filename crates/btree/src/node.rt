@@ -1,5 +1,5 @@
 //! A node: pairs of its own, and, unless it is a leaf, a kid before, between and after them.
-ghost use Rattle.std.specs.Prelude.{true, IfOk, IfErr, OnOk, OnErr, IsSome, None, Some, ◌⊎◌, suc, ◌++◌, ◌∷◌, [], length, vec_capacity, ◌≡◌, ◌+◌, ◌^◌, ◌<◌, ◌≤◌};
+ghost use Rattle.std.specs.Prelude.{true, false, IfSome, IfOk, IfErr, OnOk, OnErr, IsSome, None, Some, ◌⊎◌, suc, ◌++◌, ◌∷◌, [], length, vec_capacity, ◌≡◌, ◌+◌, ◌^◌, ◌<◌, ◌≤◌};
 ghost use Rattle.std.specs.Option.{option_map};
 ghost use Rattle.std.specs.FinMap.Entries.{find, put};
 ghost use Rattle.btree.specs.Order.{Ascends, first_from, last_before, without};
@@ -368,37 +368,43 @@ impl<K: Ord + Drop, V: Drop> Node<K, V> {
         ensures handed_back { IfErr result (λ back. back ≡ (key, value)) }
         ensures kept { OnErr result (self.new ≡ self.old) }
     {
-        self.put_between(key, value, trail, 0, None, None)
+        let mut pair = Some((key, value));
+        if self.put_between(&mut pair, trail, 0, None, None) {
+            return Ok(());
+        }
+        match pair {
+            Some(back) => Err(back),
+            None => unreachable!(),
+        }
     }
 
     // As `put_in_leaf`, so many levels below the root, in a node whose pairs stand between the keys `low` and `high`, where
-    // there are any. Nothing is compared on the way down to the leaf.
+    // there are any. Nothing is compared on the way down to the leaf, and the pair moves only into it.
     fn put_between<'a>(
         &mut self,
-        key: K,
-        value: V,
+        pair: &mut Option<(K, V)>,
         trail: &'a Trail,
         level: usize,
         low: Option<&'a K>,
         high: Option<&'a K>,
-    ) -> Result<(), (K, V)>
+    ) -> bool
         requires { self.old.count ≤ 32 }
-        ensures put { OnOk result (IsPutBetween K.cmp key value (option_map (λ k. k.now) low.entry) (option_map (λ k. k.now) high.entry) self.old.pairs self.new.pairs) }
+        ensures put { result ≡ true → IfSome pair.old (λ p. IsPutBetween K.cmp p.0 p.1 (option_map (λ k. k.now) low.entry) (option_map (λ k. k.now) high.entry) self.old.pairs self.new.pairs) }
         ensures same_size { IsKid self.old.count self.old.height self.new }
-        ensures handed_back { IfErr result (λ back. back ≡ (key, value)) }
-        ensures kept { OnErr result (self.new ≡ self.old) }
+        ensures handed_back { result ≡ false → pair.new ≡ pair.old }
+        ensures kept { result ≡ false → self.new ≡ self.old }
     {
         let at = trail.place(level);
         if at > self.entries.len() {
-            return Err((key, value));
+            return false;
         }
         if self.kids.is_empty() {
-            return insert_between(&mut self.entries, at, key, value, low, high);
+            return insert_between(&mut self.entries, at, pair, low, high);
         }
         let low = key_before(&self.entries, at, low);
         let high = key_after(&self.entries, at, high);
         let below = level.wrapping_add(1);
-        self.kids[at].put_between(key, value, trail, below, low, high)
+        self.kids[at].put_between(pair, trail, below, low, high)
     }
 
     /// Sets the value of a key that is there, and gives the one before. Where it isn't, the value comes back.
