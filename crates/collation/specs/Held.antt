@@ -9,5 +9,5 @@ bytes_of (Long bytes) = bytes.value.items
 
 -- what fits into the value lies there
 abbrev pub IsHeld : Held → Type 0
-IsHeld (Short room) = length room ≤ 22
-IsHeld (Long bytes) = 22 < length bytes.value.items
+IsHeld (Short room) = length room ≤ 14
+IsHeld (Long bytes) = 14 < length bytes.value.items

@@ -16,7 +16,7 @@ enum Held {
     Long(Box<Vec<u8>>),
 }
 
-/// A string of bytes that takes 24 bytes. Up to 22 lie in the value itself, since most subscripts and values are that
+/// A string of bytes that takes 16 bytes. Up to 14 lie in the value itself, since most subscripts and values are that
 /// short.
 #[derive(Drop)]
 pub struct Text {
@@ -37,7 +37,7 @@ impl Model for Text {
 
 // These bytes in a box, where memory is had for it.
 fn boxed(alloc: Global, bytes: Vec<u8>) -> Result<Text, AllocError>
-    requires { 22 < length bytes.items }
+    requires { 14 < length bytes.items }
     ensures { IfOk result (λ text. text ≡ bytes.items) }
 {
     let bytes = Box::new(alloc, bytes)?;
@@ -68,10 +68,10 @@ impl Text {
         }
     }
 
-    /// A copy of these bytes. Fails only for want of memory, and never at 22 bytes or fewer.
+    /// A copy of these bytes. Fails only for want of memory, and never at 14 bytes or fewer.
     pub fn from_slice(alloc: Global, bytes: &[u8]) -> Result<Text, AllocError>
         ensures ok { IfOk result (λ text. text ≡ bytes.now) }
-        ensures short { length bytes.now ≤ 22 → IsOk result }
+        ensures short { length bytes.now ≤ 14 → IsOk result }
     {
         if bytes.len() > MOST_SHORT {
             return boxed(alloc, Vec::from_slice(alloc, bytes)?);
@@ -83,10 +83,10 @@ impl Text {
     }
 
     /// The bytes of a list, which is let go of in any case: where they are short they are copied into the value, and where
-    /// memory is refused nothing is left of them. Fails only for want of memory, and never at 22 bytes or fewer.
+    /// memory is refused nothing is left of them. Fails only for want of memory, and never at 14 bytes or fewer.
     pub fn from_vec(bytes: Vec<u8>) -> Result<Text, AllocError>
         ensures ok { IfOk result (λ text. text ≡ bytes.items) }
-        ensures short { length bytes.items ≤ 22 → IsOk result }
+        ensures short { length bytes.items ≤ 14 → IsOk result }
     {
         let alloc = *bytes.allocator();
         if bytes.len() > MOST_SHORT {
@@ -122,11 +122,11 @@ impl Text {
         self.len() == 0
     }
 
-    /// Puts these bytes at its end. Where memory is refused it stays as it was; a text that stays within 22 bytes needs none.
+    /// Puts these bytes at its end. Where memory is refused it stays as it was; a text that stays within 14 bytes needs none.
     pub fn extend_from_slice(&mut self, more: &[u8]) -> Result<(), AllocError>
         ensures ok { OnOk result (self.new ≡ self.old ++ more.now) }
         ensures err { OnErr result (self.new ≡ self.old) }
-        ensures short { length self.old + length more.now ≤ 22 → IsOk result }
+        ensures short { length self.old + length more.now ≤ 14 → IsOk result }
     {
         match &mut self.held {
             Held::Short(room) => {
@@ -167,9 +167,9 @@ impl Clone for Text {
 
     ghost is_clone = { λ a b. a ≡ b };
 
-    ghost is_infallible = { λ t. length t ≤ 22 };
+    ghost is_infallible = { λ t. length t ≤ 14 };
 
-    /// A copy. Fails only for want of memory, and never at 22 bytes or fewer.
+    /// A copy. Fails only for want of memory, and never at 14 bytes or fewer.
     fn clone(&self) -> Result<Text, AllocError> {
         match &self.held {
             Held::Short(room) => Ok(Text {

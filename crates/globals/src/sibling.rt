@@ -59,7 +59,7 @@ fn nearest_sibling<V: OrderedView>(
 /// descendants. None where there is no such subscript.
 ///
 /// An empty last subscript starts before the first, and backward after the last. Takes memory only for an answer of
-/// over 22 bytes.
+/// over 14 bytes.
 /// Refusals: `NeedSubscript` where the place has no subscript; `OutOfMemory`, which no such place gets.
 ///
 /// Source: ISO/IEC 11756:1999, $ORDER. That a bare name is refused: docs/RULES.md, "Profile".

@@ -1,4 +1,4 @@
-//! What both sides do. A text of over 22 bytes doesn't lie in its value, nor a key of over 38.
+//! What both sides do. A text of over 14 bytes doesn't lie in its value, nor a key of over 38.
 
 /// What other jobs do before the transaction begins: one unit each.
 pub const HISTORY: [&str; 19] = [

@@ -1,4 +1,4 @@
-//! The lists that are run beside the worked rows. A text of over 22 bytes doesn't lie in its value, nor a key of over
+//! The lists that are run beside the worked rows. A text of over 14 bytes doesn't lie in its value, nor a key of over
 //! 38.
 
 /// Each is a script.

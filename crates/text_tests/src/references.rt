@@ -130,10 +130,10 @@ fn is_grown_to(alloc: Global, pieces: &[&[u8]], want: &[u8]) -> Result<bool, Ref
 
 #[test]
 fn texts_grow_past_their_room(rt: HostRuntime) -> Result<(), Fail> {
-    let long = *b"forty bytes, of which no two at 22 meet.";
+    let long = *b"forty bytes, of which no two at 14 meet.";
     assert!(rt; is_grown_to(rt.alloc(), &[], b"")?);
     assert!(rt; is_grown_to(rt.alloc(), &[b"ab", b"", b"c"], b"abc")?);
-    for at in [21, 22, 23] {
+    for at in [13, 14, 15] {
         assert!(rt; is_grown_to(rt.alloc(), &[&long[..10], &long[10..at]], &long[..at])?);
         assert!(rt; is_grown_to(rt.alloc(), &[&long[..at], &long[at..]], &long)?);
         assert!(rt;
@@ -156,8 +156,8 @@ fn is_made_of(alloc: Global, bytes: &[u8]) -> Result<bool, Refusal> {
 
 #[test]
 fn texts_are_made_of_lists_and_slices(rt: HostRuntime) -> Result<(), Fail> {
-    let long = *b"forty bytes, of which no two at 22 meet.";
-    for at in [0, 1, 21, 22, 23, 40] {
+    let long = *b"forty bytes, of which no two at 14 meet.";
+    for at in [0, 1, 13, 14, 15, 40] {
         assert!(rt; is_made_of(rt.alloc(), &long[..at])?, "{at}");
     }
     Ok(())
@@ -165,6 +165,8 @@ fn texts_are_made_of_lists_and_slices(rt: HostRuntime) -> Result<(), Fail> {
 
 // What a value takes in each version of a chain.
 #[test]
-fn a_text_takes_24_bytes(rt: HostRuntime) {
-    assert_eq!(rt; size_of::<Text>(), 24);
+fn a_text_takes_16_bytes(rt: HostRuntime) {
+    assert_eq!(rt; size_of::<Text>(), 16);
+    assert_eq!(rt; (size_of::<Subscripts>(), size_of::<Ref>()), (32, 48));
+    assert_eq!(rt; (size_of::<command::Command>(), size_of::<command::Reply>()), (96, 56));
 }
