@@ -1,5 +1,5 @@
 //! Replies.
-ghost use Rattle.std.specs.Prelude.{◌≡◌, ◌++◌, ◌∷◌, OnOk, OnErr, decimal, unwrap_or};
+ghost use Rattle.std.specs.Prelude.{◌≡◌, ◌++◌, ◌∷◌, [], IfSome, OnOk, OnErr, decimal, unwrap_or};
 ghost use Rattle.collation.specs.Bytes as byte;
 ghost use Rattle.key_codec.specs.Grown.{GoesOnFrom};
 ghost use Rattle.script.specs.Text as text;
@@ -11,10 +11,33 @@ use m_text::{write_key, write_literal};
 use refusal::Refusal;
 use std::alloc::AllocError;
 
+// The digit of a number that has one alone.
+fn digit_of(n: u64) -> Option<u8>
+    ensures { IfSome result (λ digit. decimal n ≡ digit ∷ []) }
+{
+    match n {
+        0 => Some(b'0'),
+        1 => Some(b'1'),
+        2 => Some(b'2'),
+        3 => Some(b'3'),
+        4 => Some(b'4'),
+        5 => Some(b'5'),
+        6 => Some(b'6'),
+        7 => Some(b'7'),
+        8 => Some(b'8'),
+        9 => Some(b'9'),
+        _ => None,
+    }
+}
+
 fn write_number(n: u64, out: &mut Vec<u8>) -> Result<(), AllocError>
     ensures ok { OnOk result (out.new.items ≡ out.old.items ++ decimal n) }
     ensures kept { GoesOnFrom out.old.items out.new.items }
 {
+    if let Some(digit) = digit_of(n) {
+        out.push(digit)?;
+        return Ok(());
+    }
     let mut buffer = Buffer::new();
     out.extend_from_slice(buffer.format(n).as_bytes())
 }
