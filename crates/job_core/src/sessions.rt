@@ -5,7 +5,7 @@ ghost use Rattle.std.specs.FinMap as finmap;
 ghost use Rattle.refusal.specs.declared.Refusal.{Refusal};
 ghost use Rattle.command.specs.Data.{data_refusal, data_reply};
 ghost use Rattle.version_store.specs.Versions.{content_at};
-ghost use Rattle.validate_commit.specs.Working.{IsWorkOn, IsCauseInside, seen};
+ghost use Rattle.validate_commit.specs.Working.{IsWorkOn, IsCauseInside, seen, just_begun};
 ghost use Rattle.job_core.specs.Sessions.{Sessions as SessionMap, begun_at, at_level, after_lock, anew, just_opened, with_session, AreFrom, IsLeastStart, IsLeastIfAny, lesser_of, least_of, IsReadable, IsAnsweredOrRefused, HasAnsweredAt};
 ghost use Rattle.std.specs.BTreeMap.{IsOrdered};
 ghost use Rattle.std.specs.Ordering.{nat_cmp};
@@ -18,6 +18,9 @@ use std::collections::BTreeMap;
 use std::marker::Model;
 use validate_commit::Work;
 use version_store::Store;
+
+/// For how many transactions at most those that are over leave their room.
+const MOST_SPARE: usize = 16;
 
 /// An open transaction of a job: its level, how often it began anew, whether it took a LOCK since its start or last
 /// restart, and what it has done since.
@@ -114,11 +117,40 @@ fn restart_at(by_job: &mut BTreeMap<u16, Session>, job: Job, start: u64) -> Opti
     }
 }
 
+// A transaction that begins where so many units stand, in the room of one that is over, where there is one.
+fn begun(alloc: Global, spare: &mut Vec<Work>, job: Job, start: u64) -> Work
+    ensures { result ≡ just_begun job start }
+{
+    match spare.pop() {
+        Some(mut work) => {
+            work.begin(job, start);
+            work
+        }
+        None => Work::new(alloc, job, start),
+    }
+}
+
+// Leaves the room of a transaction that is over to one that comes later, where not enough are left so. Where there is no memory
+// for that it is given back.
+fn keep_spare(spare: &mut Vec<Work>, work: Work) {
+    let mut work = work;
+    if spare.len() < MOST_SPARE {
+        work.restart(0);
+        if let Err(refused) = spare.push(work) {
+            drop(refused);
+        }
+    } else {
+        drop(work);
+    }
+}
+
 /// The open transaction of each job that has one, and the least of their starts.
 #[derive(Drop)]
 pub(crate) struct Sessions {
     by_job: BTreeMap<u16, Session>,
     oldest: u64,
+    // Of transactions that are over, for those that come next: their room serves again.
+    spare: Vec<Work>,
 }
 
 impl Model for Sessions {
@@ -143,6 +175,7 @@ impl Sessions {
         Sessions {
             by_job: BTreeMap::new(alloc),
             oldest: 0,
+            spare: Vec::new(alloc),
         }
     }
 
@@ -198,7 +231,7 @@ impl Sessions {
             level: 1,
             restarts: 0,
             took_lock: false,
-            work: Work::new(alloc, job, start),
+            work: begun(alloc, &mut self.spare, job, start),
         };
         match self.by_job.insert(job.number(), session) {
             Ok(before) => {
@@ -218,7 +251,14 @@ impl Sessions {
         ensures { self.new ≡ finmap.remove self.old job }
     {
         if let Some(session) = self.by_job.remove(&job.number()) {
-            self.oldest = look_again(&self.by_job, self.oldest, session.work.start());
+            let Session {
+                level: _,
+                restarts: _,
+                took_lock: _,
+                work,
+            } = session;
+            self.oldest = look_again(&self.by_job, self.oldest, work.start());
+            keep_spare(&mut self.spare, work);
         }
     }
 

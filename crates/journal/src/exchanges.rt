@@ -13,6 +13,9 @@ use std::marker::Model;
 // The room that a log begins with, where there is memory for it: for three or four usual commands.
 const FIRST_ROOM: usize = 64;
 
+// The most room that a cleared log keeps for what comes next.
+const KEPT_ROOM: usize = 1024;
+
 /// The data commands of an open transaction with their answers, as bytes. It is seen as their list.
 #[derive(Debug, Drop)]
 pub struct ExchangeLog {
@@ -46,6 +49,17 @@ fn begin_room(bytes: &mut Vec<u8>)
     if bytes.capacity() == 0 {
         let _begun = bytes.reserve_exact(FIRST_ROOM);
     }
+}
+
+// Takes out all bytes, and gives their room back where it is large.
+fn clear_room(bytes: &mut Vec<u8>)
+    ensures { bytes.new.items ≡ [] }
+{
+    if bytes.capacity() > KEPT_ROOM {
+        *bytes = Vec::new(*bytes.allocator());
+        return;
+    }
+    bytes.clear();
 }
 
 impl ExchangeLog {
@@ -116,11 +130,11 @@ impl ExchangeLog {
         self.count = mark.count;
     }
 
-    /// Takes out all. Takes no memory.
+    /// Takes out all. Takes no memory, and keeps at most a kilobyte of it.
     pub fn clear(&mut self)
         ensures { self.new ≡ [] }
     {
-        self.bytes.clear();
+        clear_room(&mut self.bytes);
         self.count = 0;
     }
 }

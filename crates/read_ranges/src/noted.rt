@@ -23,6 +23,9 @@ use std::marker::Model;
 // How many of the last ranges may grow.
 const NEAR: usize = 4;
 
+// For how many ranges forgotten ones leave their room to those that come next.
+const KEPT_ROOM: usize = 16;
+
 /// The ranges that a transaction has read.
 #[derive(Debug, Drop)]
 pub struct Ranges {
@@ -273,10 +276,14 @@ impl Ranges {
         self.list.iter().any(|range| range.contains(key))
     }
 
-    /// Forgets all ranges. Takes no memory.
+    /// Forgets all ranges. Takes no memory, and keeps room for at most 16.
     pub fn clear(&mut self)
         ensures { self.new ≡ [] }
     {
+        if self.list.capacity() > KEPT_ROOM {
+            self.list = Vec::new(*self.list.allocator());
+            return;
+        }
         self.list.clear();
     }
 }

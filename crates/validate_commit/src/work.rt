@@ -127,6 +127,15 @@ impl Work {
         self.ranges.clear();
     }
 
+    /// Becomes a transaction of the job that begins where so many units stand: nothing of what it was is left but some of its
+    /// room. Takes no memory.
+    pub fn begin(&mut self, job: Job, start: u64)
+        ensures { self.new ≡ just_begun job start }
+    {
+        self.job = job;
+        self.restart(start);
+    }
+
     /// Whose transaction it is.
     pub fn job(&self) -> Job
         ensures { result ≡ self.now.job }

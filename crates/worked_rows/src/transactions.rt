@@ -59,7 +59,7 @@ pub const COMMITS: [Row; 11] = [
 ];
 
 /// Levels, restarts, what ends a transaction, and which jobs are open at the end of input.
-pub const LEVELS: [Row; 8] = [
+pub const LEVELS: [Row; 9] = [
     (
         "1 TSTART\n1 TSTART\n1 SET ^A=1\n1 TCOMMIT\n1 TROLLBACK\n1 TCOMMIT\n",
         "1 level 1\n1 level 2\n1 ok\n1 level 1\n1 ok\n1 error 9 NoTransaction\n--\n",
@@ -75,6 +75,11 @@ pub const LEVELS: [Row; 8] = [
     (
         "1 TSTART\n1 TSTART\n1 TSTART\n1 TRESTART\n1 TRESTART\n1 $TL\n1 $TR\n1 SET ^A=1\n1 TCOMMIT\n",
         "1 level 1\n1 level 2\n1 level 3\n1 restart 1\n1 restart 2\n1 1\n1 2\n1 ok\n1 committed\n--\n^A=1\n",
+    ),
+    // neither what one wrote nor what it read is left in the next, of another job
+    (
+        "1 TSTART\n1 SET ^A=1\n1 $GET(^B)\n1 TROLLBACK\n2 TSTART\n2 $GET(^A)\n1 SET ^B=1\n2 SET ^C=1\n2 TCOMMIT\n",
+        "1 level 1\n1 ok\n1 \"\"\n1 ok\n2 level 1\n2 \"\"\n1 ok\n2 ok\n2 committed\n--\n^B=1\n^C=1\n",
     ),
     // HALT drops the transaction, and the next line begins anew
     (
