@@ -168,5 +168,8 @@ fn texts_are_made_of_lists_and_slices(rt: HostRuntime) -> Result<(), Fail> {
 fn a_text_takes_16_bytes(rt: HostRuntime) {
     assert_eq!(rt; size_of::<Text>(), 16);
     assert_eq!(rt; (size_of::<Subscripts>(), size_of::<Ref>()), (32, 48));
-    assert_eq!(rt; (size_of::<command::Command>(), size_of::<command::Reply>()), (96, 56));
+    assert_eq!(rt;
+        (size_of::<command::Command>(), size_of::<command::Reply>()),
+        (96, 56)
+    );
 }

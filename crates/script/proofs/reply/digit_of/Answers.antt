@@ -1,4 +1,4 @@
-use Rattle.std.proofs.Common.{◌≡◌, ◌∷◌, [], decimal, ap}
+use Rattle.std.proofs.Common.{decimal, ap}
 use Rattle.std.specs.Fmt.{digits}
 use Rattle.script.proofs.reply.digit_of.Goals as goal
 
