@@ -117,6 +117,13 @@ fn restart_at(by_job: &mut BTreeMap<u16, Session>, job: Job, start: u64) -> Opti
     }
 }
 
+// Room for transactions that are over, at once. Where it is refused none is kept.
+fn begin_spare(spare: &mut Vec<Work>) {
+    if spare.capacity() == 0 {
+        let _begun = spare.reserve_exact(MOST_SPARE);
+    }
+}
+
 // A transaction that begins where so many units stand, in the room of one that is over, where there is one.
 fn begun(alloc: Global, spare: &mut Vec<Work>, job: Job, start: u64) -> Work
     ensures { result ≡ just_begun job start }
@@ -126,19 +133,19 @@ fn begun(alloc: Global, spare: &mut Vec<Work>, job: Job, start: u64) -> Work
             work.begin(job, start);
             work
         }
-        None => Work::new(alloc, job, start),
+        None => {
+            begin_spare(spare);
+            Work::new(alloc, job, start)
+        }
     }
 }
 
-// Leaves the room of a transaction that is over to one that comes later, where not enough are left so. Where there is no memory
-// for that it is given back.
+// Leaves the room of a transaction that is over to one that comes later, where not enough are left so. Takes no memory.
 fn keep_spare(spare: &mut Vec<Work>, work: Work) {
     let mut work = work;
-    if spare.len() < MOST_SPARE {
+    if spare.len() < spare.capacity() {
         work.restart(0);
-        if let Err(refused) = spare.push(work) {
-            drop(refused);
-        }
+        spare.push_reserved(work);
     } else {
         drop(work);
     }
