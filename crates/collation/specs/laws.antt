@@ -3,4 +3,5 @@ pub mod Counting
 pub mod Entries
 pub mod Order
 pub mod Resources
+pub mod Rooms
 pub mod Zeros

@@ -35,6 +35,5 @@ mod limits;
 mod lock;
 mod name;
 mod reference;
-mod room;
 mod subscript;
 mod text;

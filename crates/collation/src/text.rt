@@ -1,7 +1,6 @@
 //! Strings of bytes, short ones without an allocation.
 ghost use Rattle.std.specs.Prelude.{◌≡◌, ◌==◌, ◌++◌, ◌+◌, ◌≤◌, ◌<◌, [], length, IsOk, IfOk, OnOk, OnErr};
 
-use crate::room::{MOST_SHORT, Room};
 use std::alloc::{AllocError, Global};
 use std::cmp::Ordering;
 use std::default::MadeWith;
@@ -9,10 +8,14 @@ use std::fmt;
 use std::hash::{Hash, Hasher};
 use std::marker::Model;
 
-// Short bytes lie in the value; longer ones lie behind one word, so that the value is no larger for them.
+// How many bytes lie in the value: with their number and what tells a short text from a long one they make 16.
+const MOST_SHORT: usize = 14;
+
+// Short bytes lie at the front of the room; longer ones lie behind one word, so that the value is no larger for them.
+// Number and room are two fields, and no struct: so a move takes them in pieces that don't lap over one another.
 #[derive(Drop)]
 enum Held {
-    Short(Room),
+    Short(u8, [u8; 14]),
     Long(Box<Vec<u8>>),
 }
 
@@ -35,6 +38,34 @@ impl Model for Text {
     ghost invariant = { λ t. IsHeld t.held };
 }
 
+// These bytes in the value.
+fn short(alloc: Global, bytes: &[u8]) -> Text
+    requires { length bytes.now ≤ 14 }
+    ensures { result ≡ bytes.now }
+{
+    let mut room = [0; 14];
+    room[..bytes.len()].copy_from_slice(bytes);
+    Text {
+        alloc,
+        held: Held::Short(bytes.len() as u8, room),
+    }
+}
+
+// The one, and the other after it, in the value.
+fn short_joined(alloc: Global, first: &[u8], second: &[u8]) -> Text
+    requires { length first.now + length second.now ≤ 14 }
+    ensures { result ≡ first.now ++ second.now }
+{
+    let len = first.len() + second.len();
+    let mut room = [0; 14];
+    room[..first.len()].copy_from_slice(first);
+    room[first.len()..len].copy_from_slice(second);
+    Text {
+        alloc,
+        held: Held::Short(len as u8, room),
+    }
+}
+
 // These bytes in a box, where memory is had for it.
 fn boxed(alloc: Global, bytes: Vec<u8>) -> Result<Text, AllocError>
     requires { 14 < length bytes.items }
@@ -47,14 +78,19 @@ fn boxed(alloc: Global, bytes: Vec<u8>) -> Result<Text, AllocError>
     })
 }
 
-// The one, and the other after it, in an allocation of their size.
-fn joined(alloc: Global, first: &[u8], second: &[u8]) -> Result<Vec<u8>, AllocError>
-    ensures { IfOk result (λ bytes. bytes.items ≡ first.now ++ second.now) }
+// The one, and the other after it; longer ones in an allocation of their size.
+fn joined(alloc: Global, first: &[u8], second: &[u8]) -> Result<Text, AllocError>
+    ensures ok { IfOk result (λ text. text ≡ first.now ++ second.now) }
+    ensures short { length first.now + length second.now ≤ 14 → IsOk result }
 {
-    let mut bytes = Vec::with_capacity(alloc, first.len().saturating_add(second.len()))?;
+    let len = first.len().saturating_add(second.len());
+    if len <= MOST_SHORT {
+        return Ok(short_joined(alloc, first, second));
+    }
+    let mut bytes = Vec::with_capacity(alloc, len)?;
     bytes.extend_from_slice(first)?;
     bytes.extend_from_slice(second)?;
-    Ok(bytes)
+    boxed(alloc, bytes)
 }
 
 impl Text {
@@ -62,10 +98,7 @@ impl Text {
     pub fn new(alloc: Global) -> Text
         ensures { result ≡ [] }
     {
-        Text {
-            alloc,
-            held: Held::Short(Room::new()),
-        }
+        short(alloc, &[])
     }
 
     /// A copy of these bytes. Fails only for want of memory, and never at 14 bytes or fewer.
@@ -76,10 +109,7 @@ impl Text {
         if bytes.len() > MOST_SHORT {
             return boxed(alloc, Vec::from_slice(alloc, bytes)?);
         }
-        Ok(Text {
-            alloc,
-            held: Held::Short(Room::of(bytes)),
-        })
+        Ok(short(alloc, bytes))
     }
 
     /// The bytes of a list, which is let go of in any case: where they are short they are copied into the value, and where
@@ -92,10 +122,7 @@ impl Text {
         if bytes.len() > MOST_SHORT {
             return boxed(alloc, bytes);
         }
-        Ok(Text {
-            alloc,
-            held: Held::Short(Room::of(bytes.as_slice())),
-        })
+        Ok(short(alloc, bytes.as_slice()))
     }
 
     /// Its bytes.
@@ -103,7 +130,7 @@ impl Text {
         ensures { result.now ≡ self.now }
     {
         match &self.held {
-            Held::Short(room) => room.as_slice(),
+            Held::Short(len, room) => &room[..*len as usize],
             Held::Long(bytes) => bytes.as_slice(),
         }
     }
@@ -128,18 +155,11 @@ impl Text {
         ensures err { OnErr result (self.new ≡ self.old) }
         ensures short { length self.old + length more.now ≤ 14 → IsOk result }
     {
-        match &mut self.held {
-            Held::Short(room) => {
-                if room.as_slice().len().saturating_add(more.len()) <= MOST_SHORT {
-                    room.push(more);
-                    return Ok(());
-                }
-                let bytes = joined(self.alloc, room.as_slice(), more)?;
-                *self = boxed(self.alloc, bytes)?;
-                Ok(())
-            }
-            Held::Long(bytes) => bytes.extend_from_slice(more),
+        if let Held::Long(bytes) = &mut self.held {
+            return bytes.extend_from_slice(more);
         }
+        *self = joined(self.alloc, self.as_slice(), more)?;
+        Ok(())
     }
 }
 
@@ -172,9 +192,9 @@ impl Clone for Text {
     /// A copy. Fails only for want of memory, and never at 14 bytes or fewer.
     fn clone(&self) -> Result<Text, AllocError> {
         match &self.held {
-            Held::Short(room) => Ok(Text {
+            Held::Short(len, room) => Ok(Text {
                 alloc: self.alloc,
-                held: Held::Short(room.copy()),
+                held: Held::Short(*len, *room),
             }),
             Held::Long(bytes) => Text::from_slice(self.alloc, bytes),
         }

@@ -1,21 +1,10 @@
--- A string in an array, and two of them, one after the other.
+-- What is after a string in an array, and after two of them, is zeros.
 use Rattle.std.proofs.Common.{◌≡◌, ℕ, ◌+◌, ◌-◌, ◌≤◌, List, ◌++◌, length, take, drop, ap, ◌∙◌, sym, arith}
 use Rattle.std.specs.Prelude.{replicate}
-use Rattle.std.proofs.Math.Seq.{take-append-add}
 use Rattle.std.proofs.Math.Seq.{drop-append-add}
-use Rattle.std.proofs.lemmas.List.{take_all, take-append-le, drop-replicate, length-take-le, length-append}
+use Rattle.std.proofs.lemmas.List.{drop-replicate, length-take-le, length-append}
 use Rattle.std.proofs.lemmas.Slice.{drop-append-drop}
 use borrow.Rule.Slice.PartMut.{post_of}
-
-front : (f more : List ℕ) → take (length f) (f ++ more) ≡ f
-front f more = take-append-le (length f) f more (omega arith) ∙ take_all (length f) f (omega arith)
-
-pub filled : (f s one two d e : List ℕ) → one ≡ f → two ≡ s → take (length f + length s) (take (length f) (one ++ d) ++ (two ++ e)) ≡ f ++ s
-filled f s one two d e is is_too =
-    ap (λ t. take (length f + length s) (take (length f) (t ++ d) ++ (two ++ e))) is
-    ∙ ap (λ t. take (length f + length s) (take (length f) (f ++ d) ++ (t ++ e))) is_too
-    ∙ ap (λ t. take (length f + length s) (t ++ (s ++ e))) (front f d)
-    ∙ take-append-add f (s ++ e) (length s) ∙ ap (λ t. f ++ t) (front s e)
 
 past_both : (xs ys zs : List ℕ) (m n : ℕ) → length xs ≡ m → length ys ≡ n → drop (m + n) (xs ++ (ys ++ zs)) ≡ zs
 past_both xs ys zs m n long wide =

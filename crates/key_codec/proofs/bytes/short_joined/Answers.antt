@@ -1,4 +1,5 @@
-use Rattle.key_codec.proofs.Filled.{filled, rest_filled}
+use Rattle.collation.specs.laws.Rooms.{filled}
+use Rattle.key_codec.proofs.Filled.{rest_filled}
 use Rattle.key_codec.proofs.bytes.short_joined.Goals as goal
 
 pub returns : goal.returns
