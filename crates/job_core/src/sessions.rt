@@ -125,13 +125,13 @@ fn begin_spare(spare: &mut Vec<Work>) {
 }
 
 // A transaction that begins where so many units stand, in the room of one that is over, where there is one.
-fn begun(alloc: Global, spare: &mut Vec<Work>, job: Job, start: u64) -> Work
-    ensures { result ≡ just_begun job start }
+fn begun(alloc: Global, spare: &mut Vec<Work>, job: Job, start: u64) -> Result<Work, AllocError>
+    ensures { IfOk result (λ work. work ≡ just_begun job start) }
 {
     match spare.pop() {
         Some(mut work) => {
             work.begin(job, start);
-            work
+            Ok(work)
         }
         None => {
             begin_spare(spare);
@@ -234,11 +234,12 @@ impl Sessions {
         ensures err { OnErr result (self.new ≡ self.old) }
     {
         let oldest = self.oldest_with(start);
+        let work = begun(alloc, &mut self.spare, job, start)?;
         let session = Session {
             level: 1,
             restarts: 0,
             took_lock: false,
-            work: begun(alloc, &mut self.spare, job, start),
+            work,
         };
         match self.by_job.insert(job.number(), session) {
             Ok(before) => {
