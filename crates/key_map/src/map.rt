@@ -89,7 +89,8 @@ impl<X: Drop> KeyMap<X> {
         ensures map { IfOk result (λ _. self.new ≡ finmap.insert self.old key value) }
         ensures refused { OnErr result (self.new ≡ self.old) }
     {
-        let before = self.tree.insert(alloc, key, value)?;
+        let (_, trail) = self.tree.look_up(&key);
+        let before = self.tree.insert_by(alloc, key, value, &trail)?;
         Ok(before)
     }
 
