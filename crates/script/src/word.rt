@@ -52,31 +52,42 @@ fn is_either(short: &[u8], long: &[u8], letters: &[u8]) -> bool
     is_whole_word(short, letters) || is_whole_word(long, letters)
 }
 
-fn is_named_data(word: DataWord, letters: &[u8]) -> bool
-    ensures { result ≡ words.is_named (Word.Access word) letters.now }
+fn data_words(word: DataWord) -> (&'static [u8], &'static [u8])
+    ensures { (result.0.now, result.1.now) ≡ words.words_of (Word.Access word) }
 {
     match word {
-        DataWord::Set => is_either(b"S", b"SET", letters),
-        DataWord::Kill => is_either(b"K", b"KILL", letters),
-        DataWord::Merge => is_either(b"M", b"MERGE", letters),
-        DataWord::Data => is_either(b"D", b"DATA", letters),
-        DataWord::Get => is_either(b"G", b"GET", letters),
-        DataWord::Order => is_either(b"O", b"ORDER", letters),
-        DataWord::Query => is_either(b"Q", b"QUERY", letters),
+        DataWord::Set => (b"S", b"SET"),
+        DataWord::Kill => (b"K", b"KILL"),
+        DataWord::Merge => (b"M", b"MERGE"),
+        DataWord::Data => (b"D", b"DATA"),
+        DataWord::Get => (b"G", b"GET"),
+        DataWord::Order => (b"O", b"ORDER"),
+        DataWord::Query => (b"Q", b"QUERY"),
     }
 }
 
-fn is_named_alone(word: AloneWord, letters: &[u8]) -> bool
-    ensures { result ≡ words.is_named (Word.Alone word) letters.now }
+fn alone_words(word: AloneWord) -> (&'static [u8], &'static [u8])
+    ensures { (result.0.now, result.1.now) ≡ words.words_of (Word.Alone word) }
 {
     match word {
-        AloneWord::Start => is_either(b"TS", b"TSTART", letters),
-        AloneWord::Commit => is_either(b"TC", b"TCOMMIT", letters),
-        AloneWord::Rollback => is_either(b"TRO", b"TROLLBACK", letters),
-        AloneWord::Restart => is_either(b"TRE", b"TRESTART", letters),
-        AloneWord::Halt => is_either(b"H", b"HALT", letters),
-        AloneWord::Level => is_either(b"TL", b"TLEVEL", letters),
-        AloneWord::Restarts => is_either(b"TR", b"TRESTART", letters),
+        AloneWord::Start => (b"TS", b"TSTART"),
+        AloneWord::Commit => (b"TC", b"TCOMMIT"),
+        AloneWord::Rollback => (b"TRO", b"TROLLBACK"),
+        AloneWord::Restart => (b"TRE", b"TRESTART"),
+        AloneWord::Halt => (b"H", b"HALT"),
+        AloneWord::Level => (b"TL", b"TLEVEL"),
+        AloneWord::Restarts => (b"TR", b"TRESTART"),
+    }
+}
+
+// Each word, short and long.
+fn words_of(word: Word) -> (&'static [u8], &'static [u8])
+    ensures { (result.0.now, result.1.now) ≡ words.words_of word }
+{
+    match word {
+        Word::Access(word) => data_words(word),
+        Word::Lock => (b"L", b"LOCK"),
+        Word::Alone(word) => alone_words(word),
     }
 }
 
@@ -84,11 +95,8 @@ fn is_named_alone(word: AloneWord, letters: &[u8]) -> bool
 fn is_named(word: Word, letters: &[u8]) -> bool
     ensures { result ≡ words.is_named word letters.now }
 {
-    match word {
-        Word::Access(word) => is_named_data(word, letters),
-        Word::Lock => is_either(b"L", b"LOCK", letters),
-        Word::Alone(word) => is_named_alone(word, letters),
-    }
+    let (short, long) = words_of(word);
+    is_either(short, long, letters)
 }
 
 fn named_by(letters: &[u8], table: &[Word]) -> Option<Word>
