@@ -47,6 +47,7 @@ mod accessing;
 mod changes;
 mod commands;
 mod engine;
+mod kept_work;
 mod locking;
 mod machine;
 mod sessions;

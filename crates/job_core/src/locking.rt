@@ -30,6 +30,7 @@ impl Engine {
     ///
     /// Refusals: `LockCountFull` where a name would be had more than 65,535 times, were nothing blocked; then
     /// `StampsUsedUp` where the journal is full; `OutOfMemory`.
+    #[inline(never)]
     pub(crate) fn lock(&mut self, job: Job, command: LockCommand) -> Reply
         requires { IsWhole self.old }
         ensures { IsStep job (Lock command) result self.old self.new }
@@ -74,6 +75,7 @@ impl Engine {
     /// HALT: the job's locks are released, and its open transaction is gone.
     ///
     /// Refusals: `StampsUsedUp` where the journal is full; `OutOfMemory`.
+    #[inline(never)]
     pub(crate) fn halt(&mut self, job: Job) -> Reply
         requires { IsWhole self.old }
         ensures { IsStep job Halt result self.old self.new }

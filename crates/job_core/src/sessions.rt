@@ -10,13 +10,13 @@ ghost use Rattle.job_core.specs.Sessions.{Sessions as SessionMap, begun_at, at_l
 ghost use Rattle.std.specs.BTreeMap.{IsOrdered};
 ghost use Rattle.std.specs.Ordering.{nat_cmp};
 
+use crate::kept_work::KeptWork;
 use collation::Job;
 use command::{Answer, DataCommand};
 use refusal::Refusal;
 use std::alloc::{AllocError, Global};
 use std::collections::BTreeMap;
 use std::marker::Model;
-use validate_commit::Work;
 use version_store::Store;
 
 /// For how many transactions at most those that are over leave their room.
@@ -29,7 +29,7 @@ pub(crate) struct Session {
     pub(crate) level: u64,
     pub(crate) restarts: u64,
     pub(crate) took_lock: bool,
-    pub(crate) work: Work,
+    pub(crate) work: KeptWork,
 }
 
 impl Session {
@@ -118,14 +118,19 @@ fn restart_at(by_job: &mut BTreeMap<u16, Session>, job: Job, start: u64) -> Opti
 }
 
 // Room for transactions that are over, at once. Where it is refused none is kept.
-fn begin_spare(spare: &mut Vec<Work>) {
+fn begin_spare(spare: &mut Vec<KeptWork>) {
     if spare.capacity() == 0 {
         let _begun = spare.reserve_exact(MOST_SPARE);
     }
 }
 
 // A transaction that begins where so many units stand, in the room of one that is over, where there is one.
-fn begun(alloc: Global, spare: &mut Vec<Work>, job: Job, start: u64) -> Result<Work, AllocError>
+fn begun(
+    alloc: Global,
+    spare: &mut Vec<KeptWork>,
+    job: Job,
+    start: u64,
+) -> Result<KeptWork, AllocError>
     ensures { IfOk result (λ work. work ≡ just_begun job start) }
 {
     match spare.pop() {
@@ -135,13 +140,13 @@ fn begun(alloc: Global, spare: &mut Vec<Work>, job: Job, start: u64) -> Result<W
         }
         None => {
             begin_spare(spare);
-            Work::new(alloc, job, start)
+            KeptWork::new(alloc, job, start)
         }
     }
 }
 
 // Leaves the room of a transaction that is over to one that comes later, where not enough are left so. Takes no memory.
-fn keep_spare(spare: &mut Vec<Work>, work: Work) {
+fn keep_spare(spare: &mut Vec<KeptWork>, work: KeptWork) {
     let mut work = work;
     if spare.len() < spare.capacity() {
         work.restart(0);
@@ -157,7 +162,7 @@ pub(crate) struct Sessions {
     by_job: BTreeMap<u16, Session>,
     oldest: u64,
     // Of transactions that are over, for those that come next: their room serves again.
-    spare: Vec<Work>,
+    spare: Vec<KeptWork>,
 }
 
 impl Model for Sessions {
@@ -187,6 +192,7 @@ impl Sessions {
     }
 
     /// The job's open transaction.
+    #[inline(never)]
     pub(crate) fn get(&self, job: Job) -> Option<&Session>
         ensures { option_copied result ≡ finmap.get self.now job }
     {

@@ -17,6 +17,7 @@ impl Engine {
     /// TSTART: a transaction begins at level 1, or the open one's level is one higher.
     ///
     /// Refusals: `LevelTooDeep` at level 127; `OutOfMemory`, which doesn't come at a level from 1 on.
+    #[inline(never)]
     pub(crate) fn start(&mut self, job: Job) -> Reply
         requires { IsWhole self.old }
         ensures { IsStep job Start result self.old self.new }
@@ -53,6 +54,7 @@ impl Engine {
         self.commit_outermost(job)
     }
 
+    #[inline(never)]
     fn commit_outermost(&mut self, job: Job) -> Reply
         requires whole { IsWhole self.old }
         requires level { IfSome (finmap.get self.old.sessions job) (λ session. session.level ≤ 1) }
@@ -66,7 +68,7 @@ impl Engine {
                 &mut self.store,
                 &mut self.journal,
                 &mut self.locks,
-                &session.work,
+                session.work.as_work(),
                 oldest,
             ),
             None => return Reply::Refused(Refusal::NoTransaction),
@@ -106,6 +108,7 @@ impl Engine {
     /// TROLLBACK: nothing of the transaction is left. Takes no memory where it took no LOCK.
     ///
     /// Refusals: `NoTransaction`; where a LOCK was taken `StampsUsedUp` if the journal is full, and `OutOfMemory`.
+    #[inline(never)]
     pub(crate) fn rollback(&mut self, job: Job) -> Reply
         requires { IsWhole self.old }
         ensures { IsStep job Rollback result self.old self.new }
@@ -126,6 +129,7 @@ impl Engine {
     /// TRESTART: nothing of the transaction is left, and it begins anew at level 1. Takes no memory where it took no LOCK.
     ///
     /// Refusals: as TROLLBACK.
+    #[inline(never)]
     pub(crate) fn restart(&mut self, job: Job) -> Reply
         requires { IsWhole self.old }
         ensures { IsStep job Restart result self.old self.new }

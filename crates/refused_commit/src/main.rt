@@ -120,8 +120,8 @@ fn run(
     refused: &mut u64,
 ) -> Result<Option<&'static str>, Refusal> {
     let job = Job::new(1)?;
-    let mut first = Side::new(alloc, job)?;
-    let mut second = Side::new(alloc, job)?;
+    let mut first = Side::new(alloc, job);
+    let mut second = Side::new(alloc, job);
     difference(alloc, &mut first, &mut second, tally, refused)
 }
 

@@ -5,7 +5,7 @@ use job_core::lone;
 use journal::Journal;
 use lock_table::LockTable;
 use refusal::Refusal;
-use std::alloc::{AllocError, Global};
+use std::alloc::Global;
 use std::marker::Model;
 use validate_commit::{Verdict, Work, commit};
 use version_store::Store;
@@ -35,16 +35,15 @@ impl Model for Side {
 }
 
 impl Side {
-    /// Nothing is done, and the job's transaction begins there.
-    pub fn new(alloc: Global, job: Job) -> Result<Side, AllocError> {
-        let work = Work::new(alloc, job, 0)?;
-        Ok(Side {
+    /// Nothing is done, and the job's transaction begins there. Takes no memory.
+    pub fn new(alloc: Global, job: Job) -> Side {
+        Side {
             alloc,
             store: Store::new(alloc),
             journal: Journal::new(alloc),
             locks: LockTable::new(alloc),
-            work,
-        })
+            work: Work::new(alloc, job, 0),
+        }
     }
 
     /// The transaction begins anew, at now.

@@ -33,22 +33,16 @@ use std::marker::Model;
 use version_store::Store;
 use workspace::Workspace;
 
-// Data commands with their answers, what they wrote, and the ranges that they have read.
-#[derive(Drop)]
-struct Done {
-    exchanges: ExchangeLog,
-    workspace: Workspace,
-    ranges: Ranges,
-}
-
 /// What an open transaction has done since its start or last restart: its data commands with their answers, what they
-/// wrote, and the ranges that they have read. These lie behind one word, since a map of transactions moves them.
+/// wrote, and the ranges that they have read.
 #[derive(Drop)]
 pub struct Work {
     alloc: Global,
     job: Job,
     start: u64,
-    done: Box<Done>,
+    exchanges: ExchangeLog,
+    workspace: Workspace,
+    ranges: Ranges,
 }
 
 impl Model for Work {
@@ -61,7 +55,7 @@ impl Model for Work {
 
     ghost coded = { working_code };
 
-    ghost view = { λ w. record { job = w.job; start = w.start; exchanges = w.done.value.exchanges; layer = w.done.value.workspace; ranges = w.done.value.ranges } };
+    ghost view = { λ w. record { job = w.job; start = w.start; exchanges = w.exchanges; layer = w.workspace; ranges = w.ranges } };
 }
 
 // Puts what a command writes into the workspace: all of it, or nothing.
@@ -109,24 +103,18 @@ fn is_newer(store: &Store, range: &ReadRange, stamp: u64) -> bool
 }
 
 impl Work {
-    /// A transaction that begins where so many units stand.
-    ///
-    /// Refusals: `AllocError`.
-    pub fn new(alloc: Global, job: Job, start: u64) -> Result<Work, AllocError>
-        ensures { IfOk result (λ work. work ≡ just_begun job start) }
+    /// A transaction that begins where so many units stand. Takes no memory.
+    pub fn new(alloc: Global, job: Job, start: u64) -> Work
+        ensures { result ≡ just_begun job start }
     {
-        let done = Done {
-            exchanges: ExchangeLog::new(alloc),
-            workspace: Workspace::new(alloc),
-            ranges: Ranges::new(alloc),
-        };
-        let done = Box::new(alloc, done)?;
-        Ok(Work {
+        Work {
             alloc,
             job,
             start,
-            done,
-        })
+            exchanges: ExchangeLog::new(alloc),
+            workspace: Workspace::new(alloc),
+            ranges: Ranges::new(alloc),
+        }
     }
 
     /// Begins anew where so many units stand: nothing of what was done is left. Takes no memory.
@@ -134,9 +122,9 @@ impl Work {
         ensures { self.new ≡ just_begun self.old.job start }
     {
         self.start = start;
-        self.done.exchanges.clear();
-        self.done.workspace.clear();
-        self.done.ranges.clear();
+        self.exchanges.clear();
+        self.workspace.clear();
+        self.ranges.clear();
     }
 
     /// Becomes a transaction of the job that begins where so many units stand: nothing of what it was is left but some of its
@@ -170,7 +158,7 @@ impl Work {
     ) -> Result<Vec<(Key, Option<Text>)>, AllocError>
         ensures { IfOk result (λ changes. AreChanges self.now.layer (V.content view.now) changes.items) }
     {
-        self.done.workspace.changes_over(alloc, view)
+        self.workspace.changes_over(alloc, view)
     }
 
     // Prepares the unit that the transaction becomes at its commit.
@@ -180,7 +168,7 @@ impl Work {
         ensures units { journal.new.units ≡ journal.old.units }
         ensures cause { IfErr result (λ refusal. HasNoRoom refusal 1 (length journal.old.units)) }
     {
-        journal.prepare_whole(self.job, &self.done.exchanges)
+        journal.prepare_whole(self.job, &self.exchanges)
     }
 
     /// Does a data command on what the transaction sees: the database of its start, which `view` shows, followed by its
@@ -206,7 +194,7 @@ impl Work {
         ensures early { (refusal : Refusal) → length self.old.exchanges < most_commands → early_refusal command ≡ Some refusal → IsErrOf result refusal }
         ensures cause { IfErr result (λ refusal. IsCauseInside refusal command self.old (V.content view.now)) }
     {
-        if self.done.exchanges.len() >= MOST_COMMANDS {
+        if self.exchanges.len() >= MOST_COMMANDS {
             drop(command);
             return Err(Refusal::TransactionTooLong);
         }
@@ -239,8 +227,7 @@ impl Work {
         ensures early { (refusal : Refusal) → early_refusal command.now ≡ Some refusal → IsErrOf result refusal }
         ensures cause { IfErr result (λ refusal. IsRuleOrMemory refusal (data_refusal command.now (seen self.now (V.content view.now)))) }
     {
-        let overlay = Overlay::new(&self.done.workspace, view);
-        globals::answer(self.alloc, &overlay, command)
+        globals::answer(self.alloc, &Overlay::new(&self.workspace, view), command)
     }
 
     // Whether what a $GET answers is decided by the transaction's own writes.
@@ -248,7 +235,7 @@ impl Work {
         ensures { (own : Reference → Bool) → ((x : Reference) → decides self.now.layer x ≡ own x) → IsDecided command.now result own }
     {
         match command {
-            DataCommand::Look(Look::Get(key, _)) => self.done.workspace.decides(key),
+            DataCommand::Look(Look::Get(key, _)) => self.workspace.decides(key),
             _ => false,
         }
     }
@@ -264,13 +251,13 @@ impl Work {
         ensures layer { self.new.layer ≡ self.old.layer }
         ensures err { OnErr result (self.new ≡ self.old) }
     {
-        let mark = self.done.exchanges.mark();
+        let mark = self.exchanges.mark();
         let decided = self.is_decided(command);
-        self.done.exchanges.push(command, answer)?;
-        match self.done.ranges.note(self.alloc, command, answer, decided) {
+        self.exchanges.push(command, answer)?;
+        match self.ranges.note(self.alloc, command, answer, decided) {
             Ok(()) => Ok(()),
             Err(AllocError) => {
-                self.done.exchanges.back_to(mark);
+                self.exchanges.back_to(mark);
                 Err(AllocError)
             }
         }
@@ -291,8 +278,8 @@ impl Work {
         ensures start { self.new.start ≡ self.old.start }
         ensures err { OnErr result (self.new ≡ self.old) }
     {
-        let mark = self.done.exchanges.mark();
-        let ranges = self.done.ranges.len();
+        let mark = self.exchanges.mark();
+        let ranges = self.ranges.len();
         match self.note(&command, answer) {
             Ok(()) => {}
             Err(AllocError) => {
@@ -301,11 +288,11 @@ impl Work {
                 return Err(AllocError);
             }
         }
-        match write(self.alloc, &mut self.done.workspace, command, copies) {
+        match write(self.alloc, &mut self.workspace, command, copies) {
             Ok(()) => Ok(()),
             Err(AllocError) => {
-                self.done.ranges.back_to(ranges);
-                self.done.exchanges.back_to(mark);
+                self.ranges.back_to(ranges);
+                self.exchanges.back_to(mark);
                 Err(AllocError)
             }
         }
@@ -316,7 +303,7 @@ impl Work {
         ensures found { result ≡ true → HasNewerRead store.now.versions self.now.start self.now.ranges }
         ensures none { result ≡ false → NoneNewerRead store.now.versions self.now.start self.now.ranges }
     {
-        for range in self.done.ranges.ranges() {
+        for range in self.ranges.ranges() {
             if is_newer(store, range, self.start) {
                 return true;
             }

@@ -9,13 +9,13 @@ use Rattle.job_core.proofs.Cases.{no_commit, committed, not_committed, left_whol
 use Rattle.job_core.proofs.engine.Engine.commit_outermost.Goals as goal
 
 pub commit-verdict-requires-clause-work : goal.commit-verdict-requires-clause-work
-commit-verdict-requires-clause-work c = let o = c.requires.whole.opened c.args.job c.in-Some.session.now (sym c.in-Some.ensures) in o.work
+commit-verdict-requires-clause-work c = rw c.as_work.ensures (let o = c.requires.whole.opened c.args.job c.in-Some.session.now (sym c.in-Some.ensures) in o.work)
 
 pub commit-verdict-requires-clause-begun : goal.commit-verdict-requires-clause-begun
-commit-verdict-requires-clause-begun c = let o = c.requires.whole.opened c.args.job c.in-Some.session.now (sym c.in-Some.ensures) in o.begun
+commit-verdict-requires-clause-begun c = rw c.as_work.ensures (let o = c.requires.whole.opened c.args.job c.in-Some.session.now (sym c.in-Some.ensures) in o.begun)
 
 pub commit-verdict-requires-clause-kept : goal.commit-verdict-requires-clause-kept
-commit-verdict-requires-clause-kept c = let o = c.requires.whole.opened c.args.job c.in-Some.session.now (sym c.in-Some.ensures) in o.kept
+commit-verdict-requires-clause-kept c = rw c.as_work.ensures (let o = c.requires.whole.opened c.args.job c.in-Some.session.now (sym c.in-Some.ensures) in o.kept)
 
 pub returns-in-None-clause-step : goal.returns-in-None-clause-step
 returns-in-None-clause-step c = no_commit c.args.job c.args.self.now c.requires.whole (sym c.in-None.ensures)
@@ -23,7 +23,7 @@ returns-in-None-clause-step c = no_commit c.args.job c.args.self.now c.requires.
 pub restart-requires : goal.restart-requires
 restart-requires c =
     let told = c.commit-verdict.ensures in
-    let verdict = rw (c.in-Ok-Restart.is, c.in-Ok-Restart.field-0-is) at told.verdict in
+    let verdict = rw (c.as_work.ensures, c.in-Ok-Restart.is, c.in-Ok-Restart.field-0-is) at told.verdict in
     let left = rw (c.in-Ok-Restart.is, c.in-Ok-Restart.field-0-is) at told.left in
     left_whole c.args.job c.args.self.now c.requires.whole c.commit-verdict.new.store c.commit-verdict.new.journal c.commit-verdict.new.locks verdict.1.0 verdict.1.1 told.agreed
     (λ q v there. subst (λ (t : Stored). t.cut ≤ v.work.start) (sym left) (let o = c.requires.whole.opened q v there in o.kept))
@@ -31,7 +31,7 @@ restart-requires c =
 pub returns-in-Ok-Committed-clause-step : goal.returns-in-Ok-Committed-clause-step
 returns-in-Ok-Committed-clause-step c =
     let told = c.commit-verdict.ensures in
-    let verdict = rw (c.in-Ok-Committed.is, c.in-Ok-Committed.field-0-is) at told.verdict in
+    let verdict = rw (c.as_work.ensures, c.in-Ok-Committed.is, c.in-Ok-Committed.field-0-is) at told.verdict in
     let left = rw (c.in-Ok-Committed.is, c.in-Ok-Committed.field-0-is) at told.left in
     let s = c.in-Some.session.now in
     let there = sym c.in-Some.ensures in
@@ -45,7 +45,7 @@ returns-in-Ok-Committed-clause-step c =
 pub returns-in-Ok-Restart-clause-step : goal.returns-in-Ok-Restart-clause-step
 returns-in-Ok-Restart-clause-step c =
     let told = c.commit-verdict.ensures in
-    let verdict = rw (c.in-Ok-Restart.is, c.in-Ok-Restart.field-0-is) at told.verdict in
+    let verdict = rw (c.as_work.ensures, c.in-Ok-Restart.is, c.in-Ok-Restart.field-0-is) at told.verdict in
     let s = c.in-Some.session.now in
     let there = sym c.in-Some.ensures in
     overtaken c.args.job c.args.self.now c.requires.whole (record c.args.self.now { store = c.commit-verdict.new.store; journal = c.commit-verdict.new.journal; locks = c.commit-verdict.new.locks }) c.restart.new.self
@@ -62,7 +62,7 @@ returns-in-Err-clause-step c =
     s c.in-Err.refusal there (some_of (λ v. v.level ≤ 1) _ s there c.requires.level)
     (left_whole c.args.job c.args.self.now c.requires.whole c.commit-verdict.new.store c.commit-verdict.new.journal c.commit-verdict.new.locks units (rw c.in-Err.is at told.locks) told.agreed
     (λ q v held. subst (λ n. n ≤ v.work.start) (sym cut) (let o = c.requires.whole.opened q v held in o.kept)))
-    (ap (λ us. machine_of us c.args.self.now.sessions) units) (rw c.in-Err.is at told.cause)
+    (ap (λ us. machine_of us c.args.self.now.sessions) units) (rw (c.as_work.ensures, c.in-Err.is) at told.cause)
 
 pub returns-in-Ok-Committed-clause-left : goal.returns-in-Ok-Committed-clause-left
 returns-in-Ok-Committed-clause-left c = λ is.
