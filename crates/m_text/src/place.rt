@@ -45,6 +45,7 @@ fn read_string<'a>(alloc: Global, text: &'a [u8], draft: &mut KeyDraft) -> Resul
 }
 
 // Reads a number whose parts are known, or makes it where it isn't canonic.
+#[inline(always)]
 fn read_judged<'a>(
     alloc: Global,
     text: &'a [u8],

@@ -161,6 +161,7 @@ fn read_tail<'a>(
 }
 
 // A reference, and what a word wants after it.
+#[inline(always)]
 fn read_operands<'a>(
     alloc: Global,
     word: DataWord,

@@ -36,6 +36,7 @@ impl Store {
     }
 
     // Places a reference that isn't, by the trail of its look-up, and sets it.
+    #[inline(always)]
     fn set_new(
         &mut self,
         alloc: Global,
