@@ -1,6 +1,7 @@
 pub mod ChangeLemmas
 pub mod Legality
 pub mod Held
+pub mod Slots
 pub mod Machines
 pub mod Joined
 pub mod Replies

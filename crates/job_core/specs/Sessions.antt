@@ -79,11 +79,6 @@ abbrev pub lesser_of : Option ℕ → ℕ → ℕ
 lesser_of None n = n
 lesser_of (Some m) n = min m n
 
--- the least of a number, if there is one, and the starts
-abbrev pub least_of : Option ℕ → List (ℕ × Session) → Option ℕ
-least_of o [] = o
-least_of o (e ∷ es) = least_of (Some (lesser_of o e.1.work.start)) es
-
 -- ---- a data command in a transaction
 
 -- the store still has the content of its start, and what it has done is right there

@@ -51,4 +51,5 @@ mod kept_work;
 mod locking;
 mod machine;
 mod sessions;
+mod table;
 mod transactions;

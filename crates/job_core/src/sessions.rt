@@ -6,16 +6,14 @@ ghost use Rattle.refusal.specs.declared.Refusal.{Refusal};
 ghost use Rattle.command.specs.Data.{data_refusal, data_reply};
 ghost use Rattle.version_store.specs.Versions.{content_at};
 ghost use Rattle.validate_commit.specs.Working.{IsWorkOn, IsCauseInside, seen, just_begun};
-ghost use Rattle.job_core.specs.Sessions.{Sessions as SessionMap, begun_at, at_level, after_lock, anew, just_opened, with_session, AreFrom, IsLeastStart, IsLeastIfAny, lesser_of, least_of, IsReadable, IsAnsweredOrRefused, HasAnsweredAt};
-ghost use Rattle.std.specs.BTreeMap.{IsOrdered};
-ghost use Rattle.std.specs.Ordering.{nat_cmp};
+ghost use Rattle.job_core.specs.Sessions.{Sessions as SessionMap, at_level, after_lock, anew, just_opened, with_session, AreFrom, IsLeastStart, IsLeastIfAny, IsReadable, IsAnsweredOrRefused, HasAnsweredAt};
 
 use crate::kept_work::KeptWork;
+use crate::table::SessionTable;
 use collation::Job;
 use command::{Answer, DataCommand};
 use refusal::Refusal;
 use std::alloc::{AllocError, Global};
-use std::collections::BTreeMap;
 use std::marker::Model;
 use version_store::Store;
 
@@ -33,20 +31,20 @@ pub(crate) struct Session {
 }
 
 impl Session {
-    fn set_level(&mut self, level: u64)
+    pub(crate) fn set_level(&mut self, level: u64)
         ensures { self.new ≡ at_level level self.old }
     {
         self.level = level;
     }
 
-    fn note_lock(&mut self)
+    pub(crate) fn note_lock(&mut self)
         ensures { self.new ≡ after_lock self.old }
     {
         self.took_lock = true;
     }
 
     // Nothing of it is left but its job and its restarts, of which this is one more.
-    fn begin_anew(&mut self, start: u64)
+    pub(crate) fn begin_anew(&mut self, start: u64)
         ensures { self.new ≡ anew start self.old }
     {
         self.level = 1;
@@ -56,7 +54,7 @@ impl Session {
     }
 
     // A data command on what the transaction sees. The store still has the content of its start.
-    fn access(&mut self, store: &Store, command: DataCommand) -> Result<Answer, Refusal>
+    pub(crate) fn access(&mut self, store: &Store, command: DataCommand) -> Result<Answer, Refusal>
         requires { IsReadable store.now self.old }
         ensures { IsAnsweredOrRefused command result store.now self.old self.new }
     {
@@ -67,53 +65,16 @@ impl Session {
     }
 }
 
-// The lesser of a stamp, if there is one, and another.
-fn lesser(stamp: Option<u64>, other: u64) -> u64
-    ensures { result ≡ lesser_of stamp other }
-{
-    match stamp {
-        Some(stamp) => stamp.min(other),
-        None => other,
-    }
-}
-
-// The least start of these transactions, if there are any.
-fn least_start(by_job: &BTreeMap<u16, Session>) -> Option<u64>
-    ensures least { result ≡ least_of None by_job.now.entries }
-    ensures ordered { IsOrdered nat_cmp by_job.now }
-{
-    let mut least = None;
-    'sessions: for (_, session) in by_job.iter() {
-        least = Some(lesser(least, session.work.start()));
-    }
-    least
-}
-
 // The least start of these transactions. It is `oldest`, unless one that began there is over, or has begun anew: then it is
 // looked for.
-fn look_again(by_job: &BTreeMap<u16, Session>, oldest: u64, start: u64) -> u64
-    requires { (start ≡ oldest) ⊎ IsLeastIfAny oldest (finmap.from_entries by_job.now.entries) }
-    ensures { IsLeastIfAny result (finmap.from_entries by_job.now.entries) }
+fn look_again(table: &SessionTable, oldest: u64, start: u64) -> u64
+    requires { (start ≡ oldest) ⊎ IsLeastIfAny oldest table.now }
+    ensures { IsLeastIfAny result table.now }
 {
     if start == oldest {
-        least_start(by_job).unwrap_or(oldest)
+        table.least_start().unwrap_or(oldest)
     } else {
         oldest
-    }
-}
-
-// The job's transaction, if one is open, begins anew where so many units stand. Answers where it had begun.
-fn restart_at(by_job: &mut BTreeMap<u16, Session>, job: Job, start: u64) -> Option<u64>
-    ensures anew { finmap.from_entries by_job.new.entries ≡ with_session (anew start) job (finmap.from_entries by_job.old.entries) }
-    ensures before { result ≡ begun_at job (finmap.from_entries by_job.old.entries) }
-{
-    match by_job.get_mut(&job.number()) {
-        Some(session) => {
-            let before = session.work.start();
-            session.begin_anew(start);
-            Some(before)
-        }
-        None => None,
     }
 }
 
@@ -159,14 +120,13 @@ fn keep_spare(spare: &mut Vec<KeptWork>, work: KeptWork) {
 /// The open transaction of each job that has one, and the least of their starts.
 #[derive(Drop)]
 pub(crate) struct Sessions {
-    by_job: BTreeMap<u16, Session>,
+    table: SessionTable,
     oldest: u64,
     // Of transactions that are over, for those that come next: their room serves again.
     spare: Vec<KeptWork>,
 }
 
 impl Model for Sessions {
-    ghost use Rattle.std.specs.FinMap as finmap;
     ghost use Rattle.job_core.specs.Codes.{session_map_code};
     ghost use Rattle.job_core.specs.Sessions.{Sessions as SessionMap, IsLeastIfAny};
 
@@ -174,9 +134,9 @@ impl Model for Sessions {
 
     ghost coded = { session_map_code };
 
-    ghost view = { λ s. finmap.from_entries s.by_job.entries };
+    ghost view = { λ s. s.table };
 
-    ghost invariant = { λ s. IsLeastIfAny s.oldest (finmap.from_entries s.by_job.entries) };
+    ghost invariant = { λ s. IsLeastIfAny s.oldest s.table };
 }
 
 impl Sessions {
@@ -185,25 +145,24 @@ impl Sessions {
         ensures { result ≡ finmap.empty }
     {
         Sessions {
-            by_job: BTreeMap::new(alloc),
+            table: SessionTable::new(alloc),
             oldest: 0,
             spare: Vec::new(alloc),
         }
     }
 
     /// The job's open transaction.
-    #[inline(never)]
     pub(crate) fn get(&self, job: Job) -> Option<&Session>
         ensures { option_copied result ≡ finmap.get self.now job }
     {
-        self.by_job.get(&job.number())
+        self.table.get(job)
     }
 
     /// The least start, where a transaction is open.
     pub(crate) fn oldest(&self) -> Option<u64>
         ensures { MatchOption result (self.now ≡ finmap.empty) (λ stamp. IsLeastStart stamp self.now) }
     {
-        if self.by_job.is_empty() {
+        if self.table.len() == 0 {
             None
         } else {
             Some(self.oldest)
@@ -214,7 +173,7 @@ impl Sessions {
     pub(crate) fn oldest_beside(&self, job: Job) -> Option<u64>
         ensures { IsSome (finmap.get self.now job) → MatchOption result (finmap.remove self.now job ≡ finmap.empty) (λ stamp. ¬ (finmap.remove self.now job ≡ finmap.empty) × IsLeastStart stamp self.now) }
     {
-        if self.by_job.len() == 1 {
+        if self.table.len() == 1 {
             None
         } else {
             Some(self.oldest)
@@ -247,31 +206,23 @@ impl Sessions {
             took_lock: false,
             work,
         };
-        match self.by_job.insert(job.number(), session) {
-            Ok(before) => {
-                drop(before);
-                self.oldest = oldest;
-                Ok(())
-            }
-            Err(failed) => {
-                drop(failed);
-                Err(AllocError)
-            }
-        }
+        self.table.insert(job, session)?;
+        self.oldest = oldest;
+        Ok(())
     }
 
     /// The job's transaction is over.
     pub(crate) fn close(&mut self, job: Job)
         ensures { self.new ≡ finmap.remove self.old job }
     {
-        if let Some(session) = self.by_job.remove(&job.number()) {
+        if let Some(session) = self.table.remove(job) {
             let Session {
                 level: _,
                 restarts: _,
                 took_lock: _,
                 work,
             } = session;
-            self.oldest = look_again(&self.by_job, self.oldest, work.start());
+            self.oldest = look_again(&self.table, self.oldest, work.start());
             keep_spare(&mut self.spare, work);
         }
     }
@@ -280,18 +231,14 @@ impl Sessions {
     pub(crate) fn set_level(&mut self, job: Job, level: u64)
         ensures { self.new ≡ with_session (at_level level) job self.old }
     {
-        if let Some(session) = self.by_job.get_mut(&job.number()) {
-            session.set_level(level);
-        }
+        self.table.set_level(job, level);
     }
 
     /// The job's transaction, if one is open, took a LOCK.
     pub(crate) fn note_lock(&mut self, job: Job)
         ensures { self.new ≡ with_session after_lock job self.old }
     {
-        if let Some(session) = self.by_job.get_mut(&job.number()) {
-            session.note_lock();
-        }
+        self.table.note_lock(job);
     }
 
     /// The job's transaction begins anew where so many units stand, and counts that.
@@ -299,8 +246,8 @@ impl Sessions {
         requires { IfSome (finmap.get self.old job) (λ session. session.work.start ≤ start) }
         ensures { self.new ≡ with_session (anew start) job self.old }
     {
-        if let Some(before) = restart_at(&mut self.by_job, job, start) {
-            self.oldest = look_again(&self.by_job, self.oldest, before);
+        if let Some(before) = self.table.begin_anew(job, start) {
+            self.oldest = look_again(&self.table, self.oldest, before);
         }
     }
 
@@ -314,12 +261,6 @@ impl Sessions {
         requires { IfSome (finmap.get self.old job) (IsReadable store.now) }
         ensures { HasAnsweredAt command result store.now job self.old self.new (finmap.get self.old job) }
     {
-        match self.by_job.get_mut(&job.number()) {
-            Some(session) => session.access(store, command),
-            None => {
-                drop(command);
-                Err(Refusal::NoTransaction)
-            }
-        }
+        self.table.access(store, job, command)
     }
 }
