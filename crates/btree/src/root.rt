@@ -1,5 +1,5 @@
 //! The tree: its root, and how many pairs there are.
-ghost use Rattle.std.specs.Prelude.{◌≡◌, ◌+◌, ◌*◌, ◌-◌, ◌^◌, ◌<◌, ◌≤◌, ◌==◌, [], length, reverse, not, true, cond, is_some, None, Some, IfOk, IfErr, OnErr};
+ghost use Rattle.std.specs.Prelude.{◌≡◌, ◌+◌, ◌*◌, ◌-◌, ◌^◌, ◌<◌, ◌≤◌, ◌==◌, [], length, reverse, not, true, cond, is_some, None, Some, IfSome, IfOk, IfErr, OnErr};
 ghost use Rattle.std.specs.Option.{option_map};
 ghost use Rattle.std.specs.List.{filter, find};
 ghost use Rattle.std.specs.FinMap.Entries as entries;
@@ -128,6 +128,15 @@ impl<K: Ord, V> Tree<K, V> {
         self.root.height() + 1
     }
 
+    /// All pairs in order, where they stand side by side in memory: in a tree of one level. It takes no memory.
+    pub fn as_row(&self) -> Option<&[(K, V)]>
+        ensures row { IfSome result (λ row. row.now ≡ self.now.pairs) }
+        ensures deep { result ≡ None → 1 < self.now.depth }
+    {
+        let (entries, kids) = self.root.rows();
+        if kids.is_empty() { Some(entries) } else { None }
+    }
+
     /// A walk over all pairs in order. It takes no memory.
     pub fn iter(&self) -> Walk<'_, K, V>
         ensures { result ≡ self.now.pairs }
@@ -173,6 +182,7 @@ impl<K: Ord + Drop, V: Drop> Tree<K, V> {
     }
 
     // As `insert_by`, by way of each node on the way down, which is split or eased where that is due.
+    #[inline(never)]
     fn insert_splitting(
         &mut self,
         alloc: Global,

@@ -51,6 +51,7 @@ fn copies_of<V: OrderedView>(
 /// `TooManySubscripts` where a copy would have over 31; `OutOfMemory`.
 ///
 /// Source: ISO/IEC 11756:1999, MERGE. The refusals: docs/RULES.md, "Profile".
+#[inline(never)]
 pub fn merge_list<V: OrderedView>(
     alloc: Global,
     view: &V,

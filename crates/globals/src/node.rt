@@ -23,6 +23,7 @@ fn has_descendants<V: OrderedView>(view: &V, root: &Key) -> bool
 /// 1 where the reference has a value, and 10 more where a descendant of it has one. Takes no memory.
 ///
 /// Source: ISO/IEC 11756:1999, $DATA.
+#[inline(never)]
 pub fn data<V: OrderedView>(view: &V, key: &Key) -> u64
     ensures { result ≡ data_of key.now (V.content view.now) }
 {

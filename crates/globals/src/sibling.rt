@@ -63,6 +63,7 @@ fn nearest_sibling<V: OrderedView>(
 /// Refusals: `NeedSubscript` where the place has no subscript; `OutOfMemory`, which no such place gets.
 ///
 /// Source: ISO/IEC 11756:1999, $ORDER. That a bare name is refused: docs/RULES.md, "Profile".
+#[inline(never)]
 pub fn order<V: OrderedView>(
     alloc: Global,
     view: &V,

@@ -33,6 +33,7 @@ fn cut_of(place: &Place, direction: Direction) -> Cut<'_>
 /// siblings, after their parent, and backward after them and all under them. Takes no memory.
 ///
 /// Source: ISO/IEC 11756:1999, $QUERY. The backward direction: docs/RULES.md, "Profile".
+#[inline(never)]
 pub fn query<'v, V: OrderedView>(
     view: &'v V,
     place: &Place,

@@ -1,3 +1,4 @@
 pub mod Cutting
 pub mod Joining
 pub mod Noting
+pub mod Single

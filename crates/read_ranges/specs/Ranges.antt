@@ -15,6 +15,7 @@ use Rattle.journal.specs.Touching.{read_set}
 use Rattle.read_ranges.specs.declared.edge.Edge.{Edge}
 use Rattle.read_ranges.specs.declared.edge.Edge.TheVariants.{Start, Before, After, Past}
 use Rattle.read_ranges.specs.declared.range.ReadRange.{ReadRange}
+use Rattle.read_ranges.specs.declared.range.ReadRange.TheVariants.{One, Between}
 use Rattle.read_ranges.specs.declared.range.Joint.{Joint}
 use Rattle.read_ranges.specs.declared.range.Joint.TheVariants.{Apart, Within, Higher, Lower}
 
@@ -25,9 +26,19 @@ is_short (Before r) x = is_before false r x
 is_short (After r) x = not (is_after false r x)
 is_short (Past r) x = is_before true r x
 
--- x lies from the low edge on and before the high one
+-- x stands before the range's beginning; one reference begins at itself
+abbrev pub begins_after : ReadRange → Reference → Bool
+begins_after (One r) x = is_before false r x
+begins_after (Between low high) x = is_short low x
+
+-- x stands before the range's end; one reference ends before those under it
+abbrev pub ends_after : ReadRange → Reference → Bool
+ends_after (One r) x = not (is_after false r x)
+ends_after (Between low high) x = is_short high x
+
+-- x lies in the range: from its beginning on and before its end
 abbrev pub is_in : ReadRange → Reference → Bool
-is_in range x = not (is_short range.low x) && is_short range.high x
+is_in range x = not (begins_after range x) && ends_after range x
 
 -- x lies in one of the ranges
 abbrev pub is_in_one : List ReadRange → Reference → Bool
@@ -73,5 +84,5 @@ AreEarlier first second = (x : Reference) → stands_before first x ≡ true →
 abbrev pub Joins : Joint → ReadRange → Cut → Cut → Type 0
 Joins Apart range low high = ⊤
 Joins Within range low high = (x : Reference) → is_in range x ≡ (is_in range x || between low high x)
-Joins Higher range low high = (x : Reference) → (not (is_short range.low x) && stands_before high x) ≡ (is_in range x || between low high x)
-Joins Lower range low high = (x : Reference) → (not (stands_before low x) && is_short range.high x) ≡ (is_in range x || between low high x)
+Joins Higher range low high = (x : Reference) → (not (begins_after range x) && stands_before high x) ≡ (is_in range x || between low high x)
+Joins Lower range low high = (x : Reference) → (not (stands_before low x) && ends_after range x) ≡ (is_in range x || between low high x)

@@ -9,7 +9,8 @@ ghost use Rattle.command.specs.declared.access.Answer.TheVariants.{Value, Found}
 ghost use Rattle.globals.specs.Fitting.{IsAnswerOf, IsLookAnswer, IsOrderAnswer, IsQueryAnswer};
 ghost use Rattle.journal.specs.Touching.{order_read, query_read};
 ghost use Rattle.serial.specs.ReadRanges.{level_end as level_end_spec, root_of};
-ghost use Rattle.read_ranges.specs.Ranges.{between, is_in_one, IsNoted, KeepsFormerRanges};
+ghost use Rattle.read_ranges.specs.declared.range.ReadRange.TheVariants.{One};
+ghost use Rattle.read_ranges.specs.Ranges.{between, is_in, is_in_one, IsNoted, KeepsFormerRanges};
 
 use crate::level::{after_place, before_place, level_end, level_start};
 use crate::range::ReadRange;
@@ -20,7 +21,7 @@ use key_codec::{Key, Place};
 use std::alloc::{AllocError, Global};
 use std::marker::Model;
 
-// How many of the last ranges may grow.
+// How many of the last ranges may grow, or are looked at for a reference that is read again.
 const NEAR: usize = 4;
 
 // For how many ranges forgotten ones leave their room to those that come next.
@@ -119,13 +120,14 @@ impl Ranges {
                 if decided {
                     return Ok(());
                 }
-                self.add(Cut::Before(key), Cut::After(key))
+                self.add_one(key)
             }
             Look::Order(place, direction) => self.note_order(alloc, place, *direction, answer),
             Look::Query(place, direction) => self.note_query(alloc, place, *direction, answer),
         }
     }
 
+    #[inline(never)]
     fn note_order(
         &mut self,
         alloc: Global,
@@ -173,6 +175,7 @@ impl Ranges {
         }
     }
 
+    #[inline(never)]
     fn note_query(
         &mut self,
         alloc: Global,
@@ -243,6 +246,34 @@ impl Ranges {
             }
         }
         self.push(low, high)
+    }
+
+    // Puts in one reference: as a range of its own, where none of the last ranges has it.
+    fn add_one(&mut self, key: &Key) -> Result<(), AllocError>
+        ensures more { OnOk result ((x : Reference) → is_in_one self.new x ≡ (is_in_one self.old x || is_in (One key.now) x)) }
+        ensures few { length self.new ≤ length self.old + 1 }
+        ensures err { OnErr result (self.new ≡ self.old) }
+    {
+        if self.is_known(key) {
+            return Ok(());
+        }
+        self.list.reserve(1)?;
+        let key = key.clone()?;
+        self.list.push_reserved(ReadRange::One(key));
+        Ok(())
+    }
+
+    // Whether one of the last ranges is seen to have the reference.
+    fn is_known(&self, key: &Key) -> bool
+        ensures { result ≡ true → is_in_one self.now key.now ≡ true }
+    {
+        let first = self.list.len().saturating_sub(NEAR);
+        for i in first..self.list.len() {
+            if self.list[i].contains(key) {
+                return true;
+            }
+        }
+        false
     }
 
     // Puts what lies between two cuts after the others, as a range of its own.

@@ -18,7 +18,7 @@ ghost use Rattle.journal.specs.declared.unit.Unit.{Unit as JournalUnit};
 ghost use Rattle.serial.specs.Machine.{state_at};
 ghost use Rattle.validate_commit.specs.Agreement.{Agreement};
 ghost use Rattle.validate_commit.specs.Verdicts.{has_been_overtaken};
-ghost use Rattle.validate_commit.specs.Newer.{HasNewerIn, NoneNewerIn, HasNewerRead, NoneNewerRead};
+ghost use Rattle.validate_commit.specs.Newer.{is_later, HasNewerIn, NoneNewerIn, HasNewerRead, NoneNewerRead};
 
 use collation::{Job, MOST_COMMANDS, Text};
 use command::{Answer, DataCommand, Look};
@@ -78,16 +78,18 @@ fn write(
             drop(copies);
             workspace.kill(alloc, key)
         }
-        DataCommand::Merge(target, source) => {
-            drop(target);
-            drop(source);
-            workspace.set_all(alloc, copies)
-        }
-        DataCommand::Look(look) => {
-            drop(look);
-            drop(copies);
-            Ok(())
-        }
+        DataCommand::Merge(_, _) => workspace.set_all(alloc, copies),
+        DataCommand::Look(_) => Ok(()),
+    }
+}
+
+// Whether a newest stamp, if there is one, is after another.
+fn is_after(newest: Option<u64>, stamp: u64) -> bool
+    ensures { result ≡ is_later newest stamp }
+{
+    match newest {
+        Some(newest) => newest > stamp,
+        None => false,
     }
 }
 
@@ -96,9 +98,9 @@ fn is_newer(store: &Store, range: &ReadRange, stamp: u64) -> bool
     ensures found { result ≡ true → HasNewerIn store.now.versions stamp range.now }
     ensures none { result ≡ false → NoneNewerIn store.now.versions stamp range.now }
 {
-    match store.newest_in(range.low.cut(), range.high.cut()) {
-        Some(newest) => newest > stamp,
-        None => false,
+    match range {
+        ReadRange::One(key) => is_after(store.newest_of(key), stamp),
+        ReadRange::Between(low, high) => is_after(store.newest_in(low.cut(), high.cut()), stamp),
     }
 }
 
@@ -177,6 +179,7 @@ impl Work {
     /// Refusals, after which nothing has changed: `TransactionTooLong` where the transaction holds 65,535 data commands,
     /// before all others; the command's own rule on what it sees; `OutOfMemory`, which never hides a rule that is looked at
     /// before memory is asked for (`early_refusal`).
+    #[inline(never)]
     pub fn access<V: OrderedView>(
         &mut self,
         view: &V,

@@ -1,4 +1,3 @@
-pub mod AloneLemmas
 pub mod CellLemmas
 pub mod CutLemmas
 pub mod DropLemmas

@@ -1,11 +1,9 @@
 //! The newest version of a range of references.
-ghost use Rattle.std.specs.Prelude.{◌≡◌, true, IfSome};
-ghost use Rattle.std.specs.Ordering.{eq_by_cmp};
+ghost use Rattle.std.specs.Prelude.{◌≡◌, true};
 ghost use Rattle.std.specs.FinMap.{is_sorted};
 ghost use Rattle.collation.specs.Order.{ref_cmp};
-ghost use Rattle.collation.specs.Reference.{Reference};
 ghost use Rattle.version_chain.specs.Versions.{newest_of};
-ghost use Rattle.version_store.specs.Versions.{newest_among, newest_between, stands_between, versions_of, IsNewestIn, later as later_spec};
+ghost use Rattle.version_store.specs.Versions.{newest_among, newest_between, versions_of, IsNewestIn, later as later_spec};
 ghost use Rattle.version_store.specs.Tied.{rows, newest_below, AreOpen};
 
 use crate::store::Store;
@@ -76,22 +74,9 @@ fn newest_before(walk: Walk<'_, Key, ChainId>, high: Cut<'_>, chains: &Chains<Te
     }
 }
 
-// The reference that alone stands between two cuts, where they are just before and just after it.
-fn alone_between<'a>(low: Cut<'a>, high: Cut<'a>) -> Option<&'a Key>
-    ensures { IfSome result (λ key. (r : Reference) → stands_between low.entry high.entry r ≡ eq_by_cmp ref_cmp key.now r) }
-{
-    match low {
-        Cut::Before(key) => match high {
-            Cut::After(last) => { if key == last { Some(key) } else { None } }
-            _ => None,
-        },
-        _ => None,
-    }
-}
-
 impl Store {
-    // The newest stamp of a reference's versions.
-    fn newest_of(&self, key: &Key) -> Option<u64>
+    /// The newest stamp of a reference's versions; none where it has none. An absence counts. Takes no memory.
+    pub fn newest_of(&self, key: &Key) -> Option<u64>
         ensures { result ≡ newest_of (versions_of self.now.versions key.now) }
     {
         match self.tree.get(key).0 {
@@ -101,14 +86,13 @@ impl Store {
     }
 
     /// The newest stamp of any version of a reference that doesn't stand before `low` and stands before `high`; none where
-    /// no such reference has a version. Absences count. One reference alone is looked up. Takes no memory.
+    /// no such reference has a version. Absences count. Takes no memory. Who asks for one reference asks `newest_of`, without
+    /// a walk.
+    #[inline(never)]
     pub fn newest_in(&self, low: Cut<'_>, high: Cut<'_>) -> Option<u64>
         ensures stamp { result ≡ newest_between low.entry high.entry self.now.versions }
         ensures newest { IsNewestIn low.entry high.entry self.now.versions result }
     {
-        if let Some(key) = alone_between(low, high) {
-            return self.newest_of(key);
-        }
         let walk = self.tree.from(&CutPoint { cut: low });
         newest_before(walk, high, &self.chains)
     }

@@ -10,7 +10,18 @@ use key_codec::Key;
 use key_map::KeyMap;
 use std::alloc::{AllocError, Global};
 
-fn push_written(
+// Each of these values, to be set.
+fn push_row(changes: &mut Vec<(Key, Option<Text>)>, row: &[(Key, Text)]) -> Result<(), AllocError>
+    ensures { OnOk result (changes.new.items ≡ changes.old.items ++ set_changes row.now) }
+{
+    for (key, value) in row {
+        push_set(changes, key, value)?;
+    }
+    Ok(())
+}
+
+#[inline(never)]
+fn push_walked(
     changes: &mut Vec<(Key, Option<Text>)>,
     written: &KeyMap<Text>,
 ) -> Result<(), AllocError>
@@ -20,6 +31,19 @@ fn push_written(
         push_set(changes, key, value)?;
     }
     Ok(())
+}
+
+// Each of the written values, to be set. Few of them stand in one row: a walk, of half a kilobyte, isn't begun for these.
+fn push_written(
+    changes: &mut Vec<(Key, Option<Text>)>,
+    written: &KeyMap<Text>,
+) -> Result<(), AllocError>
+    ensures { OnOk result (changes.new.items ≡ changes.old.items ++ set_changes (finmap.entries written.now)) }
+{
+    match written.as_row() {
+        Some(row) => push_row(changes, row),
+        None => push_walked(changes, written),
+    }
 }
 
 fn push_set(
@@ -60,7 +84,8 @@ fn push_removed<V: OrderedView>(
     Ok(())
 }
 
-fn push_all_removed<V: OrderedView>(
+#[inline(never)]
+fn push_each_removed<V: OrderedView>(
     changes: &mut Vec<(Key, Option<Text>)>,
     written: &KeyMap<Text>,
     view: &V,
@@ -72,6 +97,21 @@ fn push_all_removed<V: OrderedView>(
         push_removed(changes, written, view, root)?;
     }
     Ok(())
+}
+
+// Killed reference by killed reference; mostly there is none.
+fn push_all_removed<V: OrderedView>(
+    changes: &mut Vec<(Key, Option<Text>)>,
+    written: &KeyMap<Text>,
+    view: &V,
+    killed: &KeyMap<()>,
+) -> Result<(), AllocError>
+    ensures { OnOk result (changes.new.items ≡ changes.old.items ++ removed_by written.now (V.content view.now) (finmap.entries killed.now)) }
+{
+    match killed.as_row() {
+        Some([]) => Ok(()),
+        _ => push_each_removed(changes, written, view, killed),
+    }
 }
 
 // All of them: the written values, and then what is removed, killed reference by killed reference.

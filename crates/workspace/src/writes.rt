@@ -1,5 +1,5 @@
 //! The written values and killed references, and their changes.
-ghost use Rattle.std.specs.Prelude.{◌≡◌, ◌||◌, false, OnOk, OnErr, IfOk, MatchOption, not};
+ghost use Rattle.std.specs.Prelude.{◌≡◌, ◌||◌, [], true, false, OnOk, OnErr, IfOk, MatchOption, not};
 ghost use Rattle.std.specs.FinMap as finmap;
 ghost use Rattle.std.specs.List.{list_any};
 ghost use Rattle.collation.specs.Reference.{Reference};
@@ -66,10 +66,20 @@ impl Workspace {
         &self.killed
     }
 
-    /// The killed reference at or above this one, by one look-up.
+    // Whether nothing is killed, as is seen without a look-up.
+    fn kills_nothing(&self) -> bool
+        ensures { result ≡ true → self.now.killed ≡ [] }
+    {
+        matches!(self.killed.as_row(), Some([]))
+    }
+
+    /// The killed reference at or above this one, by one look-up at most.
     pub fn killed_over(&self, key: &Key) -> Option<&Key>
         ensures { MatchOption result (is_killed_spec self.now.killed key.now ≡ false) (λ killed. IsKiller self.now.killed key.now killed.now) }
     {
+        if self.kills_nothing() {
+            return None;
+        }
         match self.killed.last_before(Cut::After(key)) {
             Some((killed, _)) => {
                 if key.is_under(killed) {
@@ -85,6 +95,9 @@ impl Workspace {
     fn is_killed(&self, key: &Key) -> bool
         ensures { result ≡ is_killed_spec self.now.killed key.now }
     {
+        if self.kills_nothing() {
+            return false;
+        }
         match self.killed.last_before(Cut::After(key)) {
             Some((killed, _)) => key.is_under(killed),
             None => false,
@@ -122,6 +135,7 @@ impl Workspace {
     /// Sets the values of these references, in turn: all of them or none.
     ///
     /// Refused where there is no memory, and then nothing has changed.
+    #[inline(never)]
     pub fn set_all(&mut self, alloc: Global, copies: Vec<(Key, Text)>) -> Result<(), AllocError>
         ensures over { OnOk result ((m : Database) → laid_over self.new m ≡ set_all_spec copies.items (laid_over self.old m)) }
         ensures decides { OnOk result ((x : Reference) → decides_spec self.new x ≡ (decides_spec self.old x || list_any (λ e. ref_eq x e.0) copies.items)) }
@@ -135,6 +149,7 @@ impl Workspace {
     /// Kills what is at and under a reference: what was written there, and whatever the database below has there.
     ///
     /// Refused where there is no memory, and then nothing has changed.
+    #[inline(never)]
     pub fn kill(&mut self, alloc: Global, key: Key) -> Result<(), AllocError>
         ensures over { OnOk result ((m : Database) → laid_over self.new m ≡ data_after (kill_command key) (laid_over self.old m)) }
         ensures decides { OnOk result ((x : Reference) → decides_spec self.new x ≡ (decides_spec self.old x || is_under key x)) }

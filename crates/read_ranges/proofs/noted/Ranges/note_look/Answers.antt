@@ -12,7 +12,7 @@ returns-in-Data-clause-noted c =
 
 pub returns-else-decided-clause-noted : goal.returns-else-decided-clause-noted
 returns-else-decided-clause-noted c =
-    on_ok c.add-in-Get.result (get_noted c.args.self.now c.add-in-Get.new.self c.args.look.now c.in-Get.key c.in-Get.field-1 c.args.answer.now c.args.decided c.in-Get.is c.if-decided.false) c.add-in-Get.ensures.more
+    on_ok c.add_one.result (get_noted c.args.self.now c.add_one.new.self c.args.look.now c.in-Get.key c.in-Get.field-1 c.args.answer.now c.args.decided c.in-Get.is c.if-decided.false) c.add_one.ensures.more
 
 pub returns-in-Order-clause-noted : goal.returns-in-Order-clause-noted
 returns-in-Order-clause-noted c =

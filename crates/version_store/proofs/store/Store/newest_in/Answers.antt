@@ -1,7 +1,6 @@
-use Rattle.std.proofs.Common.{not, sym, subst, ◌∙◌}
+use Rattle.std.proofs.Common.{not, sym, subst}
 use Rattle.globals.specs.Cuts.{stands_before}
 use Rattle.version_store.specs.Versions.{IsNewestIn}
-use Rattle.version_store.proofs.AloneLemmas.{between_alone}
 use Rattle.version_store.proofs.NewestLemmas.{newest_is}
 use Rattle.version_store.proofs.SeekLemmas.{open_in, open_filter, sorted_filter}
 use Rattle.version_store.proofs.RangeLemmas.{range_start}
@@ -24,9 +23,3 @@ returns-clause-stamp c =
 
 pub returns-clause-newest : goal.returns-clause-newest
 returns-clause-newest c = subst (IsNewestIn c.args.low c.args.high c.args.self.now.versions) (sym (returns-clause-stamp c)) (newest_is c.args.low c.args.high c.args.self.now.versions)
-
-pub returns-in-Some-clause-stamp : goal.returns-in-Some-clause-stamp
-returns-in-Some-clause-stamp c = c.newest_of.ensures ∙ between_alone c.args.low c.args.high c.args.self.now.versions c.in-Some.key.now c.in-Some.ensures
-
-pub returns-in-Some-clause-newest : goal.returns-in-Some-clause-newest
-returns-in-Some-clause-newest c = subst (IsNewestIn c.args.low c.args.high c.args.self.now.versions) (sym (returns-in-Some-clause-stamp c)) (newest_is c.args.low c.args.high c.args.self.now.versions)
