@@ -36,6 +36,12 @@ module _ {K V : Type 0} (R : K → K → Ordering) (root : Branch K V) (is : IsR
   pub wide : 1 < suc root.height → 2 * 16 ^ (suc root.height - 1) ≤ length root.pairs
   wide p = let same : root.height ≡ suc root.height - 1 = omega arith in subst (λ n. 2 * 16 ^ n ≤ length root.pairs) same (wide_at (root.height - 1) (omega arith))
 
+  pub many : 0 < root.height → 32 < length root.pairs
+  many p =
+      let a : 17 ^ 1 ≤ 17 ^ root.height = pow-le-pow_right (omega arith) p in
+      let b = twice p in
+      omega arith
+
   low_at : (h : ℕ) → root.height ≡ h → length root.pairs < 2 ^ 64 → root.height < 16
   low_at zero e q = omega arith
   low_at (suc h) e q =

@@ -128,10 +128,11 @@ impl<K: Ord, V> Tree<K, V> {
         self.root.height() + 1
     }
 
-    /// All pairs in order, where they stand side by side in memory: in a tree of one level. It takes no memory.
+    /// All pairs in order, where they stand side by side in memory: in a tree of one level. Up to 32 pairs always do. It takes no memory.
     pub fn as_row(&self) -> Option<&[(K, V)]>
         ensures row { IfSome result (λ row. row.now ≡ self.now.pairs) }
         ensures deep { result ≡ None → 1 < self.now.depth }
+        ensures many { result ≡ None → 32 < length self.now.pairs }
     {
         let (entries, kids) = self.root.rows();
         if kids.is_empty() { Some(entries) } else { None }

@@ -1,5 +1,5 @@
 //! The map, its look-ups and its changes.
-ghost use Rattle.std.specs.Prelude.{◌≡◌, not, true, false, None, Some, IfSome, IfOk, IfErr, OnErr};
+ghost use Rattle.std.specs.Prelude.{◌≡◌, ◌<◌, not, true, false, None, Some, IfSome, IfOk, IfErr, OnErr};
 ghost use Rattle.std.specs.Option.{option_copied, option_map};
 ghost use Rattle.std.specs.FinMap as finmap;
 ghost use Rattle.globals.specs.Entries.{nearest_entry};
@@ -65,10 +65,10 @@ impl<X> KeyMap<X> {
         self.tree.last_before(&CutPoint { cut }).0
     }
 
-    /// The keys with their values in order, where the map is small enough for them to stand side by side in memory: up to 32
-    /// always are. There is none only where they aren't, so that there are keys.
+    /// The keys with their values in order, where they stand side by side in memory. Up to 32 always do.
     pub fn as_row(&self) -> Option<&[(Key, X)]>
-        ensures { IfSome result (λ row. row.now ≡ finmap.entries self.now) }
+        ensures row { IfSome result (λ row. row.now ≡ finmap.entries self.now) }
+        ensures many { result ≡ None → 32 < finmap.len self.now }
     {
         self.tree.as_row()
     }
