@@ -37,9 +37,9 @@ tail_is : (word : DataWord) (text rest : List ℕ) (r : Reference) → place_at 
 unfolding operands_at
 tail_is word text rest r e = ap (λ (read : Option (Reference × List ℕ)). read >>= λ place. tail_at word place.0 place.1) e
 
-pub found : (first second : KeyDraft) (names : Names) (word : DataWord) (text rest : List ℕ) (r : Reference) (read : Result (DataSentence × Bor (List ℕ)) Refusal) → place_at text ≡ Some (r, rest) → IsDraft first r → Tells second r read (tail_at word r rest) → FindsData (record { first = first; second = second; names = names }) read (operands_at word text)
-found first second names word text rest r (Ok x) e is h = (h.0, tail_is word text rest r e ∙ h.1, record { reference = r; drafted = is; said = h.2 })
-found first second names word text rest r (Err refusal) e is h = refused_too refusal (tail_at word r rest) (operands_at word text) (λ none. tail_is word text rest r e ∙ none) h
+pub found : (first second : KeyDraft) (names : Names) (value : List ℕ) (word : DataWord) (text rest : List ℕ) (r : Reference) (read : Result (DataSentence × Bor (List ℕ)) Refusal) → place_at text ≡ Some (r, rest) → IsDraft first r → Tells second value r read (tail_at word r rest) → FindsData (record { first = first; second = second; names = names; value = value }) read (operands_at word text)
+found first second names value word text rest r (Ok x) e is h = (h.0, tail_is word text rest r e ∙ h.1, record { reference = r; drafted = is; said = h.2 })
+found first second names value word text rest r (Err refusal) e is h = refused_too refusal (tail_at word r rest) (operands_at word text) (λ none. tail_is word text rest r e ∙ none) h
 
 pub unfound : (word : DataWord) (text : List ℕ) (refusal : Refusal) → IsUnread refusal (place_at text) → IsUnread refusal (operands_at word text)
 unfolding operands_at

@@ -24,26 +24,27 @@ use Rattle.script.specs.declared.sentence.Sentence.TheVariants as sentences
 use Rattle.script.specs.Locking.{locking, names_fault}
 use Rattle.script.specs.Commands.{command_of}
 
--- the sentence says the command of r, which for MERGE has the reference of the second draft too
-abbrev pub Says : KeyDraft → Reference → DataSentence → DataCommand → Type 0
-Says second r (data_sentences.Set value) c = c ≡ Set r value
-Says second r data_sentences.Kill c = c ≡ Kill r
-Says second r data_sentences.Merge c = (s : Reference) × (c ≡ (Merge r s)) × IsDraft second s
-Says second r data_sentences.Data c = c ≡ Look (Data r)
-Says second r (data_sentences.Get default) c = c ≡ Look (Get r default)
-Says second r (data_sentences.Order direction) c = c ≡ Look (Order (spot_of r) direction)
-Says second r (data_sentences.Query direction) c = c ≡ Look (Query (spot_of r) direction)
+-- the sentence says the command of r, which for MERGE has the reference of the second draft too, and for SET and a $GET with a default the value
+abbrev pub Says : KeyDraft → List ℕ → Reference → DataSentence → DataCommand → Type 0
+Says second value r data_sentences.Set c = c ≡ Set r value
+Says second value r data_sentences.Kill c = c ≡ Kill r
+Says second value r data_sentences.Merge c = (s : Reference) × (c ≡ (Merge r s)) × IsDraft second s
+Says second value r data_sentences.Data c = c ≡ Look (Data r)
+Says second value r data_sentences.Get c = c ≡ Look (Get r None)
+Says second value r data_sentences.GetOr c = c ≡ Look (Get r (Some value))
+Says second value r (data_sentences.Order direction) c = c ≡ Look (Order (spot_of r) direction)
+Says second value r (data_sentences.Query direction) c = c ≡ Look (Query (spot_of r) direction)
 
 -- what is read after the reference r says the command that is there
-abbrev pub Tells : KeyDraft → Reference → Result (DataSentence × Bor (List ℕ)) Refusal → Option (DataCommand × List ℕ) → Type 0
-Tells second r (Ok x) read = (c : DataCommand) × (read ≡ Some (c, x.1.now)) × Says second r x.0 c
-Tells second r (Err refusal) read = IsUnread refusal read
+abbrev pub Tells : KeyDraft → List ℕ → Reference → Result (DataSentence × Bor (List ℕ)) Refusal → Option (DataCommand × List ℕ) → Type 0
+Tells second value r (Ok x) read = (c : DataCommand) × (read ≡ Some (c, x.1.now)) × Says second value r x.0 c
+Tells second value r (Err refusal) read = IsUnread refusal read
 
--- a sentence and the drafts' references are those of the data command
+-- a sentence and what the drafts have are those of the data command
 pub record SpellsData (drafts : Drafts) (sentence : DataSentence) (c : DataCommand) : Type 0 where
   pub reference : Reference
   pub drafted : IsDraft drafts.first reference
-  pub said : Says drafts.second reference sentence c
+  pub said : Says drafts.second drafts.value reference sentence c
 
 -- the sentence is that of some data command
 pub record SomeData (drafts : Drafts) (sentence : DataSentence) : Type 0 where

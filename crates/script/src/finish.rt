@@ -1,6 +1,5 @@
 //! Commands of sentences, or the first fault of one.
-ghost use Rattle.std.specs.Prelude.{◌≡◌};
-ghost use Rattle.std.specs.Option.{option_and_then};
+ghost use Rattle.std.specs.Prelude.{◌≡◌, None, Some};
 ghost use Rattle.collation.specs.Reference.{Reference};
 ghost use Rattle.key_codec.specs.Draft.{IsDraft, IsSpelled};
 ghost use Rattle.command.specs.declared.access.DataCommand.{DataCommand as DataView};
@@ -18,6 +17,7 @@ use command::{Command, DataCommand, Look};
 use key_codec::{Key, KeyDraft, Place};
 use refusal::Refusal;
 use std::alloc::Global;
+use std::mem;
 
 fn key_of(alloc: Global, draft: &KeyDraft) -> Result<Key, Refusal>
     requires { IsSpelled draft.now }
@@ -33,34 +33,23 @@ fn place_of(alloc: Global, draft: &KeyDraft) -> Result<Place, Refusal>
     draft.place(alloc)
 }
 
-fn checked(value: Text) -> Result<Text, Refusal>
-    ensures { Answers (λ v. v) result (unless (value_fault value) value) }
+// The value that is kept, which is taken out, or its fault.
+fn value_of(alloc: Global, value: &mut Text) -> Result<Text, Refusal>
+    ensures { Answers (λ v. v) result (unless (value_fault value.old) value.old) }
 {
     if value.len() > LONGEST_VALUE {
         Err(Refusal::ValueTooLong)
     } else {
-        Ok(value)
+        Ok(mem::replace(value, Text::new(alloc)))
     }
 }
 
-fn checked_default(default: Option<Text>) -> Result<Option<Text>, Refusal>
-    ensures { Answers (λ d. d) result (unless (option_and_then value_fault default) default) }
-{
-    match default {
-        Some(value) => {
-            let value = checked(value)?;
-            Ok(Some(value))
-        }
-        None => Ok(None),
-    }
-}
-
-fn set(alloc: Global, draft: &KeyDraft, value: Text) -> Result<DataCommand, Refusal>
+fn set(alloc: Global, draft: &KeyDraft, value: &mut Text) -> Result<DataCommand, Refusal>
     requires { IsSpelled draft.now }
-    ensures { (r : Reference) → IsDraft draft.now r → Answers (λ c. c) result (unless (data_fault (DataCommand.Set r value)) (DataCommand.Set r value)) }
+    ensures { (r : Reference) → IsDraft draft.now r → Answers (λ c. c) result (unless (data_fault (DataCommand.Set r value.old)) (DataCommand.Set r value.old)) }
 {
     let key = key_of(alloc, draft)?;
-    let value = checked(value)?;
+    let value = value_of(alloc, value)?;
     Ok(DataCommand::Set(key, value))
 }
 
@@ -90,13 +79,21 @@ fn data(alloc: Global, draft: &KeyDraft) -> Result<DataCommand, Refusal>
     Ok(DataCommand::Look(Look::Data(key)))
 }
 
-fn get(alloc: Global, draft: &KeyDraft, default: Option<Text>) -> Result<DataCommand, Refusal>
+fn get(alloc: Global, draft: &KeyDraft) -> Result<DataCommand, Refusal>
     requires { IsSpelled draft.now }
-    ensures { (r : Reference) → IsDraft draft.now r → Answers (λ c. c) result (unless (data_fault (DataCommand.Look (Look.Get r default))) (DataCommand.Look (Look.Get r default))) }
+    ensures { (r : Reference) → IsDraft draft.now r → Answers (λ c. c) result (unless (data_fault (DataCommand.Look (Look.Get r None))) (DataCommand.Look (Look.Get r None))) }
 {
     let key = key_of(alloc, draft)?;
-    let default = checked_default(default)?;
-    Ok(DataCommand::Look(Look::Get(key, default)))
+    Ok(DataCommand::Look(Look::Get(key, None)))
+}
+
+fn get_or(alloc: Global, draft: &KeyDraft, default: &mut Text) -> Result<DataCommand, Refusal>
+    requires { IsSpelled draft.now }
+    ensures { (r : Reference) → IsDraft draft.now r → Answers (λ c. c) result (unless (data_fault (DataCommand.Look (Look.Get r (Some default.old)))) (DataCommand.Look (Look.Get r (Some default.old)))) }
+{
+    let key = key_of(alloc, draft)?;
+    let default = value_of(alloc, default)?;
+    Ok(DataCommand::Look(Look::Get(key, Some(default))))
 }
 
 fn order(alloc: Global, draft: &KeyDraft, direction: Direction) -> Result<DataCommand, Refusal>
@@ -119,21 +116,22 @@ fn query(alloc: Global, draft: &KeyDraft, direction: Direction) -> Result<DataCo
     }
 }
 
-// The data command, or its first fault from left to right.
+// The data command, or its first fault from left to right. A value is taken out of the drafts.
 fn finish_data(
     alloc: Global,
     sentence: DataSentence,
-    drafts: &Drafts,
+    drafts: &mut Drafts,
 ) -> Result<DataCommand, Refusal>
-    requires { SomeData drafts.now sentence }
-    ensures { (c : DataView) → SpellsData drafts.now sentence c → Answers (λ x. x) result (unless (data_fault c) c) }
+    requires { SomeData drafts.old sentence }
+    ensures { (c : DataView) → SpellsData drafts.old sentence c → Answers (λ x. x) result (unless (data_fault c) c) }
 {
     match sentence {
-        DataSentence::Set(value) => set(alloc, &drafts.first, value),
+        DataSentence::Set => set(alloc, &drafts.first, &mut drafts.value),
         DataSentence::Kill => kill(alloc, &drafts.first),
         DataSentence::Merge => merge(alloc, &drafts.first, &drafts.second),
         DataSentence::Data => data(alloc, &drafts.first),
-        DataSentence::Get(default) => get(alloc, &drafts.first, default),
+        DataSentence::Get => get(alloc, &drafts.first),
+        DataSentence::GetOr => get_or(alloc, &drafts.first, &mut drafts.value),
         DataSentence::Order(direction) => order(alloc, &drafts.first, direction),
         DataSentence::Query(direction) => query(alloc, &drafts.first, direction),
     }
@@ -154,7 +152,7 @@ fn command_of(word: AloneWord) -> Command
     }
 }
 
-// The command, or its first fault from left to right. Lock names are taken out of the drafts.
+// The command, or its first fault from left to right. Lock names and a value are taken out of the drafts.
 pub(crate) fn finish(
     alloc: Global,
     sentence: Sentence,

@@ -1,7 +1,9 @@
 //! Commands as they are spelled, whatever faults their references and values have.
 ghost use Rattle.std.specs.Prelude.{◌≡◌};
 ghost use Rattle.collation.specs.Reference.{Reference};
+ghost use Rattle.key_codec.specs.declared.draft.KeyDraft.{KeyDraft as KeyDraftView};
 ghost use Rattle.m_text.specs.Drafts.{DraftsSpelled};
+ghost use Rattle.m_text.specs.Literal.{literal_at};
 ghost use Rattle.m_text.specs.Reading.{GivesUnlessMemory, GivesExactly, after_byte as after_of};
 ghost use Rattle.script.specs.Commands as commands;
 ghost use Rattle.script.specs.Sentence.{Finds, FindsData, Tells};
@@ -16,12 +18,13 @@ use m_text::{after, read_draft, read_literal, split_letters};
 use refusal::Refusal;
 use std::alloc::Global;
 
-/// The references and lock names of a line while it is read, in buffers that serve for the next line too.
+/// The references, the lock names and the value of a line while it is read, in buffers that serve for the next line too.
 #[derive(Debug, Drop)]
 pub struct Drafts {
     pub(crate) first: KeyDraft,
     pub(crate) second: KeyDraft,
     pub(crate) names: Names,
+    pub(crate) value: Text,
 }
 
 impl Drafts {
@@ -31,23 +34,26 @@ impl Drafts {
             first: KeyDraft::new(alloc),
             second: KeyDraft::new(alloc),
             names: Names::new(alloc),
+            value: Text::new(alloc),
         }
     }
 }
 
-// A data command without its references: the first draft has one, and that of MERGE's source is in the second.
-#[derive(Debug, Drop)]
+// A data command without what stands in the drafts: its reference in the first, that of MERGE's source in the second, and
+// beside them SET's value, or the default of a $GET that has one.
+#[derive(Clone, Copy, Debug)]
 pub(crate) enum DataSentence {
-    Set(Text),
+    Set,
     Kill,
     Merge,
     Data,
-    Get(Option<Text>),
+    Get,
+    GetOr,
     Order(Direction),
     Query(Direction),
 }
 
-// A command without its references and lock names, which stand in the drafts.
+// A command without its references, lock names and value, which stand in the drafts.
 #[derive(Debug, Drop)]
 pub(crate) enum Sentence {
     Access(DataSentence),
@@ -68,12 +74,21 @@ fn past(byte: u8, text: &[u8]) -> Result<&[u8], Refusal>
     }
 }
 
+// A literal, whose bytes are the value that is kept.
+fn read_text<'a>(alloc: Global, text: &'a [u8], value: &mut Text) -> Result<&'a [u8], Refusal>
+    ensures { GivesUnlessMemory (λ rest. (value.new, rest.now)) result (literal_at text.now) }
+{
+    let (literal, rest) = read_literal(alloc, text)?;
+    *value = literal;
+    Ok(rest)
+}
+
 #[tactic(auto, unfolding(crate::specs::Commands::set_value_at))]
-fn read_value(alloc: Global, text: &[u8]) -> Result<(Text, &[u8]), Refusal>
-    ensures { GivesUnlessMemory (λ x. (x.0, x.1.now)) result (commands.set_value_at text.now) }
+fn read_value<'a>(alloc: Global, text: &'a [u8], value: &mut Text) -> Result<&'a [u8], Refusal>
+    ensures { GivesUnlessMemory (λ rest. (value.new, rest.now)) result (commands.set_value_at text.now) }
 {
     let rest = past(b'=', text)?;
-    read_literal(alloc, rest)
+    read_text(alloc, rest, value)
 }
 
 #[tactic(auto, unfolding(crate::specs::Commands::source_at))]
@@ -84,16 +99,21 @@ fn read_source<'a>(alloc: Global, text: &'a [u8], draft: &mut KeyDraft) -> Resul
     read_draft(alloc, rest, draft)
 }
 
+// What a $GET has after its reference: a default, which is the value that is kept, or none.
 #[tactic(auto, unfolding(crate::specs::Commands::default_at))]
-fn read_default(alloc: Global, text: &[u8]) -> Result<(Option<Text>, &[u8]), Refusal>
-    ensures { GivesUnlessMemory (λ x. (x.0, x.1.now)) result (commands.default_at text.now) }
+fn read_default<'a>(
+    alloc: Global,
+    text: &'a [u8],
+    value: &mut Text,
+) -> Result<(DataSentence, &'a [u8]), Refusal>
+    ensures { (second : KeyDraftView) (r : Reference) → Tells second value.new r result (commands.tail_at DataWord.Get r text.now) }
 {
     match after(b',', text) {
-        Some(literal) => {
-            let (default, rest) = read_literal(alloc, literal)?;
-            Ok((Some(default), rest))
-        }
-        None => Ok((None, text)),
+        Some(literal) => match read_text(alloc, literal, value) {
+            Ok(rest) => Ok((DataSentence::GetOr, rest)),
+            Err(refusal) => Err(refusal),
+        },
+        None => Ok((DataSentence::Get, text)),
     }
 }
 
@@ -131,12 +151,13 @@ fn read_tail<'a>(
     word: DataWord,
     text: &'a [u8],
     source: &mut KeyDraft,
+    value: &mut Text,
 ) -> Result<(DataSentence, &'a [u8]), Refusal>
-    ensures { (r : Reference) → Tells source.new r result (commands.tail_at word r text.now) }
+    ensures { (r : Reference) → Tells source.new value.new r result (commands.tail_at word r text.now) }
 {
     match word {
-        DataWord::Set => match read_value(alloc, text) {
-            Ok((value, rest)) => Ok((DataSentence::Set(value), rest)),
+        DataWord::Set => match read_value(alloc, text, value) {
+            Ok(rest) => Ok((DataSentence::Set, rest)),
             Err(refusal) => Err(refusal),
         },
         DataWord::Kill => Ok((DataSentence::Kill, text)),
@@ -145,10 +166,7 @@ fn read_tail<'a>(
             Err(refusal) => Err(refusal),
         },
         DataWord::Data => Ok((DataSentence::Data, text)),
-        DataWord::Get => match read_default(alloc, text) {
-            Ok((default, rest)) => Ok((DataSentence::Get(default), rest)),
-            Err(refusal) => Err(refusal),
-        },
+        DataWord::Get => read_default(alloc, text, value),
         DataWord::Order => match read_direction(alloc, text) {
             Ok((direction, rest)) => Ok((DataSentence::Order(direction), rest)),
             Err(refusal) => Err(refusal),
@@ -171,7 +189,7 @@ fn read_operands<'a>(
     ensures { FindsData drafts.new result (commands.operands_at word text.now) }
 {
     match read_draft(alloc, text, &mut drafts.first) {
-        Ok(rest) => read_tail(alloc, word, rest, &mut drafts.second),
+        Ok(rest) => read_tail(alloc, word, rest, &mut drafts.second, &mut drafts.value),
         Err(refusal) => Err(refusal),
     }
 }

@@ -99,41 +99,62 @@ fn is_named(word: Word, letters: &[u8]) -> bool
     is_either(short, long, letters)
 }
 
+// The first of a table's words that letters name.
 fn named_by(letters: &[u8], table: &[Word]) -> Option<Word>
     ensures { result ≡ find (λ w. words.is_named w letters.now) table.now }
 {
     table.iter().copied().find(|word| is_named(*word, letters))
 }
 
-// The act that letters name.
+// The act on a transaction that letters name: one of those whose second letter is theirs.
+fn transaction_act_of(letters: &[u8]) -> Option<Word>
+    ensures { result ≡ find (λ w. words.is_named w letters.now) (Word.Alone AloneWord.Start ∷ Word.Alone AloneWord.Commit ∷ Word.Alone AloneWord.Rollback ∷ Word.Alone AloneWord.Restart ∷ []) }
+{
+    match letters.get(1)?.to_ascii_uppercase() {
+        b'S' => named_by(letters, &[Word::Alone(AloneWord::Start)]),
+        b'C' => named_by(letters, &[Word::Alone(AloneWord::Commit)]),
+        b'R' => named_by(
+            letters,
+            &[
+                Word::Alone(AloneWord::Rollback),
+                Word::Alone(AloneWord::Restart),
+            ],
+        ),
+        _ => None,
+    }
+}
+
+// The act that letters name: one of those that begin as they do.
 pub(crate) fn act_of(letters: &[u8]) -> Option<Word>
     ensures { result ≡ words.act_of letters.now }
 {
-    let table = [
-        Word::Access(DataWord::Set),
-        Word::Access(DataWord::Kill),
-        Word::Access(DataWord::Merge),
-        Word::Lock,
-        Word::Alone(AloneWord::Start),
-        Word::Alone(AloneWord::Commit),
-        Word::Alone(AloneWord::Rollback),
-        Word::Alone(AloneWord::Restart),
-        Word::Alone(AloneWord::Halt),
-    ];
-    named_by(letters, &table)
+    match letters.first()?.to_ascii_uppercase() {
+        b'S' => named_by(letters, &[Word::Access(DataWord::Set)]),
+        b'K' => named_by(letters, &[Word::Access(DataWord::Kill)]),
+        b'M' => named_by(letters, &[Word::Access(DataWord::Merge)]),
+        b'L' => named_by(letters, &[Word::Lock]),
+        b'T' => transaction_act_of(letters),
+        b'H' => named_by(letters, &[Word::Alone(AloneWord::Halt)]),
+        _ => None,
+    }
 }
 
-// The function that letters name, after its `$`.
+// The function that letters name, after its `$`: one of those that begin as they do.
 pub(crate) fn function_of(letters: &[u8]) -> Option<Word>
     ensures { result ≡ words.function_of letters.now }
 {
-    let table = [
-        Word::Access(DataWord::Data),
-        Word::Access(DataWord::Get),
-        Word::Access(DataWord::Order),
-        Word::Access(DataWord::Query),
-        Word::Alone(AloneWord::Level),
-        Word::Alone(AloneWord::Restarts),
-    ];
-    named_by(letters, &table)
+    match letters.first()?.to_ascii_uppercase() {
+        b'D' => named_by(letters, &[Word::Access(DataWord::Data)]),
+        b'G' => named_by(letters, &[Word::Access(DataWord::Get)]),
+        b'O' => named_by(letters, &[Word::Access(DataWord::Order)]),
+        b'Q' => named_by(letters, &[Word::Access(DataWord::Query)]),
+        b'T' => named_by(
+            letters,
+            &[
+                Word::Alone(AloneWord::Level),
+                Word::Alone(AloneWord::Restarts),
+            ],
+        ),
+        _ => None,
+    }
 }

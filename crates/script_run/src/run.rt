@@ -20,7 +20,7 @@ use std::alloc::{AllocError, Global};
 use std::io::{Read, Write};
 
 // How many bytes are asked for at a time.
-const PIECE_BYTES: usize = 8192;
+const PIECE_BYTES: usize = 65536;
 
 // The buffer of replies and of the listing. Text is written once 16,384 bytes are gathered, and the longest line comes
 // to some 239,000: a value of 32,767 bytes and 31 subscripts of 127, at six and a half bytes for each.
