@@ -1,13 +1,13 @@
 //! Lines.
-ghost use Rattle.std.specs.Prelude.{◌≡◌, ℕ, List, Some, None, if◌then◌else◌};
+ghost use Rattle.std.specs.Prelude.{◌≡◌, ℕ, List, Some, None, OnErr, if◌then◌else◌};
 ghost use Rattle.m_text.specs.Literal.{front_digits, past_digits, number_from};
-ghost use Rattle.script.specs.Sentence.{FindsAll};
+ghost use Rattle.script.specs.Sentence.{FindsAll, HasNoValue};
 ghost use Rattle.script.specs.Line.{IsReading, IsRefusalOf, is_job, ends_digits as ends_digits_spec, spelled_by, reading_of, job_of_line};
 
 use crate::blank::{begins_blank, past_blank, skip_blank};
 use crate::finish::finish;
 use crate::sentence::{Drafts, Sentence, read_sentence};
-use collation::{Job, MOST_JOBS};
+use collation::{Job, MOST_JOBS, Text};
 use command::Command;
 use m_text::{number_up_to, split_digits};
 use refusal::Refusal;
@@ -71,9 +71,19 @@ fn read_spelled(
     }
 }
 
+// The fault of a line, which leaves no value in the drafts: it may be long.
+fn refuse(alloc: Global, drafts: &mut Drafts, refusal: Refusal, job: Option<Job>) -> LineFault
+    ensures fault { result ≡ record { refusal = refusal; job = job } }
+    ensures value { HasNoValue drafts.new }
+{
+    drafts.value = Text::new(alloc);
+    LineFault { refusal, job }
+}
+
 /// The job and the command of a line, which comes without its end.
 ///
-/// The drafts may be those of other lines: what a line leaves in them serves none. A LOCK's timeout isn't told.
+/// The drafts may be those of other lines: what a line leaves in them serves none, and a refused one leaves no value. A
+/// LOCK's timeout isn't told.
 /// Refusals, in this order: `BadLine` where the line isn't of the grammar; `BadJob` where its job isn't 1 to 4,096; then
 /// the first fault of the command's references, lock names and values from left to right: `BadName`,
 /// `TooManySubscripts`, `EmptySubscript`, `SubscriptTooLong`, `ValueTooLong`. And `OutOfMemory`, which may hide another.
@@ -84,23 +94,20 @@ pub fn read_line(
     line: &[u8],
     drafts: &mut Drafts,
 ) -> Result<(Job, Command), LineFault>
-    ensures { IsReading line.now result }
+    ensures reading { IsReading line.now result }
+    ensures value { OnErr result (HasNoValue drafts.new) }
 {
     let (digits, rest) = split_digits(line);
     let job = printed_job(digits, rest);
     let sentence = match read_spelled(alloc, digits, rest, drafts) {
         Ok(sentence) => sentence,
-        Err(refusal) => return Err(LineFault { refusal, job }),
+        Err(refusal) => return Err(refuse(alloc, drafts, refusal, job)),
     };
     let Some(number) = job else {
-        drop(sentence);
-        return Err(LineFault {
-            refusal: Refusal::BadJob,
-            job,
-        });
+        return Err(refuse(alloc, drafts, Refusal::BadJob, job));
     };
     match finish(alloc, sentence, drafts) {
         Ok(command) => Ok((number, command)),
-        Err(refusal) => Err(LineFault { refusal, job }),
+        Err(refusal) => Err(refuse(alloc, drafts, refusal, job)),
     }
 }

@@ -54,7 +54,7 @@ pub(crate) enum DataSentence {
 }
 
 // A command without its references, lock names and value, which stand in the drafts.
-#[derive(Debug, Drop)]
+#[derive(Clone, Copy, Debug)]
 pub(crate) enum Sentence {
     Access(DataSentence),
     // LOCK without names.
