@@ -24,6 +24,20 @@ def compile_plain(folder):
     return programs
 
 
+def check_bytes(name, programs, path, folder):
+    """All programs write the same, with the listing."""
+    outputs = []
+    for label, program in programs:
+        output = os.path.join(folder, label)
+        with open(output, "wb") as out:
+            subprocess.run([program, path], stdout=out, check=True)
+        outputs.append(output)
+    for output in outputs[1:]:
+        if subprocess.run(["cmp", "-s", outputs[0], output]).returncode != 0:
+            raise SystemExit(f"the outputs differ: {name}")
+    return outputs[0]
+
+
 def timed(command, output, **options):
     """Processor seconds of one run, and its peak of memory in MB, which GNU time asks of its own small child."""
     memory = output + ".memory" if output != os.devnull else None
