@@ -65,3 +65,8 @@ impl<T> Cell<T> {
         unsafe { &(*self.ptr).value }
     }
 }
+
+// Of what it owns, the value alone could name a thread.
+unsafe impl<T: Send> Send for Cell<T> {}
+
+unsafe impl<T: Sync> Sync for Cell<T> {}

@@ -47,3 +47,8 @@ impl<T> Free<T> {
         (Room { ptr: head }, Free { head: next })
     }
 }
+
+// It owns no value. A `&` to it holds a share of what it owns.
+unsafe impl<T> Send for Free<T> {}
+
+unsafe impl<T> Sync for Free<T> {}

@@ -129,3 +129,13 @@ impl<T> Stock<T> {
         Stock { by }
     }
 }
+
+// It owns the right to give the page back, which is the allocator's to send; a `&` to it holds a share of that.
+unsafe impl<T, A: Allocator + Send> Send for Lease<T, A> {}
+
+unsafe impl<T, A: Allocator + Send> Sync for Lease<T, A> {}
+
+// It owns no value.
+unsafe impl<T> Send for Stock<T> {}
+
+unsafe impl<T> Sync for Stock<T> {}

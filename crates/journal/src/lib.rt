@@ -30,6 +30,7 @@ pub use list::{Journal, Receipt};
 pub use unit::{Exchange, Exchanges, Unit};
 pub use units::Units;
 
+mod before;
 mod exchanges;
 mod laws;
 mod list;

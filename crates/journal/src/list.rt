@@ -7,6 +7,7 @@ ghost use Rattle.journal.specs.Format.{unit_bytes};
 ghost use Rattle.journal.specs.Kept.{job_of, HasNoRoom};
 ghost use Rattle.journal.specs.Stored.{Each, FitsUnit};
 
+use crate::before::Before;
 use crate::exchanges::ExchangeLog;
 use crate::log::Log;
 use crate::{Unit, Units};
@@ -15,7 +16,6 @@ use command::{Answer, DataCommand};
 use refusal::Refusal;
 use std::alloc::{AllocError, Global};
 use std::marker::Model;
-use std::snapshot::Snapshot;
 
 /// The units so far, as bytes, and behind them one that is prepared or none. It only grows.
 #[derive(Debug, Drop)]
@@ -40,7 +40,7 @@ impl Model for Journal {
 pub struct Receipt {
     job: Job,
     number: u64,
-    before: Snapshot<Journal>,
+    before: Before<Journal>,
 }
 
 impl Model for Receipt {
@@ -217,7 +217,7 @@ impl Journal {
         let Some(job) = self.prepared else {
             unreachable!()
         };
-        let before = Snapshot::of(&*self);
+        let before = Before::of(&*self);
         self.log.push();
         self.prepared = None;
         Receipt {
