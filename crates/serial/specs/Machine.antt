@@ -1,5 +1,5 @@
 -- The machine: what each step of a job is replied, and what it leaves. Source: docs/RULES.md, "Transactions", "Locks", "Refusals".
-use Rattle.std.specs.Prelude.{◌≡◌, ◌⊎◌, ⊤, ℕ, ◌+◌, ◌-◌, ◌^◌, min, nat_lt, Bool, List, [], ◌∷◌, length, take, drop, Option, None, Some, if◌then◌else◌}
+use Rattle.std.specs.Prelude.{◌≡◌, ◌⊎◌, ⊤, ℕ, ◌+◌, ◌-◌, ◌^◌, min, nat_lt, Bool, true, false, not, List, [], ◌∷◌, length, take, drop, Option, None, Some, if◌then◌else◌}
 use Rattle.refusal.specs.declared.Refusal.{Refusal}
 use Rattle.refusal.specs.declared.Refusal.TheVariants.{NoTransaction, LevelTooDeep, TransactionTooLong, StampsUsedUp, OutOfMemory}
 use Rattle.collation.specs.Limits.{most_commands, most_levels}
@@ -12,6 +12,7 @@ use Rattle.command.specs.declared.request.Command.TheVariants.{Access, Lock, Sta
 use Rattle.command.specs.declared.request.Reply.{Reply}
 use Rattle.command.specs.declared.request.Reply.TheVariants.{Answered, Finished, Had, Count, AtLevel, Committed, Restarted, Refused}
 use Rattle.command.specs.Data.{data_refusal, data_reply}
+use Rattle.globals.specs.Answering.{early_refusal}
 use Rattle.collation.specs.Locks.{LockState, lock_refusal, lock_reply}
 use Rattle.journal.specs.declared.unit.Unit.{Unit as JournalUnit}
 use Rattle.journal.specs.History.{State, initial, after, all_after}
@@ -121,9 +122,47 @@ replies_of (step ∷ steps) s = reply_of step.0 step.1 s ∷ replies_of steps (s
 
 -- ---- replies where memory may be refused
 
--- the step has the machine's reply, or the reply that memory was wanting, which leaves all as it was
+-- the refusal that is looked at before anything takes memory
+abbrev pub early_of : Command → Option Transaction → Option Refusal
+early_of (Access command) None = early_refusal command
+early_of (Access command) (Some t) = if nat_lt (length t.exchanges) most_commands then early_refusal command else Some TransactionTooLong
+early_of (Lock command) t = None
+early_of Start None = None
+early_of Start (Some t) = if nat_lt t.level most_levels then None else Some LevelTooDeep
+early_of Commit None = Some NoTransaction
+early_of Commit (Some t) = None
+early_of Rollback None = Some NoTransaction
+early_of Rollback (Some t) = None
+early_of Restart None = Some NoTransaction
+early_of Restart (Some t) = None
+early_of Level t = None
+early_of Restarts t = None
+early_of Halt t = None
+
+-- the command takes no memory: what only looks, a level within a transaction, and what undoes one that took no LOCK, or finds none
+abbrev pub takes_none : Command → Option Transaction → Bool
+takes_none (Access command) t = false
+takes_none (Lock command) t = false
+takes_none Start None = false
+takes_none Start (Some t) = true
+takes_none Commit None = true
+takes_none Commit (Some t) = nat_lt 1 t.level
+takes_none Rollback None = true
+takes_none Rollback (Some t) = not t.took_lock
+takes_none Restart None = true
+takes_none Restart (Some t) = not t.took_lock
+takes_none Level t = true
+takes_none Restarts t = true
+takes_none Halt t = false
+
+-- memory may be wanting: the command takes some, and no rule refuses it before
+pub record MayWantMemory (command : Command) (t : Option Transaction) : Type 0 where
+  pub late : early_of command t ≡ None
+  pub takes : takes_none command t ≡ false
+
+-- the step has the machine's reply, or the reply that memory was wanting where it may be, which leaves all as it was
 abbrev pub IsReply : ℕ → Command → Reply → Machine → Type 0
-IsReply job command reply s = (reply ≡ reply_of job command s) ⊎ (reply ≡ Refused OutOfMemory)
+IsReply job command reply s = (reply ≡ reply_of job command s) ⊎ ((reply ≡ Refused OutOfMemory) × MayWantMemory command (transaction_of job s))
 
 -- each step has such a reply at its place
 abbrev pub AreReplies : List (ℕ × Command) → List Reply → Machine → Type 0

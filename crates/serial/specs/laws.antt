@@ -6,6 +6,7 @@ pub mod Good
 pub mod Overtaken
 pub mod ReadRanges
 pub mod Rereading
+pub mod Replies
 pub mod Runs
 pub mod Standing
 pub mod Touches

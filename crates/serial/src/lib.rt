@@ -29,7 +29,8 @@ pub use locks::{
     blocked_where_another_job_holds, counts_are_told_by_resource, jobs_hold_nothing_in_common,
 };
 pub use runs::{
-    answers_stand_in_the_journal, backed_transactions_leave_no_trace, runs_are_legal,
+    answers_stand_in_the_journal, backed_transactions_leave_no_trace,
+    memory_is_wanting_only_where_it_is_taken, runs_are_legal,
     runs_are_their_stories, steps_without_memory_leave_nothing, stories_are_legal,
 };
 

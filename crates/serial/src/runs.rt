@@ -1,10 +1,11 @@
 //! The laws of runs: what steps and their replies tell is legal.
-ghost use Rattle.std.specs.Prelude.{◌≡◌, ℕ, List, Some, length};
+ghost use Rattle.std.specs.Prelude.{◌≡◌, ◌<◌, ◌^◌, ℕ, List, Some, true, length};
+ghost use Rattle.refusal.specs.declared.Refusal.{Refusal};
 ghost use Rattle.command.specs.declared.request.Command.{Command};
 ghost use Rattle.command.specs.declared.request.Reply.{Reply};
 ghost use Rattle.journal.specs.History.{initial, IsLegal};
 ghost use Rattle.journal.specs.Story.{Transaction, Machine, nothing_done, transaction_of, story_of};
-ghost use Rattle.serial.specs.Machine.{run_of, replies_of, AreReplies};
+ghost use Rattle.serial.specs.Machine.{run_of, replies_of, reply_of, early_of, takes_none, IsReply, AreReplies};
 ghost use Rattle.serial.specs.Memory.{steps_done, replies_done};
 ghost use Rattle.serial.specs.Soundness.{IsSound};
 ghost use Rattle.serial.specs.Standing.{LoneCommandsStand, LocksStand, CommittedTransactionsStandWhole};
@@ -46,6 +47,15 @@ pub fn steps_without_memory_leave_nothing()
         → story_of steps replies s ≡ run_of (steps_done steps replies) s }
     ensures replies { (steps : List (ℕ × Command)) → (replies : List Reply) → (s : Machine) → AreReplies steps replies s
         → replies_done replies ≡ replies_of (steps_done steps replies) s }
+{}
+
+/// Want of memory hides no refusal that is looked at before memory is asked for (the law speaks of fewer than 2^64 units,
+/// and no journal has more), and what takes no memory has the machine's reply.
+pub fn memory_is_wanting_only_where_it_is_taken()
+    ensures early { (job : ℕ) → (command : Command) → (reply : Reply) → (s : Machine) → (refusal : Refusal) → IsReply job command reply s
+        → length s.units < 2 ^ 64 → early_of command (transaction_of job s) ≡ Some refusal → reply ≡ Reply.Refused refusal }
+    ensures sure { (job : ℕ) → (command : Command) → (reply : Reply) → (s : Machine) → IsReply job command reply s
+        → takes_none command (transaction_of job s) ≡ true → reply ≡ reply_of job command s }
 {}
 
 /// A transaction that is rolled back or restarted leaves the database as it is, and the job's locks as they were at the

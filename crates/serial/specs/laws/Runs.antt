@@ -28,7 +28,7 @@ pub record IsRunOfDone (steps : List (ℕ × Command)) (replies : List Reply) (s
 one_done : (step : ℕ × Command) (steps : List (ℕ × Command)) (reply : Reply) (replies : List Reply) (s : Machine) →
     IsReply step.0 step.1 reply s → IsRunOfDone steps replies (told step.0 step.1 reply s) → IsRunOfDone (step ∷ steps) (reply ∷ replies) s
 one_done step steps reply replies s (inr none) rest =
-    subst (λ r. IsRunOfDone steps replies (told step.0 step.1 r s) → IsRunOfDone (step ∷ steps) (r ∷ replies) s) (sym none) (λ h. record { story = h.story; given = h.given }) rest
+    subst (λ r. IsRunOfDone steps replies (told step.0 step.1 r s) → IsRunOfDone (step ∷ steps) (r ∷ replies) s) (sym none.0) (λ h. record { story = h.story; given = h.given }) rest
 one_done step steps reply replies s (inl is) rest = by_memory (is_out_of_memory reply) refl
   where
     unchanged : (r : Reply) → is_out_of_memory r ≡ true → told step.0 step.1 r s ≡ s
@@ -54,9 +54,9 @@ run_of_done (step ∷ steps) [] s h = absurd h
 run_of_done (step ∷ steps) (reply ∷ replies) s h = one_done step steps reply replies s h.0 (run_of_done steps replies (told step.0 step.1 reply s) h.1)
 
 -- each step keeps the machine good, memory or not
-good_reply : (step : ℕ × Command) (reply : Reply) (s : Machine) → IsReply step.0 step.1 reply s → IsGood s → IsGood (told step.0 step.1 reply s)
+pub good_reply : (step : ℕ × Command) (reply : Reply) (s : Machine) → IsReply step.0 step.1 reply s → IsGood s → IsGood (told step.0 step.1 reply s)
 good_reply step reply s (inl is) good = subst (λ r. IsGood (told step.0 step.1 r s)) (sym is) (good_step step.0 step.1 s good)
-good_reply step reply s (inr none) good = subst (λ r. IsGood (told step.0 step.1 r s)) (sym none) good
+good_reply step reply s (inr none) good = subst (λ r. IsGood (told step.0 step.1 r s)) (sym none.0) good
 
 pub good_replies : (steps : List (ℕ × Command)) (replies : List Reply) (s : Machine) → AreReplies steps replies s → IsGood s → IsGood (story_of steps replies s)
 good_replies [] [] s h good = good
