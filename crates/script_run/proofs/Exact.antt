@@ -10,7 +10,8 @@ use Rattle.script_run.specs.Output.{Answer, asked_by, told_by, IsAnswer, AreAnsw
 
 -- a reply that tells of no want of memory is the machine's
 exact_one : (asked : Result (ℕ × Command) Refusal) (reply : Reply) (s : Machine) → IsAnswer s asked reply → is_out_of_memory reply ≡ false → reply ≡ exact_reply asked s
-exact_one (Ok step) reply s (inl e) had = e
+exact_one (Ok step) reply s (inl (inl e)) had = e
+exact_one (Ok step) reply s (inl (inr e)) had = let wanting : is_out_of_memory reply ≡ true = ap is_out_of_memory e.0 in absurd cc
 exact_one (Ok step) reply s (inr e) had = let wanting : is_out_of_memory reply ≡ true = ap is_out_of_memory e in absurd cc
 exact_one (Err refusal) reply s (inl e) had = e
 exact_one (Err refusal) reply s (inr e) had = let wanting : is_out_of_memory reply ≡ true = ap is_out_of_memory e in absurd cc

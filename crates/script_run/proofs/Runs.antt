@@ -1,20 +1,18 @@
 -- Lines that were answered, one after the other.
-use Rattle.std.proofs.Common.{◌≡◌, ℕ, suc, ◌+◌, ◌-◌, ◌<◌, ◌≤◌, take, Bool, true, false, cond, ◌||◌, List, [], ◌∷◌, ◌++◌, map, length, drop, Option, Result, Ok, Err, inr, refl, sym, ap, subst, ◌∙◌, append_assoc, arith, length-drop, drop-drop}
+use Rattle.std.proofs.Common.{◌≡◌, ℕ, suc, ◌+◌, ◌-◌, ◌<◌, ◌≤◌, take, Bool, true, false, ◌||◌, List, [], ◌∷◌, ◌++◌, map, length, drop, Option, Result, Ok, Err, inl, inr, refl, sym, ap, subst, ◌∙◌, append_assoc, arith, length-drop, drop-drop}
 use Rattle.std.proofs.lemmas.List.{append-nil, map-append}
 use Rattle.std.proofs.lemmas.Grind.{flat_map-append}
 use Rattle.std.proofs.lemmas.List.Folds.{list_any-append}
 use Rattle.command.specs.declared.request.Command.{Command}
-use Rattle.command.specs.declared.request.Command.TheVariants.{Halt}
 use Rattle.command.specs.declared.request.Reply.{Reply}
-use Rattle.command.specs.declared.request.Reply.TheVariants.{Finished, Refused}
-use Rattle.journal.specs.History.{initial, IsLegal, after as after_units}
-use Rattle.journal.specs.Story.{Machine, told}
-use Rattle.journal.specs.declared.unit.Unit.TheVariants.{End}
-use Rattle.journal.specs.laws.History.{IsLegal-append}
-use Rattle.serial.specs.Machine.{run_of, step_of}
+use Rattle.journal.specs.History.{initial, after as after_units}
+use Rattle.journal.specs.Story.{Machine}
+use Rattle.serial.specs.Machine.{run_of}
+use Rattle.serial.specs.Soundness.{IsGood}
+use Rattle.serial.specs.laws.Good.{good_step, good_run}
+use Rattle.serial.specs.laws.Runs.{good_reply}
 use Rattle.script_run.specs.OpenJobs.{open_after}
 use Rattle.refusal.specs.declared.Refusal.{Refusal}
-use Rattle.refusal.specs.declared.Refusal.TheVariants.{StampsUsedUp, OutOfMemory}
 use Rattle.script.specs.Line.{job_of_line}
 use Rattle.script.specs.Text.{reply_text}
 use Rattle.std.specs.Prelude.{Some, None}
@@ -26,18 +24,23 @@ use Rattle.std.specs.Io.KnownBytes.{Appends}
 use Rattle.bstr.specs.Find.{IsFirstByte, is_byte}
 use Rattle.script_run.specs.Lines.{nonempty_line, lines_of, has_no_end}
 use Rattle.script_run.proofs.Cut.{end_of, first_line, no_end, joined_line, has_no_end-append}
-use Rattle.script_run.specs.Output.{Answer, asked_by, IsAnswer, AreAnswers, told_by, left_by, ends_session, left_open, halts_of, left_at_end, text_of, is_refused, some_refused, ending}
+use Rattle.script_run.specs.Output.{Answer, asked_by, IsAnswer, AreAnswers, told_by, left_by, exact_reply, exact_answers, ends_session, left_open, halts_of, left_at_end, text_of, is_refused, some_refused, ending}
 use Rattle.script_run.specs.Runs.{Ran, Broke, RanFront, BrokeFront, RanEnd, BrokeEnd}
 use Rattle.script_run.specs.declared.answers.Script.{Script}
 
 one-text : (line : List ℕ) (reply : Reply) (job : Option ℕ) (old : Script) (out : List ℕ) → job ≡ job_of_line line → out ≡ old.out.items ++ reply_text job reply → out ≡ old.out.items ++ text_of ((line, reply) ∷ [])
 one-text line reply job old out j t = t ∙ ap (λ (k : Option ℕ). old.out.items ++ reply_text k reply) j ∙ ap (λ (ts : List ℕ). old.out.items ++ ts) (sym (append-nil _))
 
+-- a line's answer keeps the machine good
+answered-good : (s t : Machine) (asked : Result (ℕ × Command) Refusal) (reply : Reply) → IsAnswer s asked reply → t ≡ told_by asked reply s → IsGood s → IsGood t
+answered-good s t (Ok step) reply (inl is) left good = subst IsGood (sym left) (good_reply step reply s is good)
+answered-good s t (Ok step) reply (inr memory) left good = subst IsGood (sym (left ∙ ap (λ r. told_by (Ok step) r s) memory)) good
+answered-good s t (Err refusal) reply is left good = subst IsGood (sym left) good
+
 -- one line was answered, and its reply gathered
 pub Ran-one : (line : List ℕ) (reply : Reply) (job : Option ℕ) (old new : Script) (before now : Option (List ℕ)) (out : List ℕ) → job ≡ job_of_line line → IsAnswer old.core (asked_by line) reply → new.core ≡ told_by (asked_by line) reply old.core
-    → out ≡ old.out.items ++ reply_text job reply → WritesFront before now out new.out.items → new.refused ≡ (old.refused || is_refused reply) → new.jobs ≡ open_after job (ends_session line reply) old.jobs
-    → (IsLegal old.core.units initial → IsLegal new.core.units initial) → Ran (line ∷ []) old new before now
-Ran-one line reply job old new before now out j a u t p r o l = record {
+    → out ≡ old.out.items ++ reply_text job reply → WritesFront before now out new.out.items → new.refused ≡ (old.refused || is_refused reply) → new.jobs ≡ open_after job (ends_session line reply) old.jobs → Ran (line ∷ []) old new before now
+Ran-one line reply job old new before now out j a u t p r o = record {
   answers = (line, reply) ∷ [];
   of_lines = refl;
   each = (a, tt);
@@ -45,17 +48,17 @@ Ran-one line reply job old new before now out j a u t p r o l = record {
   passes = subst (λ (ts : List ℕ). WritesFront before now ts new.out.items) (one-text line reply job old out j t) p;
   refused = r ∙ ap (λ (b : Bool). old.refused || b) (sym (or-false _));
   jobs = o ∙ ap (λ (k : Option ℕ). open_after k (ends_session line reply) old.jobs) j;
-  legal = l;
+  good = answered-good old.core new.core (asked_by line) reply a u;
 }
 
 -- a line was answered, and of its reply's text a beginning was written
 pub Broke-one : (line : List ℕ) (reply : Reply) (job : Option ℕ) (old : Script) (core : Machine) (before now : Option (List ℕ)) (out : List ℕ) → job ≡ job_of_line line → IsAnswer old.core (asked_by line) reply
-    → core ≡ told_by (asked_by line) reply old.core → out ≡ old.out.items ++ reply_text job reply → WritesBeginning before now out → (IsLegal old.core.units initial → IsLegal core.units initial) → Broke (line ∷ []) old before now
-Broke-one line reply job old core before now out j a u t w l = record {
+    → core ≡ told_by (asked_by line) reply old.core → out ≡ old.out.items ++ reply_text job reply → WritesBeginning before now out → Broke (line ∷ []) old before now
+Broke-one line reply job old core before now out j a u t w = record {
   answers = (line, reply) ∷ [];
   of_lines = refl;
   each = (a, tt);
-  legal = λ h. subst (λ (s : Machine). IsLegal s.units initial) u (l h);
+  good = answered-good old.core (told_by (asked_by line) reply old.core) (asked_by line) reply a refl;
   begun = subst (WritesBeginning before now) (one-text line reply job old out j t) w;
 }
 
@@ -73,7 +76,7 @@ Ran-none old new a u o r j = record {
   passes = subst (λ (ts : List ℕ). WritesFront a a ts new.out.items) (o ∙ sym (append-nil old.out.items)) (Passes-none a new.out.items);
   refused = r ∙ sym (or-false old.refused);
   jobs = j;
-  legal = λ h. subst (λ (s : Machine). IsLegal s.units initial) (sym u) h;
+  good = λ h. subst IsGood (sym u) h;
 }
 
 pub Ran-empty : (line : List ℕ) (old new : Script) (a : Option (List ℕ)) → length line < 1 → new.core ≡ old.core → new.out.items ≡ old.out.items → new.refused ≡ old.refused → new.jobs ≡ old.jobs → Ran (nonempty_line line) old new a a
@@ -119,7 +122,7 @@ Ran-then ls ms a b c p q r h k = record {
   refused = k.refused ∙ ap (λ (x : Bool). x || some_refused k.answers) h.refused ∙ or_assoc a.refused (some_refused h.answers) (some_refused k.answers)
       ∙ ap (λ (x : Bool). a.refused || x) (sym (list_any-append _ h.answers k.answers));
   jobs = k.jobs ∙ open-then a.jobs b.jobs h.answers k.answers h.jobs;
-  legal = λ l. k.legal (h.legal l);
+  good = λ l. k.good (h.good l);
 }
 
 -- lines were answered, and the run broke off in the next
@@ -128,7 +131,7 @@ Broke-then ls ms a b p q r h k = record {
   answers = h.answers ++ k.answers;
   of_lines = lines-then h.answers k.answers ls ms h.of_lines k.of_lines;
   each = AreAnswers-append a.core b.core h.answers k.answers h.each h.machine k.each;
-  legal = λ l. subst (λ (s : Machine). IsLegal s.units initial) (left-then a.core b.core h.answers k.answers h.machine) (k.legal (h.legal l));
+  good = λ l. subst IsGood (left-then a.core b.core h.answers k.answers h.machine) (k.good (h.good l));
   begun = subst (WritesBeginning p r) (text-then a.out.items h.answers k.answers)
       (Passes-begun p q r ((a.out.items ++ text_of h.answers) ++ text_of k.answers) (b.out.items ++ text_of k.answers) (Passes-more p q (a.out.items ++ text_of h.answers) b.out.items (text_of k.answers) h.passes) k.begun);
 }
@@ -139,43 +142,39 @@ Broke-after ls a b p q r h w = record {
   answers = h.answers;
   of_lines = h.of_lines;
   each = h.each;
-  legal = λ l. subst (λ (s : Machine). IsLegal s.units initial) h.machine (h.legal l);
+  good = λ l. subst IsGood h.machine (h.good l);
   begun = Passes-begun p q r (a.out.items ++ text_of h.answers) b.out.items h.passes w;
 }
 
--- what the lines have is refused for memory
-abbrev pub silent : List (List ℕ) → List Answer
-silent [] = []
-silent (l ∷ ls) = (l, Refused OutOfMemory) ∷ silent ls
+-- each line has the machine's reply, were there memory for all that is left
+pub exact-lines : (ls : List (List ℕ)) (s : Machine) → map (λ (x : Answer). x.0) (exact_answers ls s) ≡ ls
+exact-lines [] s = refl
+exact-lines (l ∷ ls) s = ap (λ (m : List (List ℕ)). l ∷ m) (exact-lines ls (told_by (asked_by l) (exact_reply (asked_by l) s) s))
 
-pub silent-lines : (ls : List (List ℕ)) → map (λ (x : Answer). x.0) (silent ls) ≡ ls
-silent-lines [] = refl
-silent-lines (l ∷ ls) = ap (λ (m : List (List ℕ)). l ∷ m) (silent-lines ls)
+exact-answer : (s : Machine) (r : Result (ℕ × Command) Refusal) → IsAnswer s r (exact_reply r s)
+exact-answer s (Ok step) = inl (inl refl)
+exact-answer s (Err e) = inl refl
 
-no_memory : (s : Machine) (r : Result (ℕ × Command) Refusal) → IsAnswer s r (Refused OutOfMemory)
-no_memory s (Ok step) = inr refl
-no_memory s (Err e) = inr refl
+pub exact-each : (ls : List (List ℕ)) (s : Machine) → AreAnswers s (exact_answers ls s)
+exact-each [] s = tt
+exact-each (l ∷ ls) s = (exact-answer s (asked_by l), exact-each ls (told_by (asked_by l) (exact_reply (asked_by l) s) s))
 
-pub silent-each : (s : Machine) (ls : List (List ℕ)) → AreAnswers s (silent ls)
-silent-each s [] = tt
-silent-each s (l ∷ ls) = (no_memory s (asked_by l), silent-each (told_by (asked_by l) (Refused OutOfMemory) s) ls)
+exact-told : (r : Result (ℕ × Command) Refusal) (s : Machine) → IsGood s → IsGood (told_by r (exact_reply r s) s)
+exact-told (Ok step) s good = good_step step.0 step.1 s good
+exact-told (Err e) s good = good
 
-told-nothing : (r : Result (ℕ × Command) Refusal) (s : Machine) → told_by r (Refused OutOfMemory) s ≡ s
-told-nothing (Ok step) s = refl
-told-nothing (Err e) s = refl
-
-pub silent-left : (ls : List (List ℕ)) (s : Machine) → left_by (silent ls) s ≡ s
-silent-left [] s = refl
-silent-left (l ∷ ls) s = ap (left_by (silent ls)) (told-nothing (asked_by l) s) ∙ silent-left ls s
+pub exact-good : (ls : List (List ℕ)) (s : Machine) → IsGood s → IsGood (left_by (exact_answers ls s) s)
+exact-good [] s good = good
+exact-good (l ∷ ls) s good = exact-good ls (told_by (asked_by l) (exact_reply (asked_by l) s) s) (exact-told (asked_by l) s good)
 
 -- the run broke off before these lines
 pub Broke-before : (ls : List (List ℕ)) (a : Script) (p : Option (List ℕ)) → Broke ls a p p
 Broke-before ls a p = record {
-  answers = silent ls;
-  of_lines = silent-lines ls;
-  each = silent-each a.core ls;
-  legal = λ l. subst (λ (s : Machine). IsLegal s.units initial) (sym (silent-left ls a.core)) l;
-  begun = nothing_begun p (a.out.items ++ text_of (silent ls));
+  answers = exact_answers ls a.core;
+  of_lines = exact-lines ls a.core;
+  each = exact-each ls a.core;
+  good = exact-good ls a.core;
+  begun = nothing_begun p (a.out.items ++ text_of (exact_answers ls a.core));
 }
 
 -- the run broke off before the text
@@ -197,7 +196,7 @@ RanFront-written text rest a b c p q r h w u d j o = record {
     passes = Passes-then p q r (a.out.items ++ text_of h.ran.answers) b.out.items c.out.items h.ran.passes (Passes-all q r b.out.items c.out.items w o);
     refused = d ∙ h.ran.refused;
     jobs = j ∙ h.ran.jobs;
-    legal = λ l. subst (λ (s : Machine). IsLegal s.units initial) (sym u) (h.ran.legal l);
+    good = λ l. subst IsGood (sym u) (h.ran.good l);
   };
   split = h.split;
 }
@@ -297,21 +296,12 @@ joined_broke_first begun piece line end a p q none found line-is broke = record 
 
 -- ---- the end of input
 
--- a HALT leaves legal units
-halt-legal : (job : ℕ) (s : Machine) (full : Bool) → IsLegal s.units initial → IsLegal (told job Halt (cond full (Refused StampsUsedUp) Finished) s).units initial
-halt-legal job s true l = l
-halt-legal job s false l = IsLegal-append s.units (End job ∷ []) initial l (tt, tt)
-
-pub halts-legal : (jobs : List ℕ) (s : Machine) → IsLegal s.units initial → IsLegal (run_of (halts_of jobs) s).units initial
-halts-legal [] s l = l
-halts-legal (job ∷ jobs) s l = halts-legal jobs (step_of job Halt s) (halt-legal job s _ l)
-
 -- the open jobs were halted after the last line
 pub halted : (ls : List (List ℕ)) (a b : Script) (core : Machine) (p q : Option (List ℕ)) (h : Ran ls a b p q) → core ≡ run_of (halts_of b.jobs) b.core → core ≡ left_at_end h.answers a.jobs a.core
 halted ls a b core p q h e = e ∙ (λ i. run_of (halts_of (h.jobs i)) (h.machine i))
 
-halted-legal : (ls : List (List ℕ)) (a b : Script) (p q : Option (List ℕ)) (h : Ran ls a b p q) → IsLegal a.core.units initial → IsLegal (left_at_end h.answers a.jobs a.core).units initial
-halted-legal ls a b p q h l = halts-legal (left_open h.answers a.jobs) (left_by h.answers a.core) (subst (λ (s : Machine). IsLegal s.units initial) h.machine (h.legal l))
+halted-good : (ls : List (List ℕ)) (a b : Script) (p q : Option (List ℕ)) (h : Ran ls a b p q) → IsGood a.core → IsGood (left_at_end h.answers a.jobs a.core)
+halted-good ls a b p q h l = good_run (halts_of (left_open h.answers a.jobs)) (left_by h.answers a.core) (subst IsGood h.machine (h.good l))
 
 -- and then the ending was written
 pub ended : (listed : Bool) (begun : List ℕ) (a b c : Script) (core : Machine) (p q r : Option (List ℕ)) → Ran (nonempty_line begun) a b p q → core ≡ run_of (halts_of b.jobs) b.core → Appends q r (b.out.items ++ ending listed (after_units core.units initial).map)
@@ -320,7 +310,7 @@ ended listed begun a b c core p q r h e w d = record {
   answers = h.answers;
   of_lines = h.of_lines;
   each = h.each;
-  legal = halted-legal (nonempty_line begun) a b p q h;
+  good = halted-good (nonempty_line begun) a b p q h;
   refused = d ∙ h.refused;
   written = subst (λ (s : Machine). Appends p r ((a.out.items ++ text_of h.answers) ++ ending listed (after_units s.units initial).map)) (halted (nonempty_line begun) a b core p q h e)
       (Passes-Appends p q r _ _ (Passes-more p q (a.out.items ++ text_of h.answers) b.out.items (ending listed (after_units core.units initial).map) h.passes) w);
@@ -333,7 +323,7 @@ broke_ending listed begun a b core p q r h e w = record {
   answers = h.answers;
   of_lines = h.of_lines;
   each = h.each;
-  legal = halted-legal (nonempty_line begun) a b p q h;
+  good = halted-good (nonempty_line begun) a b p q h;
   begun = subst (λ (s : Machine). WritesBeginning p r ((a.out.items ++ text_of h.answers) ++ ending listed (after_units s.units initial).map)) (halted (nonempty_line begun) a b core p q h e)
       (Passes-begun p q r _ _ (Passes-more p q (a.out.items ++ text_of h.answers) b.out.items (ending listed (after_units core.units initial).map) h.passes) w);
 }
@@ -344,7 +334,7 @@ broke_last listed begun a p r h = record {
   answers = h.answers;
   of_lines = h.of_lines;
   each = h.each;
-  legal = λ l. halts-legal (left_open h.answers a.jobs) (left_by h.answers a.core) (h.legal l);
+  good = λ l. good_run (halts_of (left_open h.answers a.jobs)) (left_by h.answers a.core) (h.good l);
   begun = WritesBeginning-longer p r (a.out.items ++ text_of h.answers) _ h.begun;
 }
 

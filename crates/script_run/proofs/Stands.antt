@@ -6,17 +6,19 @@ use Rattle.std.proofs.lemmas.List.Folds.{list_any-append}
 use Rattle.std.specs.Prelude.{⊤}
 use Rattle.std.specs.Io.KnownBytes.{Appends, Consumes, IsAtEnd, Keeps}
 use Rattle.journal.specs.Story.{Machine, nothing_done}
-use Rattle.journal.specs.History.{initial, after, IsLegal}
+use Rattle.journal.specs.History.{initial, after}
 use Rattle.serial.specs.Machine.{run_of}
+use Rattle.serial.specs.Soundness.{IsGood}
+use Rattle.serial.specs.laws.Good.{good_run, good_nothing}
 use Rattle.listing.specs.Bytes.{WritesBeginning, WritesFront}
 use Rattle.script_run.specs.Lines.{nonempty_line, lines_of, has_no_end}
 use Rattle.script_run.proofs.Exact.{exact_output}
-use Rattle.script_run.specs.Output.{Answer, AreAnswers, left_by, left_open, halts_of, left_at_end, text_of, some_refused, ending, IsOutput, Wrote, IsBegun, HasAnsweredLines}
+use Rattle.script_run.specs.Output.{Answer, AreAnswers, left_by, exact_answers, left_open, halts_of, left_at_end, text_of, some_refused, ending, IsOutput, Wrote, IsBegun, HasAnsweredLines}
 use Rattle.script_run.specs.Runs.{RanFront, BrokeFront, RanEnd, BrokeEnd, HasRead}
 use Rattle.script_run.specs.declared.answers.Script.{Script}
 use Rattle.listing.specs.laws.Bytes.{Appends-nothing, Appends-more, WritesBeginning-all, WritesBeginning-longer, WritesBeginning-then, Passes-Appends}
 use Rattle.script_run.specs.laws.Lines.{last_line}
-use Rattle.script_run.proofs.Runs.{AreAnswers-append, silent, silent-lines, silent-each, silent-left, left-append, left-then, open-then, halts-legal, nothing_begun}
+use Rattle.script_run.proofs.Runs.{AreAnswers-append, exact-lines, exact-each, exact-good, left-append, left-then, open-then, nothing_begun}
 
 abbrev pub lines_in : List Answer → List (List ℕ)
 lines_in answers = map (λ a. a.0) answers
@@ -33,7 +35,7 @@ pub record Stands (all left : Option (List ℕ)) (begun : List ℕ) (old new : O
   pub each : AreAnswers nothing_done answers
   pub machine : script.core ≡ left_by answers nothing_done
   pub jobs : script.jobs ≡ left_open answers []
-  pub legal : IsLegal script.core.units initial
+  pub good : IsGood script.core
   pub out : script.out.items ≡ []
   pub refused : script.refused ≡ some_refused answers
   pub written : Appends old new (text_of answers)
@@ -50,7 +52,7 @@ stands_first all old begun script u j o r b = record {
   each = tt;
   machine = u;
   jobs = j;
-  legal = subst (λ (s : Machine). IsLegal s.units initial) (sym u) tt;
+  good = subst IsGood (sym u) good_nothing;
   out = o;
   refused = r;
   written = Appends-nothing old;
@@ -94,7 +96,7 @@ stands_next all left left' old new new' begun piece rest a b h r f w o = record 
   each = AreAnswers-append nothing_done a.core h.answers f.ran.answers h.each h.machine f.ran.each;
   machine = f.ran.machine ∙ left-then nothing_done a.core h.answers f.ran.answers h.machine;
   jobs = f.ran.jobs ∙ open-then [] a.jobs h.answers f.ran.answers h.jobs;
-  legal = f.ran.legal h.legal;
+  good = f.ran.good h.good;
   out = o;
   refused = f.ran.refused ∙ ap (λ (x : Bool). x || some_refused f.ran.answers) h.refused ∙ sym (list_any-append _ h.answers f.ran.answers);
   written = written-next old new new' h.answers f.ran.answers a b h.written h.out f.ran.passes o;
@@ -108,41 +110,43 @@ pub record Goes (listed : Bool) (bytes text : List ℕ) : Type 0 where
   pub output : IsOutput listed bytes (text ++ more) refused
 
 -- a text of answers goes on to a whole output
-pub goes_on : (listed : Bool) (bytes : List ℕ) (answers : List Answer) (rest : List (List ℕ)) → lines_of bytes ≡ lines_in answers ++ rest → AreAnswers nothing_done answers → IsLegal (left_by answers nothing_done).units initial → Goes listed bytes (text_of answers)
-goes_on listed bytes answers rest e each legal =
-    let whole : List Answer = answers ++ silent rest in
-    let same : left_by whole nothing_done ≡ left_by answers nothing_done = left-append answers (silent rest) nothing_done ∙ silent-left rest (left_by answers nothing_done) in
+pub goes_on : (listed : Bool) (bytes : List ℕ) (answers : List Answer) (rest : List (List ℕ)) → lines_of bytes ≡ lines_in answers ++ rest → AreAnswers nothing_done answers → IsGood (left_by answers nothing_done) → Goes listed bytes (text_of answers)
+goes_on listed bytes answers rest e each good =
+    let left : Machine = left_by answers nothing_done in
+    let more : List Answer = exact_answers rest left in
+    let whole : List Answer = answers ++ more in
     let tail : List ℕ = ending listed (after (left_at_end whole [] nothing_done).units initial).map in
+    let ends : IsGood (left_at_end whole [] nothing_done) = good_run (halts_of (left_open whole [])) (left_by whole nothing_done) (subst IsGood (sym (left-append answers more nothing_done)) (exact-good rest left good)) in
     record {
-      more = text_of (silent rest) ++ tail;
+      more = text_of more ++ tail;
       refused = some_refused whole;
       output = record {
         answers = whole;
-        of_lines = lines-append answers (silent rest) ∙ ap (λ (l : List (List ℕ)). lines_in answers ++ l) (silent-lines rest) ∙ sym e;
-        each = AreAnswers-append nothing_done (left_by answers nothing_done) answers (silent rest) each refl (silent-each (left_by answers nothing_done) rest);
-        legal = halts-legal (left_open whole []) (left_by whole nothing_done) (subst (λ (s : Machine). IsLegal s.units initial) (sym same) legal);
-        written = sym (append_assoc (text_of answers) (text_of (silent rest)) tail) ∙ ap (λ (t : List ℕ). t ++ tail) (sym (flat_map-append _ answers (silent rest)));
+        of_lines = lines-append answers more ∙ ap (λ (l : List (List ℕ)). lines_in answers ++ l) (exact-lines rest left) ∙ sym e;
+        each = AreAnswers-append nothing_done left answers more each refl (exact-each rest left);
+        legal = ends.legal;
+        written = sym (append_assoc (text_of answers) (text_of more) tail) ∙ ap (λ (t : List ℕ). t ++ tail) (sym (flat_map-append _ answers more));
         told = refl;
       };
     }
 
 -- ---- what was written
 
-begun_of : (listed : Bool) (all left old new : Option (List ℕ)) (answers : List Answer) (begun : List ℕ) → Follows all left (lines_in answers) begun → AreAnswers nothing_done answers → IsLegal (left_by answers nothing_done).units initial
+begun_of : (listed : Bool) (all left old new : Option (List ℕ)) (answers : List Answer) (begun : List ℕ) → Follows all left (lines_in answers) begun → AreAnswers nothing_done answers → IsGood (left_by answers nothing_done)
     → WritesBeginning old new (text_of answers) → IfSome all (λ bytes. IsBegun listed bytes old new)
-begun_of listed None left old new answers begun f each legal w = tt
-begun_of listed (Some bytes) None old new answers begun f each legal w = absurd f
-begun_of listed (Some bytes) (Some more) old new answers begun f each legal w =
-    let g = goes_on listed bytes answers (lines_of (begun ++ more)) f each legal in
+begun_of listed None left old new answers begun f each good w = tt
+begun_of listed (Some bytes) None old new answers begun f each good w = absurd f
+begun_of listed (Some bytes) (Some more) old new answers begun f each good w =
+    let g = goes_on listed bytes answers (lines_of (begun ++ more)) f each good in
     record { text = text_of answers ++ g.more; refused = g.refused; output = g.output; written = WritesBeginning-longer old new (text_of answers) g.more w }
 
 -- nothing was done yet
 pub begun_first : (listed : Bool) (all old : Option (List ℕ)) → IfSome all (λ bytes. IsBegun listed bytes old old)
-begun_first listed all old = begun_of listed all all old old [] [] (Follows-start all) tt tt (nothing_begun old [])
+begun_first listed all old = begun_of listed all all old old [] [] (Follows-start all) tt good_nothing (nothing_begun old [])
 
 -- nothing was written since
 pub begun_at : (listed : Bool) (all left old new : Option (List ℕ)) (begun : List ℕ) (s : Script) → Stands all left begun old new s → IfSome all (λ bytes. IsBegun listed bytes old new)
-begun_at listed all left old new begun s h = begun_of listed all left old new h.answers begun h.split h.each (subst (λ (s : Machine). IsLegal s.units initial) h.machine h.legal) (WritesBeginning-all old new (text_of h.answers) h.written)
+begun_at listed all left old new begun s h = begun_of listed all left old new h.answers begun h.split h.each (subst IsGood h.machine h.good) (WritesBeginning-all old new (text_of h.answers) h.written)
 
 -- the run broke off in a piece
 pub begun_piece : (listed : Bool) (all left left' old new new' : Option (List ℕ)) (begun piece : List ℕ) (a : Script) → Stands all left begun old new a → HasRead left left' piece → BrokeFront (begun ++ piece) a new new'
@@ -151,7 +155,7 @@ begun_piece listed all left left' old new new' begun piece a h r f =
     let k = f.broke in
     begun_of listed all left' old new' (h.answers ++ k.answers) f.rest (Follows-piece all left left' begun piece f.rest h.answers k.answers f.lines h.split r.consumed k.of_lines f.split)
     (AreAnswers-append nothing_done a.core h.answers k.answers h.each h.machine k.each)
-    (subst (λ (s : Machine). IsLegal s.units initial) (left-then nothing_done a.core h.answers k.answers h.machine) (k.legal h.legal))
+    (subst IsGood (left-then nothing_done a.core h.answers k.answers h.machine) (k.good h.good))
     (subst (WritesBeginning old new') (ap (λ (t : List ℕ). text_of h.answers ++ (t ++ text_of k.answers)) h.out ∙ sym (flat_map-append _ h.answers k.answers))
     (WritesBeginning-then old new new' (text_of h.answers) (a.out.items ++ text_of k.answers) h.written k.begun))
 
@@ -164,9 +168,9 @@ at_end bytes (Some more) (Some more') ls begun piece h k p e =
 
 -- the whole output, of the answers before the end of input and of that to the last line
 whole_output : (listed : Bool) (bytes : List ℕ) (left left' old new : Option (List ℕ)) (begun piece : List ℕ) (a : Script) (last : List Answer) (h : Stands (Some bytes) left begun old new a) → HasRead left left' piece → length piece ≡ 0
-    → lines_in last ≡ nonempty_line begun → AreAnswers a.core last → (IsLegal a.core.units initial → IsLegal (left_at_end last a.jobs a.core).units initial)
+    → lines_in last ≡ nonempty_line begun → AreAnswers a.core last → (IsGood a.core → IsGood (left_at_end last a.jobs a.core))
     → IsOutput listed bytes (text_of h.answers ++ ((a.out.items ++ text_of last) ++ ending listed (after (left_at_end last a.jobs a.core).units initial).map)) (a.refused || some_refused last)
-whole_output listed bytes left left' old new begun piece a last h r none of_lines each legal =
+whole_output listed bytes left left' old new begun piece a last h r none of_lines each good =
     let whole : List Answer = h.answers ++ last in
     let left-is : left_by last a.core ≡ left_by whole nothing_done = left-then nothing_done a.core h.answers last h.machine in
     let open-is : left_open last a.jobs ≡ left_open whole [] = open-then [] a.jobs h.answers last h.jobs in
@@ -176,7 +180,7 @@ whole_output listed bytes left left' old new begun piece a last h r none of_line
       answers = whole;
       of_lines = lines-append h.answers last ∙ ap (λ (l : List (List ℕ)). lines_in h.answers ++ l) (of_lines ∙ sym (last_line begun h.whole)) ∙ sym (at_end bytes left left' (lines_in h.answers) begun piece h.split r.consumed (nil_from_length piece none) (r.ended none));
       each = AreAnswers-append nothing_done a.core h.answers last h.each h.machine each;
-      legal = subst (λ (s : Machine). IsLegal s.units initial) end-is (legal h.legal);
+      legal = (subst IsGood end-is (good h.good)).legal;
       written = ap (λ (t : List ℕ). text_of h.answers ++ ((t ++ text_of last) ++ tail)) h.out ∙ sym (append_assoc (text_of h.answers) (text_of last) tail) ∙ ap (λ (t : List ℕ). t ++ tail) (sym (flat_map-append _ h.answers last))
           ∙ ap (λ (s : Machine). text_of whole ++ ending listed (after s.units initial).map) end-is;
       told = ap (λ (x : Bool). x || some_refused last) h.refused ∙ sym (list_any-append _ h.answers last);
@@ -187,7 +191,7 @@ pub wrote_all : (listed : Bool) (all left left' old new last : Option (List ℕ)
 wrote_all listed None left left' old new last begun piece a b h r none e = tt
 wrote_all listed (Some bytes) left left' old new last begun piece a b h r none e =
     let end : List ℕ = (a.out.items ++ text_of e.answers) ++ ending listed (after (left_at_end e.answers a.jobs a.core).units initial).map in
-    let output : IsOutput listed bytes (text_of h.answers ++ end) b.refused = subst (IsOutput listed bytes (text_of h.answers ++ end)) (sym e.refused) (whole_output listed bytes left left' old new begun piece a e.answers h r none e.of_lines e.each e.legal) in
+    let output : IsOutput listed bytes (text_of h.answers ++ end) b.refused = subst (IsOutput listed bytes (text_of h.answers ++ end)) (sym e.refused) (whole_output listed bytes left left' old new begun piece a e.answers h r none e.of_lines e.each e.good) in
     record {
       text = text_of h.answers ++ end;
       output = output;
@@ -204,7 +208,7 @@ begun_end listed (Some bytes) left left' old new last begun piece a h r none e =
     record {
       text = text_of h.answers ++ end;
       refused = a.refused || some_refused e.answers;
-      output = whole_output listed bytes left left' old new begun piece a e.answers h r none e.of_lines e.each e.legal;
+      output = whole_output listed bytes left left' old new begun piece a e.answers h r none e.of_lines e.each e.good;
       written = WritesBeginning-then old new last (text_of h.answers) end h.written e.begun;
     }
 

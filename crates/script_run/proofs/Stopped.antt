@@ -10,9 +10,11 @@ use Rattle.std.specs.Io.BufRead.{strip_last}
 use Rattle.bstr.specs.Find.{IsFirstByte, is_byte}
 use Rattle.collation.specs.Database.{Database}
 use Rattle.command.specs.declared.request.Reply.{Reply}
-use Rattle.journal.specs.History.{initial, after, IsLegal}
+use Rattle.journal.specs.History.{initial, after}
 use Rattle.journal.specs.Story.{Machine, nothing_done}
 use Rattle.serial.specs.Machine.{run_of}
+use Rattle.serial.specs.Soundness.{IsGood}
+use Rattle.serial.specs.laws.Good.{good_run}
 use Rattle.listing.specs.Bytes.{WritesBeginning, WritesFront}
 use Rattle.listing.specs.declared.nodes.ListingFault.{ListingFault}
 use Rattle.listing.specs.declared.nodes.ListingFault.TheVariants.{Write as ListingWrite, Memory as ListingMemory}
@@ -26,7 +28,7 @@ use Rattle.script_run.specs.Output.{Answer, asked_by, IsAnswer, AreAnswers, told
 use Rattle.script_run.specs.Runs.{Ran, RanFront, HasRead, Stopped, StoppedFront, EndedFront, StoppedEnd, HasGathered}
 use Rattle.script_run.specs.declared.answers.Script.{Script}
 use Rattle.script_run.specs.laws.Lines.{last_line}
-use Rattle.script_run.proofs.Runs.{AreAnswers-append, left-then, open-then, next-line, joined-split, joined_first, halted, halts-legal}
+use Rattle.script_run.proofs.Runs.{AreAnswers-append, left-then, open-then, next-line, joined-split, joined_first, halted}
 use Rattle.script_run.proofs.Stands.{Stands, Follows, Follows-more, Follows-lines, lines_in, lines-append, at_end, goes_on}
 
 -- ---- faults that are passed on
@@ -62,7 +64,7 @@ Stopped-one line reply old new a h u o = record {
   of_lines = refl;
   each = (h, tt);
   machine = u;
-  legal = λ l. l;
+  good = λ l. l;
   passes = subst (λ (ts : List ℕ). WritesFront a a ts new.out.items) (o ∙ sym (append-nil old.out.items)) (Passes-none a new.out.items);
 }
 
@@ -76,7 +78,7 @@ Stopped-before ls old new a u o = record {
   of_lines = refl;
   each = tt;
   machine = u;
-  legal = λ l. l;
+  good = λ l. l;
   passes = subst (λ (ts : List ℕ). WritesFront a a ts new.out.items) (o ∙ sym (append-nil old.out.items)) (Passes-none a new.out.items);
 }
 
@@ -103,7 +105,7 @@ Stopped-then ls ms a b c p q r h k = record {
   of_lines = lines-then h.answers k.answers ls ms (lines_in k.lost ++ k.unread) h.of_lines k.of_lines;
   each = each-then a.core b.core h.answers k.answers k.lost h.each h.machine k.each;
   machine = machine-then a.core b.core c.core h.answers k.answers k.lost h.machine k.machine;
-  legal = λ l. subst (λ (s : Machine). IsLegal s.units initial) (left-then a.core b.core h.answers k.answers h.machine) (k.legal (h.legal l));
+  good = λ l. subst IsGood (left-then a.core b.core h.answers k.answers h.machine) (k.good (h.good l));
   passes = subst (λ (ts : List ℕ). WritesFront p r ts c.out.items) (text-then a.out.items h.answers k.answers)
       (Passes-then p q r ((a.out.items ++ text_of h.answers) ++ text_of k.answers) (b.out.items ++ text_of k.answers) c.out.items (Passes-more p q (a.out.items ++ text_of h.answers) b.out.items (text_of k.answers) h.passes) k.passes);
 }
@@ -175,7 +177,7 @@ stopped_last listed line a b p q h = record {
   of_lines = h.of_lines;
   each = h.each;
   machine = inr h.machine;
-  legal = h.legal;
+  good = h.good;
   front = inl refl;
   passes = subst (λ (ts : List ℕ). WritesFront p q ts b.out.items) (sym (append-nil (a.out.items ++ text_of h.answers))) h.passes;
 }
@@ -192,7 +194,7 @@ stopped_ending listed line a b c core p q r h e k = record {
   of_lines = append-nil _ ∙ h.of_lines;
   each = subst (AreAnswers a.core) (sym (append-nil h.answers)) h.each;
   machine = inl refl;
-  legal = λ l. subst (λ (s : Machine). IsLegal s.units initial) h.machine (h.legal l);
+  good = λ l. subst IsGood h.machine (h.good l);
   front = subst (λ (s : Machine). (k.behind ≡ []) ⊎ IsEndingFront listed [] (after s.units initial).map k.behind) (halted (nonempty_line line) a b core p q h e) k.front;
   passes = Passes-then p q r _ (b.out.items ++ k.behind) c.out.items (Passes-more p q (a.out.items ++ text_of h.answers) b.out.items k.behind h.passes) k.passes;
 }
@@ -216,7 +218,7 @@ gathered_known listed bytes (Some more) old new begun script h = record {
   of_lines = h.split;
   each = subst (AreAnswers nothing_done) (sym (append-nil h.answers)) h.each;
   machine = inr (h.machine ∙ ap (λ (xs : List Answer). left_by xs nothing_done) (sym (append-nil h.answers)));
-  legal = subst (λ (s : Machine). IsLegal s.units initial) h.machine h.legal;
+  good = subst IsGood h.machine h.good;
   front = inl refl;
   passes = Passes-all old new (text_of h.answers ++ []) script.out.items (subst (Appends old new) (sym (append-nil (text_of h.answers))) h.written) h.out;
 }
@@ -261,7 +263,7 @@ gathered_known_piece listed bytes left (Some more) old new last begun piece a b 
       ∙ ap (λ (l : List (List ℕ)). l ++ (lines_in k.stopped.lost ++ (k.stopped.unread ++ lines_of (k.rest ++ more)))) (sym (lines-append h.answers k.stopped.answers));
   each = each-then nothing_done a.core h.answers k.stopped.answers k.stopped.lost h.each h.machine k.stopped.each;
   machine = inr (machine-then nothing_done a.core b.core h.answers k.stopped.answers k.stopped.lost h.machine k.stopped.machine);
-  legal = subst (λ (s : Machine). IsLegal s.units initial) (left-then nothing_done a.core h.answers k.stopped.answers h.machine) (k.stopped.legal h.legal);
+  good = subst IsGood (left-then nothing_done a.core h.answers k.stopped.answers h.machine) (k.stopped.good h.good);
   front = inl refl;
   passes = passes-next old new last h.answers k.stopped.answers a.out.items [] b.out.items h.written h.out
       (subst (λ (ts : List ℕ). WritesFront new last ts b.out.items) (sym (append-nil (a.out.items ++ text_of k.stopped.answers))) k.stopped.passes);
@@ -298,7 +300,7 @@ gathered_end listed (Some bytes) left left' old new last begun piece a b h r non
       of_lines = all-lines ∙ sym (lines-then h.answers k.answers (lines_in h.answers) (nonempty_line begun) (lines_in k.lost ++ k.unread) refl k.of_lines);
       each = each-then nothing_done a.core h.answers k.answers k.lost h.each h.machine k.each;
       machine = machine-end nothing_done a.core b.core h.answers k.answers k.lost (lines_in k.lost ++ k.unread) h.machine k.machine;
-      legal = subst (λ (s : Machine). IsLegal s.units initial) left-is (k.legal h.legal);
+      good = subst IsGood left-is (k.good h.good);
       front = subst (λ (s : Machine). (k.behind ≡ []) ⊎ IsEndingFront listed (lines_in k.lost ++ k.unread) (after s.units initial).map k.behind) end-is k.front;
       passes = passes-next old new last h.answers k.answers a.out.items k.behind b.out.items h.written h.out k.passes;
     }
@@ -337,7 +339,7 @@ begun_known listed bytes script old new last h w = by_front h.front
 
     by_front : (h.behind ≡ []) ⊎ IsEndingFront listed (lines_in h.lost ++ h.unread) (after (left_at_end h.answers [] nothing_done).units initial).map h.behind → IsBegun listed bytes old last
     by_front (inl none) =
-        let g = goes_on listed bytes h.answers (lines_in h.lost ++ h.unread) h.of_lines (each-front nothing_done h.answers h.lost h.each) h.legal in
+        let g = goes_on listed bytes h.answers (lines_in h.lost ++ h.unread) h.of_lines (each-front nothing_done h.answers h.lost h.each) h.good in
         record {
           text = text_of h.answers ++ g.more;
           refused = g.refused;
@@ -358,7 +360,7 @@ begun_known listed bytes script old new last h w = by_front h.front
             answers = h.answers;
             of_lines = sym (h.of_lines ∙ ap (λ (l : List (List ℕ)). lines_in h.answers ++ l) front.none_left ∙ append-nil (lines_in h.answers));
             each = each-front nothing_done h.answers h.lost h.each;
-            legal = halts-legal (left_open h.answers []) (left_by h.answers nothing_done) h.legal;
+            legal = (good_run (halts_of (left_open h.answers [])) (left_by h.answers nothing_done) h.good).legal;
             written = append_assoc (text_of h.answers) h.behind more ∙ ap (λ (ts : List ℕ). text_of h.answers ++ ts) (sym whole);
             told = refl;
           };

@@ -2,8 +2,9 @@
 use Rattle.std.specs.Prelude.{◌≡◌, ◌≤◌, ◌⊎◌, ℕ, Bool, ◌||◌, List, [], ◌++◌, map, Option, length}
 use Rattle.std.specs.Io.KnownBytes.{Appends, Consumes, IsAtEnd}
 use Rattle.collation.specs.Database.{Database}
-use Rattle.journal.specs.History.{initial, after, IsLegal}
+use Rattle.journal.specs.History.{initial, after}
 use Rattle.journal.specs.Story.{nothing_done}
+use Rattle.serial.specs.Soundness.{IsGood}
 use Rattle.listing.specs.Bytes.{WritesBeginning, WritesFront}
 use Rattle.script_run.specs.Lines.{nonempty_line, lines_of}
 use Rattle.script_run.specs.Output.{Answer, AreAnswers, left_by, left_open, left_at_end, text_of, some_refused, ending, IsEndingFront}
@@ -18,14 +19,14 @@ pub record Ran (lines : List (List ℕ)) (old new : Script) (before now : Option
   pub passes : WritesFront before now (old.out.items ++ text_of answers) new.out.items
   pub refused : new.refused ≡ (old.refused || some_refused answers)
   pub jobs : new.jobs ≡ left_open answers old.jobs
-  pub legal : IsLegal old.core.units initial → IsLegal new.core.units initial
+  pub good : IsGood old.core → IsGood new.core
 
 -- the run broke off: the lines have answers of whose text a beginning was written
 pub record Broke (lines : List (List ℕ)) (old : Script) (before now : Option (List ℕ)) : Type 0 where
   pub answers : List Answer
   pub of_lines : map (λ a. a.0) answers ≡ lines
   pub each : AreAnswers old.core answers
-  pub legal : IsLegal old.core.units initial → IsLegal (left_by answers old.core).units initial
+  pub good : IsGood old.core → IsGood (left_by answers old.core)
   pub begun : WritesBeginning before now (old.out.items ++ text_of answers)
 
 -- lines at the front of the text were answered, up to the rest
@@ -46,7 +47,7 @@ pub record RanEnd (listed : Bool) (line : List ℕ) (old new : Script) (before n
   pub answers : List Answer
   pub of_lines : map (λ a. a.0) answers ≡ nonempty_line line
   pub each : AreAnswers old.core answers
-  pub legal : IsLegal old.core.units initial → IsLegal (left_at_end answers old.jobs old.core).units initial
+  pub good : IsGood old.core → IsGood (left_at_end answers old.jobs old.core)
   pub refused : new.refused ≡ (old.refused || some_refused answers)
   pub written : Appends before now ((old.out.items ++ text_of answers) ++ ending listed (after (left_at_end answers old.jobs old.core).units initial).map)
 
@@ -55,7 +56,7 @@ pub record BrokeEnd (listed : Bool) (line : List ℕ) (old : Script) (before now
   pub answers : List Answer
   pub of_lines : map (λ a. a.0) answers ≡ nonempty_line line
   pub each : AreAnswers old.core answers
-  pub legal : IsLegal old.core.units initial → IsLegal (left_at_end answers old.jobs old.core).units initial
+  pub good : IsGood old.core → IsGood (left_at_end answers old.jobs old.core)
   pub begun : WritesBeginning before now ((old.out.items ++ text_of answers) ++ ending listed (after (left_at_end answers old.jobs old.core).units initial).map)
 
 -- the piece was read, or there was none left
@@ -74,7 +75,7 @@ pub record Stopped (lines : List (List ℕ)) (old new : Script) (before now : Op
   pub of_lines : map (λ a. a.0) answers ++ (map (λ a. a.0) lost ++ unread) ≡ lines
   pub each : AreAnswers old.core (answers ++ lost)
   pub machine : new.core ≡ left_by (answers ++ lost) old.core
-  pub legal : IsLegal old.core.units initial → IsLegal (left_by answers old.core).units initial
+  pub good : IsGood old.core → IsGood (left_by answers old.core)
   pub passes : WritesFront before now (old.out.items ++ text_of answers) new.out.items
 
 -- so at the front of the text
@@ -100,7 +101,7 @@ pub record StoppedEnd (listed : Bool) (line : List ℕ) (old new : Script) (befo
   pub of_lines : map (λ a. a.0) answers ++ (map (λ a. a.0) lost ++ unread) ≡ nonempty_line line
   pub each : AreAnswers old.core (answers ++ lost)
   pub machine : (map (λ a. a.0) lost ++ unread ≡ []) ⊎ (new.core ≡ left_by (answers ++ lost) old.core)
-  pub legal : IsLegal old.core.units initial → IsLegal (left_by answers old.core).units initial
+  pub good : IsGood old.core → IsGood (left_by answers old.core)
   pub front : (behind ≡ []) ⊎ IsEndingFront listed (map (λ a. a.0) lost ++ unread) (after (left_at_end answers old.jobs old.core).units initial).map behind
   pub passes : WritesFront before now ((old.out.items ++ text_of answers) ++ behind) new.out.items
 
@@ -114,6 +115,6 @@ pub record HasGathered (listed : Bool) (bytes : List ℕ) (new : Script) (before
   pub of_lines : lines_of bytes ≡ map (λ a. a.0) answers ++ (map (λ a. a.0) lost ++ unread)
   pub each : AreAnswers nothing_done (answers ++ lost)
   pub machine : (map (λ a. a.0) lost ++ unread ≡ []) ⊎ (new.core ≡ left_by (answers ++ lost) nothing_done)
-  pub legal : IsLegal (left_by answers nothing_done).units initial
+  pub good : IsGood (left_by answers nothing_done)
   pub front : (behind ≡ []) ⊎ IsEndingFront listed (map (λ a. a.0) lost ++ unread) (after (left_at_end answers [] nothing_done).units initial).map behind
   pub passes : WritesFront before now (text_of answers ++ behind) new.out.items

@@ -1,7 +1,6 @@
 //! A line, its reply, and the reply's text.
 ghost use Rattle.std.specs.Prelude.{◌≡◌, ◌++◌, ◌∷◌, [], OnOk, OnErr, IsErrOf, ◌||◌, ◌&&◌, not};
 ghost use Rattle.script.specs.Line.{job_of_line};
-ghost use Rattle.journal.specs.History.{initial, IsLegal};
 ghost use Rattle.listing.specs.Bytes.{IsOneMore};
 ghost use Rattle.script_run.specs.Lines.{nonempty_line};
 ghost use Rattle.script_run.specs.Output.{asked_by, ends_session, is_halt as is_halt_command, IsAnswer, told_by, is_refused as refused_of};
@@ -61,7 +60,6 @@ fn answer_line(
     ensures ended { result.1 ≡ ends_session line.now result.2 }
     ensures answer { IsAnswer core.old (asked_by line.now) result.2 }
     ensures machine { core.new ≡ told_by (asked_by line.now) result.2 core.old }
-    ensures legal { IsLegal core.old.units initial → IsLegal core.new.units initial }
 {
     match read_line(alloc, line, drafts) {
         Ok((job, command)) => {
