@@ -1,6 +1,6 @@
 -- Room that transactions which are over leave.
-use Rattle.std.proofs.Common.{◌≡◌, ◌≤◌, ◌+◌, ℕ, [], ◌∷◌, ◌++◌, List, length, max, sym, subst, arith}
-use Rattle.std.specs.Prelude.{Option, Some, None, option_to_list}
+use Rattle.std.proofs.Common.{◌≡◌, ◌≤◌, ℕ, [], ◌∷◌, ◌++◌, List, sym, subst, arith}
+use Rattle.std.specs.Prelude.{Option, option_to_list}
 use Rattle.validate_commit.specs.Working.{Working, just_begun}
 use Rattle.job_core.specs.Sessions.{AreEmpty, IsSpare}
 

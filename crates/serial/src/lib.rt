@@ -30,8 +30,8 @@ pub use locks::{
 };
 pub use runs::{
     answers_stand_in_the_journal, backed_transactions_leave_no_trace,
-    memory_is_wanting_only_where_it_is_taken, runs_are_legal,
-    runs_are_their_stories, steps_without_memory_leave_nothing, stories_are_legal,
+    memory_is_wanting_only_where_it_is_taken, runs_are_legal, runs_are_their_stories,
+    steps_without_memory_leave_nothing, stories_are_legal,
 };
 
 mod commits;

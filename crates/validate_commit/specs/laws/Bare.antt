@@ -9,7 +9,7 @@ use Rattle.collation.specs.Reference.{Reference}
 use Rattle.collation.specs.Order.{ref_cmp}
 use Rattle.collation.specs.laws.Order.{ref_cmp_total, ref_cmp-IsAntisymmetric, is_equal}
 use Rattle.collation.specs.Changes.{Change}
-use Rattle.version_store.specs.Versions.{Versions, versions_of, is_bare, placed, all_placed, with_version, unless_bare, tidied, written_and_cut}
+use Rattle.version_store.specs.Versions.{Versions, is_bare, placed, all_placed, with_version, unless_bare, tidied, written_and_cut}
 use Rattle.version_store.specs.laws.Cutting.{get_one, other_keys}
 use Rattle.validate_commit.specs.Bare.{AddsNoneBare, LeavesNoneBare, PlacesTheChanged}
 

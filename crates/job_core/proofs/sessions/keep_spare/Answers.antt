@@ -1,4 +1,4 @@
-use Rattle.std.proofs.Common.{◌≡◌, refl, sym, ap, ◌∙◌}
+use Rattle.std.proofs.Common.{◌≡◌, sym, ap, ◌∙◌}
 use Rattle.validate_commit.specs.Working.{Working, just_begun}
 use Rattle.job_core.proofs.Spares.{spare_more}
 use Rattle.job_core.proofs.sessions.keep_spare.Goals as goal
