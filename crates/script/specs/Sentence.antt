@@ -1,5 +1,5 @@
 -- Sentences, and the commands that they say with the references and lock names of drafts.
-use Rattle.std.specs.Prelude.{◌≡◌, ℕ, List, [], Option, None, Some, Result, Ok, Err}
+use Rattle.std.specs.Prelude.{◌≡◌, ℕ, List, [], Option, None, Some, Result, Ok, Err, vec_capacity}
 use Rattle.std.specs.Borrow.{Bor}
 use Rattle.refusal.specs.declared.Refusal.{Refusal}
 use Rattle.collation.specs.Reference.{Reference, Resource}
@@ -27,6 +27,13 @@ use Rattle.script.specs.Commands.{command_of}
 -- no value is kept
 abbrev pub HasNoValue : Drafts → Type 0
 HasNoValue drafts = drafts.value ≡ []
+
+-- no lock name is kept, nor room for one
+abbrev pub HasNoRoom : Names → Type 0
+HasNoRoom names = (names.found.items ≡ []) × (vec_capacity names.found ≡ 0)
+
+abbrev pub HasNoNames : Drafts → Type 0
+HasNoNames drafts = HasNoRoom drafts.names
 
 -- the sentence says the command of r, which for MERGE has the reference of the second draft too, and for SET and a $GET with a default the value
 abbrev pub Says : KeyDraft → List ℕ → Reference → DataSentence → DataCommand → Type 0

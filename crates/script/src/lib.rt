@@ -24,7 +24,7 @@
 
 pub use expected::Expected;
 pub use laws::lines_are_read_as_spelled;
-pub use line::{LineFault, read_line};
+pub use line::{LineFault, job_of_line, read_line};
 pub use locate::{LocatedFault, locate_fault};
 pub use reply::write_reply;
 pub use sentence::Drafts;

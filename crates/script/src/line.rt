@@ -1,11 +1,12 @@
 //! Lines.
 ghost use Rattle.std.specs.Prelude.{◌≡◌, ℕ, List, Some, None, OnErr, if◌then◌else◌};
 ghost use Rattle.m_text.specs.Literal.{front_digits, past_digits, number_from};
-ghost use Rattle.script.specs.Sentence.{FindsAll, HasNoValue};
-ghost use Rattle.script.specs.Line.{IsReading, IsRefusalOf, is_job, ends_digits as ends_digits_spec, spelled_by, reading_of, job_of_line};
+ghost use Rattle.script.specs.Sentence.{FindsAll, HasNoNames, HasNoValue};
+ghost use Rattle.script.specs.Line.{IsReading, IsRefusalOf, is_job, ends_digits as ends_digits_spec, spelled_by, reading_of, job_of_line as job_of_line_spec};
 
 use crate::blank::{begins_blank, past_blank, skip_blank};
 use crate::finish::finish;
+use crate::names::Names;
 use crate::sentence::{Drafts, Sentence, read_sentence};
 use collation::{Job, MOST_JOBS, Text};
 use command::Command;
@@ -40,13 +41,22 @@ fn ends_digits(rest: &[u8]) -> bool
 // The job that is printed before a refusal, of a line that begins with these digits.
 #[tactic(auto, unfolding(crate::specs::Line::job_of_line))]
 fn printed_job(digits: &[u8], rest: &[u8]) -> Option<Job>
-    ensures { (line : List ℕ) → front_digits line ≡ digits.now → past_digits line ≡ rest.now → result ≡ job_of_line line }
+    ensures { (line : List ℕ) → front_digits line ≡ digits.now → past_digits line ≡ rest.now → result ≡ job_of_line_spec line }
 {
     if ends_digits(rest) {
         job_at(digits)
     } else {
         None
     }
+}
+
+/// The job with which a line begins, as it is printed before a refusal: none where the line doesn't begin with digits that a
+/// blank or its end follows, or their number isn't 1 to 4,096. Takes no memory.
+pub fn job_of_line(line: &[u8]) -> Option<Job>
+    ensures { result ≡ job_of_line_spec line.now }
+{
+    let (digits, rest) = split_digits(line);
+    printed_job(digits, rest)
 }
 
 // The sentence of a line that begins with these digits.
@@ -71,19 +81,21 @@ fn read_spelled(
     }
 }
 
-// The fault of a line, which leaves no value in the drafts: it may be long.
+// The fault of a line, which leaves no value and no lock names in the drafts: they may be long.
 fn refuse(alloc: Global, drafts: &mut Drafts, refusal: Refusal, job: Option<Job>) -> LineFault
     ensures fault { result ≡ record { refusal = refusal; job = job } }
     ensures value { HasNoValue drafts.new }
+    ensures names { HasNoNames drafts.new }
 {
     drafts.value = Text::new(alloc);
+    drafts.names = Names::new(alloc);
     LineFault { refusal, job }
 }
 
 /// The job and the command of a line, which comes without its end.
 ///
-/// The drafts may be those of other lines: what a line leaves in them serves none, and a refused one leaves no value. A
-/// LOCK's timeout isn't told.
+/// The drafts may be those of other lines: what a line leaves in them serves none, and a refused one leaves neither a value
+/// nor lock names. A LOCK's timeout isn't returned.
 /// Refusals, in this order: `BadLine` where the line isn't of the grammar; `BadJob` where its job isn't 1 to 4,096; then
 /// the first fault of the command's references, lock names and values from left to right: `BadName`,
 /// `TooManySubscripts`, `EmptySubscript`, `SubscriptTooLong`, `ValueTooLong`. And `OutOfMemory`, which may hide another.
@@ -96,6 +108,7 @@ pub fn read_line(
 ) -> Result<(Job, Command), LineFault>
     ensures reading { IsReading line.now result }
     ensures value { OnErr result (HasNoValue drafts.new) }
+    ensures names { OnErr result (HasNoNames drafts.new) }
 {
     let (digits, rest) = split_digits(line);
     let job = printed_job(digits, rest);

@@ -5,7 +5,7 @@ ghost use Rattle.key_codec.specs.Draft.{IsDraft, IsSpelled};
 ghost use Rattle.m_text.specs.Reading.{Answers};
 ghost use Rattle.m_text.specs.Place.{ref_fault, unless};
 ghost use Rattle.script.specs.Locking.{names_fault};
-ghost use Rattle.script.specs.Sentence.{AreNamed};
+ghost use Rattle.script.specs.Sentence.{AreNamed, HasNoRoom};
 
 use collation::{LockName, LockNames, Ref};
 use key_codec::KeyDraft;
@@ -37,7 +37,9 @@ fn reference_of(alloc: Global, draft: &KeyDraft) -> Result<Result<Ref, Refusal>,
 
 impl Names {
     // None yet. Takes no memory.
-    pub(crate) fn new(alloc: Global) -> Names {
+    pub(crate) fn new(alloc: Global) -> Names
+        ensures { HasNoRoom result }
+    {
         Names {
             found: Vec::new(alloc),
             fault: None,

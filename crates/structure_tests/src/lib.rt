@@ -9,4 +9,6 @@ mod chains;
 #[cfg(test)]
 mod locks;
 #[cfg(test)]
+mod threads;
+#[cfg(test)]
 mod tree_sequences;
