@@ -1,11 +1,22 @@
 //! The library in use: a core does the lines of two jobs, one after the other, and the replies are printed.
 #![tactic(auto)]
 
+use collation::Job;
+use command::Reply;
 use job_core::JobCore;
 use script::{Drafts, read_line, write_reply};
 use std::alloc::{AllocError, Global};
 use std::io;
 use std::io::Write;
+
+// Reads a line and does it: its job, where it names one, and the reply.
+fn reply_to(alloc: Global, core: &mut JobCore, line: &str) -> (Option<Job>, Reply) {
+    let mut drafts = Drafts::new(alloc);
+    match read_line(alloc, line.as_bytes(), &mut drafts) {
+        Ok((job, command)) => (Some(job), core.step(job, command)),
+        Err(fault) => (fault.job, Reply::Refused(fault.refusal)),
+    }
+}
 
 // Does a line on the core, and appends its reply to the text.
 fn answer(
@@ -14,22 +25,17 @@ fn answer(
     line: &str,
     text: &mut Vec<u8>,
 ) -> Result<(), AllocError> {
-    let mut drafts = Drafts::new(alloc);
-    match read_line(alloc, line.as_bytes(), &mut drafts) {
-        Ok((job, command)) => {
-            let reply = core.step(job, command);
-            let written = write_reply(Some(job), &reply, text);
-            drop(reply);
-            written
-        }
-        Err(_) => Ok(()),
-    }
+    let (job, reply) = reply_to(alloc, core, line);
+    let written = write_reply(job, &reply, text);
+    drop(reply);
+    written
 }
 
 fn answers(alloc: Global, core: &mut JobCore) -> Result<Vec<u8>, AllocError> {
     let mut text = Vec::new(alloc);
     answer(alloc, core, "1 SET ^Stock(\"apples\")=3", &mut text)?;
     answer(alloc, core, "2 $GET(^Stock(\"apples\"))", &mut text)?;
+    answer(alloc, core, "1 FOO", &mut text)?;
     Ok(text)
 }
 
