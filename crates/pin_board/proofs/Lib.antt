@@ -1,0 +1,4 @@
+pub mod SlipLemmas
+pub mod StepLemmas
+pub mod SeatLemmas
+pub mod DrawLemmas

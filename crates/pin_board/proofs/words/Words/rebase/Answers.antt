@@ -1,0 +1,6 @@
+use Rattle.std.proofs.Common.{rules, arith}
+use Rattle.pin_board.proofs.SeatLemmas.{rebases_at}
+use Rattle.pin_board.proofs.words.Words.rebase.Goals as goal
+
+pub load-requires : goal.load-requires
+load-requires c = (search rules, omega arith, rebases_at _ _ _ _ c.requires.both)

@@ -1,0 +1,30 @@
+//! A board on which sessions pin the stamps that they read at, and from which a collector draws a horizon; no lock is
+//! taken to begin or to end.
+//!
+//! Callers see what the desk knows (the journal, the greatest horizon) and what a session's seat knows (its start, the
+//! journal as it was then, the units that it wrote): `src/view.rt`. All of this is for clauses alone; at run time there
+//! are the words of one table, and small numbers.
+//!
+//! Invariants (`specs/Rule.antt`), which each atomic step keeps:
+//! (1) the clock is the number of units in the journal;
+//! (2) each session's seat alone stores its slot, which holds the stamp that it stored, or 2^64 - 1 while it is idle;
+//! (3) a session's base is the beginning of the journal that is as long as the clock that it read;
+//! (4) no horizon is above the stamp of a settled seat, nor above the floor;
+//! (5) each unit was written on one slip, at the number that it has in the journal.
+//!
+//! A session settles in three steps: it reads the clock, stores it in its slot, and loads the floor. A draw reads the
+//! clock, raises the floor to it, and loads the slots. With the clock at 7 and slots idle, 5, idle a draw gives 5. If a
+//! session then read 6 before that draw and stores it only after its slot was passed, it finds the floor at 7, and is
+//! refused.
+//!
+//! Read `specs/Views.antt`, `specs/Rule.antt`, then `board.rt`, `words.rt`, `specs/Steps.antt`, `specs/Slips.antt`.
+//! Not promised: that a session settles at last; that a call which waits for the desk returns.
+#![tactic(auto)]
+
+pub use board::{Blank, Board, BoardName, Desk, FloorAbove, Pin, SEATS, Slip, Tally};
+pub use view::{BoardRules, DeskView, PinView, SeatView};
+
+mod board;
+mod step_kinds;
+mod view;
+mod words;
