@@ -1,5 +1,5 @@
-//! A board on which sessions pin the stamps that they read at, and from which a collector draws a horizon; no lock is
-//! taken to begin or to end.
+//! A board on which sessions pin the stamps that they read at, and from which a collector draws a horizon. A session
+//! takes no lock to settle or to leave.
 //!
 //! Callers see what the desk knows (the journal, the greatest horizon) and what a session's seat knows (its start, the
 //! journal as it was then, the units that it wrote): `src/view.rt`. All of this is for clauses alone; at run time there
@@ -12,9 +12,9 @@
 //! (4) no horizon is above the stamp of a settled seat, nor above the floor;
 //! (5) each unit was written on one slip, at the number that it has in the journal.
 //!
-//! A session settles in three steps: it reads the clock, stores it in its slot, and loads the floor. A draw reads the
-//! clock, raises the floor to it, and loads the slots. With the clock at 7 and slots idle, 5, idle a draw gives 5. If a
-//! session then read 6 before that draw and stores it only after its slot was passed, it finds the floor at 7, and is
+//! A session settles in three steps: it reads the clock, stores that in its slot, and loads the floor. A draw reads the
+//! clock, raises the floor to it, and loads the slots. With the clock at 7 and the slots idle, 5, idle a draw gives 5.
+//! A session that read 6 before that draw, and stores it only after its slot was passed, finds the floor at 7 and is
 //! refused.
 //!
 //! Read `specs/Views.antt`, `specs/Rule.antt`, then `board.rt`, `words.rt`, `specs/Steps.antt`, `specs/Slips.antt`.
