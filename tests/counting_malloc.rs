@@ -1,0 +1,88 @@
+//! C's allocation, counted. Before each write to standard output it tells on standard error how many bytes are allocated
+//! apart from the largest block. To be preloaded, into a program of one thread.
+use std::ffi::c_void;
+use std::sync::atomic::{AtomicUsize, Ordering::Relaxed};
+
+extern "C" {
+    fn __libc_malloc(size: usize) -> *mut c_void;
+    fn __libc_calloc(count: usize, size: usize) -> *mut c_void;
+    fn __libc_realloc(old: *mut c_void, size: usize) -> *mut c_void;
+    fn __libc_free(old: *mut c_void);
+    fn malloc_usable_size(block: *mut c_void) -> usize;
+    fn __write(file: i32, bytes: *const u8, count: usize) -> isize;
+}
+
+/// Only blocks of at least so many bytes may be the largest.
+const LARGE: usize = 65_536;
+
+/// The bytes of all blocks, and the sizes of the large ones, 0 where a place is free.
+static LIVE: AtomicUsize = AtomicUsize::new(0);
+static SIZES: [AtomicUsize; 64] = [const { AtomicUsize::new(0) }; 64];
+
+/// A place that has this size gets another.
+fn exchange(old: usize, new: usize) {
+    let place = SIZES.iter().find(|size| size.load(Relaxed) == old);
+    place.expect("no more than 64 large blocks").store(new, Relaxed);
+}
+
+fn count(block: *mut c_void) -> *mut c_void {
+    let size = unsafe { malloc_usable_size(block) };
+    LIVE.fetch_add(size, Relaxed);
+    if size >= LARGE {
+        exchange(0, size);
+    }
+    block
+}
+
+fn uncount(block: *mut c_void) {
+    let size = unsafe { malloc_usable_size(block) };
+    LIVE.fetch_sub(size, Relaxed);
+    if size >= LARGE {
+        exchange(size, 0);
+    }
+}
+
+#[no_mangle]
+pub unsafe extern "C" fn malloc(size: usize) -> *mut c_void {
+    count(__libc_malloc(size))
+}
+
+#[no_mangle]
+pub unsafe extern "C" fn calloc(number: usize, size: usize) -> *mut c_void {
+    count(__libc_calloc(number, size))
+}
+
+#[no_mangle]
+pub unsafe extern "C" fn realloc(old: *mut c_void, size: usize) -> *mut c_void {
+    uncount(old);
+    count(__libc_realloc(old, size))
+}
+
+#[no_mangle]
+pub unsafe extern "C" fn free(block: *mut c_void) {
+    uncount(block);
+    __libc_free(block);
+}
+
+/// Tells a number, in a line of its own, without memory.
+fn tell(mut number: usize) {
+    let (mut line, mut at) = ([b'\n'; 24], 23);
+    loop {
+        at -= 1;
+        line[at] = b'0' + (number % 10) as u8;
+        number /= 10;
+        if number == 0 {
+            break;
+        }
+    }
+    unsafe { __write(2, line[at..].as_ptr(), 24 - at) };
+}
+
+#[no_mangle]
+pub unsafe extern "C" fn write(file: i32, bytes: *const u8, count: usize) -> isize {
+    if file == 1 {
+        let largest = SIZES.iter().map(|size| size.load(Relaxed)).max().unwrap_or(0);
+        tell(LIVE.load(Relaxed) - largest);
+    }
+    __write(file, bytes, count)
+}
