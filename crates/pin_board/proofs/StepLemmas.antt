@@ -491,7 +491,7 @@ module _ (seats slots id : ℕ) (d : DeskView) (p : PinView) where
             (let g = grown id p own in record { placed = g.placed; alone = g.alone; held = g.held; before = g.before; base = g.base; settled = λ e. let z = own.settled e in record { within = z.within; high = z.high; passed = z.passed } })
             grown
             (slips_written d.log d.given s.views id (pin_with_desk d p) (both_slips seats slots id d p s r at) at (pin_with_desk (logged d c) (wrote p c)) c next (omega arith) refl refl),
-        (refl, both_in_journal seats slots id d p s r at),
+        (refl, both_in_journal seats slots id d p s r at, own.placed),
       )
 
   pub rebases_kept : Allows (BoardRule seats) slots id (pin_with_desk d p, []) 0 (λ n. n) (rebases (step slots 0 0 0 none) (pin_with_desk d p, []))

@@ -1,5 +1,5 @@
 -- What each atomic step makes of the seat that does it, and what it tells.
-use Rattle.std.specs.Prelude.{◌≡◌, ℕ, ◌+◌, [], ◌++◌, length}
+use Rattle.std.specs.Prelude.{◌≡◌, ℕ, ◌+◌, ◌<◌, [], ◌++◌, length}
 use mathlib.Core.Option.{Option as Maybe, some, none}
 use Rattle.atomic_table.specs.Table.{Step}
 use Rattle.journal.specs.Kept.{Claim}
@@ -42,7 +42,7 @@ draws st m n m' = m' ≡ (desk_only (drew (desk_in m.0)), [])
 -- a session that has the desk writes this unit
 abbrev pub Writes : Maybe Claim → SeatState → SeatState → Type 0
 Writes none m m' = Unit {0}
-Writes (some c) m m' = (m' ≡ (pin_with_desk (logged (desk_in m.0) c) (wrote (pin_in m.0) c), [])) × AreInJournal (desk_in m.0).log (pin_in m.0).mine
+Writes (some c) m m' = (m' ≡ (pin_with_desk (logged (desk_in m.0) c) (wrote (pin_in m.0) c), [])) × AreInJournal (desk_in m.0).log (pin_in m.0).mine × ((pin_in m.0).place < (desk_in m.0).dealt)
 
 abbrev pub writes : Step Claim → SeatState → ℕ → SeatState → Type 0
 writes st m n m' = Writes st.said m m'

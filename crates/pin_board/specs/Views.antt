@@ -150,3 +150,7 @@ IsSlip m = m ≡ (slip_only m.0.back, [])
 
 abbrev pub IsTally : SeatState → Type 0
 IsTally m = m ≡ (tally_only (desk_in m.0) m.0.slips m.0.back, [])
+
+-- the seat of a place that no session has
+abbrev pub IsFree : ℕ → SeatView → Type 0
+IsFree place v = (v ≡ pin_only (pin_in v)) × (((pin_in v).place ≡ place) × (((pin_in v).settled ≡ false) × (((pin_in v).slips ≡ 0) × ((pin_in v).mine ≡ []))))

@@ -100,6 +100,25 @@ impl<B: BoardName> Model for Pin<B> {
     ghost invariant = { λ p. (p.seat.table_id ≡ B.table) × IsPin p.seat.me × (p.place ≡ (pin_in p.seat.me.0).place) × (p.place * 8 + 8 < B.table.words) × (p.start ≡ start_of (pin_in p.seat.me.0)) };
 }
 
+/// The seat of a job that has no session. It lies under the lock too. It is seen as its place.
+#[derive(Drop)]
+pub struct FreeSeat<B: BoardName> {
+    perch: Perch<Receipt, SeatView>,
+    place: usize,
+    of: PhantomData<B>,
+}
+
+impl<B: BoardName> Model for FreeSeat<B> {
+    ghost use Rattle.std.specs.Prelude.{◌≡◌, ◌+◌, ◌*◌, ◌<◌, ℕ};
+    ghost use Rattle.pin_board.specs.Views.{IsFree};
+
+    ghost Value = { ℕ };
+
+    ghost view = { λ s. s.place };
+
+    ghost invariant = { λ s. (s.perch.table_id ≡ B.table) × (s.place * 8 + 8 < B.table.words) × IsFree s.place s.perch.view };
+}
+
 /// What a session wrote, once it has ended. It is seen as the list of its units, with their numbers.
 #[derive(Drop)]
 pub struct Slip<B: BoardName> {
@@ -234,6 +253,48 @@ impl<B: BoardName> Pin<B> {
     {
         self.place
     }
+
+    /// Sets the seat down, once its session has ended. Takes no memory.
+    pub fn set_down(self) -> FreeSeat<B>
+        requires left { self.settled ≡ false }
+        requires ended { (self.slips ≡ 0) × (self.mine ≡ []) }
+        ensures { result ≡ self.place }
+    {
+        let Pin {
+            seat,
+            place,
+            start: _,
+            of: _,
+        } = self;
+        FreeSeat {
+            perch: perched(seat),
+            place,
+            of: PhantomData,
+        }
+    }
+}
+
+impl<B: BoardName> FreeSeat<B> {
+    /// Takes the seat up, for a session that begins. Takes no memory.
+    pub fn take_up<R: Wait>(self, rt: &R) -> Pin<B>
+        ensures place { result.place ≡ self }
+        ensures free { result.settled ≡ false }
+        ensures empty { (result.slips ≡ 0) × (result.mine ≡ []) }
+    {
+        let FreeSeat {
+            perch,
+            place,
+            of: _,
+        } = self;
+        let seat = lift(rt, &perch);
+        let start = None;
+        Pin {
+            seat,
+            place,
+            start,
+            of: PhantomData,
+        }
+    }
 }
 
 impl<B: BoardName> Board<B> {
@@ -296,6 +357,7 @@ impl<B: BoardName> Board<B> {
         ensures desk { desk.new ≡ logged desk.old receipt.now }
         ensures pin { pin.new ≡ wrote pin.old receipt.now }
         ensures in_journal { AreInJournal desk.old.log pin.old.mine }
+        ensures dealt { pin.old.place < desk.old.dealt }
     {
         let seat = lift(rt, &desk.perch);
         self.words.lend(&mut pin.seat, seat);

@@ -21,7 +21,7 @@
 //! Not promised: that a session settles at last; that a call which waits for the desk returns.
 #![tactic(auto)]
 
-pub use board::{Blank, Board, BoardName, Desk, FloorAbove, Pin, SEATS, Slip, Tally};
+pub use board::{Blank, Board, BoardName, Desk, FloorAbove, FreeSeat, Pin, SEATS, Slip, Tally};
 pub use view::{BoardRules, DeskView, PinView, SeatView};
 
 mod board;

@@ -200,6 +200,7 @@ impl Words {
         ensures same { (seat.new.table_id ≡ seat.old.table_id) × (seat.new.id ≡ seat.old.id) }
         ensures view { seat.new.me ≡ (pin_with_desk (logged (desk_in seat.old.me.0) receipt.now) (wrote (pin_in seat.old.me.0) receipt.now), []) }
         ensures in_journal { AreInJournal (desk_in seat.old.me.0).log (pin_in seat.old.me.0).mine }
+        ensures dealt { (pin_in seat.old.me.0).place < (desk_in seat.old.me.0).dealt }
     {
         let number = receipt.number();
         // Only who has the desk stores the clock, so it still holds number - 1. Others may have loaded that: a start

@@ -1,0 +1,63 @@
+-- What lies under the lock after a step.
+use Rattle.std.proofs.Common.{◌≡◌, ℕ, ◌-◌, ◌^◌, List, [], ◌∷◌, ◌++◌, length, length-append, Some, false, sym, ap, ◌∙◌, subst, arith}
+use Rattle.std.specs.Prelude.{Option, min, Result, Ok, Err, IfOk}
+use Rattle.refusal.specs.declared.Refusal.{Refusal}
+use Rattle.collector.specs.declared.turning.Progress.{Progress}
+use Rattle.journal.specs.declared.unit.Unit.{Unit as JournalUnit}
+use Rattle.journal.specs.declared.unit.Unit.TheVariants.{Whole}
+use Rattle.journal.specs.Kept.{Claim}
+use Rattle.validate_commit.specs.Working.{Working}
+use Rattle.validate_commit.specs.Verdicts.{has_been_overtaken}
+use Rattle.validate_commit.specs.declared.committing.Verdict.{Verdict}
+use Rattle.validate_commit.specs.declared.committing.Verdict.TheVariants.{Committed, Restart}
+use Rattle.job_core.specs.Common.{Common, HasAdded, IsEnded, IsUnchanged, HasTurned}
+use Rattle.pin_board.specs.declared.view.DeskView.{DeskView}
+use Rattle.pin_board.specs.Views.{logged}
+use Rattle.shared_engine.specs.Engines.{IsLocked}
+
+-- the desk has the unit that was added
+pub log_next : (u : JournalUnit) (told : Claim) (oldest : Option ℕ) (old new : Common) (desk later : DeskView) → desk.log ≡ old.units → HasAdded u told oldest old new → later ≡ logged desk told → later.log ≡ new.units
+log_next u told oldest old new desk later same h step =
+    ap (λ (d : DeskView). d.log) step ∙ ((λ i. same i ++ (ap (λ (c : Claim). c.unit) h.receipt) i ∷ []) ∙ sym h.units)
+
+-- a unit was added, and the core was told the horizon
+pub locked_added : (u : JournalUnit) (told : Claim) (old new : Common) (desk later : DeskView) (seats : List (Option ℕ)) (horizon opened : ℕ) → IsLocked old desk seats horizon opened → HasAdded u told (Some horizon) old new → later ≡ logged desk told
+    → IsLocked new later seats horizon opened
+locked_added u told old new desk later seats horizon opened is h step =
+    let high : later.high ≡ desk.high = ap (λ (d : DeskView). d.high) step in record {
+      log = log_next u told (Some horizon) old new desk later is.log h step;
+      cut = omega (arith, is.cut, is.high, h.cut, high);
+      high = omega (arith, is.high, high);
+      now = omega (arith, is.now, ap length h.units, length-append old.units (u ∷ []));
+      wide = ap (λ (d : DeskView). d.seats) step ∙ is.wide;
+      dealt = is.dealt ∙ sym (ap (λ (d : DeskView). d.dealt) step);
+      opened_is = subst (λ (n : ℕ). opened ≡ min n (2 ^ 64 - 1)) (sym (ap (λ (d : DeskView). d.given) step)) is.opened_is;
+    }
+
+-- the core was refused something
+pub locked_unchanged : (old new : Common) (desk : DeskView) (seats : List (Option ℕ)) (horizon opened : ℕ) → IsLocked old desk seats horizon opened → IsUnchanged old new → IsLocked new desk seats horizon opened
+locked_unchanged old new desk seats horizon opened is h = record {
+  log = is.log ∙ sym h.units;
+  cut = omega (arith, is.cut, h.cut);
+  high = is.high;
+  now = omega (arith, is.now, ap length h.units);
+  wide = is.wide;
+  dealt = is.dealt;
+  opened_is = is.opened_is;
+}
+
+-- a turn of the collector was at some horizon
+pub turned_at : (result : Result Progress Refusal) (horizon limit : ℕ) (old new : Common) → IfOk result (λ p. HasTurned horizon limit p old.store new.store) → IfOk result (λ p. (h : ℕ) × HasTurned h limit p old.store new.store)
+turned_at (Ok progress) horizon limit old new turn = (horizon, turn)
+turned_at (Err refusal) horizon limit old new turn = tt
+
+-- a commit that is a unit
+pub committed_added : (v : Verdict) (told : Claim) (w : Working) (oldest : Option ℕ) (old new : Common) → v ≡ Committed told → IsEnded v w oldest old new → HasAdded (Whole w.job w.exchanges) told oldest old new
+committed_added v told w oldest old new is ended = (subst (λ (x : Verdict). IsEnded x w oldest old new) is ended).1.0
+
+-- one that is to begin anew
+pub restart_same : (v : Verdict) (w : Working) (oldest : Option ℕ) (old new : Common) → v ≡ Restart → IsEnded v w oldest old new → new ≡ old
+restart_same v w oldest old new is ended = (subst (λ (x : Verdict). IsEnded x w oldest old new) is ended).1
+
+pub committed_stands : (v : Verdict) (told : Claim) (w : Working) (oldest : Option ℕ) (old new : Common) → v ≡ Committed told → IsEnded v w oldest old new → has_been_overtaken w old.units ≡ false
+committed_stands v told w oldest old new is ended = (subst (λ (x : Verdict). IsEnded x w oldest old new) is ended).0

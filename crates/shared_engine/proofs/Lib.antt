@@ -1,0 +1,10 @@
+pub mod Booking
+pub mod Starting
+pub mod Writing
+pub mod Keeping
+pub mod Lending
+pub mod Closing
+pub mod Quiet
+pub mod Alone
+pub mod Blocks
+pub mod Beginning

@@ -1,0 +1,12 @@
+use Rattle.std.proofs.Common.{subst}
+use Rattle.std.proofs.lemmas.List.Elements.{All-nil}
+use Rattle.pin_board.specs.Slips.{AreInJournal}
+use Rattle.shared_engine.specs.Receipts.{Book}
+use Rattle.shared_engine.proofs.Closing.{units_told}
+use Rattle.shared_engine.proofs.locked.Locked.finish.Goals as goal
+
+pub returns-clause-in_journal : goal.returns-clause-in_journal
+returns-clause-in_journal g c =
+    let log = c.self.inside.core.units in
+    let units = units_told _ _ _ _ _ _ c.gather.ensures.tally c.into_tally-tally.ensures c.self.invariant.log in
+    c.gather.ensures.due.in_journal log (subst (λ l. AreInJournal l c.gather.new.tally.back) units c.audit.ensures.in_journal) (All-nil (λ (p : Book). AreInJournal log p.receipts))

@@ -1,0 +1,32 @@
+use Rattle.std.proofs.Common.{◌≡◌, ◌+◌, ◌++◌, ◌∷◌, [], length, refl, sym, ap, ◌∙◌}
+use Rattle.validate_commit.specs.Verdicts.{has_been_overtaken}
+use Rattle.shared_engine.specs.Receipts.{receipts_in}
+use Rattle.shared_engine.specs.Sessions.{held, start_in, and_receipt, ended}
+use Rattle.shared_engine.specs.Engines.{whole_of}
+use Rattle.shared_engine.proofs.Booking.{received}
+use Rattle.shared_engine.proofs.Keeping.{committed_added, committed_stands}
+use Rattle.shared_engine.proofs.Writing.{numbers_next, session_next, session_met, session_left}
+use Rattle.shared_engine.proofs.locked.Locked.tcommit.Goals as goal
+
+pub invariant_of-session-in-Committed : goal.invariant_of-session-in-Committed
+invariant_of-session-in-Committed g c =
+    let h = committed_added _ _ _ _ _ _ c.in-Committed.is c.in_ok-receipt.ensures.verdict in
+    let numbers = numbers_next _ _ _ _ _ c.push_reserved.ensures.items c.reserve.ensures.items c.number.ensures in
+    let next = session_next _ _ _ _ _ _ _ _ _ _ _ (session_met _ _ _ _ c.session.invariant c.meet.ensures.pin) c.self.invariant.log h c.write.ensures.in_journal c.write.ensures.pin numbers refl refl in
+    rw c.end.ensures (session_left _ _ _ _ next c.leave.ensures.left)
+
+pub returns-in-Committed-clause-ended : goal.returns-in-Committed-clause-ended
+returns-in-Committed-clause-ended g c =
+    let stands = committed_stands _ _ _ _ _ _ c.in-Committed.is c.in_ok-receipt.ensures.verdict in
+    let h = committed_added _ _ _ _ _ _ c.in-Committed.is c.in_ok-receipt.ensures.verdict in
+    let s = c.session.view_is in
+    let units = ap (λ e. e.common.units) c.self.view_is in
+    let mine : c.write.new.pin.mine ≡ c.session.inside.pin.mine ++ c.in-Committed.receipt ∷ [] = ap (λ p. p.mine) c.write.ensures.pin ∙ ap (λ p. p.mine ++ c.in-Committed.receipt ∷ []) c.meet.ensures.pin in
+    let start = ap start_in c.leave.ensures.left in
+    let receipts = ap (λ p. receipts_in p.mine) c.leave.ensures.left ∙ received _ _ _ _ _ _ _ h mine refl in (
+      sym (λ i. has_been_overtaken (s i).state.work (units i)) ∙ stands,
+      (
+        h.units ∙ (λ i. units i ++ whole_of (s i).state ∷ []),
+        (λ i. held (c.end.ensures i) (start i) (receipts i)) ∙ (λ i. ended (and_receipt (length (units i) + 1) (whole_of (s i).state) (s i))),
+      ),
+    )

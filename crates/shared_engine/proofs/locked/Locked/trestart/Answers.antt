@@ -1,0 +1,11 @@
+use Rattle.std.proofs.Common.{ap, ◌∙◌, arith}
+use Rattle.shared_engine.proofs.Starting.{settled_open}
+use Rattle.shared_engine.proofs.Beginning.{session_rebegun}
+use Rattle.shared_engine.proofs.locked.Locked.trestart.Goals as goal
+
+pub invariant_of-session : goal.invariant_of-session
+invariant_of-session g c =
+    let level = ap (λ h. h.state.level) (c.session.view_is ∙ c.in_ok-go_back.ensures.session) in
+    let settled = settled_open c.session.inside.pin c.session.inside.state c.session.invariant.at (omega (arith, level, c.requires)) in
+    let t = c.begin_anew.ensures in
+    session_rebegun _ _ c.go_back.new.desk _ _ _ _ c.session.invariant settled c.restart-now.ensures.pin c.restart-now.ensures.start (omega (arith, ap (λ s. s.level) t)) (ap (λ s. s.work) t)

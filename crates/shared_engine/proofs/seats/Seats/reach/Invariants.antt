@@ -1,0 +1,17 @@
+use Rattle.std.proofs.Common.{◌≡◌, ◌≤◌, ◌+◌, ◌-◌, length}
+use Rattle.pin_board.specs.Views.{dealing}
+use Rattle.shared_engine.specs.Engines.{SameSessions, AreInPlace}
+use Rattle.shared_engine.proofs.seats.Seats.reach.Given as goal
+
+-- there is a seat for each place that was dealt, and nobody's session has changed
+abbrev pub invariant-deal : goal.invariant-deal
+invariant-deal g l = record {
+  dealt : length l.self-inside.places.items ≡ l.desk.dealt;
+  desk : l.desk ≡ dealing l.fn.desk l.desk.dealt;
+  same : SameSessions l.fn.self l.self-inside.places.items;
+  longer : length l.fn.self ≤ length l.self-inside.places.items;
+  placed : AreInPlace l.self-inside.places.items;
+}
+
+abbrev pub decreases-deal : goal.decreases-deal
+decreases-deal g l = l.place + 1 - length l.self-inside.places.items

@@ -1,0 +1,138 @@
+-- What a block of commands does under one hold of the lock: each command in its turn, on the units that are there by
+-- then. Read HasDone, then AreDone.
+use Rattle.std.specs.Prelude.{◌≡◌, ◌≢◌, ◌⊎◌, ⊤, ℕ, ◌+◌, ◌-◌, ◌≤◌, ◌<◌, Bool, true, false, List, [], ◌∷◌, ◌++◌, length, Option, None, Some, Result, Ok, Err}
+use Rattle.refusal.specs.declared.Refusal.{Refusal}
+use Rattle.refusal.specs.declared.Refusal.TheVariants.{NoTransaction, LevelTooDeep, Again}
+use Rattle.collation.specs.Limits.{most_levels}
+use Rattle.collation.specs.declared.lock.LockCommand.{LockCommand}
+use Rattle.collation.specs.Locks.{lock_refusal, lock_reply}
+use Rattle.command.specs.declared.access.DataCommand.{DataCommand}
+use Rattle.command.specs.declared.access.Answer.{Answer}
+use Rattle.command.specs.declared.request.Command.{Command}
+use Rattle.command.specs.declared.request.Command.TheVariants.{Access, Lock as lock_command, Start, Commit, Rollback, Restart, Level, Restarts, Halt}
+use Rattle.command.specs.declared.request.Reply.{Reply}
+use Rattle.command.specs.declared.request.Reply.TheVariants.{Answered, Finished, Count, AtLevel, Committed as committed_reply, Restarted as restarted_reply, Refused}
+use Rattle.command.specs.Data.{data_refusal, data_reply}
+use Rattle.journal.specs.declared.unit.Unit.{Unit as JournalUnit}
+use Rattle.journal.specs.declared.unit.Unit.TheVariants.{Lone}
+use Rattle.journal.specs.History.{initial, after}
+use Rattle.journal.specs.Kept.{HasNoRoom}
+use Rattle.serial.specs.Machine.{told_had}
+use Rattle.validate_commit.specs.Working.{just_begun}
+use Rattle.validate_commit.specs.Verdicts.{IsCauseAtCommit}
+use Rattle.job_core.specs.Causes.{IsCauseOf}
+use Rattle.job_core.specs.Common.{IsCauseOfLock}
+use Rattle.job_core.specs.Sessions.{Session as JobSession, at_level, IsAnsweredOrRefused}
+use Rattle.shared_engine.specs.Sessions.{Held, held, ended, and_receipt, begun_anew, HasBegun}
+use Rattle.shared_engine.specs.Engines.{HasEnded, gone_back, lock_unit, after_try}
+use Rattle.shared_engine.specs.declared.locked.Ended.TheVariants.{Committed}
+
+-- the reply to a command that was done with this answer, or refused
+abbrev pub said : {A : Type 0} → (A → Reply) → Result A Refusal → Reply
+said reply (Ok a) = reply a
+said reply (Err refusal) = Refused refusal
+
+-- nothing has changed
+abbrev pub AreSame : List JournalUnit → List JournalUnit → Held → Held → Type 0
+AreSame units more old new = (more ≡ units) × (new ≡ old)
+
+-- a data command outside a transaction
+abbrev pub IsLone : DataCommand → Result Answer Refusal → List JournalUnit → List JournalUnit → Held → Held → Type 0
+IsLone command (Ok answer) units more old new =
+    ((answer ≡ data_reply command (after units initial).map) × (data_refusal command (after units initial).map ≡ None))
+    × ((more ≡ units ++ Lone old.state.work.job command answer ∷ []) × (new ≡ and_receipt (length units + 1) (Lone old.state.work.job command answer) old))
+IsLone command (Err refusal) units more old new = IsCauseOf refusal command (after units initial).map (length units) × AreSame units more old new
+
+-- a data command inside one, which sees the map of its start and its own commands
+abbrev pub IsReadAt : Option (List JournalUnit) → DataCommand → Result Answer Refusal → JobSession → JobSession → Type 0
+IsReadAt None command result old new = ⊥
+IsReadAt (Some base) command result old new = IsAnsweredOrRefused command result (after base initial).map old new
+
+abbrev pub IsInside : DataCommand → Result Answer Refusal → List JournalUnit → List JournalUnit → Held → Held → Type 0
+IsInside command result units more old new =
+    IsReadAt old.start command result old.state new.state
+    × ((more ≡ units) × ((new.start ≡ old.start) × (new.receipts ≡ old.receipts)))
+
+-- one try of a LOCK
+abbrev pub IsTried : LockCommand → Result Bool Refusal → List JournalUnit → List JournalUnit → Held → Held → Type 0
+IsTried command (Ok had) units more old new =
+    ((had ≡ lock_reply old.state.work.job command (after units initial).locks) × (lock_refusal old.state.work.job command (after units initial).locks ≡ None))
+    × ((more ≡ units ++ lock_unit old.state command had ∷ []) × (new ≡ after_try (length units + 1) command had old))
+IsTried command (Err refusal) units more old new = IsCauseOfLock refusal old.state.work.job command units × AreSame units more old new
+
+-- the outermost TSTART: the transaction begins on all units
+abbrev pub IsOpened : Result ℕ Refusal → List JournalUnit → List JournalUnit → Held → Held → Type 0
+IsOpened (Ok level) units more old new = (level ≡ 1) × ((more ≡ units) × HasBegun units old new)
+IsOpened (Err refusal) units more old new = (refusal ≡ Again) × AreSame units more old new
+
+-- a TSTART within a transaction
+abbrev pub IsDeeper : Result ℕ Refusal → List JournalUnit → List JournalUnit → Held → Held → Type 0
+IsDeeper (Ok level) units more old new = (level ≡ old.state.level + 1) × ((more ≡ units) × (new ≡ held (at_level level old.state) old.start old.receipts))
+IsDeeper (Err refusal) units more old new = ((refusal ≡ LevelTooDeep) × (most_levels ≤ old.state.level)) × AreSame units more old new
+
+-- TCOMMIT, TROLLBACK or TRESTART without a transaction
+abbrev pub IsNone : {A : Type 0} → Result A Refusal → List JournalUnit → List JournalUnit → Held → Held → Type 0
+IsNone result units more old new = (result ≡ Err NoTransaction) × AreSame units more old new
+
+-- the outermost TCOMMIT: the transaction is a unit, and never begins anew
+abbrev pub IsCommitted : Result Reply Refusal → List JournalUnit → List JournalUnit → Held → Held → Type 0
+IsCommitted (Ok reply) units more old new = (reply ≡ committed_reply) × HasEnded Committed units more old new
+IsCommitted (Err refusal) units more old new = (IsCauseAtCommit refusal old.state.work units ⊎ HasNoRoom refusal 1 (length units)) × AreSame units more old new
+
+-- a TCOMMIT within a transaction
+abbrev pub IsLower : Result Reply Refusal → List JournalUnit → List JournalUnit → Held → Held → Type 0
+IsLower result units more old new = (result ≡ Ok (AtLevel (old.state.level - 1))) × ((more ≡ units) × (new ≡ held (at_level (old.state.level - 1) old.state) old.start old.receipts))
+
+-- TROLLBACK of a transaction
+abbrev pub IsRolledBack : Result (Unit {0}) Refusal → List JournalUnit → List JournalUnit → Held → Held → Type 0
+IsRolledBack (Ok done) units more old new = (more ≡ gone_back old.state units) × (new ≡ ended old)
+IsRolledBack (Err refusal) units more old new = (HasNoRoom refusal 1 (length units) × (old.state.took_lock ≡ true)) × AreSame units more old new
+
+-- TRESTART of a transaction
+abbrev pub IsRestarted : Result ℕ Refusal → List JournalUnit → List JournalUnit → Held → Held → Type 0
+IsRestarted (Ok restarts) units more old new = (restarts ≡ new.state.restarts) × ((more ≡ gone_back old.state units) × (new ≡ begun_anew more old))
+IsRestarted (Err refusal) units more old new = (HasNoRoom refusal 1 (length units) × (old.state.took_lock ≡ true)) × AreSame units more old new
+
+-- a command of the block was done, or refused with its cause, after which nothing has changed
+abbrev pub HasDone : Command → Reply → List JournalUnit → List JournalUnit → Held → Held → Type 0
+HasDone (Access command) reply units more old new =
+    (result : Result Answer Refusal) × (reply ≡ said Answered result) × (old.state.level ≡ 0 → IsLone command result units more old new) × (1 ≤ old.state.level → IsInside command result units more old new)
+HasDone (lock_command command) reply units more old new = (result : Result Bool Refusal) × (reply ≡ said (told_had command) result) × IsTried command result units more old new
+HasDone Start reply units more old new =
+    (result : Result ℕ Refusal) × (reply ≡ said AtLevel result) × (old.state.level ≡ 0 → IsOpened result units more old new) × (1 ≤ old.state.level → IsDeeper result units more old new)
+HasDone Commit reply units more old new =
+    (result : Result Reply Refusal) × (reply ≡ said (λ r. r) result) × (old.state.level ≡ 0 → IsNone result units more old new)
+    × (old.state.level ≡ 1 → IsCommitted result units more old new) × (1 < old.state.level → IsLower result units more old new)
+HasDone Rollback reply units more old new =
+    (result : Result (Unit {0}) Refusal) × (reply ≡ said (λ d. Finished) result) × (old.state.level ≡ 0 → IsNone result units more old new) × (1 ≤ old.state.level → IsRolledBack result units more old new)
+HasDone Restart reply units more old new =
+    (result : Result ℕ Refusal) × (reply ≡ said restarted_reply result) × (old.state.level ≡ 0 → IsNone result units more old new) × (1 ≤ old.state.level → IsRestarted result units more old new)
+HasDone Level reply units more old new = (reply ≡ Count old.state.level) × AreSame units more old new
+HasDone Restarts reply units more old new = (reply ≡ Count old.state.restarts) × AreSame units more old new
+HasDone Halt reply units more old new = ⊥
+
+-- the commands were done in order, each with its reply, and nobody else did anything in between
+abbrev pub AreDone : List Command → List Reply → List JournalUnit → List JournalUnit → Held → Held → Type 0
+AreDone [] [] units more old new = AreSame units more old new
+AreDone [] (reply ∷ replies) units more old new = ⊥
+AreDone (command ∷ commands) [] units more old new = ⊥
+AreDone (command ∷ commands) (reply ∷ replies) units more old new =
+    (between : List JournalUnit) × (middle : Held) × HasDone command reply units between old middle × AreDone commands replies between more middle new
+
+-- a TCOMMIT that isn't answered that it begins anew
+abbrev pub IsNoRestart : Command → Reply → Type 0
+IsNoRestart command reply = command ≡ Commit → (n : ℕ) → reply ≢ restarted_reply n
+
+-- no TCOMMIT of the block is answered that it begins anew
+abbrev pub NoneRestarts : List Command → List Reply → Type 0
+NoneRestarts [] replies = ⊤
+NoneRestarts (command ∷ commands) [] = ⊤
+NoneRestarts (command ∷ commands) (reply ∷ replies) = IsNoRestart command reply × NoneRestarts commands replies
+
+-- the transaction has done nothing yet
+abbrev pub IsFresh : Held → Type 0
+IsFresh s = (s.state.level ≡ 1) × ((s.state.work.exchanges ≡ []) × (s.state.took_lock ≡ false))
+
+-- its start is moved behind these units
+abbrev pub moved : List JournalUnit → Held → Held
+moved units s = held (record s.state { work = just_begun s.state.work.job (length units) }) (Some units) s.receipts

@@ -1,0 +1,6 @@
+pub mod Receipts
+pub mod Sessions
+pub mod Engines
+pub mod Writes
+pub mod Blocks
+pub mod Codes

@@ -1,0 +1,53 @@
+-- What a job's receipts say of the units that it wrote.
+use Rattle.std.specs.Prelude.{◌≡◌, ℕ, ◌<◌, ◌==◌, ◌&&◌, Bool, true, false, List, [], ◌∷◌, map, if◌then◌else◌}
+use Rattle.std.specs.List.{All, filter}
+use Rattle.journal.specs.declared.unit.Unit.{Unit as JournalUnit}
+use Rattle.journal.specs.declared.unit.Unit.TheVariants.{Lone, Whole, Lock, Back, End}
+use Rattle.journal.specs.Kept.{Claim, job_of}
+
+-- the unit is in the journal at this number
+abbrev pub claim : ℕ → JournalUnit → Claim
+claim number unit = record { job = job_of unit; number = number; unit = unit }
+
+-- whether a unit of this kind gives its session a receipt
+abbrev pub has_receipt : JournalUnit → Bool
+has_receipt (Lone job command answer) = true
+has_receipt (Whole job exchanges) = true
+has_receipt (Lock job inside command had) = true
+has_receipt (Back job) = false
+has_receipt (End job) = false
+
+-- 1 for a unit of this job that gives a receipt
+abbrev pub receipted : ℕ → JournalUnit → ℕ
+receipted j u = if has_receipt u && (job_of u == j) then 1 else 0
+
+-- the numbers rise, and all are above n
+abbrev pub RisesFrom : ℕ → List Claim → Type 0
+RisesFrom n [] = Unit {0}
+RisesFrom n (x ∷ xs) = (n < x.number) × RisesFrom x.number xs
+
+-- whether a unit that was written gives a receipt
+abbrev pub gives : Claim → Bool
+gives c = has_receipt c.unit
+
+-- the unit's number in the journal
+abbrev pub number_of : Claim → ℕ
+number_of c = c.number
+
+-- the receipts of what a session wrote
+unfoldable pub receipts_in : List Claim → List Claim
+receipts_in mine = filter gives mine
+
+-- a job, and its receipts in order
+pub record Book : Type 0 where
+  pub job : ℕ
+  pub receipts : List Claim
+
+abbrev pub book : ℕ → List Claim → Book
+book job receipts = record { job = job; receipts = receipts }
+
+-- the numbers are those of the receipts, which rise, and all units are the job's
+pub record IsBook (job : ℕ) (numbers : List ℕ) (mine : List Claim) : Type 0 where
+  pub numbers_are : map number_of (receipts_in mine) ≡ numbers
+  pub own : All (λ (c : Claim). job_of c.unit ≡ job) mine
+  pub rising : RisesFrom 0 (receipts_in mine)

@@ -1,0 +1,72 @@
+//! A lock that many may share or one may have alone, tried for a while before its thread sleeps.
+//!
+//! std's lock lets a thread sleep after a hundred looks, and a sleep with its waking costs as much as many steps of the
+//! engine. Here a thread tries in a bounded number of turns first. While somebody wants the lock alone, those who would
+//! share it hold back, so that they can't pass it round among themselves. Nothing that is proved rests on this: std's
+//! lock alone says who may do what, and once the turns are over its way is taken.
+use std::hint::spin_loop;
+use std::sync::atomic::{AtomicU64, Ordering};
+use std::sync::{RwLock, RwLockReadGuard, RwLockWriteGuard, Wait};
+
+// How often a thread tries before it sleeps.
+const TURNS: u32 = 4_000;
+
+/// A lock over a value. Its guards are std's.
+#[derive(Drop)]
+pub(crate) struct AdaptiveLock<T> {
+    // How many threads want the lock alone.
+    wanted: AtomicU64,
+    lock: RwLock<T>,
+}
+
+impl<T> AdaptiveLock<T> {
+    /// A lock that nobody has. Takes no memory.
+    pub(crate) fn new(value: T) -> AdaptiveLock<T> {
+        AdaptiveLock {
+            wanted: AtomicU64::new(0),
+            lock: RwLock::new(value),
+        }
+    }
+
+    /// The value, once nobody else can have the lock.
+    pub(crate) fn into_inner(self) -> T {
+        let AdaptiveLock { wanted: _, lock } = self;
+        lock.into_inner()
+    }
+
+    /// The lock, shared: others may share it, and nobody has it alone.
+    pub(crate) fn read<R: Wait>(&self, rt: &R) -> RwLockReadGuard<'_, T> {
+        for _ in 0..TURNS {
+            // Others may take or free the lock between these two: then it is tried in vain, and once more.
+            if self.wanted.load(Ordering::Relaxed) == 0 {
+                if let Some(guard) = self.lock.try_read() {
+                    return guard;
+                }
+            }
+            spin_loop();
+        }
+        self.lock.read(rt)
+    }
+
+    /// The lock alone.
+    pub(crate) fn write<R: Wait>(&self, rt: &R) -> RwLockWriteGuard<'_, T> {
+        if let Some(guard) = self.lock.try_write() {
+            return guard;
+        }
+        self.wanted.fetch_add(1, Ordering::SeqCst);
+        let guard = self.write_in_turns(rt);
+        self.wanted.fetch_sub(1, Ordering::SeqCst);
+        guard
+    }
+
+    // Those who would share the lock hold back meanwhile.
+    fn write_in_turns<R: Wait>(&self, rt: &R) -> RwLockWriteGuard<'_, T> {
+        for _ in 0..TURNS {
+            if let Some(guard) = self.lock.try_write() {
+                return guard;
+            }
+            spin_loop();
+        }
+        self.lock.write(rt)
+    }
+}

@@ -1,0 +1,35 @@
+//! The engine of many threads: calls of sessions over one core, receipts that are in its journal, and starts that leave
+//! the lock.
+//!
+//! What callers see of a session (`specs/Sessions.antt`) is its job's state, the journal at the start of its
+//! transaction, and its receipts, each a unit with its number. What they learn:
+//!
+//! (1) each accepted lone command and each commit adds one receipt, whose unit is just this command with this answer; a
+//!     LOCK one or two; no other call any. Their numbers rise, and as a transaction begins they are in the journal of
+//!     its start;
+//! (2) a read answers what the machine would, on the map of the transaction's start followed by its own commands; a
+//!     transaction restarts exactly where a unit since its start touched what it had read;
+//! (3) once the engine is closed its journal is legal, its content is what that leaves, each receipt's unit is in it at
+//!     its number, and where all passes are in each job has as many units as receipts.
+//!
+//! `Locked` (`src/locked.rt`) is what lies under the lock; each of its methods is a step, whose contract is exact.
+//! `Shared` takes the lock and calls one. Whenever the lock is free, no content that an open transaction sees is gone
+//! (`IsLocked` of `specs/Engines.antt`): the store's cut isn't above the greatest horizon, and by the board's rule no
+//! horizon is above a settled start.
+//!
+//! Read `specs/Receipts.antt`, `specs/Sessions.antt`, `specs/Engines.antt`, then `shared.rt`, `locked.rt`,
+//! `session.rt`. Not promised: that a call which waits for the lock returns, or that a LOCK has its names at last.
+#![tactic(auto)]
+
+pub use gate::Gate;
+pub use locked::{Closed, Ended};
+pub use session::{Pass, Session};
+pub use shared::{Pause, Share, Shared};
+
+mod adaptive;
+mod gate;
+mod locked;
+mod seats;
+mod serial_run;
+mod session;
+mod shared;

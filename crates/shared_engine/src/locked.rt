@@ -1,0 +1,468 @@
+//! What lies under the lock. Each step of a session is a method, whose contract says exactly what it does.
+ghost use Rattle.std.specs.Prelude.{◌≡◌, ◌⊎◌, ◌<◌, ◌≤◌, ◌+◌, ◌-◌, ◌^◌, ◌∷◌, ◌++◌, ℕ, true, false, List, [], min, max, nat_lt, length, vec_len, take, None, Some, IfOk, IfErr, IfSome, IsSome, OnOk, OnErr};
+ghost use Rattle.std.specs.List.{All, sum_by};
+ghost use Rattle.refusal.specs.declared.Refusal.{Refusal};
+ghost use Rattle.collation.specs.Locks.{lock_refusal, lock_reply};
+ghost use Rattle.command.specs.Data.{data_refusal, data_reply};
+ghost use Rattle.journal.specs.History.{initial, after, IsLegal};
+ghost use Rattle.journal.specs.Kept.{Claim, HasNoRoom};
+ghost use Rattle.journal.specs.declared.unit.Unit.TheVariants.{Lone, End};
+ghost use Rattle.validate_commit.specs.Verdicts.{has_been_overtaken, IsCauseAtCommit};
+ghost use Rattle.job_core.specs.Causes.{IsCauseOf};
+ghost use Rattle.job_core.specs.Common.{IsCauseOfLock, HasTurned};
+ghost use Rattle.job_core.specs.Sessions.{idle, IsAnsweredOrRefused};
+ghost use Rattle.pin_board.specs.Slips.{AreInJournal};
+ghost use Rattle.pin_board.specs.Tally.{tallied};
+ghost use Rattle.shared_engine.specs.Receipts.{Book, book, receipted, RisesFrom};
+ghost use Rattle.shared_engine.specs.Sessions.{held, ended, and_receipt, begun_anew, noted_lock};
+ghost use Rattle.shared_engine.specs.Engines.{has_session, SessionIs, SameSessions, gone_back, lock_unit, after_try, HasEnded, OnOkThat, OnOkNot, receipts_of, IsDue};
+
+use crate::seats::Seats;
+use crate::session::{Pass, Session};
+use collation::{Job, LockCommand};
+use collector::Progress;
+use command::{Answer, DataCommand};
+use job_core::{Core, JobState};
+use pin_board::{Board, BoardName, Desk, Pin, Tally};
+use refusal::Refusal;
+use std::alloc::{AllocError, Global};
+use std::marker::Model;
+use std::sync::Wait;
+use validate_commit::Verdict;
+
+/// How an outermost TCOMMIT ended.
+#[derive(Clone, Copy, Debug, PartialEq, Eq)]
+pub enum Ended {
+    /// The transaction is a unit of the journal.
+    Committed,
+    /// Another unit touched what it had read: it has begun anew, for so many times.
+    Restarted(u64),
+}
+
+/// An engine at its end.
+#[derive(Drop)]
+pub struct Closed {
+    /// Its journal, content and locks.
+    pub core: Core,
+    /// How many sessions were opened, up to 2^64 - 1.
+    pub sessions: u64,
+}
+
+/// What all jobs share, the board's desk, the seats of the jobs that have no session, the horizon that was drawn last,
+/// and how many sessions were opened.
+#[derive(Drop)]
+pub(crate) struct Locked<B: BoardName> {
+    // What only a writer looks at comes first: it lies beside the lock's own word, which each reader changes.
+    seats: Seats<B>,
+    horizon: u64,
+    opened: u64,
+    core: Core,
+    pub(crate) desk: Desk<B>,
+}
+
+impl<B: BoardName> Model for Locked<B> {
+    ghost use Rattle.shared_engine.specs.Codes.{engine_code};
+    ghost use Rattle.shared_engine.specs.Engines.{Engine, engine, IsLocked};
+
+    ghost Value = { Engine };
+
+    ghost coded = { engine_code };
+
+    ghost view = { λ s. engine s.core s.desk.given s.seats };
+
+    ghost invariant = { λ s. IsLocked s.core s.desk s.seats s.horizon s.opened };
+}
+
+// The unit of a rollback or restart, where the transaction took a LOCK.
+fn go_back<B: BoardName, R: Wait>(
+    rt: &R,
+    board: &Board<B>,
+    core: &mut Core,
+    desk: &mut Desk<B>,
+    session: &mut Session<B>,
+    horizon: u64,
+) -> Result<(), Refusal>
+    requires log { desk.old.log ≡ core.old.units }
+    requires cut { core.old.store.cut ≤ desk.old.high }
+    requires high { horizon ≤ desk.old.high }
+    requires now { horizon ≤ length core.old.units }
+    ensures units { OnOk result (core.new.units ≡ gone_back session.old.state core.old.units) }
+    ensures cut { core.new.store.cut ≤ desk.new.high }
+    ensures desk { desk.new ≡ record desk.old { log = core.new.units } }
+    ensures session { session.new ≡ session.old }
+    ensures refused { OnErr result (core.new ≡ core.old) }
+    ensures cause { IfErr result (λ refusal. HasNoRoom refusal 1 (length core.old.units) × (session.old.state.took_lock ≡ true)) }
+{
+    if !session.state.took_lock() {
+        return Ok(());
+    }
+    let receipt = core.back(session.state.job(), Some(horizon))?;
+    board.write(rt, desk, &mut session.pin, &receipt);
+    Ok(())
+}
+
+// Notes a LOCK in the session's state, where it was taken inside a transaction.
+fn note_lock(state: &mut JobState)
+    ensures { state.new ≡ noted_lock state.old }
+{
+    if state.level() > 0 {
+        state.note_lock();
+    }
+}
+
+impl<B: BoardName> Locked<B> {
+    /// No unit, and no session. Takes no memory.
+    pub(crate) fn new(alloc: Global, desk: Desk<B>) -> Locked<B>
+        requires { (desk.log ≡ []) × ((desk.given ≡ 0) × ((desk.dealt ≡ 0) × (desk.seats ≡ 4096))) }
+        ensures { (result.common.units ≡ []) × ((result.opened ≡ 0) × (result.seats ≡ [])) }
+    {
+        Locked {
+            core: Core::new(alloc),
+            desk,
+            seats: Seats::new(alloc),
+            horizon: 0,
+            opened: 0,
+        }
+    }
+
+    /// Begins a session of a job that has none.
+    ///
+    /// Refusals, after which the same jobs have sessions: `BadJob` where the job has one; else `OutOfMemory`.
+    pub(crate) fn open<R: Wait>(
+        &mut self,
+        rt: &R,
+        board: &Board<B>,
+        alloc: Global,
+        job: Job,
+    ) -> Result<Session<B>, Refusal>
+        ensures session { IfOk result (λ session. session ≡ held (idle job) None []) }
+        ensures free { OnOk result (has_session self.old.seats job ≡ false) }
+        ensures opened { OnOk result ((self.new.opened ≡ self.old.opened + 1) × SessionIs true job self.old.seats self.new.seats) }
+        ensures common { self.new.common ≡ self.old.common }
+        ensures refused { OnErr result ((self.new.opened ≡ self.old.opened) × SameSessions self.old.seats self.new.seats) }
+        ensures cause { IfErr result (λ refusal. ((refusal ≡ Refusal.BadJob) × (has_session self.old.seats job ≡ true)) ⊎ ((refusal ≡ Refusal.OutOfMemory) × (has_session self.old.seats job ≡ false))) }
+    {
+        let mut pin = self.seats.lend(rt, board, &mut self.desk, job)?;
+        let state = match JobState::new(alloc, job) {
+            Ok(state) => state,
+            Err(_) => {
+                self.seats.take_back(pin);
+                return Err(Refusal::OutOfMemory);
+            }
+        };
+        board.give_slip(rt, &mut self.desk, &mut pin);
+        self.opened = self.opened.saturating_add(1);
+        Ok(Session {
+            state,
+            pin,
+            numbers: Vec::new(alloc),
+        })
+    }
+
+    /// A data command outside a transaction: a unit of its own.
+    ///
+    /// Refusals, after which nothing has changed: those of `Core::lone`; and `OutOfMemory` for the receipt, before
+    /// them.
+    pub(crate) fn lone<R: Wait>(
+        &mut self,
+        rt: &R,
+        board: &Board<B>,
+        session: &mut Session<B>,
+        command: DataCommand,
+    ) -> Result<Answer, Refusal>
+        requires { session.old.state.level ≡ 0 }
+        ensures answer { IfOk result (λ answer. answer ≡ data_reply command (after self.old.common.units initial).map) }
+        ensures accepted { OnOk result (data_refusal command (after self.old.common.units initial).map ≡ None) }
+        ensures units { IfOk result (λ answer. self.new.common.units ≡ self.old.common.units ++ Lone session.old.state.work.job command answer ∷ []) }
+        ensures receipt { IfOk result (λ answer. session.new ≡ and_receipt (length self.old.common.units + 1) (Lone session.old.state.work.job command answer) session.old) }
+        ensures refused { OnErr result ((self.new.common.units ≡ self.old.common.units) × (session.new ≡ session.old)) }
+        ensures cause { IfErr result (λ refusal. IsCauseOf refusal command (after self.old.common.units initial).map (length self.old.common.units)) }
+        ensures others { (self.new.opened ≡ self.old.opened) × (self.new.seats ≡ self.old.seats) }
+    {
+        session.numbers.reserve(1)?;
+        let (answer, receipt) = self
+            .core
+            .lone(session.state.job(), command, Some(self.horizon))?;
+        board.write(rt, &mut self.desk, &mut session.pin, &receipt);
+        session.numbers.push_reserved(receipt.number());
+        Ok(answer)
+    }
+
+    /// One try of a LOCK. It is a unit, had or not.
+    ///
+    /// Refusals, after which nothing has changed: those of `Core::lock`; and `OutOfMemory` for the receipt, before
+    /// them.
+    pub(crate) fn lock<R: Wait>(
+        &mut self,
+        rt: &R,
+        board: &Board<B>,
+        session: &mut Session<B>,
+        command: &LockCommand,
+    ) -> Result<bool, Refusal>
+        ensures had { IfOk result (λ had. had ≡ lock_reply session.old.state.work.job command.now (after self.old.common.units initial).locks) }
+        ensures allowed { OnOk result (lock_refusal session.old.state.work.job command.now (after self.old.common.units initial).locks ≡ None) }
+        ensures units { IfOk result (λ had. self.new.common.units ≡ self.old.common.units ++ lock_unit session.old.state command.now had ∷ []) }
+        ensures receipt { IfOk result (λ had. session.new ≡ after_try (length self.old.common.units + 1) command.now had session.old) }
+        ensures refused { OnErr result ((self.new ≡ self.old) × (session.new ≡ session.old)) }
+        ensures cause { IfErr result (λ refusal. IsCauseOfLock refusal session.old.state.work.job command.now self.old.common.units) }
+        ensures others { (self.new.opened ≡ self.old.opened) × (self.new.seats ≡ self.old.seats) }
+    {
+        session.numbers.reserve(1)?;
+        let inside = session.state.level() > 0;
+        let (had, receipt) = self
+            .core
+            .lock(session.state.job(), inside, command, Some(self.horizon))?;
+        board.write(rt, &mut self.desk, &mut session.pin, &receipt);
+        session.numbers.push_reserved(receipt.number());
+        note_lock(&mut session.state);
+        Ok(had)
+    }
+
+    /// A later try of a LOCK that was blocked: it is a unit where it has its names now, and else nothing is done.
+    ///
+    /// Refusals, after which nothing has changed: as `lock`.
+    pub(crate) fn lock_again<R: Wait>(
+        &mut self,
+        rt: &R,
+        board: &Board<B>,
+        session: &mut Session<B>,
+        command: &LockCommand,
+    ) -> Result<bool, Refusal>
+        ensures units { OnOkThat result (self.new.common.units ≡ self.old.common.units ++ lock_unit session.old.state command.now true ∷ []) }
+        ensures receipt { OnOkThat result (session.new ≡ after_try (length self.old.common.units + 1) command.now true session.old) }
+        ensures blocked { OnOkNot result ((lock_reply session.old.state.work.job command.now (after self.old.common.units initial).locks ≡ false) × ((self.new ≡ self.old) × (session.new ≡ session.old))) }
+        ensures refused { OnErr result ((self.new ≡ self.old) × (session.new ≡ session.old)) }
+        ensures cause { IfErr result (λ refusal. IsCauseOfLock refusal session.old.state.work.job command.now self.old.common.units) }
+        ensures others { (self.new.opened ≡ self.old.opened) × (self.new.seats ≡ self.old.seats) }
+    {
+        if !self.core.locks().reply(session.state.job(), command) {
+            return Ok(false);
+        }
+        match self.lock(rt, board, session, command) {
+            Ok(_) => Ok(true),
+            Err(refusal) => Err(refusal),
+        }
+    }
+
+    /// A data command of an open transaction, on the map of its start followed by its own commands. The lock may be
+    /// shared.
+    ///
+    /// Others may have written meanwhile, and a collector may have drawn a horizon: the board says that none is above
+    /// this session's start, so the content of the start is there.
+    ///
+    /// Refusals, after which nothing has changed: those of `Core::read`.
+    pub(crate) fn read<R: Wait>(
+        &self,
+        rt: &R,
+        board: &Board<B>,
+        session: &mut Session<B>,
+        command: DataCommand,
+    ) -> Result<Answer, Refusal>
+        requires { 1 ≤ session.old.state.level }
+        ensures start { IfSome session.old.start (λ base. base ≡ take (length base) self.now.common.units) }
+        ensures answered { IfSome session.old.start (λ base. IsAnsweredOrRefused command result (after base initial).map session.old.state session.new.state) }
+        ensures open { IsSome session.old.start }
+        ensures same { (session.new.start ≡ session.old.start) × (session.new.receipts ≡ session.old.receipts) }
+    {
+        board.meet(rt, &self.desk, &mut session.pin);
+        self.core.read(&mut session.state, command)
+    }
+
+    /// TROLLBACK: nothing of the transaction is left.
+    ///
+    /// Refusals, after which nothing has changed, and only where it took a LOCK: `StampsUsedUp`, `OutOfMemory`.
+    pub(crate) fn trollback<R: Wait>(
+        &mut self,
+        rt: &R,
+        board: &Board<B>,
+        session: &mut Session<B>,
+    ) -> Result<(), Refusal>
+        requires { 1 ≤ session.old.state.level }
+        ensures units { OnOk result (self.new.common.units ≡ gone_back session.old.state self.old.common.units) }
+        ensures session { OnOk result (session.new ≡ ended session.old) }
+        ensures refused { OnErr result ((self.new ≡ self.old) × (session.new ≡ session.old)) }
+        ensures cause { IfErr result (λ refusal. HasNoRoom refusal 1 (length self.old.common.units) × (session.old.state.took_lock ≡ true)) }
+        ensures others { (self.new.opened ≡ self.old.opened) × (self.new.seats ≡ self.old.seats) }
+    {
+        go_back(
+            rt,
+            board,
+            &mut self.core,
+            &mut self.desk,
+            session,
+            self.horizon,
+        )?;
+        board.leave(&mut session.pin);
+        session.state.end();
+        Ok(())
+    }
+
+    /// TRESTART: nothing of the transaction is left, and it begins anew at level 1, at the present moment. Answers how
+    /// often it has.
+    ///
+    /// Refusals, after which nothing has changed, and only where it took a LOCK: `StampsUsedUp`, `OutOfMemory`.
+    pub(crate) fn trestart<R: Wait>(
+        &mut self,
+        rt: &R,
+        board: &Board<B>,
+        session: &mut Session<B>,
+    ) -> Result<u64, Refusal>
+        requires { 1 ≤ session.old.state.level }
+        ensures units { OnOk result (self.new.common.units ≡ gone_back session.old.state self.old.common.units) }
+        ensures session { IfOk result (λ restarts. (session.new ≡ begun_anew self.new.common.units session.old) × (restarts ≡ session.new.state.restarts)) }
+        ensures refused { OnErr result ((self.new ≡ self.old) × (session.new ≡ session.old)) }
+        ensures cause { IfErr result (λ refusal. HasNoRoom refusal 1 (length self.old.common.units) × (session.old.state.took_lock ≡ true)) }
+        ensures others { (self.new.opened ≡ self.old.opened) × (self.new.seats ≡ self.old.seats) }
+    {
+        go_back(
+            rt,
+            board,
+            &mut self.core,
+            &mut self.desk,
+            session,
+            self.horizon,
+        )?;
+        let now = board.restart(rt, &self.desk, &mut session.pin);
+        session.state.begin_anew(now);
+        Ok(session.state.restarts())
+    }
+
+    /// The outermost TCOMMIT: the transaction is a unit; or it begins anew, exactly where another unit touched what it
+    /// had read.
+    ///
+    /// Refusals, after which nothing has changed: those of `Core::commit`; those of TRESTART where it was overtaken;
+    /// and `OutOfMemory` for the receipt.
+    pub(crate) fn tcommit<R: Wait>(
+        &mut self,
+        rt: &R,
+        board: &Board<B>,
+        session: &mut Session<B>,
+    ) -> Result<Ended, Refusal>
+        requires { session.old.state.level ≡ 1 }
+        ensures ended { IfOk result (λ end. HasEnded end self.old.common.units self.new.common.units session.old session.new) }
+        ensures refused { OnErr result ((self.new.common.units ≡ self.old.common.units) × (session.new ≡ session.old)) }
+        ensures cause { IfErr result (λ refusal. IsCauseAtCommit refusal session.old.state.work self.old.common.units ⊎ HasNoRoom refusal 1 (length self.old.common.units)) }
+        ensures others { (self.new.opened ≡ self.old.opened) × (self.new.seats ≡ self.old.seats) }
+    {
+        session.numbers.reserve(1)?;
+        board.meet(rt, &self.desk, &mut session.pin);
+        match self.core.commit(&session.state, Some(self.horizon))? {
+            Verdict::Committed(receipt) => {
+                board.write(rt, &mut self.desk, &mut session.pin, &receipt);
+                session.numbers.push_reserved(receipt.number());
+                board.leave(&mut session.pin);
+                session.state.end();
+                Ok(Ended::Committed)
+            }
+            Verdict::Restart => {
+                let restarts = self.trestart(rt, board, session)?;
+                Ok(Ended::Restarted(restarts))
+            }
+        }
+    }
+
+    /// HALT: the session is over, its locks are released, and its seat is the next session's. Where it is refused the
+    /// session goes on.
+    ///
+    /// Refusals, after which nothing has changed: `StampsUsedUp`, `OutOfMemory`.
+    pub(crate) fn halt<R: Wait>(
+        &mut self,
+        rt: &R,
+        board: &Board<B>,
+        session: Session<B>,
+    ) -> Result<Pass<B>, (Session<B>, Refusal)>
+        ensures pass { IfOk result (λ pass. pass ≡ book session.state.work.job session.receipts) }
+        ensures units { OnOk result (self.new.common.units ≡ self.old.common.units ++ End session.state.work.job ∷ []) }
+        ensures over { OnOk result (SessionIs false session.state.work.job self.old.seats self.new.seats) }
+        ensures opened { self.new.opened ≡ self.old.opened }
+        ensures refused { IfErr result (λ r. (r.0 ≡ session) × (self.new ≡ self.old)) }
+        ensures cause { IfErr result (λ r. HasNoRoom r.1 1 (length self.old.common.units)) }
+    {
+        let job = session.state.job();
+        match self.core.end(job, Some(self.horizon)) {
+            Ok(receipt) => {
+                let Session {
+                    state,
+                    mut pin,
+                    numbers,
+                } = session;
+                board.write(rt, &mut self.desk, &mut pin, &receipt);
+                board.leave(&mut pin);
+                let slip = board.take_slip(&mut pin);
+                self.seats.take_back(pin);
+                drop(state);
+                Ok(Pass { job, slip, numbers })
+            }
+            Err(refusal) => Err((session, refusal)),
+        }
+    }
+
+    /// Draws a horizon, and lets the collector visit so many keys: what nobody sees from that horizon on is dropped.
+    ///
+    /// Refusals, after which what all jobs share is as it was: `OutOfMemory`.
+    pub(crate) fn collect<R: Wait>(
+        &mut self,
+        rt: &R,
+        board: &Board<B>,
+        limit: usize,
+    ) -> Result<Progress, Refusal>
+        ensures units { self.new.common.units ≡ self.old.common.units }
+        ensures few { IfOk result (λ progress. progress.visited ≤ limit) }
+        ensures turn { IfOk result (λ progress. (horizon : ℕ) × HasTurned horizon limit progress self.old.common.store self.new.common.store) }
+        ensures refused { OnErr result (self.new.common ≡ self.old.common) }
+        ensures cause { IfErr result (λ refusal. refusal ≡ Refusal.OutOfMemory) }
+        ensures others { (self.new.opened ≡ self.old.opened) × (self.new.seats ≡ self.old.seats) }
+    {
+        self.horizon = board.draw(rt, &mut self.desk);
+        self.core.collect(self.horizon, limit)
+    }
+
+    /// The core at the end. Where all passes are in, each job has as many units in the journal, but for rollbacks and
+    /// ends, as it has receipts. Takes no memory.
+    pub(crate) fn finish<R: Wait>(self, rt: &R, board: &Board<B>, passes: Vec<Pass<B>>) -> Closed
+        ensures core { result.core.units ≡ self.common.units }
+        ensures sessions { result.sessions ≡ min self.opened (2 ^ 64 - 1) }
+        ensures in_journal { All (λ (p : Book). AreInJournal result.core.units p.receipts) passes.items }
+        ensures rising { All (λ (p : Book). RisesFrom 0 p.receipts) passes.items }
+        ensures count { vec_len passes ≡ result.sessions → result.sessions < 2 ^ 64 - 1 → (j : ℕ) → sum_by (receipted j) result.core.units ≡ receipts_of j passes.items }
+    {
+        let Locked {
+            core,
+            desk,
+            seats: _,
+            horizon: _,
+            opened,
+        } = self;
+        let mut tally = desk.into_tally(rt);
+        gather(board, &mut tally, passes);
+        board.audit(&mut tally);
+        Closed {
+            core,
+            sessions: opened,
+        }
+    }
+}
+
+// Takes one pass in.
+fn take_in<B: BoardName>(board: &Board<B>, tally: &mut Tally<B>, pass: Pass<B>)
+    ensures tally { tally.new ≡ tallied tally.old.units tally.old.given (tally.old.returned + 1) tally.new.back }
+    ensures due { (all rest : List Book) → IsDue all (rest ++ pass ∷ []) tally.old.back → IsDue all rest tally.new.back }
+{
+    let Pass {
+        job: _,
+        slip,
+        numbers: _,
+    } = pass;
+    board.return_slip(tally, slip);
+}
+
+// Takes all passes in.
+fn gather<B: BoardName>(board: &Board<B>, tally: &mut Tally<B>, mut passes: Vec<Pass<B>>)
+    requires { (tally.old.returned ≡ 0) × (tally.old.back ≡ []) }
+    ensures tally { tally.new ≡ tallied tally.old.units tally.old.given (vec_len passes) tally.new.back }
+    ensures due { IsDue passes.items [] tally.new.back }
+{
+    while let Some(pass) = passes.pop() {
+        take_in(board, tally, pass);
+    }
+}

@@ -1,0 +1,265 @@
+//! A block of commands under one hold of the lock.
+ghost use Rattle.std.specs.Prelude.{◌≡◌, ◌≢◌, ◌⊎◌, ℕ, ◌+◌, ◌-◌, ◌≤◌, ◌<◌, List, [], true, length, Some, vec_len, IfOk, OnErr};
+ghost use Rattle.std.specs.List.{All};
+ghost use Rattle.refusal.specs.declared.Refusal.{Refusal};
+ghost use Rattle.command.specs.declared.request.Command.{Command};
+ghost use Rattle.command.specs.declared.request.Reply.TheVariants.{Answered, Finished, AtLevel, Restarted};
+ghost use Rattle.journal.specs.declared.unit.Unit.{Unit as JournalUnit};
+ghost use Rattle.pin_board.specs.Slips.{AreInJournal};
+ghost use Rattle.serial.specs.Machine.{told_had};
+ghost use Rattle.shared_engine.specs.Blocks.{said, IsLone, IsInside, IsTried, IsOpened, IsDeeper, IsNone, IsCommitted, IsLower, IsRolledBack, IsRestarted, HasDone, AreDone, NoneRestarts, IsFresh, moved};
+ghost use Rattle.shared_engine.specs.Writes.{IsAlone};
+
+use crate::locked::{Ended, Locked};
+use crate::session::Session;
+use collation::LockCommand;
+use command::{Answer, Command, DataCommand, Reply};
+use pin_board::{Board, BoardName};
+use refusal::Refusal;
+use std::alloc::{AllocError, Global};
+use std::sync::Wait;
+
+// What a data command is replied.
+fn answered(done: Result<Answer, Refusal>) -> Reply
+    ensures { result ≡ said Answered done }
+{
+    match done {
+        Ok(answer) => Reply::Answered(answer),
+        Err(refusal) => Reply::Refused(refusal),
+    }
+}
+
+// What a LOCK is replied: whether it had its names, where it has names.
+fn had(command: &LockCommand, done: Result<bool, Refusal>) -> Reply
+    ensures { result ≡ said (told_had command.now) done }
+{
+    match done {
+        Ok(had) => match command {
+            LockCommand::Release => Reply::Finished,
+            LockCommand::Only(_) => Reply::Had(had),
+            LockCommand::More(_) => Reply::Had(had),
+            LockCommand::Fewer(_) => Reply::Had(had),
+        },
+        Err(refusal) => Reply::Refused(refusal),
+    }
+}
+
+// What a TSTART is replied.
+fn at_level(done: Result<u64, Refusal>) -> Reply
+    ensures { result ≡ said AtLevel done }
+{
+    match done {
+        Ok(level) => Reply::AtLevel(level),
+        Err(refusal) => Reply::Refused(refusal),
+    }
+}
+
+// What a TCOMMIT is replied.
+fn committed(done: Result<Reply, Refusal>) -> Reply
+    ensures { result ≡ said (λ r. r) done }
+{
+    match done {
+        Ok(reply) => reply,
+        Err(refusal) => Reply::Refused(refusal),
+    }
+}
+
+// What a TROLLBACK is replied.
+fn finished(done: Result<(), Refusal>) -> Reply
+    ensures { result ≡ said (λ _. Finished) done }
+{
+    match done {
+        Ok(()) => Reply::Finished,
+        Err(refusal) => Reply::Refused(refusal),
+    }
+}
+
+// What a TRESTART is replied.
+fn restarted(done: Result<u64, Refusal>) -> Reply
+    ensures { result ≡ said Restarted done }
+{
+    match done {
+        Ok(restarts) => Reply::Restarted(restarts),
+        Err(refusal) => Reply::Refused(refusal),
+    }
+}
+
+impl<B: BoardName> Locked<B> {
+    /// Does the commands of a session's fresh transaction, whose start is moved to now. No other job does anything
+    /// meanwhile, so no TCOMMIT in it begins anew. Each LOCK is one try. A command's refusal is its reply.
+    ///
+    /// `AllocError` where there is no room for the replies, and nothing has changed.
+    pub(crate) fn run_serial<R: Wait>(
+        &mut self,
+        rt: &R,
+        board: &Board<B>,
+        alloc: Global,
+        session: &mut Session<B>,
+        block: Vec<Command>,
+    ) -> Result<Vec<Reply>, AllocError>
+        requires fresh { IsFresh session.old }
+        requires goes_on { All (λ (c : Command). c ≢ Command.Halt) block.items }
+        ensures done { IfOk result (λ replies. AreDone block.items replies.items self.old.common.units self.new.common.units (moved self.old.common.units session.old) session.new) }
+        ensures each { IfOk result (λ replies. vec_len replies ≡ vec_len block) }
+        ensures commits { IfOk result (λ replies. NoneRestarts block.items replies.items) }
+        ensures refused { OnErr result ((self.new.common ≡ self.old.common) × (session.new ≡ session.old)) }
+        ensures others { (self.new.opened ≡ self.old.opened) × (self.new.seats ≡ self.old.seats) }
+    {
+        let mut replies = Vec::with_capacity(alloc, block.len())?;
+        self.move_start(rt, board, session);
+        'block: for command in block {
+            replies.push_reserved(self.serial_step(rt, board, session, command));
+        }
+        Ok(replies)
+    }
+
+    // Moves the start of a transaction that has done nothing to now.
+    fn move_start<R: Wait>(&self, rt: &R, board: &Board<B>, session: &mut Session<B>)
+        requires { IsFresh session.old }
+        ensures moved { session.new ≡ moved self.now.common.units session.old }
+        ensures in_journal { AreInJournal self.now.common.units session.old.receipts }
+    {
+        let now = board.restart(rt, &self.desk, &mut session.pin);
+        session.state.move_start(now);
+    }
+
+    // One command of the block.
+    fn serial_step<R: Wait>(
+        &mut self,
+        rt: &R,
+        board: &Board<B>,
+        session: &mut Session<B>,
+        command: Command,
+    ) -> Reply
+        requires goes_on { command ≢ Command.Halt }
+        requires alone { IsAlone session.old self.old.common.units }
+        ensures done { HasDone command result self.old.common.units self.new.common.units session.old session.new }
+        ensures alone { IsAlone session.new self.new.common.units }
+        ensures others { (self.new.opened ≡ self.old.opened) × (self.new.seats ≡ self.old.seats) }
+    {
+        match command {
+            Command::Access(command) => answered(self.serial_access(rt, board, session, command)),
+            Command::Lock(command) => had(&command, self.lock(rt, board, session, &command)),
+            Command::Start => at_level(self.serial_start(rt, board, session)),
+            Command::Commit => committed(self.serial_commit(rt, board, session)),
+            Command::Rollback => finished(self.serial_rollback(rt, board, session)),
+            Command::Restart => restarted(self.serial_restart(rt, board, session)),
+            Command::Level => Reply::Count(session.tlevel()),
+            Command::Restarts => Reply::Count(session.trestarts()),
+            Command::Halt => unreachable!(),
+        }
+    }
+
+    // A data command of the block, in a transaction or not.
+    fn serial_access<R: Wait>(
+        &mut self,
+        rt: &R,
+        board: &Board<B>,
+        session: &mut Session<B>,
+        command: DataCommand,
+    ) -> Result<Answer, Refusal>
+        ensures outside { session.old.state.level ≡ 0 → IsLone command result self.old.common.units self.new.common.units session.old session.new }
+        ensures inside { 1 ≤ session.old.state.level → IsInside command result self.old.common.units self.new.common.units session.old session.new }
+        ensures others { (self.new.opened ≡ self.old.opened) × (self.new.seats ≡ self.old.seats) }
+    {
+        if session.tlevel() == 0 {
+            return self.lone(rt, board, session, command);
+        }
+        self.read(rt, board, session, command)
+    }
+
+    // A TSTART of the block. Outside a transaction one begins now.
+    fn serial_start<R: Wait>(
+        &mut self,
+        rt: &R,
+        board: &Board<B>,
+        session: &mut Session<B>,
+    ) -> Result<u64, Refusal>
+        ensures outside { session.old.state.level ≡ 0 → IsOpened result self.old.common.units self.new.common.units session.old session.new }
+        ensures inside { 1 ≤ session.old.state.level → IsDeeper result self.old.common.units self.new.common.units session.old session.new }
+        ensures same { self.new ≡ self.old }
+    {
+        if session.tlevel() > 0 {
+            return session.tstart_inner();
+        }
+        let Ok(_) = board.settle(&mut session.pin) else {
+            return Err(Refusal::Again);
+        };
+        let now = board.restart(rt, &self.desk, &mut session.pin);
+        session.state.begin(now);
+        Ok(1)
+    }
+
+    // A TCOMMIT of the block.
+    fn serial_commit<R: Wait>(
+        &mut self,
+        rt: &R,
+        board: &Board<B>,
+        session: &mut Session<B>,
+    ) -> Result<Reply, Refusal>
+        requires { IsAlone session.old self.old.common.units }
+        ensures outside { session.old.state.level ≡ 0 → IsNone result self.old.common.units self.new.common.units session.old session.new }
+        ensures outermost { session.old.state.level ≡ 1 → IsCommitted result self.old.common.units self.new.common.units session.old session.new }
+        ensures inside { 1 < session.old.state.level → IsLower result self.old.common.units self.new.common.units session.old session.new }
+        ensures others { (self.new.opened ≡ self.old.opened) × (self.new.seats ≡ self.old.seats) }
+    {
+        match session.tlevel() {
+            0 => Err(Refusal::NoTransaction),
+            1 => self.commit_alone(rt, board, session),
+            _ => Ok(Reply::AtLevel(session.tcommit_inner())),
+        }
+    }
+
+    // The outermost TCOMMIT of the block. Nobody can have overtaken the transaction.
+    fn commit_alone<R: Wait>(
+        &mut self,
+        rt: &R,
+        board: &Board<B>,
+        session: &mut Session<B>,
+    ) -> Result<Reply, Refusal>
+        requires level { session.old.state.level ≡ 1 }
+        requires alone { IsAlone session.old self.old.common.units }
+        ensures done { IsCommitted result self.old.common.units self.new.common.units session.old session.new }
+        ensures others { (self.new.opened ≡ self.old.opened) × (self.new.seats ≡ self.old.seats) }
+    {
+        match self.tcommit(rt, board, session) {
+            Ok(Ended::Committed) => Ok(Reply::Committed),
+            Ok(Ended::Restarted(_)) => unreachable!(),
+            Err(refusal) => Err(refusal),
+        }
+    }
+
+    // A TROLLBACK of the block.
+    fn serial_rollback<R: Wait>(
+        &mut self,
+        rt: &R,
+        board: &Board<B>,
+        session: &mut Session<B>,
+    ) -> Result<(), Refusal>
+        ensures outside { session.old.state.level ≡ 0 → IsNone result self.old.common.units self.new.common.units session.old session.new }
+        ensures inside { 1 ≤ session.old.state.level → IsRolledBack result self.old.common.units self.new.common.units session.old session.new }
+        ensures others { (self.new.opened ≡ self.old.opened) × (self.new.seats ≡ self.old.seats) }
+    {
+        if session.tlevel() == 0 {
+            return Err(Refusal::NoTransaction);
+        }
+        self.trollback(rt, board, session)
+    }
+
+    // A TRESTART of the block.
+    fn serial_restart<R: Wait>(
+        &mut self,
+        rt: &R,
+        board: &Board<B>,
+        session: &mut Session<B>,
+    ) -> Result<u64, Refusal>
+        ensures outside { session.old.state.level ≡ 0 → IsNone result self.old.common.units self.new.common.units session.old session.new }
+        ensures inside { 1 ≤ session.old.state.level → IsRestarted result self.old.common.units self.new.common.units session.old session.new }
+        ensures others { (self.new.opened ≡ self.old.opened) × (self.new.seats ≡ self.old.seats) }
+    {
+        if session.tlevel() == 0 {
+            return Err(Refusal::NoTransaction);
+        }
+        self.trestart(rt, board, session)
+    }
+}

@@ -1,0 +1,188 @@
+//! What one job holds.
+ghost use Rattle.std.specs.Prelude.{◌≡◌, ◌<◌, ◌≤◌, ◌+◌, ◌-◌, ◌&&◌, not, map, nat_eq, is_some, length, IfOk, IfErr, IfSome, OnOk, OnErr, IsErrOf};
+ghost use Rattle.refusal.specs.declared.Refusal.{Refusal};
+ghost use Rattle.collation.specs.Limits.{most_levels};
+ghost use Rattle.collation.specs.Database.{Database};
+ghost use Rattle.command.specs.declared.access.DataCommand.TheVariants.{Set as set_command, Kill as kill_command, Look as look_command};
+ghost use Rattle.command.specs.declared.access.Look.TheVariants.{Get as get_command};
+ghost use Rattle.command.specs.Data.{data_reply};
+ghost use Rattle.workspace.specs.Layers.{decides};
+ghost use Rattle.validate_commit.specs.Working.{IsCauseAlone, IsWorkOn, seen};
+ghost use Rattle.job_core.specs.Sessions.{at_level, HasWritten};
+ghost use Rattle.shared_engine.specs.Receipts.{number_of, RisesFrom};
+ghost use Rattle.shared_engine.specs.Sessions.{held};
+
+use collation::{Job, Text};
+use command::Answer;
+use job_core::JobState;
+use key_codec::Key;
+use pin_board::{BoardName, Pin, Slip};
+use refusal::Refusal;
+use std::marker::Model;
+
+/// A job at work: its state, its seat on the board, and the numbers of its receipts. Contracts see the unit of each
+/// receipt too, which its seat knows, and the journal at the start of its transaction.
+///
+/// It ends by `Shared::halt`. One that is dropped instead keeps its job and its seat for good, and where its
+/// transaction is open no content from that start on is collected; `Closed` tells how many sessions there were.
+#[derive(Drop)]
+pub struct Session<B: BoardName> {
+    pub(crate) state: JobState,
+    pub(crate) pin: Pin<B>,
+    pub(crate) numbers: Vec<u64>,
+}
+
+impl<B: BoardName> Model for Session<B> {
+    ghost use Rattle.shared_engine.specs.Codes.{held_code};
+    ghost use Rattle.shared_engine.specs.Receipts.{receipts_in};
+    ghost use Rattle.shared_engine.specs.Sessions.{Held, held, start_in, IsSession};
+
+    ghost Value = { Held };
+
+    ghost coded = { held_code };
+
+    ghost view = { λ s. held s.state (start_in s.pin) (receipts_in s.pin.mine) };
+
+    ghost invariant = { λ s. IsSession s.state s.pin s.numbers.items };
+}
+
+/// A job's receipts in order, once its session has ended.
+#[derive(Drop)]
+pub struct Pass<B: BoardName> {
+    pub(crate) job: Job,
+    pub(crate) slip: Slip<B>,
+    pub(crate) numbers: Vec<u64>,
+}
+
+impl<B: BoardName> Model for Pass<B> {
+    ghost use Rattle.shared_engine.specs.Codes.{book_code};
+    ghost use Rattle.shared_engine.specs.Receipts.{Book, book, receipts_in, IsBook};
+
+    ghost Value = { Book };
+
+    ghost coded = { book_code };
+
+    ghost view = { λ p. book p.job (receipts_in p.slip) };
+
+    ghost invariant = { λ p. IsBook p.job p.numbers.items p.slip };
+}
+
+impl<B: BoardName> Pass<B> {
+    /// The job that had the session.
+    pub fn job(&self) -> Job
+        ensures { result ≡ self.now.job }
+    {
+        self.job
+    }
+
+    /// The numbers of the job's units, but those of rollbacks and of its end, in order. The first unit of a journal is
+    /// 1.
+    pub fn numbers(&self) -> &[u64]
+        ensures all { map number_of self.now.receipts ≡ result.now }
+        ensures rising { RisesFrom 0 self.now.receipts }
+    {
+        self.numbers.as_slice()
+    }
+}
+
+impl<B: BoardName> Session<B> {
+    /// The job that has the session.
+    pub fn job(&self) -> Job
+        ensures { result ≡ self.now.state.work.job }
+    {
+        self.state.job()
+    }
+
+    /// The numbers of the job's units so far, but those of rollbacks, in order. The first unit of a journal is 1.
+    pub fn numbers(&self) -> &[u64]
+        ensures all { map number_of self.now.receipts ≡ result.now }
+        ensures rising { RisesFrom 0 self.now.receipts }
+    {
+        self.numbers.as_slice()
+    }
+
+    /// $TLEVEL: how deep transactions are nested, 0 outside.
+    pub fn tlevel(&self) -> u64
+        ensures { result ≡ self.now.state.level }
+    {
+        self.state.level()
+    }
+
+    /// $TRESTART: how often the open transaction began anew, 0 outside.
+    pub fn trestarts(&self) -> u64
+        ensures { result ≡ self.now.state.restarts }
+    {
+        self.state.restarts()
+    }
+
+    /// Whether the transaction took a LOCK since its start or last restart.
+    pub fn took_lock(&self) -> bool
+        ensures { result ≡ self.now.state.took_lock }
+    {
+        self.state.took_lock()
+    }
+
+    /// Whether the transaction is at level 1 and has done nothing yet, neither a data command nor a LOCK.
+    pub fn is_fresh(&self) -> bool
+        ensures { result ≡ (nat_eq self.now.state.level 1 && nat_eq (length self.now.state.work.exchanges) 0 && not self.now.state.took_lock) }
+    {
+        self.state.is_fresh()
+    }
+
+    /// TSTART within a transaction: its level is one higher. Takes neither lock nor memory.
+    ///
+    /// Refusals: `LevelTooDeep` at level 127, after which nothing has changed.
+    pub fn tstart_inner(&mut self) -> Result<u64, Refusal>
+        requires { 1 ≤ self.old.state.level }
+        ensures deeper { IfOk result (λ level. (level ≡ self.old.state.level + 1) × ((self.old.state.level < most_levels) × (self.new ≡ held (at_level level self.old.state) self.old.start self.old.receipts))) }
+        ensures refused { IfErr result (λ refusal. (refusal ≡ Refusal.LevelTooDeep) × ((most_levels ≤ self.old.state.level) × (self.new ≡ self.old))) }
+    {
+        self.state.start_inner()
+    }
+
+    /// TCOMMIT of an inner level: it is one lower. Takes neither lock nor memory.
+    pub fn tcommit_inner(&mut self) -> u64
+        requires { 1 < self.old.state.level }
+        ensures level { result ≡ self.old.state.level - 1 }
+        ensures session { self.new ≡ held (at_level (self.old.state.level - 1) self.old.state) self.old.start self.old.receipts }
+    {
+        self.state.commit_inner()
+    }
+
+    /// SET in a transaction, which is open. Takes no lock, and waits for nobody.
+    ///
+    /// Refusals, after which nothing has changed: `TransactionTooLong` where the transaction holds 65,535 data
+    /// commands, else `OutOfMemory`.
+    pub fn set(&mut self, key: Key, value: Text) -> Result<(), Refusal>
+        requires { 1 ≤ self.old.state.level }
+        ensures written { OnOk result (HasWritten (set_command key value) self.old.state self.new.state) }
+        ensures same { (self.new.start ≡ self.old.start) × (self.new.receipts ≡ self.old.receipts) }
+        ensures refused { OnErr result (self.new ≡ self.old) }
+        ensures cause { IfErr result (λ refusal. IsCauseAlone refusal self.old.state.work) }
+    {
+        self.state.set(key, value)
+    }
+
+    /// KILL in a transaction: as `set`.
+    pub fn kill(&mut self, key: Key) -> Result<(), Refusal>
+        requires { 1 ≤ self.old.state.level }
+        ensures written { OnOk result (HasWritten (kill_command key) self.old.state self.new.state) }
+        ensures same { (self.new.start ≡ self.old.start) × (self.new.receipts ≡ self.old.receipts) }
+        ensures refused { OnErr result (self.new ≡ self.old) }
+        ensures cause { IfErr result (λ refusal. IsCauseAlone refusal self.old.state.work) }
+    {
+        self.state.kill(key)
+    }
+
+    /// What a $GET answers where the transaction's own writes decide it: some exactly there, and then what it answers
+    /// whatever database the transaction began with. Nothing is kept of it. Takes no lock, and waits for nobody.
+    ///
+    /// Refusals: `OutOfMemory`.
+    pub fn own_get(&self, key: &Key, default: &Option<Text>) -> Result<Option<Answer>, Refusal>
+        ensures decided { IfOk result (λ found. is_some found ≡ decides self.now.state.work.layer key.now) }
+        ensures answer { IfOk result (λ found. IfSome found (λ answer. (m : Database) → IsWorkOn self.now.state.work m → answer ≡ data_reply (look_command (get_command key.now default.now)) (seen self.now.state.work m))) }
+        ensures memory { OnErr result (IsErrOf result Refusal.OutOfMemory) }
+    {
+        self.state.own_get(key, default)
+    }
+}

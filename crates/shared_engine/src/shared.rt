@@ -1,0 +1,371 @@
+//! The engine as threads see it.
+ghost use Rattle.std.specs.Prelude.{◌≡◌, ◌≢◌, ◌⊎◌, ◌<◌, ◌≤◌, ◌+◌, ◌-◌, ◌^◌, ◌∷◌, ◌++◌, ℕ, List, [], true, false, length, vec_len, None, Some, IfOk, IfErr, IfSome, IsSome, OnOk, OnErr};
+ghost use Rattle.std.specs.List.{All, sum_by};
+ghost use Rattle.refusal.specs.declared.Refusal.{Refusal};
+ghost use Rattle.journal.specs.History.{initial, after};
+ghost use Rattle.journal.specs.Kept.{Claim};
+ghost use Rattle.journal.specs.declared.unit.Unit.{Unit as JournalUnit};
+ghost use Rattle.journal.specs.declared.unit.Unit.TheVariants.{Lone};
+ghost use Rattle.job_core.specs.Sessions.{idle, IsAnsweredOrRefused};
+ghost use Rattle.pin_board.specs.Slips.{AreInJournal};
+ghost use Rattle.command.specs.declared.request.Command.{Command};
+ghost use Rattle.shared_engine.specs.Blocks.{AreDone, NoneRestarts, IsFresh, moved};
+ghost use Rattle.shared_engine.specs.Receipts.{Book, book, receipted, RisesFrom};
+ghost use Rattle.shared_engine.specs.Sessions.{held, ended, and_receipt, begun_anew, HasBegun};
+ghost use Rattle.shared_engine.specs.Engines.{HasEnded, HasItsNames, WasBlocked, OnOkThat, OnOkNot, after_try, receipts_of};
+ghost use Rattle.shared_engine.specs.Writes.{AreWrites};
+
+use crate::adaptive::AdaptiveLock;
+use crate::gate::Gate;
+use crate::locked::{Closed, Ended, Locked};
+use crate::session::{Pass, Session};
+use collation::{Job, LockCommand};
+use collector::Progress;
+use command::{Answer, Command, DataCommand, Reply};
+use pin_board::{Blank, Board, BoardName, FloorAbove};
+use refusal::Refusal;
+use std::alloc::{AllocError, Global};
+use std::sync::{RwLockReadGuard, RwLockWriteGuard, Wait};
+
+/// An engine for many threads: what all jobs share under a lock, and the board beside it, on which transactions begin
+/// and end without the lock.
+#[derive(Drop)]
+pub struct Shared<B: BoardName> {
+    board: Board<B>,
+    lock: AdaptiveLock<Locked<B>>,
+}
+
+/// The shared lock, held until this is dropped: others read meanwhile, and nobody writes. It lends nothing.
+#[derive(Drop)]
+pub struct Share<'a, B: BoardName> {
+    _guard: RwLockReadGuard<'a, Locked<B>>,
+}
+
+/// The exclusive lock, held until this is dropped: nobody reads or writes meanwhile, and transactions begin and end. It
+/// lends nothing.
+#[derive(Drop)]
+pub struct Pause<'a, B: BoardName> {
+    _guard: RwLockWriteGuard<'a, Locked<B>>,
+}
+
+impl<B: BoardName> Shared<B> {
+    /// No unit, and no session. The board is blank, with 4,096 seats. Takes no memory.
+    pub fn new(alloc: Global, blank: Blank) -> Shared<B>
+        requires { (blank.seat.table_id ≡ B.table) × (blank.words.seats ≡ 4096) }
+    {
+        let (board, desk) = blank.named();
+        Shared {
+            board,
+            lock: AdaptiveLock::new(Locked::new(alloc, desk)),
+        }
+    }
+
+    /// Begins a session of a job that has none. Takes the exclusive lock.
+    ///
+    /// Refusals: `BadJob` where the job has a session; `OutOfMemory`.
+    pub fn open<R: Wait>(&self, rt: &R, alloc: Global, job: Job) -> Result<Session<B>, Refusal>
+        ensures session { IfOk result (λ session. session ≡ held (idle job) None []) }
+        ensures cause { IfErr result (λ refusal. (refusal ≡ Refusal.BadJob) ⊎ (refusal ≡ Refusal.OutOfMemory)) }
+    {
+        self.lock.write(rt).open(rt, &self.board, alloc, job)
+    }
+
+    /// A data command of a session without a transaction: a unit of its own, with a receipt. Takes the exclusive lock.
+    ///
+    /// Refusals, after which nothing has changed: those of `Core::lone`; and `OutOfMemory` for the receipt, before
+    /// them.
+    pub fn lone<R: Wait>(
+        &self,
+        rt: &R,
+        session: &mut Session<B>,
+        command: DataCommand,
+    ) -> Result<Answer, Refusal>
+        requires { session.old.state.level ≡ 0 }
+        ensures receipt { IfOk result (λ answer. (n : ℕ) × (session.new ≡ and_receipt n (Lone session.old.state.work.job command answer) session.old)) }
+        ensures refused { OnErr result (session.new ≡ session.old) }
+    {
+        self.lock.write(rt).lone(rt, &self.board, session, command)
+    }
+
+    // The first try of a LOCK. The lock is given back before the caller goes on.
+    fn lock_first<R: Wait>(
+        &self,
+        rt: &R,
+        session: &mut Session<B>,
+        command: &LockCommand,
+    ) -> Result<bool, Refusal>
+        ensures tried { IfOk result (λ had. (n : ℕ) × (session.new ≡ after_try n command.now had session.old)) }
+        ensures refused { OnErr result (session.new ≡ session.old) }
+    {
+        self.lock.write(rt).lock(rt, &self.board, session, command)
+    }
+
+    // A later try of a LOCK.
+    fn lock_again<R: Wait>(
+        &self,
+        rt: &R,
+        session: &mut Session<B>,
+        command: &LockCommand,
+    ) -> Result<bool, Refusal>
+        ensures had { OnOkThat result ((n : ℕ) × (session.new ≡ after_try n command.now true session.old)) }
+        ensures blocked { OnOkNot result (session.new ≡ session.old) }
+        ensures refused { OnErr result (session.new ≡ session.old) }
+    {
+        self.lock
+            .write(rt)
+            .lock_again(rt, &self.board, session, command)
+    }
+
+    // Later tries, until one has the names.
+    fn lock_later<R: Wait, G: Gate>(
+        &self,
+        rt: &R,
+        session: &mut Session<B>,
+        command: &LockCommand,
+        gate: &G,
+    ) -> Result<(), Refusal>
+        ensures had { OnOk result ((n : ℕ) × (session.new ≡ after_try n command.now true session.old)) }
+        ensures refused { OnErr result (session.new ≡ session.old) }
+    {
+        'tries: for _ in rt.forever() {
+            gate.between_tries(session.job());
+            if self.lock_again(rt, session, command)? {
+                return Ok(());
+            }
+        }
+        unreachable!()
+    }
+
+    // Later tries, one after each second of so many.
+    fn lock_within_later<R: Wait, G: Gate>(
+        &self,
+        rt: &R,
+        session: &mut Session<B>,
+        command: &LockCommand,
+        seconds: u64,
+        gate: &G,
+    ) -> Result<bool, Refusal>
+        ensures had { OnOkThat result ((n : ℕ) × (session.new ≡ after_try n command.now true session.old)) }
+        ensures blocked { OnOkNot result (session.new ≡ session.old) }
+        ensures refused { OnErr result (session.new ≡ session.old) }
+    {
+        'tries: for _ in 0..seconds {
+            gate.second(session.job());
+            if self.lock_again(rt, session, command)? {
+                return Ok(true);
+            }
+        }
+        Ok(false)
+    }
+
+    /// LOCK without a timeout: where its names are blocked it is a unit that says so, and is tried again after each
+    /// `Gate::between_tries`, until it has them, which is another unit. Tries between write nothing. Takes the
+    /// exclusive lock for each try.
+    ///
+    /// Refusals: those of `Core::lock`, and `OutOfMemory` for the receipt. Nothing has changed then, but for the unit
+    /// of a first try in vain and its receipt.
+    pub fn lock<R: Wait, G: Gate>(
+        &self,
+        rt: &R,
+        session: &mut Session<B>,
+        command: &LockCommand,
+        gate: &G,
+    ) -> Result<(), Refusal>
+        ensures had { OnOk result (HasItsNames command.now session.old session.new) }
+        ensures refused { OnErr result ((session.new ≡ session.old) ⊎ WasBlocked command.now session.old session.new) }
+    {
+        if self.lock_first(rt, session, command)? {
+            return Ok(());
+        }
+        self.lock_later(rt, session, command, gate)
+    }
+
+    /// LOCK with a timeout of so many seconds: at most one try more than that, with a `Gate::second` between two.
+    /// Whether it has its names at the end. The first try is a unit, and a later one that has the names.
+    ///
+    /// Refusals: as `lock`.
+    pub fn lock_within<R: Wait, G: Gate>(
+        &self,
+        rt: &R,
+        session: &mut Session<B>,
+        command: &LockCommand,
+        seconds: u64,
+        gate: &G,
+    ) -> Result<bool, Refusal>
+        ensures had { OnOkThat result (HasItsNames command.now session.old session.new) }
+        ensures blocked { OnOkNot result (WasBlocked command.now session.old session.new) }
+        ensures refused { OnErr result ((session.new ≡ session.old) ⊎ WasBlocked command.now session.old session.new) }
+    {
+        if self.lock_first(rt, session, command)? {
+            return Ok(true);
+        }
+        self.lock_within_later(rt, session, command, seconds, gate)
+    }
+
+    /// The outermost TSTART: a transaction begins on a journal in which the session's own units are. Takes no lock and
+    /// no memory, and waits for nobody.
+    ///
+    /// Refusals, after which nothing has changed: `Again` where a horizon passed the start as it was taken.
+    pub fn tstart(&self, session: &mut Session<B>) -> Result<(), Refusal>
+        requires { session.old.state.level ≡ 0 }
+        ensures begun { OnOk result ((base : List JournalUnit) × HasBegun base session.old session.new) }
+        ensures refused { IfErr result (λ refusal. (refusal ≡ Refusal.Again) × (session.new ≡ session.old)) }
+    {
+        match self.board.settle(&mut session.pin) {
+            Ok(start) => {
+                session.state.begin(start);
+                Ok(())
+            }
+            Err(FloorAbove) => Err(Refusal::Again),
+        }
+    }
+
+    /// A data command of an open transaction, on the map of its start followed by its own commands. Takes the shared
+    /// lock.
+    ///
+    /// Refusals, after which nothing has changed: those of `Core::read`. A start that is no longer kept is none of
+    /// them.
+    pub fn read<R: Wait>(
+        &self,
+        rt: &R,
+        session: &mut Session<B>,
+        command: DataCommand,
+    ) -> Result<Answer, Refusal>
+        requires { 1 ≤ session.old.state.level }
+        ensures answered { IfSome session.old.start (λ base. IsAnsweredOrRefused command result (after base initial).map session.old.state session.new.state) }
+        ensures open { IsSome session.old.start }
+        ensures same { (session.new.start ≡ session.old.start) × (session.new.receipts ≡ session.old.receipts) }
+    {
+        self.lock.read(rt).read(rt, &self.board, session, command)
+    }
+
+    /// The outermost TCOMMIT: the transaction is a unit with a receipt, or it begins anew, exactly where another unit
+    /// touched what it had read. One that did SETs and KILLs alone never does. Takes the exclusive lock.
+    ///
+    /// Refusals, after which nothing has changed: those of `Core::commit`; those of TRESTART where it was overtaken;
+    /// and `OutOfMemory` for the receipt.
+    pub fn tcommit<R: Wait>(&self, rt: &R, session: &mut Session<B>) -> Result<Ended, Refusal>
+        requires { session.old.state.level ≡ 1 }
+        ensures ended { IfOk result (λ end. (units more : List JournalUnit) × HasEnded end units more session.old session.new) }
+        ensures writes { AreWrites session.old.state.work.exchanges → IfOk result (λ end. end ≡ Ended.Committed) }
+        ensures refused { OnErr result (session.new ≡ session.old) }
+    {
+        self.lock.write(rt).tcommit(rt, &self.board, session)
+    }
+
+    /// TROLLBACK of a transaction that took no LOCK: nothing of it is left. Takes no lock and no memory, and waits for
+    /// nobody.
+    pub fn rollback_free(&self, session: &mut Session<B>)
+        requires level { 1 ≤ session.old.state.level }
+        requires free { session.old.state.took_lock ≡ false }
+        ensures { session.new ≡ ended session.old }
+    {
+        self.board.leave(&mut session.pin);
+        session.state.end();
+    }
+
+    /// TROLLBACK: nothing of the transaction is left. Takes the exclusive lock where it took a LOCK, else none.
+    ///
+    /// Refusals, after which nothing has changed, and only where it took a LOCK: `StampsUsedUp`, `OutOfMemory`.
+    pub fn trollback<R: Wait>(&self, rt: &R, session: &mut Session<B>) -> Result<(), Refusal>
+        requires { 1 ≤ session.old.state.level }
+        ensures over { OnOk result (session.new ≡ ended session.old) }
+        ensures refused { OnErr result (session.new ≡ session.old) }
+        ensures cause { IfErr result (λ refusal. ((refusal ≡ Refusal.OutOfMemory) ⊎ (refusal ≡ Refusal.StampsUsedUp)) × (session.old.state.took_lock ≡ true)) }
+    {
+        if session.took_lock() {
+            return self.lock.write(rt).trollback(rt, &self.board, session);
+        }
+        self.rollback_free(session);
+        Ok(())
+    }
+
+    /// TRESTART: nothing of the transaction is left, and it begins anew at level 1, at the present moment. Answers how
+    /// often it has. Takes the exclusive lock.
+    ///
+    /// Refusals, after which nothing has changed, and only where it took a LOCK: `StampsUsedUp`, `OutOfMemory`.
+    pub fn trestart<R: Wait>(&self, rt: &R, session: &mut Session<B>) -> Result<u64, Refusal>
+        requires { 1 ≤ session.old.state.level }
+        ensures anew { IfOk result (λ restarts. (units : List JournalUnit) × ((session.new ≡ begun_anew units session.old) × (restarts ≡ session.new.state.restarts))) }
+        ensures refused { OnErr result (session.new ≡ session.old) }
+        ensures cause { IfErr result (λ refusal. ((refusal ≡ Refusal.OutOfMemory) ⊎ (refusal ≡ Refusal.StampsUsedUp)) × (session.old.state.took_lock ≡ true)) }
+    {
+        self.lock.write(rt).trestart(rt, &self.board, session)
+    }
+
+    /// HALT: the session is over, its locks are released and its transaction is gone; its job may have another. Gives
+    /// its pass, or the session back with the refusal. Takes the exclusive lock.
+    ///
+    /// Refusals, after which the session goes on as it was: `StampsUsedUp`, `OutOfMemory`.
+    pub fn halt<R: Wait>(
+        &self,
+        rt: &R,
+        session: Session<B>,
+    ) -> Result<Pass<B>, (Session<B>, Refusal)>
+        ensures pass { IfOk result (λ pass. pass ≡ book session.state.work.job session.receipts) }
+        ensures refused { IfErr result (λ r. r.0 ≡ session) }
+        ensures cause { IfErr result (λ r. (r.1 ≡ Refusal.OutOfMemory) ⊎ (r.1 ≡ Refusal.StampsUsedUp)) }
+    {
+        self.lock.write(rt).halt(rt, &self.board, session)
+    }
+
+    /// Does the commands of a session's fresh transaction under one hold of the exclusive lock. Its start is moved to
+    /// now, and nobody else does anything meanwhile, so no TCOMMIT in it begins anew. Each LOCK is one try. Answers the
+    /// reply to each command, a refusal too: after one nothing has changed, and the block goes on. A transaction that
+    /// the block leaves open stays so.
+    ///
+    /// `AllocError` where there is no room for the replies, and nothing has changed.
+    pub fn run_serial<R: Wait>(
+        &self,
+        rt: &R,
+        alloc: Global,
+        session: &mut Session<B>,
+        block: Vec<Command>,
+    ) -> Result<Vec<Reply>, AllocError>
+        requires fresh { IsFresh session.old }
+        requires goes_on { All (λ (c : Command). c ≢ Command.Halt) block.items }
+        ensures done { IfOk result (λ replies. (units more : List JournalUnit) × AreDone block.items replies.items units more (moved units session.old) session.new) }
+        ensures each { IfOk result (λ replies. vec_len replies ≡ vec_len block) }
+        ensures commits { IfOk result (λ replies. NoneRestarts block.items replies.items) }
+        ensures refused { OnErr result (session.new ≡ session.old) }
+    {
+        let mut locked = self.lock.write(rt);
+        locked.run_serial(rt, &self.board, alloc, session, block)
+    }
+
+    /// A turn of the collector over so many keys, at a horizon that is above no open transaction's start. Takes the
+    /// exclusive lock.
+    ///
+    /// Refusals, after which no content is gone: `OutOfMemory`.
+    pub fn collect<R: Wait>(&self, rt: &R, limit: usize) -> Result<Progress, Refusal>
+        ensures few { IfOk result (λ progress. progress.visited ≤ limit) }
+        ensures cause { IfErr result (λ refusal. refusal ≡ Refusal.OutOfMemory) }
+    {
+        self.lock.write(rt).collect(rt, &self.board, limit)
+    }
+
+    /// Holds the shared lock until the share is dropped.
+    pub fn share<R: Wait>(&self, rt: &R) -> Share<'_, B> {
+        Share {
+            _guard: self.lock.read(rt),
+        }
+    }
+
+    /// Holds the exclusive lock until the pause is dropped.
+    pub fn pause<R: Wait>(&self, rt: &R) -> Pause<'_, B> {
+        Pause {
+            _guard: self.lock.write(rt),
+        }
+    }
+
+    /// Closes the engine. Each receipt's unit is in its journal at its number; and where as many passes are in as there
+    /// were sessions, each job has as many units, but for rollbacks and ends, as receipts. Takes no memory.
+    pub fn finish<R: Wait>(self, rt: &R, passes: Vec<Pass<B>>) -> Closed
+        ensures in_journal { All (λ (p : Book). AreInJournal result.core.units p.receipts) passes.items }
+        ensures rising { All (λ (p : Book). RisesFrom 0 p.receipts) passes.items }
+        ensures count { vec_len passes ≡ result.sessions → result.sessions < 2 ^ 64 - 1 → (j : ℕ) → sum_by (receipted j) result.core.units ≡ receipts_of j passes.items }
+    {
+        let Shared { board, lock } = self;
+        lock.into_inner().finish(rt, &board, passes)
+    }
+}

@@ -1,0 +1,11 @@
+//! Tests of the engine of many threads: what no clause says of it. Each loop has a bound on its turns.
+//!
+//! Expected values come from docs/RULES.md, never from the program. Commands are made from lines.
+#![tactic(auto)]
+
+#[cfg(test)]
+mod acts;
+#[cfg(test)]
+mod beside;
+#[cfg(test)]
+mod many;
