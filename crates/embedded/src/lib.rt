@@ -1,0 +1,28 @@
+//! One engine in the hands of a program that isn't written in Rattle, a call at a time.
+//!
+//! An `Embedded` is a `JobCore` with what such a caller needs beside it: the reply of its last line, which is kept
+//! until the next, and how far a listing got. What is answered goes into a buffer that the caller lends. Each call is
+//! seen as the machine's step (`IsAnswer`, `told_by`), and as what it copies (`copied_onto`, `outcome_of_copy`), both
+//! of `specs/Calls.antt`. So:
+//!
+//! (1) a line is run once, whether or not its reply fits into the buffer: where it doesn't, the reply is kept, its
+//!     length is told, and `copy_reply` copies it into a longer one;
+//! (2) nothing is written into a buffer that is too short, and nothing behind what is copied;
+//! (3) a refusal is told by its own number.
+//!
+//! A C program reaches these calls through `vorgushan_c`.
+//!
+//! Read `specs/Calls.antt`, `specs/Outcomes.antt`, then `engine.rt`, `listed.rt`.
+//! Not promised: the time of a call.
+#![tactic(auto)]
+
+pub use copied::{copied_as, name_outcome};
+pub use engine::{Answered, Embedded};
+pub use outcome::Outcome;
+pub use statistics::Statistics;
+
+mod copied;
+mod engine;
+mod listed;
+mod outcome;
+mod statistics;

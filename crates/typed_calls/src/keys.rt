@@ -1,0 +1,65 @@
+//! Keys of names and subscripts.
+ghost use Rattle.std.specs.Prelude.{◌≡◌, ◌-◌, ◌^◌, [], None, min, length, IfErr, IfOk};
+ghost use Rattle.key_codec.specs.Draft.{IsDueOrMemory, longer, reference_due};
+ghost use Rattle.typed_calls.specs.Typed.{below_fault};
+
+use canonic_number::LONGEST_SUBSCRIPT;
+use collation::{MOST_SUBSCRIPTS, Text};
+use key_codec::{Key, KeyDraft};
+use refusal::Refusal;
+use std::alloc::Global;
+
+/// The key of a name alone.
+///
+/// Refusals: `BadName`; `OutOfMemory`.
+pub fn key_of_name(alloc: Global, name: &[u8]) -> Result<Key, Refusal>
+    ensures ok { IfOk result (λ key. (reference_due (record { name = name.now; subscripts = [] }) ≡ None) × (key ≡ record { name = name.now; subscripts = [] })) }
+    ensures err { IfErr result (λ refusal. IsDueOrMemory refusal (reference_due (record { name = name.now; subscripts = [] }))) }
+{
+    let mut draft = KeyDraft::new(alloc);
+    draft.begin(name)?;
+    draft.key(alloc)
+}
+
+// How many subscripts a key has. The count saturates at 2^64 - 1.
+fn depth_of(key: &Key) -> u64
+    ensures { result ≡ min (length key.now.subscripts) (2 ^ 64 - 1) }
+{
+    let mut depth: u64 = 0;
+    'subscripts: for _subscript in key.subscripts() {
+        depth = depth.saturating_add(1);
+    }
+    depth
+}
+
+// Why a key with so many subscripts gets no further one, or none with these bytes.
+fn fault_below(depth: u64, subscript: &[u8]) -> Option<Refusal>
+    ensures { result ≡ below_fault depth subscript.now }
+{
+    if depth >= MOST_SUBSCRIPTS as u64 {
+        Some(Refusal::TooManySubscripts)
+    } else if subscript.is_empty() {
+        Some(Refusal::EmptySubscript)
+    } else if subscript.len() > LONGEST_SUBSCRIPT {
+        Some(Refusal::SubscriptTooLong)
+    } else {
+        None
+    }
+}
+
+/// The key one level below this one, by this subscript.
+///
+/// Refusals, in this order: `TooManySubscripts` over 31; `EmptySubscript`; `SubscriptTooLong` over 127 bytes;
+/// `OutOfMemory`.
+pub fn key_below(alloc: Global, key: &Key, subscript: &[u8]) -> Result<Key, Refusal>
+    ensures ok { IfOk result (λ below. below ≡ longer key.now subscript.now) }
+    ensures err { IfErr result (λ refusal. IsDueOrMemory refusal (reference_due (longer key.now subscript.now))) }
+{
+    let _form = key.as_slice();
+    if let Some(fault) = fault_below(depth_of(key), subscript) {
+        return Err(fault);
+    }
+    let text = Text::from_slice(alloc, subscript)?;
+    let below = key.below(alloc, &text)?;
+    Ok(below)
+}

@@ -1,0 +1,76 @@
+-- The machine values of a `VgKey`. Assumes `Logic`.
+use Rattle.std.proofs.Common.{◌≡◌, ℕ, List, [], ◌∷◌, ◌++◌, refl, subst}
+use mathlib.Core.Bool.{Bool, true, false, ◌&&◌}
+use lib.Dec.{T, lit<}
+use seplogic.Ra.Ura.{Ura}
+use mir.Syntax.{impl, tnil, dnil}
+use mir.Raw.{raw as bare}
+use mir.Val.{Val, vptr, vstruct, vcons, vnil, of_list, has_ty, WT}
+use base.Fraction.{full_share}
+use base.Fml.{ffalse}
+use base.Logic.{SProp, ent, guard, guard_i, id⊢, via, never, fst∗, snd∗}
+use contract.Monad.{fact_use}
+use types.Logic.{Logic, sem}
+use types.Kit.{Item, Goal, Seq, Step, step, ‵, ◌$◌, given, learn, use1, move, drop, fsplit, fsplit3, fjoin, fjoin3, fpick, fpack, rewrite, feq_i, feq_l}
+use denote.RattleType.{RattleType, Valss}
+use denote.Builtin.{RawPtr}
+use denote.Laws.{Is, Lawful, Typed, shows}
+use denote.Memory.{lone}
+use denote.RawPtr.{Ptr, block_ptr, null_ptr, ptr_val, in_a_block, lies_at, Testable}
+use denote.Steps.{nothing, peeks}
+use denote.Param.{layout}
+use denote.Param.Laws.{Laws}
+use denote.Struct.Struct.{Struct, within}
+use denote.Struct.Owning.{shape, to}
+use denote.Struct.Tuple.{Tuple}
+use Rattle.std.specs.declared.alloc.Allocator.{Ghosts}
+use Rattle.std.proofs.alloc.Calls.{Al, handle_tells}
+use Rattle.std.proofs.cell.Inside.{Good, one}
+use Rattle.std.specs.Box.Ownership.{box_owns}
+use Rattle.std.proofs.ResultValues.{and_tt}
+use Rattle.std.specs.declared.alloc.Global.{Global}
+use Rattle.std.specs.contracts.alloc.Global as heap
+use Rattle.std.proofs.alloc.Global.TheLaws as heap_laws
+use Rattle.std.specs.contracts.impls.GlobalAllocator.TheImpl.{ghosts}
+use Rattle.std.proofs.GlobalToken.{dealloc_token-Testable}
+use Rattle.std.specs.declared.option.Option.{Option}
+use Rattle.std.specs.declared.option.Option.TheVariants.{None, Some}
+use Rattle.vorgushan_c.specs.Held.{held}
+use Rattle.key_codec.specs.contracts.key.Key as key
+use Rattle.vorgushan_c.specs.contracts.key_handle.VgKey as vg_key
+use Rattle.vorgushan_c.proofs.Values.{both, either_held, heap_al}
+
+abbrev S : RattleType
+S = key.the_row
+
+abbrev Z : RattleType
+Z = heap.the_row
+
+abbrev pub VgKey : RattleType
+VgKey = vg_key.the_row
+
+module _ {M : Type 1} {𝓤 : Ura M} {𝓛 : Logic 𝓤} {K : Type 0} {Γ : List (Item 𝓤)} {G : Goal 𝓤 𝓛.H} where
+  pub key_out : K → (d : VgKey.Denot) (vs : List Val)
+      → ((h : Val) → d.inside ≡ None → vs ≡ both (ptr_val null_ptr) h ∷ [] → Good (layout Z) h → Seq K 𝓛 (‵ (Z.own_val d.alloc (h ∷ [])) ∷ Γ) G)
+      → ((b o : ℕ) (h : Val) (x : S.Denot) → d.inside ≡ Some x → vs ≡ both (vptr b o) h ∷ [] → Good (layout Z) h → Testable (block_ptr b o)
+      → Seq K 𝓛 (‵ (box_owns (ghosts.dealloc_token d.alloc) S (block_ptr b o) x) ∷ ‵ (Z.own_val d.alloc (h ∷ [])) ∷ Γ) G)
+      → Seq K 𝓛 (‵ (VgKey.own_val d vs) ∷ Γ) G
+  key_out t d vs none one =
+      fsplit t $ fpick t (λ vss. fsplit t $ feq_l t (λ ev. fsplit t $ feq_l t (λ ep. fsplit t $ handle_tells heap_al t d.alloc vss.1.0 (λ h ea fits. move t (1 ∷ []) $ drop t $ move t (1 ∷ []) $
+      let told : vs ≡ both (ptr_val d.at) h ∷ [] =
+      subst (λ (ws : List Val). vs ≡ vstruct (of_list (ptr_val d.at ∷ (ws ++ []))) ∷ []) ea (subst (λ (ps : List Val). vs ≡ vstruct (of_list (ps ++ (vss.1.0 ++ []))) ∷ []) ep ev) in
+      either_held S d.alloc t d.at d.inside
+      (λ is none_there. none h none_there (subst (λ (p : Ptr). vs ≡ both (ptr_val p) h ∷ []) is told) fits)
+      (λ b o x is there u. one b o h x there (subst (λ (p : Ptr). vs ≡ both (ptr_val p) h ∷ []) is told) fits u)))))
+
+  pub key_in : K → (b o : ℕ) (h : Val) (a : Z.Denot) (x : S.Denot)
+      → Step K 𝓛 (‵ (VgKey.own_val (record { at = block_ptr b o; alloc = a; inside = Some x }) (both (vptr b o) h ∷ [])) ∷ Γ) G (‵ (box_owns (ghosts.dealloc_token a) S (block_ptr b o) x) ∷ ‵ (Z.own_val a (h ∷ [])) ∷ Γ) G
+  key_in t b o h a x = step (λ s. let v : Val = both (vptr b o) h in
+      nothing t $ move t (2 ∷ 0 ∷ []) $ fjoin t $ feq_i t (List Val) (vptr b o ∷ []) (vptr b o ∷ []) refl $ fjoin t $ feq_i t (List Val) (v ∷ []) (v ∷ []) refl $ fjoin t $
+      fpack t (Valss (RawPtr ∷ Z ∷ [])) (within (shape vg_key.the_type) (to vg_key.the_type (record { at = block_ptr b o; alloc = a; inside = Some x })) (v ∷ [])) (vptr b o ∷ [], (h ∷ [], tt)) $ fjoin t $ s)
+
+  pub key_none : K → (h : Val) (a : Z.Denot)
+      → Step K 𝓛 (‵ (VgKey.own_val (record { at = null_ptr; alloc = a; inside = None }) (both (ptr_val null_ptr) h ∷ [])) ∷ Γ) G (‵ (Z.own_val a (h ∷ [])) ∷ Γ) G
+  key_none t h a = step (λ s. let v : Val = both (ptr_val null_ptr) h in
+      nothing t $ nothing t $ move t (2 ∷ 0 ∷ []) $ fjoin t $ feq_i t (List Val) (ptr_val null_ptr ∷ []) (ptr_val null_ptr ∷ []) refl $ fjoin t $ feq_i t (List Val) (v ∷ []) (v ∷ []) refl $ fjoin t $
+      fpack t (Valss (RawPtr ∷ Z ∷ [])) (within (shape vg_key.the_type) (to vg_key.the_type (record { at = null_ptr; alloc = a; inside = None })) (v ∷ [])) (ptr_val null_ptr ∷ [], (h ∷ [], tt)) $ fjoin t $ s)

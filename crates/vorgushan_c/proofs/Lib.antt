@@ -1,0 +1,3 @@
+mod Called
+pub mod KeyValues
+pub mod Values

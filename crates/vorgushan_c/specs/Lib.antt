@@ -1,0 +1,3 @@
+pub mod Exports
+pub mod Held
+pub mod Keys

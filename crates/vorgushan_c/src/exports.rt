@@ -1,0 +1,188 @@
+//! What C calls. Each of them is declared in `include/vorgushan.h`, with its meaning for a C programmer.
+ghost use Rattle.std.specs.Prelude.{◌≡◌, ⊤, None};
+ghost use Rattle.std.specs.Option.{MatchOption};
+ghost use Rattle.embedded.specs.Calls.{IsLineCall, IsReplyCall, IsRestart, IsListCall, IsKept};
+ghost use Rattle.embedded.specs.Outcomes.{outcome_number};
+ghost use Rattle.vorgushan_c.specs.Exports.{IsMade, IsCalled, IsCounted, IsNamedBy};
+
+use crate::handle::VgEngine;
+use embedded::{Embedded, Outcome, name_outcome};
+use refusal::Refusal;
+use std::alloc::Global;
+
+/// What an engine holds, for C.
+#[repr(C)]
+#[derive(Clone, Copy)]
+pub struct VgStatistics {
+    /// How many units the journal has.
+    pub units: u64,
+    /// How many bytes they take.
+    pub journal_bytes: u64,
+    /// How many nodes have a value.
+    pub nodes: u64,
+}
+
+/// Makes an engine, whose database is empty, where none is.
+///
+/// `EngineThere` where one is, `OutOfMemory`: then nothing has changed.
+#[unsafe(no_mangle)]
+pub extern "C" fn vorgushan_new(alloc: Global, engine: &mut VgEngine) -> u32
+    ensures { IsMade engine.old.inside engine.new.inside result }
+{
+    if let Some(there) = engine.take(alloc) {
+        engine.put(there);
+        return Outcome::EngineThere.number();
+    }
+    match Box::new(alloc, Embedded::new(alloc)) {
+        Ok(made) => {
+            engine.put(made);
+            Outcome::Done.number()
+        }
+        Err(_) => Outcome::Refused(Refusal::OutOfMemory).number(),
+    }
+}
+
+/// Ends an engine: its memory is given back, and none is there.
+///
+/// `NoEngine` where none was.
+#[unsafe(no_mangle)]
+pub extern "C" fn vorgushan_end(alloc: Global, engine: &mut VgEngine) -> u32
+    ensures ended { engine.new.inside ≡ None }
+    ensures told { MatchOption engine.old.inside (result ≡ outcome_number Outcome.NoEngine) (λ _. result ≡ outcome_number Outcome.Done) }
+{
+    match engine.take(alloc) {
+        Some(there) => {
+            drop(there);
+            Outcome::Done.number()
+        }
+        None => Outcome::NoEngine.number(),
+    }
+}
+
+/// Runs a line, keeps its reply, and copies the reply's line where the buffer is long enough.
+///
+/// Outcomes: as of `Embedded::copy_reply`; `NoEngine`, where nothing was run.
+#[unsafe(no_mangle)]
+pub extern "C" fn vorgushan_line(
+    alloc: Global,
+    engine: &mut VgEngine,
+    line: &[u8],
+    reply: &mut [u8],
+    wanted: &mut usize,
+) -> u32
+    ensures { IsCalled engine.old.inside engine.new.inside result (reply.new ≡ reply.old)
+        (λ before after outcome. IsLineCall line.now before after outcome reply.old reply.new wanted.new) }
+{
+    let Some(mut there) = engine.take(alloc) else {
+        return Outcome::NoEngine.number();
+    };
+    let outcome = there.line(alloc, line, reply, wanted);
+    engine.put(there);
+    outcome.number()
+}
+
+/// Copies the last line's reply once more.
+///
+/// Outcomes: as of `Embedded::copy_reply`; `NoEngine`.
+#[unsafe(no_mangle)]
+pub extern "C" fn vorgushan_reply(
+    alloc: Global,
+    engine: &mut VgEngine,
+    reply: &mut [u8],
+    wanted: &mut usize,
+) -> u32
+    ensures { IsCalled engine.old.inside engine.new.inside result (reply.new ≡ reply.old)
+        (λ before after outcome. IsReplyCall before after outcome reply.old reply.new wanted.new) }
+{
+    let Some(mut there) = engine.take(alloc) else {
+        return Outcome::NoEngine.number();
+    };
+    let outcome = there.copy_reply(reply, wanted);
+    engine.put(there);
+    outcome.number()
+}
+
+/// The next node to list is the first.
+#[unsafe(no_mangle)]
+pub extern "C" fn vorgushan_list_from_start(alloc: Global, engine: &mut VgEngine) -> u32
+    ensures { IsCalled engine.old.inside engine.new.inside result ⊤
+        (λ before after outcome. IsRestart before after) }
+{
+    let Some(mut there) = engine.take(alloc) else {
+        return Outcome::NoEngine.number();
+    };
+    there.list_from_start();
+    engine.put(there);
+    Outcome::Done.number()
+}
+
+/// Copies the line of the node behind the one that was listed last.
+///
+/// Outcomes: as of `Embedded::copy_next_node`; `NoEngine`.
+#[unsafe(no_mangle)]
+pub extern "C" fn vorgushan_list_next(
+    alloc: Global,
+    engine: &mut VgEngine,
+    node: &mut [u8],
+    wanted: &mut usize,
+) -> u32
+    ensures { IsCalled engine.old.inside engine.new.inside result (node.new ≡ node.old)
+        (λ before after outcome. IsListCall before after outcome node.old node.new wanted.new) }
+{
+    let Some(mut there) = engine.take(alloc) else {
+        return Outcome::NoEngine.number();
+    };
+    let outcome = there.copy_next_node(node, wanted);
+    engine.put(there);
+    outcome.number()
+}
+
+/// Lets the collector look at so many nodes, from where it stopped. No reply and no listing depends on it.
+///
+/// Outcomes: as of `Embedded::collect`; `NoEngine`.
+#[unsafe(no_mangle)]
+pub extern "C" fn vorgushan_collect(alloc: Global, engine: &mut VgEngine, limit: usize) -> u32
+    ensures { IsCalled engine.old.inside engine.new.inside result ⊤ (λ before after outcome. IsKept before after) }
+{
+    let Some(mut there) = engine.take(alloc) else {
+        return Outcome::NoEngine.number();
+    };
+    let outcome = there.collect(limit);
+    engine.put(there);
+    outcome.number()
+}
+
+/// What an engine holds: walks over all nodes.
+///
+/// `NoEngine` where none is; then nothing is written.
+#[unsafe(no_mangle)]
+pub extern "C" fn vorgushan_statistics(
+    alloc: Global,
+    engine: &mut VgEngine,
+    statistics: &mut VgStatistics,
+) -> u32
+    ensures { IsCalled engine.old.inside engine.new.inside result (statistics.new ≡ statistics.old)
+        (λ before after outcome. IsCounted before after outcome statistics.new) }
+{
+    let Some(there) = engine.take(alloc) else {
+        return Outcome::NoEngine.number();
+    };
+    let counted = there.statistics();
+    *statistics = VgStatistics {
+        units: counted.units,
+        journal_bytes: counted.journal_bytes,
+        nodes: counted.nodes,
+    };
+    engine.put(there);
+    Outcome::Done.number()
+}
+
+/// Copies the name of the outcome with this number, as `OutOfMemory`, where the buffer is long enough.
+///
+/// `UnknownNumber` where no outcome has it, `BufferTooShort`: then nothing is copied.
+#[unsafe(no_mangle)]
+pub extern "C" fn vorgushan_outcome_name(number: u32, name: &mut [u8], wanted: &mut usize) -> u32
+    ensures { IsNamedBy number result name.old name.new wanted.new }
+{
+    name_outcome(number, name, wanted).number()
+}

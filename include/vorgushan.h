@@ -1,0 +1,231 @@
+/* Vorgushan for C: an M global database in memory. docs/LIBRARY.md is its page.
+ *
+ * An engine does the commands of up to 4,096 jobs, one call at a time. Callers on several threads keep a mutex of
+ * their own round each call; two engines have nothing in common.
+ *
+ * Every call answers an outcome: VG_DONE, a refusal (1 to 18), or one of the library's own (from 32). After a
+ * refusal the database is as it was. Texts go by pointer and length, and may hold bytes 0; a text that is put into
+ * a buffer has no byte 0 at its end. NULL may stand for an engine, which is told as VG_NO_ENGINE, for a text or
+ * buffer of length 0, and for the place of a length that the caller doesn't want. */
+#ifndef VORGUSHAN_H
+#define VORGUSHAN_H
+
+#include <stddef.h>
+#include <stdint.h>
+
+#ifdef __cplusplus
+extern "C" {
+#endif
+
+/* What a call answers. The refusals are those of docs/RULES.md. */
+typedef uint32_t vg_outcome;
+
+enum {
+    VG_DONE = 0,
+    VG_BAD_LINE = 1,
+    VG_BAD_NAME = 2,
+    VG_EMPTY_SUBSCRIPT = 3,
+    VG_SUBSCRIPT_TOO_LONG = 4,
+    VG_TOO_MANY_SUBSCRIPTS = 5,
+    VG_VALUE_TOO_LONG = 6,
+    VG_NEED_SUBSCRIPT = 7,
+    VG_MERGE_OVERLAP = 8,
+    VG_NO_TRANSACTION = 9,
+    VG_LEVEL_TOO_DEEP = 10,
+    VG_LOCK_COUNT_FULL = 11,
+    VG_BAD_JOB = 12,
+    VG_TRANSACTION_TOO_LONG = 13,
+    VG_OUT_OF_MEMORY = 14,
+    VG_STAMPS_USED_UP = 15,
+    VG_GONE = 16,
+    VG_AGAIN = 17,
+    VG_AHEAD = 18,
+    VG_NO_ENGINE = 32,        /* none was made, or it was ended */
+    VG_ENGINE_THERE = 33,     /* one is there already */
+    VG_BUFFER_TOO_SHORT = 34, /* the length that is wanted is told; what the buffer was to hold is kept */
+    VG_REPLY_KEPT = 35,       /* the line is done; no memory for its reply's text, which vg_reply makes later */
+    VG_NO_REPLY = 36,         /* no line was run yet */
+    VG_AT_END = 37,           /* no node is left to list */
+    VG_UNKNOWN_NUMBER = 38,   /* no outcome has that number */
+    VG_NO_KEY = 39            /* none was made, or it was ended */
+};
+
+/* An engine. Set it to VG_ENGINE_NONE before the first call, and leave what is in it alone. It may be moved
+ * between calls; of two copies only one may be used. */
+typedef struct vg_engine {
+    void *own;
+} vg_engine;
+
+#define VG_ENGINE_NONE {0}
+
+/* A reference: a name and subscripts, made once and used in any number of calls, on any engine. As with an engine:
+ * set it to VG_KEY_NONE before the first call, and of two copies only one may be used. */
+typedef struct vg_key {
+    void *own;
+} vg_key;
+
+#define VG_KEY_NONE {0}
+
+/* What an engine holds. */
+typedef struct vg_statistics {
+    uint64_t units;         /* units of the journal */
+    uint64_t journal_bytes; /* bytes that they take */
+    uint64_t nodes;         /* nodes with a value */
+} vg_statistics;
+
+/* The library's own symbols, for which no pointer may be NULL: use the calls below. */
+vg_outcome vorgushan_new(vg_engine *engine);
+vg_outcome vorgushan_end(vg_engine *engine);
+vg_outcome vorgushan_line(vg_engine *engine, const char *line, size_t line_length, char *reply, size_t reply_size,
+                          size_t *reply_length);
+vg_outcome vorgushan_reply(vg_engine *engine, char *reply, size_t reply_size, size_t *reply_length);
+vg_outcome vorgushan_list_from_start(vg_engine *engine);
+vg_outcome vorgushan_list_next(vg_engine *engine, char *node, size_t node_size, size_t *node_length);
+vg_outcome vorgushan_collect(vg_engine *engine, size_t nodes);
+vg_outcome vorgushan_statistics(vg_engine *engine, vg_statistics *statistics);
+vg_outcome vorgushan_key_name(vg_key *key, const char *name, size_t name_length);
+vg_outcome vorgushan_key_subscript(vg_key *key, const char *subscript, size_t subscript_length);
+vg_outcome vorgushan_key_end(vg_key *key);
+vg_outcome vorgushan_set(vg_engine *engine, uint64_t job, vg_key *key, const char *value, size_t value_length);
+vg_outcome vorgushan_kill(vg_engine *engine, uint64_t job, vg_key *key);
+vg_outcome vorgushan_get(vg_engine *engine, uint64_t job, vg_key *key, char *value, size_t value_size,
+                         size_t *value_length);
+vg_outcome vorgushan_outcome_name(uint32_t outcome, char *name, size_t name_size, size_t *name_length);
+
+/* Makes an engine with an empty database where none is. VG_ENGINE_THERE, VG_OUT_OF_MEMORY. */
+static inline vg_outcome vg_new(vg_engine *engine) {
+    return engine ? vorgushan_new(engine) : (vg_outcome)VG_NO_ENGINE;
+}
+
+/* Ends an engine and gives its memory back; from then on it is told as VG_NO_ENGINE. */
+static inline vg_outcome vg_end(vg_engine *engine) {
+    return engine ? vorgushan_end(engine) : (vg_outcome)VG_NO_ENGINE;
+}
+
+/* Runs a line, which comes without its end, as "1 SET ^A(1)=5", and copies its reply with a byte 10 at its end, as
+ * "1 ok\n".
+ *
+ * The outcome is the reply's: VG_DONE, or its refusal. Where the reply is longer than the buffer the answer is
+ * VG_BUFFER_TOO_SHORT: the line is done, nothing is copied, reply_length is what is wanted, and vg_reply copies
+ * the reply. */
+static inline vg_outcome vg_line(vg_engine *engine, const char *line, size_t line_length, char *reply,
+                                 size_t reply_size, size_t *reply_length) {
+    char nothing = 0;
+    size_t length = 0;
+    vg_outcome outcome = VG_NO_ENGINE;
+    if (engine)
+        outcome = vorgushan_line(engine, line ? line : &nothing, line ? line_length : 0, reply ? reply : &nothing,
+                                 reply ? reply_size : 0, &length);
+    if (reply_length)
+        *reply_length = length;
+    return outcome;
+}
+
+/* Copies the last line's reply, as often as it is called. VG_NO_REPLY before the first line. */
+static inline vg_outcome vg_reply(vg_engine *engine, char *reply, size_t reply_size, size_t *reply_length) {
+    char nothing = 0;
+    size_t length = 0;
+    vg_outcome outcome = VG_NO_ENGINE;
+    if (engine)
+        outcome = vorgushan_reply(engine, reply ? reply : &nothing, reply ? reply_size : 0, &length);
+    if (reply_length)
+        *reply_length = length;
+    return outcome;
+}
+
+/* The listing begins with the first node. */
+static inline vg_outcome vg_list_from_start(vg_engine *engine) {
+    return engine ? vorgushan_list_from_start(engine) : (vg_outcome)VG_NO_ENGINE;
+}
+
+/* Copies the line of the node behind the one that was listed last, in the database as it is now, with a byte 10 at
+ * its end. VG_AT_END behind the last. After VG_BUFFER_TOO_SHORT or VG_OUT_OF_MEMORY the node is still the next. */
+static inline vg_outcome vg_list_next(vg_engine *engine, char *node, size_t node_size, size_t *node_length) {
+    char nothing = 0;
+    size_t length = 0;
+    vg_outcome outcome = VG_NO_ENGINE;
+    if (engine)
+        outcome = vorgushan_list_next(engine, node ? node : &nothing, node ? node_size : 0, &length);
+    if (node_length)
+        *node_length = length;
+    return outcome;
+}
+
+/* Lets the collector look at so many nodes, from where it stopped. No reply and no listing depends on it. */
+static inline vg_outcome vg_collect(vg_engine *engine, size_t nodes) {
+    return engine ? vorgushan_collect(engine, nodes) : (vg_outcome)VG_NO_ENGINE;
+}
+
+/* What the engine holds. Walks over all nodes. */
+static inline vg_outcome vg_count(vg_engine *engine, vg_statistics *statistics) {
+    vg_statistics unwanted = {0, 0, 0};
+    return engine ? vorgushan_statistics(engine, statistics ? statistics : &unwanted) : (vg_outcome)VG_NO_ENGINE;
+}
+
+/* Makes the key of a name without subscripts and without its caret, as "Account", in the place of what was there.
+ * VG_BAD_NAME, VG_OUT_OF_MEMORY. */
+static inline vg_outcome vg_key_name(vg_key *key, const char *name, size_t name_length) {
+    char nothing = 0;
+    return key ? vorgushan_key_name(key, name ? name : &nothing, name ? name_length : 0) : (vg_outcome)VG_NO_KEY;
+}
+
+/* Puts one subscript more behind those of a key: its bytes, a number in canonic form. VG_TOO_MANY_SUBSCRIPTS over 31,
+ * VG_EMPTY_SUBSCRIPT, VG_SUBSCRIPT_TOO_LONG over 127 bytes, VG_OUT_OF_MEMORY: then the key is as it was. */
+static inline vg_outcome vg_key_subscript(vg_key *key, const char *subscript, size_t subscript_length) {
+    char nothing = 0;
+    return key ? vorgushan_key_subscript(key, subscript ? subscript : &nothing, subscript ? subscript_length : 0)
+               : (vg_outcome)VG_NO_KEY;
+}
+
+/* Ends a key and gives its memory back. */
+static inline vg_outcome vg_key_end(vg_key *key) {
+    return key ? vorgushan_key_end(key) : (vg_outcome)VG_NO_KEY;
+}
+
+/* SET of a key's reference by a job from 1 to 4,096. The value's bytes are copied. VG_BAD_JOB, VG_VALUE_TOO_LONG
+ * over 32,767 bytes, and the refusals of SET. */
+static inline vg_outcome vg_set(vg_engine *engine, uint64_t job, vg_key *key, const char *value, size_t value_length) {
+    char nothing = 0;
+    if (!engine)
+        return VG_NO_ENGINE;
+    return key ? vorgushan_set(engine, job, key, value ? value : &nothing, value ? value_length : 0)
+               : (vg_outcome)VG_NO_KEY;
+}
+
+/* KILL of a key's reference and all below it. */
+static inline vg_outcome vg_kill(vg_engine *engine, uint64_t job, vg_key *key) {
+    if (!engine)
+        return VG_NO_ENGINE;
+    return key ? vorgushan_kill(engine, job, key) : (vg_outcome)VG_NO_KEY;
+}
+
+/* $GET of a key's reference: the value's own bytes, none where it has none. After VG_BUFFER_TOO_SHORT vg_reply
+ * tells the value as a line does. */
+static inline vg_outcome vg_get(vg_engine *engine, uint64_t job, vg_key *key, char *value, size_t value_size,
+                                size_t *value_length) {
+    char nothing = 0;
+    size_t length = 0;
+    vg_outcome outcome = VG_NO_ENGINE;
+    if (engine)
+        outcome = key ? vorgushan_get(engine, job, key, value ? value : &nothing, value ? value_size : 0, &length)
+                      : (vg_outcome)VG_NO_KEY;
+    if (value_length)
+        *value_length = length;
+    return outcome;
+}
+
+/* Copies the name of an outcome, as "OutOfMemory". VG_UNKNOWN_NUMBER. */
+static inline vg_outcome vg_refusal_text(uint32_t outcome, char *name, size_t name_size, size_t *name_length) {
+    char nothing = 0;
+    size_t length = 0;
+    vg_outcome told = vorgushan_outcome_name(outcome, name ? name : &nothing, name ? name_size : 0, &length);
+    if (name_length)
+        *name_length = length;
+    return told;
+}
+
+#ifdef __cplusplus
+}
+#endif
+
+#endif
