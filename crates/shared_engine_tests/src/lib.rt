@@ -3,9 +3,12 @@
 //! Expected values come from docs/RULES.md, never from the program. Commands are made from lines.
 #![tactic(auto)]
 
+pub use crossing::{engine_is_shared, session_is_sent};
+
 #[cfg(test)]
 mod acts;
 #[cfg(test)]
 mod beside;
+mod crossing;
 #[cfg(test)]
 mod many;

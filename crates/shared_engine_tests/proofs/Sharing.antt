@@ -1,13 +1,4 @@
-The lemmas below were admitted in a scratch crate that stands on job_core, btree, version_chain, version_store, key_codec,
-collation, cell_pool, journal, lock_table, pin_board and shared_engine: what a `Store`, a `Core`, a `JobState`, a
-`Session`, what lies under the lock, and a `Shared` owe to cross threads. `depth 60 fits 20000` is what the prover's own
-search has; by itself it ends at its limit for a `Core`, so the parts are proved one by one.
-
-Where a function asks for the bound, the answer is `record { shared = .. }` or
-`record { owned = it.owned; leaving = λ k. it.leaving k }`, behind `param_send` or `param_sync`, since the two types
-differ by a row of the function's own. To be put into `shared_engine` (specs/laws/Crossing.antt), for the tests of
-threads and for `job_server`.
-
+-- What crosses threads, part by part: the search for the whole of a core ends at its limit.
 use denote.RattleType.{RattleType}
 use denote.Param.Send.{IsSend, IsSync, sendable, struct_send, struct_sync}
 use denote.Struct.Declared.{shape}
