@@ -1,6 +1,6 @@
 -- What a block of commands does under one hold of the lock: each command in its turn, on the units that are there by
 -- then. Read HasDone, then AreDone.
-use Rattle.std.specs.Prelude.{◌≡◌, ◌≢◌, ◌⊎◌, ⊤, ℕ, ◌+◌, ◌-◌, ◌≤◌, ◌<◌, Bool, true, false, List, [], ◌∷◌, ◌++◌, length, Option, None, Some, Result, Ok, Err}
+use Rattle.std.specs.Prelude.{◌≡◌, ◌≢◌, ◌⊎◌, ⊤, ℕ, ◌+◌, ◌-◌, ◌≤◌, ◌<◌, nat_lt, if◌then◌else◌, Bool, true, false, List, [], ◌∷◌, ◌++◌, length, Option, None, Some, Result, Ok, Err}
 use Rattle.refusal.specs.declared.Refusal.{Refusal}
 use Rattle.refusal.specs.declared.Refusal.TheVariants.{NoTransaction, LevelTooDeep, Again}
 use Rattle.collation.specs.Limits.{most_levels}
@@ -133,6 +133,14 @@ NoneRestarts (command ∷ commands) (reply ∷ replies) = IsNoRestart command re
 abbrev pub IsFresh : Held → Type 0
 IsFresh s = (s.state.level ≡ 1) × ((s.state.work.exchanges ≡ []) × (s.state.took_lock ≡ false))
 
+-- no transaction is open, or one that has done nothing yet
+abbrev pub IsReady : Held → Type 0
+IsReady s = (s.state.level ≡ 0) ⊎ IsFresh s
+
 -- its start is moved behind these units
 abbrev pub moved : List JournalUnit → Held → Held
 moved units s = held (record s.state { work = just_begun s.state.work.job (length units) }) (Some units) s.receipts
+
+-- where a transaction is open, its start is moved behind these units
+abbrev pub moved_open : List JournalUnit → Held → Held
+moved_open units s = if nat_lt 0 s.state.level then moved units s else s

@@ -7,7 +7,7 @@ ghost use Rattle.command.specs.declared.request.Reply.TheVariants.{Answered, Fin
 ghost use Rattle.journal.specs.declared.unit.Unit.{Unit as JournalUnit};
 ghost use Rattle.pin_board.specs.Slips.{AreInJournal};
 ghost use Rattle.serial.specs.Machine.{told_had};
-ghost use Rattle.shared_engine.specs.Blocks.{said, IsLone, IsInside, IsTried, IsOpened, IsDeeper, IsNone, IsCommitted, IsLower, IsRolledBack, IsRestarted, HasDone, AreDone, NoneRestarts, IsFresh, moved};
+ghost use Rattle.shared_engine.specs.Blocks.{said, IsLone, IsInside, IsTried, IsOpened, IsDeeper, IsNone, IsCommitted, IsLower, IsRolledBack, IsRestarted, HasDone, AreDone, NoneRestarts, IsFresh, IsReady, moved, moved_open};
 ghost use Rattle.shared_engine.specs.Writes.{IsAlone};
 
 use crate::locked::{Ended, Locked};
@@ -85,8 +85,9 @@ fn restarted(done: Result<u64, Refusal>) -> Reply
 }
 
 impl<B: BoardName> Locked<B> {
-    /// Does the commands of a session's fresh transaction, whose start is moved to now. No other job does anything
-    /// meanwhile, so no TCOMMIT in it begins anew. Each LOCK is one try. A command's refusal is its reply.
+    /// Does the commands of a session without a transaction, or with a fresh one, whose start is moved to now. No other
+    /// job does anything meanwhile, so no TCOMMIT in it begins anew. Each LOCK is one try. A command's refusal is its
+    /// reply.
     ///
     /// `AllocError` where there is no room for the replies, and nothing has changed.
     pub(crate) fn run_serial<R: Wait>(
@@ -97,20 +98,31 @@ impl<B: BoardName> Locked<B> {
         session: &mut Session<B>,
         block: Vec<Command>,
     ) -> Result<Vec<Reply>, AllocError>
-        requires fresh { IsFresh session.old }
+        requires ready { IsReady session.old }
         requires goes_on { All (λ (c : Command). c ≢ Command.Halt) block.items }
-        ensures done { IfOk result (λ replies. AreDone block.items replies.items self.old.common.units self.new.common.units (moved self.old.common.units session.old) session.new) }
+        ensures done { IfOk result (λ replies. AreDone block.items replies.items self.old.common.units self.new.common.units (moved_open self.old.common.units session.old) session.new) }
         ensures each { IfOk result (λ replies. vec_len replies ≡ vec_len block) }
         ensures commits { IfOk result (λ replies. NoneRestarts block.items replies.items) }
         ensures refused { OnErr result ((self.new.common ≡ self.old.common) × (session.new ≡ session.old)) }
         ensures others { (self.new.opened ≡ self.old.opened) × (self.new.seats ≡ self.old.seats) }
     {
         let mut replies = Vec::with_capacity(alloc, block.len())?;
-        self.move_start(rt, board, session);
+        self.begin_block(rt, board, session);
         'block: for command in block {
             replies.push_reserved(self.serial_step(rt, board, session, command));
         }
         Ok(replies)
+    }
+
+    // Moves the start of a transaction to now, where one is open.
+    fn begin_block<R: Wait>(&self, rt: &R, board: &Board<B>, session: &mut Session<B>)
+        requires { IsReady session.old }
+        ensures moved { session.new ≡ moved_open self.now.common.units session.old }
+        ensures alone { IsAlone session.new self.now.common.units }
+    {
+        if session.tlevel() > 0 {
+            self.move_start(rt, board, session);
+        }
     }
 
     // Moves the start of a transaction that has done nothing to now.

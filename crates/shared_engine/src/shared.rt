@@ -9,7 +9,7 @@ ghost use Rattle.journal.specs.declared.unit.Unit.TheVariants.{Lone};
 ghost use Rattle.job_core.specs.Sessions.{idle, IsAnsweredOrRefused};
 ghost use Rattle.pin_board.specs.Slips.{AreInJournal};
 ghost use Rattle.command.specs.declared.request.Command.{Command};
-ghost use Rattle.shared_engine.specs.Blocks.{AreDone, NoneRestarts, IsFresh, moved};
+ghost use Rattle.shared_engine.specs.Blocks.{AreDone, NoneRestarts, IsReady, moved_open};
 ghost use Rattle.shared_engine.specs.Receipts.{Book, book, receipted, RisesFrom};
 ghost use Rattle.shared_engine.specs.Sessions.{held, ended, and_receipt, begun_anew, HasBegun};
 ghost use Rattle.shared_engine.specs.Engines.{HasEnded, HasItsNames, WasBlocked, OnOkThat, OnOkNot, after_try, receipts_of};
@@ -309,10 +309,10 @@ impl<B: BoardName> Shared<B> {
         self.lock.write(rt).halt(rt, &self.board, session)
     }
 
-    /// Does the commands of a session's fresh transaction under one hold of the exclusive lock. Its start is moved to
-    /// now, and nobody else does anything meanwhile, so no TCOMMIT in it begins anew. Each LOCK is one try. Answers the
-    /// reply to each command, a refusal too: after one nothing has changed, and the block goes on. A transaction that
-    /// the block leaves open stays so.
+    /// Does the commands of a session without a transaction, or with a fresh one, under one hold of the exclusive lock.
+    /// The transaction's start is moved to now, and nobody else does anything meanwhile, so no TCOMMIT in the block
+    /// begins anew. Each LOCK is one try. Answers the reply to each command, a refusal too: after one nothing has
+    /// changed, and the block goes on. A transaction that the block leaves open stays so.
     ///
     /// `AllocError` where there is no room for the replies, and nothing has changed.
     pub fn run_serial<R: Wait>(
@@ -322,9 +322,9 @@ impl<B: BoardName> Shared<B> {
         session: &mut Session<B>,
         block: Vec<Command>,
     ) -> Result<Vec<Reply>, AllocError>
-        requires fresh { IsFresh session.old }
+        requires ready { IsReady session.old }
         requires goes_on { All (λ (c : Command). c ≢ Command.Halt) block.items }
-        ensures done { IfOk result (λ replies. (units more : List JournalUnit) × AreDone block.items replies.items units more (moved units session.old) session.new) }
+        ensures done { IfOk result (λ replies. (units more : List JournalUnit) × AreDone block.items replies.items units more (moved_open units session.old) session.new) }
         ensures each { IfOk result (λ replies. vec_len replies ≡ vec_len block) }
         ensures commits { IfOk result (λ replies. NoneRestarts block.items replies.items) }
         ensures refused { OnErr result (session.new ≡ session.old) }

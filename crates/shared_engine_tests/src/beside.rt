@@ -1,8 +1,8 @@
 //! Calls that return beside a lock that is held.
 ghost use Rattle.std.specs.Prelude.{◌≡◌};
 
-use crate::acts::{is_replied, opened};
 use pin_board::{Blank, BoardName, SEATS};
+use session_acts::{is_replied, opened};
 use shared_engine::{Session, Shared};
 use std::alloc::Global;
 use std::marker::Brand;

@@ -6,9 +6,13 @@
 pub use crossing::{engine_is_shared, session_is_sent};
 
 #[cfg(test)]
-mod acts;
-#[cfg(test)]
 mod beside;
 mod crossing;
 #[cfg(test)]
 mod many;
+#[cfg(test)]
+mod rows;
+#[cfg(test)]
+mod serial_runs;
+#[cfg(test)]
+mod threads;

@@ -1,23 +1,29 @@
-//! The words of `mrun`: what its command line asks for. Expected from README and `--help`.
+//! The words of `mrun` and `mjobs`: what their command lines ask for. Expected from README and `--help`.
 use clap::error::ErrorKind;
-use mrun_args::{Args, args_of};
+use program_front::{MjobsArgs, MrunArgs, mjobs_args_of, mrun_args_of};
 use std::alloc::Global;
 use std::test::Fail;
 
-// What these words ask for, after the program's name.
-fn asked(alloc: Global, words: &[&[u8]]) -> Result<Result<Args, ErrorKind>, Fail> {
+// The program's name and these words.
+fn arguments(alloc: Global, program: &[u8], words: &[&[u8]]) -> Result<Vec<Vec<u8>>, Fail> {
     let mut list = Vec::new(alloc);
-    list.push(Vec::from_slice(alloc, b"mrun")?)?;
+    list.push(Vec::from_slice(alloc, program)?)?;
     for word in words {
         list.push(Vec::from_slice(alloc, word)?)?;
     }
-    Ok(match args_of(alloc, &list) {
+    Ok(list)
+}
+
+// What these words ask `mrun` for.
+fn asked(alloc: Global, words: &[&[u8]]) -> Result<Result<MrunArgs, ErrorKind>, Fail> {
+    let list = arguments(alloc, b"mrun", words)?;
+    Ok(match mrun_args_of(alloc, &list) {
         Ok(args) => Ok(args),
         Err(error) => Err(error.kind()),
     })
 }
 
-const PLAIN: Args = Args {
+const PLAIN: MrunArgs = MrunArgs {
     file: None,
     listed: true,
     errors: false,
@@ -33,7 +39,7 @@ fn words_ask_for_a_file_or_standard_input(rt: HostRuntime) -> Result<(), Fail> {
     let file = asked(rt.alloc(), &[b"a.txt"])?;
     assert_eq!(rt;
         file,
-        Ok(Args {
+        Ok(MrunArgs {
             file: Some(1),
             ..PLAIN
         })
@@ -41,7 +47,7 @@ fn words_ask_for_a_file_or_standard_input(rt: HostRuntime) -> Result<(), Fail> {
     let bytes = asked(rt.alloc(), &[b"--errors", b"\xff\xfe"])?;
     assert_eq!(rt;
         bytes,
-        Ok(Args {
+        Ok(MrunArgs {
             file: Some(2),
             errors: true,
             ..PLAIN
@@ -55,7 +61,7 @@ fn words_ask_for_options(rt: HostRuntime) -> Result<(), Fail> {
     let both = asked(rt.alloc(), &[b"--no-listing", b"--errors"])?;
     assert_eq!(rt;
         both,
-        Ok(Args {
+        Ok(MrunArgs {
             listed: false,
             errors: true,
             ..PLAIN
@@ -64,7 +70,7 @@ fn words_ask_for_options(rt: HostRuntime) -> Result<(), Fail> {
     let after = asked(rt.alloc(), &[b"--no-listing", b"--", b"--errors"])?;
     assert_eq!(rt;
         after,
-        Ok(Args {
+        Ok(MrunArgs {
             file: Some(3),
             listed: false,
             ..PLAIN
@@ -118,7 +124,7 @@ fn words_ask_for_the_collector_and_a_file(rt: HostRuntime) -> Result<(), Fail> {
     let both = asked(rt.alloc(), &[b"--collect-every=5", b"5"])?;
     assert_eq!(rt;
         both,
-        Ok(Args {
+        Ok(MrunArgs {
             file: Some(2),
             collect_every: 5,
             ..PLAIN
@@ -126,5 +132,66 @@ fn words_ask_for_the_collector_and_a_file(rt: HostRuntime) -> Result<(), Fail> {
     );
     let none = asked(rt.alloc(), &[b"--collect-every"])?;
     assert_eq!(rt; none, Err(ErrorKind::InvalidValue));
+    Ok(())
+}
+
+// What these words ask `mjobs` for.
+fn asked_of_jobs(alloc: Global, words: &[&[u8]]) -> Result<Result<MjobsArgs, ErrorKind>, Fail> {
+    let list = arguments(alloc, b"mjobs", words)?;
+    Ok(match mjobs_args_of(alloc, &list) {
+        Ok(args) => Ok(args),
+        Err(error) => Err(error.kind()),
+    })
+}
+
+const PLAIN_JOBS: MjobsArgs = MjobsArgs {
+    file: None,
+    listed: true,
+    errors: false,
+    workers: 2,
+};
+
+#[test]
+fn words_ask_for_jobs(rt: HostRuntime) -> Result<(), Fail> {
+    let none = asked_of_jobs(rt.alloc(), &[])?;
+    assert_eq!(rt; none, Ok(PLAIN_JOBS));
+    let file = asked_of_jobs(rt.alloc(), &[b"--no-listing", b"--errors", b"a.txt"])?;
+    assert_eq!(rt;
+        file,
+        Ok(MjobsArgs {
+            file: Some(3),
+            listed: false,
+            errors: true,
+            ..PLAIN_JOBS
+        })
+    );
+    let every = asked_of_jobs(rt.alloc(), &[b"--collect-every", b"1"])?;
+    assert_eq!(rt; every, Err(ErrorKind::UnknownArgument));
+    let help = asked_of_jobs(rt.alloc(), &[b"--help"])?;
+    assert_eq!(rt; help, Err(ErrorKind::DisplayHelp));
+    Ok(())
+}
+
+// How many workers, by this word.
+fn workers(alloc: Global, word: &[u8]) -> Result<Result<u64, ErrorKind>, Fail> {
+    Ok(match asked_of_jobs(alloc, &[b"--workers", word])? {
+        Ok(args) => Ok(args.workers),
+        Err(kind) => Err(kind),
+    })
+}
+
+#[test]
+fn words_ask_for_workers(rt: HostRuntime) -> Result<(), Fail> {
+    let rows = [
+        (b"1".as_slice(), Ok(1)),
+        (b"16", Ok(16)),
+        (b"0", Err(ErrorKind::ValueValidation)),
+        (b"17", Err(ErrorKind::ValueValidation)),
+        (b"x", Err(ErrorKind::ValueValidation)),
+    ];
+    for (word, want) in rows {
+        let found = workers(rt.alloc(), word)?;
+        assert_eq!(rt; found, want);
+    }
     Ok(())
 }

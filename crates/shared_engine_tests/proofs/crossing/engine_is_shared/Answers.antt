@@ -1,6 +1,6 @@
 use denote.Param.{param}
 use denote.Param.Send.{IsSync, param_sync}
-use Rattle.shared_engine_tests.proofs.Sharing.{shared_sync}
+use Rattle.shared_engine.specs.laws.Crossing.{shared_sync}
 use Rattle.shared_engine_tests.proofs.crossing.engine_is_shared.Lts as lts
 use Rattle.shared_engine_tests.proofs.crossing.engine_is_shared.Goals as goal
 

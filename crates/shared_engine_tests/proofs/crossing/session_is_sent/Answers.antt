@@ -1,6 +1,6 @@
 use denote.Param.{param}
 use denote.Param.Send.{IsSend, param_send}
-use Rattle.shared_engine_tests.proofs.Sharing.{session_send}
+use Rattle.shared_engine.specs.laws.Crossing.{session_send}
 use Rattle.shared_engine_tests.proofs.crossing.session_is_sent.Lts as lts
 use Rattle.shared_engine_tests.proofs.crossing.session_is_sent.Goals as goal
 

@@ -3,7 +3,7 @@ use Rattle.std.specs.List.{All}
 use Rattle.std.specs.Vec.Iter.{into_iter_items}
 use Rattle.command.specs.declared.request.Command.{Command}
 use Rattle.command.specs.declared.request.Command.TheVariants.{Halt}
-use Rattle.shared_engine.specs.Blocks.{moved}
+use Rattle.shared_engine.specs.Blocks.{moved_open}
 use Rattle.shared_engine.specs.Writes.{IsAlone}
 use Rattle.shared_engine.proofs.Blocks.{IsSoFar}
 use Rattle.shared_engine.proofs.locked.Locked.run_serial.Given as goal
@@ -12,7 +12,7 @@ use Rattle.shared_engine.proofs.locked.Locked.run_serial.Given as goal
 -- for the replies to come
 abbrev pub invariant-block : goal.invariant-block
 invariant-block g l = record {
-  so_far : IsSoFar l.fn.block.items (into_iter_items l.command-iterator) l.replies.items l.fn.self.common.units l.self.common.units (moved l.fn.self.common.units l.fn.session) l.session;
+  so_far : IsSoFar l.fn.block.items (into_iter_items l.command-iterator) l.replies.items l.fn.self.common.units l.self.common.units (moved_open l.fn.self.common.units l.fn.session) l.session;
   alone : IsAlone l.session l.self.common.units;
   goes_on : All (λ (c : Command). c ≢ Halt) (into_iter_items l.command-iterator);
   room : length l.replies.items + length (into_iter_items l.command-iterator) ≤ vec_capacity l.replies;

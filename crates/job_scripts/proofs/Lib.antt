@@ -1,0 +1,3 @@
+pub mod OneMore
+pub mod Written
+pub mod Blocks

@@ -1,0 +1,16 @@
+use Rattle.std.proofs.Common.{◌≢◌, ◌≤◌, length, max}
+use Rattle.std.specs.List.{All}
+use Rattle.command.specs.declared.request.Command.{Command}
+use Rattle.command.specs.declared.request.Command.TheVariants.{Halt}
+use Rattle.job_scripts.proofs.block.lone_block.Given as goal
+
+-- none is HALT, there are not too many, and fewer lines are left
+abbrev pub invariant-loop-block : goal.invariant-loop-block
+invariant-loop-block l = record {
+  goes_on : All (λ (c : Command). c ≢ Halt) l.block.commands.items;
+  few : length l.block.places.items ≤ max 1 l.fn.most;
+  rest : length l.block.rest.now ≤ length l.fn.lines;
+}
+
+abbrev pub decreases-loop-block : goal.decreases-loop-block
+decreases-loop-block l = length l.block.rest.now

@@ -1,0 +1,38 @@
+-- Blocks: lines that are done under one hold of the lock. Source: docs/CONCURRENCY.md, "Many jobs at the same time".
+use Rattle.std.specs.Prelude.{ℕ, ◌+◌, ◌-◌, ◌<◌, List, [], ◌∷◌, Option, Some, None, min}
+use Rattle.refusal.specs.declared.Refusal.{Refusal}
+use Rattle.collation.specs.Limits.{most_levels}
+use Rattle.command.specs.declared.request.Command.{Command}
+use Rattle.command.specs.declared.request.Command.TheVariants.{Access, Lock, Start, Commit, Rollback, Restart, Level, Restarts, Halt}
+use Rattle.command.specs.declared.request.Reply.{Reply}
+use Rattle.command.specs.declared.request.Reply.TheVariants.{Refused}
+
+-- the level of a transaction after a command in it, as if memory and stamps were there
+abbrev pub level_after : Command → ℕ → ℕ
+level_after (Access command) level = level
+level_after (Lock command) level = level
+level_after Start level = min (level + 1) most_levels
+level_after Commit level = level - 1
+level_after Rollback level = 0
+level_after Restart level = 1
+level_after Level level = level
+level_after Restarts level = level
+level_after Halt level = 0
+
+-- the level of a transaction after commands in it
+abbrev pub level_behind : ℕ → List Command → ℕ
+level_behind level [] = level
+level_behind level (c ∷ cs) = level_behind (level_after c level) cs
+
+-- the transaction stays open behind each of these commands but the last
+abbrev pub IsOneBlock : ℕ → List Command → Type 0
+IsOneBlock level [] = Unit {0}
+IsOneBlock level (c ∷ []) = Unit {0}
+IsOneBlock level (c ∷ (d ∷ cs)) = (0 < level_after c level) × IsOneBlock (level_after c level) (d ∷ cs)
+
+-- replies in the places of lines: a refused line gets its refusal, another the next reply
+abbrev pub in_place : List (Option Refusal) → List Reply → List Reply
+in_place [] replies = []
+in_place (Some refusal ∷ places) replies = Refused refusal ∷ in_place places replies
+in_place (None ∷ places) [] = []
+in_place (None ∷ places) (reply ∷ replies) = reply ∷ in_place places replies

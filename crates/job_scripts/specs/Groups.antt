@@ -1,0 +1,73 @@
+-- Lines by job. Source: docs/CONCURRENCY.md, "Many jobs at the same time".
+-- Read groups_in, then groups_of, lines_under and firsts; the contract of scripts_of cites groups_in.
+use Rattle.std.specs.Prelude.{ℕ, zero, suc, ◌+◌, not, List, [], ◌∷◌, ◌++◌, ◌==◌, map, filter, length, unwrap_or}
+use Rattle.std.specs.List.{flat_map}
+use Rattle.bstr.specs.Text.{lines_of, without_terminator}
+use Rattle.collation.specs.Bytes as byte
+use Rattle.script.specs.Line.{job_of_line}
+use Rattle.job_scripts.specs.declared.lines.Script.{Script}
+
+-- the number under which a line stands: its job's, or 0
+abbrev pub group_of : List ℕ → ℕ
+group_of line = unwrap_or (job_of_line line) 0
+
+-- the lines under a number, in order
+abbrev pub lines_under : ℕ → List (List ℕ) → List (List ℕ)
+lines_under n lines = filter (λ line. group_of line == n) lines
+
+-- lines as text, each with a byte 10 behind it
+abbrev pub with_ends : List (List ℕ) → List ℕ
+with_ends lines = flat_map (λ line. line ++ byte.line_feed ∷ []) lines
+
+-- each number once, in order of first appearance
+abbrev pub firsts : List ℕ → List ℕ
+firsts [] = []
+firsts (n ∷ ns) = n ∷ filter (λ m. not (m == n)) (firsts ns)
+
+-- a script's number, its lines as text, and how many they are
+pub record Group : Type 0 where
+  pub number : ℕ
+  pub text : List ℕ
+  pub count : ℕ
+
+-- the group of a number
+abbrev pub group : List (List ℕ) → ℕ → Group
+group lines n = record { number = n; text = with_ends (lines_under n lines); count = length (lines_under n lines) }
+
+-- the groups of lines, in order of first appearance
+abbrev pub groups_of : List (List ℕ) → List Group
+groups_of lines = map (group lines) (firsts (map group_of lines))
+
+-- the lines that aren't empty
+abbrev pub nonempty : List (List ℕ) → List (List ℕ)
+nonempty lines = filter (λ line. not (length line == 0)) lines
+
+-- the lines of a text that aren't empty, each without its end and a byte 13 before that
+abbrev pub lines_in : List ℕ → List (List ℕ)
+lines_in text = nonempty (map without_terminator (lines_of text))
+
+-- the groups of a text's lines
+abbrev pub groups_in : List ℕ → List Group
+groups_in text = groups_of (lines_in text)
+
+-- what a script shows
+abbrev pub shown : Script → Group
+shown s = record { number = unwrap_or s.job 0; text = s.text.items; count = s.lines }
+
+-- a group with a line more
+abbrev pub more : List ℕ → Group → Group
+more line g = record { number = g.number; text = g.text ++ (line ++ byte.line_feed ∷ []); count = g.count + 1 }
+
+-- the groups, of which that at this index has a line more
+abbrev pub extended : ℕ → List ℕ → List Group → List Group
+extended i line [] = []
+extended zero line (g ∷ gs) = more line g ∷ gs
+extended (suc i) line (g ∷ gs) = g ∷ extended i line gs
+
+-- a group of one line
+abbrev pub single : List ℕ → Group
+single line = more line (record { number = group_of line; text = []; count = 0 })
+
+-- the groups' numbers
+abbrev pub numbers_in : List Group → List ℕ
+numbers_in groups = map (λ g. g.number) groups

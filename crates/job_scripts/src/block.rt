@@ -1,0 +1,159 @@
+//! Blocks: lines that are done under one hold of an engine's lock.
+ghost use Rattle.std.specs.Prelude.{◌≡◌, ◌≢◌, ◌≤◌, ◌++◌, ◌∷◌, [], List, Option, None, length, max, IfOk, OnOk};
+ghost use Rattle.std.specs.Vec.Iter.{into_iter_items};
+ghost use Rattle.refusal.specs.declared.Refusal.{Refusal};
+ghost use Rattle.std.specs.List.{All};
+ghost use Rattle.collation.specs.Limits.{most_levels};
+ghost use Rattle.job_scripts.specs.Blocks.{level_after as level_left, IsOneBlock, in_place};
+
+use crate::lines::next_line;
+use collation::MOST_LEVELS;
+use command::{Command, DataCommand, Reply};
+use refusal::Refusal;
+use script::{Drafts, read_line};
+use std::alloc::{AllocError, Global};
+use std::vec::IntoIter;
+
+/// Lines of a job, in order, and the lines that follow.
+#[derive(Debug, Drop)]
+pub struct Block<'a> {
+    /// The commands of the lines that can be read, in order. None is HALT.
+    pub commands: Vec<Command>,
+    /// For each line its refusal, or none where it has a command.
+    pub places: Vec<Option<Refusal>>,
+    /// The lines that follow.
+    pub rest: &'a [u8],
+}
+
+impl<'a> Block<'a> {
+    // No line, in front of these.
+    fn new(alloc: Global, lines: &'a [u8]) -> Block<'a>
+        ensures { (result.commands.items ≡ []) × ((result.places.items ≡ []) × (result.rest.now ≡ lines.now)) }
+    {
+        Block {
+            commands: Vec::new(alloc),
+            places: Vec::new(alloc),
+            rest: lines,
+        }
+    }
+
+    // One line more, with its command.
+    fn add(&mut self, command: Command) -> Result<(), AllocError>
+        ensures commands { OnOk result (self.new.commands.items ≡ self.old.commands.items ++ command ∷ []) }
+        ensures places { OnOk result (self.new.places.items ≡ self.old.places.items ++ None ∷ []) }
+        ensures rest { self.new.rest.now ≡ self.old.rest.now }
+    {
+        self.commands.push(command)?;
+        self.places.push(None)?;
+        Ok(())
+    }
+}
+
+// The level of a transaction after a command in it.
+fn level_after(level: u64, command: &Command) -> u64
+    requires { level ≤ most_levels }
+    ensures left { result ≡ level_left command.now level }
+    ensures few { result ≤ most_levels }
+{
+    match command {
+        Command::Start => (level + 1).min(MOST_LEVELS),
+        Command::Commit => level.saturating_sub(1),
+        Command::Rollback | Command::Halt => 0,
+        Command::Restart => 1,
+        Command::Access(_) | Command::Lock(_) | Command::Level | Command::Restarts => level,
+    }
+}
+
+/// The block of the lines at the front of a text, in a transaction at level 1 that has done nothing. It ends with the line
+/// that leaves no transaction open, as if neither memory nor stamps were refused to a command.
+///
+/// `AllocError` where memory for the block is refused. A line that can't be read for want of memory has that refusal in
+/// its place.
+pub fn block_of<'a>(
+    alloc: Global,
+    lines: &'a [u8],
+    drafts: &mut Drafts,
+) -> Result<Block<'a>, AllocError>
+    ensures goes_on { IfOk result (λ block. All (λ (c : Command). c ≢ Command.Halt) block.commands.items) }
+    ensures one { IfOk result (λ block. IsOneBlock 1 block.commands.items) }
+    ensures rest { IfOk result (λ block. length block.rest.now ≤ length lines.now) }
+{
+    let mut block = Block::new(alloc, lines);
+    let mut level = 1;
+    while level > 0 {
+        let Some((line, rest)) = next_line(block.rest) else {
+            return Ok(block);
+        };
+        match read_line(alloc, line, drafts) {
+            Ok((_, Command::Halt)) => return Ok(block),
+            Ok((_, command)) => {
+                level = level_after(level, &command);
+                block.add(command)?;
+            }
+            Err(fault) => block.places.push(Some(fault.refusal))?,
+        }
+        block.rest = rest;
+    }
+    Ok(block)
+}
+
+/// A data command outside a transaction, and those of the lines at the front of a text: up to the line that asks for
+/// something else, or to so many lines in all.
+///
+/// `AllocError` as `block_of`; a line that can't be read has its refusal in its place.
+pub fn lone_block<'a>(
+    alloc: Global,
+    first: DataCommand,
+    lines: &'a [u8],
+    most: usize,
+    drafts: &mut Drafts,
+) -> Result<Block<'a>, AllocError>
+    ensures goes_on { IfOk result (λ block. All (λ (c : Command). c ≢ Command.Halt) block.commands.items) }
+    ensures few { IfOk result (λ block. length block.places.items ≤ max 1 most) }
+    ensures rest { IfOk result (λ block. length block.rest.now ≤ length lines.now) }
+{
+    let mut block = Block::new(alloc, lines);
+    block.add(Command::Access(first))?;
+    while block.places.len() < most {
+        let Some((line, rest)) = next_line(block.rest) else {
+            return Ok(block);
+        };
+        match read_line(alloc, line, drafts) {
+            Ok((_, Command::Access(command))) => block.add(Command::Access(command))?,
+            Ok(_) => return Ok(block),
+            Err(fault) => block.places.push(Some(fault.refusal))?,
+        }
+        block.rest = rest;
+    }
+    Ok(block)
+}
+
+// The reply in a line's place: its refusal, or the next reply.
+fn reply_for(
+    place: &Option<Refusal>,
+    served: &mut IntoIter<Reply, Global>,
+) -> Result<Reply, AllocError>
+    ensures { IfOk result (λ reply. (places : List (Option Refusal)) → in_place (place.now ∷ places) (into_iter_items served.old) ≡ reply ∷ in_place places (into_iter_items served.new)) }
+{
+    match place {
+        Some(refusal) => Ok(Reply::Refused(*refusal)),
+        None => served.next().ok_or(AllocError),
+    }
+}
+
+/// Puts the replies to a block's commands behind those before it, and each refused line's refusal in its place.
+///
+/// `AllocError` where memory is refused, or there are fewer replies than commands.
+pub fn push_in_place(
+    places: &[Option<Refusal>],
+    served: Vec<Reply>,
+    replies: &mut Vec<Reply>,
+) -> Result<(), AllocError>
+    ensures { OnOk result (replies.new.items ≡ replies.old.items ++ in_place places.now served.items) }
+{
+    let mut served = served.into_iter();
+    for place in places {
+        replies.push(reply_for(place, &mut served)?)?;
+    }
+    Ok(())
+}

@@ -1,0 +1,3 @@
+pub mod Outputs
+pub mod Reading
+pub mod Slotting

@@ -1,0 +1,4 @@
+pub mod Faults
+pub mod Output
+pub mod Served
+pub mod Slots

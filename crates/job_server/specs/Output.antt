@@ -1,0 +1,44 @@
+-- What a run of many jobs writes. Source: docs/FORMATS.md, "Replies".
+-- Read IsJobsOutput, Wrote and IsBegun; the contracts of run_text and run_jobs cite these.
+use Rattle.std.specs.Prelude.{◌≡◌, ◌⊎◌, ℕ, Bool, true, false, List, [], ◌++◌, map, length, unwrap_or, Option, codes}
+use Rattle.std.specs.List.{list_any}
+use Rattle.std.specs.Io.KnownBytes.{Appends}
+use Rattle.listing.specs.Bytes.{WritesBeginning}
+use Rattle.collation.specs.Database.{Database}
+use Rattle.journal.specs.declared.unit.Unit.{Unit as JournalUnit}
+use Rattle.journal.specs.History.{initial, after, IsLegal}
+use Rattle.listing.specs.Listing.{listing_text}
+use Rattle.job_scripts.specs.Groups.{Group, groups_in}
+use Rattle.job_scripts.specs.Reports.{Answers, reports_text, some_refused}
+
+-- what follows the replies: "--" and the listing, or nothing where no listing is asked for
+abbrev pub ending : Bool → Database → List ℕ
+ending true m = codes "--\n" ++ listing_text m
+ending false m = []
+
+-- a report's number and how many replies it has
+abbrev pub answered_by : Answers → ℕ × ℕ
+answered_by a = (unwrap_or a.job 0, length a.replies)
+
+-- a group's number and how many lines it has
+abbrev pub asked_by : Group → ℕ × ℕ
+asked_by g = (g.number, g.count)
+
+-- the output for a text: a report for each of its groups, in order, with a reply for each line, and the listing of what a legal journal leaves
+pub record IsJobsOutput (listed : Bool) (text output : List ℕ) (refused : Bool) : Type 0 where
+  pub reports : List Answers
+  pub units : List JournalUnit
+  pub of_groups : map answered_by reports ≡ map asked_by (groups_in text)
+  pub legal : IsLegal units initial
+  pub told : refused ≡ list_any some_refused reports
+  pub written : output ≡ reports_text reports ++ ending listed (after units initial).map
+
+-- such an output was written
+pub record Wrote (listed : Bool) (text : List ℕ) (refused : Bool) (old new : Option (List ℕ)) : Type 0 where
+  pub output : List ℕ
+  pub is_output : IsJobsOutput listed text output refused
+  pub written : Appends old new output
+
+-- nothing was written, or a beginning of such an output
+abbrev pub IsBegun : Bool → List ℕ → Option (List ℕ) → Option (List ℕ) → Type 0
+IsBegun listed text old new = (old ≡ new) ⊎ ((output : List ℕ) × (refused : Bool) × IsJobsOutput listed text output refused × WritesBeginning old new output)

@@ -1,0 +1,147 @@
+//! Why a run ended early, and the exit status of one.
+ghost use Rattle.std.specs.Prelude.{◌≡◌, true, false, IfOk, OnErr};
+
+use listing::{ListingFault, ReadFault, WriteFault};
+use std::alloc::{AllocError, AllocFailed};
+use std::error::Error;
+use std::fmt;
+
+/// Why jobs weren't served to their end. No report is handed out then.
+#[derive(Clone, Copy, Debug, PartialEq, Eq)]
+pub enum ServerFault {
+    /// Memory was refused where no reply could say so: for a worker, a session, a job's replies or its report, a serial
+    /// run, or the HALT after a job's last line.
+    Memory,
+    /// A job's report didn't come, or wasn't whole.
+    Missing,
+}
+
+impl From<AllocError> for ServerFault {
+    ghost use Rattle.std.specs.Prelude.{◌≡◌};
+    ghost use Rattle.job_server.specs.declared.fault.ServerFault.{ServerFault};
+
+    ghost from_gives = { λ _ fault. fault ≡ ServerFault.Memory };
+
+    fn from(_: AllocError) -> ServerFault {
+        ServerFault::Memory
+    }
+}
+
+impl<T: Drop> From<AllocFailed<T>> for ServerFault {
+    ghost use Rattle.std.specs.Prelude.{◌≡◌};
+    ghost use Rattle.job_server.specs.declared.fault.ServerFault.{ServerFault};
+
+    ghost from_gives = { λ _ fault. fault ≡ ServerFault.Memory };
+
+    fn from(_: AllocFailed<T>) -> ServerFault {
+        ServerFault::Memory
+    }
+}
+
+/// Why a run of many jobs ended early. What was written is a beginning of a whole output.
+#[derive(Clone, Copy, Debug, PartialEq, Eq)]
+pub enum JobsFault {
+    /// A call of the reader failed. Nothing was done.
+    Read,
+    /// A call of the writer failed, or took no byte. All jobs were done.
+    Write,
+    /// Memory was refused where no reply could say so.
+    Memory,
+    /// A job's report didn't come.
+    Missing,
+}
+
+impl JobsFault {
+    /// The text that is printed.
+    pub fn text(self) -> &'static str {
+        match self {
+            JobsFault::Read => "cannot read input",
+            JobsFault::Write => "cannot write output",
+            JobsFault::Memory => "out of memory",
+            JobsFault::Missing => "report missing",
+        }
+    }
+}
+
+impl fmt::Display for JobsFault {
+    fn fmt<W: fmt::Write>(&self, f: &mut fmt::Formatter<W>) -> fmt::Result {
+        f.write_str(self.text())
+    }
+}
+
+impl Error for JobsFault {}
+
+/// The exit status of a program that ran jobs: 0 where all replies are accepted, 1 where one is a refusal, 2 after a
+/// fault.
+pub fn status_of(outcome: &Result<bool, JobsFault>) -> u8
+    ensures accepted { IfOk outcome.now (λ refused. refused ≡ false → result ≡ 0) }
+    ensures refused { IfOk outcome.now (λ refused. refused ≡ true → result ≡ 1) }
+    ensures fault { OnErr outcome.now (result ≡ 2) }
+{
+    match outcome {
+        Ok(false) => 0,
+        Ok(true) => 1,
+        Err(_) => 2,
+    }
+}
+
+impl From<ServerFault> for JobsFault {
+    ghost use Rattle.std.specs.Prelude.{◌≡◌};
+    ghost use Rattle.job_server.specs.Faults.{fault_of_server};
+
+    ghost from_gives = { λ served fault. fault ≡ fault_of_server served };
+
+    fn from(fault: ServerFault) -> JobsFault {
+        match fault {
+            ServerFault::Memory => JobsFault::Memory,
+            ServerFault::Missing => JobsFault::Missing,
+        }
+    }
+}
+
+impl From<AllocError> for JobsFault {
+    ghost use Rattle.std.specs.Prelude.{◌≡◌};
+    ghost use Rattle.job_server.specs.declared.fault.JobsFault.{JobsFault};
+
+    ghost from_gives = { λ _ fault. fault ≡ JobsFault.Memory };
+
+    fn from(_: AllocError) -> JobsFault {
+        JobsFault::Memory
+    }
+}
+
+impl From<ReadFault> for JobsFault {
+    ghost use Rattle.std.specs.Prelude.{◌≡◌};
+    ghost use Rattle.job_server.specs.declared.fault.JobsFault.{JobsFault};
+
+    ghost from_gives = { λ _ fault. fault ≡ JobsFault.Read };
+
+    fn from(_: ReadFault) -> JobsFault {
+        JobsFault::Read
+    }
+}
+
+impl From<WriteFault> for JobsFault {
+    ghost use Rattle.std.specs.Prelude.{◌≡◌};
+    ghost use Rattle.job_server.specs.declared.fault.JobsFault.{JobsFault};
+
+    ghost from_gives = { λ _ fault. fault ≡ JobsFault.Write };
+
+    fn from(_: WriteFault) -> JobsFault {
+        JobsFault::Write
+    }
+}
+
+impl From<ListingFault> for JobsFault {
+    ghost use Rattle.std.specs.Prelude.{◌≡◌};
+    ghost use Rattle.job_server.specs.Faults.{fault_of};
+
+    ghost from_gives = { λ listing fault. fault ≡ fault_of listing };
+
+    fn from(fault: ListingFault) -> JobsFault {
+        match fault {
+            ListingFault::Write => JobsFault::Write,
+            ListingFault::Memory => JobsFault::Memory,
+        }
+    }
+}

@@ -1,0 +1,39 @@
+//! The job server: scripts of many jobs run at the same time on one engine.
+//!
+//! A job's lines are done in order by one worker. Jobs wait in a queue, in order of their first lines; a worker takes the
+//! next one whole, and hands its report back whole. What workers share is the engine and two channels, and no line.
+//!
+//! A block is a TSTART outside a transaction and the lines after it, up to the one that leaves no transaction open, the one
+//! before a HALT, or the job's last. Where its TCOMMIT finds that the transaction was overtaken, its lines after the TSTART
+//! are done again, and only the replies of the last try are kept. After the third such restart they are done by
+//! `Shared::run_serial`, under one hold of the engine's lock, which no TCOMMIT restarts.
+//!
+//! A LOCK that is kept off waits: it tries again after each `Gate::between_tries`, and where it has a timeout after each
+//! `Gate::second`, for so many times.
+//!
+//! | File | Does |
+//! |---|---|
+//! | `fault.rt` | why a run ended early |
+//! | `cursor.rt` | a place in a job's lines |
+//! | `replies.rt` | what calls of the engine are replied |
+//! | `job_run.rt` | a command of a job, by the calls of its session |
+//! | `worker.rt` | the lines and blocks of one job, and of one job after the other |
+//! | `slot.rt` | a place for a report |
+//! | `serving.rt` | the workers, the channels, the reports in order |
+//! | `run.rt` | bytes in, bytes out |
+//!
+//! Not promised: that jobs overlap, that a LOCK has its names at last, how often a block is done again.
+#![tactic(auto)]
+
+pub use fault::{JobsFault, ServerFault, status_of};
+pub use run::{read_all, run_jobs, run_text};
+pub use serving::{Served, serve};
+
+mod cursor;
+mod fault;
+mod job_run;
+mod replies;
+mod run;
+mod serving;
+mod slot;
+mod worker;

@@ -1,0 +1,63 @@
+//! What calls of the engine are replied.
+use collation::LockCommand;
+use command::{Answer, Reply};
+use refusal::Refusal;
+use shared_engine::Ended;
+
+/// A data command's reply.
+pub(crate) fn answered(done: Result<Answer, Refusal>) -> Reply {
+    match done {
+        Ok(answer) => Reply::Answered(answer),
+        Err(refusal) => Reply::Refused(refusal),
+    }
+}
+
+/// What SET and KILL in a transaction answer.
+pub(crate) fn written(done: Result<(), Refusal>) -> Result<Answer, Refusal> {
+    match done {
+        Ok(()) => Ok(Answer::Done),
+        Err(refusal) => Err(refusal),
+    }
+}
+
+/// The reply to a LOCK.
+pub(crate) fn locked(command: &LockCommand, done: Result<bool, Refusal>) -> Reply {
+    match (command, done) {
+        (_, Err(refusal)) => Reply::Refused(refusal),
+        (LockCommand::Release, Ok(_)) => Reply::Finished,
+        (_, Ok(had)) => Reply::Had(had),
+    }
+}
+
+/// The reply to TSTART.
+pub(crate) fn at_level(done: Result<u64, Refusal>) -> Reply {
+    match done {
+        Ok(level) => Reply::AtLevel(level),
+        Err(refusal) => Reply::Refused(refusal),
+    }
+}
+
+/// The reply to the outermost TCOMMIT.
+pub(crate) fn ended(done: Result<Ended, Refusal>) -> Reply {
+    match done {
+        Ok(Ended::Committed) => Reply::Committed,
+        Ok(Ended::Restarted(restarts)) => Reply::Restarted(restarts),
+        Err(refusal) => Reply::Refused(refusal),
+    }
+}
+
+/// The reply to TROLLBACK.
+pub(crate) fn finished(done: Result<(), Refusal>) -> Reply {
+    match done {
+        Ok(()) => Reply::Finished,
+        Err(refusal) => Reply::Refused(refusal),
+    }
+}
+
+/// The reply to TRESTART.
+pub(crate) fn restarted(done: Result<u64, Refusal>) -> Reply {
+    match done {
+        Ok(restarts) => Reply::Restarted(restarts),
+        Err(refusal) => Reply::Refused(refusal),
+    }
+}

@@ -1,0 +1,173 @@
+//! Readers and writers that fail, and jobs in all numbers.
+use crate::gates::Yielding;
+use job_server::{JobsFault, run_jobs, status_of};
+use listing::Counted;
+use std::alloc::Global;
+use std::io;
+use std::io::{ErrorKind, Read, Write};
+use std::sync::Wait;
+use std::test::Fail;
+use std::thread::Threads;
+
+const SCRIPT: &[u8] = b"2 SET ^B=1\n1 SET ^A=1\n2 $GET(^B)\n1 FOO\n";
+
+const OUTPUT: &[u8] = b"2 ok\n2 1\n1 ok\n1 error 1 BadLine\n--\n^A=1\n^B=1\n";
+
+// A text in pieces, and the number of the call that fails (0: none).
+#[derive(Drop)]
+struct Pieces<'a> {
+    text: &'a [u8],
+    fails_at: u64,
+    calls: u64,
+}
+
+impl Read for Pieces<'_> {
+    fn read(&mut self, buf: &mut [u8]) -> io::Result<usize> {
+        self.calls = self.calls.saturating_add(1);
+        if self.calls == self.fails_at {
+            return Err(io::Error::from(ErrorKind::Other));
+        }
+        let n = self.text.len().min(buf.len()).min(7);
+        let (front, rest) = self.text.split_at(n);
+        buf[..n].copy_from_slice(front);
+        self.text = rest;
+        Ok(n)
+    }
+}
+
+// What was written, and the number of the call that fails (0: none).
+#[derive(Drop)]
+struct Taken {
+    text: Vec<u8>,
+    fails_at: u64,
+    calls: u64,
+}
+
+impl Write for Taken {
+    fn write(&mut self, buf: &[u8]) -> io::Result<usize> {
+        self.calls = self.calls.saturating_add(1);
+        if self.calls == self.fails_at {
+            return Err(io::Error::from(ErrorKind::Other));
+        }
+        let n = buf.len().min(7);
+        self.text.extend_from_slice(&buf[..n])?;
+        Ok(n)
+    }
+
+    fn flush(&mut self) -> io::Result<()> {
+        Ok(())
+    }
+}
+
+// How a run went, what was written, how many calls there were, and how many of the reader's and the writer's failed.
+#[derive(Drop)]
+struct Went {
+    outcome: Result<bool, JobsFault>,
+    text: Vec<u8>,
+    reads: u64,
+    writes: u64,
+    failures: (u64, u64),
+}
+
+fn run<R: Threads + Wait + Sync>(
+    rt: &R,
+    alloc: Global,
+    read: u64,
+    write: u64,
+) -> Result<Went, Fail> {
+    let mut reader = Counted::new(Pieces {
+        text: SCRIPT,
+        fails_at: read,
+        calls: 0,
+    });
+    let mut writer = Counted::new(Taken {
+        text: Vec::new(alloc),
+        fails_at: write,
+        calls: 0,
+    });
+    let outcome = run_jobs(rt, alloc, &mut reader, &mut writer, 2, &Yielding);
+    Ok(Went {
+        outcome,
+        text: Vec::from_slice(alloc, &writer.inner().text)?,
+        reads: reader.inner().calls,
+        writes: writer.inner().calls,
+        failures: (reader.failures(), writer.failures()),
+    })
+}
+
+// A read that fails is the last one, and nothing is written.
+fn ends_at_read<R: Threads + Wait + Sync>(rt: &R, alloc: Global, call: u64) -> Result<bool, Fail> {
+    let went = run(rt, alloc, call, 0)?;
+    Ok(
+        went.outcome == Err(JobsFault::Read)
+            && went.reads == call
+            && went.failures == (1, 0)
+            && went.text.is_empty(),
+    )
+}
+
+// A write that fails is the last one, and a beginning is written.
+fn ends_at_write<R: Threads + Wait + Sync>(rt: &R, alloc: Global, call: u64) -> Result<bool, Fail> {
+    let went = run(rt, alloc, 0, call)?;
+    Ok(
+        went.outcome == Err(JobsFault::Write)
+            && went.writes == call
+            && went.failures == (0, 1)
+            && OUTPUT.starts_with(&went.text)
+            && went.text.len() < OUTPUT.len(),
+    )
+}
+
+#[test]
+fn runs_end_at_each_failing_call(rt: HostRuntime) -> Result<(), Fail> {
+    let whole = run(&rt, rt.alloc(), 0, 0)?;
+    assert_eq!(rt; whole.outcome, Ok(true));
+    assert_eq!(rt; whole.text.as_slice(), OUTPUT);
+    assert!(rt; whole.reads > 5 && whole.writes > 5);
+    for call in 1..=whole.reads {
+        let ended = ends_at_read(&rt, rt.alloc(), call)?;
+        assert!(rt; ended, "read {call}");
+    }
+    for call in 1..=whole.writes {
+        let ended = ends_at_write(&rt, rt.alloc(), call)?;
+        assert!(rt; ended, "write {call}");
+    }
+    Ok(())
+}
+
+#[test]
+fn statuses_tell_how_a_run_went(rt: HostRuntime) -> Result<(), Fail> {
+    assert_eq!(rt; status_of(&Ok(false)), 0);
+    assert_eq!(rt; status_of(&Ok(true)), 1);
+    assert_eq!(rt; status_of(&Err(JobsFault::Missing)), 2);
+    Ok(())
+}
+
+// How many lines a script of so many jobs with so many lines each is answered with, on so many workers.
+fn lines_of<R: Threads + Wait + Sync>(
+    rt: &R,
+    alloc: Global,
+    jobs: u64,
+    lines: u64,
+    workers: usize,
+) -> Result<usize, Fail> {
+    let mut script = Vec::new(alloc);
+    for _ in 0..lines {
+        for job in 1..=jobs {
+            script.extend_from_slice(format!(in alloc; "{job} SET ^A({job})={job}\n")?.as_bytes())?;
+        }
+    }
+    let mut reader = Counted::new(script.as_slice());
+    let mut writer = Counted::new(Vec::new(alloc));
+    run_jobs(rt, alloc, &mut reader, &mut writer, workers, &Yielding)?;
+    Ok(writer.inner().iter().filter(|byte| **byte == b'\n').count())
+}
+
+#[test]
+fn jobs_in_all_numbers_are_answered(rt: HostRuntime) -> Result<(), Fail> {
+    let all = lines_of(&rt, rt.alloc(), 4096, 1, 3)?;
+    assert_eq!(rt; all, 4096 + 1 + 4096);
+    let one = lines_of(&rt, rt.alloc(), 1, 20_000, 16)?;
+    assert_eq!(rt; one, 20_000 + 1 + 1);
+    Ok(())
+}

@@ -1,0 +1,168 @@
+//! Many blocks on few nodes: 8 jobs on 8 workers, whose journal a plain map replays.
+use crate::gates::Yielding;
+use collation::Text;
+use command::{Answer, DataCommand, Look};
+use job_scripts::scripts_of;
+use job_server::{Served, serve};
+use journal::{Exchange, Journal, Unit};
+use key_codec::Key;
+use listing::{Counted, write_listing};
+use std::alloc::{AllocError, Global};
+use std::collections::BTreeMap;
+use std::sync::Wait;
+use std::test::Fail;
+use std::thread::Threads;
+
+const JOBS: u64 = 8;
+
+const BLOCKS: u64 = 100;
+
+// The blocks of all jobs, block by block.
+fn script(alloc: Global) -> Result<Vec<u8>, Fail> {
+    let mut text = Vec::new(alloc);
+    for _ in 0..BLOCKS {
+        for job in 1..=JOBS {
+            let block = format!(in alloc;
+                "{job} TSTART\n{job} $GET(^X)\n{job} SET ^X={job}\n{job} KILL ^Y\n{job} TCOMMIT\n"
+            )?;
+            text.extend_from_slice(block.as_bytes())?;
+        }
+    }
+    Ok(text)
+}
+
+// A plain map from the bytes of keys to values.
+type Plain = BTreeMap<Vec<u8>, Vec<u8>>;
+
+// The value of a key in the plain map, or the empty string.
+fn value_of<'a>(map: &'a Plain, key: &Key) -> &'a [u8] {
+    match map.get(key.as_slice()) {
+        Some(value) => value.as_slice(),
+        None => b"",
+    }
+}
+
+fn is_value(answer: &Answer, want: &[u8]) -> bool {
+    match answer {
+        Answer::Value(value) => value.as_slice() == want,
+        _ => false,
+    }
+}
+
+// Does an exchange of the load on the plain map. Whether its answer is right there.
+fn replays(alloc: Global, map: &mut Plain, exchange: &Exchange) -> Result<bool, Fail> {
+    match &exchange.command {
+        DataCommand::Set(key, value) => {
+            let key = Vec::from_slice(alloc, key.as_slice())?;
+            map.insert(key, Vec::from_slice(alloc, value.as_slice())?)?;
+            Ok(exchange.answer == Answer::Done)
+        }
+        DataCommand::Kill(key) => {
+            map.remove(key.as_slice());
+            Ok(exchange.answer == Answer::Done)
+        }
+        DataCommand::Look(Look::Get(key, None)) => {
+            Ok(is_value(&exchange.answer, value_of(map, key)))
+        }
+        _ => Ok(false),
+    }
+}
+
+// What a journal holds: whole transactions, ends of sessions, others, and answers that are wrong in the plain map.
+#[derive(Clone, Copy, Debug, PartialEq, Eq)]
+struct Held {
+    whole: [u64; JOBS as usize],
+    ends: u64,
+    others: u64,
+    wrong: u64,
+}
+
+fn note_whole(
+    alloc: Global,
+    held: &mut Held,
+    map: &mut Plain,
+    exchanges: &[Exchange],
+) -> Result<(), Fail> {
+    for exchange in exchanges {
+        if !replays(alloc, map, exchange)? {
+            held.wrong = held.wrong.saturating_add(1);
+        }
+    }
+    Ok(())
+}
+
+// The units of a journal, replayed.
+fn held_by(alloc: Global, journal: &Journal, map: &mut Plain) -> Result<Held, Fail> {
+    let mut held = Held {
+        whole: [0; JOBS as usize],
+        ends: 0,
+        others: 0,
+        wrong: 0,
+    };
+    for unit in journal.units() {
+        match unit? {
+            Unit::Whole(job, exchanges) => {
+                let at = job.number() as usize % held.whole.len();
+                held.whole[at] = held.whole[at].saturating_add(1);
+                note_whole(alloc, &mut held, map, exchanges.as_slice())?;
+            }
+            Unit::End(_) => held.ends = held.ends.saturating_add(1),
+            _ => held.others = held.others.saturating_add(1),
+        }
+    }
+    Ok(held)
+}
+
+fn served<R: Threads + Wait + Sync>(rt: &R, alloc: Global) -> Result<Served, Fail> {
+    let scripts = scripts_of(alloc, &script(alloc)?)?;
+    let served = serve(rt, alloc, scripts, JOBS as usize, &Yielding)?;
+    Ok(served)
+}
+
+// The listing of the plain map with one node at most.
+fn listing_of(alloc: Global, map: &Plain) -> Result<Vec<u8>, Fail> {
+    let mut text = Vec::new(alloc);
+    for (key, value) in map {
+        text.push(b'^')?;
+        text.extend_from_slice(key.strip_suffix(&[0]).unwrap_or(key))?;
+        text.push(b'=')?;
+        text.extend_from_slice(value)?;
+        text.push(b'\n')?;
+    }
+    Ok(text)
+}
+
+#[test]
+fn a_journal_of_many_blocks_is_a_plain_map_s_story(rt: HostRuntime) -> Result<(), Fail> {
+    let alloc = rt.alloc();
+    let served = served(&rt, alloc)?;
+    let mut map = BTreeMap::new(alloc);
+    let held = held_by(alloc, served.closed.core.journal(), &mut map)?;
+    let want = Held {
+        whole: [BLOCKS; JOBS as usize],
+        ends: JOBS,
+        others: 0,
+        wrong: 0,
+    };
+    assert_eq!(rt; held, want);
+    let mut writer = Counted::new(Vec::new(alloc));
+    write_listing(alloc, &served.closed.core.content(), &mut writer)?;
+    let listing = listing_of(alloc, &map)?;
+    assert_eq!(rt; writer.inner().as_slice(), listing.as_slice());
+    Ok(())
+}
+
+#[test]
+fn each_line_of_many_blocks_has_its_reply(rt: HostRuntime) -> Result<(), Fail> {
+    let served = served(&rt, rt.alloc())?;
+    let mut replies = 0;
+    let mut refused = 0;
+    for report in &served.reports {
+        replies += report.replies().len().min(1000);
+        refused += if report.refused() { 1 } else { 0 };
+    }
+    assert_eq!(rt; replies, 4000);
+    assert_eq!(rt; refused, 0);
+    assert_eq!(rt; served.closed.sessions, JOBS);
+    Ok(())
+}

@@ -1,0 +1,200 @@
+//! Jobs that meet: each would fail if jobs were done one after the other.
+use crate::gates::Counts;
+use collation::{Job, LockCommand};
+use job_scripts::scripts_of;
+use job_server::{run_jobs, serve};
+use journal::{Journal, Unit};
+use listing::Counted;
+use shared_engine::Gate;
+use std::alloc::Global;
+use std::rt::Clock;
+use std::sync::Wait;
+use std::test::Fail;
+use std::thread;
+use std::thread::Threads;
+
+// What the jobs of a test wait for.
+#[derive(Clone, Copy, PartialEq, Eq)]
+enum Plan {
+    // Job 1's first line waits for job 2's.
+    Overlap,
+    // Job 2's LOCK comes after job 1's, and job 1's second line after a try of that in vain.
+    Handover,
+    // Job 2's LOCK comes after job 1's, and job 1's second line after job 2's first.
+    Timeout,
+    // Each try of job 1's block is overtaken by a line of job 2.
+    Overtaking,
+    // Nothing.
+    Alone,
+}
+
+struct Meeting<'a, P> {
+    rt: &'a P,
+    counts: &'a Counts,
+    plan: Plan,
+}
+
+impl<'a, P> Drop for Meeting<'a, P> {
+    fn drop(self) {
+        let Meeting {
+            rt: _,
+            counts: _,
+            plan: _,
+        } = self;
+    }
+}
+
+impl<'a, P: Clock> Meeting<'a, P> {
+    // Waits before a line that comes for so many times.
+    fn wait(&self, job: u64, line: u64, times: u64) {
+        match (self.plan, job, line) {
+            (Plan::Overlap, 1, 1) => self.counts.wait_for_line(self.rt, 2, 1, 1),
+            (Plan::Handover, 2, 1) => self.counts.wait_for_line(self.rt, 1, 1, 1),
+            (Plan::Timeout, 2, 1) => self.counts.wait_for_line(self.rt, 1, 1, 1),
+            (Plan::Timeout, 1, 2) => self.counts.wait_for_line(self.rt, 2, 1, 1),
+            (Plan::Handover, 1, 2) => self.counts.wait_for_try(self.rt, 2),
+            (Plan::Overtaking, 2, _) => self.counts.wait_for_line(self.rt, 1, 2, line),
+            (Plan::Overtaking, 1, 4) => self.counts.wait_for_line(self.rt, 2, times, 1),
+            _ => {}
+        }
+    }
+}
+
+impl<'a, P: Clock> Gate for Meeting<'a, P> {
+    fn watches_lines(&self) -> bool {
+        true
+    }
+
+    fn before(&self, job: Job, line: u64) {
+        let times = self.counts.note_before(job, line);
+        self.wait(job.number() as u64, line, times);
+    }
+
+    fn after(&self, job: Job, line: u64) {
+        self.counts.note_after(job, line);
+    }
+
+    fn between_tries(&self, job: Job) {
+        self.counts.note_try(job);
+        thread::yield_now();
+    }
+
+    fn second(&self, _job: Job) {
+        self.counts.note_second();
+    }
+
+    fn job_done(&self, _done: u64, _jobs: u64, _lines: u64) {}
+}
+
+// What a script writes on two workers, how many waits were in vain, and how many seconds passed.
+fn met<P: Clock + Threads + Wait + Sync>(
+    rt: &P,
+    alloc: Global,
+    plan: Plan,
+    input: &[u8],
+) -> Result<(Vec<u8>, u64, u64), Fail> {
+    let counts = Counts::new(alloc)?;
+    let gate = Meeting {
+        rt,
+        counts: &counts,
+        plan,
+    };
+    let mut reader = Counted::new(input);
+    let mut writer = Counted::new(Vec::new(alloc));
+    run_jobs(rt, alloc, &mut reader, &mut writer, 2, &gate)?;
+    let text = Vec::from_slice(alloc, writer.inner())?;
+    Ok((text, counts.late(), counts.seconds()))
+}
+
+#[test]
+fn two_jobs_overlap(rt: HostRuntime) -> Result<(), Fail> {
+    let (text, late, _) = met(&rt, rt.alloc(), Plan::Overlap, b"1 SET ^A=1\n2 SET ^B=2\n")?;
+    assert_eq!(rt; late, 0);
+    assert_eq!(rt; text.as_slice(), b"1 ok\n2 ok\n--\n^A=1\n^B=2\n".as_slice());
+    Ok(())
+}
+
+#[test]
+fn a_lock_waits_until_its_names_are_given_back(rt: HostRuntime) -> Result<(), Fail> {
+    let script = b"1 LOCK +^A\n2 LOCK +^A\n1 LOCK -^A\n";
+    let (text, late, _) = met(&rt, rt.alloc(), Plan::Handover, script)?;
+    assert_eq!(rt; late, 0);
+    assert_eq!(rt; text.as_slice(), b"1 1\n1 1\n2 1\n--\n".as_slice());
+    Ok(())
+}
+
+// Of each unit of a LOCK the job, and whether it gave back, had its names or was kept off, as letters.
+fn locks_told(alloc: Global, journal: &Journal) -> Result<Vec<u8>, Fail> {
+    let mut told = Vec::new(alloc);
+    for unit in journal.units() {
+        if let Unit::Lock(job, _, command, had) = unit? {
+            told.push(if job.number() == 1 { b'1' } else { b'2' })?;
+            told.push(match (&command, had) {
+                (LockCommand::Fewer(_), _) => b'-',
+                (_, true) => b'+',
+                (_, false) => b'0',
+            })?;
+        }
+    }
+    Ok(told)
+}
+
+// The units of the LOCKs of jobs 1 and 2, of which the second waits.
+fn handed_over<P: Clock + Threads + Wait + Sync>(rt: &P, alloc: Global) -> Result<Vec<u8>, Fail> {
+    let counts = Counts::new(alloc)?;
+    let gate = Meeting {
+        rt,
+        counts: &counts,
+        plan: Plan::Handover,
+    };
+    let scripts = scripts_of(alloc, b"1 LOCK +^A\n2 LOCK +^A\n1 LOCK -^A\n")?;
+    let served = serve(rt, alloc, scripts, 2, &gate)?;
+    locks_told(alloc, served.closed.core.journal())
+}
+
+#[test]
+fn a_lock_that_waits_is_two_units(rt: HostRuntime) -> Result<(), Fail> {
+    let told = handed_over(&rt, rt.alloc())?;
+    assert_eq!(rt; told.as_slice(), b"1+201-2+".as_slice());
+    Ok(())
+}
+
+#[test]
+fn a_block_is_run_alone_after_three_restarts(rt: HostRuntime) -> Result<(), Fail> {
+    let script =
+        b"1 TSTART\n1 $GET(^X)\n1 SET ^Y=1\n1 TCOMMIT\n2 SET ^X=1\n2 SET ^X=2\n2 SET ^X=3\n";
+    let (text, late, _) = met(&rt, rt.alloc(), Plan::Overtaking, script)?;
+    assert_eq!(rt; late, 0);
+    let want = b"1 level 1\n1 3\n1 ok\n1 committed\n2 ok\n2 ok\n2 ok\n--\n^X=3\n^Y=1\n";
+    assert_eq!(rt; text.as_slice(), want.as_slice());
+    Ok(())
+}
+
+#[test]
+fn a_lock_with_a_timeout_gives_up(rt: HostRuntime) -> Result<(), Fail> {
+    let script = b"1 LOCK +^A\n1 TSTART\n2 LOCK +^A:3\n2 LOCK -^A:9\n1 TROLLBACK\n";
+    let (text, late, seconds) = met(&rt, rt.alloc(), Plan::Timeout, script)?;
+    assert_eq!(rt; late, 0);
+    assert_eq!(rt; seconds, 3);
+    let want = b"1 1\n1 level 1\n1 ok\n2 0\n2 1\n--\n";
+    assert_eq!(rt; text.as_slice(), want.as_slice());
+    Ok(())
+}
+
+#[test]
+fn an_open_transaction_is_rolled_back_at_the_end(rt: HostRuntime) -> Result<(), Fail> {
+    let script = b"1 SET ^A=1\n1 TSTART\n1 SET ^A=2\n1 FOO\n1 $GET(^A)\n";
+    let (text, _, _) = met(&rt, rt.alloc(), Plan::Alone, script)?;
+    let want = b"1 ok\n1 level 1\n1 ok\n1 error 1 BadLine\n1 2\n--\n^A=1\n";
+    assert_eq!(rt; text.as_slice(), want.as_slice());
+    Ok(())
+}
+
+#[test]
+fn a_session_ends_with_halt_and_the_next_line_begins_another(rt: HostRuntime) -> Result<(), Fail> {
+    let script = b"1 TSTART\n1 SET ^A=2\n1 HALT\n1 $TLEVEL\n1 SET ^B=1\n1 HALT\n";
+    let (text, _, _) = met(&rt, rt.alloc(), Plan::Alone, script)?;
+    let want = b"1 level 1\n1 ok\n1 ok\n1 0\n1 ok\n1 ok\n--\n^B=1\n";
+    assert_eq!(rt; text.as_slice(), want.as_slice());
+    Ok(())
+}

@@ -1,0 +1,120 @@
+//! Worked rows: the row of two jobs, and scripts of one job, which are answered as `mrun` answers them.
+use crate::gates::Yielding;
+use job_server::run_jobs;
+use listing::Counted;
+use script_run::run_script;
+use std::alloc::Global;
+use std::sync::Wait;
+use std::test::Fail;
+use std::thread::Threads;
+use worked_rows::{ANSWERED, COMMITS, INSIDE, LEVELS, OUTSIDE, Row};
+
+// Refusals of lines and of steps, all of one job.
+const REFUSED_OF_ONE: [Row; 1] = [(
+    "1 FOO\n1 SET ^1A=1\n1 SET ^A(\"\")=1\n1 TCOMMIT\n1 $ORDER(^A)\n1 MERGE ^A(1)=^A\n",
+    "",
+)];
+
+// What a script writes on so many workers, and whether a reply is a refusal.
+fn output_of<R: Threads + Wait + Sync>(
+    rt: &R,
+    alloc: Global,
+    input: &[u8],
+    workers: usize,
+) -> Result<(Vec<u8>, bool), Fail> {
+    let mut reader = Counted::new(input);
+    let mut writer = Counted::new(Vec::new(alloc));
+    let refused = run_jobs(rt, alloc, &mut reader, &mut writer, workers, &Yielding)?;
+    let text = Vec::from_slice(alloc, writer.inner())?;
+    Ok((text, refused))
+}
+
+// What `mrun` writes.
+fn output_of_one(alloc: Global, input: &[u8]) -> Result<(Vec<u8>, bool), Fail> {
+    let mut reader = Counted::new(input);
+    let mut writer = Counted::new(Vec::new(alloc));
+    let outcome = run_script(alloc, 0, &mut reader, &mut writer)?;
+    let text = Vec::from_slice(alloc, writer.inner())?;
+    Ok((text, outcome.refused))
+}
+
+#[test]
+fn jobs_are_answered_by_job(rt: HostRuntime) -> Result<(), Fail> {
+    let script = b"2 SET ^B=1\n1 SET ^A=1\n2 $GET(^B)\n";
+    let (text, refused) = output_of(&rt, rt.alloc(), script, 2)?;
+    let want = b"2 ok\n2 1\n1 ok\n--\n^A=1\n^B=1\n";
+    assert_eq!(rt; text.as_slice(), want.as_slice());
+    assert!(rt; !refused);
+    Ok(())
+}
+
+#[test]
+fn refused_lines_keep_their_place_and_those_without_a_job_are_a_group(
+    rt: HostRuntime,
+) -> Result<(), Fail> {
+    let script = b"x\n3 FOO\n3 SET ^A=1\n5000 HALT\n3 $GET(^A,)\n3 $GET(^A)\n\n";
+    let (text, refused) = output_of(&rt, rt.alloc(), script, 2)?;
+    let want =
+        b"0 error 1 BadLine\n0 error 12 BadJob\n3 error 1 BadLine\n3 ok\n3 error 1 BadLine\n3 1\n--\n^A=1\n";
+    assert_eq!(rt; text.as_slice(), want.as_slice());
+    assert!(rt; refused);
+    Ok(())
+}
+
+#[test]
+fn nothing_is_answered_with_the_listing_alone(rt: HostRuntime) -> Result<(), Fail> {
+    let (text, refused) = output_of(&rt, rt.alloc(), b"\n\r\n", 16)?;
+    assert_eq!(rt; text.as_slice(), b"--\n".as_slice());
+    assert!(rt; !refused);
+    Ok(())
+}
+
+// The lines of a script, each as job 1's. No line waits for another then.
+fn as_one_job(alloc: Global, script: &str) -> Result<Vec<u8>, Fail> {
+    let mut text = Vec::new(alloc);
+    let mut begins = true;
+    for byte in script.as_bytes() {
+        let is_job = begins && matches!(*byte, b'1'..=b'9');
+        text.push(if is_job { b'1' } else { *byte })?;
+        begins = *byte == b'\n';
+    }
+    Ok(text)
+}
+
+// The number of the first script that one job is answered otherwise than by `mrun`; or none.
+fn first_other<R: Threads + Wait + Sync>(
+    rt: &R,
+    alloc: Global,
+    rows: &[Row],
+) -> Result<Option<usize>, Fail> {
+    for (i, (script, _)) in rows.iter().enumerate() {
+        let script = as_one_job(alloc, script)?;
+        let found = output_of(rt, alloc, &script, 2)?;
+        let want = output_of_one(alloc, &script)?;
+        if found != want {
+            return Ok(Some(i));
+        }
+    }
+    Ok(None)
+}
+
+#[test]
+fn data_commands_of_one_job_are_answered_as_by_mrun(rt: HostRuntime) -> Result<(), Fail> {
+    assert_eq!(rt; first_other(&rt, rt.alloc(), &ANSWERED)?, None);
+    assert_eq!(rt; first_other(&rt, rt.alloc(), &REFUSED_OF_ONE)?, None);
+    Ok(())
+}
+
+#[test]
+fn transactions_of_one_job_are_answered_as_by_mrun(rt: HostRuntime) -> Result<(), Fail> {
+    assert_eq!(rt; first_other(&rt, rt.alloc(), &COMMITS)?, None);
+    assert_eq!(rt; first_other(&rt, rt.alloc(), &LEVELS)?, None);
+    Ok(())
+}
+
+#[test]
+fn locks_of_one_job_are_answered_as_by_mrun(rt: HostRuntime) -> Result<(), Fail> {
+    assert_eq!(rt; first_other(&rt, rt.alloc(), &OUTSIDE)?, None);
+    assert_eq!(rt; first_other(&rt, rt.alloc(), &INSIDE)?, None);
+    Ok(())
+}

@@ -1,0 +1,183 @@
+//! `mjobs`: runs the jobs of a script at the same time, from a file or standard input.
+//!
+//! It reads all input, and prints the replies by job, in order of the jobs' first lines, then `--` and the listing of the
+//! database. What is printed is what `job_server::run_text` promises, the exit status is `job_server::status_of` of its
+//! outcome and the text of a fault is `job_server::JobsFault::text`; what its words ask for is
+//! `program_front::mjobs_args_of`. This file only opens the file, lets time pass for LOCKs that wait, and prints what went
+//! wrong:
+//!
+//! 0, all replies are accepted; 1, a reply is an `error`; 2, a fault, or wrong arguments; standard error says which.
+#![tactic(auto)]
+
+use bstr::ByteSlice;
+use collation::Job;
+use job_server::{JobsFault, read_all, run_text, status_of};
+use listing::Counted;
+use program_front::{
+    MjobsArgs, arguments_of, mjobs_args_of, path_of, print_bad_name, print_fault,
+    print_help_or_error, print_refused, print_unopened,
+};
+use script::{Drafts, read_line};
+use shared_engine::Gate;
+use std::alloc::AllocError;
+use std::io::{IsTerminal, Read};
+use std::process::ExitCode;
+use std::rt::{Clock, Files};
+use std::sync::Wait;
+use std::sync::atomic::{AtomicU64, Ordering};
+use std::thread::Threads;
+use std::time::{Duration, Instant};
+use std::{fs, io, thread};
+
+// The program's name, before what it prints on standard error.
+const PROGRAM: &str = "mjobs";
+
+// When jobs were begun, and after how many seconds their progress was told last.
+#[derive(Drop)]
+struct Progress {
+    begun: Instant,
+    told: AtomicU64,
+}
+
+impl Progress {
+    // From now on.
+    fn new(rt: &impl Clock) -> Option<Progress> {
+        Some(Progress {
+            begun: Instant::now(rt).ok()?,
+            told: AtomicU64::new(0),
+        })
+    }
+
+    // Tells it on standard error, in one line that is written over: at most once a second, and at the end of what took
+    // longer.
+    fn tell(&self, rt: &(impl Clock + Eprint), done: u64, jobs: u64, lines: u64) {
+        let seconds = match self.begun.elapsed(rt) {
+            Ok(elapsed) => elapsed.as_secs(),
+            Err(_) => return,
+        };
+        let is_end = done == jobs;
+        if seconds <= self.told.load(Ordering::Relaxed) && !(is_end && seconds > 0) {
+            return;
+        }
+        self.told.store(seconds, Ordering::Relaxed);
+        let pace = lines.checked_div(seconds).unwrap_or(lines);
+        let end = if is_end { "\n" } else { "" };
+        let _ = eprint!(rt; "\r{PROGRAM}: {done} of {jobs} jobs, {pace} lines a second  {end}");
+    }
+}
+
+// Lets other threads go on between two tries of a LOCK, and a second pass where it has a timeout; on a terminal it tells
+// how many jobs are done.
+struct Patience<'a, P> {
+    rt: &'a P,
+    progress: Option<Progress>,
+}
+
+impl<'a, P> Drop for Patience<'a, P> {
+    fn drop(self) {
+        let Patience { rt: _, progress: _ } = self;
+    }
+}
+
+impl<'a, P: Clock + Eprint> Gate for Patience<'a, P> {
+    fn watches_lines(&self) -> bool {
+        false
+    }
+
+    fn before(&self, _job: Job, _line: u64) {}
+
+    fn after(&self, _job: Job, _line: u64) {}
+
+    fn between_tries(&self, _job: Job) {
+        thread::yield_now();
+    }
+
+    fn second(&self, _job: Job) {
+        thread::sleep(self.rt, Duration::from_secs(1));
+    }
+
+    fn job_done(&self, done: u64, jobs: u64, lines: u64) {
+        if let Some(progress) = &self.progress {
+            progress.tell(self.rt, done, jobs, lines);
+        }
+    }
+}
+
+// Tells each line that can't be read on standard error. Lines are counted from 1, empty ones too.
+fn print_all_refused(rt: &(impl Eprint + AllocGlobal), text: &[u8]) {
+    let mut drafts = Drafts::new(rt.alloc());
+    let mut number = 0u64;
+    for line in text.lines() {
+        number = number.saturating_add(1);
+        if line.is_empty() {
+            continue;
+        }
+        if let Err(fault) = read_line(rt.alloc(), line, &mut drafts) {
+            print_refused(rt, PROGRAM, number, line, fault.refusal);
+        }
+    }
+}
+
+fn run_from<P: Print + Eprint + AllocGlobal + Clock + Threads + Wait + Sync, R: Read + Drop>(
+    rt: &P,
+    args: MjobsArgs,
+    tells: bool,
+    input: R,
+) -> Result<bool, JobsFault> {
+    let text = read_all(rt.alloc(), &mut Counted::new(input))?;
+    if args.errors {
+        print_all_refused(rt, &text);
+    }
+    let progress = if tells { Progress::new(rt) } else { None };
+    let mut writer = Counted::new(io::writer(rt));
+    run_text(
+        rt,
+        rt.alloc(),
+        args.listed,
+        text,
+        &mut writer,
+        args.workers as usize,
+        &Patience { rt, progress },
+    )
+}
+
+// Runs the script, prints a fault, and answers the exit status.
+fn run_and_tell<P: Print + Eprint + AllocGlobal + Clock + Threads + Wait + Sync, R: Read + Drop>(
+    rt: &P,
+    args: MjobsArgs,
+    tells: bool,
+    input: R,
+) -> u8 {
+    let outcome = run_from(rt, args, tells, input);
+    if let Err(fault) = outcome {
+        let _status = print_fault(rt, PROGRAM, fault.text());
+    }
+    status_of(&outcome)
+}
+
+fn run_with_arguments<
+    P: Files + Print + Eprint + Input + AllocGlobal + Clock + Threads + Wait + Sync,
+>(rt: &P, arguments: &[Vec<u8>], tells: bool) -> u8 {
+    let args = match mjobs_args_of(rt.alloc(), arguments) {
+        Ok(args) => args,
+        Err(error) => return print_help_or_error(rt, PROGRAM, error),
+    };
+    let Some(name) = args.file.and_then(|place| arguments.get(place)) else {
+        return run_and_tell(rt, args, tells, rt.reader());
+    };
+    let Some(path) = path_of(name) else {
+        return print_bad_name(rt, PROGRAM);
+    };
+    match fs::open(rt, path) {
+        Ok(file) => run_and_tell(rt, args, tells, file),
+        Err(why) => print_unopened(rt, PROGRAM, path, why),
+    }
+}
+
+fn main(rt: HostRuntime) -> ExitCode {
+    let tells = rt.stderr().is_terminal();
+    match arguments_of(&rt) {
+        Ok(arguments) => ExitCode::from(run_with_arguments(&rt, &arguments, tells)),
+        Err(AllocError) => ExitCode::from(print_fault(&rt, PROGRAM, JobsFault::Memory.text())),
+    }
+}

@@ -1,0 +1,79 @@
+//! The words of `mjobs`.
+use crate::words::{VERSION, errors_word, file_of, file_word, no_listing_word, texts_of};
+use clap::builder::ValueParser;
+use clap::{Arg, ArgAction, Command, Error};
+use std::alloc::Global;
+
+// The most workers that may be asked for.
+const MOST_WORKERS: u64 = 16;
+
+// How many workers there are where none are asked for.
+const USUAL_WORKERS: u64 = 2;
+
+// What `--help` prints under the options.
+const LINES: &str = "Each line is a job, 1 to 4096, a blank, and a command or a function:
+
+  1 TSTART
+  1 SET ^Stock(\"apples\")=3
+  1 TCOMMIT
+  2 $GET(^Stock(\"apples\"))
+
+All input is read first. A job's lines are done in order by one worker, different jobs at the same time. A transaction
+that was overtaken is done again by itself; a LOCK waits until it has its names, with `:5` for 5 seconds at most.
+Printed are the replies by job, in order of the jobs' first lines, then `--` and the listing of the database.
+What stands in it where jobs meet depends on which was first.
+
+  mjobs --workers 4 orders.txt
+  generate | mjobs --no-listing
+
+--errors tells a line's number, the column of its fault, the refusal and what was expected there, where it wasn't read.
+
+Exit status: 0, all replies are accepted; 1, a reply is an `error`; 2, input can't be read, output can't be
+written, memory ran out, a report is missing, or the words above are wrong.";
+
+/// What the arguments of `mjobs` ask for.
+#[derive(Clone, Copy, Debug, PartialEq, Eq)]
+pub struct MjobsArgs {
+    /// Which of the arguments is the file, or none for standard input.
+    pub file: Option<usize>,
+    /// Whether `--` and the listing are printed.
+    pub listed: bool,
+    /// Whether each line that can't be read is told on standard error.
+    pub errors: bool,
+    /// How many workers there are, 1 to 16.
+    pub workers: u64,
+}
+
+fn command<'a>(alloc: Global) -> Result<Command<'a>, Error> {
+    let workers = Arg::new(alloc, "workers")
+        .long("workers")
+        .action(ArgAction::Set)
+        .value_name("N")
+        .value_parser(ValueParser::unsigned(1, MOST_WORKERS))
+        .default_value("2")
+        .help("Do so many jobs at the same time, 1 to 16");
+    let command = Command::new(alloc, "mjobs")
+        .version(VERSION)
+        .about(
+            "Runs the jobs of a script at the same time on M globals, and prints replies by job and a listing",
+        )
+        .after_help(LINES)
+        .arg(file_word(alloc))?
+        .arg(no_listing_word(alloc))?
+        .arg(errors_word(alloc))?
+        .arg(workers)?;
+    Ok(command)
+}
+
+/// What the arguments of `mjobs` ask for; the first is the program's name. An error's text is for the user: help and the
+/// version too.
+pub fn mjobs_args_of(alloc: Global, arguments: &[Vec<u8>]) -> Result<MjobsArgs, Error> {
+    let texts = texts_of(alloc, arguments)?;
+    let matches = command(alloc)?.try_get_matches_from(&texts)?;
+    Ok(MjobsArgs {
+        file: file_of(&matches, &texts),
+        listed: !matches.get_flag("no-listing"),
+        errors: matches.get_flag("errors"),
+        workers: matches.get_one("workers").unwrap_or(USUAL_WORKERS),
+    })
+}

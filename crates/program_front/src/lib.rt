@@ -1,0 +1,23 @@
+//! The front of the programs `mrun` and `mjobs`: what the words after a program's name ask for, and what is printed
+//! where they are wrong, a file can't be opened, a line is refused or a run ends early.
+//!
+//! Arguments are bytes, since one may be of any bytes. The parser reads one that isn't UTF-8 with each bad sequence
+//! replaced; its answer says which argument is the file, so that its own bytes are kept and no other file is opened.
+//!
+//! No contract says what the arguments ask for: tests run the parser on them. One says that each print of what went
+//! wrong answers the exit status of a fault.
+//!
+//! Read `run_words.rt`, `jobs_words.rt`, `words.rt`, then `printing.rt`.
+#![tactic(auto)]
+
+pub use jobs_words::{MjobsArgs, mjobs_args_of};
+pub use printing::{
+    FAULT_STATUS, arguments_of, path_of, print_bad_name, print_fault, print_help_or_error,
+    print_refused, print_unopened,
+};
+pub use run_words::{MrunArgs, mrun_args_of};
+
+mod jobs_words;
+mod printing;
+mod run_words;
+mod words;

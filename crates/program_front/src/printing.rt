@@ -1,0 +1,102 @@
+//! The arguments of the process, and what is printed of the program's own.
+ghost use Rattle.std.specs.Prelude.{◌≡◌};
+
+use clap::error::ErrorKind;
+use refusal::Refusal;
+use script::locate_fault;
+use std::alloc::AllocError;
+use std::env::FillError;
+use std::io;
+use std::rt::Env;
+
+/// The exit status after a fault, or where the words are wrong.
+pub const FAULT_STATUS: u8 = 2;
+
+// Argument `i` of the command line, or none after the last.
+fn argument_at(rt: &(impl Env + AllocGlobal), i: usize) -> Result<Option<Vec<u8>>, AllocError> {
+    let mut size = 256usize;
+    for _ in 0..usize::BITS {
+        let mut argument = Vec::from_elem(rt.alloc(), 0u8, size)?;
+        match rt.arg(i, argument.as_mut_slice()) {
+            Ok(n) => {
+                argument.truncate(n);
+                return Ok(Some(argument));
+            }
+            Err(FillError::NotPresent) => return Ok(None),
+            Err(FillError::TooLong) => size = size.saturating_mul(2),
+        }
+    }
+    Err(AllocError)
+}
+
+/// The arguments of the process as bytes. The first is the program's name.
+pub fn arguments_of(rt: &(impl Env + AllocGlobal)) -> Result<Vec<Vec<u8>>, AllocError> {
+    let mut arguments = Vec::new(rt.alloc());
+    for i in 0..usize::MAX {
+        match argument_at(rt, i)? {
+            Some(argument) => arguments.push(argument)?,
+            None => break,
+        }
+    }
+    Ok(arguments)
+}
+
+/// The file's name as std's paths want it, or none where it isn't UTF-8.
+pub fn path_of(name: &[u8]) -> Option<&str> {
+    match std::str::from_utf8(name) {
+        Ok(path) => Some(path),
+        Err(_) => None,
+    }
+}
+
+/// Prints a fault's line on standard error, and answers its exit status. What can't be printed there is left out, here
+/// and below.
+pub fn print_fault(rt: &impl Eprint, program: &str, fault: &str) -> u8
+    ensures { result ≡ FAULT_STATUS }
+{
+    let _ = eprintln!(rt; "{program}: {fault}");
+    FAULT_STATUS
+}
+
+/// Prints a refused line's number, the column of its fault, the refusal and what was expected there, on standard error.
+pub fn print_refused(
+    rt: &(impl Eprint + AllocGlobal),
+    program: &str,
+    number: u64,
+    line: &[u8],
+    refusal: Refusal,
+) {
+    let found = locate_fault(rt.alloc(), line, refusal);
+    let column = found.column;
+    let expected = found.expected.text();
+    let _ = eprintln!(rt;
+        "{program}: line {number}, column {column}: error {refusal}: expected {expected}"
+    );
+}
+
+/// Prints that a file can't be opened, and why, and answers the exit status.
+pub fn print_unopened(rt: &impl Eprint, program: &str, name: &str, why: io::Error) -> u8
+    ensures { result ≡ FAULT_STATUS }
+{
+    let _ = eprintln!(rt; "{program}: cannot read input: {name}: {why}");
+    FAULT_STATUS
+}
+
+/// Prints that a file's name isn't UTF-8, which std's paths are, and answers the exit status.
+pub fn print_bad_name(rt: &impl Eprint, program: &str) -> u8
+    ensures { result ≡ FAULT_STATUS }
+{
+    let _ = eprintln!(rt; "{program}: cannot read input: the name of the file isn't UTF-8");
+    FAULT_STATUS
+}
+
+/// Prints help, the version or what is wrong with the words, and answers the exit status.
+pub fn print_help_or_error(rt: &(impl Print + Eprint), program: &str, error: clap::Error) -> u8 {
+    if error.kind() == ErrorKind::OutOfMemory {
+        return print_fault(rt, program, "out of memory");
+    }
+    if error.print(rt).is_err() {
+        return print_fault(rt, program, "cannot write output");
+    }
+    if error.use_stderr() { FAULT_STATUS } else { 0 }
+}

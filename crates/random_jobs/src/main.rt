@@ -1,0 +1,185 @@
+//! Random scripts of four jobs that run at the same time on four workers. It prints `alike` for a seed where a plain map
+//! that replays the closed journal gives every answer in it and the listing; and where jobs whose globals are their own
+//! are answered as each of them is alone.
+#![tactic(auto)]
+
+use job_scripts::scripts_of;
+use job_server::{Served, serve};
+use lines::{JOBS, Names, push_script};
+use listing::{Counted, ListingFault, write_listing};
+use plain::Plain;
+use script_run::{Fault, run_script};
+use shared_engine::Gate;
+use std::alloc::{AllocError, Global};
+use std::sync::Wait;
+use std::thread::Threads;
+use std::{io, thread};
+
+mod lines;
+mod plain;
+
+// How many lines a job has.
+const LINES: usize = 150;
+
+// How many seeds are run.
+const SEEDS: u64 = 8;
+
+// Lets other threads go on before each line, where lines are watched, and between tries, and no time pass.
+#[derive(Clone, Copy)]
+struct Yielding {
+    watches: bool,
+}
+
+impl Gate for Yielding {
+    fn watches_lines(&self) -> bool {
+        self.watches
+    }
+
+    fn before(&self, _job: collation::Job, _line: u64) {
+        thread::yield_now();
+    }
+
+    fn after(&self, _job: collation::Job, _line: u64) {}
+
+    fn between_tries(&self, _job: collation::Job) {
+        thread::yield_now();
+    }
+
+    fn second(&self, _job: collation::Job) {}
+
+    fn job_done(&self, _done: u64, _jobs: u64, _lines: u64) {}
+}
+
+// What a seed comes to.
+#[derive(Clone, Copy, Debug, PartialEq, Eq)]
+enum Outcome {
+    Alike,
+    AnotherAnswer,
+    AnotherListing,
+    AnotherReply,
+    NoMemory,
+}
+
+impl Outcome {
+    fn text(self) -> &'static str {
+        match self {
+            Outcome::Alike => "alike",
+            Outcome::AnotherAnswer => "an answer isn't the plain map's",
+            Outcome::AnotherListing => "the listing isn't the plain map's",
+            Outcome::AnotherReply => "a job is answered otherwise than alone",
+            Outcome::NoMemory => "no memory",
+        }
+    }
+}
+
+impl From<AllocError> for Outcome {
+    fn from(_: AllocError) -> Outcome {
+        Outcome::NoMemory
+    }
+}
+
+impl From<ListingFault> for Outcome {
+    fn from(_: ListingFault) -> Outcome {
+        Outcome::NoMemory
+    }
+}
+
+impl From<Fault> for Outcome {
+    fn from(_: Fault) -> Outcome {
+        Outcome::NoMemory
+    }
+}
+
+// The jobs of a script, served.
+fn served<R: Threads + Wait + Sync>(
+    rt: &R,
+    alloc: Global,
+    text: &[u8],
+    watches: bool,
+) -> Result<Served, Outcome> {
+    let scripts = scripts_of(alloc, text)?;
+    match serve(rt, alloc, scripts, JOBS, &Yielding { watches }) {
+        Ok(served) => Ok(served),
+        Err(_) => Err(Outcome::NoMemory),
+    }
+}
+
+// Whether the plain map gives every answer of the journal, and the listing.
+fn replayed(alloc: Global, served: &Served) -> Result<Outcome, Outcome> {
+    let mut plain = Plain::new(alloc);
+    if !plain.replays(alloc, served.closed.core.journal())? {
+        return Ok(Outcome::AnotherAnswer);
+    }
+    let mut writer = Counted::new(Vec::new(alloc));
+    write_listing(alloc, &served.closed.core.content(), &mut writer)?;
+    let want = plain.listing(alloc)?;
+    if writer.inner().as_slice() == want.as_slice() {
+        Ok(Outcome::Alike)
+    } else {
+        Ok(Outcome::AnotherListing)
+    }
+}
+
+// What a job's lines alone are answered, without the listing.
+fn answered_alone(alloc: Global, lines: &[u8]) -> Result<Vec<u8>, Outcome> {
+    let mut reader = Counted::new(lines);
+    let mut writer = Counted::new(Vec::new(alloc));
+    run_script(alloc, 0, &mut reader, &mut writer)?;
+    let text = writer.inner();
+    let end = match text
+        .windows(4)
+        .position(|bytes| bytes == b"\n--\n".as_slice())
+    {
+        Some(end) => end.saturating_add(1).min(text.len()),
+        None => text.len(),
+    };
+    let (replies, _) = text.split_at(end);
+    let replies = Vec::from_slice(alloc, replies)?;
+    Ok(replies)
+}
+
+// Whether jobs are answered as each of them is alone.
+fn as_alone<R: Threads + Wait + Sync>(
+    rt: &R,
+    alloc: Global,
+    text: &[u8],
+) -> Result<Outcome, Outcome> {
+    let served = served(rt, alloc, text, false)?;
+    let scripts = scripts_of(alloc, text)?;
+    for (script, report) in scripts.iter().zip(served.reports.iter()) {
+        let alone = answered_alone(alloc, &script.text)?;
+        if alone.as_slice() != report.text() {
+            return Ok(Outcome::AnotherReply);
+        }
+    }
+    replayed(alloc, &served)
+}
+
+// Both kinds of scripts of a seed.
+fn outcome_of<R: Threads + Wait + Sync>(
+    rt: &R,
+    alloc: Global,
+    seed: u64,
+) -> Result<Outcome, Outcome> {
+    let mut shared = Vec::new(alloc);
+    push_script(alloc, seed, Names::Shared, LINES, &mut shared)?;
+    let shared = replayed(alloc, &served(rt, alloc, &shared, seed % 2 == 0)?)?;
+    if shared != Outcome::Alike {
+        return Ok(shared);
+    }
+    let mut apart = Vec::new(alloc);
+    push_script(alloc, seed, Names::Own, LINES, &mut apart)?;
+    as_alone(rt, alloc, &apart)
+}
+
+fn main(rt: HostRuntime) -> io::Result<()> {
+    for seed in 1..=SEEDS {
+        let outcome = match outcome_of(&rt, rt.alloc(), seed) {
+            Ok(outcome) => outcome,
+            Err(outcome) => outcome,
+        };
+        let text = outcome.text();
+        println!(rt; "seed {seed}: {text}")?;
+    }
+    Ok(())
+}

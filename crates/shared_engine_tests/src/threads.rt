@@ -1,0 +1,231 @@
+//! Sessions in threads.
+ghost use Rattle.std.specs.Prelude.{◌≡◌};
+
+use pin_board::{Blank, BoardName, SEATS};
+use session_acts::{data_of, is_replied, opened};
+use shared_engine::{Pass, Session, Shared};
+use std::alloc::Global;
+use std::marker::Brand;
+use std::sync::Wait;
+use std::test::*;
+use std::thread;
+use std::thread::Threads;
+
+// A command outside a transaction, made of a line.
+fn lone<B: BoardName, R: Wait>(
+    rt: &R,
+    alloc: Global,
+    engine: &Shared<B>,
+    session: &mut Session<B>,
+    line: &str,
+) -> bool {
+    match data_of(alloc, line) {
+        Some(command) => session.tlevel() == 0 && engine.lone(rt, session, command).is_ok(),
+        None => false,
+    }
+}
+
+// A hundred SETs. Whether each was done.
+fn writes_often<B: BoardName, R: Wait>(
+    rt: &R,
+    alloc: Global,
+    engine: &Shared<B>,
+    session: &mut Session<B>,
+) -> bool {
+    let mut done = 0u64;
+    for _ in 0..100 {
+        if lone(rt, alloc, engine, session, "1 SET ^A(7)=\"x\"") {
+            done = done.wrapping_add(1);
+        }
+    }
+    done == 100
+}
+
+// A session of the job writes and ends. Its pass, where each SET was done.
+fn hundred<B: BoardName, R: Wait>(
+    rt: &R,
+    alloc: Global,
+    engine: &Shared<B>,
+    number: u64,
+) -> Option<Pass<B>> {
+    let mut session = opened(rt, alloc, engine, number)?;
+    if writes_often(rt, alloc, engine, &mut session) {
+        engine.halt(rt, session).ok()
+    } else {
+        None
+    }
+}
+
+// Puts the passes together. How many receipts they have.
+fn gather<B: BoardName>(made: Vec<Option<Pass<B>>>, passes: &mut Vec<Pass<B>>) -> usize {
+    let mut receipts = 0usize;
+    for pass in made {
+        if let Some(pass) = pass {
+            receipts = receipts.wrapping_add(pass.numbers().len());
+            let _ = passes.push(pass);
+        }
+    }
+    receipts
+}
+
+// Four threads write. How many receipts their passes have.
+fn four_write<B: BoardName + Send + Sync, R: Threads + Wait + Sync>(
+    rt: &R,
+    alloc: Global,
+    engine: &Shared<B>,
+    passes: &mut Vec<Pass<B>>,
+) -> usize {
+    match thread::map_indices(rt, alloc, 4, &|i| hundred(rt, alloc, engine, i as u64 + 1)) {
+        Ok(made) => gather(made, passes),
+        Err(_) => 0,
+    }
+}
+
+// How many sessions, units, and receipts in all.
+fn four_jobs<B: BoardName + Send + Sync, R: Threads + Wait + Sync>(
+    rt: &R,
+    alloc: Global,
+    blank: Blank,
+) -> (u64, u64, usize)
+    requires { (blank.seat.table_id ≡ B.table) × (blank.words.seats ≡ 4096) }
+{
+    let engine = Shared::<B>::new(alloc, blank);
+    let mut passes = Vec::new(alloc);
+    let receipts = four_write(rt, alloc, &engine, &mut passes);
+    let closed = engine.finish(rt, passes);
+    (closed.sessions, closed.core.now(), receipts)
+}
+
+#[test]
+fn four_threads_write_and_their_passes_close_the_engine(rt: HostRuntime) -> Result<(), Fail> {
+    let blank = Blank::new(rt.alloc(), SEATS)?;
+    let counts = four_jobs::<Brand, _>(&rt, rt.alloc(), blank);
+    assert_eq!(rt; counts, (4, 404, 400));
+    Ok(())
+}
+
+// Sets a reference, begins a transaction, reads it back, and rolls back, many times. How often it wasn't as it should be;
+// a start that a horizon passed is tried again at the next turn.
+fn turns<B: BoardName, R: Wait>(
+    rt: &R,
+    alloc: Global,
+    engine: &Shared<B>,
+    session: &mut Session<B>,
+) -> u64 {
+    let mut wrong = 0u64;
+    for _ in 0..100 {
+        if !turn(rt, alloc, engine, session) {
+            wrong = wrong.wrapping_add(1);
+        }
+    }
+    wrong
+}
+
+fn reader<B: BoardName, R: Wait>(
+    rt: &R,
+    alloc: Global,
+    engine: &Shared<B>,
+    number: u64,
+) -> Option<u64> {
+    let mut session = opened(rt, alloc, engine, number)?;
+    Some(turns(rt, alloc, engine, &mut session))
+}
+
+// One turn of a reader.
+fn turn<B: BoardName, R: Wait>(
+    rt: &R,
+    alloc: Global,
+    engine: &Shared<B>,
+    session: &mut Session<B>,
+) -> bool {
+    if !lone(rt, alloc, engine, session, "1 SET ^R=8") {
+        return false;
+    }
+    if session.tlevel() != 0 || engine.tstart(session).is_err() {
+        return true;
+    }
+    let is_read = is_replied(rt, alloc, engine, session, "1 $GET(^R)", "0 8\n");
+    is_replied(rt, alloc, engine, session, "1 TROLLBACK", "0 ok\n") && is_read
+}
+
+// The collector's turns.
+fn collector<B: BoardName, R: Wait>(rt: &R, engine: &Shared<B>) -> Option<u64> {
+    let mut failed = 0u64;
+    for _ in 0..1_000 {
+        if engine.collect(rt, 8).is_err() {
+            failed = failed.wrapping_add(1);
+        }
+    }
+    Some(failed)
+}
+
+// Three readers and a collector. How much was wrong.
+fn three_and_one<B: BoardName + Send + Sync, R: Threads + Wait + Sync>(
+    rt: &R,
+    alloc: Global,
+    engine: &Shared<B>,
+) -> Option<u64> {
+    let made = thread::map_indices(
+        rt,
+        alloc,
+        4,
+        &|i| {
+            if i < 3 {
+                reader(rt, alloc, engine, i as u64 + 2)
+            } else {
+                collector(rt, engine)
+            }
+        },
+    )
+    .ok()?;
+    let mut wrong = 0u64;
+    for count in made {
+        wrong = wrong.wrapping_add(count?);
+    }
+    Some(wrong)
+}
+
+// A transaction is open while others write and a collector goes round. Whether it sees its start at the end, and how much
+// was wrong.
+fn sees_its_start<B: BoardName + Send + Sync, R: Threads + Wait + Sync>(
+    rt: &R,
+    alloc: Global,
+    engine: &Shared<B>,
+    session: &mut Session<B>,
+) -> (bool, Option<u64>) {
+    let is_set = is_replied(rt, alloc, engine, session, "1 SET ^R=1", "0 ok\n");
+    let is_begun = is_replied(rt, alloc, engine, session, "1 TSTART", "0 level 1\n");
+    let wrong = three_and_one(rt, alloc, engine);
+    let is_read = is_replied(rt, alloc, engine, session, "1 $GET(^R)", "0 1\n");
+    (is_set && is_begun && is_read, wrong)
+}
+
+fn one_sees<B: BoardName + Send + Sync, R: Threads + Wait + Sync>(
+    rt: &R,
+    alloc: Global,
+    engine: &Shared<B>,
+) -> (bool, Option<u64>) {
+    match opened(rt, alloc, engine, 1) {
+        Some(mut session) => sees_its_start(rt, alloc, engine, &mut session),
+        None => (false, None),
+    }
+}
+
+fn open_throughout<B: BoardName + Send + Sync, R: Threads + Wait + Sync>(
+    rt: &R,
+    alloc: Global,
+    blank: Blank,
+) -> (bool, Option<u64>)
+    requires { (blank.seat.table_id ≡ B.table) × (blank.words.seats ≡ 4096) }
+{
+    let engine = Shared::<B>::new(alloc, blank);
+    one_sees(rt, alloc, &engine)
+}
+
+#[test]
+fn a_start_is_kept_while_a_collector_goes_round(rt: HostRuntime) -> Result<(), Fail> {
+    let blank = Blank::new(rt.alloc(), SEATS)?;
+    let counts = open_throughout::<Brand, _>(&rt, rt.alloc(), blank);
+    assert_eq!(rt; counts, (true, Some(0)));
+    Ok(())
+}
