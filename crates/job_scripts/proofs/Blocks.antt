@@ -8,6 +8,6 @@ level_more level [] c = refl
 level_more level (x ∷ cs) c = level_more (level_after x level) cs c
 
 pub one_more : (level : ℕ) (cs : List Command) (c : Command) → 0 < level_behind level cs → IsOneBlock level cs → IsOneBlock level (cs ++ c ∷ [])
-one_more level [] c open one = tt
-one_more level (x ∷ []) c open one = (open, tt)
-one_more level (x ∷ (y ∷ cs)) c open one = (one.0, one_more (level_after x level) (y ∷ cs) c open one.1)
+one_more level [] c stays one = tt
+one_more level (x ∷ []) c stays one = (stays, tt)
+one_more level (x ∷ (y ∷ cs)) c stays one = (one.0, one_more (level_after x level) (y ∷ cs) c stays one.1)
