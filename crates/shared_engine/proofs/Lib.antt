@@ -8,3 +8,4 @@ pub mod Quiet
 pub mod Alone
 pub mod Blocks
 pub mod Beginning
+pub mod Crossing

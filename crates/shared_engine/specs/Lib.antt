@@ -4,4 +4,3 @@ pub mod Engines
 pub mod Writes
 pub mod Blocks
 pub mod Codes
-pub mod laws
