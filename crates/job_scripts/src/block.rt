@@ -4,6 +4,8 @@ ghost use Rattle.std.specs.Vec.Iter.{into_iter_items};
 ghost use Rattle.refusal.specs.declared.Refusal.{Refusal};
 ghost use Rattle.std.specs.List.{All};
 ghost use Rattle.collation.specs.Limits.{most_levels};
+ghost use Rattle.command.specs.declared.access.DataCommand.{DataCommand};
+ghost use Rattle.command.specs.declared.request.Command.{Command};
 ghost use Rattle.job_scripts.specs.Blocks.{level_after as level_left, IsOneBlock, in_place};
 
 use crate::lines::next_line;
@@ -97,11 +99,11 @@ pub fn block_of<'a>(
     Ok(block)
 }
 
-/// A data command outside a transaction, and those of the lines at the front of a text: up to the line that asks for
-/// something else, or to so many lines in all.
+/// A data command, and those of the lines at the front of a text: up to the line that asks for something else, or to so
+/// many lines in all.
 ///
 /// `AllocError` as `block_of`; a line that can't be read has its refusal in its place.
-pub fn lone_block<'a>(
+pub fn data_block<'a>(
     alloc: Global,
     first: DataCommand,
     lines: &'a [u8],
@@ -109,6 +111,7 @@ pub fn lone_block<'a>(
     drafts: &mut Drafts,
 ) -> Result<Block<'a>, AllocError>
     ensures goes_on { IfOk result (λ block. All (λ (c : Command). c ≢ Command.Halt) block.commands.items) }
+    ensures accesses { IfOk result (λ block. All (λ (c : Command). (d : DataCommand) × (c ≡ Command.Access d)) block.commands.items) }
     ensures few { IfOk result (λ block. length block.places.items ≤ max 1 most) }
     ensures rest { IfOk result (λ block. length block.rest.now ≤ length lines.now) }
 {

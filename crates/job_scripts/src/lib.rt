@@ -11,7 +11,7 @@
 //! `timeout.rt`.
 #![tactic(auto)]
 
-pub use block::{Block, block_of, lone_block, push_in_place};
+pub use block::{Block, block_of, data_block, push_in_place};
 pub use grouping::scripts_of;
 pub use lines::{Script, next_line};
 pub use report::{Report, write_reports};

@@ -1,6 +1,7 @@
 //! The lines and blocks of one job, and of one job after the other.
 ghost use Rattle.std.specs.Prelude.{◌≡◌, ◌≢◌, ◌≤◌, length, IfOk, IfSome};
 ghost use Rattle.std.specs.List.{All};
+ghost use Rattle.command.specs.declared.access.DataCommand.{DataCommand};
 ghost use Rattle.command.specs.declared.request.Command.{Command};
 
 use crate::ServerFault;
@@ -9,7 +10,7 @@ use crate::job_run::Calls;
 use collation::Job;
 use command::{Command, DataCommand, Reply};
 use crossbeam_channel::{Receiver, Sender};
-use job_scripts::{Block, Report, Script, block_of, lone_block, push_in_place, timeout_of};
+use job_scripts::{Block, Report, Script, block_of, data_block, push_in_place, timeout_of};
 use pin_board::BoardName;
 use refusal::Refusal;
 use script::{Drafts, LineFault, read_line};
@@ -25,7 +26,7 @@ const LINES_PER_TURN: u64 = 16;
 
 const KEYS_PER_TURN: usize = 64;
 
-// How many lines outside a transaction are done under one hold of the engine's lock, at most.
+// How many data commands are done under one hold of the engine's lock, at most.
 const LINES_PER_HOLD: usize = 16;
 
 /// A job that waits to be run, and its place among the others.
@@ -181,6 +182,14 @@ impl<'a, B: BoardName, R: Wait, G: Gate> Worker<'a, B, R, G> {
         Ok(self.calls.reply_to(session, command, timeout_of(line)))
     }
 
+    // Whether a data command may be done under one hold of the engine's lock with those right behind it: no line is watched,
+    // and it takes the lock, as SET and KILL in a transaction don't.
+    fn may_go_on(&self, run: &JobRun<B>, command: &DataCommand) -> bool {
+        let takes_lock = !run.is_open()
+            || matches!(command, DataCommand::Merge(..) | DataCommand::Look(_));
+        takes_lock && !self.calls.gate.watches_lines()
+    }
+
     // Does a line, in the sight of the gate.
     fn do_line(
         &mut self,
@@ -210,17 +219,21 @@ impl<'a, B: BoardName, R: Wait, G: Gate> Worker<'a, B, R, G> {
     {
         let mut place = begin;
         while let Some((line, next)) = place.next() {
-            let asked = run.read(self.alloc, line);
-            if matches!(asked, Ok(Command::Halt)) {
-                return Ok(Some(place));
+            match run.read(self.alloc, line) {
+                Ok(Command::Halt) => return Ok(Some(place)),
+                Ok(Command::Access(first)) if self.may_go_on(run, &first) => {
+                    place = self.serve_data(run, first, place, next)?;
+                }
+                asked => {
+                    let commits = matches!(asked, Ok(Command::Commit));
+                    let reply = self.do_line(run, place.number, line, asked)?;
+                    if commits && matches!(reply, Reply::Restarted(_)) {
+                        return Ok(None);
+                    }
+                    run.replies.push(reply)?;
+                    place = next;
+                }
             }
-            let commits = matches!(asked, Ok(Command::Commit));
-            let reply = self.do_line(run, place.number, line, asked)?;
-            if commits && matches!(reply, Reply::Restarted(_)) {
-                return Ok(None);
-            }
-            run.replies.push(reply)?;
-            place = next;
             if !run.is_open() {
                 return Ok(Some(place));
             }
@@ -244,13 +257,60 @@ impl<'a, B: BoardName, R: Wait, G: Gate> Worker<'a, B, R, G> {
         if session.tlevel() > 0 && !session.is_fresh() {
             return Err(ServerFault::Missing);
         }
+        let Block {
+            commands,
+            places,
+            rest,
+        } = block;
         let served = self
             .calls
             .engine
-            .run_serial(self.calls.rt, self.alloc, session, block.commands)?;
-        push_in_place(block.places.as_slice(), served, &mut run.replies)?;
-        self.note_lines(block.places.len() as u64);
-        Ok(begin.behind(block.places.len(), block.rest))
+            .run_serial(self.calls.rt, self.alloc, session, commands)?;
+        self.note_block(run, places, served, begin, rest)
+    }
+
+    // Does data commands in a transaction under one hold of the engine's lock, which readers share.
+    fn read_at_once<'b>(
+        &mut self,
+        run: &mut JobRun<B>,
+        block: Block<'b>,
+        begin: Cursor<'b>,
+    ) -> Result<Cursor<'b>, ServerFault>
+        requires { All (λ (c : Command). (d : DataCommand) × (c ≡ Command.Access d)) block.commands.items }
+        ensures { IfOk result (λ place. place.lines.now ≡ block.rest.now) }
+    {
+        let Some(session) = &mut run.session else {
+            return Err(ServerFault::Missing);
+        };
+        if session.tlevel() == 0 {
+            return Err(ServerFault::Missing);
+        }
+        let Block {
+            commands,
+            places,
+            rest,
+        } = block;
+        let served = self
+            .calls
+            .engine
+            .read_all(self.calls.rt, self.alloc, session, commands)?;
+        self.note_block(run, places, served, begin, rest)
+    }
+
+    // Takes the replies to a block in. Answers the place behind it.
+    fn note_block<'b>(
+        &mut self,
+        run: &mut JobRun<B>,
+        places: Vec<Option<Refusal>>,
+        served: Vec<Reply>,
+        begin: Cursor<'b>,
+        rest: &'b [u8],
+    ) -> Result<Cursor<'b>, ServerFault>
+        ensures { IfOk result (λ place. place.lines.now ≡ rest.now) }
+    {
+        push_in_place(places.as_slice(), served, &mut run.replies)?;
+        self.note_lines(places.len() as u64);
+        Ok(begin.behind(places.len(), rest))
     }
 
     // Does the lines of a block behind its TSTART, so that nobody can overtake it.
@@ -265,8 +325,8 @@ impl<'a, B: BoardName, R: Wait, G: Gate> Worker<'a, B, R, G> {
         self.serve_at_once(run, block, begin)
     }
 
-    // Does a data command outside a transaction, and those right behind it.
-    fn serve_lone<'b>(
+    // Does a data command, and those right behind it.
+    fn serve_data<'b>(
         &mut self,
         run: &mut JobRun<B>,
         first: DataCommand,
@@ -276,14 +336,18 @@ impl<'a, B: BoardName, R: Wait, G: Gate> Worker<'a, B, R, G> {
         ensures { IfOk result (λ place. length place.lines.now ≤ length next.entry.lines.now) }
     {
         self.open(run)?;
-        let block = lone_block(
+        let block = data_block(
             self.alloc,
             first,
             next.lines,
             LINES_PER_HOLD,
             &mut run.drafts,
         )?;
-        self.serve_at_once(run, block, place)
+        if run.is_open() {
+            self.read_at_once(run, block, place)
+        } else {
+            self.serve_at_once(run, block, place)
+        }
     }
 
     // Does a block: its TSTART, and the lines behind it as often as they are overtaken.
@@ -308,11 +372,6 @@ impl<'a, B: BoardName, R: Wait, G: Gate> Worker<'a, B, R, G> {
         self.serve_serially(run, begin)
     }
 
-    // Whether several lines may be done under one hold of the engine's lock: none is watched, and no transaction is open.
-    fn may_hold_on(&self, run: &JobRun<B>) -> bool {
-        !self.calls.gate.watches_lines() && !run.is_open()
-    }
-
     // Does a job's lines.
     fn serve_lines(&mut self, run: &mut JobRun<B>, lines: &[u8]) -> Result<(), ServerFault> {
         let mut place = Cursor::new(lines);
@@ -321,8 +380,8 @@ impl<'a, B: BoardName, R: Wait, G: Gate> Worker<'a, B, R, G> {
                 Ok(Command::Start) if !run.is_open() => {
                     place = self.serve_block(run, place.number, line, next)?;
                 }
-                Ok(Command::Access(first)) if self.may_hold_on(run) => {
-                    place = self.serve_lone(run, first, place, next)?;
+                Ok(Command::Access(first)) if self.may_go_on(run, &first) => {
+                    place = self.serve_data(run, first, place, next)?;
                 }
                 asked => {
                     let reply = self.do_line(run, place.number, line, asked)?;

@@ -29,6 +29,7 @@ pub use shared::{Pause, Share, Shared};
 mod adaptive;
 mod gate;
 mod locked;
+mod read_run;
 mod seats;
 mod serial_run;
 mod session;

@@ -10,7 +10,7 @@ ghost use Rattle.journal.specs.declared.unit.Unit.TheVariants.{Lone, End};
 ghost use Rattle.validate_commit.specs.Verdicts.{has_been_overtaken, IsCauseAtCommit};
 ghost use Rattle.job_core.specs.Causes.{IsCauseOf};
 ghost use Rattle.job_core.specs.Common.{IsCauseOfLock, HasTurned};
-ghost use Rattle.job_core.specs.Sessions.{idle, IsAnsweredOrRefused};
+ghost use Rattle.job_core.specs.Sessions.{idle, IsAnsweredOrRefused, IsOpenOn};
 ghost use Rattle.pin_board.specs.Slips.{AreInJournal};
 ghost use Rattle.pin_board.specs.Tally.{tallied};
 ghost use Rattle.shared_engine.specs.Receipts.{Book, book, receipted, RisesFrom};
@@ -247,9 +247,6 @@ impl<B: BoardName> Locked<B> {
     /// A data command of an open transaction, on the map of its start followed by its own commands. The lock may be
     /// shared.
     ///
-    /// Others may have written meanwhile, and a collector may have drawn a horizon: the board says that none is above
-    /// this session's start, so the content of the start is there.
-    ///
     /// Refusals, after which nothing has changed: those of `Core::read`.
     pub(crate) fn read<R: Wait>(
         &self,
@@ -264,7 +261,38 @@ impl<B: BoardName> Locked<B> {
         ensures open { IsSome session.old.start }
         ensures same { (session.new.start ≡ session.old.start) × (session.new.receipts ≡ session.old.receipts) }
     {
+        self.meet(rt, board, session);
+        self.read_met(session, command)
+    }
+
+    /// Shows that the content of an open transaction's start is there, and stays so while the lock is held.
+    ///
+    /// Others may have written meanwhile, and a collector may have drawn a horizon: the board says that none is above
+    /// this session's start.
+    pub(crate) fn meet<R: Wait>(&self, rt: &R, board: &Board<B>, session: &mut Session<B>)
+        requires { 1 ≤ session.old.state.level }
+        ensures same { session.new ≡ session.old }
+        ensures start { IfSome session.old.start (λ base. base ≡ take (length base) self.now.common.units) }
+        ensures kept { IsOpenOn self.now.common session.old.state }
+    {
         board.meet(rt, &self.desk, &mut session.pin);
+    }
+
+    /// A data command of an open transaction whose start's content is there.
+    pub(crate) fn read_met(
+        &self,
+        session: &mut Session<B>,
+        command: DataCommand,
+    ) -> Result<Answer, Refusal>
+        requires level { 1 ≤ session.old.state.level }
+        requires start { IfSome session.old.start (λ base. base ≡ take (length base) self.now.common.units) }
+        requires kept { IsOpenOn self.now.common session.old.state }
+        ensures answered { IfSome session.old.start (λ base. IsAnsweredOrRefused command result (after base initial).map session.old.state session.new.state) }
+        ensures open { IsSome session.old.start }
+        ensures same { (session.new.start ≡ session.old.start) × (session.new.receipts ≡ session.old.receipts) }
+        ensures level { session.new.state.level ≡ session.old.state.level }
+        ensures kept { IsOpenOn self.now.common session.new.state }
+    {
         self.core.read(&mut session.state, command)
     }
 

@@ -19,8 +19,8 @@ use refusal::Refusal;
 use std::alloc::{AllocError, Global};
 use std::sync::Wait;
 
-// What a data command is replied.
-fn answered(done: Result<Answer, Refusal>) -> Reply
+/// What a data command is replied.
+pub(crate) fn answered(done: Result<Answer, Refusal>) -> Reply
     ensures { result ≡ said Answered done }
 {
     match done {

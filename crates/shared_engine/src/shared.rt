@@ -8,6 +8,7 @@ ghost use Rattle.journal.specs.declared.unit.Unit.{Unit as JournalUnit};
 ghost use Rattle.journal.specs.declared.unit.Unit.TheVariants.{Lone};
 ghost use Rattle.job_core.specs.Sessions.{idle, IsAnsweredOrRefused};
 ghost use Rattle.pin_board.specs.Slips.{AreInJournal};
+ghost use Rattle.command.specs.declared.access.DataCommand.{DataCommand};
 ghost use Rattle.command.specs.declared.request.Command.{Command};
 ghost use Rattle.shared_engine.specs.Blocks.{AreDone, NoneRestarts, IsReady, moved_open};
 ghost use Rattle.shared_engine.specs.Receipts.{Book, book, receipted, RisesFrom};
@@ -240,6 +241,27 @@ impl<B: BoardName> Shared<B> {
         ensures same { (session.new.start ≡ session.old.start) × (session.new.receipts ≡ session.old.receipts) }
     {
         self.lock.read(rt).read(rt, &self.board, session, command)
+    }
+
+    /// Data commands of an open transaction, one after the other, each as `read` does it, under one hold of the shared
+    /// lock. Answers the reply to each, a refusal too: after one nothing has changed, and the others are done.
+    ///
+    /// `AllocError` where there is no room for the replies, and nothing has changed.
+    pub fn read_all<R: Wait>(
+        &self,
+        rt: &R,
+        alloc: Global,
+        session: &mut Session<B>,
+        block: Vec<Command>,
+    ) -> Result<Vec<Reply>, AllocError>
+        requires level { 1 ≤ session.old.state.level }
+        requires accesses { All (λ (c : Command). (d : DataCommand) × (c ≡ Command.Access d)) block.items }
+        ensures done { IfOk result (λ replies. (units : List JournalUnit) × AreDone block.items replies.items units units session.old session.new) }
+        ensures each { IfOk result (λ replies. vec_len replies ≡ vec_len block) }
+        ensures refused { OnErr result (session.new ≡ session.old) }
+    {
+        let locked = self.lock.read(rt);
+        locked.read_all(rt, &self.board, alloc, session, block)
     }
 
     /// The outermost TCOMMIT: the transaction is a unit with a receipt, or it begins anew, exactly where another unit
