@@ -117,13 +117,13 @@ pub fn data_block<'a>(
 {
     let mut block = Block::new(alloc, lines);
     block.add(Command::Access(first))?;
-    while block.places.len() < most {
+    'lines: while block.places.len() < most {
         let Some((line, rest)) = next_line(block.rest) else {
-            return Ok(block);
+            break;
         };
         match read_line(alloc, line, drafts) {
             Ok((_, Command::Access(command))) => block.add(Command::Access(command))?,
-            Ok(_) => return Ok(block),
+            Ok(_) => break,
             Err(fault) => block.places.push(Some(fault.refusal))?,
         }
         block.rest = rest;

@@ -32,9 +32,6 @@ pub struct Session<B: BoardName> {
     pub(crate) numbers: Vec<u64>,
 }
 
-// Proved in `proofs/session/Session/TheSendSync`.
-unsafe impl<B: BoardName> Send for Session<B> {}
-
 impl<B: BoardName> Model for Session<B> {
     ghost use Rattle.shared_engine.specs.Codes.{held_code};
     ghost use Rattle.shared_engine.specs.Receipts.{receipts_in};

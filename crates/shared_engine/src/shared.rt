@@ -36,9 +36,6 @@ pub struct Shared<B: BoardName> {
     lock: AdaptiveLock<Locked<B>>,
 }
 
-// Proved in `proofs/shared/Shared/TheSendSync`: the search for the whole of a core ends at its limit.
-unsafe impl<B: BoardName> Sync for Shared<B> {}
-
 /// The shared lock, held until this is dropped: others read meanwhile, and nobody writes. It lends nothing.
 #[derive(Drop)]
 pub struct Share<'a, B: BoardName> {

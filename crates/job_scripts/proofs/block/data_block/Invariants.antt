@@ -1,18 +1,17 @@
-use Rattle.std.proofs.Common.{◌≡◌, ◌≢◌, ◌≤◌, length, max}
+use Rattle.std.proofs.Common.{◌≡◌, ◌≤◌, length, max}
 use Rattle.std.specs.List.{All}
 use Rattle.command.specs.declared.request.Command.{Command}
 use Rattle.command.specs.declared.access.DataCommand.{DataCommand}
-use Rattle.command.specs.declared.request.Command.TheVariants.{Access, Halt}
+use Rattle.command.specs.declared.request.Command.TheVariants.{Access}
 use Rattle.job_scripts.proofs.block.data_block.Given as goal
 
--- each is a data command and so none HALT, there are not too many, and fewer lines are left
-abbrev pub invariant-loop-block : goal.invariant-loop-block
-invariant-loop-block l = record {
-  goes_on : All (λ (c : Command). c ≢ Halt) l.block.commands.items;
+-- each is a data command, there are not too many, and fewer lines are left
+abbrev pub invariant-lines : goal.invariant-lines
+invariant-lines l = record {
   accesses : All (λ (c : Command). (d : DataCommand) × (c ≡ Access d)) l.block.commands.items;
   few : length l.block.places.items ≤ max 1 l.fn.most;
   rest : length l.block.rest.now ≤ length l.fn.lines;
 }
 
-abbrev pub decreases-loop-block : goal.decreases-loop-block
-decreases-loop-block l = length l.block.rest.now
+abbrev pub decreases-lines : goal.decreases-lines
+decreases-lines l = length l.block.rest.now
