@@ -10,6 +10,13 @@ pub(crate) struct Cursor<'a> {
     pub(crate) number: u64,
 }
 
+/// A line of a job, without its end, and the place behind it.
+#[derive(Clone, Copy, Debug)]
+pub(crate) struct Line<'a> {
+    pub(crate) text: &'a [u8],
+    pub(crate) next: Cursor<'a>,
+}
+
 impl<'a> Cursor<'a> {
     /// Before the first line.
     pub(crate) fn new(lines: &'a [u8]) -> Cursor<'a>
@@ -18,27 +25,17 @@ impl<'a> Cursor<'a> {
         Cursor { lines, number: 1 }
     }
 
-    /// The next line, and the place behind it; none behind the last.
-    pub(crate) fn next(&self) -> Option<(&'a [u8], Cursor<'a>)>
-        ensures { IfSome result (λ r. length r.1.lines.now < length self.now.lines.now) }
+    /// The next line; none behind the last.
+    pub(crate) fn next(&self) -> Option<Line<'a>>
+        ensures { IfSome result (λ line. length line.next.lines.now < length self.now.lines.now) }
     {
-        let (line, lines) = next_line(self.lines)?;
-        Some((
-            line,
-            Cursor {
+        let (text, lines) = next_line(self.lines)?;
+        Some(Line {
+            text,
+            next: Cursor {
                 lines,
                 number: self.number.saturating_add(1),
             },
-        ))
-    }
-
-    /// The place behind so many lines, of which these are left.
-    pub(crate) fn behind(&self, count: usize, lines: &'a [u8]) -> Cursor<'a>
-        ensures { result.lines.now ≡ lines.now }
-    {
-        Cursor {
-            lines,
-            number: self.number.saturating_add(count as u64),
-        }
+        })
     }
 }

@@ -15,7 +15,7 @@ use std::alloc::Global;
 use std::marker::Brand;
 use std::sync::Wait;
 use std::thread;
-use std::thread::Threads;
+use std::thread::{Scope, Threads};
 
 /// Jobs that were served: their reports, in order of the scripts, and the engine at its end.
 #[derive(Drop)]
@@ -138,6 +138,28 @@ fn gather<B: BoardName, R: Wait, G: Gate>(
     }
 }
 
+// Starts a worker.
+fn start<'s, E, B: BoardName + Send + Sync, R: Wait + Sync, G: Gate + Sync>(
+    scope: &Scope<'s, E>,
+    alloc: Global,
+    calls: Calls<'s, B, R, G>,
+    tasks: Receiver<Task, Global>,
+    reports: Sender<Done<B>, Global>,
+) -> Result<(), ServerFault> {
+    let started = scope.spawn(move || {
+        let mut worker = Worker {
+            alloc,
+            calls,
+            lines: 0,
+        };
+        worker.work(tasks, reports)
+    });
+    match started {
+        Ok(_) => Ok(()),
+        Err(_) => Err(ServerFault::Memory),
+    }
+}
+
 // Starts the workers, hands the scripts out, and gathers what comes back.
 fn share_out<B: BoardName + Send + Sync, R: Threads + Wait + Sync, G: Gate + Sync>(
     rt: &R,
@@ -167,17 +189,7 @@ fn share_out<B: BoardName + Send + Sync, R: Threads + Wait + Sync, G: Gate + Syn
             for _ in 0..workers {
                 let tasks = task_receiver.clone()?;
                 let reports = report_sender.clone()?;
-                let started = scope.spawn(move || {
-                    let mut worker = Worker {
-                        alloc,
-                        calls: Calls { rt, engine, gate },
-                        lines: 0,
-                    };
-                    worker.work(tasks, reports)
-                });
-                if started.is_err() {
-                    return Err(ServerFault::Memory);
-                }
+                start(scope, alloc, Calls { rt, engine, gate }, tasks, reports)?;
             }
             drop(report_sender);
             queue(rt, scripts, &task_sender)?;

@@ -182,11 +182,14 @@ impl<'a, B: BoardName, R: Wait, G: Gate> Worker<'a, B, R, G> {
         Ok(self.calls.reply_to(session, command, timeout_of(line)))
     }
 
-    // Whether a data command may be done under one hold of the engine's lock with those right behind it: no line is watched,
-    // and it takes the lock, as SET and KILL in a transaction don't.
-    fn may_go_on(&self, run: &JobRun<B>, command: &DataCommand) -> bool {
-        let takes_lock = !run.is_open()
-            || matches!(command, DataCommand::Merge(..) | DataCommand::Look(_));
+    // Whether a line may be done under one hold of the engine's lock with those right behind it: none is watched, and it asks
+    // for a data command that takes the lock, as SET and KILL in a transaction don't.
+    fn may_go_on(&self, run: &JobRun<B>, asked: &Result<Command, Refusal>) -> bool {
+        let takes_lock = match asked {
+            Ok(Command::Access(DataCommand::Set(..) | DataCommand::Kill(_))) => !run.is_open(),
+            Ok(Command::Access(_)) => true,
+            _ => false,
+        };
         takes_lock && !self.calls.gate.watches_lines()
     }
 
@@ -218,21 +221,21 @@ impl<'a, B: BoardName, R: Wait, G: Gate> Worker<'a, B, R, G> {
         ensures { IfOk result (λ ended. IfSome ended (λ place. length place.lines.now ≤ length begin.entry.lines.now)) }
     {
         let mut place = begin;
-        while let Some((line, next)) = place.next() {
-            match run.read(self.alloc, line) {
-                Ok(Command::Halt) => return Ok(Some(place)),
-                Ok(Command::Access(first)) if self.may_go_on(run, &first) => {
-                    place = self.serve_data(run, first, place, next)?;
+        while let Some(line) = place.next() {
+            let asked = run.read(self.alloc, line.text);
+            if matches!(asked, Ok(Command::Halt)) {
+                return Ok(Some(place));
+            }
+            if self.may_go_on(run, &asked) {
+                place = self.serve_data(run, place.number, asked, line.next)?;
+            } else {
+                let commits = matches!(asked, Ok(Command::Commit));
+                let reply = self.do_line(run, place.number, line.text, asked)?;
+                if commits && matches!(reply, Reply::Restarted(_)) {
+                    return Ok(None);
                 }
-                asked => {
-                    let commits = matches!(asked, Ok(Command::Commit));
-                    let reply = self.do_line(run, place.number, line, asked)?;
-                    if commits && matches!(reply, Reply::Restarted(_)) {
-                        return Ok(None);
-                    }
-                    run.replies.push(reply)?;
-                    place = next;
-                }
+                run.replies.push(reply)?;
+                place = line.next;
             }
             if !run.is_open() {
                 return Ok(Some(place));
@@ -245,11 +248,11 @@ impl<'a, B: BoardName, R: Wait, G: Gate> Worker<'a, B, R, G> {
     fn serve_at_once<'b>(
         &mut self,
         run: &mut JobRun<B>,
+        number: u64,
         block: Block<'b>,
-        begin: Cursor<'b>,
     ) -> Result<Cursor<'b>, ServerFault>
         requires { All (λ (c : Command). c ≢ Command.Halt) block.commands.items }
-        ensures { IfOk result (λ place. place.lines.now ≡ block.rest.now) }
+        ensures { IfOk result (λ place. place.lines.now ≡ block.entry.rest.now) }
     {
         let Some(session) = &mut run.session else {
             return Err(ServerFault::Missing);
@@ -266,18 +269,18 @@ impl<'a, B: BoardName, R: Wait, G: Gate> Worker<'a, B, R, G> {
             .calls
             .engine
             .run_serial(self.calls.rt, self.alloc, session, commands)?;
-        self.note_block(run, places, served, begin, rest)
+        self.note_block(run, number, places, served, rest)
     }
 
     // Does data commands in a transaction under one hold of the engine's lock, which readers share.
     fn read_at_once<'b>(
         &mut self,
         run: &mut JobRun<B>,
+        number: u64,
         block: Block<'b>,
-        begin: Cursor<'b>,
     ) -> Result<Cursor<'b>, ServerFault>
         requires { All (λ (c : Command). (d : DataCommand) × (c ≡ Command.Access d)) block.commands.items }
-        ensures { IfOk result (λ place. place.lines.now ≡ block.rest.now) }
+        ensures { IfOk result (λ place. place.lines.now ≡ block.entry.rest.now) }
     {
         let Some(session) = &mut run.session else {
             return Err(ServerFault::Missing);
@@ -294,23 +297,26 @@ impl<'a, B: BoardName, R: Wait, G: Gate> Worker<'a, B, R, G> {
             .calls
             .engine
             .read_all(self.calls.rt, self.alloc, session, commands)?;
-        self.note_block(run, places, served, begin, rest)
+        self.note_block(run, number, places, served, rest)
     }
 
     // Takes the replies to a block in. Answers the place behind it.
     fn note_block<'b>(
         &mut self,
         run: &mut JobRun<B>,
+        number: u64,
         places: Vec<Option<Refusal>>,
         served: Vec<Reply>,
-        begin: Cursor<'b>,
         rest: &'b [u8],
     ) -> Result<Cursor<'b>, ServerFault>
         ensures { IfOk result (λ place. place.lines.now ≡ rest.now) }
     {
         push_in_place(places.as_slice(), served, &mut run.replies)?;
         self.note_lines(places.len() as u64);
-        Ok(begin.behind(places.len(), rest))
+        Ok(Cursor {
+            lines: rest,
+            number: number.saturating_add(places.len() as u64),
+        })
     }
 
     // Does the lines of a block behind its TSTART, so that nobody can overtake it.
@@ -322,19 +328,22 @@ impl<'a, B: BoardName, R: Wait, G: Gate> Worker<'a, B, R, G> {
         ensures { IfOk result (λ place. length place.lines.now ≤ length begin.entry.lines.now) }
     {
         let block = block_of(self.alloc, begin.lines, &mut run.drafts)?;
-        self.serve_at_once(run, block, begin)
+        self.serve_at_once(run, begin.number, block)
     }
 
     // Does a data command, and those right behind it.
     fn serve_data<'b>(
         &mut self,
         run: &mut JobRun<B>,
-        first: DataCommand,
-        place: Cursor<'b>,
+        number: u64,
+        asked: Result<Command, Refusal>,
         next: Cursor<'b>,
     ) -> Result<Cursor<'b>, ServerFault>
         ensures { IfOk result (λ place. length place.lines.now ≤ length next.entry.lines.now) }
     {
+        let Ok(Command::Access(first)) = asked else {
+            return Err(ServerFault::Missing);
+        };
         self.open(run)?;
         let block = data_block(
             self.alloc,
@@ -344,9 +353,9 @@ impl<'a, B: BoardName, R: Wait, G: Gate> Worker<'a, B, R, G> {
             &mut run.drafts,
         )?;
         if run.is_open() {
-            self.read_at_once(run, block, place)
+            self.read_at_once(run, number, block)
         } else {
-            self.serve_at_once(run, block, place)
+            self.serve_at_once(run, number, block)
         }
     }
 
@@ -375,19 +384,16 @@ impl<'a, B: BoardName, R: Wait, G: Gate> Worker<'a, B, R, G> {
     // Does a job's lines.
     fn serve_lines(&mut self, run: &mut JobRun<B>, lines: &[u8]) -> Result<(), ServerFault> {
         let mut place = Cursor::new(lines);
-        while let Some((line, next)) = place.next() {
-            match run.read(self.alloc, line) {
-                Ok(Command::Start) if !run.is_open() => {
-                    place = self.serve_block(run, place.number, line, next)?;
-                }
-                Ok(Command::Access(first)) if self.may_go_on(run, &first) => {
-                    place = self.serve_data(run, first, place, next)?;
-                }
-                asked => {
-                    let reply = self.do_line(run, place.number, line, asked)?;
-                    run.replies.push(reply)?;
-                    place = next;
-                }
+        while let Some(line) = place.next() {
+            let asked = run.read(self.alloc, line.text);
+            if matches!(asked, Ok(Command::Start)) && !run.is_open() {
+                place = self.serve_block(run, place.number, line.text, line.next)?;
+            } else if self.may_go_on(run, &asked) {
+                place = self.serve_data(run, place.number, asked, line.next)?;
+            } else {
+                let reply = self.do_line(run, place.number, line.text, asked)?;
+                run.replies.push(reply)?;
+                place = line.next;
             }
         }
         Ok(())
@@ -412,10 +418,10 @@ impl<'a, B: BoardName, R: Wait, G: Gate> Worker<'a, B, R, G> {
         let mut drafts = Drafts::new(self.alloc);
         let mut replies = Vec::new(self.alloc);
         let mut place = Cursor::new(&script.text);
-        while let Some((line, next)) = place.next() {
-            let refusal = refusal_of(read_line(self.alloc, line, &mut drafts));
+        while let Some(line) = place.next() {
+            let refusal = refusal_of(read_line(self.alloc, line.text, &mut drafts));
             replies.push(Reply::Refused(refusal))?;
-            place = next;
+            place = line.next;
         }
         let report = Report::new(self.alloc, None, replies)?;
         Ok(Ran {

@@ -190,11 +190,17 @@ fn writes<B: BoardName, R: Wait>(
     is_done && is_listed(alloc, &closed.core, &mut text, output)
 }
 
+// Whether a script writes this, on a board of its own.
+fn is_right(rt: &HostRuntime, alloc: Global, script: &str, output: &str) -> Result<bool, Fail> {
+    let blank = Blank::new(alloc, SEATS)?;
+    let is_right = writes::<Brand, _>(rt, alloc, blank, script, output);
+    Ok(is_right)
+}
+
 // The number of the first script that writes something else than its output; or none.
-fn first_other<R: Wait>(rt: &R, alloc: Global, rows: &[Row]) -> Result<Option<usize>, Fail> {
+fn first_other(rt: &HostRuntime, alloc: Global, rows: &[Row]) -> Result<Option<usize>, Fail> {
     for (i, (script, output)) in rows.iter().enumerate() {
-        let blank = Blank::new(alloc, SEATS)?;
-        if !writes::<Brand, R>(rt, alloc, blank, script, output) {
+        if !is_right(rt, alloc, script, output)? {
             return Ok(Some(i));
         }
     }

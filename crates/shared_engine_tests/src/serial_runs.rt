@@ -1,5 +1,7 @@
 //! A block under one hold of the lock.
-ghost use Rattle.std.specs.Prelude.{◌≡◌};
+ghost use Rattle.std.specs.Prelude.{◌≡◌, ◌≢◌, IfSome};
+ghost use Rattle.std.specs.List.{All};
+ghost use Rattle.command.specs.declared.request.Command.{Command};
 
 use command::{Command, Reply};
 use pin_board::{Blank, BoardName, SEATS};
@@ -24,10 +26,15 @@ const BLOCK: [(&str, &str); 10] = [
     ("1 $GET(^Y)", "0 1\n"),
 ];
 
-fn block_of(alloc: Global) -> Option<Vec<Command>> {
+fn block_of(alloc: Global) -> Option<Vec<Command>>
+    ensures { IfSome result (λ block. All (λ (c : Command). c ≢ Command.Halt) block.items) }
+{
     let mut block = Vec::new(alloc);
-    for (line, _) in &BLOCK {
-        block.push(command_of(alloc, line)?).ok()?;
+    'lines: for (line, _) in &BLOCK {
+        match command_of(alloc, line)? {
+            Command::Halt => return None,
+            command => block.push(command).ok()?,
+        }
     }
     Some(block)
 }
