@@ -116,15 +116,20 @@ impl Plain {
         Ok(true)
     }
 
+    // Does a unit. Whether each answer in it is the map's at its place.
+    fn does_unit(&mut self, alloc: Global, unit: &Unit) -> Result<bool, AllocError> {
+        match unit {
+            Unit::Lone(_, command, answer) => self.does(alloc, command, answer),
+            Unit::Whole(_, exchanges) => self.does_all(alloc, exchanges.as_slice()),
+            Unit::Lock(_, _, _, _) | Unit::Back(_) | Unit::End(_) => Ok(true),
+        }
+    }
+
     /// Does the units of a journal. Whether each answer in it is the map's at its place.
     pub fn replays(&mut self, alloc: Global, journal: &Journal) -> Result<bool, AllocError> {
         for unit in journal.units() {
-            let is_right = match unit? {
-                Unit::Lone(_, command, answer) => self.does(alloc, &command, &answer)?,
-                Unit::Whole(_, exchanges) => self.does_all(alloc, exchanges.as_slice())?,
-                Unit::Lock(_, _, _, _) | Unit::Back(_) | Unit::End(_) => true,
-            };
-            if !is_right {
+            let unit = unit?;
+            if !self.does_unit(alloc, &unit)? {
                 return Ok(false);
             }
         }
