@@ -158,8 +158,10 @@ fn each_line_of_many_blocks_has_its_reply(rt: HostRuntime) -> Result<(), Fail> {
     let mut replies = 0;
     let mut refused = 0;
     for report in &served.reports {
-        replies += report.replies().len().min(1000);
-        refused += if report.refused() { 1 } else { 0 };
+        replies = report.replies().len().saturating_add(replies);
+        if report.refused() {
+            refused = 1;
+        }
     }
     assert_eq!(rt; replies, 4000);
     assert_eq!(rt; refused, 0);
