@@ -1,4 +1,4 @@
-use Rattle-refused_sessions-proofs.difference.Given as goal
+use Rattle.refused_sessions.proofs.difference.Given as goal
 
 -- the board is the blank one
 abbrev pub ghosts-run : goal.ghosts-run
