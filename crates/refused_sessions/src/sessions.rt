@@ -1,0 +1,198 @@
+//! The two sessions.
+ghost use Rattle.std.specs.Prelude.{◌≡◌};
+
+use crate::lines::{FIRST, LINES, LISTING, SECOND, UNITS};
+use collation::Job;
+use command::Reply;
+use job_core::Core;
+use listing::{Counted, ListingFault, write_listing};
+use pin_board::{Blank, BoardName};
+use refusal::Refusal;
+use script::write_reply;
+use session_acts::{command_of, reply_to};
+use shared_engine::{Pass, Session, Shared};
+use std::alloc::Global;
+use std::sync::Wait;
+
+// How many keys a turn of the collector looks at.
+const KEYS: usize = 8;
+
+/// How many calls of the engine were refused memory.
+#[derive(Clone, Copy, Debug)]
+pub struct Tried {
+    pub refused: u64,
+}
+
+impl Tried {
+    fn note(&mut self) {
+        self.refused = self.refused.wrapping_add(1);
+    }
+}
+
+// A session of a job, at the second try where memory is refused.
+fn open<B: BoardName, R: Wait>(
+    rt: &R,
+    alloc: Global,
+    engine: &Shared<B>,
+    number: u64,
+    tried: &mut Tried,
+) -> Result<Session<B>, Refusal> {
+    let job = Job::new(number)?;
+    match engine.open(rt, alloc, job) {
+        Ok(session) => Ok(session),
+        Err(_) => {
+            tried.note();
+            engine.open(rt, alloc, job)
+        }
+    }
+}
+
+// The reply to a line in its session.
+fn reply_to_line<B: BoardName, R: Wait>(
+    rt: &R,
+    alloc: Global,
+    engine: &Shared<B>,
+    session: &mut Session<B>,
+    line: &str,
+) -> Result<Reply, Refusal> {
+    match command_of(alloc, line) {
+        Some(command) => Ok(reply_to(rt, engine, session, command)),
+        None => Err(Refusal::OutOfMemory),
+    }
+}
+
+// The same, at the second try where memory is refused.
+fn insist<B: BoardName, R: Wait>(
+    rt: &R,
+    alloc: Global,
+    engine: &Shared<B>,
+    session: &mut Session<B>,
+    line: &str,
+    tried: &mut Tried,
+) -> Result<Reply, Refusal> {
+    let reply = reply_to_line(rt, alloc, engine, session, line)?;
+    if reply != Reply::Refused(Refusal::OutOfMemory) {
+        return Ok(reply);
+    }
+    tried.note();
+    reply_to_line(rt, alloc, engine, session, line)
+}
+
+// Whether a reply is written so.
+fn is_text(alloc: Global, reply: &Reply, want: &str) -> Result<bool, Refusal> {
+    let mut text = Vec::new(alloc);
+    write_reply(None, reply, &mut text)?;
+    Ok(text.as_slice() == want.as_bytes())
+}
+
+// Does all lines. The first whose reply is another than it should be.
+fn first_other<B: BoardName, R: Wait>(
+    rt: &R,
+    alloc: Global,
+    engine: &Shared<B>,
+    first: &mut Session<B>,
+    second: &mut Session<B>,
+    tried: &mut Tried,
+) -> Result<Option<&'static str>, Refusal> {
+    for (line, want) in &LINES {
+        let reply = if line.as_bytes().starts_with(b"1") {
+            insist(rt, alloc, engine, first, line, tried)?
+        } else {
+            insist(rt, alloc, engine, second, line, tried)?
+        };
+        if !is_text(alloc, &reply, want)? {
+            return Ok(Some(*line));
+        }
+    }
+    Ok(None)
+}
+
+// A turn of the collector, at the second try where memory is refused.
+fn collect<B: BoardName, R: Wait>(
+    rt: &R,
+    engine: &Shared<B>,
+    tried: &mut Tried,
+) -> Result<(), Refusal> {
+    if engine.collect(rt, KEYS).is_err() {
+        tried.note();
+        let _ = engine.collect(rt, KEYS)?;
+    }
+    Ok(())
+}
+
+// Ends a session, at the second try where memory is refused.
+fn halt<B: BoardName, R: Wait>(
+    rt: &R,
+    engine: &Shared<B>,
+    session: Session<B>,
+    tried: &mut Tried,
+) -> Result<Pass<B>, Refusal> {
+    match engine.halt(rt, session) {
+        Ok(pass) => Ok(pass),
+        Err((session, _)) => {
+            tried.note();
+            match engine.halt(rt, session) {
+                Ok(pass) => Ok(pass),
+                Err((_, refusal)) => Err(refusal),
+            }
+        }
+    }
+}
+
+// Whether a database is listed so.
+fn is_listed(alloc: Global, core: &Core, want: &str) -> Result<bool, Refusal> {
+    let mut writer = Counted::new(Vec::new(alloc));
+    match write_listing(alloc, &core.content(), &mut writer) {
+        Ok(()) => Ok(writer.inner().as_slice() == want.as_bytes()),
+        Err(ListingFault::Memory) | Err(ListingFault::Write) => Err(Refusal::OutOfMemory),
+    }
+}
+
+// Does the lines and a turn of the collector, and ends both sessions. What differs, if anything does.
+fn use_sessions<B: BoardName, R: Wait>(
+    rt: &R,
+    alloc: Global,
+    engine: &Shared<B>,
+    passes: &mut Vec<Pass<B>>,
+    tried: &mut Tried,
+) -> Result<Option<&'static str>, Refusal> {
+    let mut first = open(rt, alloc, engine, 1, tried)?;
+    let mut second = open(rt, alloc, engine, 2, tried)?;
+    let other = first_other(rt, alloc, engine, &mut first, &mut second, tried)?;
+    collect(rt, engine, tried)?;
+    let first = halt(rt, engine, first, tried)?;
+    let second = halt(rt, engine, second, tried)?;
+    let is_right = first.numbers() == FIRST.as_slice() && second.numbers() == SECOND.as_slice();
+    passes.push(first)?;
+    passes.push(second)?;
+    if is_right {
+        Ok(other)
+    } else {
+        Ok(Some("receipts"))
+    }
+}
+
+/// Runs the two sessions on an engine of their own. What differs from what should be, if anything does.
+pub fn run<B: BoardName, R: Wait>(
+    rt: &R,
+    alloc: Global,
+    blank: Blank,
+    tried: &mut Tried,
+) -> Result<Option<&'static str>, Refusal>
+    requires { (blank.seat.table_id ≡ B.table) × (blank.words.seats ≡ 4096) }
+{
+    let engine = Shared::<B>::new(alloc, blank);
+    let mut passes = Vec::new(alloc);
+    if let Some(what) = use_sessions(rt, alloc, &engine, &mut passes, tried)? {
+        return Ok(Some(what));
+    }
+    let closed = engine.finish(rt, passes);
+    if closed.core.now() != UNITS || closed.sessions != 2 {
+        return Ok(Some("units"));
+    }
+    if is_listed(alloc, &closed.core, LISTING)? {
+        Ok(None)
+    } else {
+        Ok(Some("the listing"))
+    }
+}
