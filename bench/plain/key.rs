@@ -42,20 +42,22 @@ pub fn encode_number(number: &Number, key: &mut Vec<u8>) {
     }
     let (place, digits, fraction) = if number.whole.is_empty() {
         let zeros = number.fraction.iter().position(|d| *d != b'0').unwrap_or(0);
-        (128 - zeros as u8, &number.fraction[zeros..], &b""[..])
+        (256 - zeros as u16, &number.fraction[zeros..], &b""[..])
     } else if number.fraction.is_empty() {
         let end = number.whole.iter().rposition(|d| *d != b'0').map_or(0, |at| at + 1);
-        (128 + number.whole.len() as u8, &number.whole[..end], &b""[..])
+        (256 + number.whole.len() as u16, &number.whole[..end], &b""[..])
     } else {
-        (128 + number.whole.len() as u8, number.whole, number.fraction)
+        (256 + number.whole.len() as u16, number.whole, number.fraction)
     };
     if number.negative {
-        key.extend_from_slice(&[NEGATIVE, 255 - place]);
+        let [high, low] = (511 - place).to_be_bytes();
+        key.extend_from_slice(&[NEGATIVE, high, low]);
         key.extend(digits.iter().map(|d| b':' - d));
         key.extend(fraction.iter().map(|d| b':' - d));
         key.push(255);
     } else {
-        key.extend_from_slice(&[POSITIVE, place]);
+        let [high, low] = place.to_be_bytes();
+        key.extend_from_slice(&[POSITIVE, high, low]);
         key.extend(digits.iter().map(|d| d - b'/'));
         key.extend(fraction.iter().map(|d| d - b'/'));
         key.push(0);
@@ -83,12 +85,14 @@ pub fn encode_text(subscript: &[u8], key: &mut Vec<u8>) {
 
 /// How many bytes the subscript in front has.
 pub fn subscript_len(key: &[u8]) -> usize {
-    let last = match key[0] {
+    // A place's bytes may be those of an end.
+    let (front, last) = match key[0] {
         ZERO => return 1,
-        NEGATIVE => 255,
-        _ => 0,
+        NEGATIVE => (3, 255),
+        POSITIVE => (3, 0),
+        _ => (1, 0),
     };
-    2 + key[1..].iter().position(|b| *b == last).unwrap()
+    front + 1 + key[front..].iter().position(|b| *b == last).unwrap()
 }
 
 /// How many subscripts the bytes of subscripts are.
@@ -109,27 +113,29 @@ pub fn name_len(key: &[u8]) -> usize {
 /// Writes a subscript, whose bytes these are, as a literal.
 pub fn write_subscript(bytes: &[u8], out: &mut Vec<u8>) {
     match bytes {
-        [NEGATIVE, place, digits @ .., _] => {
+        [NEGATIVE, high, low, digits @ .., _] => {
             out.push(b'-');
-            write_digits(255 - place, digits.iter().map(|d| b':' - d), out);
+            write_digits(511 - u16::from_be_bytes([*high, *low]), digits.iter().map(|d| b':' - d), out);
         }
-        [POSITIVE, place, digits @ .., _] => write_digits(*place, digits.iter().map(|d| d + b'/'), out),
+        [POSITIVE, high, low, digits @ .., _] => {
+            write_digits(u16::from_be_bytes([*high, *low]), digits.iter().map(|d| d + b'/'), out)
+        }
         [STRING, text @ .., _] if text.iter().all(|b| *b > 1) => write_string(text, out),
         [STRING, text @ .., _] => write_string(&without_escapes(text), out),
         _ => out.push(b'0'),
     }
 }
 
-fn write_digits(place: u8, digits: impl ExactSizeIterator<Item = u8>, out: &mut Vec<u8>) {
+fn write_digits(place: u16, digits: impl ExactSizeIterator<Item = u8>, out: &mut Vec<u8>) {
     let zeros = |count: usize| std::iter::repeat_n(b'0', count);
     let count = digits.len();
-    if place <= 128 {
+    if place <= 256 {
         out.push(b'.');
-        out.extend(zeros(usize::from(128 - place)));
+        out.extend(zeros(usize::from(256 - place)));
         out.extend(digits);
         return;
     }
-    let whole = usize::from(place - 128);
+    let whole = usize::from(place - 256);
     let start = out.len();
     out.extend(digits);
     if count <= whole {

@@ -24,7 +24,7 @@ pub enum Refusal {
 pub const MOST_JOBS: usize = 4096;
 pub const MOST_SUBSCRIPTS: usize = 31;
 const LONGEST_NAME: usize = 31;
-const LONGEST_SUBSCRIPT: usize = 127;
+const LONGEST_SUBSCRIPT: usize = 255;
 const LONGEST_VALUE: usize = 32767;
 
 /// The string that a literal stands for.

@@ -73,11 +73,11 @@ value_at scale s = if is_negative s then neg_ℤ (pos (magnitude_at scale (magni
 
 -- the most bytes of a subscript, named in the code as `LONGEST_SUBSCRIPT`
 abbrev pub limit : ℕ
-limit = 127
+limit = 255
 
 -- the most digits that a fraction of such a text can have
 abbrev pub scale : ℕ
-scale = 126
+scale = 254
 
 -- 10^scale times the number, which is whole for texts within the limit
 abbrev pub value_of : List ℕ → ℤ

@@ -8,7 +8,7 @@ ghost use Rattle.canonic_number.specs.Parts.{IsNumeral, numeral_at, unsigned_at}
 use crate::Numeral;
 use std::cmp::Ordering;
 
-/// Compares two canonic numbers by value. Takes fractions of at most 126 digits, as those of subscripts are.
+/// Compares two canonic numbers by value. Takes fractions of at most 254 digits, as those of subscripts are.
 pub fn cmp_numerals(a: &Numeral<'_>, b: &Numeral<'_>) -> Ordering
     requires a_form { IsNumeral a.now }
     requires b_form { IsNumeral b.now }

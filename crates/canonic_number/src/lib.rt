@@ -31,4 +31,4 @@ mod place;
 mod read;
 
 /// The most bytes that a subscript may have: `limit` of `specs/Number.antt`.
-pub const LONGEST_SUBSCRIPT: usize = 127;
+pub const LONGEST_SUBSCRIPT: usize = 255;

@@ -16,7 +16,7 @@ use std::marker::Model;
 /// A list of subscripts. One lies in the value itself.
 pub type Subscripts = SmallVec<Text, 1>;
 
-/// A global reference: a name, and at most 31 subscripts of 1 to 127 bytes.
+/// A global reference: a name, and at most 31 subscripts of 1 to 255 bytes.
 #[derive(Debug, Drop)]
 pub struct Ref {
     name: Name,
@@ -57,7 +57,7 @@ impl Ref {
     /// The reference of this name and these subscripts.
     ///
     /// Refusals, in this order: `TooManySubscripts` over 31; then the first subscript that is at fault,
-    /// `EmptySubscript`, or `SubscriptTooLong` over 127 bytes.
+    /// `EmptySubscript`, or `SubscriptTooLong` over 255 bytes.
     pub fn new(name: Name, subscripts: Subscripts) -> Result<Ref, Refusal>
         ensures { MatchResult result (λ r. (reference_fault subscripts.items ≡ None) × (r.name ≡ name) × (r.subscripts ≡ subscripts.items))
             (λ refusal. reference_fault subscripts.items ≡ Some refusal) }

@@ -10,7 +10,7 @@ ghost use Rattle.collector.specs.Turn.{row_left, kept, last_or, after_horizon, i
 use key_codec::Key;
 use refusal::Refusal;
 use std::alloc::Global;
-use version_store::Store;
+use version_store::KeyedStore;
 
 /// What a turn did.
 #[derive(Clone, Copy, Debug, PartialEq, Eq)]
@@ -27,7 +27,7 @@ pub struct Progress {
 
 // Drops what nobody at or after the horizon sees of a key, takes it out where nothing is left, and marks it. Answers how
 // many versions went, and whether the key did.
-fn visit(store: &mut Store, horizon: u64, key: Key) -> (usize, bool)
+fn visit(store: &mut KeyedStore, horizon: u64, key: Key) -> (usize, bool)
     requires placed { finmap.contains_key store.old.versions key ≡ true }
     requires horizon { horizon ≤ store.old.cut }
     ensures versions { store.new.versions ≡ tidied horizon key store.old.versions }
@@ -45,7 +45,7 @@ fn visit(store: &mut Store, horizon: u64, key: Key) -> (usize, bool)
 }
 
 // Visits these keys.
-fn visit_all(store: &mut Store, horizon: u64, keys: Vec<Key>) -> Progress
+fn visit_all(store: &mut KeyedStore, horizon: u64, keys: Vec<Key>) -> Progress
     requires placed { AreAllPlaced store.old.versions keys.items }
     requires distinct { AreDistinct keys.items }
     requires horizon { horizon ≤ store.old.cut }
@@ -85,7 +85,7 @@ fn visit_all(store: &mut Store, horizon: u64, keys: Vec<Key>) -> Progress
 /// visited. After either nothing has changed.
 pub fn turn(
     alloc: Global,
-    store: &mut Store,
+    store: &mut KeyedStore,
     horizon: u64,
     limit: usize,
 ) -> Result<Progress, Refusal>
@@ -123,7 +123,7 @@ pub fn turn(
 /// Visits each key once: a turn over all of them. Where the horizon is now, each row that is left holds one version, a value.
 ///
 /// What stays, and the refusals, are those of `turn`.
-pub fn pass(alloc: Global, store: &mut Store, horizon: u64) -> Result<Progress, Refusal>
+pub fn pass(alloc: Global, store: &mut KeyedStore, horizon: u64) -> Result<Progress, Refusal>
     ensures content { (s : ℕ) → store.new.cut ≤ s → content_at store.new.versions s ≡ content_at store.old.versions s }
     ensures late { (r : Reference) → after_horizon horizon (versions_of store.new.versions r) ≡ after_horizon horizon (versions_of store.old.versions r) }
     ensures present { store.new.present ≡ store.old.present }

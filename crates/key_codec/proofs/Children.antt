@@ -17,8 +17,8 @@ use Rattle.std.specs.Cmp.Lexicographic.{pointwise, bytes_decides}
 use Rattle.collation.specs.Reference.{Reference}
 use Rattle.collation.specs.Database.{begins_with, is_under}
 use Rattle.collation.specs.Levels.{child, child_of, without_last}
-use Rattle.key_codec.specs.Key.{IsFaultless, IsSubscriptWithin, key_of, short_form, subscript_key, subscripts_key, AreSubscriptsWithin}
-use Rattle.key_codec.specs.laws.Key.{short_form_is, are_subscripts, no_fault, not_over, not_too_many, fits_short, begins_under, key_of-append, under_begins}
+use Rattle.key_codec.specs.Key.{IsFaultless, IsSubscriptWithin, key_of, long_form, subscript_key, subscripts_key, AreSubscriptsWithin}
+use Rattle.key_codec.specs.laws.Key.{long_form_is, are_subscripts, no_fault, not_over, not_too_many, fits_long, begins_under, key_of-append, under_begins}
 use Rattle.key_codec.specs.laws.Bounds.{equal_keys}
 use Rattle.key_codec.specs.Back.{reference_of}
 use Rattle.key_codec.specs.laws.Back.{key_again, is_reference_again, reference_of_key}
@@ -44,7 +44,7 @@ more_behind (x ∷ xs) (r ∷ rs) e =
     let on = more_behind xs rs (second_so (pointwise nat_eq x r) _ e) in
     record { more = on.more; all = λ i. same i ∷ on.all i; child = ap (λ b. cond b (child rs xs) None) tied ∙ on.child }
 
-behind_some : (rs more : List (List ℕ)) → AreSubscriptsWithin short_form (rs ++ more) → AreSubscriptsWithin short_form more
+behind_some : (rs more : List (List ℕ)) → AreSubscriptsWithin long_form (rs ++ more) → AreSubscriptsWithin long_form more
 behind_some [] more a = a
 behind_some (r ∷ rs) more a = behind_some rs more a.1
 
@@ -52,24 +52,24 @@ behind_some (r ∷ rs) more a = behind_some rs more a.1
 pub record Behind (r x : Reference) (rest : List ℕ) : Type 0 where
   pub name : r.name ≡ x.name
   pub more : List (List ℕ)
-  pub bounds : AreSubscriptsWithin short_form more
-  pub bytes : rest ≡ subscripts_key short_form more
+  pub bounds : AreSubscriptsWithin long_form more
+  pub bytes : rest ≡ subscripts_key long_form more
   pub all : x.subscripts ≡ r.subscripts ++ more
   pub child : child_of r x ≡ first more
 
 pub behind : (r x : Reference) (rest : List ℕ) → IsFaultless r → IsFaultless x → key_of x ≡ key_of r ++ rest → Behind r x rest
 behind r x rest a b e =
-    let under : is_under r x ≡ true = begins_under short_form short_form_is r x rest (fits_short r a) (fits_short x b) e in
+    let under : is_under r x ≡ true = begins_under long_form long_form_is r x rest (fits_long r a) (fits_long x b) e in
     let named : pointwise nat_eq r.name x.name ≡ true = first_so _ _ under in
     let names : x.name ≡ r.name = sym ((bytes_decides r.name x.name).0 named) in
     let on = more_behind x.subscripts r.subscripts (second_so (pointwise nat_eq r.name x.name) _ under) in
-    let fits = fits_short x b in
-    let whole : key_of x ≡ key_of r ++ subscripts_key short_form on.more = (λ i. key_of (record { name = names i; subscripts = on.all i })) ∙ key_of-append r on.more in
+    let fits = fits_long x b in
+    let whole : key_of x ≡ key_of r ++ subscripts_key long_form on.more = (λ i. key_of (record { name = names i; subscripts = on.all i })) ∙ key_of-append r on.more in
     record {
       name = sym names;
       more = on.more;
-      bounds = behind_some r.subscripts on.more (subst (AreSubscriptsWithin short_form) on.all fits.subscripts);
-      bytes = append_cancel_left (key_of r) rest (subscripts_key short_form on.more) (sym e ∙ whole);
+      bounds = behind_some r.subscripts on.more (subst (AreSubscriptsWithin long_form) on.all fits.subscripts);
+      bytes = append_cancel_left (key_of r) rest (subscripts_key long_form on.more) (sym e ∙ whole);
       all = on.all;
       child = ap (λ t. cond t (child r.subscripts x.subscripts) None) named ∙ on.child;
     }
@@ -96,7 +96,7 @@ pub apart : (r x : Reference) → ((rest : List ℕ) → key_of x ≢ key_of r +
 apart r x h = at (is_under r x) refl
   where
     at : (t : Bool) → is_under r x ≡ t → is_under r x ≡ false
-    at true e = let on = under_begins short_form r x e in absurd (h (subscripts_key short_form on.more) on.is)
+    at true e = let on = under_begins long_form r x e in absurd (h (subscripts_key long_form on.more) on.is)
     at false e = e
 
 pub no_child : (r x : Reference) → is_under r x ≡ false → None ≡ child_of r x
@@ -126,7 +126,7 @@ stripped_none s p k q (Some x) e f m = tt
 pub under_tested : (r x : Reference) (o : Option (Bor (List ℕ))) (b : Bool) → IsFaultless r → IsFaultless x
     → IfSome o (λ rest. key_of x ≡ key_of r ++ rest.now) → IfNone o ((rest : List ℕ) → key_of x ≢ key_of r ++ rest) → b ≡ is_some o → b ≡ is_under r x
 under_tested r x None b p q some none e = e ∙ sym (apart r x none)
-under_tested r x (Some rest) b p q some none e = e ∙ sym (begins_under short_form short_form_is r x rest.now (fits_short r p) (fits_short x q) some)
+under_tested r x (Some rest) b p q some none e = e ∙ sym (begins_under long_form long_form_is r x rest.now (fits_long r p) (fits_long x q) some)
 
 -- the equality of keys is that of references
 pub equal_tested : (x y : Reference) (s t : List ℕ) (b : Bool) → IsFaultless x → IsFaultless y → s ≡ key_of x → t ≡ key_of y → b ≡ pointwise nat_eq s t → b ≡ ref_eq x y
@@ -148,7 +148,7 @@ front_shorter [] = omega arith
 front_shorter (x ∷ []) = omega arith
 front_shorter (x ∷ y ∷ ys) = omega (arith, front_shorter (y ∷ ys))
 
-front_some : (xs : List (List ℕ)) → AreSubscriptsWithin short_form xs → AreSubscriptsWithin short_form (without_last xs)
+front_some : (xs : List (List ℕ)) → AreSubscriptsWithin long_form xs → AreSubscriptsWithin long_form (without_last xs)
 front_some [] a = tt
 front_some (x ∷ []) a = tt
 front_some (x ∷ y ∷ ys) a = (a.0, front_some (y ∷ ys) a.1)
@@ -161,16 +161,16 @@ front_faultless xs e =
 
 -- ---- one level below
 
-last_is : (xs : List (List ℕ)) (t : List ℕ) → AreSubscriptsWithin short_form (xs ++ t ∷ []) → IsSubscriptWithin short_form t
+last_is : (xs : List (List ℕ)) (t : List ℕ) → AreSubscriptsWithin long_form (xs ++ t ∷ []) → IsSubscriptWithin long_form t
 last_is [] t a = a.0
 last_is (x ∷ xs) t a = last_is xs t a.1
 
-pub last_fits : (r : Reference) (t : List ℕ) → IsFaultless (record { name = r.name; subscripts = r.subscripts ++ t ∷ [] }) → IsSubscriptWithin short_form t
-last_fits r t is = let fits = fits_short (record { name = r.name; subscripts = r.subscripts ++ t ∷ [] }) is in last_is r.subscripts t fits.subscripts
+pub last_fits : (r : Reference) (t : List ℕ) → IsFaultless (record { name = r.name; subscripts = r.subscripts ++ t ∷ [] }) → IsSubscriptWithin long_form t
+last_fits r t is = let fits = fits_long (record { name = r.name; subscripts = r.subscripts ++ t ∷ [] }) is in last_is r.subscripts t fits.subscripts
 
-pub below_key_is : (r : Reference) (t level bytes : List ℕ) → level ≡ key_of r → bytes ≡ level ++ subscript_key short_form t → bytes ≡ key_of (record { name = r.name; subscripts = r.subscripts ++ t ∷ [] })
+pub below_key_is : (r : Reference) (t level bytes : List ℕ) → level ≡ key_of r → bytes ≡ level ++ subscript_key long_form t → bytes ≡ key_of (record { name = r.name; subscripts = r.subscripts ++ t ∷ [] })
 below_key_is r t level bytes l e =
-    e ∙ (λ i. l i ++ sym (append-nil (subscript_key short_form t)) i) ∙ sym (key_of-append r (t ∷ []))
+    e ∙ (λ i. l i ++ sym (append-nil (subscript_key long_form t)) i) ∙ sym (key_of-append r (t ∷ []))
 
 pub root_is : (r : Reference) → is_name r.name ≡ true → IsFaultless (record { name = r.name; subscripts = [] })
 root_is r is = record { name = is; subscripts = refl }

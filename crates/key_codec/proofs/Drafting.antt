@@ -9,7 +9,7 @@ use Rattle.refusal.specs.declared.Refusal.TheVariants.{SubscriptTooLong, TooMany
 use Rattle.collation.specs.Reference.{Reference}
 use Rattle.collation.specs.Name.{is_name}
 use Rattle.collation.specs.Faults.{subscripts_fault, reference_fault, ends_open, closed_part}
-use Rattle.key_codec.specs.Key.{short_form, subscript_key, subscripts_key, key_of, IsFaultless}
+use Rattle.key_codec.specs.Key.{long_form, subscript_key, subscripts_key, key_of, IsFaultless}
 use Rattle.key_codec.specs.Draft.{IsDraft, longer, place_due, reference_due, place_of, open_fault}
 use Rattle.key_codec.specs.laws.Draft.{ends_open-more, closed_part-more, closed_part-whole, fault-closed, fault-pushed, fault-opened, AreFaultless, faultless}
 use Rattle.key_codec.specs.declared.draft.KeyDraft.{KeyDraft}
@@ -42,11 +42,11 @@ many_more d e r s is on h = at (nat_lt 31 (length r.subscripts)) refl
 
 -- the bytes, where nothing is at fault so far
 before : (d : KeyDraft) (r : Reference) (s : List ℕ) → IsDraft d r → is_name r.name ≡ true → length (r.subscripts ++ s ∷ []) ≤ 31 → option_or (subscripts_fault (closed_part r.subscripts)) (open_fault (ends_open r.subscripts)) ≡ None →
-    d.bytes.items ≡ r.name ++ 0 ∷ subscripts_key short_form r.subscripts
+    d.bytes.items ≡ r.name ++ 0 ∷ subscripts_key long_form r.subscripts
 before d r s is n h f =
     let none : AreFaultless (subscripts_fault (closed_part r.subscripts)) (ends_open r.subscripts) = faultless _ _ f in
     is.bytes n (omega (arith, h, length-append r.subscripts (s ∷ []))) none.fault
-    ∙ ap (λ ss. r.name ++ 0 ∷ subscripts_key short_form ss) (closed_part-whole r.subscripts none.closed)
+    ∙ ap (λ ss. r.name ++ 0 ∷ subscripts_key long_form ss) (closed_part-whole r.subscripts none.closed)
 
 fault_before : (d : KeyDraft) (r : Reference) → IsDraft d r → option_or d.fault (open_fault d.ends_open) ≡ option_or (subscripts_fault (closed_part r.subscripts)) (open_fault (ends_open r.subscripts))
 fault_before d r is = λ i. option_or (is.fault i) (open_fault (is.open_end i))
@@ -64,7 +64,7 @@ drafted_empty d e r s empty is on f b o = record {
   open_end = o ∙ sym (ends_open-more r.subscripts s);
   fault = f ∙ fault_before d r is ∙ sym (fault-opened r.subscripts s empty);
   bytes = λ n h none. b ∙ before d r s is n h (sym (fault-opened r.subscripts s empty) ∙ none)
-      ∙ ap (λ ss. r.name ++ 0 ∷ subscripts_key short_form ss) (sym (closed_part-more r.subscripts s ∙ ap (λ t. cond t r.subscripts (r.subscripts ++ s ∷ [])) empty));
+      ∙ ap (λ ss. r.name ++ 0 ∷ subscripts_key long_form ss) (sym (closed_part-more r.subscripts s ∙ ap (λ t. cond t r.subscripts (r.subscripts ++ s ∷ [])) empty));
 }
 
 -- one that is too long
@@ -93,7 +93,7 @@ good_fault : (s : List ℕ) → (length s == 0) ≡ false → length s ≤ limit
 good_fault s some h = let within : nat_lt limit (length s) ≡ false = grind (arith, nat_tests) in rw (some, within) refl
 
 pub drafted_good : (d e : KeyDraft) (r : Reference) (s : List ℕ) → (length s == 0) ≡ false → length s ≤ limit → IsDraft d r → GoesOn d e → e.fault ≡ option_or d.fault (open_fault d.ends_open) → e.ends_open ≡ (length s == 0)
-    → (e.is_name ≡ true → e.count ≤ 31 → e.fault ≡ None → e.bytes.items ≡ d.bytes.items ++ subscript_key short_form s) → IsDraft e (longer r s)
+    → (e.is_name ≡ true → e.count ≤ 31 → e.fault ≡ None → e.bytes.items ≡ d.bytes.items ++ subscript_key long_form s) → IsDraft e (longer r s)
 drafted_good d e r s some short is on f o b =
     let due : subscripts_fault (closed_part (r.subscripts ++ s ∷ [])) ≡ option_or (subscripts_fault (closed_part r.subscripts)) (open_fault (ends_open r.subscripts)) =
     fault-pushed r.subscripts s some ∙ ap (option_or (option_or (subscripts_fault (closed_part r.subscripts)) (open_fault (ends_open r.subscripts)))) (good_fault s some short) ∙ or_none _ in
@@ -107,9 +107,9 @@ drafted_good d e r s some short is on f o b =
       bytes = λ n h none.
           let count : e.count ≡ length (r.subscripts ++ s ∷ []) = few_more d e r s is on h in
           b (on.name ∙ is.name ∙ n) (omega (arith, count, h)) (f ∙ fault_before d r is ∙ sym due ∙ none)
-          ∙ ap (λ t. t ++ subscript_key short_form s) (before d r s is n h (sym due ∙ none))
-          ∙ append_assoc r.name (0 ∷ subscripts_key short_form r.subscripts) (subscript_key short_form s)
-          ∙ ap (λ t. r.name ++ 0 ∷ t) (sym (keys-push r.subscripts s) ∙ ap (subscripts_key short_form) (sym whole));
+          ∙ ap (λ t. t ++ subscript_key long_form s) (before d r s is n h (sym due ∙ none))
+          ∙ append_assoc r.name (0 ∷ subscripts_key long_form r.subscripts) (subscript_key long_form s)
+          ∙ ap (λ t. r.name ++ 0 ∷ t) (sym (keys-push r.subscripts s) ∙ ap (subscripts_key long_form) (sym whole));
     }
 
 pub on_ok : {T E : Type 0} (r : Result T E) (P Q : Type 0) → (P → Q) → OnOk r P → OnOk r Q

@@ -7,16 +7,16 @@ use Rattle.std.specs.Prelude.{nat_eq, nat_lt}
 use Rattle.std.specs.List.{list_all}
 use Rattle.collation.specs.Reference.{Reference}
 use Rattle.collation.specs.Answers.{moved}
-use Rattle.key_codec.specs.Key.{IsFaultless, key_of, short_form, subscripts_key, AreSubscriptsWithin}
+use Rattle.key_codec.specs.Key.{IsFaultless, key_of, long_form, subscripts_key, AreSubscriptsWithin}
 use Rattle.key_codec.specs.Back.{reference_of}
 use Rattle.key_codec.specs.Kept.{Keeps}
-use Rattle.key_codec.specs.laws.Key.{no_fault, not_over, fits_short, key_of-append}
+use Rattle.key_codec.specs.laws.Key.{no_fault, not_over, fits_long, key_of-append}
 use Rattle.key_codec.proofs.Reading.{HasReference, has_reference}
 use Rattle.key_codec.proofs.Children.{Behind, behind, kept, reads_back}
 
 -- what counting subscripts by their keys says
 abbrev pub IsCount : List ℕ → ℕ → Type 0
-IsCount bytes n = (ss : List (List ℕ)) → AreSubscriptsWithin short_form ss → bytes ≡ subscripts_key short_form ss → n ≡ length ss
+IsCount bytes n = (ss : List (List ℕ)) → AreSubscriptsWithin long_form ss → bytes ≡ subscripts_key long_form ss → n ≡ length ss
 
 -- a reference has as many subscripts as are counted after its name's end
 pub depth_is : (bytes front rest : List ℕ) (x : Reference) (n : ℕ) → IsFaultless x → bytes ≡ front ++ 0 ∷ rest → list_all (λ b. not (nat_eq b 0)) front ≡ true → bytes ≡ key_of x → IsCount rest n → n ≡ length x.subscripts
@@ -41,14 +41,14 @@ moved_depth a b x rest n k is e counted =
     omega (arith, e, more, length-append a.subscripts (drop (length b.subscripts) x.subscripts))
 
 -- subscripts within the limit, one list after the other
-both_some : (xs ys : List (List ℕ)) → AreSubscriptsWithin short_form xs → AreSubscriptsWithin short_form ys → AreSubscriptsWithin short_form (xs ++ ys)
+both_some : (xs ys : List (List ℕ)) → AreSubscriptsWithin long_form xs → AreSubscriptsWithin long_form ys → AreSubscriptsWithin long_form (xs ++ ys)
 both_some [] ys p q = q
 both_some (x ∷ xs) ys p q = (p.0, both_some xs ys p.1 q)
 
 moved_form : (a b x : Reference) (rest : List ℕ) → IsFaultless a → Behind b x rest → nat_lt 31 (length (moved a b x).subscripts) ≡ false → IsFaultless (moved a b x)
 moved_form a b x rest form is few =
-    let fits = fits_short a form in
-    let all : AreSubscriptsWithin short_form (a.subscripts ++ drop (length b.subscripts) x.subscripts) = both_some a.subscripts _ fits.subscripts (subst (AreSubscriptsWithin short_form) (sym (left_behind b x rest is)) is.bounds) in
+    let fits = fits_long a form in
+    let all : AreSubscriptsWithin long_form (a.subscripts ++ drop (length b.subscripts) x.subscripts) = both_some a.subscripts _ fits.subscripts (subst (AreSubscriptsWithin long_form) (sym (left_behind b x rest is)) is.bounds) in
     record { name = form.name; subscripts = rw few (no_fault _ all) }
 
 pub too_many : (a b x : Reference) (rest : List ℕ) (n k : ℕ) → IsFaultless b → IsFaultless x → key_of x ≡ key_of b ++ rest → n ≡ length a.subscripts → IsCount rest k → 31 < n + k → nat_lt 31 (length (moved a b x).subscripts) ≡ true

@@ -3,12 +3,12 @@ use Rattle.std.proofs.Common.{◌≡◌, ℕ, ◌<◌, List, [], ◌∷◌, ◌+
 use Rattle.std.proofs.lemmas.Bool.{and_left}
 use Rattle.std.proofs.lemmas.Bool.Decides.{nat_tests}
 use Rattle.std.specs.Prelude.{◌==◌, ◌&&◌}
-use Rattle.canonic_number.specs.Number.{is_canonic, scale}
+use Rattle.canonic_number.specs.Number.{is_canonic}
 use Rattle.canonic_number.specs.Place.{digits_of}
 use Rattle.canonic_number.specs.PartsOf.{IsPartsOf}
 use Rattle.canonic_number.specs.laws.Classes.{IsOfClass, Zero, Below, Above, class_of_text}
 use Rattle.canonic_number.specs.declared.place.NumberParts.{NumberParts}
-use Rattle.key_codec.specs.Key.{short_form, subscript_key, IsSubscriptWithin}
+use Rattle.key_codec.specs.Key.{KeyForm, subscript_key, IsSubscriptWithin}
 use Rattle.key_codec.specs.PartsKey.{parts_key}
 use Rattle.key_codec.specs.laws.Subscripts.{zero_key, key_below, key_above}
 
@@ -22,18 +22,18 @@ no_digits [] [] e = refl
 no_digits [] (y ∷ b) e = cc
 no_digits (x ∷ a) b e = cc
 
-by_class : (s : List ℕ) (n : NumberParts) → is_canonic s ≡ true → IsPartsOf s n → IsOfClass scale s → parts_key n ≡ subscript_key short_form s
-by_class s n is of (Zero e) =
+by_class : (form : KeyForm) (s : List ℕ) (n : NumberParts) → is_canonic s ≡ true → IsPartsOf s n → IsOfClass form.fraction s → parts_key form n ≡ subscript_key form s
+by_class form s n is of (Zero e) =
     let none = no_digits n.first.now n.second.now (of.digits ∙ ap digits_of e) in
-    rw none (sym (zero_key short_form s e))
-by_class s n is of (Below p z m) =
+    rw none (sym (zero_key form s e))
+by_class form s n is of (Below p z m) =
     let some = some_digits n.first.now n.second.now (omega (arith, ap length of.digits, p.form.some)) in
     let sign : n.negative ≡ true = of.sign ∙ m in
-    rw (some, sign, of.digits, of.place scale) (sym (key_below short_form s is z m))
-by_class s n is of (Above p z m) =
+    rw (some, sign, of.digits, of.place form.fraction) (sym (key_below form s is z m))
+by_class form s n is of (Above p z m) =
     let some = some_digits n.first.now n.second.now (omega (arith, ap length of.digits, p.form.some)) in
     let sign : n.negative ≡ false = of.sign ∙ m in
-    rw (some, sign, of.digits, of.place scale) (sym (key_above short_form s is z m))
+    rw (some, sign, of.digits, of.place form.fraction) (sym (key_above form s is z m))
 
-pub parts_key_is : (s : List ℕ) (n : NumberParts) → is_canonic s ≡ true → IsSubscriptWithin short_form s → IsPartsOf s n → parts_key n ≡ subscript_key short_form s
-parts_key_is s n is bounds of = by_class s n is of (class_of_text scale s is bounds.short)
+pub parts_key_is : (form : KeyForm) (s : List ℕ) (n : NumberParts) → is_canonic s ≡ true → IsSubscriptWithin form s → IsPartsOf s n → parts_key form n ≡ subscript_key form s
+parts_key_is form s n is bounds of = by_class form s n is of (class_of_text form.fraction s is bounds.short)

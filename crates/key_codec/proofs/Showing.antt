@@ -3,8 +3,8 @@ use Rattle.std.proofs.Common.{◌≡◌, subst, Option, Result, Ok, Err, cond, l
 use Rattle.std.proofs.lemmas.Option.{same_Some}
 use Rattle.std.proofs.Math.Seq.{take-append_seam}
 use Rattle.collation.specs.Name.{is_name}
-use Rattle.key_codec.specs.Key.{IsFaultless, key_of, short_form, subscript_key, subscripts_key, AreSubscriptsWithin}
-use Rattle.key_codec.specs.laws.Key.{fits_short, no_fault, HasTag, has_tag}
+use Rattle.key_codec.specs.Key.{IsFaultless, key_of, long_form, two_bytes, subscript_key, subscripts_key, AreSubscriptsWithin}
+use Rattle.key_codec.specs.laws.Key.{fits_long, no_fault, HasTag, has_tag}
 use Rattle.key_codec.proofs.Children.{front_faultless, Behind}
 use Rattle.key_codec.proofs.Moved.{few_subscripts}
 use Rattle.key_codec.proofs.Reading.{HasReference, HasNumber, has_number, HasText, has_text, pointed_short, pointed_long}
@@ -19,14 +19,15 @@ use Rattle.collation.specs.Levels.{child_of, below, without_last, parent_of}
 use Rattle.key_codec.specs.Back.{unescaped, number_text_from, first_number, first_subscript_of, FirstSubscript, subscripts_up_to}
 use Rattle.key_codec.specs.laws.Back.{front_back, rest_back, subscript_back, subscripts_back}
 use Rattle.key_codec.specs.Reading.{tag_of, number_end}
+use Rattle.key_codec.specs.laws.Bytes.{word_back}
 use Rattle.key_codec.specs.Shown.{HasFirst, AreKeys, first}
 
 -- a number's parts
-pub number_front : (n : Bool) (byte : ℕ) (bytes behind digits rest : List ℕ) → bytes ≡ byte ∷ behind → list_all (λ b. not (nat_eq b (number_end n))) digits ≡ true → behind ≡ digits ++ number_end n ∷ rest →
-    first_number n bytes ≡ record { subscript = number_text_from n byte digits; rest = rest }
-number_front n byte bytes behind digits rest e free b =
-    ap (first_number n) (e ∙ ap (λ t. byte ∷ t) b)
-    ∙ (λ i. record { subscript = number_text_from n byte (front_back (number_end n) digits rest free i); rest = rest_back (number_end n) digits rest free i })
+pub number_front : (n : Bool) (word : ℕ) (bytes behind digits rest : List ℕ) → bytes ≡ two_bytes word ++ behind → list_all (λ b. not (nat_eq b (number_end n))) digits ≡ true → behind ≡ digits ++ number_end n ∷ rest →
+    first_number n bytes ≡ record { subscript = number_text_from n word digits; rest = rest }
+number_front n word bytes behind digits rest e free b =
+    ap (first_number n) (e ∙ ap (λ t. two_bytes word ++ t) b)
+    ∙ (λ i. record { subscript = number_text_from n (word_back word i) (front_back (number_end n) digits rest free i); rest = rest_back (number_end n) digits rest free i })
 
 first_tagged : (n : Bool) (bytes : List ℕ) → first_subscript_of (tag_of n ∷ bytes) ≡ first_number n bytes
 first_tagged true bytes = refl
@@ -54,7 +55,7 @@ other_not_canonic bytes text rest h e =
 
 pub not_empty : (bytes : List ℕ) → HasFirst bytes → bytes ≡ [] → ⊥
 not_empty bytes h e =
-    let key : HasTag (subscript_key short_form h.subscript) = has_tag short_form h.subscript in
+    let key : HasTag (subscript_key long_form h.subscript) = has_tag long_form h.subscript in
     let both : [] ≡ key.tag ∷ (key.rest ++ h.rest) = sym e ∙ h.key ∙ ap (λ t. t ++ h.rest) key.is in cc
 
 -- the first of some keys, and the others
@@ -66,14 +67,14 @@ pub record HasNext (bytes : List ℕ) : Type 0 where
 pub next_of : (bytes : List ℕ) → AreKeys bytes → (length bytes == 0) ≡ false → HasNext bytes
 next_of bytes keys full = at keys.subscripts keys.form keys.keys
   where
-    at : (ss : List (List ℕ)) → AreSubscriptsWithin short_form ss → bytes ≡ subscripts_key short_form ss → HasNext bytes
+    at : (ss : List (List ℕ)) → AreSubscriptsWithin long_form ss → bytes ≡ subscripts_key long_form ss → HasNext bytes
     at [] a e = let none : length bytes ≡ 0 = ap length e in absurd (grind (arith, nat_tests))
     at (s ∷ ss) a e =
-        let first : HasFirst bytes = record { subscript = s; rest = subscripts_key short_form ss; form = a.0; key = e } in
-        let is : first_subscript_of bytes ≡ record { subscript = s; rest = subscripts_key short_form ss } = first_itself bytes first in
-        let rest : (first_subscript_of bytes).rest ≡ subscripts_key short_form ss = ap (λ (f : FirstSubscript). f.rest) is in
-        let all : subscripts_up_to (length bytes) bytes ≡ s ∷ ss = ap (λ t. subscripts_up_to (length t) t) e ∙ subscripts_back (length (subscripts_key short_form (s ∷ ss))) (s ∷ ss) a (omega arith) in
-        let others : subscripts_up_to (length (first_subscript_of bytes).rest) (first_subscript_of bytes).rest ≡ ss = ap (λ t. subscripts_up_to (length t) t) rest ∙ subscripts_back (length (subscripts_key short_form ss)) ss a.1 (omega arith) in
+        let first : HasFirst bytes = record { subscript = s; rest = subscripts_key long_form ss; form = a.0; key = e } in
+        let is : first_subscript_of bytes ≡ record { subscript = s; rest = subscripts_key long_form ss } = first_itself bytes first in
+        let rest : (first_subscript_of bytes).rest ≡ subscripts_key long_form ss = ap (λ (f : FirstSubscript). f.rest) is in
+        let all : subscripts_up_to (length bytes) bytes ≡ s ∷ ss = ap (λ t. subscripts_up_to (length t) t) e ∙ subscripts_back (length (subscripts_key long_form (s ∷ ss))) (s ∷ ss) a (omega arith) in
+        let others : subscripts_up_to (length (first_subscript_of bytes).rest) (first_subscript_of bytes).rest ≡ ss = ap (λ t. subscripts_up_to (length t) t) rest ∙ subscripts_back (length (subscripts_key long_form ss)) ss a.1 (omega arith) in
         record {
           first = first;
           rest = record { subscripts = ss; form = a.1; keys = rest };
@@ -114,22 +115,22 @@ pub fewer : {A : Type 0} (xs ys : List A) (x : A) → xs ≡ x ∷ ys → length
 fewer xs ys x e = let n : length xs ≡ length (x ∷ ys) = ap length e in omega (arith, n)
 
 -- the subscripts of a key
-pub all_keys : (keys : List ℕ) (ss : List (List ℕ)) → AreSubscriptsWithin short_form ss → keys ≡ subscripts_key short_form ss → subscripts_up_to (length keys) keys ≡ ss
-all_keys keys ss a e = ap (λ t. subscripts_up_to (length t) t) e ∙ subscripts_back (length (subscripts_key short_form ss)) ss a (omega arith)
+pub all_keys : (keys : List ℕ) (ss : List (List ℕ)) → AreSubscriptsWithin long_form ss → keys ≡ subscripts_key long_form ss → subscripts_up_to (length keys) keys ≡ ss
+all_keys keys ss a e = ap (λ t. subscripts_up_to (length t) t) e ∙ subscripts_back (length (subscripts_key long_form ss)) ss a (omega arith)
 
 -- what stands next after a key is the child
 pub child_first : (r x : Reference) (rest : List ℕ) (o : Option (List ℕ)) → Behind r x rest → o ≡ first (subscripts_up_to (length rest) rest) → o ≡ child_of r x
 child_first r x rest o is e = e ∙ ap first (all_keys rest is.more is.bounds is.bytes) ∙ sym is.child
 
 -- one level below what stands before it
-start_some : (xs ys : List (List ℕ)) (s : List ℕ) → AreSubscriptsWithin short_form (xs ++ s ∷ ys) → AreSubscriptsWithin short_form (xs ++ s ∷ [])
+start_some : (xs ys : List (List ℕ)) (s : List ℕ) → AreSubscriptsWithin long_form (xs ++ s ∷ ys) → AreSubscriptsWithin long_form (xs ++ s ∷ [])
 start_some [] ys s a = (a.0, tt)
 start_some (x ∷ xs) ys s a = (a.0, start_some xs ys s a.1)
 
 below_fits : (r x : Reference) (s : List ℕ) (ys : List (List ℕ)) → IsFaultless x → r.name ≡ x.name → x.subscripts ≡ r.subscripts ++ s ∷ ys → IsFaultless (below r s)
 below_fits r x s ys is n e =
-    let fits = fits_short x is in
-    let all : AreSubscriptsWithin short_form (r.subscripts ++ s ∷ []) = start_some r.subscripts ys s (subst (AreSubscriptsWithin short_form) e fits.subscripts) in
+    let fits = fits_long x is in
+    let all : AreSubscriptsWithin long_form (r.subscripts ++ s ∷ []) = start_some r.subscripts ys s (subst (AreSubscriptsWithin long_form) e fits.subscripts) in
     let few : length x.subscripts ≤ 31 = few_subscripts x is in
     let more : length x.subscripts ≡ length (r.subscripts ++ s ∷ ys) = ap length e in
     let lesser : length (r.subscripts ++ s ∷ []) ≤ 31 = omega (arith, few, more, length-append r.subscripts (s ∷ ys), length-append r.subscripts (s ∷ [])) in
@@ -145,16 +146,16 @@ child_fits r x rest (Some s) p q is e = at is.more is.all (e ∙ ap first (all_k
     at (m ∷ more) a f = let same : s ≡ m = same_Some s m f in subst (λ t. IsFaultless (below r t)) (sym same) (below_fits r x m more q is.name a)
 
 -- the last subscript's key
-first_rest : (keys s : List ℕ) (ss : List (List ℕ)) → AreSubscriptsWithin short_form (s ∷ ss) → keys ≡ subscripts_key short_form (s ∷ ss) → (first_subscript_of keys).rest ≡ subscripts_key short_form ss
-first_rest keys s ss a e = ap (λ (f : FirstSubscript). f.rest) (ap first_subscript_of e ∙ subscript_back s (subscripts_key short_form ss) a.0)
+first_rest : (keys s : List ℕ) (ss : List (List ℕ)) → AreSubscriptsWithin long_form (s ∷ ss) → keys ≡ subscripts_key long_form (s ∷ ss) → (first_subscript_of keys).rest ≡ subscripts_key long_form ss
+first_rest keys s ss a e = ap (λ (f : FirstSubscript). f.rest) (ap first_subscript_of e ∙ subscript_back s (subscripts_key long_form ss) a.0)
 
-some_keys : (t : List ℕ) (ts : List (List ℕ)) → 0 < length (subscripts_key short_form (t ∷ ts))
+some_keys : (t : List ℕ) (ts : List (List ℕ)) → 0 < length (subscripts_key long_form (t ∷ ts))
 some_keys t ts =
-    let key : HasTag (subscript_key short_form t) = has_tag short_form t in
-    let whole : subscript_key short_form t ++ subscripts_key short_form ts ≡ key.tag ∷ (key.rest ++ subscripts_key short_form ts) = ap (λ u. u ++ subscripts_key short_form ts) key.is in
+    let key : HasTag (subscript_key long_form t) = has_tag long_form t in
+    let whole : subscript_key long_form t ++ subscripts_key long_form ts ≡ key.tag ∷ (key.rest ++ subscripts_key long_form ts) = ap (λ u. u ++ subscripts_key long_form ts) key.is in
     omega (arith, ap length whole)
 
-pub last_alone : (keys : List ℕ) (ss : List (List ℕ)) → AreSubscriptsWithin short_form ss → keys ≡ subscripts_key short_form ss → (length (first_subscript_of keys).rest == 0) ≡ true → keys ≡ subscripts_key short_form (without_last ss) ++ keys
+pub last_alone : (keys : List ℕ) (ss : List (List ℕ)) → AreSubscriptsWithin long_form ss → keys ≡ subscripts_key long_form ss → (length (first_subscript_of keys).rest == 0) ≡ true → keys ≡ subscripts_key long_form (without_last ss) ++ keys
 last_alone keys [] a e none = refl
 last_alone keys (s ∷ []) a e none = refl
 last_alone keys (s ∷ t ∷ ts) a e none =
@@ -162,25 +163,25 @@ last_alone keys (s ∷ t ∷ ts) a e none =
     let some = some_keys t ts in
     absurd (grind (arith, nat_tests))
 
-pub last_later : (keys last : List ℕ) (ss : List (List ℕ)) → AreSubscriptsWithin short_form ss → keys ≡ subscripts_key short_form ss → (length keys == 0) ≡ false → (length (first_subscript_of keys).rest == 0) ≡ false
-    → ((rs : List (List ℕ)) → AreSubscriptsWithin short_form rs → (first_subscript_of keys).rest ≡ subscripts_key short_form rs → (first_subscript_of keys).rest ≡ subscripts_key short_form (without_last rs) ++ last)
-    → keys ≡ subscripts_key short_form (without_last ss) ++ last
+pub last_later : (keys last : List ℕ) (ss : List (List ℕ)) → AreSubscriptsWithin long_form ss → keys ≡ subscripts_key long_form ss → (length keys == 0) ≡ false → (length (first_subscript_of keys).rest == 0) ≡ false
+    → ((rs : List (List ℕ)) → AreSubscriptsWithin long_form rs → (first_subscript_of keys).rest ≡ subscripts_key long_form rs → (first_subscript_of keys).rest ≡ subscripts_key long_form (without_last rs) ++ last)
+    → keys ≡ subscripts_key long_form (without_last ss) ++ last
 last_later keys last [] a e full some later = let none : length keys ≡ 0 = ap length e in absurd (grind (arith, nat_tests))
 last_later keys last (s ∷ []) a e full some later = let none : length (first_subscript_of keys).rest ≡ 0 = ap length (first_rest keys s [] a e) in absurd (grind (arith, nat_tests))
 last_later keys last (s ∷ t ∷ ts) a e full some later =
     let rest = first_rest keys s (t ∷ ts) a e in
-    e ∙ ap (λ u. subscript_key short_form s ++ u) (sym rest ∙ later (t ∷ ts) a.1 rest) ∙ sym (append_assoc (subscript_key short_form s) (subscripts_key short_form (without_last (t ∷ ts))) last)
+    e ∙ ap (λ u. subscript_key long_form s ++ u) (sym rest ∙ later (t ∷ ts) a.1 rest) ∙ sym (append_assoc (subscript_key long_form s) (subscripts_key long_form (without_last (t ∷ ts))) last)
 
-pub none_last : (keys : List ℕ) (ss : List (List ℕ)) → AreSubscriptsWithin short_form ss → keys ≡ subscripts_key short_form ss → (length keys == 0) ≡ true → keys ≡ subscripts_key short_form (without_last ss) ++ keys
+pub none_last : (keys : List ℕ) (ss : List (List ℕ)) → AreSubscriptsWithin long_form ss → keys ≡ subscripts_key long_form ss → (length keys == 0) ≡ true → keys ≡ subscripts_key long_form (without_last ss) ++ keys
 none_last keys [] a e none = refl
 none_last keys (s ∷ []) a e none = refl
 none_last keys (s ∷ t ∷ ts) a e none = let some = some_keys s (t ∷ ts) in let size = ap length e in absurd (grind (arith, nat_tests))
 
 -- the key one level up
-pub level_key : (bytes name keys last : List ℕ) (x : Reference) → bytes ≡ name ++ 0 ∷ keys → HasReference name keys x → keys ≡ subscripts_key short_form (without_last x.subscripts) ++ last → take (length bytes - length last) bytes ≡ key_of (record { name = x.name; subscripts = without_last x.subscripts })
+pub level_key : (bytes name keys last : List ℕ) (x : Reference) → bytes ≡ name ++ 0 ∷ keys → HasReference name keys x → keys ≡ subscripts_key long_form (without_last x.subscripts) ++ last → take (length bytes - length last) bytes ≡ key_of (record { name = x.name; subscripts = without_last x.subscripts })
 level_key bytes name keys last x b has k =
-    let up : List ℕ = x.name ++ 0 ∷ subscripts_key short_form (without_last x.subscripts) in
-    let whole : bytes ≡ up ++ last = b ∙ (λ i. has.name i ++ 0 ∷ k i) ∙ sym (append_assoc x.name (0 ∷ subscripts_key short_form (without_last x.subscripts)) last) in
+    let up : List ℕ = x.name ++ 0 ∷ subscripts_key long_form (without_last x.subscripts) in
+    let whole : bytes ≡ up ++ last = b ∙ (λ i. has.name i ++ 0 ∷ k i) ∙ sym (append_assoc x.name (0 ∷ subscripts_key long_form (without_last x.subscripts)) last) in
     let size : length bytes - length last ≡ length up = omega (arith, ap length whole, length-append up last) in
     (λ i. take (size i) (whole i)) ∙ take-append_seam up last
 
@@ -190,7 +191,7 @@ level_fits x is = record { name = is.name; subscripts = front_faultless x.subscr
 pub rest_less : (keys : List ℕ) → HasFirst keys → length (first_subscript_of keys).rest < length keys
 rest_less keys h =
     let rest : (first_subscript_of keys).rest ≡ h.rest = ap (λ (f : FirstSubscript). f.rest) (first_itself keys h) in
-    let key : HasTag (subscript_key short_form h.subscript) = has_tag short_form h.subscript in
+    let key : HasTag (subscript_key long_form h.subscript) = has_tag long_form h.subscript in
     let whole : keys ≡ key.tag ∷ (key.rest ++ h.rest) = h.key ∙ ap (λ u. u ++ h.rest) key.is in
     omega (arith, ap length rest, ap length whole, length-append key.rest h.rest)
 

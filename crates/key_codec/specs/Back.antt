@@ -22,13 +22,13 @@ unescaped [] = []
 unescaped (suc zero ∷ b ∷ bs) = (b - 1) ∷ unescaped bs
 unescaped (b ∷ bs) = b ∷ unescaped bs
 
--- a point's place from its byte
+-- a point's place from the number that stands for it
 abbrev pub place_from : Bool → ℕ → ℕ
-place_from negative byte = if negative then 2 * scale + 1 - byte else byte - 2
+place_from negative word = if negative then 2 * scale + 1 - word else word - 2
 
--- the text of a number from its sign, the byte of its place and the bytes of its digits
+-- the text of a number from its sign, the number that stands for its place and the bytes of its digits
 abbrev pub number_text_from : Bool → ℕ → List ℕ → List ℕ
-number_text_from negative byte bytes = signed negative (written_at scale (place_from negative byte) (map (digit_of negative) bytes))
+number_text_from negative word bytes = signed negative (written_at scale (place_from negative word) (map (digit_of negative) bytes))
 
 -- a subscript, and the bytes after its key
 pub record FirstSubscript : Type 0 where
@@ -38,7 +38,8 @@ pub record FirstSubscript : Type 0 where
 -- a number from the bytes after its first
 abbrev pub first_number : Bool → List ℕ → FirstSubscript
 first_number negative [] = record { subscript = []; rest = [] }
-first_number negative (byte ∷ bytes) = record { subscript = number_text_from negative byte (before_end (number_end negative) bytes); rest = behind_end (number_end negative) bytes }
+first_number negative (high ∷ []) = record { subscript = []; rest = [] }
+first_number negative (high ∷ low ∷ bytes) = record { subscript = number_text_from negative (high * 256 + low) (before_end (number_end negative) bytes); rest = behind_end (number_end negative) bytes }
 
 -- the first subscript, by its first byte: 2 below zero, 3 zero, 4 above zero, 5 any other text
 abbrev pub first_subscript_of : List ℕ → FirstSubscript

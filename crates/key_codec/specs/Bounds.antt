@@ -6,7 +6,7 @@ use Rattle.std.specs.Cmp.Lexicographic.{slice_cmp}
 use Rattle.collation.specs.Reference.{Reference}
 use Rattle.collation.specs.Database.{IsUnder}
 use Rattle.collation.specs.Order.{ref_cmp}
-use Rattle.key_codec.specs.Key.{short_form, subscript_key, key_of, IsSubscriptWithin, IsFaultless}
+use Rattle.key_codec.specs.Key.{long_form, subscript_key, key_of, IsSubscriptWithin, IsFaultless}
 
 -- byte by byte, a beginning first
 abbrev pub BytesAreBefore : List ℕ → List ℕ → Type 0
@@ -42,7 +42,7 @@ EqualKeysAreEqualReferences = (x y : Reference) → IsFaultless x → IsFaultles
 
 -- the bytes of a subscript begin no other subscript's bytes
 abbrev pub NoSubscriptBeginsAnother : Type 0
-NoSubscriptBeginsAnother = (s t : List ℕ) → IsSubscriptWithin short_form s → IsSubscriptWithin short_form t → Begins (subscript_key short_form t) (subscript_key short_form s) → s ≡ t
+NoSubscriptBeginsAnother = (s t : List ℕ) → IsSubscriptWithin long_form s → IsSubscriptWithin long_form t → Begins (subscript_key long_form t) (subscript_key long_form s) → s ≡ t
 
 -- a key begins with another exactly where its reference lies under the other's
 abbrev pub KeysBeginAsReferences : Type 0

@@ -9,7 +9,7 @@ use Rattle.collation.specs.Limits.{most_subscripts}
 use Rattle.collation.specs.Reference.{Reference, Spot}
 use Rattle.collation.specs.Name.{is_name}
 use Rattle.collation.specs.Faults.{subscripts_fault, reference_fault, place_fault, ends_open, closed_part}
-use Rattle.key_codec.specs.Key.{short_form, subscripts_key, key_of}
+use Rattle.key_codec.specs.Key.{long_form, subscripts_key, key_of}
 use Rattle.key_codec.specs.declared.draft.KeyDraft.{KeyDraft}
 
 -- the reference with one subscript more
@@ -27,7 +27,7 @@ pub record IsDraft (d : KeyDraft) (r : Reference) : Type 0 where
   pub many : most_subscripts < length r.subscripts → most_subscripts < d.count
   pub open_end : d.ends_open ≡ ends_open r.subscripts
   pub fault : d.fault ≡ subscripts_fault (closed_part r.subscripts)
-  pub bytes : is_name r.name ≡ true → length r.subscripts ≤ most_subscripts → subscripts_fault (closed_part r.subscripts) ≡ None → d.bytes.items ≡ r.name ++ 0 ∷ subscripts_key short_form (closed_part r.subscripts)
+  pub bytes : is_name r.name ≡ true → length r.subscripts ≤ most_subscripts → subscripts_fault (closed_part r.subscripts) ≡ None → d.bytes.items ≡ r.name ++ 0 ∷ subscripts_key long_form (closed_part r.subscripts)
 
 -- what was judged of a subscript: its parts where it is a canonic number, else none
 pub record IsJudged (subscript : List ℕ) (number : Option NumberParts) : Type 0 where

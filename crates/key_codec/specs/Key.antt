@@ -1,6 +1,6 @@
 -- The key of a reference. Source: docs/FORMATS.md, "Key bytes".
 -- Read key_of, then key_in and subscript_key, tag by tag: 2 below zero, 3 zero, 4 above zero, 5 any other text.
-use Rattle.std.specs.Prelude.{◌≡◌, ℕ, ◌+◌, ◌-◌, ◌*◌, ◌<◌, ◌≤◌, ◌==◌, if◌then◌else◌, true, None, List, [], ◌∷◌, ◌++◌, length, map}
+use Rattle.std.specs.Prelude.{◌≡◌, ℕ, ◌+◌, ◌-◌, ◌*◌, ◌/◌, ◌%◌, ◌<◌, ◌≤◌, ◌==◌, if◌then◌else◌, true, None, List, [], ◌∷◌, ◌++◌, length, map}
 use Rattle.canonic_number.specs.Number.{is_canonic, is_zero, is_negative, scale}
 use Rattle.canonic_number.specs.Place.{point_at, digits_of}
 use Rattle.collation.specs.Reference.{Reference}
@@ -12,9 +12,17 @@ pub record KeyForm : Type 0 where
   pub fraction : ℕ
   pub place_bytes : ℕ → List ℕ
 
--- subscripts of at most 127 bytes, and a point place in one byte
+-- the two bytes of a number below 65,536, the higher first
+abbrev pub two_bytes : ℕ → List ℕ
+two_bytes n = n / 256 ∷ n % 256 ∷ []
+
+-- the form in use: subscripts of at most 255 bytes, and a point place in two bytes
+abbrev pub long_form : KeyForm
+long_form = record { fraction = scale; place_bytes = two_bytes }
+
+-- the old form: subscripts of at most 127 bytes, and a point place in one byte
 abbrev pub short_form : KeyForm
-short_form = record { fraction = scale; place_bytes = λ n. n ∷ [] }
+short_form = record { fraction = 126; place_bytes = λ n. n ∷ [] }
 
 -- digits by size, and the end below them
 abbrev pub rising : List ℕ → List ℕ
@@ -61,7 +69,7 @@ abbrev pub key_in : KeyForm → Reference → List ℕ
 key_in form r = r.name ++ 0 ∷ subscripts_key form r.subscripts
 
 abbrev pub key_of : Reference → List ℕ
-key_of r = key_in short_form r
+key_of r = key_in long_form r
 
 -- a subscript within a form's limit
 pub record IsSubscriptWithin (form : KeyForm) (s : List ℕ) : Type 0 where

@@ -10,4 +10,5 @@ pub mod Grown
 pub mod Held
 pub mod Shown
 pub mod Draft
+pub mod Short
 pub mod laws

@@ -2,22 +2,22 @@
 use Rattle.std.specs.Prelude.{◌≡◌, ℕ, ◌+◌, ◌-◌, ◌*◌, ◌<◌, ◌≤◌, Bool, true, false, if◌then◌else◌, List, [], ◌∷◌, ◌++◌, length}
 use Rattle.canonic_number.specs.Number.{is_canonic, is_negative, scale, limit}
 use Rattle.canonic_number.specs.Place.{point_at, digits_of}
-use Rattle.key_codec.specs.Key.{short_form, subscript_key, IsSubscriptWithin}
+use Rattle.key_codec.specs.Key.{long_form, two_bytes, subscript_key, IsSubscriptWithin}
 
 -- the bytes are the key of this subscript, and then the rest
 abbrev pub BeginsWith : List ℕ → List ℕ → List ℕ → Type 0
-BeginsWith bytes s rest = IsSubscriptWithin short_form s × (bytes ≡ subscript_key short_form s ++ rest)
+BeginsWith bytes s rest = IsSubscriptWithin long_form s × (bytes ≡ subscript_key long_form s ++ rest)
 
 -- no subscript's key stands in front
 abbrev pub BeginsWithNone : List ℕ → Type 0
-BeginsWithNone bytes = (s u : List ℕ) → IsSubscriptWithin short_form s → bytes ≡ subscript_key short_form s ++ u → ⊥
+BeginsWithNone bytes = (s u : List ℕ) → IsSubscriptWithin long_form s → bytes ≡ subscript_key long_form s ++ u → ⊥
 
--- the first byte, the byte of a place, the byte of a digit, and the last, below zero and above it
+-- the first byte, the number that stands for a place, the byte of a digit, and the last, below zero and above it
 abbrev pub tag_of : Bool → ℕ
 tag_of negative = if negative then 2 else 4
 
-abbrev pub place_byte : Bool → ℕ → ℕ
-place_byte negative place = if negative then 2 * scale + 1 - place else place + 2
+abbrev pub place_word : Bool → ℕ → ℕ
+place_word negative place = if negative then 2 * scale + 1 - place else place + 2
 
 abbrev pub digit_byte : Bool → ℕ → ℕ
 digit_byte negative d = if negative then 58 - d else d - 47
@@ -38,11 +38,11 @@ pub record IsNumberOf (text : List ℕ) (negative : Bool) (place : ℕ) (ds : Li
   pub point : place ≡ point_at scale text
   pub digits : ds ≡ digits_of text
 
--- a subscript whose key is this first byte, this byte of its place, these bytes of its digits, and their end
+-- a subscript whose key is this first byte, these two bytes of its place, these bytes of its digits, and their end
 abbrev pub IsNumberKey : Bool → ℕ → List ℕ → List ℕ → Type 0
-IsNumberKey negative byte front s = IsSubscriptWithin short_form s × (subscript_key short_form s ≡ tag_of negative ∷ byte ∷ (front ++ number_end negative ∷ []))
+IsNumberKey negative word front s = IsSubscriptWithin long_form s × (subscript_key long_form s ≡ tag_of negative ∷ (two_bytes word ++ (front ++ number_end negative ∷ [])))
 
 -- a subscript that is no canonic number
 pub record IsOtherText (s : List ℕ) : Type 0 where
-  pub bounds : IsSubscriptWithin short_form s
+  pub bounds : IsSubscriptWithin long_form s
   pub other : is_canonic s ≡ false

@@ -5,4 +5,5 @@ pub mod Draft
 pub mod Grown
 pub mod Key
 pub mod Range
+pub mod Short
 pub mod Subscripts

@@ -2,16 +2,16 @@
 ghost use Rattle.std.specs.Prelude.{◌≡◌, ◌<◌, ◌≤◌, ◌++◌, ◌∷◌, ℕ, List, IfSome, MatchOption, length, nat_eq, not, true};
 ghost use Rattle.std.specs.List.{list_all};
 ghost use Rattle.key_codec.specs.Key as spec;
-ghost use Rattle.key_codec.specs.Key.{short_form, IsSubscriptWithin, AreSubscriptsWithin};
+ghost use Rattle.key_codec.specs.Key.{long_form, IsSubscriptWithin, AreSubscriptsWithin};
 ghost use Rattle.key_codec.specs.Reading as reading;
 
 use crate::read::split_at_end;
-use crate::read_subscript::{end_of, take_byte};
+use crate::read_subscript::{end_of, take_byte, take_word};
 use crate::{ABOVE_ZERO, BELOW_ZERO, END, TEXT, ZERO};
 
 // How many subscripts these keys are, one after the other.
 pub(crate) fn count_subscripts(bytes: &[u8]) -> usize
-    ensures count { (ss : List (List ℕ)) → AreSubscriptsWithin short_form ss → bytes.now ≡ spec.subscripts_key short_form ss → result ≡ length ss }
+    ensures count { (ss : List (List ℕ)) → AreSubscriptsWithin long_form ss → bytes.now ≡ spec.subscripts_key long_form ss → result ≡ length ss }
     ensures few { result ≤ length bytes.now }
 {
     let mut count = 0;
@@ -25,7 +25,7 @@ pub(crate) fn count_subscripts(bytes: &[u8]) -> usize
 
 // What follows the subscript whose key stands in front.
 fn skip_subscript(bytes: &[u8]) -> Option<&[u8]>
-    ensures behind { (s u : List ℕ) → IsSubscriptWithin short_form s → bytes.now ≡ spec.subscript_key short_form s ++ u → MatchOption result ⊥ (λ rest. rest.now ≡ u) }
+    ensures behind { (s u : List ℕ) → IsSubscriptWithin long_form s → bytes.now ≡ spec.subscript_key long_form s ++ u → MatchOption result ⊥ (λ rest. rest.now ≡ u) }
     ensures shorter { IfSome result (λ rest. length rest.now < length bytes.now) }
 {
     let (tag, behind) = take_byte(bytes)?;
@@ -40,10 +40,10 @@ fn skip_subscript(bytes: &[u8]) -> Option<&[u8]>
 
 // What follows the number whose key stands in front, less its first byte.
 fn skip_number(negative: bool, bytes: &[u8]) -> Option<&[u8]>
-    ensures behind { (s u : List ℕ) → IsSubscriptWithin short_form s → reading.tag_of negative ∷ bytes.now ≡ spec.subscript_key short_form s ++ u → MatchOption result ⊥ (λ rest. rest.now ≡ u) }
+    ensures behind { (s u : List ℕ) → IsSubscriptWithin long_form s → reading.tag_of negative ∷ bytes.now ≡ spec.subscript_key long_form s ++ u → MatchOption result ⊥ (λ rest. rest.now ≡ u) }
     ensures shorter { IfSome result (λ rest. length rest.now ≤ length bytes.now) }
 {
-    let (_, digits) = take_byte(bytes)?;
+    let (_, digits) = take_word(bytes)?;
     skip_past(digits, end_of(negative))
 }
 

@@ -4,7 +4,7 @@ ghost use Rattle.std.specs.Option.{option_or};
 ghost use Rattle.collation.specs.Limits.{most_subscripts};
 ghost use Rattle.collation.specs.Reference.{Reference};
 ghost use Rattle.key_codec.specs.Key as spec;
-ghost use Rattle.key_codec.specs.Key.{short_form, IsSubscriptWithin};
+ghost use Rattle.key_codec.specs.Key.{long_form, IsSubscriptWithin};
 ghost use Rattle.key_codec.specs.Draft.{IsDraft, IsSpelled, IsJudged, IsDueOrMemory, IsDueOrLong, longer, place_due, place_of, reference_due, open_fault};
 
 use crate::write::push_judged;
@@ -84,9 +84,9 @@ impl KeyDraft {
 
     // Adds a subscript's key, where nothing is at fault.
     fn add(&mut self, subscript: &[u8], number: Option<NumberParts<'_>>) -> Result<(), AllocError>
-        requires form { IsSubscriptWithin short_form subscript.now }
+        requires form { IsSubscriptWithin long_form subscript.now }
         requires judged { IsJudged subscript.now number }
-        ensures bytes { OnOk result (self.old.is_name ≡ true → self.old.count ≤ most_subscripts → self.old.fault ≡ None → self.new.bytes.items ≡ self.old.bytes.items ++ spec.subscript_key short_form subscript.now) }
+        ensures bytes { OnOk result (self.old.is_name ≡ true → self.old.count ≤ most_subscripts → self.old.fault ≡ None → self.new.bytes.items ≡ self.old.bytes.items ++ spec.subscript_key long_form subscript.now) }
         ensures fault { self.new.fault ≡ self.old.fault }
         ensures count { self.new.count ≡ self.old.count }
         ensures name { self.new.is_name ≡ self.old.is_name }
@@ -142,7 +142,7 @@ impl KeyDraft {
     /// The place that is spelled, open where its last subscript is empty. Takes memory only past 38 key bytes.
     ///
     /// Refusals, in this order: `BadName`; `TooManySubscripts` over 31, an empty last one among them; then the first
-    /// subscript that is at fault, `EmptySubscript`, or `SubscriptTooLong` over 127 bytes. And `OutOfMemory`.
+    /// subscript that is at fault, `EmptySubscript`, or `SubscriptTooLong` over 255 bytes. And `OutOfMemory`.
     pub fn place(&self, alloc: Global) -> Result<Place, Refusal>
         requires { IsSpelled self.now }
         ensures ok { (r : Reference) → IsDraft self.now r → IfOk result (λ p. (place_due r ≡ None) × (p ≡ place_of r)) }

@@ -10,23 +10,26 @@
 //! (2) A key begins with another exactly where its reference is the other or lies under it.
 //! (3) From a reference's key on, and before its key with byte 06 after it, lie the keys of what is under it.
 //!
-//! `^A(10,0)` has the key 41 00 04 82 02 00 03: the name and its end; a number above zero whose point stands
+//! `^A(10,0)` has the key 41 00 04 01 02 02 00 03: the name and its end; a number above zero whose point stands
 //! after two digits, its digit 1, its end; zero.
 //!
 //! Read `specs/Key.antt`, `specs/Back.antt` and `specs/Bounds.antt`, then `write.rt`, `read.rt`, `key.rt`, `order.rt`,
 //! `bounds.rt`, `range.rt`. The laws of order, beginnings and bounds hold over any limit of subscripts and any width
-//! of a point's place (`KeyForm`, `specs/Form.antt`); the form in use, which alone is read back, has subscripts of at
-//! most 127 bytes and a place of one byte. Lemmas for the crates above: `specs/laws/Key.antt`, `specs/laws/Back.antt`,
-//! `specs/laws/Bounds.antt`, `specs/laws/Range.antt`.
+//! of a point's place (`KeyForm`, `specs/Form.antt`); the form in use has subscripts of at most 255 bytes and a place
+//! of two bytes. The old form (`short.rt`, `short_key.rt`, `specs/Short.antt`) has 127 bytes and one; it is read by the
+//! bytes of the form in use that stand for it (`lengthen.rt`). Lemmas for the crates above: `specs/laws/Key.antt`,
+//! `specs/laws/Back.antt`, `specs/laws/Bounds.antt`, `specs/laws/Range.antt`, `specs/laws/Short.antt`.
 #![tactic(auto)]
 
 pub use bounds::{sibling_after, sibling_before, subtree_prefix};
 pub use draft::KeyDraft;
 pub use key::Key;
-pub use laws::keys_are_as_references;
+pub use laws::{keys_are_as_references, old_keys_are_as_references};
 pub use place::Place;
 pub use range::KeyRange;
 pub use read::decode;
+pub use short::{LONGEST_SHORT_SUBSCRIPT, decode_short, encode_short};
+pub use short_key::ShortKey;
 pub use shown::{KeySubscript, KeySubscripts};
 pub use write::encode;
 
@@ -37,12 +40,15 @@ mod draft;
 mod escapes;
 mod key;
 mod laws;
+mod lengthen;
 mod number_bytes;
 mod order;
 mod place;
 mod range;
 mod read;
 mod read_subscript;
+mod short;
+mod short_key;
 mod shown;
 mod write;
 
@@ -68,7 +74,7 @@ const END_ABOVE_ZERO: u8 = 0;
 const END_BELOW_ZERO: u8 = 255;
 
 // The most digits of a fraction: a point's place is counted from as many places before it.
-const MOST_FRACTION_DIGITS: usize = 126;
+const MOST_FRACTION_DIGITS: usize = 254;
 
 // Greater than the first byte of each subscript's key.
 const ABOVE_TAGS: u8 = 6;

@@ -12,28 +12,30 @@ use crate::MOST_FRACTION_DIGITS;
 use canonic_number::{LONGEST_SUBSCRIPT, parts};
 use std::alloc::AllocError;
 
-// The place with this byte.
-pub(crate) fn place_of(negative: bool, byte: u8) -> Option<usize>
-    ensures some { IfSome result (λ place. (reading.place_byte negative place ≡ byte) × (place ≤ 2 * scale + 1)) }
-    ensures none { IfNone result ((place : ℕ) → 0 < place → place ≤ 2 * scale + 1 → byte ≡ reading.place_byte negative place → ⊥) }
+// The place that this number stands for.
+pub(crate) fn place_of(negative: bool, word: u16) -> Option<usize>
+    ensures some { IfSome result (λ place. (reading.place_word negative place ≡ word) × (place ≤ 2 * scale + 1)) }
+    ensures none { IfNone result ((place : ℕ) → 0 < place → place ≤ 2 * scale + 1 → word ≡ reading.place_word negative place → ⊥) }
 {
-    let byte = byte as usize;
+    let word = word as usize;
     if negative {
-        (2 * MOST_FRACTION_DIGITS + 1).checked_sub(byte)
+        (2 * MOST_FRACTION_DIGITS + 1).checked_sub(word)
+    } else if word <= 2 * MOST_FRACTION_DIGITS + 3 {
+        word.checked_sub(2)
     } else {
-        byte.checked_sub(2)
+        None
     }
 }
 
-// As `place_of`, of a byte that a number has.
-pub(crate) fn place_from(negative: bool, byte: u8) -> usize
-    ensures { result ≡ back.place_from negative byte }
+// As `place_of`, of a number that stands for one.
+pub(crate) fn place_from(negative: bool, word: u16) -> usize
+    ensures { result ≡ back.place_from negative word }
 {
-    let byte = byte as usize;
+    let word = word as usize;
     if negative {
-        (2 * MOST_FRACTION_DIGITS + 1).saturating_sub(byte)
+        (2 * MOST_FRACTION_DIGITS + 1).saturating_sub(word)
     } else {
-        byte.saturating_sub(2)
+        word.saturating_sub(2)
     }
 }
 

@@ -3,7 +3,7 @@ ghost use Rattle.std.specs.Prelude.{◌≡◌, ◌++◌, ◌∷◌, IfErr, IfNon
 ghost use Rattle.std.specs.List.{list_all, position};
 ghost use Rattle.collation.specs.Reference.{Reference};
 ghost use Rattle.key_codec.specs.Key as spec;
-ghost use Rattle.key_codec.specs.Key.{short_form, IsFaultless, AreSubscriptsWithin};
+ghost use Rattle.key_codec.specs.Key.{long_form, IsFaultless, AreSubscriptsWithin};
 
 use crate::END;
 use crate::read_subscript::read_subscript;
@@ -66,8 +66,8 @@ pub(crate) fn split_at_end(bytes: &[u8], end: u8) -> Option<(&[u8], &[u8])>
 }
 
 fn read_subscripts(alloc: Global, bytes: &[u8]) -> Result<Option<Subscripts>, AllocError>
-    ensures some { IfOk result (λ found. IfSome found (λ ss. AreSubscriptsWithin short_form ss.items × (bytes.now ≡ spec.subscripts_key short_form ss.items))) }
-    ensures none { IfOk result (λ found. IfNone found ((ss : List (List ℕ)) → AreSubscriptsWithin short_form ss → bytes.now ≡ spec.subscripts_key short_form ss → ⊥)) }
+    ensures some { IfOk result (λ found. IfSome found (λ ss. AreSubscriptsWithin long_form ss.items × (bytes.now ≡ spec.subscripts_key long_form ss.items))) }
+    ensures none { IfOk result (λ found. IfNone found ((ss : List (List ℕ)) → AreSubscriptsWithin long_form ss → bytes.now ≡ spec.subscripts_key long_form ss → ⊥)) }
 {
     let mut found = SmallVec::new(alloc);
     let mut rest = bytes;

@@ -1,8 +1,9 @@
 //! One subscript of a key: its text, and the bytes after it.
-ghost use Rattle.std.specs.Prelude.{◌≡◌, ◌↔◌, [], ◌∷◌, List, ℕ, map, not, nat_eq, true, IfOk, IfNone, IfSome, IsTrue};
+ghost use Rattle.std.specs.Prelude.{◌≡◌, ◌↔◌, ◌<◌, ◌/◌, ◌%◌, [], ◌∷◌, ◌++◌, List, ℕ, length, map, not, nat_eq, true, IfOk, IfNone, IfSome, IsTrue};
 ghost use Rattle.std.specs.List.{list_all};
 ghost use Rattle.canonic_number.specs.Number.{scale};
 ghost use Rattle.canonic_number.specs.Place.{signed, written_at};
+ghost use Rattle.key_codec.specs.Key.{two_bytes};
 ghost use Rattle.key_codec.specs.Reading as reading;
 ghost use Rattle.key_codec.specs.Reading.{BeginsWith, BeginsWithNone, IsNumberKey, IsOtherText};
 
@@ -57,6 +58,24 @@ pub(crate) fn take_byte(bytes: &[u8]) -> Option<(u8, &[u8])>
     Some((*first, rest))
 }
 
+// The number that two bytes stand for, the higher first, and what follows them.
+pub(crate) fn take_word(bytes: &[u8]) -> Option<(u16, &[u8])>
+    ensures some { IfSome result (λ p. bytes.now ≡ two_bytes p.0 ++ p.1.now) }
+    ensures none { IfNone result (length bytes.now < 2) }
+{
+    let [high, low, rest @ ..] = bytes else {
+        return None;
+    };
+    Some((word_of(*high, *low), rest))
+}
+
+fn word_of(high: u8, low: u8) -> u16
+    ensures high { result / 256 ≡ high }
+    ensures low { result % 256 ≡ low }
+{
+    u16::from(high) * 256 + u16::from(low)
+}
+
 // The number whose key stands in front, less its first byte.
 fn read_number(
     alloc: Global,
@@ -66,13 +85,13 @@ fn read_number(
     ensures some { IfOk result (λ found. IfSome found (λ p. BeginsWith (reading.tag_of negative ∷ bytes.now) p.0 p.1.now)) }
     ensures none { IfOk result (λ found. IfNone found (BeginsWithNone (reading.tag_of negative ∷ bytes.now))) }
 {
-    let Some((byte, behind)) = take_byte(bytes) else {
+    let Some((word, behind)) = take_word(bytes) else {
         return Ok(None);
     };
     let Some((front, rest)) = split_at_end(behind, end_of(negative)) else {
         return Ok(None);
     };
-    let Some(text) = number_of(alloc, negative, byte, front)? else {
+    let Some(text) = number_of(alloc, negative, word, front)? else {
         return Ok(None);
     };
     Ok(Some((text, rest)))
@@ -99,18 +118,18 @@ fn number_text(
     Ok(text)
 }
 
-// The number with this byte of its place and these bytes of its digits.
+// The number with this number for its place and these bytes of its digits.
 fn number_of(
     alloc: Global,
     negative: bool,
-    byte: u8,
+    word: u16,
     front: &[u8],
 ) -> Result<Option<Text>, AllocError>
     requires { list_all (λ b. not (nat_eq b (reading.number_end negative))) front.now ≡ true }
-    ensures some { IfOk result (λ found. IfSome found (IsNumberKey negative byte front.now)) }
-    ensures none { IfOk result (λ found. IfNone found ((s : List ℕ) → IsNumberKey negative byte front.now s → ⊥)) }
+    ensures some { IfOk result (λ found. IfSome found (IsNumberKey negative word front.now)) }
+    ensures none { IfOk result (λ found. IfNone found ((s : List ℕ) → IsNumberKey negative word front.now s → ⊥)) }
 {
-    let Some(place) = place_of(negative, byte) else {
+    let Some(place) = place_of(negative, word) else {
         return Ok(None);
     };
     if !are_digit_bytes(front) {

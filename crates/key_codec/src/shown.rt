@@ -3,7 +3,7 @@ ghost use Rattle.std.specs.Prelude.{◌≡◌, ◌∷◌, ◌++◌, List, ℕ, I
 ghost use Rattle.canonic_number.specs.Number.{is_canonic};
 ghost use Rattle.collation.specs.Levels.{without_last};
 ghost use Rattle.key_codec.specs.Grown.{GoesOnFrom};
-ghost use Rattle.key_codec.specs.Key.{short_form, subscripts_key, AreSubscriptsWithin};
+ghost use Rattle.key_codec.specs.Key.{long_form, subscripts_key, AreSubscriptsWithin};
 ghost use Rattle.key_codec.specs.Back.{first_subscript_of, first_number as first_number_spec, subscripts_up_to, unescaped};
 ghost use Rattle.key_codec.specs.Reading.{tag_of};
 ghost use Rattle.key_codec.specs.Shown.{HasFirst, AreKeys, first};
@@ -11,18 +11,18 @@ ghost use Rattle.key_codec.specs.Shown.{HasFirst, AreKeys, first};
 use crate::escapes::push_unescaped;
 use crate::number_bytes::{place_from, push_number};
 use crate::read::split_at_end;
-use crate::read_subscript::{end_of, take_byte};
+use crate::read_subscript::{end_of, take_byte, take_word};
 use crate::{ABOVE_ZERO, BELOW_ZERO, END, TEXT, ZERO};
 use collation::Text;
 use std::alloc::{AllocError, Global};
 use std::marker::Model;
 
-// The parts of a subscript's key: of a number, whether it is below zero, the byte of its place and the bytes of its
+// The parts of a subscript's key: of a number, whether it is below zero, the number for its place and the bytes of its
 // digits; of another text, its escaped bytes.
 #[derive(Drop)]
 enum Shown<'k> {
     Zero,
-    Number(bool, u8, &'k [u8]),
+    Number(bool, u16, &'k [u8]),
     Other(&'k [u8]),
 }
 
@@ -84,8 +84,8 @@ impl KeySubscript<'_> {
                 out.push(b'0')?;
                 Ok(())
             }
-            Shown::Number(negative, byte, digits) => {
-                push_number(out, negative, place_from(negative, byte), digits)
+            Shown::Number(negative, word, digits) => {
+                push_number(out, negative, place_from(negative, word), digits)
             }
             Shown::Other(escaped) => push_unescaped(out, escaped),
         }
@@ -124,13 +124,13 @@ fn first_number(negative: bool, bytes: &[u8]) -> (KeySubscript<'_>, &[u8])
     ensures subscript { result.0 ≡ (first_number_spec negative bytes.now).subscript }
     ensures rest { result.1.now ≡ (first_number_spec negative bytes.now).rest }
 {
-    let Some((byte, behind)) = take_byte(bytes) else {
+    let Some((word, behind)) = take_word(bytes) else {
         unreachable!()
     };
     let Some((digits, rest)) = split_at_end(behind, end_of(negative)) else {
         unreachable!()
     };
-    let shown = Shown::Number(negative, byte, digits);
+    let shown = Shown::Number(negative, word, digits);
     (KeySubscript { shown }, rest)
 }
 
@@ -230,7 +230,7 @@ pub(crate) fn first_child(alloc: Global, keys: &[u8]) -> Result<Option<Text>, Al
 // The key of the last subscript, and nothing where there is none.
 pub(crate) fn last_key(keys: &[u8]) -> &[u8]
     requires { AreKeys keys.now }
-    ensures { (ss : List (List ℕ)) → AreSubscriptsWithin short_form ss → keys.now ≡ subscripts_key short_form ss → keys.now ≡ subscripts_key short_form (without_last ss) ++ result.now }
+    ensures { (ss : List (List ℕ)) → AreSubscriptsWithin long_form ss → keys.now ≡ subscripts_key long_form ss → keys.now ≡ subscripts_key long_form (without_last ss) ++ result.now }
 {
     if keys.is_empty() {
         return keys;

@@ -1,12 +1,12 @@
 //! The key of a reference.
-ghost use Rattle.std.specs.Prelude.{◌≡◌, ◌≤◌, ◌++◌, ◌-◌, IfErr, IfOk, OnOk, None, map, nat_lt};
+ghost use Rattle.std.specs.Prelude.{◌≡◌, ◌<◌, ◌≤◌, ◌++◌, ◌-◌, IfErr, IfOk, OnOk, None, map, nat_lt};
 ghost use Rattle.std.specs.List.{list_all};
 ghost use Rattle.canonic_number.specs.Number.{limit, scale};
 ghost use Rattle.collation.specs.Faults.{reference_fault, subscripts_fault};
 ghost use Rattle.key_codec.specs.Bounds.{KeepsOrder, IsPrefixOf};
 ghost use Rattle.key_codec.specs.Draft.{IsJudged};
 ghost use Rattle.key_codec.specs.Key as spec;
-ghost use Rattle.key_codec.specs.Key.{short_form, IsFaultless, IsSubscriptWithin};
+ghost use Rattle.key_codec.specs.Key.{long_form, IsFaultless, IsSubscriptWithin};
 ghost use Rattle.key_codec.specs.PartsKey.{parts_key};
 
 use crate::{
@@ -66,15 +66,15 @@ fn most_key_bytes(name: &[u8], subscripts: &[Text]) -> usize {
     bytes
 }
 
-// A tag, a place and an end beside the text's bytes, of which 0 and 1 count twice.
+// A tag, a place of two bytes and an end beside the text's bytes, of which 0 and 1 count twice.
 fn most_subscript_bytes(subscript: &[u8]) -> usize {
     let escaped = subscript.iter().filter(|byte| **byte <= 1).count();
-    subscript.len().saturating_add(escaped).saturating_add(3)
+    subscript.len().saturating_add(escaped).saturating_add(4)
 }
 
 fn push_subscripts(key: &mut Vec<u8>, subscripts: &[Text]) -> Result<(), AllocError>
     requires { subscripts_fault subscripts.now ≡ None }
-    ensures { OnOk result (key.new.items ≡ key.old.items ++ spec.subscripts_key short_form subscripts.now) }
+    ensures { OnOk result (key.new.items ≡ key.old.items ++ spec.subscripts_key long_form subscripts.now) }
 {
     for subscript in subscripts {
         push_subscript(key, subscript.as_slice())?;
@@ -83,8 +83,8 @@ fn push_subscripts(key: &mut Vec<u8>, subscripts: &[Text]) -> Result<(), AllocEr
 }
 
 pub(crate) fn push_subscript(key: &mut Vec<u8>, subscript: &[u8]) -> Result<(), AllocError>
-    requires { IsSubscriptWithin short_form subscript.now }
-    ensures { OnOk result (key.new.items ≡ key.old.items ++ spec.subscript_key short_form subscript.now) }
+    requires { IsSubscriptWithin long_form subscript.now }
+    ensures { OnOk result (key.new.items ≡ key.old.items ++ spec.subscript_key long_form subscript.now) }
 {
     push_judged(key, subscript, parts(subscript))
 }
@@ -95,9 +95,9 @@ pub(crate) fn push_judged(
     subscript: &[u8],
     number: Option<NumberParts<'_>>,
 ) -> Result<(), AllocError>
-    requires form { IsSubscriptWithin short_form subscript.now }
+    requires form { IsSubscriptWithin long_form subscript.now }
     requires judged { IsJudged subscript.now number }
-    ensures { OnOk result (key.new.items ≡ key.old.items ++ spec.subscript_key short_form subscript.now) }
+    ensures { OnOk result (key.new.items ≡ key.old.items ++ spec.subscript_key long_form subscript.now) }
 {
     match number {
         Some(number) => push_number(key, &number),
@@ -108,20 +108,20 @@ pub(crate) fn push_judged(
 fn push_number(key: &mut Vec<u8>, number: &NumberParts<'_>) -> Result<(), AllocError>
     requires whole_short { number.now.whole ≤ limit }
     requires zeros_short { number.now.zeros ≤ scale }
-    ensures { OnOk result (key.new.items ≡ key.old.items ++ parts_key number.now) }
+    ensures { OnOk result (key.new.items ≡ key.old.items ++ parts_key long_form number.now) }
 {
     let place = number.whole + MOST_FRACTION_DIGITS - number.zeros;
     if number.first.is_empty() && number.second.is_empty() {
         key.push(ZERO)?;
     } else if number.negative {
         key.push(BELOW_ZERO)?;
-        key.push((2 * MOST_FRACTION_DIGITS + 1 - place) as u8)?;
+        push_word(key, 2 * MOST_FRACTION_DIGITS + 1 - place)?;
         push_falling(key, number.first)?;
         push_falling(key, number.second)?;
         key.push(END_BELOW_ZERO)?;
     } else {
         key.push(ABOVE_ZERO)?;
-        key.push((place + 2) as u8)?;
+        push_word(key, place + 2)?;
         push_rising(key, number.first)?;
         push_rising(key, number.second)?;
         key.push(END_ABOVE_ZERO)?;
@@ -129,7 +129,17 @@ fn push_number(key: &mut Vec<u8>, number: &NumberParts<'_>) -> Result<(), AllocE
     Ok(())
 }
 
-fn push_rising(key: &mut Vec<u8>, digits: &[u8]) -> Result<(), AllocError>
+// The two bytes of a number, the higher first.
+pub(crate) fn push_word(key: &mut Vec<u8>, word: usize) -> Result<(), AllocError>
+    requires { word < 65536 }
+    ensures { OnOk result (key.new.items ≡ key.old.items ++ spec.two_bytes word) }
+{
+    key.push((word / 256) as u8)?;
+    key.push((word % 256) as u8)?;
+    Ok(())
+}
+
+pub(crate) fn push_rising(key: &mut Vec<u8>, digits: &[u8]) -> Result<(), AllocError>
     ensures { OnOk result (key.new.items ≡ key.old.items ++ map (λ d. d - 47) digits.now) }
 {
     for digit in digits {
@@ -138,7 +148,7 @@ fn push_rising(key: &mut Vec<u8>, digits: &[u8]) -> Result<(), AllocError>
     Ok(())
 }
 
-fn push_falling(key: &mut Vec<u8>, digits: &[u8]) -> Result<(), AllocError>
+pub(crate) fn push_falling(key: &mut Vec<u8>, digits: &[u8]) -> Result<(), AllocError>
     ensures { OnOk result (key.new.items ≡ key.old.items ++ map (λ d. 58 - d) digits.now) }
 {
     for digit in digits {
@@ -147,7 +157,7 @@ fn push_falling(key: &mut Vec<u8>, digits: &[u8]) -> Result<(), AllocError>
     Ok(())
 }
 
-fn push_text(key: &mut Vec<u8>, text: &[u8]) -> Result<(), AllocError>
+pub(crate) fn push_text(key: &mut Vec<u8>, text: &[u8]) -> Result<(), AllocError>
     ensures { OnOk result (key.new.items ≡ key.old.items ++ spec.text_key text.now) }
 {
     key.push(TEXT)?;

@@ -21,7 +21,7 @@ pub enum Refusal {
     BadName = 2,
     /// A subscript is empty where it may not be.
     EmptySubscript = 3,
-    /// A subscript has more than 127 bytes.
+    /// A subscript has more than 255 bytes.
     SubscriptTooLong = 4,
     /// A reference has more than 31 subscripts, written or made by MERGE.
     TooManySubscripts = 5,

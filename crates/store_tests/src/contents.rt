@@ -5,7 +5,7 @@ use key_codec::Key;
 use refusal::Refusal;
 use std::alloc::Global;
 use std::test::*;
-use version_store::{Snapshot, Store};
+use version_store::{KeyedStore, Snapshot};
 
 fn reference(alloc: Global, name: &[u8]) -> Result<Ref, Refusal> {
     let name = Name::new(Text::from_slice(alloc, name)?)?;
@@ -40,7 +40,7 @@ fn changes(alloc: Global, name: &[u8], value: &[u8]) -> Result<Vec<(Key, Option<
     Ok(changes)
 }
 
-fn write_placed(store: &mut Store, stamp: u64, changes: Vec<(Key, Option<Text>)>) -> bool {
+fn write_placed(store: &mut KeyedStore, stamp: u64, changes: Vec<(Key, Option<Text>)>) -> bool {
     let is_ready = match changes.as_slice() {
         [(key, _)] => store.is_placed(key) && store.spare() > 0 && store.now() < stamp,
         _ => false,
@@ -56,7 +56,7 @@ fn write_placed(store: &mut Store, stamp: u64, changes: Vec<(Key, Option<Text>)>
 // One change at the stamp; an empty value is an absence.
 pub(crate) fn write(
     alloc: Global,
-    store: &mut Store,
+    store: &mut KeyedStore,
     name: &[u8],
     stamp: u64,
     value: &[u8],
@@ -70,7 +70,7 @@ pub(crate) fn write(
 }
 
 // ^A at 4 "x" and 2 absent, and ^B at 3 "y".
-fn worked(alloc: Global, store: &mut Store) -> Result<bool, Refusal> {
+fn worked(alloc: Global, store: &mut KeyedStore) -> Result<bool, Refusal> {
     let first = write(alloc, store, b"A", 2, b"")?;
     let second = write(alloc, store, b"B", 3, b"y")?;
     let third = write(alloc, store, b"A", 4, b"x")?;
@@ -78,7 +78,7 @@ fn worked(alloc: Global, store: &mut Store) -> Result<bool, Refusal> {
 }
 
 // The name of the first reference that a stamp shows, found forward and then backward; or what is refused there.
-pub(crate) fn first_at(store: &Store, stamp: u64) -> Result<Option<u8>, Refusal> {
+pub(crate) fn first_at(store: &KeyedStore, stamp: u64) -> Result<Option<u8>, Refusal> {
     let view = store.view_at(stamp)?;
     match view.next(Cut::Start) {
         Some((key, _)) => Ok(last_before(&view, Cut::After(key))),
@@ -93,13 +93,13 @@ fn last_before(view: &Snapshot<'_>, cut: Cut<'_>) -> Option<u8> {
     }
 }
 
-fn newest(store: &Store, low: &Key, high: &Key) -> Option<u64> {
+fn newest(store: &KeyedStore, low: &Key, high: &Key) -> Option<u64> {
     store.newest_in(Cut::Before(low), Cut::Past(high))
 }
 
 #[test]
 fn worked_versions_show_their_contents(rt: HostRuntime) -> Result<(), Fail> {
-    let mut store = Store::new(rt.alloc());
+    let mut store = KeyedStore::new(rt.alloc());
     assert!(rt; worked(rt.alloc(), &mut store)?);
     assert_eq!(rt; first_at(&store, 2), Ok(None));
     assert_eq!(rt; first_at(&store, 3), Ok(Some(b'B')));
@@ -116,7 +116,7 @@ fn last_name(run: &Run<'_>) -> Option<u8> {
 }
 
 // How many nodes a stamp shows, and the name of the last of them.
-fn gathered_at(store: &Store, stamp: u64) -> Result<(usize, Option<u8>), Refusal> {
+fn gathered_at(store: &KeyedStore, stamp: u64) -> Result<(usize, Option<u8>), Refusal> {
     let view = store.view_at(stamp)?;
     let run = view.gather(Cut::Start, 32);
     Ok((run.len(), last_name(&run)))
@@ -124,7 +124,7 @@ fn gathered_at(store: &Store, stamp: u64) -> Result<(usize, Option<u8>), Refusal
 
 #[test]
 fn snapshots_gather_what_has_a_value(rt: HostRuntime) -> Result<(), Fail> {
-    let mut store = Store::new(rt.alloc());
+    let mut store = KeyedStore::new(rt.alloc());
     assert!(rt; worked(rt.alloc(), &mut store)?);
     assert_eq!(rt; gathered_at(&store, 2), Ok((0, None)));
     assert_eq!(rt; gathered_at(&store, 3), Ok((1, Some(b'B'))));
@@ -132,14 +132,14 @@ fn snapshots_gather_what_has_a_value(rt: HostRuntime) -> Result<(), Fail> {
     Ok(())
 }
 
-fn newest_of_both(alloc: Global, store: &Store) -> Result<Option<u64>, Refusal> {
+fn newest_of_both(alloc: Global, store: &KeyedStore) -> Result<Option<u64>, Refusal> {
     let low = key_of(alloc, b"A")?;
     let newest = newest_to(alloc, store, &low);
     drop(low);
     newest
 }
 
-fn newest_to(alloc: Global, store: &Store, low: &Key) -> Result<Option<u64>, Refusal> {
+fn newest_to(alloc: Global, store: &KeyedStore, low: &Key) -> Result<Option<u64>, Refusal> {
     let high = key_of(alloc, b"B")?;
     let newest = newest(store, low, &high);
     drop(high);
@@ -148,7 +148,7 @@ fn newest_to(alloc: Global, store: &Store, low: &Key) -> Result<Option<u64>, Ref
 
 #[test]
 fn newest_in_a_range_counts_its_first_key(rt: HostRuntime) -> Result<(), Fail> {
-    let mut store = Store::new(rt.alloc());
+    let mut store = KeyedStore::new(rt.alloc());
     worked(rt.alloc(), &mut store)?;
     assert_eq!(rt; newest_of_both(rt.alloc(), &store)?, Some(4));
     Ok(())
@@ -157,7 +157,7 @@ fn newest_in_a_range_counts_its_first_key(rt: HostRuntime) -> Result<(), Fail> {
 // Cuts and drops a key at a horizon: how many versions went, and whether the key did.
 fn collect(
     alloc: Global,
-    store: &mut Store,
+    store: &mut KeyedStore,
     name: &[u8],
     horizon: u64,
 ) -> Result<(usize, bool), Refusal> {
@@ -168,7 +168,7 @@ fn collect(
     Ok(counts)
 }
 
-fn collect_key(store: &mut Store, key: &Key, horizon: u64) -> (usize, bool) {
+fn collect_key(store: &mut KeyedStore, key: &Key, horizon: u64) -> (usize, bool) {
     if !store.is_placed(key) || store.cut() < horizon {
         return (0, false);
     }
@@ -179,7 +179,7 @@ fn collect_key(store: &mut Store, key: &Key, horizon: u64) -> (usize, bool) {
 // A key with values at 1 and 2 and an absence at 3.
 #[test]
 fn key_that_is_absent_at_the_horizon_goes_with_its_versions(rt: HostRuntime) -> Result<(), Fail> {
-    let mut store = Store::new(rt.alloc());
+    let mut store = KeyedStore::new(rt.alloc());
     write(rt.alloc(), &mut store, b"A", 1, b"x")?;
     write(rt.alloc(), &mut store, b"A", 2, b"y")?;
     write(rt.alloc(), &mut store, b"A", 3, b"")?;

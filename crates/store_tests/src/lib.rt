@@ -5,4 +5,6 @@
 #[cfg(test)]
 mod contents;
 #[cfg(test)]
+mod short;
+#[cfg(test)]
 mod turns;

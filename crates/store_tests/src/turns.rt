@@ -4,10 +4,10 @@ use collector::{Progress, pass, turn};
 use refusal::Refusal;
 use std::alloc::Global;
 use std::test::*;
-use version_store::Store;
+use version_store::KeyedStore;
 
 // ^A at 3 absent, 2 "y" and 1 "x".
-fn one_gone(alloc: Global, store: &mut Store) -> Result<bool, Refusal> {
+fn one_gone(alloc: Global, store: &mut KeyedStore) -> Result<bool, Refusal> {
     let first = write(alloc, store, b"A", 1, b"x")?;
     let second = write(alloc, store, b"A", 2, b"y")?;
     let third = write(alloc, store, b"A", 3, b"")?;
@@ -15,7 +15,7 @@ fn one_gone(alloc: Global, store: &mut Store) -> Result<bool, Refusal> {
 }
 
 // ^A at 5 absent and 1 "x", ^B at 4 "z" and 2 "y", ^C at 3 "w".
-fn three(alloc: Global, store: &mut Store) -> Result<bool, Refusal> {
+fn three(alloc: Global, store: &mut KeyedStore) -> Result<bool, Refusal> {
     let first = write(alloc, store, b"A", 1, b"x")?;
     let second = write(alloc, store, b"B", 2, b"y")?;
     let third = write(alloc, store, b"C", 3, b"w")?;
@@ -34,7 +34,7 @@ fn counts(visited: usize, dropped: usize, removed: usize) -> Progress {
 }
 
 // The first byte of the marked name.
-fn marked(store: &Store) -> Option<u8> {
+fn marked(store: &KeyedStore) -> Option<u8> {
     match store.marked() {
         Some(key) => key.name().first().copied(),
         None => None,
@@ -43,7 +43,7 @@ fn marked(store: &Store) -> Option<u8> {
 
 #[test]
 fn a_turn_takes_out_a_key_that_is_absent_at_the_horizon(rt: HostRuntime) -> Result<(), Fail> {
-    let mut store = Store::new(rt.alloc());
+    let mut store = KeyedStore::new(rt.alloc());
     assert!(rt; one_gone(rt.alloc(), &mut store)?);
     assert_eq!(rt; turn(rt.alloc(), &mut store, 3, 1)?, counts(1, 3, 1));
     assert!(rt; store.key_after(None).is_none());
@@ -55,7 +55,7 @@ fn a_turn_takes_out_a_key_that_is_absent_at_the_horizon(rt: HostRuntime) -> Resu
 
 #[test]
 fn a_pass_takes_out_a_key_that_is_absent_at_the_horizon(rt: HostRuntime) -> Result<(), Fail> {
-    let mut store = Store::new(rt.alloc());
+    let mut store = KeyedStore::new(rt.alloc());
     assert!(rt; one_gone(rt.alloc(), &mut store)?);
     assert_eq!(rt; pass(rt.alloc(), &mut store, 3)?, counts(1, 3, 1));
     assert_eq!(rt; pass(rt.alloc(), &mut store, 3)?, counts(0, 0, 0));
@@ -66,7 +66,7 @@ fn a_pass_takes_out_a_key_that_is_absent_at_the_horizon(rt: HostRuntime) -> Resu
 // Two turns of two keys each visit the three keys, and one of them again.
 #[test]
 fn turns_go_on_behind_the_mark(rt: HostRuntime) -> Result<(), Fail> {
-    let mut store = Store::new(rt.alloc());
+    let mut store = KeyedStore::new(rt.alloc());
     assert!(rt; three(rt.alloc(), &mut store)?);
     assert_eq!(rt; turn(rt.alloc(), &mut store, 4, 2)?, counts(2, 1, 0));
     assert_eq!(rt; marked(&store), Some(b'B'));
@@ -78,7 +78,7 @@ fn turns_go_on_behind_the_mark(rt: HostRuntime) -> Result<(), Fail> {
 
 #[test]
 fn a_horizon_after_now_is_refused(rt: HostRuntime) -> Result<(), Fail> {
-    let mut store = Store::new(rt.alloc());
+    let mut store = KeyedStore::new(rt.alloc());
     assert!(rt; three(rt.alloc(), &mut store)?);
     assert_eq!(rt; turn(rt.alloc(), &mut store, 6, 1), Err(Refusal::Ahead));
     assert_eq!(rt; pass(rt.alloc(), &mut store, 6), Err(Refusal::Ahead));

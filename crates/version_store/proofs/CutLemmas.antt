@@ -1,5 +1,5 @@
 -- A chain that is pushed to and cut, and its key taken out where nothing is left.
-use Rattle.std.proofs.Common.{◌≡◌, ℕ, ◌≤◌, List, ◌∷◌, sym, ap, ◌∙◌, subst, arith}
+use Rattle.std.proofs.Common.{◌≡◌, ℕ, ◌<◌, ◌≤◌, List, ◌∷◌, sym, ap, ◌∙◌, subst, arith}
 use Rattle.std.specs.Prelude.{true, false, cond, Option, Some, None}
 use Rattle.std.specs.FinMap as finmap
 use Rattle.std.specs.FinMap.{find, get}
@@ -20,10 +20,10 @@ pub record CutChain (c e : State) (ps : Pairs) (now id stamp horizon : ℕ) (k :
   pub versions : versions_in e ps ≡ finmap.insert (with_version stamp (k, x) (versions_in c ps)) k (left_after horizon (versions_of (with_version stamp (k, x) (versions_in c ps)) k))
 
 pub cut_chain : (c d e : State) (ps : Pairs) (now id stamp horizon : ℕ) (k : Reference) (x : Option (List ℕ)) → IsTied ps c now → Some id ≡ find ref_cmp k ps
-    → Updates c d id (Some ((stamp, x) ∷ versions_at c id)) → Updates d e id (Some (left_after horizon (versions_at d id))) → stamp ≤ now → IsAbove stamp (versions_of (versions_in c ps) k) → CutChain c e ps now id stamp horizon k x
-cut_chain c d e ps now id stamp horizon k x tied at pushing cutting low newest =
+    → Updates c d id (Some ((stamp, x) ∷ versions_at c id)) → Updates d e id (Some (left_after horizon (versions_at d id))) → 0 < stamp → stamp ≤ now → IsAbove stamp (versions_of (versions_in c ps) k) → CutChain c e ps now id stamp horizon k x
+cut_chain c d e ps now id stamp horizon k x tied at pushing cutting first low newest =
     let above = subst (IsAbove stamp) (row_in c ps k id tied.sorted at) newest in
-    let pushed_to : IsTied ps d now = tied_update c d ps now id k ((stamp, x) ∷ versions_at c id) tied (sym at) pushing (omega (arith, low)) (above, tied.falls k id (sym at)) in
+    let pushed_to : IsTied ps d now = tied_update c d ps now id k ((stamp, x) ∷ versions_at c id) tied (sym at) pushing (omega (arith, low)) (λ z. absurd (omega (arith, first, low, z))) (above, tied.falls k id (sym at)) in
     let one = pushed c d ps now id stamp k x tied at pushing in
     record {
       tied = tied_cut d e ps now id horizon k pushed_to at cutting;
@@ -32,10 +32,10 @@ cut_chain c d e ps now id stamp horizon k x tied at pushing cutting low newest =
 
 -- both at once
 pub cut_at_once : (c e : State) (ps : Pairs) (now id stamp horizon : ℕ) (k : Reference) (x : Option (List ℕ)) → IsTied ps c now → Some id ≡ find ref_cmp k ps
-    → Updates c e id (Some (left_after horizon ((stamp, x) ∷ versions_at c id))) → stamp ≤ now → IsAbove stamp (versions_of (versions_in c ps) k) → CutChain c e ps now id stamp horizon k x
-cut_at_once c e ps now id stamp horizon k x tied at updates low newest =
+    → Updates c e id (Some (left_after horizon ((stamp, x) ∷ versions_at c id))) → 0 < stamp → stamp ≤ now → IsAbove stamp (versions_of (versions_in c ps) k) → CutChain c e ps now id stamp horizon k x
+cut_at_once c e ps now id stamp horizon k x tied at updates first low newest =
     let b = between c e id ((stamp, x) ∷ versions_at c id) (left_after horizon ((stamp, x) ∷ versions_at c id)) (tied.opened k id (sym at)) updates in
-    cut_chain c b.middle e ps now id stamp horizon k x tied at b.before (subst (λ vs. Updates b.middle e id (Some (left_after horizon vs))) (sym (ap listed b.before.changed)) b.behind) low newest
+    cut_chain c b.middle e ps now id stamp horizon k x tied at b.before (subst (λ vs. Updates b.middle e id (Some (left_after horizon vs))) (sym (ap listed b.before.changed)) b.behind) first low newest
 
 module _ (c e : State) (ps : Pairs) (now id stamp horizon : ℕ) (k : Reference) (x : Option (List ℕ)) (is : CutChain c e ps now id stamp horizon k x) (at : Some id ≡ find ref_cmp k ps) where
   pub tied_bare : (f : State) → Updates e f id None → IsTied (without ref_cmp k ps) f now

@@ -7,5 +7,6 @@ pub mod RangeLemmas
 pub mod RowLemmas
 pub mod SeekLemmas
 pub mod SetLemmas
+pub mod ShortLemmas
 pub mod TiedLemmas
 pub mod TurnLemmas

@@ -127,10 +127,10 @@ module _ (d e : State) (ps : Pairs) (now id stamp h : ℕ) (k : Reference) (v : 
       pushed d e (put ref_cmp k id ps) now id stamp k (Some v) tied (found_put k id ps) updates
       ∙ ap (with_version stamp (k, Some v)) is ∙ set_fresh h stamp k v m none
 
-  pub tied_set : stamp ≤ now → chain_at d id ≡ Some [] → IsTied (put ref_cmp k id ps) e now
-  tied_set low fresh =
+  pub tied_set : 0 < stamp → stamp ≤ now → chain_at d id ≡ Some [] → IsTied (put ref_cmp k id ps) e now
+  tied_set first low fresh =
       let above : IsAbove stamp (versions_at d id) = subst (λ (o : Option Row). IsAbove stamp (listed o)) (sym fresh) tt in
-      tied_update d e (put ref_cmp k id ps) now id k ((stamp, Some v) ∷ versions_at d id) tied (sym (found_put k id ps)) updates (omega (arith, low)) (above, tied.falls k id (sym (found_put k id ps)))
+      tied_update d e (put ref_cmp k id ps) now id k ((stamp, Some v) ∷ versions_at d id) tied (sym (found_put k id ps)) updates (omega (arith, low)) (λ z. absurd (omega (arith, first, low, z))) (above, tied.falls k id (sym (found_put k id ps)))
 
 -- what follows where it was done does so where it may have been done
 pub where_done : {T E : Type 0} {P Q : Type 0} (r : Result T E) → OnOk r P → (P → Q) → OnOk r Q

@@ -94,6 +94,7 @@ tied_back c d e ps now id tied vacant opening closing =
       opened = λ q i at. subst IsSome (sym (same q i at)) (tied.opened q i at);
       apart = tied.apart;
       settled = λ q i at. subst (λ x. IsAbove (suc now) (listed x)) (sym (same q i at)) (tied.settled q i at);
+      fresh = λ z q i at. ap listed (same q i at) ∙ tied.fresh z q i at;
       falls = λ q i at. subst (λ x. IsFalling (listed x)) (sym (same q i at)) (tied.falls q i at);
       counted =
           let one : slot_count {A = Row} (Some []) ≡ 1 = refl in
@@ -155,6 +156,10 @@ tied_put c d ps now id k tied none vacant updates =
         | inl e ↦ subst (λ x. IsAbove (suc now) (listed x)) (sym updates.changed ∙ ap (chain_at d) e.1) tt
         | inr e ↦ subst (λ x. IsAbove (suc now) (listed x)) (sym (before.same q i e)) (tied.settled q i e)
       ];
+      fresh = λ z q i at. elim (put_cases k id ps q i at) as (λ _. versions_at d i ≡ []) [
+        | inl e ↦ ap listed (ap (chain_at d) (sym e.1) ∙ updates.changed)
+        | inr e ↦ ap listed (before.same q i e) ∙ tied.fresh z q i e
+      ];
       falls = λ q i at. elim (put_cases k id ps q i at) as (λ _. IsFalling (versions_at d i)) [
         | inl e ↦ subst (λ x. IsFalling (listed x)) (sym updates.changed ∙ ap (chain_at d) e.1) tt
         | inr e ↦ subst (λ x. IsFalling (listed x)) (sym (before.same q i e)) (tied.falls q i e)
@@ -199,8 +204,8 @@ versions_update c d ps now id k vs tied at updates = same_get _ _ (λ q.
       | inr e ↦ ap (λ x. Some (listed x)) (updates.others i e.1) ∙ ap (λ b. cond b (Some vs) (Some (versions_at c i))) (sym e.0)
     ]
 
-pub tied_update : (c d : State) (ps : Pairs) (now id : ℕ) (k : Reference) (vs : Row) → IsTied ps c now → find ref_cmp k ps ≡ Some id → Updates c d id (Some vs) → IsAbove (suc now) vs → IsFalling vs → IsTied ps d now
-tied_update c d ps now id k vs tied at updates low falling = record {
+pub tied_update : (c d : State) (ps : Pairs) (now id : ℕ) (k : Reference) (vs : Row) → IsTied ps c now → find ref_cmp k ps ≡ Some id → Updates c d id (Some vs) → IsAbove (suc now) vs → (now ≡ 0 → vs ≡ []) → IsFalling vs → IsTied ps d now
+tied_update c d ps now id k vs tied at updates low none falling = record {
   sorted = tied.sorted;
   opened = λ q i there. elim (other_or c ps now k q id i tied at there) as (λ _. IsOpen d i) [
     | inl e ↦ subst IsSome (sym updates.changed ∙ ap (chain_at d) (sym e.1)) refl
@@ -210,6 +215,10 @@ tied_update c d ps now id k vs tied at updates low falling = record {
   settled = λ q i there. elim (other_or c ps now k q id i tied at there) as (λ _. IsAbove (suc now) (versions_at d i)) [
     | inl e ↦ subst (λ x. IsAbove (suc now) (listed x)) (sym updates.changed ∙ ap (chain_at d) (sym e.1)) low
     | inr e ↦ subst (λ x. IsAbove (suc now) (listed x)) (sym (updates.others i e.1)) (tied.settled q i there)
+  ];
+  fresh = λ z q i there. elim (other_or c ps now k q id i tied at there) as (λ _. versions_at d i ≡ []) [
+    | inl e ↦ ap listed (ap (chain_at d) e.1 ∙ updates.changed) ∙ none z
+    | inr e ↦ ap listed (updates.others i e.1) ∙ tied.fresh z q i there
   ];
   falls = λ q i there. elim (other_or c ps now k q id i tied at there) as (λ _. IsFalling (versions_at d i)) [
     | inl e ↦ subst (λ x. IsFalling (listed x)) (sym updates.changed ∙ ap (chain_at d) (sym e.1)) falling
@@ -235,6 +244,7 @@ tied_later c ps now later tied le = record {
   opened = tied.opened;
   apart = tied.apart;
   settled = λ q id e. above_later now later (versions_at c id) le (tied.settled q id e);
+  fresh = λ z. tied.fresh (omega (arith, le, z));
   falls = tied.falls;
   counted = tied.counted;
 }
@@ -246,6 +256,15 @@ low_in c ps now tied q = subst (λ o. IsAbove (suc now) (listed o)) (sym (get_in
     by_found : (o : Option ℕ) → find ref_cmp q ps ≡ o → IsAbove (suc now) (listed (option_map (versions_at c) o))
     by_found None e = tt
     by_found (Some id) e = tied.settled q id e
+
+-- where now is 0 there is nothing at it
+pub nothing_in : (c : State) (ps : Pairs) (now : ℕ) → IsTied ps c now → now ≡ 0 → content_at (versions_in c ps) 0 ≡ finmap.empty
+nothing_in c ps now tied z = same_map ref_cmp_total ref_cmp-IsAntisymmetric (content_at (versions_in c ps) 0) finmap.empty (λ q.
+    get_content (versions_in c ps) 0 q ∙ ap (option_and_then (at_of 0)) (get_in c ps q tied.sorted) ∙ by_found q (find ref_cmp q ps) refl ∙ sym (finmap.get-empty ref_cmp q))
+  where
+    by_found : (q : Reference) (o : Option ℕ) → find ref_cmp q ps ≡ o → option_and_then (at_of 0) (option_map (versions_at c) o) ≡ None
+    by_found q None e = refl
+    by_found q (Some id) e = ap (at_of 0) (tied.fresh z q id e)
 
 -- ---- what the look-ups of the tree say
 
@@ -312,6 +331,7 @@ tied_without c d ps now id k tied at updates = record {
   opened = λ q i e. let w = without_cases k ps q i e in subst IsSome (sym (updates.others i (not_taken c ps now k q id i tied (sym at) w.0 w.1))) (tied.opened q i w.1);
   apart = λ q r i e f. let v = without_cases k ps q i e in let w = without_cases k ps r i f in tied.apart q r i v.1 w.1;
   settled = λ q i e. let w = without_cases k ps q i e in subst (λ x. IsAbove (suc now) (listed x)) (sym (updates.others i (not_taken c ps now k q id i tied (sym at) w.0 w.1))) (tied.settled q i w.1);
+  fresh = λ z q i e. let w = without_cases k ps q i e in ap listed (updates.others i (not_taken c ps now k q id i tied (sym at) w.0 w.1)) ∙ tied.fresh z q i w.1;
   falls = λ q i e. let w = without_cases k ps q i e in subst (λ x. IsFalling (listed x)) (sym (updates.others i (not_taken c ps now k q id i tied (sym at) w.0 w.1))) (tied.falls q i w.1);
   counted =
       let none : slot_count {A = Row} None ≡ 0 = refl in
@@ -348,7 +368,7 @@ cut_row c d ps now id horizon k tied at updates =
 pub tied_cut : (c d : State) (ps : Pairs) (now id horizon : ℕ) (k : Reference) → IsTied ps c now → Some id ≡ find ref_cmp k ps → Updates c d id (Some (left_after horizon (versions_at c id))) → IsTied ps d now
 tied_cut c d ps now id horizon k tied at updates =
     tied_update c d ps now id k (left_after horizon (versions_at c id)) tied (sym at) updates
-    (IsAbove-left_after horizon (suc now) (versions_at c id) (tied.settled k id (sym at))) (IsFalling-left_after horizon (versions_at c id) (tied.falls k id (sym at)))
+    (IsAbove-left_after horizon (suc now) (versions_at c id) (tied.settled k id (sym at))) (λ z. ap (left_after horizon) (tied.fresh z k id (sym at))) (IsFalling-left_after horizon (versions_at c id) (tied.falls k id (sym at)))
 
 pub no_versions : (vs : Row) → None ≡ newest_of vs → vs ≡ []
 no_versions [] e = refl

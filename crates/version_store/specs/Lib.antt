@@ -1,3 +1,4 @@
 pub mod laws
+pub mod Held
 pub mod Tied
 pub mod Versions

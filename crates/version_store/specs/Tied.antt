@@ -31,11 +31,13 @@ abbrev pub AreKeysOf : Versions → List (Reference × ℕ) → Type 0
 AreKeysOf m [] = Unit {0}
 AreKeysOf m (p ∷ ps) = (contains_key m p.0 ≡ true) × AreKeysOf m ps
 
--- the keys rise, each has an open chain, no chain is named twice, no other is open, no version is after now, and stamps fall
+-- the keys rise, each has an open chain, no chain is named twice, no other is open, no version is after now, none is there
+-- where that is 0, and stamps fall
 pub record IsTied (pairs : List (Reference × ℕ)) (chains : ChainsState (List ℕ)) (now : ℕ) : Type 0 where
   pub sorted : is_sorted ref_cmp pairs ≡ true
   pub opened : (q : Reference) (id : ℕ) → find ref_cmp q pairs ≡ Some id → IsOpen chains id
   pub apart : (q r : Reference) (id : ℕ) → find ref_cmp q pairs ≡ Some id → find ref_cmp r pairs ≡ Some id → eq_by_cmp ref_cmp q r ≡ true
   pub settled : (q : Reference) (id : ℕ) → find ref_cmp q pairs ≡ Some id → IsAbove (suc now) (versions_at chains id)
+  pub fresh : now ≡ 0 → (q : Reference) (id : ℕ) → find ref_cmp q pairs ≡ Some id → versions_at chains id ≡ []
   pub falls : (q : Reference) (id : ℕ) → find ref_cmp q pairs ≡ Some id → IsFalling (versions_at chains id)
   pub counted : open_count chains ≡ length pairs

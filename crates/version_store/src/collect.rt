@@ -8,13 +8,13 @@ ghost use Rattle.globals.specs.Cuts.{stands_before};
 ghost use Rattle.version_chain.specs.Cut.{left_after};
 ghost use Rattle.version_store.specs.Versions.{KeepsCells, content_at, versions_of, is_behind, is_bare, tidied};
 
-use crate::store::Store;
+use crate::store::KeyedStore;
 use globals::Cut;
 use key_codec::Key;
 use key_map::CutPoint;
 use refusal::Refusal;
 
-impl Store {
+impl KeyedStore {
     /// Raises the cut to the horizon, where it is below. Content below the cut may go.
     ///
     /// Refusals: `Ahead` where the horizon is after now. After it nothing has changed.

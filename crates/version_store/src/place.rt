@@ -5,7 +5,7 @@ ghost use Rattle.collation.specs.Reference.{Reference};
 ghost use Rattle.version_store.specs.Versions.{Versions, content_at, versions_of, placed, all_placed};
 ghost use Rattle.version_store.specs.Tied.{AreKeysOf};
 
-use crate::store::Store;
+use crate::store::KeyedStore;
 use btree::{Trail, Walk};
 use collation::Text;
 use globals::Cut;
@@ -37,7 +37,7 @@ fn count_along(walk: Walk<'_, Key, ChainId>, changes: &[(Key, Option<Text>)]) ->
     count
 }
 
-impl Store {
+impl KeyedStore {
     // Gives a reference without a chain an empty one, by the trail of its look-up.
     fn place_new(&mut self, alloc: Global, key: Key, trail: &Trail) -> Result<(), AllocError>
         requires { finmap.get self.old.versions key ≡ None }

@@ -6,7 +6,7 @@ ghost use Rattle.version_chain.specs.Versions.{newest_of};
 ghost use Rattle.version_store.specs.Versions.{newest_among, newest_between, versions_of, IsNewestIn, later as later_spec};
 ghost use Rattle.version_store.specs.Tied.{rows, newest_below, AreOpen};
 
-use crate::store::Store;
+use crate::store::KeyedStore;
 use btree::Walk;
 use collation::Text;
 use globals::{Cut, stands_before};
@@ -74,7 +74,7 @@ fn newest_before(walk: Walk<'_, Key, ChainId>, high: Cut<'_>, chains: &Chains<Te
     }
 }
 
-impl Store {
+impl KeyedStore {
     /// The newest stamp of a reference's versions; none where it has none. An absence counts. Takes no memory.
     pub fn newest_of(&self, key: &Key) -> Option<u64>
         ensures { result ≡ newest_of (versions_of self.now.versions key.now) }

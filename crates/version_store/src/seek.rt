@@ -5,7 +5,7 @@ ghost use Rattle.globals.specs.Cuts.{entries_from, first_from_cut, last_before_c
 ghost use Rattle.version_store.specs.Versions.{content_at, seen_at, first_of};
 ghost use Rattle.version_store.specs.Tied.{rows, AreOpen};
 
-use crate::store::Store;
+use crate::store::KeyedStore;
 use btree::{Walk, WalkBack};
 use collation::Text;
 use globals::{Cut, Run};
@@ -77,7 +77,7 @@ fn gather_valued<'v>(
     }
 }
 
-impl Store {
+impl KeyedStore {
     // The first reference that has a value at the stamp and doesn't stand before the cut, with the value. Mostly that is
     // the first of all, which is found without a walk.
     pub(crate) fn next_at(&self, cut: Cut<'_>, stamp: u64) -> Option<(&Key, &Text)>

@@ -5,13 +5,13 @@ ghost use Rattle.collation.specs.Order.{ref_cmp};
 ghost use Rattle.collation.specs.Reference.{Reference};
 ghost use Rattle.version_store.specs.Versions.{IsSetAt, KeepsCells, cells_under, content_at, versions_of, row_cut};
 
-use crate::store::Store;
+use crate::store::KeyedStore;
 use btree::Trail;
 use collation::Text;
 use key_codec::Key;
 use std::alloc::{AllocError, Global};
 
-impl Store {
+impl KeyedStore {
     // Sets a reference that is placed, and cuts it; else the value comes back, and where the look-up went.
     fn set_placed(&mut self, stamp: u64, cut: u64, key: &Key, value: Text) -> Option<(Text, Trail)>
         requires stamp { self.old.present < stamp }

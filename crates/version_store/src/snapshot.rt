@@ -1,5 +1,5 @@
 //! Content at one stamp.
-use crate::store::Store;
+use crate::store::KeyedStore;
 use collation::Text;
 use globals::{Cut, OrderedView, Run};
 use key_codec::Key;
@@ -8,7 +8,7 @@ use std::marker::Model;
 /// The content of a store at one stamp. It is seen as that database, and takes no memory.
 #[derive(Drop)]
 pub struct Snapshot<'a> {
-    pub(crate) store: &'a Store,
+    pub(crate) store: &'a KeyedStore,
     pub(crate) stamp: u64,
 }
 

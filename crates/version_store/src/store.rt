@@ -20,7 +20,7 @@ use version_chain::{ChainId, Chains};
 
 /// Versions of a database, in a tree from keys to ids and chains by id.
 #[derive(Drop)]
-pub struct Store {
+pub struct KeyedStore {
     pub(crate) tree: Tree<Key, ChainId>,
     pub(crate) chains: Chains<Text>,
     pub(crate) present: u64,
@@ -29,7 +29,7 @@ pub struct Store {
     pub(crate) near: Near,
 }
 
-impl Model for Store {
+impl Model for KeyedStore {
     ghost use Rattle.std.specs.Prelude.{◌≤◌};
     ghost use Rattle.version_store.specs.Versions.{Stored, stored_code};
     ghost use Rattle.version_store.specs.Tied.{versions_in, IsTied};
@@ -43,12 +43,12 @@ impl Model for Store {
     ghost invariant = { λ s. IsTied s.tree.pairs s.chains s.present × (s.cut ≤ s.present) };
 }
 
-impl Store {
+impl KeyedStore {
     /// A store without references, at stamp 0. Takes no memory.
-    pub fn new(alloc: Global) -> Store
+    pub fn new(alloc: Global) -> KeyedStore
         ensures { result ≡ record { versions = finmap.empty; present = 0; cut = 0; spare = 0; mark = None } }
     {
-        Store {
+        KeyedStore {
             tree: Tree::new(alloc),
             chains: Chains::new(alloc),
             present: 0,
@@ -58,11 +58,13 @@ impl Store {
         }
     }
 
-    /// The newest stamp. No version is after it, and the stamps of each reference's versions fall.
+    /// The newest stamp. No version is after it, and the stamps of each reference's versions fall; where it is 0 there is
+    /// no version.
     pub fn now(&self) -> u64
         ensures present { result ≡ self.now.present }
         ensures settled { (r : Reference) → IsAbove (suc self.now.present) (versions_of self.now.versions r) }
         ensures falls { (r : Reference) → IsFalling (versions_of self.now.versions r) }
+        ensures nothing { self.now.present ≡ 0 → content_at self.now.versions 0 ≡ finmap.empty }
         ensures cut { self.now.cut ≤ self.now.present }
     {
         self.present

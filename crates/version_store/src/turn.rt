@@ -6,7 +6,7 @@ ghost use Rattle.collation.specs.Order.{ref_cmp};
 ghost use Rattle.globals.specs.Cuts.{stands_before as stands_before_spec};
 ghost use Rattle.version_store.specs.Versions.{next_in_turn, keys_of};
 
-use crate::store::Store;
+use crate::store::KeyedStore;
 use btree::Walk;
 use globals::{Cut, stands_before};
 use key_codec::Key;
@@ -53,7 +53,7 @@ fn copy_keys_before(
     Ok(())
 }
 
-impl Store {
+impl KeyedStore {
     // Puts copies of the keys that are next in turn after the others.
     fn copy_next(&self, limit: usize, keys: &mut Vec<Key>) -> Result<(), AllocError>
         requires { length keys.old.items ≡ 0 }

@@ -7,15 +7,16 @@ ghost use Rattle.collation.specs.Changes.{AreOnce};
 ghost use Rattle.version_chain.specs.Versions.{IsAbove};
 ghost use Rattle.version_store.specs.Versions.{KeepsCells, AllKeepCells, content_at, versions_of, row_after, with_version, written, written_and_cut, changed, row_cut, tidied, ArePlaced, AreBelow};
 
-use crate::store::Store;
+use crate::store::KeyedStore;
 use collation::Text;
 use key_codec::Key;
 
-impl Store {
+impl KeyedStore {
     // Adds the newest version of a reference.
     fn push_one(&mut self, stamp: u64, key: &Key, value: Option<Text>)
         requires placed { finmap.contains_key self.old.versions key.now ≡ true }
         requires newest { IsAbove stamp (versions_of self.old.versions key.now) }
+        requires first { 0 < stamp }
         requires stamp { stamp ≤ self.old.present }
         requires reserved { 0 < self.old.spare }
         ensures versions { self.new.versions ≡ with_version stamp (key.now, value) self.old.versions }
@@ -36,6 +37,7 @@ impl Store {
         requires placed { ArePlaced self.old.versions changes.items }
         requires apart { AreOnce changes.items }
         requires newest { AreBelow stamp self.old.versions changes.items }
+        requires first { 0 < stamp }
         requires stamp { stamp ≤ self.old.present }
         requires reserved { vec_len changes ≤ self.old.spare }
         ensures versions { self.new.versions ≡ written stamp changes.items self.old.versions }
@@ -78,6 +80,7 @@ impl Store {
     fn push_and_cut(&mut self, stamp: u64, horizon: u64, key: &Key, value: Option<Text>)
         requires placed { finmap.contains_key self.old.versions key.now ≡ true }
         requires newest { IsAbove stamp (versions_of self.old.versions key.now) }
+        requires first { 0 < stamp }
         requires stamp { stamp ≤ self.old.present }
         requires reserved { 0 < self.old.spare }
         ensures versions { self.new.versions ≡ tidied horizon key.now (with_version stamp (key.now, value) self.old.versions) }
@@ -123,6 +126,7 @@ impl Store {
     fn write_one(&mut self, stamp: u64, horizon: u64, key: &Key, value: Option<Text>)
         requires placed { finmap.contains_key self.old.versions key.now ≡ true }
         requires newest { IsAbove stamp (versions_of self.old.versions key.now) }
+        requires first { 0 < stamp }
         requires stamp { stamp ≤ self.old.present }
         requires reserved { 0 < self.old.spare }
         ensures versions { self.new.versions ≡ tidied horizon key.now (with_version stamp (key.now, value) self.old.versions) }
@@ -149,6 +153,7 @@ impl Store {
         requires placed { ArePlaced self.old.versions changes.items }
         requires apart { AreOnce changes.items }
         requires newest { AreBelow stamp self.old.versions changes.items }
+        requires first { 0 < stamp }
         requires stamp { stamp ≤ self.old.present }
         requires reserved { vec_len changes ≤ self.old.spare }
         ensures versions { self.new.versions ≡ written_and_cut stamp horizon changes.items self.old.versions }

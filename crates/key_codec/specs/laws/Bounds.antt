@@ -7,9 +7,9 @@ use Rattle.std.specs.Cmp.{ranked, nat_cmp_is, tied_itself, nat_cmp_total}
 use Rattle.std.specs.Cmp.Lexicographic.{slice_cmp}
 use Rattle.collation.specs.Reference.{Reference}
 use Rattle.collation.specs.Database.{IsUnder}
-use Rattle.key_codec.specs.Key.{KeyForm, short_form, subscript_key, subscripts_key, key_in, key_of, IsFaultless}
+use Rattle.key_codec.specs.Key.{KeyForm, long_form, subscript_key, subscripts_key, key_in, key_of, IsFaultless}
 use Rattle.key_codec.specs.Form.{IsKeyForm}
-use Rattle.key_codec.specs.laws.Key.{short_form_is, FitsForm, fits_short, keys_cmp, one_key, one_subscript, begins_under, under_begins, has_tag}
+use Rattle.key_codec.specs.laws.Key.{long_form_is, FitsForm, fits_long, keys_cmp, one_key, one_subscript, begins_under, under_begins, has_tag}
 use Rattle.key_codec.specs.Bounds.{Begins, KeepsOrder, IsPrefixOf, AreBounds, BytesAreBefore, IsUpTo, KeysCompareAsReferences, EqualKeysAreEqualReferences, NoSubscriptBeginsAnother, KeysBeginAsReferences}
 
 pub same_front : (a u v : List ℕ) → slice_cmp nat_cmp (a ++ u) (a ++ v) ≡ slice_cmp nat_cmp u v
@@ -59,16 +59,16 @@ module _ (form : KeyForm) where
 
 -- the laws of the keys of `Ref`
 pub compare_as_references : KeysCompareAsReferences
-compare_as_references x y a b = keys_cmp short_form short_form_is x y (fits_short x a) (fits_short y b)
+compare_as_references x y a b = keys_cmp long_form long_form_is x y (fits_long x a) (fits_long y b)
 
 pub equal_keys : EqualKeysAreEqualReferences
-equal_keys x y a b e = one_key short_form short_form_is x y (fits_short x a) (fits_short y b) e
+equal_keys x y a b e = one_key long_form long_form_is x y (fits_long x a) (fits_long y b) e
 
 pub no_subscript_begins : NoSubscriptBeginsAnother
-no_subscript_begins s t a b w = (one_subscript short_form short_form_is s t w.0 [] a b (sym w.1 ∙ sym (append-nil (subscript_key short_form t)))).0
+no_subscript_begins s t a b w = (one_subscript long_form long_form_is s t w.0 [] a b (sym w.1 ∙ sym (append-nil (subscript_key long_form t)))).0
 
 pub begin_as_references : KeysBeginAsReferences
-begin_as_references r x a b = under_begins_with short_form short_form_is r x (fits_short r a) (fits_short x b)
+begin_as_references r x a b = under_begins_with long_form long_form_is r x (fits_long r a) (fits_long x b)
 
 pub keeps_order : (r : Reference) → IsFaultless r → KeepsOrder r (key_of r)
 keeps_order r a x b = compare_as_references r x a b
@@ -77,4 +77,4 @@ pub is_prefix : (r : Reference) → IsFaultless r → IsPrefixOf r (key_of r)
 is_prefix r a x b = begin_as_references r x a b
 
 pub are_bounds : (r : Reference) → IsFaultless r → AreBounds r (key_of r) (key_of r ++ 6 ∷ [])
-are_bounds r a x b = under_between short_form short_form_is r x (fits_short r a) (fits_short x b)
+are_bounds r a x b = under_between long_form long_form_is r x (fits_long r a) (fits_long x b)

@@ -1,5 +1,7 @@
 -- Lists of bytes that end, compared.
-use Rattle.std.proofs.Common.{◌≡◌, ℕ, ◌-◌, ◌<◌, List, [], ◌∷◌, ◌++◌, true, false, refl, ap, sym, ◌∙◌, arith, append_assoc}
+use Rattle.std.proofs.Common.{◌≡◌, ℕ, ◌+◌, ◌-◌, ◌*◌, ◌/◌, ◌%◌, ◌<◌, List, [], ◌∷◌, ◌++◌, true, false, refl, ap, sym, ◌∙◌, arith, append_assoc}
+use Rattle.std.proofs.Math.Nat.{mod-lt}
+use Rattle.std.proofs.lemmas.Nat.{div-add-mod'}
 use Rattle.std.proofs.lemmas.Bool.Decides.{nat_tests}
 use Rattle.std.proofs.lemmas.Cmp.{by_ranked}
 use Rattle.std.specs.Prelude.{◌==◌, nat_lt}
@@ -35,6 +37,22 @@ above a b o h = ap (λ r. ordering_then r o) (sym (nat_cmp_is a b Greater h))
 -- where the first two compare alike and so does the rest, all does
 pub joined : (a b : Ordering) (o p t : Ordering) → a ≡ b → o ≡ ordering_then p t → ordering_then a o ≡ ordering_then (ordering_then b p) t
 joined a b o p t e f = ap (λ r. ordering_then r o) e ∙ then_next b p t refl (ap (ordering_then b) f)
+
+-- two bytes, the higher first, are their number
+pub word_back : (n : ℕ) → n / 256 * 256 + n % 256 ≡ n
+word_back n = div-add-mod' n 256
+
+low_byte : (n : ℕ) → n % 256 < 256
+low_byte n = mod-lt n (omega arith)
+
+-- and compare as it
+pub two_cmp : (m n : ℕ) (t : Ordering) → ordering_then (nat_cmp (m / 256) (n / 256)) (ordering_then (nat_cmp (m % 256) (n % 256)) t) ≡ ordering_then (nat_cmp m n) t
+two_cmp m n t =
+    by_ranked _ _ _ (nat_cmp (m / 256) (n / 256)) (ranked (m / 256) (n / 256) _ refl)
+    (λ r l. ap (λ o. ordering_then o (ordering_then (nat_cmp (m % 256) (n % 256)) t)) r ∙ sym (below m n t (omega (arith, word_back m, word_back n, low_byte m, low_byte n))))
+    (λ r e. ap (λ o. ordering_then o (ordering_then (nat_cmp (m % 256) (n % 256)) t)) r
+    ∙ ap (λ o. ordering_then o t) (same_cmp (m % 256) (n % 256) m n (λ h. omega (arith, word_back m, word_back n)) (λ h. omega (arith, word_back m, word_back n)) (λ h. omega (arith, word_back m, word_back n))))
+    (λ r l. ap (λ o. ordering_then o (ordering_then (nat_cmp (m % 256) (n % 256)) t)) r ∙ sym (above m n t (omega (arith, word_back m, word_back n, low_byte m, low_byte n))))
 
 pub rising_cmp : (ds es u v : List ℕ) → list_all is_ascii_digit ds ≡ true → list_all is_ascii_digit es ≡ true →
     slice_cmp nat_cmp (rising ds ++ u) (rising es ++ v) ≡ ordering_then (slice_cmp nat_cmp ds es) (slice_cmp nat_cmp u v)

@@ -18,9 +18,9 @@ use Rattle.collation.specs.Database.{begins_with, is_under}
 use Rattle.collation.specs.Order.{subscript_cmp, ref_cmp}
 use Rattle.collation.specs.laws.Order.{subscript_cmp-IsAntisymmetric, ref_cmp-IsAntisymmetric}
 use Rattle.refusal.specs.declared.Refusal.{Refusal}
-use Rattle.key_codec.specs.Key.{KeyForm, short_form, subscript_key, subscripts_key, key_in, key_of, AreSubscriptsWithin, IsSubscriptWithin, IsFaultless, below_key, above_key, text_key}
+use Rattle.key_codec.specs.Key.{KeyForm, long_form, subscript_key, subscripts_key, key_in, key_of, AreSubscriptsWithin, IsSubscriptWithin, IsFaultless, below_key, above_key, text_key}
 use Rattle.key_codec.specs.Form.{IsKeyForm}
-use Rattle.key_codec.specs.laws.Bytes.{named_cmp}
+use Rattle.key_codec.specs.laws.Bytes.{named_cmp, two_cmp}
 use Rattle.key_codec.specs.laws.Subscripts.{subscripts_cmp, tied_lists, tied_same}
 
 -- a name has no byte 0
@@ -37,8 +37,8 @@ name_above [] e = cc
 name_above (zero ∷ bs) e = cc
 name_above (suc b ∷ bs) e = and_from _ _ (grind (arith, nat_tests)) (letters_above bs (first_so _ _ (second_so _ (list_all is_letter_or_digit bs && nat_le (length (suc b ∷ bs)) most_name_bytes) e)))
 
-pub short_form_is : IsKeyForm short_form
-short_form_is = record { places = λ m n u v _ _. refl; values = λ x y _ _ _ _. refl }
+pub long_form_is : IsKeyForm long_form
+long_form_is = record { places = λ m n u v _ _. two_cmp m n (slice_cmp nat_cmp u v); values = λ x y _ _ _ _. refl }
 
 -- a reference within it
 pub record FitsForm (form : KeyForm) (r : Reference) : Type 0 where
@@ -47,7 +47,7 @@ pub record FitsForm (form : KeyForm) (r : Reference) : Type 0 where
 
 -- the first subscript, and the others, have no fault either
 pub record HasFaultless (s : List ℕ) (ss : List (List ℕ)) : Type 0 where
-  pub here : IsSubscriptWithin short_form s
+  pub here : IsSubscriptWithin long_form s
   pub rest : subscripts_fault ss ≡ None
 
 pub subscripts_of : (s : List ℕ) (ss : List (List ℕ)) → subscripts_fault (s ∷ ss) ≡ None → HasFaultless s ss
@@ -58,11 +58,11 @@ subscripts_of s ss e = at (length s == 0) (nat_lt limit (length s)) refl refl e
     at false true p q e = cc
     at false false p q e = record { here = record { some = grind (arith, nat_tests); short = grind (arith, nat_tests) }; rest = e }
 
-pub are_subscripts : (ss : List (List ℕ)) → subscripts_fault ss ≡ None → AreSubscriptsWithin short_form ss
+pub are_subscripts : (ss : List (List ℕ)) → subscripts_fault ss ≡ None → AreSubscriptsWithin long_form ss
 are_subscripts [] e = tt
 are_subscripts (s ∷ ss) e = let is = subscripts_of s ss e in (is.here, are_subscripts ss is.rest)
 
-pub no_fault : (ss : List (List ℕ)) → AreSubscriptsWithin short_form ss → subscripts_fault ss ≡ None
+pub no_fault : (ss : List (List ℕ)) → AreSubscriptsWithin long_form ss → subscripts_fault ss ≡ None
 no_fault [] a = refl
 no_fault (s ∷ ss) a =
     let is = a.0 in
@@ -79,8 +79,8 @@ pub not_too_many : (ss : List (List ℕ)) → reference_fault ss ≡ None → su
 not_too_many ss e = (not_over (nat_lt most_subscripts (length ss)) _ e).1
 
 -- what a `Ref` keeps lies within the short form's limit
-pub fits_short : (r : Reference) → IsFaultless r → FitsForm short_form r
-fits_short r is = record { name = is.name; subscripts = are_subscripts r.subscripts (not_too_many r.subscripts is.subscripts) }
+pub fits_long : (r : Reference) → IsFaultless r → FitsForm long_form r
+fits_long r is = record { name = is.name; subscripts = are_subscripts r.subscripts (not_too_many r.subscripts is.subscripts) }
 
 -- the keys of two lists of subscripts stand one after the other
 pub subscripts_key-append : (form : KeyForm) (xs ys : List (List ℕ)) → subscripts_key form (xs ++ ys) ≡ subscripts_key form xs ++ subscripts_key form ys
@@ -88,8 +88,8 @@ subscripts_key-append form [] ys = refl
 subscripts_key-append form (x ∷ xs) ys = ap (λ t. subscript_key form x ++ t) (subscripts_key-append form xs ys) ∙ sym (append_assoc (subscript_key form x) (subscripts_key form xs) (subscripts_key form ys))
 
 -- the key of a reference with further subscripts is its key and theirs after it
-pub key_of-append : (r : Reference) (more : List (List ℕ)) → key_of (record { name = r.name; subscripts = r.subscripts ++ more }) ≡ key_of r ++ subscripts_key short_form more
-key_of-append r more = ap (λ t. r.name ++ 0 ∷ t) (subscripts_key-append short_form r.subscripts more) ∙ sym (append_assoc r.name (0 ∷ subscripts_key short_form r.subscripts) (subscripts_key short_form more))
+pub key_of-append : (r : Reference) (more : List (List ℕ)) → key_of (record { name = r.name; subscripts = r.subscripts ++ more }) ≡ key_of r ++ subscripts_key long_form more
+key_of-append r more = ap (λ t. r.name ++ 0 ∷ t) (subscripts_key-append long_form r.subscripts more) ∙ sym (append_assoc r.name (0 ∷ subscripts_key long_form r.subscripts) (subscripts_key long_form more))
 
 -- a subscript's key has a first byte, from 2 to 5
 pub record HasTag (key : List ℕ) : Type 0 where

@@ -9,12 +9,12 @@ use Rattle.key_codec.proofs.read_subscript.number_of.Goals as goal
 
 pub returns-in_default-clause-none : goal.returns-in_default-clause-none
 returns-in_default-clause-none c = λ s is.
-    let has : HasKeyParts c.args.negative c.args.byte c.args.front.now s = key_parts c.args.negative c.args.byte c.args.front.now s c.requires is in
+    let has : HasKeyParts c.args.negative c.args.word c.args.front.now s = key_parts c.args.negative c.args.word c.args.front.now s c.requires is in
     c.in_default.ensures.none (point_at scale s) has.above has.within has.point
 
 pub returns-then-not-are_digit_bytes-clause-none : goal.returns-then-not-are_digit_bytes-clause-none
 returns-then-not-are_digit_bytes-clause-none c = λ s is.
-    let has : HasKeyParts c.args.negative c.args.byte c.args.front.now s = key_parts c.args.negative c.args.byte c.args.front.now s c.requires is in
+    let has : HasKeyParts c.args.negative c.args.word c.args.front.now s = key_parts c.args.negative c.args.word c.args.front.now s c.requires is in
     let form = has.number.placed.form in
     let low : true ≡ false = sym (ap (list_all (λ b. nat_le b 10)) has.digits ∙ digit_bytes c.args.negative _ form.digits) ∙ sym c.are_digit_bytes.ensures ∙ c.if-not-are_digit_bytes.true in
     cc
@@ -25,7 +25,7 @@ returns-then-not-is_number_of-clause-none c = λ s is.
     let text : c.as_slice.result.now ≡ signed c.args.negative (written_at scale c.in-Some.place c.as_slice-2.result.now) =
     c.as_slice.ensures.value ∙ c.in_ok-draft.ensures ∙ ap (λ ds. signed c.args.negative (written_at scale c.in-Some.place ds)) (sym digits) in
     let number : IsNumberOf c.as_slice.result.now c.args.negative c.in-Some.place c.as_slice-2.result.now =
-    read_back c.args.negative c.args.byte c.in-Some.place c.args.front.now c.as_slice-2.result.now c.as_slice.result.now s c.requires is c.in-Some.ensures.some.0 c.in-Some.ensures.some.1 digits text in
+    read_back c.args.negative c.args.word c.in-Some.place c.args.front.now c.as_slice-2.result.now c.as_slice.result.now s c.requires is c.in-Some.ensures.some.0 c.in-Some.ensures.some.1 digits text in
     let clash : true ≡ false = sym (c.is_number_of.ensures.1 number) ∙ c.if-not-is_number_of.true in
     cc
 
@@ -35,5 +35,5 @@ returns-clause-some c =
     let low : list_all (λ b. nat_le b 10) c.args.front.now ≡ true = sym c.are_digit_bytes.ensures ∙ c.if-not-are_digit_bytes.false in
     let number : IsNumberOf c.as_slice.result.now c.args.negative c.in-Some.place c.as_slice-2.result.now = c.is_number_of.ensures.0 c.if-not-is_number_of.false in
     let same : c.as_slice.result.now ≡ c.in_ok-text.text = c.as_slice.ensures.value ∙ sym c.as_slice-3.ensures.value ∙ sym c.in_ok-text.ensures.ok in
-    subst (IsNumberKey c.args.negative c.args.byte c.args.front.now) same
-    (found_number c.args.negative c.args.byte c.in-Some.place c.args.front.now c.as_slice-2.result.now c.as_slice.result.now number c.in-Some.ensures.some.0 low digits)
+    subst (IsNumberKey c.args.negative c.args.word c.args.front.now) same
+    (found_number c.args.negative c.args.word c.in-Some.place c.args.front.now c.as_slice-2.result.now c.as_slice.result.now number c.in-Some.ensures.some.0 low digits)

@@ -1,6 +1,6 @@
 use Rattle.std.proofs.Common.{◌≡◌, ◌∙◌, ap, sym}
 use Rattle.std.specs.Prelude.{is_some}
-use Rattle.key_codec.specs.Key.{short_form, subscript_key}
+use Rattle.key_codec.specs.Key.{long_form, subscript_key}
 use Rattle.key_codec.specs.PartsKey.{parts_key}
 use Rattle.key_codec.proofs.Numbers.{parts_key_is}
 use Rattle.key_codec.proofs.write.push_judged.Goals as goal
@@ -9,5 +9,5 @@ pub returns-in-Some : goal.returns-in-Some
 returns-in-Some c =
     let canonic = sym c.requires.judged.test ∙ ap is_some c.in-Some.is in
     let known = rw c.in-Some.is at c.requires.judged.parts in
-    let same : parts_key c.in-Some.number ≡ subscript_key short_form c.args.subscript.now = parts_key_is c.args.subscript.now c.in-Some.number canonic c.requires.form known in
+    let same : parts_key long_form c.in-Some.number ≡ subscript_key long_form c.args.subscript.now = parts_key_is long_form c.args.subscript.now c.in-Some.number canonic c.requires.form known in
     rw same at c.push_number.ensures

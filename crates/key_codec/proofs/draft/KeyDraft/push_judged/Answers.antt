@@ -1,5 +1,5 @@
 use Rattle.std.proofs.Common.{◌++◌, ◌∙◌, ap, sym, Some, arith}
-use Rattle.key_codec.specs.Key.{short_form, subscript_key}
+use Rattle.key_codec.specs.Key.{long_form, subscript_key}
 use Rattle.std.specs.Option.{option_or}
 use Rattle.refusal.specs.declared.Refusal.TheVariants.{SubscriptTooLong}
 use Rattle.key_codec.proofs.Drafting.{drafted_empty, drafted_long, drafted_good, on_ok}
@@ -26,5 +26,5 @@ returns c = λ r is.
     (λ bytes. drafted_good c.args.self.now _ r c.args.subscript.now (sym c.is_empty.ensures ∙ c.if-is_empty.false) (omega (arith, c.if-subscript-gt-LONGEST_SUBSCRIPT.false)) is
     (record { few = λ h. added.count ∙ on.few h; many = λ h. added.count ∙ on.many h; name = added.name ∙ on.name })
     (added.fault ∙ on.fault) (added.open_end ∙ c.is_empty-self.ensures)
-    (λ n h f. bytes (sym added.name ∙ n) (omega (arith, added.count, h)) (sym added.fault ∙ f) ∙ ap (λ b. b.items ++ subscript_key short_form c.args.subscript.now) on.bytes))
+    (λ n h f. bytes (sym added.name ∙ n) (omega (arith, added.count, h)) (sym added.fault ∙ f) ∙ ap (λ b. b.items ++ subscript_key long_form c.args.subscript.now) on.bytes))
     added.bytes

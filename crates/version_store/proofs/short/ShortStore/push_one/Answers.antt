@@ -1,0 +1,32 @@
+use Rattle.std.proofs.Common.{sym, subst, arith}
+use Rattle.version_chain.specs.Versions.{IsAbove}
+use Rattle.version_store.proofs.TiedLemmas.{row_in, not_placed, pushed, tied_update}
+use Rattle.version_store.proofs.short.ShortStore.push_one.Goals as goal
+
+pub push_reserved-requires-clause-newest : goal.push_reserved-requires-clause-newest
+push_reserved-requires-clause-newest c =
+    let s = c.self.inside in
+    let at = rw c.in-Some.is at c.get.ensures.found in
+    let newest = rw (← c.self.view_is) at c.requires.newest in
+    subst (IsAbove c.args.stamp) (row_in s.chains s.tree.pairs c.args.key.now c.in-Some.id.now c.self.invariant.0.sorted at) newest
+
+pub unreachable-requires : goal.unreachable-requires
+unreachable-requires c =
+    let s = c.self.inside in
+    let at = rw c.in-None.is at c.get.ensures.found in
+    not_placed s.chains s.tree.pairs c.args.key.now c.self.invariant.0.sorted at (rw (← c.self.view_is) at c.requires.placed)
+
+pub invariant_of-self : goal.invariant_of-self
+invariant_of-self c =
+    let s = c.self.inside in
+    let at = rw c.in-Some.is at c.get.ensures.found in
+    let low = rw (← c.self.view_is) at c.requires.stamp in
+    let newest = rw (← c.self.view_is) at c.requires.newest in
+    let above = subst (IsAbove c.args.stamp) (row_in s.chains s.tree.pairs c.args.key.now c.in-Some.id.now c.self.invariant.0.sorted at) newest in
+    (tied_update s.chains c.push_reserved.new.self s.tree.pairs s.present c.in-Some.id.now c.args.key.now _ c.self.invariant.0 (sym at) c.push_reserved.ensures.chains (omega (arith, low)) (λ z. absurd (omega (arith, c.requires.first, low, z))) (above, c.self.invariant.0.falls c.args.key.now c.in-Some.id.now (sym at)), c.self.invariant.1)
+
+pub returns-clause-versions : goal.returns-clause-versions
+returns-clause-versions c =
+    let s = c.self.inside in
+    let at = rw c.in-Some.is at c.get.ensures.found in
+    rw (← c.self.view_is) (pushed s.chains c.push_reserved.new.self s.tree.pairs s.present c.in-Some.id.now c.args.stamp c.args.key.now c.args.value c.self.invariant.0 at c.push_reserved.ensures.chains)
