@@ -1,3 +1,8 @@
+pub mod Adopted
+pub mod Based
+pub mod Checkpoints
+pub mod Counting
+pub mod Dropped
 pub mod Exchanges
 pub mod Format
 pub mod History

@@ -3,6 +3,7 @@ use Rattle.std.specs.Prelude.{◌≡◌, ◌⊎◌, take, drop, Result, Ok, Err,
 use Rattle.std.specs.List.{flat_map}
 use Rattle.journal.specs.declared.unit.Unit.{Unit as JournalUnit}
 use Rattle.journal.specs.Format.{unit_bytes}
+use Rattle.journal.specs.Based.{Based, IsBaseOf}
 use Rattle.journal.specs.Kept.{job_of}
 use Rattle.journal.specs.Reading.{list_at, unit_at}
 use Rattle.journal.specs.Stored.{Each, FitsUnit}
@@ -43,6 +44,17 @@ pub record KeepsUnits (bytes : List ℕ) (end count newest : ℕ) : Type 0 where
   pub stands : Stands (take end bytes) count (units_in count (take end bytes))
   pub last : EndsAt (take end bytes) newest (units_in count (take end bytes))
 
+-- all units, those that are dropped among them, how many these are, and the bytes behind the units
+pub record Recorded : Type 0 where
+  pub units : List JournalUnit
+  pub base : ℕ
+  pub behind : List ℕ
+
+-- the base is what the dropped units leave, and a number of 64 bits counts all
+pub record KeepsBase (b : Based) (dropped units : List JournalUnit) : Type 0 where
+  pub base : IsBaseOf b dropped
+  pub counted : b.number + length units < 2 ^ 64
+
 -- bytes that are a unit of this job
 pub record IsUnitOf (bytes : List ℕ) (job : ℕ) (u : JournalUnit) : Type 0 where
   pub is : unit_in bytes ≡ Some u
@@ -51,12 +63,12 @@ pub record IsUnitOf (bytes : List ℕ) (job : ℕ) (u : JournalUnit) : Type 0 wh
   pub owner : job ≡ job_of u
 
 -- the unit that is prepared behind a log's units; where no job is noted there is none
-abbrev pub prepared_in : Option ℕ → Logged → Option JournalUnit
+abbrev pub prepared_in : Option ℕ → Recorded → Option JournalUnit
 prepared_in None log = None
 prepared_in (Some job) log = unit_in log.behind
 
 -- what a journal keeps: nothing behind its units, or a unit that has a number
-abbrev pub HoldsPrepared : Option ℕ → Logged → Type 0
+abbrev pub HoldsPrepared : Option ℕ → Recorded → Type 0
 HoldsPrepared None log = log.behind ≡ []
 HoldsPrepared (Some job) log = (length log.units + 1 < 2 ^ 64) × ((u : JournalUnit) × IsUnitOf log.behind job u)
 

@@ -1,3 +1,5 @@
+pub mod Adopted
+pub mod Checkpoints
 pub mod Exchanges
 pub mod History
 pub mod Log

@@ -1,6 +1,8 @@
 //! Laws of histories, stories and the bytes of a log.
-ghost use Rattle.std.specs.Prelude.{◌≡◌, ℕ, Bool, List, [], ◌∷◌, ◌++◌, ◌↔◌, None, Some, length};
+ghost use Rattle.std.specs.Prelude.{◌≡◌, ◌<◌, ◌≤◌, ℕ, Bool, List, [], ◌∷◌, ◌++◌, ◌↔◌, None, Some, length};
 ghost use Rattle.std.specs.List.{flat_map};
+ghost use Rattle.std.specs.FinMap as finmap;
+ghost use Rattle.collation.specs.Reference.{Reference};
 ghost use Rattle.collation.specs.declared.lock.LockCommand.{LockCommand};
 ghost use Rattle.collation.specs.Locks.{lock_refusal, lock_reply, locks_after, locks_after_commit, locks_after_back, locks_after_end};
 ghost use Rattle.command.specs.declared.access.DataCommand.{DataCommand};
@@ -11,11 +13,15 @@ ghost use Rattle.command.specs.declared.request.Reply.{Reply};
 ghost use Rattle.journal.specs.declared.unit.Exchange.{Exchange};
 ghost use Rattle.journal.specs.declared.unit.Unit.{Unit as JournalUnit};
 ghost use Rattle.journal.specs.declared.unit.Unit.TheVariants.{Lone, Whole, Lock, Back, End};
+ghost use Rattle.journal.specs.Adopted.{adopted_units};
+ghost use Rattle.journal.specs.Based.{database_of};
+ghost use Rattle.journal.specs.Checkpoints.{IsBehind, IsCheckpoint};
+ghost use Rattle.journal.specs.Counting.{tally_of};
 ghost use Rattle.journal.specs.Format.{unit_bytes};
-ghost use Rattle.journal.specs.History.{State, after, IsLegal};
+ghost use Rattle.journal.specs.History.{State, initial, after, IsLegal};
 ghost use Rattle.journal.specs.Reading.{unit_at};
 ghost use Rattle.journal.specs.Stored.{Each, FitsUnit};
-ghost use Rattle.journal.specs.Story.{Machine, story_of};
+ghost use Rattle.journal.specs.Story.{Machine, told, story_of};
 
 /// Units joined leave what the second leave after the first, and are legal exactly where both are, each from
 /// where it begins.
@@ -74,4 +80,21 @@ pub fn logs_read_back()
     ensures back { (u : JournalUnit) → (t : List ℕ) → FitsUnit u → unit_at (unit_bytes u ++ t) ≡ Some (u, t) }
     ensures apart { (u v : JournalUnit) → (s t : List ℕ) → FitsUnit u → FitsUnit v → unit_bytes u ++ s ≡ unit_bytes v ++ t → (u ≡ v) × (s ≡ t) }
     ensures logs { (us vs : List JournalUnit) → Each FitsUnit us → Each FitsUnit vs → flat_map unit_bytes us ≡ flat_map unit_bytes vs → us ≡ vs }
+{}
+
+/// Whatever a step is replied, a number that no open transaction began before stays one; and a checkpoint, which moves a
+/// base to the least open start, or to the last unit, moves it on and never back.
+pub fn bases_stay_behind()
+    ensures steps { (n job : ℕ) → (command : Command) → (reply : Reply) → (s : Machine) → IsBehind n s → IsBehind n (told job command reply s) }
+    ensures on { (b n : ℕ) → (s : Machine) → IsBehind b s → IsCheckpoint n s → b ≤ n }
+{}
+
+/// The units of a journal that takes a database over are a legal history from nothing, as many as the number says. They
+/// leave these references with their values, and no locks; and none of them counts for a job.
+pub fn adopted_units_leave_the_database()
+    ensures legal { (n : ℕ) → (nodes : List (Reference × List ℕ)) → IsLegal (adopted_units n nodes) initial }
+    ensures number { (n : ℕ) → (nodes : List (Reference × List ℕ)) → length (adopted_units n nodes) ≡ n }
+    ensures state { (n : ℕ) → (nodes : List (Reference × List ℕ)) → (n ≡ 0 → nodes ≡ [])
+        → after (adopted_units n nodes) initial ≡ record { map = database_of nodes; locks = finmap.empty } }
+    ensures tallies { (n : ℕ) → (nodes : List (Reference × List ℕ)) → (job : ℕ) → 0 < job → tally_of job (adopted_units n nodes) ≡ 0 }
 {}

@@ -14,28 +14,34 @@
 //! A `prepare_..` writes a unit at the end of the bytes, behind those of the units, and may be refused; `push_prepared`
 //! then counts it among them, copies nothing and can't be refused. A unit that is prepared and not pushed leaves nothing
 //! but room.
-//! SET ^A(12345)=12345 of job 1 has 19 bytes: 01 00, 0A 41 00 04 85 02 03 04 05 06 00, 05 31 32 33 34 35.
+//! SET ^A(12345)=12345 of job 1 has 20 bytes: 01 00, 0B 41 00 04 01 05 02 03 04 05 06 00, 05 31 32 33 34 35.
 //!
 //! Read `specs/History.antt`, `specs/Touching.antt`, `specs/Story.antt`; then `specs/Format.antt` and
 //! `specs/Reading.antt`; then `list.rt`, `log.rt`, `write.rt`.
 //! Not promised: the time of a unit's reading back.
 #![tactic(auto)]
 
+pub use base::Base;
 pub use exchanges::{ExchangeLog, ExchangeMark};
 pub use laws::{
-    joined_histories, joined_stories, locks_are_right_and_act, logs_read_back,
-    lone_commands_are_right_and_act, transactions_are_right_and_act,
+    adopted_units_leave_the_database, bases_stay_behind, joined_histories, joined_stories,
+    locks_are_right_and_act, logs_read_back, lone_commands_are_right_and_act,
+    transactions_are_right_and_act,
 };
 pub use list::{Journal, Receipt};
 pub use unit::{Exchange, Exchanges, Unit};
 pub use units::Units;
 
+mod base;
 mod before;
+mod chronicle;
 mod exchanges;
 mod laws;
 mod list;
 mod log;
+mod past;
 mod read;
+mod tallies;
 mod unit;
 mod units;
 mod write;

@@ -1,26 +1,32 @@
 //! The journal, and the receipts for its units.
-ghost use Rattle.std.specs.Prelude.{◌≡◌, List, ◌+◌, ◌<◌, ◌^◌, ◌-◌, [], ◌∷◌, ◌++◌, length, None, Some, IsSome, IfSome, OnOk, OnErr, IfOk, IfErr, IsErrOf, MatchOption};
+ghost use Rattle.std.specs.Prelude.{◌≡◌, List, ◌+◌, ◌<◌, ◌≤◌, ◌^◌, ◌-◌, [], ◌∷◌, ◌++◌, take, length, None, Some, IsSome, IfSome, OnOk, OnErr, IfOk, IfErr, IsErrOf, MatchOption};
 ghost use Rattle.std.specs.List.{flat_map};
 ghost use Rattle.journal.specs.declared.unit.Unit.{Unit as JournalUnit};
 ghost use Rattle.journal.specs.declared.unit.Unit.TheVariants.{Lone, Whole, Lock, Back, End};
+ghost use Rattle.std.specs.FinMap as finmap;
+ghost use Rattle.journal.specs.Adopted.{adopted_units};
+ghost use Rattle.journal.specs.Based.{IsBaseOf, database_of};
 ghost use Rattle.journal.specs.Format.{unit_bytes};
-ghost use Rattle.journal.specs.Kept.{job_of, HasNoRoom};
+ghost use Rattle.journal.specs.History.{initial, after};
+ghost use Rattle.journal.specs.Kept.{job_of, since, HasNoRoom};
 ghost use Rattle.journal.specs.Stored.{Each, FitsUnit};
 
+use crate::base::Base;
 use crate::before::Before;
+use crate::chronicle::Chronicle;
 use crate::exchanges::ExchangeLog;
-use crate::log::Log;
 use crate::{Unit, Units};
-use collation::{Job, LockCommand};
+use collation::{Job, LockCommand, Text};
 use command::{Answer, DataCommand};
+use key_codec::Key;
 use refusal::Refusal;
 use std::alloc::{AllocError, Global};
 use std::marker::Model;
 
 /// The units so far, as bytes, and behind them one that is prepared or none. It only grows.
-#[derive(Debug, Drop)]
+#[derive(Drop)]
 pub struct Journal {
-    log: Log,
+    log: Chronicle,
     prepared: Option<Job>,
 }
 
@@ -30,7 +36,7 @@ impl Model for Journal {
 
     ghost Value = { Kept };
 
-    ghost view = { λ j. record { units = j.log.units; prepared = prepared_in j.prepared j.log } };
+    ghost view = { λ j. record { units = j.log.units; base = j.log.base; prepared = prepared_in j.prepared j.log } };
 
     ghost invariant = { λ j. HoldsPrepared j.prepared j.log };
 }
@@ -73,10 +79,27 @@ impl Journal {
     /// A journal without units. Takes no memory.
     pub fn new(alloc: Global) -> Journal
         ensures units { result.units ≡ [] }
+        ensures base { result.base ≡ 0 }
         ensures prepared { result.prepared ≡ None }
     {
         Journal {
-            log: Log::new(alloc),
+            log: Chronicle::new(alloc),
+            prepared: None,
+        }
+    }
+
+    /// A journal that takes a database over: it begins with a base at this number, at which these are the references
+    /// with a value, nothing is locked, and no job has a tally. The next unit has the number after it. For contracts the
+    /// units up to it are a history that leaves just this (`adopted_units`); no bytes keep it. Takes no memory.
+    pub fn adopt(alloc: Global, number: u64, nodes: Vec<(Key, Text)>) -> Journal
+        requires sorted { nodes.items ≡ finmap.entries (database_of nodes.items) }
+        requires nothing { number ≡ 0 → nodes.items ≡ [] }
+        ensures units { result.units ≡ adopted_units number nodes.items }
+        ensures base { result.base ≡ number }
+        ensures prepared { result.prepared ≡ None }
+    {
+        Journal {
+            log: Chronicle::adopt(alloc, number, nodes),
             prepared: None,
         }
     }
@@ -90,29 +113,29 @@ impl Journal {
 
     /// How many bytes they take.
     pub fn size(&self) -> usize
-        ensures { result ≡ length (flat_map unit_bytes self.now.units) }
+        ensures { result ≡ length (flat_map unit_bytes (since self.now)) }
     {
         self.log.as_slice().len()
     }
 
     /// The bytes of the units, one after the other, in the format of docs/FORMATS.md, "Units".
     pub fn as_slice(&self) -> &[u8]
-        ensures bytes { result.now ≡ flat_map unit_bytes self.now.units }
-        ensures fit { Each FitsUnit self.now.units }
+        ensures bytes { result.now ≡ flat_map unit_bytes (since self.now) }
+        ensures fit { Each FitsUnit (since self.now) }
     {
         self.log.as_slice()
     }
 
     /// The units, the first with number 1, read back one by one.
     pub fn units(&self) -> Units<'_>
-        ensures { result ≡ self.now.units }
+        ensures { result ≡ since self.now }
     {
         self.log.units()
     }
 
     /// The unit that was pushed last, read back. Fails only for want of memory.
     pub fn newest(&self) -> Result<Option<Unit>, AllocError>
-        ensures { IfOk result (λ found. MatchOption found (self.now.units ≡ [])
+        ensures { IfOk result (λ found. MatchOption found (since self.now ≡ [])
             (λ unit. (before : List JournalUnit) × (self.now.units ≡ before ++ unit ∷ []))) }
     {
         self.log.newest()
@@ -129,6 +152,7 @@ impl Journal {
         answer: &Answer,
     ) -> Result<(), Refusal>
         ensures units { self.new.units ≡ self.old.units }
+        ensures base { self.new.base ≡ self.old.base }
         ensures prepared { OnOk result (self.new.prepared ≡ Some (Lone job command.now answer.now)) }
         ensures refused { OnErr result (self.new.prepared ≡ None) }
         ensures used_up { 2 ^ 64 - 1 < length self.old.units + 1 → IsErrOf result Refusal.StampsUsedUp }
@@ -144,6 +168,7 @@ impl Journal {
     /// Writes the unit of a transaction with these exchanges; refused as `prepare_lone`.
     pub fn prepare_whole(&mut self, job: Job, exchanges: &ExchangeLog) -> Result<(), Refusal>
         ensures units { self.new.units ≡ self.old.units }
+        ensures base { self.new.base ≡ self.old.base }
         ensures prepared { OnOk result (self.new.prepared ≡ Some (Whole job exchanges.now)) }
         ensures refused { OnErr result (self.new.prepared ≡ None) }
         ensures used_up { 2 ^ 64 - 1 < length self.old.units + 1 → IsErrOf result Refusal.StampsUsedUp }
@@ -165,6 +190,7 @@ impl Journal {
         had: bool,
     ) -> Result<(), Refusal>
         ensures units { self.new.units ≡ self.old.units }
+        ensures base { self.new.base ≡ self.old.base }
         ensures prepared { OnOk result (self.new.prepared ≡ Some (Lock job inside command.now had)) }
         ensures refused { OnErr result (self.new.prepared ≡ None) }
         ensures used_up { 2 ^ 64 - 1 < length self.old.units + 1 → IsErrOf result Refusal.StampsUsedUp }
@@ -180,6 +206,7 @@ impl Journal {
     /// Writes the unit of a rollback or restart; refused as `prepare_lone`.
     pub fn prepare_back(&mut self, job: Job) -> Result<(), Refusal>
         ensures units { self.new.units ≡ self.old.units }
+        ensures base { self.new.base ≡ self.old.base }
         ensures prepared { OnOk result (self.new.prepared ≡ Some (Back job)) }
         ensures refused { OnErr result (self.new.prepared ≡ None) }
         ensures used_up { 2 ^ 64 - 1 < length self.old.units + 1 → IsErrOf result Refusal.StampsUsedUp }
@@ -195,6 +222,7 @@ impl Journal {
     /// Writes the unit of a session's end; refused as `prepare_lone`.
     pub fn prepare_end(&mut self, job: Job) -> Result<(), Refusal>
         ensures units { self.new.units ≡ self.old.units }
+        ensures base { self.new.base ≡ self.old.base }
         ensures prepared { OnOk result (self.new.prepared ≡ Some (End job)) }
         ensures refused { OnErr result (self.new.prepared ≡ None) }
         ensures used_up { 2 ^ 64 - 1 < length self.old.units + 1 → IsErrOf result Refusal.StampsUsedUp }
@@ -211,6 +239,7 @@ impl Journal {
     pub fn push_prepared(&mut self) -> Receipt
         requires { IsSome self.old.prepared }
         ensures units { IfSome self.old.prepared (λ unit. self.new.units ≡ self.old.units ++ unit ∷ []) }
+        ensures base { self.new.base ≡ self.old.base }
         ensures none_left { self.new.prepared ≡ None }
         ensures receipt { IfSome self.old.prepared (λ unit. result ≡ record { job = job_of unit; number = length self.new.units; unit = unit }) }
     {
@@ -224,6 +253,34 @@ impl Journal {
             job,
             number: self.log.len(),
             before,
+        }
+    }
+
+    /// What the dropped units leave: their number, the database, the locks, and a tally for each job.
+    pub fn base(&self) -> &Base
+        ensures { IsBaseOf result.now (take self.now.base self.now.units) }
+    {
+        self.log.base()
+    }
+
+    /// Moves the base on to this number, at which these are the references with a value: what the units up to it leave is
+    /// kept in their place, and their bytes are given back. Units keep their numbers.
+    ///
+    /// Refusals: `OutOfMemory`, after which units and base are as they were. A unit that was prepared is gone.
+    pub fn checkpoint(&mut self, number: u64, nodes: Vec<(Key, Text)>) -> Result<(), Refusal>
+        requires from { self.old.base ≤ number }
+        requires to { number ≤ length self.old.units }
+        requires nodes { nodes.items ≡ finmap.entries (after (take number self.old.units) initial).map }
+        ensures units { self.new.units ≡ self.old.units }
+        ensures base { OnOk result (self.new.base ≡ number) }
+        ensures refused { OnErr result (self.new.base ≡ self.old.base) }
+        ensures prepared { self.new.prepared ≡ None }
+        ensures cause { IfErr result (λ refusal. refusal ≡ Refusal.OutOfMemory) }
+    {
+        self.prepared = None;
+        match self.log.checkpoint(number, nodes) {
+            Ok(()) => Ok(()),
+            Err(_) => Err(Refusal::OutOfMemory),
         }
     }
 }

@@ -1,11 +1,10 @@
 //! The log: the bytes of unit after unit, and behind them those of a unit that is not yet one of them.
-ghost use Rattle.std.specs.Prelude.{◌≡◌, ◌≤◌, ◌-◌, ◌+◌, ◌<◌, ◌^◌, ◌++◌, [], ◌∷◌, List, ℕ, take, drop, length, IfSome, IfOk, IfErr, OnOk, OnErr, MatchOption};
+ghost use Rattle.std.specs.Prelude.{◌≡◌, ◌≤◌, ◌-◌, ◌+◌, ◌<◌, ◌^◌, ◌++◌, [], ◌∷◌, List, ℕ, take, drop, length, IfSome, IfOk, OnOk, OnErr, MatchOption};
 ghost use Rattle.std.specs.List.{flat_map};
-ghost use Rattle.refusal.specs.declared.Refusal.TheVariants.{StampsUsedUp};
 ghost use Rattle.journal.specs.declared.unit.Unit.{Unit as JournalUnit};
 ghost use Rattle.journal.specs.declared.unit.Unit.TheVariants.{Lone, Whole, Lock, Back, End};
 ghost use Rattle.journal.specs.Format.{unit_bytes};
-ghost use Rattle.journal.specs.Log.{unit_in, IsUnitOf};
+ghost use Rattle.journal.specs.Log.{unit_in, Stands, IsUnitOf};
 ghost use Rattle.journal.specs.Stored.{Each, FitsUnit};
 
 use crate::exchanges::ExchangeLog;
@@ -14,7 +13,6 @@ use crate::write::{push_back, push_end, push_lock, push_lone, push_whole};
 use crate::{Unit, Units};
 use collation::{Job, LockCommand};
 use command::{Answer, DataCommand};
-use refusal::Refusal;
 use std::alloc::{AllocError, Global};
 use std::marker::Model;
 
@@ -95,6 +93,10 @@ impl Log {
         self.count
     }
 
+    pub(crate) fn allocator(&self) -> Global {
+        *self.bytes.allocator()
+    }
+
     pub(crate) fn as_slice(&self) -> &[u8]
         ensures bytes { result.now ≡ flat_map unit_bytes self.now.units }
         ensures fit { Each FitsUnit self.now.units }
@@ -128,18 +130,12 @@ impl Log {
         }
     }
 
-    /// Takes away what stands behind the units. Refused where a unit more would have no number.
-    pub(crate) fn begin(&mut self) -> Result<(), Refusal>
+    /// Takes away what stands behind the units.
+    pub(crate) fn begin(&mut self)
         ensures units { self.new.units ≡ self.old.units }
         ensures behind { self.new.behind ≡ [] }
-        ensures ok { OnOk result (length self.old.units + 1 < 2 ^ 64) }
-        ensures err { IfErr result (λ refusal. (refusal ≡ StampsUsedUp) × (2 ^ 64 - 1 < length self.old.units + 1)) }
     {
         self.bytes.truncate(self.end);
-        if self.count == u64::MAX {
-            return Err(Refusal::StampsUsedUp);
-        }
-        Ok(())
     }
 
     /// Writes a data command outside a transaction behind the units. Where memory is refused nothing stands there.
@@ -222,5 +218,18 @@ impl Log {
         self.newest = self.end;
         self.end = self.bytes.len();
         self.count += 1;
+    }
+
+    /// The first units are dropped: of those that are left these are the bytes, and the bytes before are given back.
+    pub(crate) fn keep_rest(&mut self, rest: Vec<u8>, left: u64)
+        requires { (dropped later : List JournalUnit) × ((self.old.units ≡ dropped ++ later) × Stands rest.items left later) }
+        ensures units { self.new.units ≡ drop (length self.old.units - left) self.old.units }
+        ensures behind { self.new.behind ≡ [] }
+    {
+        let at = self.end.saturating_sub(rest.len());
+        self.newest = self.newest.saturating_sub(at);
+        self.end = rest.len();
+        self.count = left;
+        self.bytes = rest;
     }
 }

@@ -37,6 +37,13 @@ impl<'j> Units<'j> {
     {
         Units { alloc, bytes, left }
     }
+
+    // The bytes of those that are left, and how many these are.
+    pub(crate) fn rest(&self) -> (&'j [u8], u64)
+        ensures { Stands result.0.now result.1 self.now }
+    {
+        (self.bytes, self.left)
+    }
 }
 
 impl<'j> Iterator for Units<'j> {

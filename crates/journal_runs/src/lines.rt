@@ -11,10 +11,10 @@ fn push_letters(line: &mut Vec<u8>, count: u64) -> Result<(), AllocError> {
     Ok(())
 }
 
-// A subscript of 127 bytes that take two bytes each.
+// A subscript of 255 bytes that take two bytes each.
 fn push_longest_subscript(line: &mut Vec<u8>) -> Result<(), AllocError> {
     line.extend_from_slice(b"$C(0")?;
-    for _ in 1..127 {
+    for _ in 1..255 {
         line.extend_from_slice(b",1")?;
     }
     line.extend_from_slice(b")")

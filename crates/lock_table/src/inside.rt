@@ -28,6 +28,21 @@ pub struct Inside {
     pub alloc: Global,
 }
 
+impl Inside {
+    /// A copy. Fails only for want of memory.
+    pub fn copy(&self) -> Result<Inside, AllocError>
+        ensures { IfOk result (λ copy. IsInsideSame self.now copy) }
+    {
+        let fewer = self.fewer.copy()?;
+        let added = self.added.copy()?;
+        Ok(Inside {
+            fewer,
+            added,
+            alloc: self.alloc,
+        })
+    }
+}
+
 /// How many times the job wants this name.
 pub fn wanted(held: &Counts, inside: &Inside, name: &LockName) -> u32
     ensures count { result ≡ count_of (less held.now inside.now.fewer) name.now }

@@ -283,3 +283,23 @@ impl Row {
         }
     }
 }
+
+impl Clone for Row {
+    ghost use Rattle.std.specs.Prelude.{◌≡◌};
+
+    ghost is_clone = { λ a b. b ≡ a };
+
+    /// A copy. Fails only for want of memory.
+    fn clone(&self) -> Result<Row, AllocError> {
+        let held = self.held.copy()?;
+        let inside = match &self.inside {
+            Some(inside) => Some(inside.copy()?),
+            None => None,
+        };
+        Ok(Row {
+            held,
+            inside,
+            alloc: self.alloc,
+        })
+    }
+}

@@ -291,4 +291,27 @@ impl LockTable {
     {
         self.end(job.number());
     }
+
+    /// A copy: the same counts of all jobs. Refusals: `OutOfMemory`.
+    pub fn copy(&self) -> Result<LockTable, Refusal>
+        ensures ok { IfOk result (λ copy. copy ≡ self.now) }
+        ensures refused { IfErr result (λ refusal. refusal ≡ Refusal.OutOfMemory) }
+    {
+        match self.copied() {
+            Ok(copy) => Ok(copy),
+            Err(_) => Err(Refusal::OutOfMemory),
+        }
+    }
+
+    fn copied(&self) -> Result<LockTable, AllocError>
+        ensures { IfOk result (λ copy. copy ≡ self.now) }
+    {
+        let rows = self.rows.clone()?;
+        let trie = self.trie.copy()?;
+        Ok(LockTable {
+            rows,
+            trie,
+            alloc: self.alloc,
+        })
+    }
 }

@@ -92,3 +92,16 @@ impl Marks {
         self.map.is_empty()
     }
 }
+
+impl Clone for Marks {
+    ghost use Rattle.std.specs.Prelude.{◌≡◌, ℕ};
+    ghost use Rattle.lock_trie.specs.Marks.{marked};
+
+    ghost is_clone = { λ a b. (job : ℕ) → marked b job ≡ marked a job };
+
+    /// A copy. Fails only for want of memory.
+    fn clone(&self) -> Result<Marks, AllocError> {
+        let map = self.map.clone()?;
+        Ok(Marks { map })
+    }
+}

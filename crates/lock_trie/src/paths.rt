@@ -117,3 +117,18 @@ impl Paths {
         self.map.is_empty()
     }
 }
+
+impl Clone for Paths {
+    ghost use Rattle.lock_trie.specs.Paths.{marked_at, AreKept};
+
+    ghost is_clone = { λ a b. AreKept (marked_at a) (marked_at b) };
+
+    /// A copy. Fails only for want of memory.
+    fn clone(&self) -> Result<Paths, AllocError> {
+        let map = self.map.clone()?;
+        Ok(Paths {
+            map,
+            alloc: self.alloc,
+        })
+    }
+}

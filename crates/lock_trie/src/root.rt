@@ -151,3 +151,20 @@ impl Root {
         self.own.is_empty()
     }
 }
+
+impl Clone for Root {
+    ghost use Rattle.lock_trie.specs.Paths.{marked_at, AreKept};
+
+    ghost is_clone = { λ a b. AreKept (marked_at a) (marked_at b) };
+
+    /// A copy. Fails only for want of memory.
+    fn clone(&self) -> Result<Root, AllocError> {
+        let own = self.own.clone()?;
+        let within = self.within.clone()?;
+        Ok(Root {
+            own,
+            within,
+            least: self.least,
+        })
+    }
+}

@@ -110,3 +110,18 @@ impl Roots {
         }
     }
 }
+
+impl Clone for Roots {
+    ghost use Rattle.lock_trie.specs.Roots.{held_at, AreHeldSame};
+
+    ghost is_clone = { λ a b. AreHeldSame (held_at a) (held_at b) };
+
+    /// A copy. Fails only for want of memory.
+    fn clone(&self) -> Result<Roots, AllocError> {
+        let map = self.map.clone()?;
+        Ok(Roots {
+            map,
+            alloc: self.alloc,
+        })
+    }
+}

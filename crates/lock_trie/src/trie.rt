@@ -1,5 +1,5 @@
 //! Each job's held counts.
-ghost use Rattle.std.specs.Prelude.{true, false, ◌≡◌, ◌≤◌, ◌+◌, ◌-◌, ℕ, OnOk, OnErr};
+ghost use Rattle.std.specs.Prelude.{true, false, ◌≡◌, ◌≤◌, ◌+◌, ◌-◌, ℕ, IfOk, OnOk, OnErr};
 ghost use Rattle.collation.specs.Limits.{most_locks};
 ghost use Rattle.collation.specs.Reference.{Resource};
 ghost use Rattle.lock_trie.specs.Held.{held_count, roots_of, IsHeldByAnother, IsRecounted, IsSame};
@@ -89,5 +89,14 @@ impl LockTrie {
         let reference = name.reference();
         self.roots(name)
             .blocked(job, reference.name(), reference.subscripts())
+    }
+
+    /// A copy: each job holds in it what it holds. Fails only for want of memory.
+    pub fn copy(&self) -> Result<LockTrie, AllocError>
+        ensures { IfOk result (λ copy. IsSame self.now copy) }
+    {
+        let plain = self.plain.clone()?;
+        let caret = self.caret.clone()?;
+        Ok(LockTrie { plain, caret })
     }
 }

@@ -1,5 +1,5 @@
 -- What a range has once it took in what lies between two cuts, test by test.
-use Rattle.std.proofs.Common.{◌≡◌, ℕ, ◌<◌, Bool, true, false, List, [], ◌∷◌, length, get_or, slice_set, arith, zero, suc, refl, sym, ap, ◌∙◌}
+use Rattle.std.proofs.Common.{◌≡◌, ℕ, ◌<◌, Bool, true, false, List, [], ◌∷◌, length, get_or, slice_set, arith, zero, suc, refl, sym, ap, subst, ◌∙◌}
 use Rattle.std.specs.Prelude.{not, ◌&&◌, ◌||◌, Result, Ok, Err, IfOk}
 use Rattle.collation.specs.Reference.{Reference}
 use Rattle.read_ranges.specs.declared.range.ReadRange.{ReadRange}
@@ -56,6 +56,12 @@ pub one_grown : (rs : List ReadRange) (i : ℕ) (old new : ReadRange) → i < le
 one_grown [] i old new l e x more grown = absurd (omega arith)
 one_grown (r ∷ rs) zero old new l e x more grown = ap (λ b. b || is_in_one rs x) (grown ∙ ap (λ (o : ReadRange). is_in o x || more) e) ∙ or_more (is_in r x) (is_in_one rs x) more
 one_grown (r ∷ rs) (suc i) old new l e x more grown = ap (λ b. is_in r x || b) (one_grown rs i old new (omega arith) e x more grown) ∙ or_assoc (is_in r x) (is_in_one rs x) more
+
+-- what one of them has is in the list
+pub one_covers : (rs : List ReadRange) (i : ℕ) (r : ReadRange) → i < length rs → r ≡ get_or rs i r → (x : Reference) (more : Bool) → is_in r x ≡ (is_in r x || more) → is_in_one rs x ≡ (is_in_one rs x || more)
+one_covers [] i r l e x more h = absurd (omega arith)
+one_covers (q ∷ rs) zero r l e x more h = ap (λ b. b || is_in_one rs x) (subst (λ (o : ReadRange). is_in o x ≡ (is_in o x || more)) e h) ∙ or_more (is_in q x) (is_in_one rs x) more
+one_covers (q ∷ rs) (suc i) r l e x more h = ap (λ b. is_in q x || b) (one_covers rs i r (omega arith) e x more h) ∙ or_assoc (is_in q x) (is_in_one rs x) more
 
 -- where it did
 pub one_grew : {E : Type 0} (result : Result Bool E) (rs : List ReadRange) (i : ℕ) (old new : ReadRange) (test : Reference → Bool) → i < length rs → old ≡ get_or rs i old

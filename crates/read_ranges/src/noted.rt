@@ -78,7 +78,7 @@ impl Ranges {
     /// $GET's reference has; of other commands it says nothing.
     ///
     /// A command that changes the database reads nothing, or a range that is put after the others, so that it can be taken
-    /// back. What a command that looks has read may lie in one of the last ranges.
+    /// back, unless one of the last has it. What a command that looks has read may lie in one of the last ranges.
     ///
     /// Where memory is refused nothing has changed.
     pub fn note(
@@ -97,7 +97,7 @@ impl Ranges {
         match command {
             DataCommand::Set(_, _) => Ok(()),
             DataCommand::Kill(_) => Ok(()),
-            DataCommand::Merge(_, source) => self.push(Cut::Before(source), Cut::Past(source)),
+            DataCommand::Merge(_, source) => self.push_new(Cut::Before(source), Cut::Past(source)),
             DataCommand::Look(look) => self.note_look(alloc, look, answer, decided),
         }
     }
@@ -287,6 +287,32 @@ impl Ranges {
         let range = ReadRange::new(low, high)?;
         self.list.push_reserved(range);
         Ok(())
+    }
+
+    // Whether one of the last ranges is seen to have what lies between two cuts.
+    fn is_covered(&self, low: Cut<'_>, high: Cut<'_>) -> bool
+        ensures { result ≡ true → (x : Reference) → is_in_one self.now x ≡ (is_in_one self.now x || between low.entry high.entry x) }
+    {
+        let first = self.list.len().saturating_sub(NEAR);
+        for i in first..self.list.len() {
+            if self.list[i].covers(low, high) {
+                return true;
+            }
+        }
+        false
+    }
+
+    // Puts what lies between two cuts after the others, where none of the last ranges has it.
+    fn push_new(&mut self, low: Cut<'_>, high: Cut<'_>) -> Result<(), AllocError>
+        ensures more { OnOk result ((x : Reference) → is_in_one self.new x ≡ (is_in_one self.old x || between low.entry high.entry x)) }
+        ensures behind { OnOk result (take (length self.old) self.new ≡ self.old) }
+        ensures few { length self.new ≤ length self.old + 1 }
+        ensures err { OnErr result (self.new ≡ self.old) }
+    {
+        if self.is_covered(low, high) {
+            return Ok(());
+        }
+        self.push(low, high)
     }
 
     // Lets a range take in what lies between two cuts, where that joins it, and tells whether it has.

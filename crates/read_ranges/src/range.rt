@@ -85,6 +85,18 @@ impl ReadRange {
         }
     }
 
+    // Whether the range is seen to have what lies between two cuts. Takes no memory.
+    pub(crate) fn covers(&self, low: Cut<'_>, high: Cut<'_>) -> bool
+        ensures { result ≡ true → (x : Reference) → is_in self.now x ≡ (is_in self.now x || between low.entry high.entry x) }
+    {
+        match self.joint(low, high) {
+            Joint::Within => true,
+            Joint::Apart => false,
+            Joint::Higher => false,
+            Joint::Lower => false,
+        }
+    }
+
     // Puts another cut as its end. Takes memory only for a key of over 38 bytes.
     fn end_at(&mut self, high: Cut<'_>) -> Result<(), AllocError>
         ensures ends { OnOk result ((x : Reference) → is_in self.new x ≡ (not (begins_after self.old x) && stands_before high.entry x)) }

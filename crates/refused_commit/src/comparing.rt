@@ -6,7 +6,7 @@ use command::Reply;
 use globals::{Cut, OrderedView, walk_from};
 use refusal::Refusal;
 use std::alloc::{AllocError, Global};
-use version_store::Store;
+use version_store::KeyedStore;
 
 /// How much was compared.
 #[derive(Clone, Copy)]
@@ -48,7 +48,11 @@ fn is_within<V: OrderedView, W: OrderedView>(view: &V, other: &W, nodes: &mut u6
 }
 
 // At each stamp from the cut to now.
-fn are_contents_alike(first: &Store, second: &Store, tally: &mut Tally) -> Result<bool, Refusal> {
+fn are_contents_alike(
+    first: &KeyedStore,
+    second: &KeyedStore,
+    tally: &mut Tally,
+) -> Result<bool, Refusal> {
     for stamp in first.cut()..first.now().saturating_add(1) {
         let one = first.view_at(stamp)?;
         let other = second.view_at(stamp)?;
@@ -65,8 +69,8 @@ fn are_contents_alike(first: &Store, second: &Store, tally: &mut Tally) -> Resul
 // The newest stamp of each key that is placed in the first. A refused commit may have placed some that have none.
 fn are_newest_alike(
     alloc: Global,
-    first: &Store,
-    second: &Store,
+    first: &KeyedStore,
+    second: &KeyedStore,
     keys: &mut u64,
 ) -> Result<bool, AllocError> {
     let placed = first.next_keys(alloc, usize::MAX)?;
@@ -83,8 +87,8 @@ fn are_newest_alike(
 // The stamps, the contents, and the newest stamp of each key of either.
 fn are_stores_alike(
     alloc: Global,
-    first: &Store,
-    second: &Store,
+    first: &KeyedStore,
+    second: &KeyedStore,
     tally: &mut Tally,
 ) -> Result<bool, Refusal> {
     if first.now() != second.now() || first.cut() != second.cut() {

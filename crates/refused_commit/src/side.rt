@@ -8,7 +8,7 @@ use refusal::Refusal;
 use std::alloc::Global;
 use std::marker::Model;
 use validate_commit::{Verdict, Work, commit};
-use version_store::Store;
+use version_store::KeyedStore;
 
 // As if another transaction had begun at this stamp: content is kept from there on.
 const KEPT_FROM: u64 = 3;
@@ -17,7 +17,7 @@ const KEPT_FROM: u64 = 3;
 #[derive(Drop)]
 pub struct Side {
     alloc: Global,
-    store: Store,
+    store: KeyedStore,
     journal: Journal,
     locks: LockTable,
     work: Work,
@@ -39,7 +39,7 @@ impl Side {
     pub fn new(alloc: Global, job: Job) -> Side {
         Side {
             alloc,
-            store: Store::new(alloc),
+            store: KeyedStore::new(alloc),
             journal: Journal::new(alloc),
             locks: LockTable::new(alloc),
             work: Work::new(alloc, job, 0),
@@ -52,7 +52,7 @@ impl Side {
     }
 
     /// The store.
-    pub fn store(&self) -> &Store {
+    pub fn store(&self) -> &KeyedStore {
         &self.store
     }
 

@@ -10,6 +10,13 @@ use std::alloc::{AllocError, Global};
 // More bytes than any reply to these lines has, so that none is refused memory for its text.
 const MOST_REPLY_BYTES: usize = 4096;
 
+/// A script, and whether a checkpoint is taken after each of its lines.
+#[derive(Clone, Copy)]
+pub struct List {
+    pub script: &'static str,
+    pub has_checkpoints: bool,
+}
+
 /// The texts of a line's replies by the first core and by the second.
 #[derive(Drop)]
 pub struct Replies {
@@ -135,33 +142,53 @@ fn collects_alike(
     stand_alike(alloc, first, second)
 }
 
+// A checkpoint of both cores, where the first's isn't refused. Then whether they have the same base, else whether the
+// cores stand alike.
+fn checkpoints_alike(
+    alloc: Global,
+    first: &mut JobCore,
+    second: &mut JobCore,
+    refused: &mut u64,
+) -> Result<bool, Refusal> {
+    if first.checkpoint().is_ok() {
+        let number = second.checkpoint()?;
+        let are_same = first.base().nodes() == second.base().nodes();
+        return Ok(are_same && first.base().number() == number);
+    }
+    *refused = refused.saturating_add(1);
+    stand_alike(alloc, first, second)
+}
+
 fn run_alike(
     alloc: Global,
     cores: (&mut JobCore, &mut JobCore),
-    script: &str,
+    list: List,
     replies: &mut Replies,
     refused: &mut u64,
 ) -> Result<bool, Refusal> {
     let (first, second) = cores;
-    for line in script.lines() {
+    for line in list.script.lines() {
         if !answers_alike(alloc, (&mut *first, &mut *second), line, replies, refused)? {
             return Ok(false);
         }
         if !collects_alike(alloc, first, second, refused)? {
             return Ok(false);
         }
+        if list.has_checkpoints && !checkpoints_alike(alloc, first, second, refused)? {
+            return Ok(false);
+        }
     }
     stand_alike(alloc, first, second)
 }
 
-/// Whether two new cores do the lines of the script alike; and how many steps more were refused.
+/// Whether two new cores do the lines of the list alike; and how many steps more were refused.
 pub fn is_alike(
     alloc: Global,
-    script: &str,
+    list: List,
     replies: &mut Replies,
     refused: &mut u64,
 ) -> Result<bool, Refusal> {
     let mut first = JobCore::new(alloc);
     let mut second = JobCore::new(alloc);
-    run_alike(alloc, (&mut first, &mut second), script, replies, refused)
+    run_alike(alloc, (&mut first, &mut second), list, replies, refused)
 }

@@ -1,8 +1,34 @@
 //! The lists that are run beside the worked rows. A text of over 14 bytes doesn't lie in its value, nor a key of over
 //! 38.
 
-/// Each is a script.
-pub const LISTS: [&str; 4] = [DATA_COMMANDS, PLAIN, TRANSACTIONS, COMMIT];
+/// Each is a script, and whether a checkpoint is taken after each of its lines.
+pub const LISTS: [(&str, bool); 5] = [
+    (DATA_COMMANDS, false),
+    (PLAIN, false),
+    (TRANSACTIONS, false),
+    (COMMIT, false),
+    (CHECKPOINTS, true),
+];
+
+// Units of all kinds, the base held back by job 2's transaction and let go, locks that it keeps, and nodes that come and go.
+const CHECKPOINTS: &str = concat!(
+    "1 SET ^A(1)=\"\"\n",
+    "1 LOCK +^B(\"a text that is too long to lie inline\")\n",
+    "2 TSTART\n",
+    "2 SET ^C=\"a text that is too long to lie inline\"\n",
+    "2 LOCK +Desk\n",
+    "1 SET ^A(\"a text that is too long to lie inline\")=\"a text that is too long to lie inline\"\n",
+    "3 LOCK +(^B,Desk)\n",
+    "2 $GET(^A(1))\n",
+    "2 TCOMMIT\n",
+    "1 KILL ^A(1)\n",
+    "2 TSTART\n",
+    "2 LOCK -Desk\n",
+    "3 SET ^D=1\n",
+    "2 TROLLBACK\n",
+    "1 HALT\n",
+    "3 LOCK +^B\n",
+);
 
 // A list with every data command. The last, a copy of ^B into ^B("x"), is refused by its own rule.
 const DATA_COMMANDS: &str = concat!(

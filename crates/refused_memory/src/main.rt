@@ -2,7 +2,8 @@
 //! get the same replies, and leave the same journal and the same listing. It prints `alike` where that is so.
 //!
 //! The lists are the worked rows and those of `lines.rt`. The first core's collector passes after each line, the
-//! second's never does. Where a line or a pass is refused, journals and listings are compared there and then.
+//! second's never does; in one list both take a checkpoint after each line. Where a line, a pass or a checkpoint is
+//! refused, journals and listings are compared there and then.
 //!
 //! Standard input may ask for one list alone, from 1 on, and for allocations that are taken before
 //! (`allocation_turns`); so `tests/refused_allocations` has each allocation of each list refused in turn. Where that
@@ -10,7 +11,7 @@
 #![tactic(auto)]
 
 use allocation_turns::{asked_by, granted, take};
-use cores::{Replies, is_alike};
+use cores::{List, Replies, is_alike};
 use refusal::Refusal;
 use std::alloc::Global;
 use std::io;
@@ -45,8 +46,12 @@ fn lists_are_alike(
     replies: &mut Replies,
     refused: &mut u64,
 ) -> Result<bool, Refusal> {
-    for script in lines::LISTS {
-        if turn.is_next() && !is_alike(alloc, script, replies, refused)? {
+    for (script, has_checkpoints) in lines::LISTS {
+        let list = List {
+            script,
+            has_checkpoints,
+        };
+        if turn.is_next() && !is_alike(alloc, list, replies, refused)? {
             return Ok(false);
         }
     }
@@ -61,7 +66,11 @@ fn rows_are_alike(
     refused: &mut u64,
 ) -> Result<bool, Refusal> {
     for (script, _) in rows {
-        if turn.is_next() && !is_alike(alloc, script, replies, refused)? {
+        let list = List {
+            script,
+            has_checkpoints: false,
+        };
+        if turn.is_next() && !is_alike(alloc, list, replies, refused)? {
             return Ok(false);
         }
     }

@@ -1,10 +1,10 @@
--- What a transaction that is rolled back or restarted leaves of itself.
-use Rattle.std.specs.Prelude.{◌≡◌, ℕ, Bool, true, false, not, ◌||◌, ◌==◌, List, [], ◌∷◌, length, drop, None, is_some}
+-- What a transaction that is rolled back or restarted, or ended by HALT, leaves of itself.
+use Rattle.std.specs.Prelude.{◌≡◌, ℕ, Bool, true, false, not, ◌||◌, ◌==◌, List, [], ◌∷◌, ◌++◌, length, drop, None, is_some}
 use Rattle.command.specs.declared.request.Command.{Command}
-use Rattle.command.specs.declared.request.Command.TheVariants.{Start, Commit, Rollback, Restart}
+use Rattle.command.specs.declared.request.Command.TheVariants.{Start, Commit, Rollback, Restart, Halt}
 use Rattle.command.specs.declared.request.Reply.TheVariants.{Finished, Restarted}
 use Rattle.collation.specs.Database.{Database}
-use Rattle.collation.specs.Locks.{JobLocks, locks_of}
+use Rattle.collation.specs.Locks.{JobLocks, no_locks, locks_of}
 use Rattle.std.specs.List.{list_all}
 use Rattle.journal.specs.Kept.{job_of}
 use Rattle.journal.specs.declared.unit.Unit.{Unit as JournalUnit}
@@ -44,11 +44,20 @@ pub record IsUndone (job : ℕ) (s t after : Machine) : Type 0 where
   pub map : machine_map after ≡ machine_map t
   pub locks : job_locks job after ≡ job_locks job s
 
--- a transaction that began at s and is open at t is undone where it is rolled back or restarted
+-- from s on no data command of the job stands among the units; HALT at t is one unit more, leaves the database as it was, and the job without locks and transaction
+pub record IsHalted (job : ℕ) (s t after : Machine) : Type 0 where
+  pub before : only_locks job (drop (length s.units) t.units) ≡ true
+  pub units : after.units ≡ t.units ++ End job ∷ []
+  pub map : machine_map after ≡ machine_map t
+  pub locks : job_locks job after ≡ no_locks
+  pub closed : transaction_of job after ≡ None
+
+-- a transaction that began at s and is open at t is undone where it is rolled back or restarted, and gone after HALT
 pub record LeavesNoTrace (job : ℕ) (s t : Machine) : Type 0 where
   pub rollback : reply_of job Rollback t ≡ Finished → IsUndone job s t (step_of job Rollback t)
   pub restart : (n : ℕ) → reply_of job Restart t ≡ Restarted n → IsUndone job s t (step_of job Restart t)
   pub refused_commit : (n : ℕ) → reply_of job Commit t ≡ Restarted n → IsUndone job s t (step_of job Commit t)
+  pub halt : reply_of job Halt t ≡ Finished → IsHalted job s t (step_of job Halt t)
 
 -- from the outermost TSTART on, whatever the jobs do meanwhile
 abbrev pub BackedTransactionsLeaveNoTrace : Type 0

@@ -59,7 +59,7 @@ pub fn memory_is_wanting_only_where_it_is_taken()
 {}
 
 /// A transaction that is rolled back or restarted leaves the database as it is, and the job's locks as they were at the
-/// outermost TSTART.
+/// outermost TSTART; a HALT in it adds one unit, leaves the database as it is, and the job no locks and no transaction.
 pub fn backed_transactions_leave_no_trace()
     ensures { BackedTransactionsLeaveNoTrace }
 {}

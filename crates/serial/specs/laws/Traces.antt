@@ -24,7 +24,7 @@ use Rattle.journal.specs.laws.History.{after-append}
 use Rattle.journal.specs.Story.{Transaction, Machine, nothing_done, transaction_of, add_unit, put_transaction, close, begin, told_answer, told_lock, told_level, told_commit, told_back, told}
 use Rattle.serial.specs.laws.ByJob.{same_or_not, get_here, get_apart, gone_here, gone_apart, locks_put, locks_put_apart, locks_gone, locks_gone_apart, no_locks_yet, locks_changed, locks_changed_apart}
 use Rattle.serial.specs.Machine.{reply_of, step_of, run_of}
-use Rattle.serial.specs.Traces.{machine_map, job_locks, StaysOpen, LeavesNoTrace, BackedTransactionsLeaveNoTrace, IsUndone, is_lock_or_back, only_locks}
+use Rattle.serial.specs.Traces.{machine_map, job_locks, StaysOpen, LeavesNoTrace, BackedTransactionsLeaveNoTrace, IsUndone, IsHalted, is_lock_or_back, only_locks}
 
 -- a unit of another job leaves a job's locks as they are
 pub other_unit : (u : JournalUnit) (s : State) (job : ℕ) → (job ≡ job_of u → ⊥) → locks_of job (after_unit u s).locks ≡ locks_of job s.locks
@@ -441,6 +441,16 @@ module _ (n job : ℕ) where
 bare_now : (job : ℕ) (s : Machine) → IsBare (length s.units) job s
 bare_now job s = record { long = omega arith; bare = ap (only_locks job) (drop-length s.units) }
 
+-- HALT adds one unit, which leaves the database, and no locks of the job
+halted : (s t : Machine) (job : ℕ) → IsBare (length s.units) job t → IsHalted job s t (close job (add_unit (End job) t))
+halted s t job bare = record {
+  before = bare.bare;
+  units = refl;
+  map = ap (λ (st : State). st.map) (after-append t.units (End job ∷ []) initial);
+  locks = one_more (End job) t job ∙ locks_gone (after t.units initial).locks job;
+  closed = gone_here t.transactions job;
+}
+
 pub leaves_no_trace : BackedTransactionsLeaveNoTrace
 leaves_no_trace before more job none stays =
     let s = run_of before nothing_done in
@@ -456,4 +466,5 @@ leaves_no_trace before more job none stays =
           rollback = λ e. subst (λ r. IsUndone job s t (told job Rollback r t)) (sym e) (record { units = back.bare; map = map_back job (transaction_of job t) t; locks = kept });
           restart = λ n e. subst (λ r. IsUndone job s t (told job Restart r t)) (sym e) (record { units = back.bare; map = map_back job (transaction_of job t) t; locks = kept });
           refused_commit = λ n e. subst (λ r. IsUndone job s t (told job Commit r t)) (sym e) (record { units = back.bare; map = map_back job (transaction_of job t) t; locks = kept });
+          halt = λ e. subst (λ r. IsHalted job s t (told job Halt r t)) (sym e) (halted s t job bare);
         }

@@ -1,0 +1,219 @@
+//! What the units leave that are dropped, and how it is moved on.
+ghost use Rattle.std.specs.Prelude.{◌≡◌, ◌≤◌, ◌<◌, ◌^◌, ◌+◌, OnOk, IfOk, take, drop, length};
+ghost use Rattle.std.specs.FinMap as finmap;
+ghost use Rattle.journal.specs.Based.{database_of, locks_of_unit, locks_on, map_in, locks_in, HasPassed};
+ghost use Rattle.journal.specs.Counting.{tally_in, counted_unit, counted_on};
+ghost use Rattle.journal.specs.History.{initial};
+ghost use Rattle.journal.specs.Log.{Stands};
+
+use crate::log::Log;
+use crate::tallies::Tallies;
+use crate::{Unit, Units};
+use collation::{Job, Text};
+use key_codec::Key;
+use lock_table::LockTable;
+use std::alloc::{AllocError, Global};
+use std::marker::Model;
+
+/// What the units up to a number leave: each reference with a value, in their order, and the locks; and how many of
+/// these units each job has, rollbacks, restarts and ends of sessions aside.
+#[derive(Drop)]
+pub struct Base {
+    number: u64,
+    nodes: Vec<(Key, Text)>,
+    locks: LockTable,
+    tallies: Tallies,
+}
+
+impl Model for Base {
+    ghost use Rattle.std.specs.Prelude.{◌≡◌};
+    ghost use Rattle.std.specs.FinMap as finmap;
+    ghost use Rattle.collation.specs.Database.{Database};
+    ghost use Rattle.journal.specs.Based.{Based, based_code, database_of};
+
+    ghost Value = { Based };
+
+    ghost coded = { based_code };
+
+    ghost view = { λ b. record { number = b.number; state = record { map = database_of b.nodes.items; locks = b.locks }; tallies = b.tallies } };
+
+    ghost invariant = { λ b. b.nodes.items ≡ finmap.entries (database_of b.nodes.items) };
+}
+
+impl Base {
+    /// No unit is dropped.
+    pub(crate) fn new(alloc: Global) -> Base
+        ensures number { result.number ≡ 0 }
+        ensures state { result.state ≡ initial }
+        ensures tallies { result.tallies ≡ finmap.empty }
+    {
+        Base {
+            number: 0,
+            nodes: Vec::new(alloc),
+            locks: LockTable::new(alloc),
+            tallies: Tallies::new(alloc),
+        }
+    }
+
+    /// So many units are dropped; they leave these references with their values, and no locks.
+    pub(crate) fn adopt(alloc: Global, number: u64, nodes: Vec<(Key, Text)>) -> Base
+        requires { nodes.items ≡ finmap.entries (database_of nodes.items) }
+        ensures number { result.number ≡ number }
+        ensures state { result.state ≡ record { map = database_of nodes.items; locks = finmap.empty } }
+        ensures tallies { result.tallies ≡ finmap.empty }
+    {
+        Base {
+            number,
+            nodes,
+            locks: LockTable::new(alloc),
+            tallies: Tallies::new(alloc),
+        }
+    }
+
+    /// How many units are dropped: the number of the last of them.
+    pub fn number(&self) -> u64
+        ensures { result ≡ self.now.number }
+    {
+        self.number
+    }
+
+    /// The references with a value, in their order, with their values.
+    pub fn nodes(&self) -> &[(Key, Text)]
+        ensures { result.now ≡ finmap.entries (map_in self.now) }
+    {
+        &self.nodes
+    }
+
+    /// The locks of all jobs.
+    pub fn locks(&self) -> &LockTable
+        ensures { result.now ≡ locks_in self.now }
+    {
+        &self.locks
+    }
+
+    /// How many of the dropped units are the job's, rollbacks, restarts and ends of sessions aside.
+    pub fn tally(&self, job: Job) -> u64
+        ensures { result ≡ tally_in self.now.tallies job }
+    {
+        self.tallies.count(job)
+    }
+
+    // A copy of locks and tallies, to be moved on.
+    fn as_moving(&self) -> Result<Moving, AllocError>
+        ensures locks { IfOk result (λ m. m.locks ≡ locks_in self.now) }
+        ensures tallies { IfOk result (λ m. m.tallies ≡ self.now.tallies) }
+    {
+        let tallies = self.tallies.copy()?;
+        match self.locks.copy() {
+            Ok(locks) => Ok(Moving { locks, tallies }),
+            Err(_) => Err(AllocError),
+        }
+    }
+}
+
+// Locks and tallies on their way from one base to the next.
+#[derive(Drop)]
+struct Moving {
+    locks: LockTable,
+    tallies: Tallies,
+}
+
+impl Moving {
+    // One unit further.
+    fn pass(&mut self, unit: &Unit) -> Result<(), AllocError>
+        ensures locks { OnOk result (self.new.locks ≡ locks_of_unit unit.now self.old.locks) }
+        ensures tallies { OnOk result (self.new.tallies ≡ counted_unit unit.now self.old.tallies) }
+    {
+        match unit {
+            Unit::Lone(job, _, _) => self.tallies.add(*job),
+            Unit::Whole(job, _) => {
+                self.locks.commit_job(*job);
+                self.tallies.add(*job)
+            }
+            Unit::Lock(job, inside, command, _) => {
+                match self.locks.do_lock(*job, *inside, command) {
+                    Ok(()) => self.tallies.add(*job),
+                    Err(_) => Err(AllocError),
+                }
+            }
+            Unit::Back(job) => {
+                self.locks.back_job(*job);
+                Ok(())
+            }
+            Unit::End(job) => {
+                self.locks.end_job(*job);
+                Ok(())
+            }
+        }
+    }
+
+    // The next unit, read back.
+    fn pass_next(&mut self, units: &mut Units<'_>) -> Result<(), AllocError>
+        requires { 0 < length units.old }
+        ensures { OnOk result (HasPassed self.old.locks self.new.locks self.old.tallies self.new.tallies units.old units.new) }
+    {
+        match units.next() {
+            Some(Ok(unit)) => {
+                let passed = self.pass(&unit);
+                drop(unit);
+                passed
+            }
+            Some(Err(refused)) => Err(refused),
+            None => unreachable!(),
+        }
+    }
+
+    // So many units further.
+    fn pass_over(&mut self, units: &mut Units<'_>, count: u64) -> Result<(), AllocError>
+        requires { count ≤ length units.old }
+        ensures left { OnOk result (units.new ≡ drop count units.old) }
+        ensures locks { OnOk result (self.new.locks ≡ locks_on (take count units.old) self.old.locks) }
+        ensures tallies { OnOk result (self.new.tallies ≡ counted_on (take count units.old) self.old.tallies) }
+    {
+        for _ in 0..count {
+            self.pass_next(units)?;
+        }
+        Ok(())
+    }
+}
+
+/// The next base, and the bytes of the units after it.
+#[derive(Drop)]
+pub(crate) struct Moved {
+    pub(crate) base: Base,
+    pub(crate) rest: Vec<u8>,
+    pub(crate) left: u64,
+}
+
+/// The base moved on by so many units of the log, with these nodes. Nothing is changed: what takes memory is all done here.
+pub(crate) fn moved_on(
+    alloc: Global,
+    base: &Base,
+    log: &Log,
+    count: u64,
+    nodes: Vec<(Key, Text)>,
+) -> Result<Moved, AllocError>
+    requires count { count ≤ length log.now.units }
+    requires number { base.now.number + count < 2 ^ 64 }
+    requires sorted { nodes.items ≡ finmap.entries (database_of nodes.items) }
+    ensures number { IfOk result (λ m. m.base.number ≡ base.now.number + count) }
+    ensures state { IfOk result (λ m. m.base.state ≡ (record { map = database_of nodes.items; locks = locks_on (take count log.now.units) (locks_in base.now) })) }
+    ensures tallies { IfOk result (λ m. m.base.tallies ≡ counted_on (take count log.now.units) base.now.tallies) }
+    ensures rest { IfOk result (λ m. Stands m.rest.items m.left (drop count log.now.units)) }
+{
+    let mut moving = base.as_moving()?;
+    let mut units = log.units();
+    moving.pass_over(&mut units, count)?;
+    let (bytes, left) = units.rest();
+    let rest = bytes.to_vec(alloc)?;
+    Ok(Moved {
+        base: Base {
+            number: base.number + count,
+            nodes,
+            locks: moving.locks,
+            tallies: moving.tallies,
+        },
+        rest,
+        left,
+    })
+}

@@ -1,0 +1,231 @@
+//! The log and the units that it has dropped, as one list.
+ghost use Rattle.std.specs.Prelude.{◌≡◌, ◌≤◌, ◌-◌, ◌+◌, ◌<◌, ◌^◌, ◌++◌, [], ◌∷◌, List, ℕ, take, drop, length, IfSome, IfOk, IfErr, OnOk, OnErr, MatchOption};
+ghost use Rattle.std.specs.List.{flat_map};
+ghost use Rattle.refusal.specs.declared.Refusal.TheVariants.{StampsUsedUp};
+ghost use Rattle.journal.specs.declared.unit.Unit.{Unit as JournalUnit};
+ghost use Rattle.journal.specs.declared.unit.Unit.TheVariants.{Lone, Whole, Lock, Back, End};
+ghost use Rattle.std.specs.FinMap as finmap;
+ghost use Rattle.journal.specs.Adopted.{adopted_units};
+ghost use Rattle.journal.specs.Based.{IsBaseOf, database_of};
+ghost use Rattle.journal.specs.Format.{unit_bytes};
+ghost use Rattle.journal.specs.History.{initial, after};
+ghost use Rattle.journal.specs.Log.{unit_in, IsUnitOf};
+ghost use Rattle.journal.specs.Stored.{Each, FitsUnit};
+
+use crate::base::{Base, moved_on};
+use crate::exchanges::ExchangeLog;
+use crate::log::Log;
+use crate::past::Past;
+use crate::{Unit, Units};
+use collation::{Job, LockCommand, Text};
+use command::{Answer, DataCommand};
+use key_codec::Key;
+use refusal::Refusal;
+use std::alloc::{AllocError, Global};
+use std::marker::Model;
+
+/// Seen as all units, those that were dropped among them, and the bytes behind them.
+#[derive(Drop)]
+pub(crate) struct Chronicle {
+    base: Base,
+    past: Past,
+    log: Log,
+}
+
+impl Model for Chronicle {
+    ghost use Rattle.std.specs.Prelude.{◌++◌};
+    ghost use Rattle.journal.specs.Dropped.{joined};
+    ghost use Rattle.journal.specs.Log.{Recorded, KeepsBase};
+
+    ghost Value = { Recorded };
+
+    ghost view = { λ c. record { units = joined c.past ++ c.log.units; base = c.base.number; behind = c.log.behind } };
+
+    ghost invariant = { λ c. KeepsBase c.base (joined c.past) c.log.units };
+}
+
+impl Chronicle {
+    pub(crate) fn new(alloc: Global) -> Chronicle
+        ensures units { result.units ≡ [] }
+        ensures base { result.base ≡ 0 }
+        ensures behind { result.behind ≡ [] }
+    {
+        Chronicle {
+            base: Base::new(alloc),
+            past: Past::new(),
+            log: Log::new(alloc),
+        }
+    }
+
+    /// So many units that leave these references with their values; all are dropped.
+    pub(crate) fn adopt(alloc: Global, number: u64, nodes: Vec<(Key, Text)>) -> Chronicle
+        requires sorted { nodes.items ≡ finmap.entries (database_of nodes.items) }
+        requires nothing { number ≡ 0 → nodes.items ≡ [] }
+        ensures units { result.units ≡ adopted_units number nodes.items }
+        ensures base { result.base ≡ number }
+        ensures behind { result.behind ≡ [] }
+    {
+        let past = Past::adopt(number, &nodes);
+        Chronicle {
+            base: Base::adopt(alloc, number, nodes),
+            past,
+            log: Log::new(alloc),
+        }
+    }
+
+    pub(crate) fn len(&self) -> u64
+        ensures { result ≡ length self.now.units }
+    {
+        self.base.number() + self.log.len()
+    }
+
+    pub(crate) fn as_slice(&self) -> &[u8]
+        ensures bytes { result.now ≡ flat_map unit_bytes (drop self.now.base self.now.units) }
+        ensures fit { Each FitsUnit (drop self.now.base self.now.units) }
+    {
+        self.log.as_slice()
+    }
+
+    pub(crate) fn units(&self) -> Units<'_>
+        ensures { result ≡ drop self.now.base self.now.units }
+    {
+        self.log.units()
+    }
+
+    /// The last unit, read back, if it isn't dropped.
+    pub(crate) fn newest(&self) -> Result<Option<Unit>, AllocError>
+        ensures { IfOk result (λ found. MatchOption found (drop self.now.base self.now.units ≡ [])
+            (λ unit. (before : List JournalUnit) × (self.now.units ≡ before ++ unit ∷ []))) }
+    {
+        self.log.newest()
+    }
+
+    /// Takes away what stands behind the units. Refused where a unit more would have no number.
+    pub(crate) fn begin(&mut self) -> Result<(), Refusal>
+        ensures units { self.new.units ≡ self.old.units }
+        ensures base { self.new.base ≡ self.old.base }
+        ensures behind { self.new.behind ≡ [] }
+        ensures ok { OnOk result (length self.old.units + 1 < 2 ^ 64) }
+        ensures err { IfErr result (λ refusal. (refusal ≡ StampsUsedUp) × (2 ^ 64 - 1 < length self.old.units + 1)) }
+    {
+        let count = self.len();
+        self.log.begin();
+        if count == u64::MAX {
+            return Err(Refusal::StampsUsedUp);
+        }
+        Ok(())
+    }
+
+    /// Writes a data command outside a transaction behind the units. Where memory is refused nothing stands there.
+    pub(crate) fn write_lone(
+        &mut self,
+        job: Job,
+        command: &DataCommand,
+        answer: &Answer,
+    ) -> Result<(), AllocError>
+        requires { self.old.behind ≡ [] }
+        ensures units { self.new.units ≡ self.old.units }
+        ensures base { self.new.base ≡ self.old.base }
+        ensures ok { OnOk result (IsUnitOf self.new.behind job (Lone job command.now answer.now)) }
+        ensures err { OnErr result (self.new.behind ≡ []) }
+    {
+        self.log.write_lone(job, command, answer)
+    }
+
+    /// Writes a transaction; refused as `write_lone`.
+    pub(crate) fn write_whole(
+        &mut self,
+        job: Job,
+        exchanges: &ExchangeLog,
+    ) -> Result<(), AllocError>
+        requires { self.old.behind ≡ [] }
+        ensures units { self.new.units ≡ self.old.units }
+        ensures base { self.new.base ≡ self.old.base }
+        ensures ok { OnOk result (IsUnitOf self.new.behind job (Whole job exchanges.now)) }
+        ensures err { OnErr result (self.new.behind ≡ []) }
+    {
+        self.log.write_whole(job, exchanges)
+    }
+
+    /// Writes a LOCK; refused as `write_lone`.
+    pub(crate) fn write_lock(
+        &mut self,
+        job: Job,
+        inside: bool,
+        command: &LockCommand,
+        had: bool,
+    ) -> Result<(), AllocError>
+        requires { self.old.behind ≡ [] }
+        ensures units { self.new.units ≡ self.old.units }
+        ensures base { self.new.base ≡ self.old.base }
+        ensures ok { OnOk result (IsUnitOf self.new.behind job (Lock job inside command.now had)) }
+        ensures err { OnErr result (self.new.behind ≡ []) }
+    {
+        self.log.write_lock(job, inside, command, had)
+    }
+
+    /// Writes a rollback or restart; refused as `write_lone`.
+    pub(crate) fn write_back(&mut self, job: Job) -> Result<(), AllocError>
+        requires { self.old.behind ≡ [] }
+        ensures units { self.new.units ≡ self.old.units }
+        ensures base { self.new.base ≡ self.old.base }
+        ensures ok { OnOk result (IsUnitOf self.new.behind job (Back job)) }
+        ensures err { OnErr result (self.new.behind ≡ []) }
+    {
+        self.log.write_back(job)
+    }
+
+    /// Writes the end of a session; refused as `write_lone`.
+    pub(crate) fn write_end(&mut self, job: Job) -> Result<(), AllocError>
+        requires { self.old.behind ≡ [] }
+        ensures units { self.new.units ≡ self.old.units }
+        ensures base { self.new.base ≡ self.old.base }
+        ensures ok { OnOk result (IsUnitOf self.new.behind job (End job)) }
+        ensures err { OnErr result (self.new.behind ≡ []) }
+    {
+        self.log.write_end(job)
+    }
+
+    /// Makes the unit behind the units the last of them. Nothing is copied.
+    pub(crate) fn push(&mut self)
+        requires some { (job : ℕ) × (unit : JournalUnit) × IsUnitOf self.old.behind job unit }
+        requires number { length self.old.units + 1 < 2 ^ 64 }
+        ensures units { IfSome (unit_in self.old.behind) (λ unit. self.new.units ≡ self.old.units ++ unit ∷ []) }
+        ensures base { self.new.base ≡ self.old.base }
+        ensures behind { self.new.behind ≡ [] }
+    {
+        self.log.push();
+    }
+
+    /// What the dropped units leave.
+    pub(crate) fn base(&self) -> &Base
+        ensures { IsBaseOf result.now (take self.now.base self.now.units) }
+    {
+        &self.base
+    }
+
+    /// The base is moved on to this number, where these are the nodes, and the units up to it are dropped. Refused for want
+    /// of memory, which is all taken first: then the units and the base are as they were.
+    pub(crate) fn checkpoint(
+        &mut self,
+        number: u64,
+        nodes: Vec<(Key, Text)>,
+    ) -> Result<(), AllocError>
+        requires from { self.old.base ≤ number }
+        requires to { number ≤ length self.old.units }
+        requires nodes { nodes.items ≡ finmap.entries (after (take number self.old.units) initial).map }
+        ensures units { self.new.units ≡ self.old.units }
+        ensures base { OnOk result (self.new.base ≡ number) }
+        ensures refused { OnErr result (self.new.base ≡ self.old.base) }
+        ensures behind { self.new.behind ≡ [] }
+    {
+        self.log.begin();
+        let count = number - self.base.number();
+        let moved = moved_on(self.log.allocator(), &self.base, &self.log, count, nodes)?;
+        let past = self.past.with(&self.log, count);
+        self.log.keep_rest(moved.rest, moved.left);
+        self.past = past;
+        self.base = moved.base;
+        Ok(())
+    }
+}
