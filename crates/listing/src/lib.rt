@@ -8,12 +8,16 @@
 //! Text is gathered in a buffer that the caller lends, and written where that holds `GATHERED_BYTES`: so a run that
 //! has a buffer for its replies lists in it.
 //!
-//! Read `specs/Listing.antt`, then `counted.rt`, then `nodes.rt`.
+//! A whole text is read by `read_all`.
+//!
+//! Read `specs/Listing.antt`, then `counted.rt`, `nodes.rt`, `whole.rt`.
 //! Not promised: how the text is cut into writes.
 #![tactic(auto)]
 
 pub use counted::{Counted, GATHERED_BYTES, ReadFault, WriteFault};
 pub use nodes::{ListingFault, write_listing, write_listing_after};
+pub use whole::{InputFault, read_all};
 
 mod counted;
 mod nodes;
+mod whole;

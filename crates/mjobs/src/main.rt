@@ -11,8 +11,8 @@
 
 use bstr::ByteSlice;
 use collation::Job;
-use job_server::{JobsFault, read_all, run_text, status_of};
-use listing::Counted;
+use job_server::{JobsFault, run_text, status_of};
+use listing::{Counted, read_all};
 use program_front::{
     MjobsArgs, arguments_of, mjobs_args_of, path_of, print_bad_name, print_fault,
     print_help_or_error, print_refused, print_unopened,

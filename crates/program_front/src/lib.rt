@@ -12,10 +12,11 @@
 
 pub use jobs_words::{MjobsArgs, mjobs_args_of};
 pub use printing::{
-    FAULT_STATUS, arguments_of, path_of, print_bad_name, print_fault, print_help_or_error,
-    print_refused, print_unopened,
+    FAULT_STATUS, arguments_of, path_of, print_bad_name, print_fault, print_faulty_line,
+    print_help_or_error, print_refused, print_unloaded, print_unopened,
 };
 pub use run_words::{MrunArgs, mrun_args_of};
+pub use words::NamePlace;
 
 mod jobs_words;
 mod printing;

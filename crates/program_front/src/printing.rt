@@ -82,6 +82,33 @@ pub fn print_unopened(rt: &impl Eprint, program: &str, name: &str, why: io::Erro
     FAULT_STATUS
 }
 
+/// Prints why a listing isn't loaded, and answers the exit status.
+pub fn print_unloaded(rt: &impl Eprint, program: &str, name: &str, fault: &str) -> u8
+    ensures { result ≡ FAULT_STATUS }
+{
+    let _ = eprintln!(rt; "{program}: {name}: {fault}");
+    FAULT_STATUS
+}
+
+/// Prints the number of a listing's line that sets nothing, the column of its fault, the refusal and what was expected
+/// there, and answers the exit status.
+pub fn print_faulty_line(
+    rt: &impl Eprint,
+    program: &str,
+    name: &str,
+    number: u64,
+    column: usize,
+    refusal: Refusal,
+    expected: &str,
+) -> u8
+    ensures { result ≡ FAULT_STATUS }
+{
+    let _ = eprintln!(rt;
+        "{program}: {name}: line {number}, column {column}: error {refusal}: expected {expected}"
+    );
+    FAULT_STATUS
+}
+
 /// Prints that a file's name isn't UTF-8, which std's paths are, and answers the exit status.
 pub fn print_bad_name(rt: &impl Eprint, program: &str) -> u8
     ensures { result ≡ FAULT_STATUS }

@@ -1,10 +1,13 @@
 //! The words of `mrun`.
-use crate::words::{VERSION, errors_word, file_of, file_word, no_listing_word, texts_of};
+use crate::words::{
+    NamePlace, VERSION, errors_word, file_of, file_word, load_of, load_word, no_listing_word,
+    texts_of,
+};
 use clap::builder::ValueParser;
 use clap::{Arg, ArgAction, Command, Error};
 use std::alloc::Global;
 
-// The most printed lines from one pass of the collector to the next that may be asked for.
+// The most printed lines from one pass of the collector, or one checkpoint, to the next that may be asked for.
 const MOST_LINES: u64 = 1000000;
 
 // What `--help` prints under the options.
@@ -16,35 +19,58 @@ const LINES: &str = "Each line is a job, 1 to 4096, a blank, and a command or a 
 
 A reply is printed for each line that isn't empty: its job, and `ok`, a value or `error` with a number and a name.
 At the end of input follow `--` and the listing of the database, which starts empty and is kept in memory.
+--load FILE starts from a listing instead: lines ^Fruit(\"apple\",\"price\")=1.2, as they are printed or as other M systems
+write them in ZWR form. Where a line of it can't be read nothing runs.
 Lines can be typed: each gets its reply at once, and Ctrl-D on an empty line ends the input.
 
 --errors tells a refused line's number, the column of its fault, the refusal and what was expected there.
---collect-every drops old versions of values that no transaction can see any more; what is printed doesn't depend on it.
+--collect-every drops old versions of values that no transaction can see any more, --checkpoint-every what the journal
+keeps of the lines done before all open transactions; what is printed doesn't depend on either.
 
 Exit status: 0, all replies are accepted; 1, a reply is an `error`; 2, input can't be read, output can't be
-written, memory ran out, or the words above are wrong.";
+written, memory ran out, a listing can't be loaded, or the words above are wrong.";
 
 /// What the arguments of `mrun` ask for.
 #[derive(Clone, Copy, Debug, PartialEq, Eq)]
 pub struct MrunArgs {
     /// Which of the arguments is the file, or none for standard input.
     pub file: Option<usize>,
+    /// Where the name of the listing stands that is loaded first, or none.
+    pub load: Option<NamePlace>,
     /// Whether `--` and the listing are printed.
     pub listed: bool,
     /// Whether each refused line is told on standard error.
     pub errors: bool,
     /// After how many printed lines the collector passes over the database, again and again; 0 for never.
     pub collect_every: u64,
+    /// After how many printed lines a checkpoint is taken, again and again; 0 for never.
+    pub checkpoint_every: u64,
+}
+
+// A word for something that is done after each so many printed lines.
+fn every_word<'a>(alloc: Global, name: &'a str, value: &'a str, help: &'a str) -> Arg<'a> {
+    Arg::new(alloc, name)
+        .long(name)
+        .action(ArgAction::Set)
+        .value_name(value)
+        .value_parser(ValueParser::unsigned(0, MOST_LINES))
+        .default_value("0")
+        .help(help)
 }
 
 fn command<'a>(alloc: Global) -> Result<Command<'a>, Error> {
-    let collect_every = Arg::new(alloc, "collect-every")
-        .long("collect-every")
-        .action(ArgAction::Set)
-        .value_name("N")
-        .value_parser(ValueParser::unsigned(0, MOST_LINES))
-        .default_value("0")
-        .help("Let the collector pass after each Nth printed line, 0 to 1000000; 0 is never");
+    let collect_every = every_word(
+        alloc,
+        "collect-every",
+        "N",
+        "Let the collector pass after each Nth printed line, 0 to 1000000; 0 is never",
+    );
+    let checkpoint_every = every_word(
+        alloc,
+        "checkpoint-every",
+        "M",
+        "Let the journal drop its beginning after each Mth printed line, 0 to 1000000; 0 is never",
+    );
     let command = Command::new(alloc, "mrun")
         .version(VERSION)
         .about(
@@ -52,9 +78,11 @@ fn command<'a>(alloc: Global) -> Result<Command<'a>, Error> {
         )
         .after_help(LINES)
         .arg(file_word(alloc))?
+        .arg(load_word(alloc))?
         .arg(no_listing_word(alloc))?
         .arg(errors_word(alloc))?
-        .arg(collect_every)?;
+        .arg(collect_every)?
+        .arg(checkpoint_every)?;
     Ok(command)
 }
 
@@ -65,8 +93,10 @@ pub fn mrun_args_of(alloc: Global, arguments: &[Vec<u8>]) -> Result<MrunArgs, Er
     let matches = command(alloc)?.try_get_matches_from(&texts)?;
     Ok(MrunArgs {
         file: file_of(&matches, &texts),
+        load: load_of(&matches, &texts),
         listed: !matches.get_flag("no-listing"),
         errors: matches.get_flag("errors"),
         collect_every: matches.get_one("collect-every").unwrap_or(0),
+        checkpoint_every: matches.get_one("checkpoint-every").unwrap_or(0),
     })
 }

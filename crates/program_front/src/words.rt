@@ -2,6 +2,18 @@
 use clap::{Arg, ArgAction, ArgMatches, Error};
 use std::alloc::{AllocError, Global};
 
+// What stands before a listing's name in one argument with it.
+const LOAD_FRONT: &str = "--load=";
+
+/// Where a file's name stands among the arguments.
+#[derive(Clone, Copy, Debug, PartialEq, Eq)]
+pub struct NamePlace {
+    /// In which of them.
+    pub argument: usize,
+    /// From which of its bytes on.
+    pub from: usize,
+}
+
 /// The version of both programs.
 pub(crate) const VERSION: &str = "0.1.0";
 
@@ -10,6 +22,15 @@ pub(crate) fn file_word<'a>(alloc: Global) -> Arg<'a> {
     Arg::new(alloc, "FILE").action(ArgAction::Set).help(
         "The script; without it, or with -, standard input is read",
     )
+}
+
+/// The word for a listing that is loaded first.
+pub(crate) fn load_word<'a>(alloc: Global) -> Arg<'a> {
+    Arg::new(alloc, "load")
+        .long("load")
+        .action(ArgAction::Set)
+        .value_name("LISTING")
+        .help("Start from this listing, ours or in ZWR form; a line that sets nothing ends the run")
 }
 
 /// The word that leaves out the listing.
@@ -54,4 +75,19 @@ pub(crate) fn file_of(matches: &ArgMatches<'_>, arguments: &[String]) -> Option<
         Some("-") | None => None,
         Some(text) => place_of(arguments, text),
     }
+}
+
+/// Where the name of the listing stands that is loaded first, or none.
+pub(crate) fn load_of(matches: &ArgMatches<'_>, arguments: &[String]) -> Option<NamePlace> {
+    let name = matches.get_str("load")?;
+    if let Some(argument) = place_of(arguments, name) {
+        return Some(NamePlace { argument, from: 0 });
+    }
+    for argument in 1..arguments.len() {
+        if arguments[argument].as_str().strip_prefix(LOAD_FRONT) == Some(name) {
+            let from = LOAD_FRONT.len();
+            return Some(NamePlace { argument, from });
+        }
+    }
+    None
 }

@@ -4,7 +4,7 @@ use Rattle.std.specs.Prelude.{Result, Ok, Err}
 use Rattle.refusal.specs.declared.Refusal.{Refusal}
 use Rattle.command.specs.declared.request.Command.{Command}
 use Rattle.command.specs.declared.request.Reply.{Reply}
-use Rattle.journal.specs.Story.{Machine, nothing_done}
+use Rattle.journal.specs.Story.{Machine}
 use Rattle.serial.specs.Memory.{is_out_of_memory}
 use Rattle.script_run.specs.Output.{Answer, asked_by, told_by, IsAnswer, AreAnswers, IsOutput, exact_reply, exact_answers, text_with_ending, output_of, some_wanting}
 
@@ -30,6 +30,6 @@ exact_all (a ∷ answers) s each had =
     ∙ ap (λ (r : Reply). (a.0, r) ∷ exact_answers (map (λ a. a.0) answers) (told_by (asked_by a.0) r s)) one
 
 -- an output without such a reply
-pub exact_output : (listed : Bool) (bytes text : List ℕ) (refused : Bool) (o : IsOutput listed bytes text refused) → some_wanting o.answers ≡ false → text ≡ output_of listed bytes
-exact_output listed bytes text refused o had =
-    o.written ∙ ap (text_with_ending listed) (exact_all o.answers nothing_done o.each had ∙ ap (λ (lines : List (List ℕ)). exact_answers lines nothing_done) o.of_lines)
+pub exact_output : (start : Machine) (listed : Bool) (bytes text : List ℕ) (refused : Bool) (o : IsOutput start listed bytes text refused) → some_wanting o.answers ≡ false → text ≡ output_of start listed bytes
+exact_output start listed bytes text refused o had =
+    o.written ∙ ap (text_with_ending start listed) (exact_all o.answers start o.each had ∙ ap (λ (lines : List (List ℕ)). exact_answers lines start) o.of_lines)

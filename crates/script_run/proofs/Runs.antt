@@ -38,7 +38,7 @@ answered-good s t (Ok step) reply (inr memory) left good = subst IsGood (sym (le
 answered-good s t (Err refusal) reply is left good = subst IsGood (sym left) good
 
 -- one line was answered, and its reply gathered
-pub Ran-one : (line : List ℕ) (reply : Reply) (job : Option ℕ) (old new : Script) (before now : Option (List ℕ)) (out : List ℕ) → job ≡ job_of_line line → IsAnswer old.core (asked_by line) reply → new.core ≡ told_by (asked_by line) reply old.core
+pub Ran-one : (line : List ℕ) (reply : Reply) (job : Option ℕ) (old new : Script) (before now : Option (List ℕ)) (out : List ℕ) → job ≡ job_of_line line → IsAnswer old.core.machine (asked_by line) reply → new.core.machine ≡ told_by (asked_by line) reply old.core.machine
     → out ≡ old.out.items ++ reply_text job reply → WritesFront before now out new.out.items → new.refused ≡ (old.refused || is_refused reply) → new.jobs ≡ open_after job (ends_session line reply) old.jobs → Ran (line ∷ []) old new before now
 Ran-one line reply job old new before now out j a u t p r o = record {
   answers = (line, reply) ∷ [];
@@ -48,17 +48,17 @@ Ran-one line reply job old new before now out j a u t p r o = record {
   passes = subst (λ (ts : List ℕ). WritesFront before now ts new.out.items) (one-text line reply job old out j t) p;
   refused = r ∙ ap (λ (b : Bool). old.refused || b) (sym (or-false _));
   jobs = o ∙ ap (λ (k : Option ℕ). open_after k (ends_session line reply) old.jobs) j;
-  good = answered-good old.core new.core (asked_by line) reply a u;
+  good = answered-good old.core.machine new.core.machine (asked_by line) reply a u;
 }
 
 -- a line was answered, and of its reply's text a beginning was written
-pub Broke-one : (line : List ℕ) (reply : Reply) (job : Option ℕ) (old : Script) (core : Machine) (before now : Option (List ℕ)) (out : List ℕ) → job ≡ job_of_line line → IsAnswer old.core (asked_by line) reply
-    → core ≡ told_by (asked_by line) reply old.core → out ≡ old.out.items ++ reply_text job reply → WritesBeginning before now out → Broke (line ∷ []) old before now
+pub Broke-one : (line : List ℕ) (reply : Reply) (job : Option ℕ) (old : Script) (core : Machine) (before now : Option (List ℕ)) (out : List ℕ) → job ≡ job_of_line line → IsAnswer old.core.machine (asked_by line) reply
+    → core ≡ told_by (asked_by line) reply old.core.machine → out ≡ old.out.items ++ reply_text job reply → WritesBeginning before now out → Broke (line ∷ []) old before now
 Broke-one line reply job old core before now out j a u t w = record {
   answers = (line, reply) ∷ [];
   of_lines = refl;
   each = (a, tt);
-  good = answered-good old.core (told_by (asked_by line) reply old.core) (asked_by line) reply a refl;
+  good = answered-good old.core.machine (told_by (asked_by line) reply old.core.machine) (asked_by line) reply a refl;
   begun = subst (WritesBeginning before now) (one-text line reply job old out j t) w;
 }
 
@@ -67,7 +67,7 @@ pub nothing_begun : (a : Option (List ℕ)) (x : List ℕ) → WritesBeginning a
 nothing_begun a x = WritesBeginning-longer a a [] x (WritesBeginning-all a a [] (Appends-nothing a))
 
 -- an empty line has no answer
-pub Ran-none : (old new : Script) (a : Option (List ℕ)) → new.core ≡ old.core → new.out.items ≡ old.out.items → new.refused ≡ old.refused → new.jobs ≡ old.jobs → Ran [] old new a a
+pub Ran-none : (old new : Script) (a : Option (List ℕ)) → new.core.machine ≡ old.core.machine → new.out.items ≡ old.out.items → new.refused ≡ old.refused → new.jobs ≡ old.jobs → Ran [] old new a a
 Ran-none old new a u o r j = record {
   answers = [];
   of_lines = refl;
@@ -79,7 +79,7 @@ Ran-none old new a u o r j = record {
   good = λ h. subst IsGood (sym u) h;
 }
 
-pub Ran-empty : (line : List ℕ) (old new : Script) (a : Option (List ℕ)) → length line < 1 → new.core ≡ old.core → new.out.items ≡ old.out.items → new.refused ≡ old.refused → new.jobs ≡ old.jobs → Ran (nonempty_line line) old new a a
+pub Ran-empty : (line : List ℕ) (old new : Script) (a : Option (List ℕ)) → length line < 1 → new.core.machine ≡ old.core.machine → new.out.items ≡ old.out.items → new.refused ≡ old.refused → new.jobs ≡ old.jobs → Ran (nonempty_line line) old new a a
 Ran-empty [] old new a lt u o r j = Ran-none old new a u o r j
 Ran-empty (b ∷ bs) old new a lt u o r j = absurd (omega (arith, lt))
 
@@ -115,8 +115,8 @@ pub Ran-then : (ls ms : List (List ℕ)) (a b c : Script) (p q r : Option (List 
 Ran-then ls ms a b c p q r h k = record {
   answers = h.answers ++ k.answers;
   of_lines = lines-then h.answers k.answers ls ms h.of_lines k.of_lines;
-  each = AreAnswers-append a.core b.core h.answers k.answers h.each h.machine k.each;
-  machine = k.machine ∙ left-then a.core b.core h.answers k.answers h.machine;
+  each = AreAnswers-append a.core.machine b.core.machine h.answers k.answers h.each h.machine k.each;
+  machine = k.machine ∙ left-then a.core.machine b.core.machine h.answers k.answers h.machine;
   passes = subst (λ (ts : List ℕ). WritesFront p r ts c.out.items) (text-then a.out.items h.answers k.answers)
       (Passes-then p q r ((a.out.items ++ text_of h.answers) ++ text_of k.answers) (b.out.items ++ text_of k.answers) c.out.items (Passes-more p q (a.out.items ++ text_of h.answers) b.out.items (text_of k.answers) h.passes) k.passes);
   refused = k.refused ∙ ap (λ (x : Bool). x || some_refused k.answers) h.refused ∙ or_assoc a.refused (some_refused h.answers) (some_refused k.answers)
@@ -130,8 +130,8 @@ pub Broke-then : (ls ms : List (List ℕ)) (a b : Script) (p q r : Option (List 
 Broke-then ls ms a b p q r h k = record {
   answers = h.answers ++ k.answers;
   of_lines = lines-then h.answers k.answers ls ms h.of_lines k.of_lines;
-  each = AreAnswers-append a.core b.core h.answers k.answers h.each h.machine k.each;
-  good = λ l. subst IsGood (left-then a.core b.core h.answers k.answers h.machine) (k.good (h.good l));
+  each = AreAnswers-append a.core.machine b.core.machine h.answers k.answers h.each h.machine k.each;
+  good = λ l. subst IsGood (left-then a.core.machine b.core.machine h.answers k.answers h.machine) (k.good (h.good l));
   begun = subst (WritesBeginning p r) (text-then a.out.items h.answers k.answers)
       (Passes-begun p q r ((a.out.items ++ text_of h.answers) ++ text_of k.answers) (b.out.items ++ text_of k.answers) (Passes-more p q (a.out.items ++ text_of h.answers) b.out.items (text_of k.answers) h.passes) k.begun);
 }
@@ -170,11 +170,11 @@ exact-good (l ∷ ls) s good = exact-good ls (told_by (asked_by l) (exact_reply 
 -- the run broke off before these lines
 pub Broke-before : (ls : List (List ℕ)) (a : Script) (p : Option (List ℕ)) → Broke ls a p p
 Broke-before ls a p = record {
-  answers = exact_answers ls a.core;
-  of_lines = exact-lines ls a.core;
-  each = exact-each ls a.core;
-  good = exact-good ls a.core;
-  begun = nothing_begun p (a.out.items ++ text_of (exact_answers ls a.core));
+  answers = exact_answers ls a.core.machine;
+  of_lines = exact-lines ls a.core.machine;
+  each = exact-each ls a.core.machine;
+  good = exact-good ls a.core.machine;
+  begun = nothing_begun p (a.out.items ++ text_of (exact_answers ls a.core.machine));
 }
 
 -- the run broke off before the text
@@ -185,7 +185,7 @@ pub BrokeFront-after : (text rest : List ℕ) (a b : Script) (p q r : Option (Li
 BrokeFront-after text rest a b p q r h w = record { lines = h.lines; rest = rest; broke = Broke-after h.lines a b p q r h.ran w; split = h.split }
 
 -- all that was gathered was written then
-pub RanFront-written : (text rest : List ℕ) (a b c : Script) (p q r : Option (List ℕ)) → RanFront text rest a b p q → Appends q r b.out.items → c.core ≡ b.core → c.refused ≡ b.refused → c.jobs ≡ b.jobs → c.out.items ≡ [] → RanFront text rest a c p r
+pub RanFront-written : (text rest : List ℕ) (a b c : Script) (p q r : Option (List ℕ)) → RanFront text rest a b p q → Appends q r b.out.items → c.core.machine ≡ b.core.machine → c.refused ≡ b.refused → c.jobs ≡ b.jobs → c.out.items ≡ [] → RanFront text rest a c p r
 RanFront-written text rest a b c p q r h w u d j o = record {
   lines = h.lines;
   ran = record {
@@ -206,7 +206,7 @@ pub RanFront-is : (text rest same : List ℕ) (a b : Script) (p q : Option (List
 RanFront-is text rest same a b p q e h = subst (λ (t : List ℕ). RanFront text t a b p q) (sym e) h
 
 -- nothing of the text is answered yet
-pub RanFront-none : (text : List ℕ) (a b : Script) (p : Option (List ℕ)) → b.core ≡ a.core → b.out.items ≡ a.out.items → b.refused ≡ a.refused → b.jobs ≡ a.jobs → RanFront text text a b p p
+pub RanFront-none : (text : List ℕ) (a b : Script) (p : Option (List ℕ)) → b.core.machine ≡ a.core.machine → b.out.items ≡ a.out.items → b.refused ≡ a.refused → b.jobs ≡ a.jobs → RanFront text text a b p p
 RanFront-none text a b p u o r j = record { lines = []; ran = Ran-none a b p u o r j; split = λ more. refl }
 
 pub RanFront-more : (text rest after : List ℕ) (ls : List (List ℕ)) (a b c : Script) (p q r : Option (List ℕ)) → RanFront text rest a b p q → Ran ls b c q r
@@ -297,14 +297,14 @@ joined_broke_first begun piece line end a p q none found line-is broke = record 
 -- ---- the end of input
 
 -- the open jobs were halted after the last line
-pub halted : (ls : List (List ℕ)) (a b : Script) (core : Machine) (p q : Option (List ℕ)) (h : Ran ls a b p q) → core ≡ run_of (halts_of b.jobs) b.core → core ≡ left_at_end h.answers a.jobs a.core
+pub halted : (ls : List (List ℕ)) (a b : Script) (core : Machine) (p q : Option (List ℕ)) (h : Ran ls a b p q) → core ≡ run_of (halts_of b.jobs) b.core.machine → core ≡ left_at_end h.answers a.jobs a.core.machine
 halted ls a b core p q h e = e ∙ (λ i. run_of (halts_of (h.jobs i)) (h.machine i))
 
-halted-good : (ls : List (List ℕ)) (a b : Script) (p q : Option (List ℕ)) (h : Ran ls a b p q) → IsGood a.core → IsGood (left_at_end h.answers a.jobs a.core)
-halted-good ls a b p q h l = good_run (halts_of (left_open h.answers a.jobs)) (left_by h.answers a.core) (subst IsGood h.machine (h.good l))
+halted-good : (ls : List (List ℕ)) (a b : Script) (p q : Option (List ℕ)) (h : Ran ls a b p q) → IsGood a.core.machine → IsGood (left_at_end h.answers a.jobs a.core.machine)
+halted-good ls a b p q h l = good_run (halts_of (left_open h.answers a.jobs)) (left_by h.answers a.core.machine) (subst IsGood h.machine (h.good l))
 
 -- and then the ending was written
-pub ended : (listed : Bool) (begun : List ℕ) (a b c : Script) (core : Machine) (p q r : Option (List ℕ)) → Ran (nonempty_line begun) a b p q → core ≡ run_of (halts_of b.jobs) b.core → Appends q r (b.out.items ++ ending listed (after_units core.units initial).map)
+pub ended : (listed : Bool) (begun : List ℕ) (a b c : Script) (core : Machine) (p q r : Option (List ℕ)) → Ran (nonempty_line begun) a b p q → core ≡ run_of (halts_of b.jobs) b.core.machine → Appends q r (b.out.items ++ ending listed (after_units core.units initial).map)
     → c.refused ≡ b.refused → RanEnd listed begun a c p r
 ended listed begun a b c core p q r h e w d = record {
   answers = h.answers;
@@ -317,7 +317,7 @@ ended listed begun a b c core p q r h e w d = record {
 }
 
 -- or a beginning of it
-pub broke_ending : (listed : Bool) (begun : List ℕ) (a b : Script) (core : Machine) (p q r : Option (List ℕ)) → Ran (nonempty_line begun) a b p q → core ≡ run_of (halts_of b.jobs) b.core
+pub broke_ending : (listed : Bool) (begun : List ℕ) (a b : Script) (core : Machine) (p q r : Option (List ℕ)) → Ran (nonempty_line begun) a b p q → core ≡ run_of (halts_of b.jobs) b.core.machine
     → WritesBeginning q r (b.out.items ++ ending listed (after_units core.units initial).map) → BrokeEnd listed begun a p r
 broke_ending listed begun a b core p q r h e w = record {
   answers = h.answers;
@@ -334,7 +334,7 @@ broke_last listed begun a p r h = record {
   answers = h.answers;
   of_lines = h.of_lines;
   each = h.each;
-  good = λ l. good_run (halts_of (left_open h.answers a.jobs)) (left_by h.answers a.core) (h.good l);
+  good = λ l. good_run (halts_of (left_open h.answers a.jobs)) (left_by h.answers a.core.machine) (h.good l);
   begun = WritesBeginning-longer p r (a.out.items ++ text_of h.answers) _ h.begun;
 }
 

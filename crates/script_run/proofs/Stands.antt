@@ -5,11 +5,14 @@ use Rattle.std.proofs.lemmas.Grind.{flat_map-append}
 use Rattle.std.proofs.lemmas.List.Folds.{list_any-append}
 use Rattle.std.specs.Prelude.{⊤}
 use Rattle.std.specs.Io.KnownBytes.{Appends, Consumes, IsAtEnd, Keeps}
-use Rattle.journal.specs.Story.{Machine, nothing_done}
-use Rattle.journal.specs.History.{initial, after}
+use Rattle.std.specs.Ordering.{nat_cmp}
+use Rattle.std.specs.FinMap as finmap
+use Rattle.std.specs.FinMap.{FinMap}
+use Rattle.journal.specs.Story.{Machine, Transaction}
+use Rattle.journal.specs.History.{initial, after, IsLegal}
 use Rattle.serial.specs.Machine.{run_of}
-use Rattle.serial.specs.Soundness.{IsGood}
-use Rattle.serial.specs.laws.Good.{good_run, good_nothing}
+use Rattle.serial.specs.Soundness.{IsGood, IsSound}
+use Rattle.serial.specs.laws.Good.{good_run}
 use Rattle.listing.specs.Bytes.{WritesBeginning, WritesFront}
 use Rattle.script_run.specs.Lines.{nonempty_line, lines_of, has_no_end}
 use Rattle.script_run.proofs.Exact.{exact_output}
@@ -29,13 +32,20 @@ Follows None left lines begun = ⊤
 Follows (Some all) None lines begun = ⊥
 Follows (Some all) (Some more) lines begun = lines_of all ≡ lines ++ lines_of (begun ++ more)
 
+-- legal units without open transactions
+pub good_start : (s : Machine) → IsLegal s.units initial → s.transactions ≡ finmap.empty → IsGood s
+good_start s legal closed = record { legal = legal; sound = λ job t is. none_open job t (sym is ∙ ap (λ (ts : FinMap nat_cmp Transaction). finmap.get ts job) closed ∙ finmap.get-empty nat_cmp job) }
+  where
+    none_open : (job : ℕ) (t : Transaction) → ◌≡◌ {A = Option Transaction} (Some t) None → IsSound s.units t
+    none_open job t e = absurd cc
+
 -- lines were answered and the answers written, and a line has begun
-pub record Stands (all left : Option (List ℕ)) (begun : List ℕ) (old new : Option (List ℕ)) (script : Script) : Type 0 where
+pub record Stands (start : Machine) (all left : Option (List ℕ)) (begun : List ℕ) (old new : Option (List ℕ)) (script : Script) : Type 0 where
   pub answers : List Answer
-  pub each : AreAnswers nothing_done answers
-  pub machine : script.core ≡ left_by answers nothing_done
+  pub each : AreAnswers start answers
+  pub machine : script.core.machine ≡ left_by answers start
   pub jobs : script.jobs ≡ left_open answers []
-  pub good : IsGood script.core
+  pub good : IsGood script.core.machine
   pub out : script.out.items ≡ []
   pub refused : script.refused ≡ some_refused answers
   pub written : Appends old new (text_of answers)
@@ -46,13 +56,13 @@ Follows-start : (all : Option (List ℕ)) → Follows all all [] []
 Follows-start None = tt
 Follows-start (Some xs) = refl
 
-pub stands_first : (all old : Option (List ℕ)) (begun : List ℕ) (script : Script) → script.core ≡ nothing_done → script.jobs ≡ [] → script.out.items ≡ [] → script.refused ≡ false → begun ≡ [] → Stands all all begun old old script
-stands_first all old begun script u j o r b = record {
+pub stands_first : (start : Machine) (all old : Option (List ℕ)) (begun : List ℕ) (script : Script) → script.core.machine ≡ start → script.jobs ≡ [] → script.out.items ≡ [] → script.refused ≡ false → begun ≡ [] → IsGood start → Stands start all all begun old old script
+stands_first start all old begun script u j o r b good = record {
   answers = [];
   each = tt;
   machine = u;
   jobs = j;
-  good = subst IsGood (sym u) good_nothing;
+  good = subst IsGood (sym u) good;
   out = o;
   refused = r;
   written = Appends-nothing old;
@@ -89,12 +99,12 @@ written-next old new new' before more a b w o p e =
     (Appends-more old new new' (text_of before) (a.out.items ++ text_of more) w
     (Passes-Appends new new' new' (a.out.items ++ text_of more) [] (subst (λ (t : List ℕ). WritesFront new new' (a.out.items ++ text_of more) t) e p) (Appends-nothing new')))
 
-pub stands_next : (all left left' old new new' : Option (List ℕ)) (begun piece rest : List ℕ) (a b : Script) → Stands all left begun old new a → HasRead left left' piece → RanFront (begun ++ piece) rest a b new new'
-    → has_no_end rest ≡ true → b.out.items ≡ [] → Stands all left' rest old new' b
-stands_next all left left' old new new' begun piece rest a b h r f w o = record {
+pub stands_next : (start : Machine) (all left left' old new new' : Option (List ℕ)) (begun piece rest : List ℕ) (a b : Script) → Stands start all left begun old new a → HasRead left left' piece → RanFront (begun ++ piece) rest a b new new'
+    → has_no_end rest ≡ true → b.out.items ≡ [] → Stands start all left' rest old new' b
+stands_next start all left left' old new new' begun piece rest a b h r f w o = record {
   answers = h.answers ++ f.ran.answers;
-  each = AreAnswers-append nothing_done a.core h.answers f.ran.answers h.each h.machine f.ran.each;
-  machine = f.ran.machine ∙ left-then nothing_done a.core h.answers f.ran.answers h.machine;
+  each = AreAnswers-append start a.core.machine h.answers f.ran.answers h.each h.machine f.ran.each;
+  machine = f.ran.machine ∙ left-then start a.core.machine h.answers f.ran.answers h.machine;
   jobs = f.ran.jobs ∙ open-then [] a.jobs h.answers f.ran.answers h.jobs;
   good = f.ran.good h.good;
   out = o;
@@ -104,26 +114,26 @@ stands_next all left left' old new new' begun piece rest a b h r f w o = record 
   whole = w;
 }
 
-pub record Goes (listed : Bool) (bytes text : List ℕ) : Type 0 where
+pub record Goes (start : Machine) (listed : Bool) (bytes text : List ℕ) : Type 0 where
   pub more : List ℕ
   pub refused : Bool
-  pub output : IsOutput listed bytes (text ++ more) refused
+  pub output : IsOutput start listed bytes (text ++ more) refused
 
 -- a text of answers goes on to a whole output
-pub goes_on : (listed : Bool) (bytes : List ℕ) (answers : List Answer) (rest : List (List ℕ)) → lines_of bytes ≡ lines_in answers ++ rest → AreAnswers nothing_done answers → IsGood (left_by answers nothing_done) → Goes listed bytes (text_of answers)
-goes_on listed bytes answers rest e each good =
-    let left : Machine = left_by answers nothing_done in
+pub goes_on : (start : Machine) (listed : Bool) (bytes : List ℕ) (answers : List Answer) (rest : List (List ℕ)) → lines_of bytes ≡ lines_in answers ++ rest → AreAnswers start answers → IsGood (left_by answers start) → Goes start listed bytes (text_of answers)
+goes_on start listed bytes answers rest e each good =
+    let left : Machine = left_by answers start in
     let more : List Answer = exact_answers rest left in
     let whole : List Answer = answers ++ more in
-    let tail : List ℕ = ending listed (after (left_at_end whole [] nothing_done).units initial).map in
-    let ends : IsGood (left_at_end whole [] nothing_done) = good_run (halts_of (left_open whole [])) (left_by whole nothing_done) (subst IsGood (sym (left-append answers more nothing_done)) (exact-good rest left good)) in
+    let tail : List ℕ = ending listed (after (left_at_end whole [] start).units initial).map in
+    let ends : IsGood (left_at_end whole [] start) = good_run (halts_of (left_open whole [])) (left_by whole start) (subst IsGood (sym (left-append answers more start)) (exact-good rest left good)) in
     record {
       more = text_of more ++ tail;
       refused = some_refused whole;
       output = record {
         answers = whole;
         of_lines = lines-append answers more ∙ ap (λ (l : List (List ℕ)). lines_in answers ++ l) (exact-lines rest left) ∙ sym e;
-        each = AreAnswers-append nothing_done left answers more each refl (exact-each rest left);
+        each = AreAnswers-append start left answers more each refl (exact-each rest left);
         legal = ends.legal;
         written = sym (append_assoc (text_of answers) (text_of more) tail) ∙ ap (λ (t : List ℕ). t ++ tail) (sym (flat_map-append _ answers more));
         told = refl;
@@ -132,30 +142,30 @@ goes_on listed bytes answers rest e each good =
 
 -- ---- what was written
 
-begun_of : (listed : Bool) (all left old new : Option (List ℕ)) (answers : List Answer) (begun : List ℕ) → Follows all left (lines_in answers) begun → AreAnswers nothing_done answers → IsGood (left_by answers nothing_done)
-    → WritesBeginning old new (text_of answers) → IfSome all (λ bytes. IsBegun listed bytes old new)
-begun_of listed None left old new answers begun f each good w = tt
-begun_of listed (Some bytes) None old new answers begun f each good w = absurd f
-begun_of listed (Some bytes) (Some more) old new answers begun f each good w =
-    let g = goes_on listed bytes answers (lines_of (begun ++ more)) f each good in
+begun_of : (start : Machine) (listed : Bool) (all left old new : Option (List ℕ)) (answers : List Answer) (begun : List ℕ) → Follows all left (lines_in answers) begun → AreAnswers start answers → IsGood (left_by answers start)
+    → WritesBeginning old new (text_of answers) → IfSome all (λ bytes. IsBegun start listed bytes old new)
+begun_of start listed None left old new answers begun f each good w = tt
+begun_of start listed (Some bytes) None old new answers begun f each good w = absurd f
+begun_of start listed (Some bytes) (Some more) old new answers begun f each good w =
+    let g = goes_on start listed bytes answers (lines_of (begun ++ more)) f each good in
     record { text = text_of answers ++ g.more; refused = g.refused; output = g.output; written = WritesBeginning-longer old new (text_of answers) g.more w }
 
 -- nothing was done yet
-pub begun_first : (listed : Bool) (all old : Option (List ℕ)) → IfSome all (λ bytes. IsBegun listed bytes old old)
-begun_first listed all old = begun_of listed all all old old [] [] (Follows-start all) tt good_nothing (nothing_begun old [])
+pub begun_first : (start : Machine) (listed : Bool) (all old : Option (List ℕ)) → IsGood start → IfSome all (λ bytes. IsBegun start listed bytes old old)
+begun_first start listed all old good = begun_of start listed all all old old [] [] (Follows-start all) tt good (nothing_begun old [])
 
 -- nothing was written since
-pub begun_at : (listed : Bool) (all left old new : Option (List ℕ)) (begun : List ℕ) (s : Script) → Stands all left begun old new s → IfSome all (λ bytes. IsBegun listed bytes old new)
-begun_at listed all left old new begun s h = begun_of listed all left old new h.answers begun h.split h.each (subst IsGood h.machine h.good) (WritesBeginning-all old new (text_of h.answers) h.written)
+pub begun_at : (start : Machine) (listed : Bool) (all left old new : Option (List ℕ)) (begun : List ℕ) (s : Script) → Stands start all left begun old new s → IfSome all (λ bytes. IsBegun start listed bytes old new)
+begun_at start listed all left old new begun s h = begun_of start listed all left old new h.answers begun h.split h.each (subst IsGood h.machine h.good) (WritesBeginning-all old new (text_of h.answers) h.written)
 
 -- the run broke off in a piece
-pub begun_piece : (listed : Bool) (all left left' old new new' : Option (List ℕ)) (begun piece : List ℕ) (a : Script) → Stands all left begun old new a → HasRead left left' piece → BrokeFront (begun ++ piece) a new new'
-    → IfSome all (λ bytes. IsBegun listed bytes old new')
-begun_piece listed all left left' old new new' begun piece a h r f =
+pub begun_piece : (start : Machine) (listed : Bool) (all left left' old new new' : Option (List ℕ)) (begun piece : List ℕ) (a : Script) → Stands start all left begun old new a → HasRead left left' piece → BrokeFront (begun ++ piece) a new new'
+    → IfSome all (λ bytes. IsBegun start listed bytes old new')
+begun_piece start listed all left left' old new new' begun piece a h r f =
     let k = f.broke in
-    begun_of listed all left' old new' (h.answers ++ k.answers) f.rest (Follows-piece all left left' begun piece f.rest h.answers k.answers f.lines h.split r.consumed k.of_lines f.split)
-    (AreAnswers-append nothing_done a.core h.answers k.answers h.each h.machine k.each)
-    (subst IsGood (left-then nothing_done a.core h.answers k.answers h.machine) (k.good h.good))
+    begun_of start listed all left' old new' (h.answers ++ k.answers) f.rest (Follows-piece all left left' begun piece f.rest h.answers k.answers f.lines h.split r.consumed k.of_lines f.split)
+    (AreAnswers-append start a.core.machine h.answers k.answers h.each h.machine k.each)
+    (subst IsGood (left-then start a.core.machine h.answers k.answers h.machine) (k.good h.good))
     (subst (WritesBeginning old new') (ap (λ (t : List ℕ). text_of h.answers ++ (t ++ text_of k.answers)) h.out ∙ sym (flat_map-append _ h.answers k.answers))
     (WritesBeginning-then old new new' (text_of h.answers) (a.out.items ++ text_of k.answers) h.written k.begun))
 
@@ -167,57 +177,57 @@ at_end bytes (Some more) (Some more') ls begun piece h k p e =
     h ∙ ap (λ (m : List ℕ). ls ++ lines_of (begun ++ m)) none ∙ ap (λ (t : List ℕ). ls ++ lines_of t) (append-nil begun)
 
 -- the whole output, of the answers before the end of input and of that to the last line
-whole_output : (listed : Bool) (bytes : List ℕ) (left left' old new : Option (List ℕ)) (begun piece : List ℕ) (a : Script) (last : List Answer) (h : Stands (Some bytes) left begun old new a) → HasRead left left' piece → length piece ≡ 0
-    → lines_in last ≡ nonempty_line begun → AreAnswers a.core last → (IsGood a.core → IsGood (left_at_end last a.jobs a.core))
-    → IsOutput listed bytes (text_of h.answers ++ ((a.out.items ++ text_of last) ++ ending listed (after (left_at_end last a.jobs a.core).units initial).map)) (a.refused || some_refused last)
-whole_output listed bytes left left' old new begun piece a last h r none of_lines each good =
+whole_output : (start : Machine) (listed : Bool) (bytes : List ℕ) (left left' old new : Option (List ℕ)) (begun piece : List ℕ) (a : Script) (last : List Answer) (h : Stands start (Some bytes) left begun old new a) → HasRead left left' piece → length piece ≡ 0
+    → lines_in last ≡ nonempty_line begun → AreAnswers a.core.machine last → (IsGood a.core.machine → IsGood (left_at_end last a.jobs a.core.machine))
+    → IsOutput start listed bytes (text_of h.answers ++ ((a.out.items ++ text_of last) ++ ending listed (after (left_at_end last a.jobs a.core.machine).units initial).map)) (a.refused || some_refused last)
+whole_output start listed bytes left left' old new begun piece a last h r none of_lines each good =
     let whole : List Answer = h.answers ++ last in
-    let left-is : left_by last a.core ≡ left_by whole nothing_done = left-then nothing_done a.core h.answers last h.machine in
+    let left-is : left_by last a.core.machine ≡ left_by whole start = left-then start a.core.machine h.answers last h.machine in
     let open-is : left_open last a.jobs ≡ left_open whole [] = open-then [] a.jobs h.answers last h.jobs in
-    let end-is : left_at_end last a.jobs a.core ≡ left_at_end whole [] nothing_done = λ i. run_of (halts_of (open-is i)) (left-is i) in
-    let tail : List ℕ = ending listed (after (left_at_end last a.jobs a.core).units initial).map in
+    let end-is : left_at_end last a.jobs a.core.machine ≡ left_at_end whole [] start = λ i. run_of (halts_of (open-is i)) (left-is i) in
+    let tail : List ℕ = ending listed (after (left_at_end last a.jobs a.core.machine).units initial).map in
     record {
       answers = whole;
       of_lines = lines-append h.answers last ∙ ap (λ (l : List (List ℕ)). lines_in h.answers ++ l) (of_lines ∙ sym (last_line begun h.whole)) ∙ sym (at_end bytes left left' (lines_in h.answers) begun piece h.split r.consumed (nil_from_length piece none) (r.ended none));
-      each = AreAnswers-append nothing_done a.core h.answers last h.each h.machine each;
+      each = AreAnswers-append start a.core.machine h.answers last h.each h.machine each;
       legal = (subst IsGood end-is (good h.good)).legal;
       written = ap (λ (t : List ℕ). text_of h.answers ++ ((t ++ text_of last) ++ tail)) h.out ∙ sym (append_assoc (text_of h.answers) (text_of last) tail) ∙ ap (λ (t : List ℕ). t ++ tail) (sym (flat_map-append _ h.answers last))
           ∙ ap (λ (s : Machine). text_of whole ++ ending listed (after s.units initial).map) end-is;
       told = ap (λ (x : Bool). x || some_refused last) h.refused ∙ sym (list_any-append _ h.answers last);
     }
 
-pub wrote_all : (listed : Bool) (all left left' old new last : Option (List ℕ)) (begun piece : List ℕ) (a b : Script) → Stands all left begun old new a → HasRead left left' piece → length piece ≡ 0 → RanEnd listed begun a b new last
-    → IfSome all (λ bytes. Wrote listed bytes b.refused old last)
-wrote_all listed None left left' old new last begun piece a b h r none e = tt
-wrote_all listed (Some bytes) left left' old new last begun piece a b h r none e =
-    let end : List ℕ = (a.out.items ++ text_of e.answers) ++ ending listed (after (left_at_end e.answers a.jobs a.core).units initial).map in
-    let output : IsOutput listed bytes (text_of h.answers ++ end) b.refused = subst (IsOutput listed bytes (text_of h.answers ++ end)) (sym e.refused) (whole_output listed bytes left left' old new begun piece a e.answers h r none e.of_lines e.each e.good) in
+pub wrote_all : (start : Machine) (listed : Bool) (all left left' old new last : Option (List ℕ)) (begun piece : List ℕ) (a b : Script) → Stands start all left begun old new a → HasRead left left' piece → length piece ≡ 0 → RanEnd listed begun a b new last
+    → IfSome all (λ bytes. Wrote start listed bytes b.refused old last)
+wrote_all start listed None left left' old new last begun piece a b h r none e = tt
+wrote_all start listed (Some bytes) left left' old new last begun piece a b h r none e =
+    let end : List ℕ = (a.out.items ++ text_of e.answers) ++ ending listed (after (left_at_end e.answers a.jobs a.core.machine).units initial).map in
+    let output : IsOutput start listed bytes (text_of h.answers ++ end) b.refused = subst (IsOutput start listed bytes (text_of h.answers ++ end)) (sym e.refused) (whole_output start listed bytes left left' old new begun piece a e.answers h r none e.of_lines e.each e.good) in
     record {
       text = text_of h.answers ++ end;
       output = output;
-      exact = exact_output listed bytes (text_of h.answers ++ end) b.refused output;
+      exact = exact_output start listed bytes (text_of h.answers ++ end) b.refused output;
       written = Appends-more old new last (text_of h.answers) end h.written e.written;
     }
 
 -- a beginning of the last answer and of the ending was written
-pub begun_end : (listed : Bool) (all left left' old new last : Option (List ℕ)) (begun piece : List ℕ) (a : Script) → Stands all left begun old new a → HasRead left left' piece → length piece ≡ 0 → BrokeEnd listed begun a new last
-    → IfSome all (λ bytes. IsBegun listed bytes old last)
-begun_end listed None left left' old new last begun piece a h r none e = tt
-begun_end listed (Some bytes) left left' old new last begun piece a h r none e =
-    let end : List ℕ = (a.out.items ++ text_of e.answers) ++ ending listed (after (left_at_end e.answers a.jobs a.core).units initial).map in
+pub begun_end : (start : Machine) (listed : Bool) (all left left' old new last : Option (List ℕ)) (begun piece : List ℕ) (a : Script) → Stands start all left begun old new a → HasRead left left' piece → length piece ≡ 0 → BrokeEnd listed begun a new last
+    → IfSome all (λ bytes. IsBegun start listed bytes old last)
+begun_end start listed None left left' old new last begun piece a h r none e = tt
+begun_end start listed (Some bytes) left left' old new last begun piece a h r none e =
+    let end : List ℕ = (a.out.items ++ text_of e.answers) ++ ending listed (after (left_at_end e.answers a.jobs a.core.machine).units initial).map in
     record {
       text = text_of h.answers ++ end;
       refused = a.refused || some_refused e.answers;
-      output = whole_output listed bytes left left' old new begun piece a e.answers h r none e.of_lines e.each e.good;
+      output = whole_output start listed bytes left left' old new begun piece a e.answers h r none e.of_lines e.each e.good;
       written = WritesBeginning-then old new last (text_of h.answers) end h.written e.begun;
     }
 
 -- where a read fails, the lines that ended were answered
-pub answered : (all left left' old new : Option (List ℕ)) (begun : List ℕ) (script : Script) → Stands all left begun old new script → Keeps left left' → IfSome all (λ bytes. IfSome left' (λ more. HasAnsweredLines bytes more old new))
-answered None left left' old new begun script h k = tt
-answered (Some bytes) None left' old new begun script h k = absurd h.split
-answered (Some bytes) (Some more) None old new begun script h k = absurd k
-answered (Some bytes) (Some more) (Some more') old new begun script h k = record {
+pub answered : (start : Machine) (all left left' old new : Option (List ℕ)) (begun : List ℕ) (script : Script) → Stands start all left begun old new script → Keeps left left' → IfSome all (λ bytes. IfSome left' (λ more. HasAnsweredLines start bytes more old new))
+answered start None left left' old new begun script h k = tt
+answered start (Some bytes) None left' old new begun script h k = absurd h.split
+answered start (Some bytes) (Some more) None old new begun script h k = absurd k
+answered start (Some bytes) (Some more) (Some more') old new begun script h k = record {
   answers = h.answers;
   begun = begun;
   each = h.each;

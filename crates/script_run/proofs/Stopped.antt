@@ -11,7 +11,7 @@ use Rattle.bstr.specs.Find.{IsFirstByte, is_byte}
 use Rattle.collation.specs.Database.{Database}
 use Rattle.command.specs.declared.request.Reply.{Reply}
 use Rattle.journal.specs.History.{initial, after}
-use Rattle.journal.specs.Story.{Machine, nothing_done}
+use Rattle.journal.specs.Story.{Machine}
 use Rattle.serial.specs.Machine.{run_of}
 use Rattle.serial.specs.Soundness.{IsGood}
 use Rattle.serial.specs.laws.Good.{good_run}
@@ -54,7 +54,7 @@ is_memory {T = T} (Err f) e h k = of_memory e (sym h ∙ error_is {T = T} f Memo
 -- ---- lines
 
 -- a line was done, and its reply found no memory
-pub Stopped-one : (line : List ℕ) (reply : Reply) (old new : Script) (a : Option (List ℕ)) → IsAnswer old.core (asked_by line) reply → new.core ≡ told_by (asked_by line) reply old.core → new.out.items ≡ old.out.items
+pub Stopped-one : (line : List ℕ) (reply : Reply) (old new : Script) (a : Option (List ℕ)) → IsAnswer old.core.machine (asked_by line) reply → new.core.machine ≡ told_by (asked_by line) reply old.core.machine → new.out.items ≡ old.out.items
     → Stopped (line ∷ []) old new a a
 Stopped-one line reply old new a h u o = record {
   answers = [];
@@ -69,7 +69,7 @@ Stopped-one line reply old new a h u o = record {
 }
 
 -- none of the lines was begun
-pub Stopped-before : (ls : List (List ℕ)) (old new : Script) (a : Option (List ℕ)) → new.core ≡ old.core → new.out.items ≡ old.out.items → Stopped ls old new a a
+pub Stopped-before : (ls : List (List ℕ)) (old new : Script) (a : Option (List ℕ)) → new.core.machine ≡ old.core.machine → new.out.items ≡ old.out.items → Stopped ls old new a a
 Stopped-before ls old new a u o = record {
   answers = [];
   lost = [];
@@ -103,19 +103,19 @@ Stopped-then ls ms a b c p q r h k = record {
   unread = k.unread;
   few = k.few;
   of_lines = lines-then h.answers k.answers ls ms (lines_in k.lost ++ k.unread) h.of_lines k.of_lines;
-  each = each-then a.core b.core h.answers k.answers k.lost h.each h.machine k.each;
-  machine = machine-then a.core b.core c.core h.answers k.answers k.lost h.machine k.machine;
-  good = λ l. subst IsGood (left-then a.core b.core h.answers k.answers h.machine) (k.good (h.good l));
+  each = each-then a.core.machine b.core.machine h.answers k.answers k.lost h.each h.machine k.each;
+  machine = machine-then a.core.machine b.core.machine c.core.machine h.answers k.answers k.lost h.machine k.machine;
+  good = λ l. subst IsGood (left-then a.core.machine b.core.machine h.answers k.answers h.machine) (k.good (h.good l));
   passes = subst (λ (ts : List ℕ). WritesFront p r ts c.out.items) (text-then a.out.items h.answers k.answers)
       (Passes-then p q r ((a.out.items ++ text_of h.answers) ++ text_of k.answers) (b.out.items ++ text_of k.answers) c.out.items (Passes-more p q (a.out.items ++ text_of h.answers) b.out.items (text_of k.answers) h.passes) k.passes);
 }
 
 -- ---- the front of a text
 
-pub StoppedFront-before : (text : List ℕ) (a b : Script) (p : Option (List ℕ)) → b.core ≡ a.core → b.out.items ≡ a.out.items → StoppedFront text a b p p
+pub StoppedFront-before : (text : List ℕ) (a b : Script) (p : Option (List ℕ)) → b.core.machine ≡ a.core.machine → b.out.items ≡ a.out.items → StoppedFront text a b p p
 StoppedFront-before text a b p u o = record { lines = []; rest = text; stopped = Stopped-before [] a b p u o; split = λ more. refl }
 
-pub StoppedFront-after : (text rest : List ℕ) (a b c : Script) (p q : Option (List ℕ)) → RanFront text rest a b p q → c.core ≡ b.core → c.out.items ≡ b.out.items → StoppedFront text a c p q
+pub StoppedFront-after : (text rest : List ℕ) (a b c : Script) (p q : Option (List ℕ)) → RanFront text rest a b p q → c.core.machine ≡ b.core.machine → c.out.items ≡ b.out.items → StoppedFront text a c p q
 StoppedFront-after text rest a b c p q h u o = record {
   lines = h.lines;
   rest = rest;
@@ -183,7 +183,7 @@ stopped_last listed line a b p q h = record {
 }
 
 -- all lines were answered, and then a front of what follows was gathered
-pub stopped_ending : (listed : Bool) (line : List ℕ) (a b c : Script) (core : Machine) (p q r : Option (List ℕ)) → Ran (nonempty_line line) a b p q → core ≡ run_of (halts_of b.jobs) b.core
+pub stopped_ending : (listed : Bool) (line : List ℕ) (a b c : Script) (core : Machine) (p q r : Option (List ℕ)) → Ran (nonempty_line line) a b p q → core ≡ run_of (halts_of b.jobs) b.core.machine
     → EndedFront listed (after core.units initial).map b.out.items c.out.items q r → StoppedEnd listed line a c p r
 stopped_ending listed line a b c core p q r h e k = record {
   answers = h.answers;
@@ -192,7 +192,7 @@ stopped_ending listed line a b c core p q r h e k = record {
   behind = k.behind;
   few = omega arith;
   of_lines = append-nil _ ∙ h.of_lines;
-  each = subst (AreAnswers a.core) (sym (append-nil h.answers)) h.each;
+  each = subst (AreAnswers a.core.machine) (sym (append-nil h.answers)) h.each;
   machine = inl refl;
   good = λ l. subst IsGood h.machine (h.good l);
   front = subst (λ (s : Machine). (k.behind ≡ []) ⊎ IsEndingFront listed [] (after s.units initial).map k.behind) (halted (nonempty_line line) a b core p q h e) k.front;
@@ -202,30 +202,30 @@ stopped_ending listed line a b c core p q r h e k = record {
 -- all lines were answered, and a HALT found no memory
 pub stopped_halts : (listed : Bool) (line : List ℕ) (a b c : Script) (p q : Option (List ℕ)) → Ran (nonempty_line line) a b p q → c.out.items ≡ b.out.items → StoppedEnd listed line a c p q
 stopped_halts listed line a b c p q h o =
-    stopped_ending listed line a b c (run_of (halts_of b.jobs) b.core) p q q h refl (ended_before listed _ b.out.items c.out.items q o)
+    stopped_ending listed line a b c (run_of (halts_of b.jobs) b.core.machine) p q q h refl (ended_before listed _ b.out.items c.out.items q o)
 
 -- ---- a whole script
 
 -- at a place between two reads
-gathered_known : (listed : Bool) (bytes : List ℕ) (left old new : Option (List ℕ)) (begun : List ℕ) (script : Script) → Stands (Some bytes) left begun old new script → HasGathered listed bytes script old new
-gathered_known listed bytes None old new begun script h = absurd h.split
-gathered_known listed bytes (Some more) old new begun script h = record {
+gathered_known : (start : Machine) (listed : Bool) (bytes : List ℕ) (left old new : Option (List ℕ)) (begun : List ℕ) (script : Script) → Stands start (Some bytes) left begun old new script → HasGathered start listed bytes script old new
+gathered_known start listed bytes None old new begun script h = absurd h.split
+gathered_known start listed bytes (Some more) old new begun script h = record {
   answers = h.answers;
   lost = [];
   unread = lines_of (begun ++ more);
   behind = [];
   few = omega arith;
   of_lines = h.split;
-  each = subst (AreAnswers nothing_done) (sym (append-nil h.answers)) h.each;
-  machine = inr (h.machine ∙ ap (λ (xs : List Answer). left_by xs nothing_done) (sym (append-nil h.answers)));
+  each = subst (AreAnswers start) (sym (append-nil h.answers)) h.each;
+  machine = inr (h.machine ∙ ap (λ (xs : List Answer). left_by xs start) (sym (append-nil h.answers)));
   good = subst IsGood h.machine h.good;
   front = inl refl;
   passes = Passes-all old new (text_of h.answers ++ []) script.out.items (subst (Appends old new) (sym (append-nil (text_of h.answers))) h.written) h.out;
 }
 
-pub gathered_at : (listed : Bool) (all left old new : Option (List ℕ)) (begun : List ℕ) (script : Script) → Stands all left begun old new script → IfSome all (λ bytes. HasGathered listed bytes script old new)
-gathered_at listed None left old new begun script h = tt
-gathered_at listed (Some bytes) left old new begun script h = gathered_known listed bytes left old new begun script h
+pub gathered_at : (start : Machine) (listed : Bool) (all left old new : Option (List ℕ)) (begun : List ℕ) (script : Script) → Stands start all left begun old new script → IfSome all (λ bytes. HasGathered start listed bytes script old new)
+gathered_at start listed None left old new begun script h = tt
+gathered_at start listed (Some bytes) left old new begun script h = gathered_known start listed bytes left old new begun script h
 
 -- what was written before, and then some more
 passes-first : (a b c : Option (List ℕ)) (x y z : List ℕ) → Appends a b x → WritesFront b c y z → WritesFront a c (x ++ y) z
@@ -249,10 +249,10 @@ lines-known before more lost unread behind all e =
     e ∙ append_assoc before (more ++ (lost ++ unread)) behind ∙ ap (λ (l : List (List ℕ)). before ++ l) (append_assoc more (lost ++ unread) behind ∙ ap (λ (l : List (List ℕ)). more ++ l) (append_assoc lost unread behind))
     ∙ sym (append_assoc before more (lost ++ (unread ++ behind)))
 
-gathered_known_piece : (listed : Bool) (bytes : List ℕ) (left left' old new last : Option (List ℕ)) (begun piece : List ℕ) (a b : Script) (h : Stands (Some bytes) left begun old new a) (k : StoppedFront (begun ++ piece) a b new last)
-    → Follows (Some bytes) left' (lines_in h.answers ++ k.lines) k.rest → HasGathered listed bytes b old last
-gathered_known_piece listed bytes left None old new last begun piece a b h k f = absurd f
-gathered_known_piece listed bytes left (Some more) old new last begun piece a b h k f = record {
+gathered_known_piece : (start : Machine) (listed : Bool) (bytes : List ℕ) (left left' old new last : Option (List ℕ)) (begun piece : List ℕ) (a b : Script) (h : Stands start (Some bytes) left begun old new a) (k : StoppedFront (begun ++ piece) a b new last)
+    → Follows (Some bytes) left' (lines_in h.answers ++ k.lines) k.rest → HasGathered start listed bytes b old last
+gathered_known_piece start listed bytes left None old new last begun piece a b h k f = absurd f
+gathered_known_piece start listed bytes left (Some more) old new last begun piece a b h k f = record {
   answers = h.answers ++ k.stopped.answers;
   lost = k.stopped.lost;
   unread = k.stopped.unread ++ lines_of (k.rest ++ more);
@@ -261,20 +261,20 @@ gathered_known_piece listed bytes left (Some more) old new last begun piece a b 
   of_lines = lines-known (lines_in h.answers) (lines_in k.stopped.answers) (lines_in k.stopped.lost) k.stopped.unread (lines_of (k.rest ++ more)) (lines_of bytes)
       (f ∙ ap (λ (l : List (List ℕ)). (lines_in h.answers ++ l) ++ lines_of (k.rest ++ more)) (sym k.stopped.of_lines))
       ∙ ap (λ (l : List (List ℕ)). l ++ (lines_in k.stopped.lost ++ (k.stopped.unread ++ lines_of (k.rest ++ more)))) (sym (lines-append h.answers k.stopped.answers));
-  each = each-then nothing_done a.core h.answers k.stopped.answers k.stopped.lost h.each h.machine k.stopped.each;
-  machine = inr (machine-then nothing_done a.core b.core h.answers k.stopped.answers k.stopped.lost h.machine k.stopped.machine);
-  good = subst IsGood (left-then nothing_done a.core h.answers k.stopped.answers h.machine) (k.stopped.good h.good);
+  each = each-then start a.core.machine h.answers k.stopped.answers k.stopped.lost h.each h.machine k.stopped.each;
+  machine = inr (machine-then start a.core.machine b.core.machine h.answers k.stopped.answers k.stopped.lost h.machine k.stopped.machine);
+  good = subst IsGood (left-then start a.core.machine h.answers k.stopped.answers h.machine) (k.stopped.good h.good);
   front = inl refl;
   passes = passes-next old new last h.answers k.stopped.answers a.out.items [] b.out.items h.written h.out
       (subst (λ (ts : List ℕ). WritesFront new last ts b.out.items) (sym (append-nil (a.out.items ++ text_of k.stopped.answers))) k.stopped.passes);
 }
 
 -- in a piece
-pub gathered_piece : (listed : Bool) (all left left' old new last : Option (List ℕ)) (begun piece : List ℕ) (a b : Script) → Stands all left begun old new a → HasRead left left' piece → StoppedFront (begun ++ piece) a b new last
-    → IfSome all (λ bytes. HasGathered listed bytes b old last)
-gathered_piece listed None left left' old new last begun piece a b h r k = tt
-gathered_piece listed (Some bytes) left left' old new last begun piece a b h r k =
-    gathered_known_piece listed bytes left left' old new last begun piece a b h k
+pub gathered_piece : (start : Machine) (listed : Bool) (all left left' old new last : Option (List ℕ)) (begun piece : List ℕ) (a b : Script) → Stands start all left begun old new a → HasRead left left' piece → StoppedFront (begun ++ piece) a b new last
+    → IfSome all (λ bytes. HasGathered start listed bytes b old last)
+gathered_piece start listed None left left' old new last begun piece a b h r k = tt
+gathered_piece start listed (Some bytes) left left' old new last begun piece a b h r k =
+    gathered_known_piece start listed bytes left left' old new last begun piece a b h k
     (Follows-lines (Some bytes) left' (lines_in h.answers) k.lines (begun ++ piece) k.rest (Follows-more (Some bytes) left left' (lines_in h.answers) begun piece h.split r.consumed) k.split)
 
 machine-end : (s t u : Machine) (xs ys lost : List Answer) (more : List (List ℕ)) → t ≡ left_by xs s → (more ≡ []) ⊎ (u ≡ left_by (ys ++ lost) t) → (more ≡ []) ⊎ (u ≡ left_by ((xs ++ ys) ++ lost) s)
@@ -282,13 +282,13 @@ machine-end s t u xs ys lost more e (inl none) = inl none
 machine-end s t u xs ys lost more e (inr is) = inr (machine-then s t u xs ys lost e is)
 
 -- at the end of input
-pub gathered_end : (listed : Bool) (all left left' old new last : Option (List ℕ)) (begun piece : List ℕ) (a b : Script) → Stands all left begun old new a → HasRead left left' piece → length piece ≡ 0 → StoppedEnd listed begun a b new last
-    → IfSome all (λ bytes. HasGathered listed bytes b old last)
-gathered_end listed None left left' old new last begun piece a b h r none k = tt
-gathered_end listed (Some bytes) left left' old new last begun piece a b h r none k =
-    let left-is : left_by k.answers a.core ≡ left_by (h.answers ++ k.answers) nothing_done = left-then nothing_done a.core h.answers k.answers h.machine in
+pub gathered_end : (start : Machine) (listed : Bool) (all left left' old new last : Option (List ℕ)) (begun piece : List ℕ) (a b : Script) → Stands start all left begun old new a → HasRead left left' piece → length piece ≡ 0 → StoppedEnd listed begun a b new last
+    → IfSome all (λ bytes. HasGathered start listed bytes b old last)
+gathered_end start listed None left left' old new last begun piece a b h r none k = tt
+gathered_end start listed (Some bytes) left left' old new last begun piece a b h r none k =
+    let left-is : left_by k.answers a.core.machine ≡ left_by (h.answers ++ k.answers) start = left-then start a.core.machine h.answers k.answers h.machine in
     let open-is : left_open k.answers a.jobs ≡ left_open (h.answers ++ k.answers) [] = open-then [] a.jobs h.answers k.answers h.jobs in
-    let end-is : left_at_end k.answers a.jobs a.core ≡ left_at_end (h.answers ++ k.answers) [] nothing_done = λ i. run_of (halts_of (open-is i)) (left-is i) in
+    let end-is : left_at_end k.answers a.jobs a.core.machine ≡ left_at_end (h.answers ++ k.answers) [] start = λ i. run_of (halts_of (open-is i)) (left-is i) in
     let all-lines : lines_of bytes ≡ lines_in h.answers ++ nonempty_line begun =
     at_end bytes left left' (lines_in h.answers) begun piece h.split r.consumed (nil_from_length piece none) (r.ended none) ∙ ap (λ (l : List (List ℕ)). lines_in h.answers ++ l) (last_line begun h.whole) in
     record {
@@ -298,8 +298,8 @@ gathered_end listed (Some bytes) left left' old new last begun piece a b h r non
       behind = k.behind;
       few = k.few;
       of_lines = all-lines ∙ sym (lines-then h.answers k.answers (lines_in h.answers) (nonempty_line begun) (lines_in k.lost ++ k.unread) refl k.of_lines);
-      each = each-then nothing_done a.core h.answers k.answers k.lost h.each h.machine k.each;
-      machine = machine-end nothing_done a.core b.core h.answers k.answers k.lost (lines_in k.lost ++ k.unread) h.machine k.machine;
+      each = each-then start a.core.machine h.answers k.answers k.lost h.each h.machine k.each;
+      machine = machine-end start a.core.machine b.core.machine h.answers k.answers k.lost (lines_in k.lost ++ k.unread) h.machine k.machine;
       good = subst IsGood left-is (k.good h.good);
       front = subst (λ (s : Machine). (k.behind ≡ []) ⊎ IsEndingFront listed (lines_in k.lost ++ k.unread) (after s.units initial).map k.behind) end-is k.front;
       passes = passes-next old new last h.answers k.answers a.out.items k.behind b.out.items h.written h.out k.passes;
@@ -311,35 +311,35 @@ each-front : (s : Machine) (xs ys : List Answer) → AreAnswers s (xs ++ ys) →
 each-front s [] ys h = tt
 each-front s (x ∷ xs) ys h = (h.0, each-front (told_by (asked_by x.0) x.1 s) xs ys h.1)
 
-kept_known : (listed : Bool) (bytes : List ℕ) (script : Script) (old new last : Option (List ℕ)) → HasGathered listed bytes script old new → Appends new last script.out.items → HasKept listed bytes old last
-kept_known listed bytes script old new last h w = record {
+kept_known : (start : Machine) (listed : Bool) (bytes : List ℕ) (script : Script) (old new last : Option (List ℕ)) → HasGathered start listed bytes script old new → Appends new last script.out.items → HasKept start listed bytes old last
+kept_known start listed bytes script old new last h w = record {
   answers = h.answers;
   unanswered = lines_in h.lost ++ h.unread;
   behind = h.behind;
-  each = each-front nothing_done h.answers h.lost h.each;
+  each = each-front start h.answers h.lost h.each;
   split = h.of_lines;
   front = h.front;
   written = Passes-Appends old new last (text_of h.answers ++ h.behind) script.out.items h.passes w;
 }
 
-pub kept_all : (listed : Bool) (all : Option (List ℕ)) (script : Script) (old new last : Option (List ℕ)) → IfSome all (λ bytes. HasGathered listed bytes script old new) → Appends new last script.out.items → IfSome all (λ bytes. HasKept listed bytes old last)
-kept_all listed None script old new last h w = tt
-kept_all listed (Some bytes) script old new last h w = kept_known listed bytes script old new last h w
+pub kept_all : (start : Machine) (listed : Bool) (all : Option (List ℕ)) (script : Script) (old new last : Option (List ℕ)) → IfSome all (λ bytes. HasGathered start listed bytes script old new) → Appends new last script.out.items → IfSome all (λ bytes. HasKept start listed bytes old last)
+kept_all start listed None script old new last h w = tt
+kept_all start listed (Some bytes) script old new last h w = kept_known start listed bytes script old new last h w
 
 -- before the first line
-pub kept_first : (listed : Bool) (all old : Option (List ℕ)) → IfSome all (λ bytes. HasKept listed bytes old old)
-kept_first listed None old = tt
-kept_first listed (Some bytes) old = record { answers = []; unanswered = lines_of bytes; behind = []; each = tt; split = refl; front = inl refl; written = Appends-nothing old }
+pub kept_first : (start : Machine) (listed : Bool) (all old : Option (List ℕ)) → IfSome all (λ bytes. HasKept start listed bytes old old)
+kept_first start listed None old = tt
+kept_first start listed (Some bytes) old = record { answers = []; unanswered = lines_of bytes; behind = []; each = tt; split = refl; front = inl refl; written = Appends-nothing old }
 
-begun_known : (listed : Bool) (bytes : List ℕ) (script : Script) (old new last : Option (List ℕ)) → HasGathered listed bytes script old new → WritesBeginning new last script.out.items → IsBegun listed bytes old last
-begun_known listed bytes script old new last h w = by_front h.front
+begun_known : (start : Machine) (listed : Bool) (bytes : List ℕ) (script : Script) (old new last : Option (List ℕ)) → HasGathered start listed bytes script old new → WritesBeginning new last script.out.items → IsBegun start listed bytes old last
+begun_known start listed bytes script old new last h w = by_front h.front
   where
     begun : WritesBeginning old last (text_of h.answers ++ h.behind)
     begun = Passes-begun old new last (text_of h.answers ++ h.behind) script.out.items h.passes w
 
-    by_front : (h.behind ≡ []) ⊎ IsEndingFront listed (lines_in h.lost ++ h.unread) (after (left_at_end h.answers [] nothing_done).units initial).map h.behind → IsBegun listed bytes old last
+    by_front : (h.behind ≡ []) ⊎ IsEndingFront listed (lines_in h.lost ++ h.unread) (after (left_at_end h.answers [] start).units initial).map h.behind → IsBegun start listed bytes old last
     by_front (inl none) =
-        let g = goes_on listed bytes h.answers (lines_in h.lost ++ h.unread) h.of_lines (each-front nothing_done h.answers h.lost h.each) h.good in
+        let g = goes_on start listed bytes h.answers (lines_in h.lost ++ h.unread) h.of_lines (each-front start h.answers h.lost h.each) h.good in
         record {
           text = text_of h.answers ++ g.more;
           refused = g.refused;
@@ -347,7 +347,7 @@ begun_known listed bytes script old new last h w = by_front h.front
           written = WritesBeginning-longer old last (text_of h.answers) g.more (subst (WritesBeginning old last) (ap (λ (ts : List ℕ). text_of h.answers ++ ts) none ∙ append-nil (text_of h.answers)) begun);
         }
     by_front (inr front) =
-        let m : Database = (after (left_at_end h.answers [] nothing_done).units initial).map in
+        let m : Database = (after (left_at_end h.answers [] start).units initial).map in
         let more : List ℕ = flat_map node_text front.front.left in
         let whole : ending listed m ≡ h.behind ++ more =
         ap (λ (b : Bool). ending b m) front.asked ∙ ap (λ (es : List _). codes "--\n" ++ flat_map node_text es) (sym front.front.parts)
@@ -359,8 +359,8 @@ begun_known listed bytes script old new last h w = by_front h.front
           output = record {
             answers = h.answers;
             of_lines = sym (h.of_lines ∙ ap (λ (l : List (List ℕ)). lines_in h.answers ++ l) front.none_left ∙ append-nil (lines_in h.answers));
-            each = each-front nothing_done h.answers h.lost h.each;
-            legal = (good_run (halts_of (left_open h.answers [])) (left_by h.answers nothing_done) h.good).legal;
+            each = each-front start h.answers h.lost h.each;
+            legal = (good_run (halts_of (left_open h.answers [])) (left_by h.answers start) h.good).legal;
             written = append_assoc (text_of h.answers) h.behind more ∙ ap (λ (ts : List ℕ). text_of h.answers ++ ts) (sym whole);
             told = refl;
           };
@@ -368,6 +368,6 @@ begun_known listed bytes script old new last h w = by_front h.front
         }
 
 -- a beginning of what is gathered was written, or all of it
-pub begun_left : (listed : Bool) (all : Option (List ℕ)) (script : Script) (old new last : Option (List ℕ)) → IfSome all (λ bytes. HasGathered listed bytes script old new) → WritesBeginning new last script.out.items → IfSome all (λ bytes. IsBegun listed bytes old last)
-begun_left listed None script old new last h w = tt
-begun_left listed (Some bytes) script old new last h w = begun_known listed bytes script old new last h w
+pub begun_left : (start : Machine) (listed : Bool) (all : Option (List ℕ)) (script : Script) (old new last : Option (List ℕ)) → IfSome all (λ bytes. HasGathered start listed bytes script old new) → WritesBeginning new last script.out.items → IfSome all (λ bytes. IsBegun start listed bytes old last)
+begun_left start listed None script old new last h w = tt
+begun_left start listed (Some bytes) script old new last h w = begun_known start listed bytes script old new last h w

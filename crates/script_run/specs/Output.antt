@@ -11,7 +11,7 @@ use Rattle.command.specs.declared.request.Command.TheVariants.{Access, Lock, Sta
 use Rattle.command.specs.declared.request.Reply.{Reply}
 use Rattle.command.specs.declared.request.Reply.TheVariants.{Answered, Finished, Had, Count, AtLevel, Committed, Restarted, Refused}
 use Rattle.journal.specs.History.{initial, after, IsLegal}
-use Rattle.journal.specs.Story.{Machine, nothing_done, told}
+use Rattle.journal.specs.Story.{Machine, told}
 use Rattle.serial.specs.Machine.{IsReply, reply_of, run_of}
 use Rattle.serial.specs.Memory.{is_out_of_memory}
 use Rattle.script.specs.Line.{reading_of, job_of_line}
@@ -107,12 +107,12 @@ ending true m = codes "--\n" ++ listing_text m
 ending false m = []
 
 -- the text of a script's output, with or without the listing, and whether a reply in it is a refusal
-pub record IsOutput (listed : Bool) (bytes text : List ℕ) (refused : Bool) : Type 0 where
+pub record IsOutput (start : Machine) (listed : Bool) (bytes text : List ℕ) (refused : Bool) : Type 0 where
   pub answers : List Answer
   pub of_lines : map (λ a. a.0) answers ≡ lines_of bytes
-  pub each : AreAnswers nothing_done answers
-  pub legal : IsLegal (left_at_end answers [] nothing_done).units initial
-  pub written : text ≡ text_of answers ++ ending listed (after (left_at_end answers [] nothing_done).units initial).map
+  pub each : AreAnswers start answers
+  pub legal : IsLegal (left_at_end answers [] start).units initial
+  pub written : text ≡ text_of answers ++ ending listed (after (left_at_end answers [] start).units initial).map
   pub told : refused ≡ some_refused answers
 
 -- ---- where memory is never wanting
@@ -128,12 +128,12 @@ exact_answers [] s = []
 exact_answers (line ∷ lines) s = (line, exact_reply (asked_by line) s) ∷ exact_answers lines (told_by (asked_by line) (exact_reply (asked_by line) s) s)
 
 -- these answers, and what follows them
-abbrev pub text_with_ending : Bool → List Answer → List ℕ
-text_with_ending listed answers = text_of answers ++ ending listed (after (left_at_end answers [] nothing_done).units initial).map
+abbrev pub text_with_ending : Machine → Bool → List Answer → List ℕ
+text_with_ending start listed answers = text_of answers ++ ending listed (after (left_at_end answers [] start).units initial).map
 
 -- the text of a script's output: a function of the bytes read
-abbrev pub output_of : Bool → List ℕ → List ℕ
-output_of listed bytes = text_with_ending listed (exact_answers (lines_of bytes) nothing_done)
+abbrev pub output_of : Machine → Bool → List ℕ → List ℕ
+output_of start listed bytes = text_with_ending start listed (exact_answers (lines_of bytes) start)
 
 -- a reply tells that memory was wanting
 abbrev pub some_wanting : List Answer → Bool
@@ -142,24 +142,24 @@ some_wanting answers = list_any (λ a. is_out_of_memory a.1) answers
 -- ---- what was written
 
 -- such a text was written; where no reply tells of a want of memory, just that of the bytes read
-pub record Wrote (listed : Bool) (bytes : List ℕ) (refused : Bool) (old new : Option (List ℕ)) : Type 0 where
+pub record Wrote (start : Machine) (listed : Bool) (bytes : List ℕ) (refused : Bool) (old new : Option (List ℕ)) : Type 0 where
   pub text : List ℕ
-  pub output : IsOutput listed bytes text refused
-  pub exact : some_wanting output.answers ≡ false → text ≡ output_of listed bytes
+  pub output : IsOutput start listed bytes text refused
+  pub exact : some_wanting output.answers ≡ false → text ≡ output_of start listed bytes
   pub written : Appends old new text
 
 -- a beginning of such a text was written
-pub record IsBegun (listed : Bool) (bytes : List ℕ) (old new : Option (List ℕ)) : Type 0 where
+pub record IsBegun (start : Machine) (listed : Bool) (bytes : List ℕ) (old new : Option (List ℕ)) : Type 0 where
   pub text : List ℕ
   pub refused : Bool
-  pub output : IsOutput listed bytes text refused
+  pub output : IsOutput start listed bytes text refused
   pub written : WritesBeginning old new text
 
 -- the lines that ended before what is left were answered, and just their replies were written
-pub record HasAnsweredLines (bytes more : List ℕ) (old new : Option (List ℕ)) : Type 0 where
+pub record HasAnsweredLines (start : Machine) (bytes more : List ℕ) (old new : Option (List ℕ)) : Type 0 where
   pub answers : List Answer
   pub begun : List ℕ
-  pub each : AreAnswers nothing_done answers
+  pub each : AreAnswers start answers
   pub split : lines_of bytes ≡ map (λ a. a.0) answers ++ lines_of (begun ++ more)
   pub whole : has_no_end begun ≡ true
   pub written : Appends old new (text_of answers)
@@ -173,11 +173,11 @@ pub record IsEndingFront (listed : Bool) (unanswered : List (List ℕ)) (m : Dat
   pub headed : text ≡ codes "--\n" ++ nodes
 
 -- the first lines were answered, each of their replies was written, and none in part; where they are all, a front of what follows may stand after
-pub record HasKept (listed : Bool) (bytes : List ℕ) (old new : Option (List ℕ)) : Type 0 where
+pub record HasKept (start : Machine) (listed : Bool) (bytes : List ℕ) (old new : Option (List ℕ)) : Type 0 where
   pub answers : List Answer
   pub unanswered : List (List ℕ)
   pub behind : List ℕ
-  pub each : AreAnswers nothing_done answers
+  pub each : AreAnswers start answers
   pub split : lines_of bytes ≡ map (λ a. a.0) answers ++ unanswered
-  pub front : (behind ≡ []) ⊎ IsEndingFront listed unanswered (after (left_at_end answers [] nothing_done).units initial).map behind
+  pub front : (behind ≡ []) ⊎ IsEndingFront listed unanswered (after (left_at_end answers [] start).units initial).map behind
   pub written : Appends old new (text_of answers ++ behind)

@@ -3,7 +3,7 @@ use Rattle.std.specs.Prelude.{◌≡◌, ◌≤◌, ◌⊎◌, ℕ, Bool, ◌||�
 use Rattle.std.specs.Io.KnownBytes.{Appends, Consumes, IsAtEnd}
 use Rattle.collation.specs.Database.{Database}
 use Rattle.journal.specs.History.{initial, after}
-use Rattle.journal.specs.Story.{nothing_done}
+use Rattle.journal.specs.Story.{Machine}
 use Rattle.serial.specs.Soundness.{IsGood}
 use Rattle.listing.specs.Bytes.{WritesBeginning, WritesFront}
 use Rattle.script_run.specs.Lines.{nonempty_line, lines_of}
@@ -14,19 +14,19 @@ use Rattle.script_run.specs.declared.answers.Script.{Script}
 pub record Ran (lines : List (List ℕ)) (old new : Script) (before now : Option (List ℕ)) : Type 0 where
   pub answers : List Answer
   pub of_lines : map (λ a. a.0) answers ≡ lines
-  pub each : AreAnswers old.core answers
-  pub machine : new.core ≡ left_by answers old.core
+  pub each : AreAnswers old.core.machine answers
+  pub machine : new.core.machine ≡ left_by answers old.core.machine
   pub passes : WritesFront before now (old.out.items ++ text_of answers) new.out.items
   pub refused : new.refused ≡ (old.refused || some_refused answers)
   pub jobs : new.jobs ≡ left_open answers old.jobs
-  pub good : IsGood old.core → IsGood new.core
+  pub good : IsGood old.core.machine → IsGood new.core.machine
 
 -- the run broke off: the lines have answers of whose text a beginning was written
 pub record Broke (lines : List (List ℕ)) (old : Script) (before now : Option (List ℕ)) : Type 0 where
   pub answers : List Answer
   pub of_lines : map (λ a. a.0) answers ≡ lines
-  pub each : AreAnswers old.core answers
-  pub good : IsGood old.core → IsGood (left_by answers old.core)
+  pub each : AreAnswers old.core.machine answers
+  pub good : IsGood old.core.machine → IsGood (left_by answers old.core.machine)
   pub begun : WritesBeginning before now (old.out.items ++ text_of answers)
 
 -- lines at the front of the text were answered, up to the rest
@@ -46,18 +46,18 @@ pub record BrokeFront (text : List ℕ) (old : Script) (before now : Option (Lis
 pub record RanEnd (listed : Bool) (line : List ℕ) (old new : Script) (before now : Option (List ℕ)) : Type 0 where
   pub answers : List Answer
   pub of_lines : map (λ a. a.0) answers ≡ nonempty_line line
-  pub each : AreAnswers old.core answers
-  pub good : IsGood old.core → IsGood (left_at_end answers old.jobs old.core)
+  pub each : AreAnswers old.core.machine answers
+  pub good : IsGood old.core.machine → IsGood (left_at_end answers old.jobs old.core.machine)
   pub refused : new.refused ≡ (old.refused || some_refused answers)
-  pub written : Appends before now ((old.out.items ++ text_of answers) ++ ending listed (after (left_at_end answers old.jobs old.core).units initial).map)
+  pub written : Appends before now ((old.out.items ++ text_of answers) ++ ending listed (after (left_at_end answers old.jobs old.core.machine).units initial).map)
 
 -- a beginning of that was written
 pub record BrokeEnd (listed : Bool) (line : List ℕ) (old : Script) (before now : Option (List ℕ)) : Type 0 where
   pub answers : List Answer
   pub of_lines : map (λ a. a.0) answers ≡ nonempty_line line
-  pub each : AreAnswers old.core answers
-  pub good : IsGood old.core → IsGood (left_at_end answers old.jobs old.core)
-  pub begun : WritesBeginning before now ((old.out.items ++ text_of answers) ++ ending listed (after (left_at_end answers old.jobs old.core).units initial).map)
+  pub each : AreAnswers old.core.machine answers
+  pub good : IsGood old.core.machine → IsGood (left_at_end answers old.jobs old.core.machine)
+  pub begun : WritesBeginning before now ((old.out.items ++ text_of answers) ++ ending listed (after (left_at_end answers old.jobs old.core.machine).units initial).map)
 
 -- the piece was read, or there was none left
 pub record HasRead (old new : Option (List ℕ)) (piece : List ℕ) : Type 0 where
@@ -73,9 +73,9 @@ pub record Stopped (lines : List (List ℕ)) (old new : Script) (before now : Op
   pub unread : List (List ℕ)
   pub few : length lost ≤ 1
   pub of_lines : map (λ a. a.0) answers ++ (map (λ a. a.0) lost ++ unread) ≡ lines
-  pub each : AreAnswers old.core (answers ++ lost)
-  pub machine : new.core ≡ left_by (answers ++ lost) old.core
-  pub good : IsGood old.core → IsGood (left_by answers old.core)
+  pub each : AreAnswers old.core.machine (answers ++ lost)
+  pub machine : new.core.machine ≡ left_by (answers ++ lost) old.core.machine
+  pub good : IsGood old.core.machine → IsGood (left_by answers old.core.machine)
   pub passes : WritesFront before now (old.out.items ++ text_of answers) new.out.items
 
 -- so at the front of the text
@@ -99,22 +99,22 @@ pub record StoppedEnd (listed : Bool) (line : List ℕ) (old new : Script) (befo
   pub behind : List ℕ
   pub few : length lost ≤ 1
   pub of_lines : map (λ a. a.0) answers ++ (map (λ a. a.0) lost ++ unread) ≡ nonempty_line line
-  pub each : AreAnswers old.core (answers ++ lost)
-  pub machine : (map (λ a. a.0) lost ++ unread ≡ []) ⊎ (new.core ≡ left_by (answers ++ lost) old.core)
-  pub good : IsGood old.core → IsGood (left_by answers old.core)
-  pub front : (behind ≡ []) ⊎ IsEndingFront listed (map (λ a. a.0) lost ++ unread) (after (left_at_end answers old.jobs old.core).units initial).map behind
+  pub each : AreAnswers old.core.machine (answers ++ lost)
+  pub machine : (map (λ a. a.0) lost ++ unread ≡ []) ⊎ (new.core.machine ≡ left_by (answers ++ lost) old.core.machine)
+  pub good : IsGood old.core.machine → IsGood (left_by answers old.core.machine)
+  pub front : (behind ≡ []) ⊎ IsEndingFront listed (map (λ a. a.0) lost ++ unread) (after (left_at_end answers old.jobs old.core.machine).units initial).map behind
   pub passes : WritesFront before now ((old.out.items ++ text_of answers) ++ behind) new.out.items
 
 -- so in a whole script. Where a line has no reply, the machine is what the answered lines and the one whose reply is lost leave
-pub record HasGathered (listed : Bool) (bytes : List ℕ) (new : Script) (before now : Option (List ℕ)) : Type 0 where
+pub record HasGathered (start : Machine) (listed : Bool) (bytes : List ℕ) (new : Script) (before now : Option (List ℕ)) : Type 0 where
   pub answers : List Answer
   pub lost : List Answer
   pub unread : List (List ℕ)
   pub behind : List ℕ
   pub few : length lost ≤ 1
   pub of_lines : lines_of bytes ≡ map (λ a. a.0) answers ++ (map (λ a. a.0) lost ++ unread)
-  pub each : AreAnswers nothing_done (answers ++ lost)
-  pub machine : (map (λ a. a.0) lost ++ unread ≡ []) ⊎ (new.core ≡ left_by (answers ++ lost) nothing_done)
-  pub good : IsGood (left_by answers nothing_done)
-  pub front : (behind ≡ []) ⊎ IsEndingFront listed (map (λ a. a.0) lost ++ unread) (after (left_at_end answers [] nothing_done).units initial).map behind
+  pub each : AreAnswers start (answers ++ lost)
+  pub machine : (map (λ a. a.0) lost ++ unread ≡ []) ⊎ (new.core.machine ≡ left_by (answers ++ lost) start)
+  pub good : IsGood (left_by answers start)
+  pub front : (behind ≡ []) ⊎ IsEndingFront listed (map (λ a. a.0) lost ++ unread) (after (left_at_end answers [] start).units initial).map behind
   pub passes : WritesFront before now (text_of answers ++ behind) new.out.items

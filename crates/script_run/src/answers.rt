@@ -7,8 +7,8 @@ ghost use Rattle.script_run.specs.Output.{asked_by, ends_session, is_halt as is_
 ghost use Rattle.script_run.specs.Runs.{Ran, Broke, Stopped};
 
 use crate::RefusalLog;
-use crate::collecting::{Countdown, collect_when_due};
 use crate::open_jobs::OpenJobs;
+use crate::upkeep::{Due, keep_up};
 use collation::Job;
 use command::{Command, Reply};
 use job_core::JobCore;
@@ -18,8 +18,8 @@ use std::alloc::Global;
 use std::io::Write;
 
 // The machine, the open jobs, the references of the line that is read, the text that is gathered and not yet written,
-// whether a reply was a refusal, how many lines came, empty ones too, and when the collector passes next. The number of
-// lines saturates.
+// whether a reply was a refusal, how many lines came, empty ones too, and when the collector passes and a checkpoint is
+// taken next. The number of lines saturates.
 #[derive(Drop)]
 pub(crate) struct Script {
     pub(crate) core: JobCore,
@@ -28,7 +28,7 @@ pub(crate) struct Script {
     pub(crate) out: Vec<u8>,
     pub(crate) refused: bool,
     pub(crate) lines: u64,
-    pub(crate) countdown: Countdown,
+    pub(crate) due: Due,
 }
 
 fn is_halt(command: &Command) -> bool
@@ -58,8 +58,8 @@ fn answer_line(
 ) -> (Option<Job>, bool, Reply)
     ensures job { result.0 ≡ job_of_line line.now }
     ensures ended { result.1 ≡ ends_session line.now result.2 }
-    ensures answer { IsAnswer core.old (asked_by line.now) result.2 }
-    ensures machine { core.new ≡ told_by (asked_by line.now) result.2 core.old }
+    ensures answer { IsAnswer core.old.machine (asked_by line.now) result.2 }
+    ensures machine { core.new.machine ≡ told_by (asked_by line.now) result.2 core.old.machine }
 {
     match read_line(alloc, line, drafts) {
         Ok((job, command)) => {
@@ -91,8 +91,8 @@ fn either(a: bool, b: bool) -> bool
     a || b
 }
 
-// The reply is gathered, and what is gathered written once it is enough. Then
-// comes the collector's pass, where one is due.
+// The reply is gathered, and what is gathered written once it is enough. Then come the collector's pass and a
+// checkpoint, where they are due.
 fn run_line<W: Write>(
     alloc: Global,
     script: &mut Script,
@@ -113,7 +113,7 @@ fn run_line<W: Write>(
     script.refused = either(script.refused, refused);
     write_reply(job, &reply, &mut script.out)?;
     writer.write_full(&mut script.out)?;
-    collect_when_due(&mut script.countdown, &mut script.core);
+    keep_up(&mut script.due, &mut script.core);
     Ok(())
 }
 

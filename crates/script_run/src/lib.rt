@@ -14,24 +14,25 @@
 //! written whenever it holds 16,384 bytes, and the listing is gathered in it too. A line is copied only where it goes
 //! on from one piece to the next. The room that a long one took is given back when it is done.
 //!
-//! After each so many replies as the caller says the collector passes over the store (`collecting.rt`). That leaves the
-//! machine, so no clause names it.
+//! After each so many replies as the caller says the collector passes over the store, and a checkpoint is taken
+//! (`upkeep.rt`). Both leave the machine, so no clause names them.
 //!
 //! Read `specs/Lines.antt`, `specs/OpenJobs.antt`, `specs/Output.antt`, then `answers.rt`, `open_jobs.rt`,
-//! `collecting.rt`, `lines.rt`, `run.rt`.
+//! `upkeep.rt`, `lines.rt`, `run.rt`.
 //! Not promised: that memory is there; how the text is cut into writes; what a log is told.
 #![tactic(auto)]
 
 pub use fault::{Fault, status_of};
 pub use laws::lines_are_cut_at_their_ends;
 pub use log::{NoLog, RefusalLog};
-pub use run::{Outcome, run_script, run_with};
+pub use run::{Outcome, run_script, run_with, run_with_core};
+pub use upkeep::Upkeep;
 
 mod answers;
-mod collecting;
 mod fault;
 mod laws;
 mod lines;
 mod log;
 mod open_jobs;
 mod run;
+mod upkeep;

@@ -96,7 +96,7 @@ impl OpenJobs {
 
 // The job's HALT. A full journal refuses it, and that is passed over.
 fn halt(core: &mut JobCore, job: Job) -> Result<(), AllocError>
-    ensures { OnOk result (core.new ≡ step_of job Halt core.old) }
+    ensures { OnOk result (core.new.machine ≡ step_of job Halt core.old.machine) }
 {
     match core.step(job, Command::Halt) {
         Reply::Refused(Refusal::OutOfMemory) => Err(AllocError),
@@ -106,7 +106,7 @@ fn halt(core: &mut JobCore, job: Job) -> Result<(), AllocError>
 
 // Halts these jobs in order. Broken off where memory is refused for a HALT.
 pub(crate) fn halt_open(core: &mut JobCore, jobs: &[Job]) -> Result<(), AllocError>
-    ensures { OnOk result (core.new ≡ run_of (halts_of jobs.now) core.old) }
+    ensures { OnOk result (core.new.machine ≡ run_of (halts_of jobs.now) core.old.machine) }
 {
     'jobs: for job in jobs {
         halt(core, *job)?;

@@ -1,18 +1,20 @@
 //! A script: lines in, replies and the listing out.
 ghost use Rattle.std.specs.Prelude.{◌≡◌, ◌++◌, ◌<◌, [], true, false, length, OnOk, OnErr, IfOk, IfSome, IsErrOf};
 ghost use Rattle.std.specs.Io.KnownBytes.{Appends, IsAtEnd, Keeps};
-ghost use Rattle.journal.specs.History.{initial, after};
+ghost use Rattle.std.specs.FinMap as finmap;
+ghost use Rattle.journal.specs.History.{initial, after, IsLegal};
 ghost use Rattle.journal.specs.Story.{nothing_done};
+ghost use Rattle.serial.specs.Soundness.{IsGood};
 ghost use Rattle.listing.specs.Bytes.{IsOneMore, WritesBeginning};
 ghost use Rattle.script_run.specs.Lines.{has_no_end};
 ghost use Rattle.script_run.specs.Output.{ending, Wrote, IsBegun, HasAnsweredLines, HasKept};
 ghost use Rattle.script_run.specs.Runs.{RanFront, BrokeFront, RanEnd, BrokeEnd, HasRead, StoppedFront, EndedFront, StoppedEnd, HasGathered};
 
 use crate::answers::{Script, run_kept};
-use crate::collecting::Countdown;
 use crate::lines::run_piece;
 use crate::open_jobs::{OpenJobs, halt_open};
-use crate::{Fault, NoLog, RefusalLog};
+use crate::upkeep::Due;
+use crate::{Fault, NoLog, RefusalLog, Upkeep};
 use job_core::JobCore;
 use listing::{Counted, ListingFault, ReadFault, write_listing_after};
 use script::Drafts;
@@ -23,8 +25,8 @@ use std::io::{Read, Write};
 const PIECE_BYTES: usize = 65536;
 
 // The buffer of replies and of the listing. Text is written once 16,384 bytes are gathered, and the longest line comes
-// to some 239,000: a value of 32,767 bytes and 31 subscripts of 127, at six and a half bytes for each.
-const OUT_BYTES: usize = 262144;
+// to some 265,000: a value of 32,767 bytes and 31 subscripts of 255, at six and a half bytes for each.
+const OUT_BYTES: usize = 294912;
 
 /// How a script went.
 #[derive(Clone, Copy, Debug, PartialEq, Eq)]
@@ -48,24 +50,14 @@ fn read_piece<'a, R: Read>(
     Ok(&buffer[..n])
 }
 
-// A script that holds its buffer, before its first line.
-fn new_script(alloc: Global, collect_every: u64) -> Result<Script, AllocError>
-    ensures core { IfOk result (λ script. script.core ≡ nothing_done) }
-    ensures jobs { IfOk result (λ script. script.jobs ≡ []) }
-    ensures out { IfOk result (λ script. script.out.items ≡ []) }
-    ensures refused { IfOk result (λ script. script.refused ≡ false) }
+// Room for all open jobs, and the buffer.
+fn new_room(alloc: Global) -> Result<(OpenJobs, Vec<u8>), AllocError>
+    ensures jobs { IfOk result (λ room. room.0 ≡ []) }
+    ensures out { IfOk result (λ room. room.1.items ≡ []) }
 {
     let jobs = OpenJobs::new(alloc)?;
     let out = Vec::with_capacity(alloc, OUT_BYTES)?;
-    Ok(Script {
-        core: JobCore::new(alloc),
-        jobs,
-        drafts: Drafts::new(alloc),
-        out,
-        refused: false,
-        lines: 0,
-        countdown: Countdown::new(collect_every),
-    })
+    Ok((jobs, out))
 }
 
 // The lines that end in a piece, and all that is gathered written.
@@ -99,13 +91,13 @@ fn write_ending<W: Write>(
     script: &mut Script,
     writer: &mut Counted<W>,
 ) -> Result<(), ListingFault>
-    ensures ok { OnOk result (Appends (W.contents writer.old.inner) (W.contents writer.new.inner) (script.old.out.items ++ ending listed (after script.old.core.units initial).map)) }
-    ensures err { OnErr result (WritesBeginning (W.contents writer.old.inner) (W.contents writer.new.inner) (script.old.out.items ++ ending listed (after script.old.core.units initial).map)) }
+    ensures ok { OnOk result (Appends (W.contents writer.old.inner) (W.contents writer.new.inner) (script.old.out.items ++ ending listed (after script.old.core.machine.units initial).map)) }
+    ensures err { OnErr result (WritesBeginning (W.contents writer.old.inner) (W.contents writer.new.inner) (script.old.out.items ++ ending listed (after script.old.core.machine.units initial).map)) }
     ensures refused { script.new.refused ≡ script.old.refused }
     ensures counts { OnOk result (writer.new.failures ≡ writer.old.failures) }
     ensures counted { IsErrOf result ListingFault.Write → IsOneMore writer.old.failures writer.new.failures }
     ensures memory { IsErrOf result ListingFault.Memory → writer.new.failures ≡ writer.old.failures }
-    ensures stopped { IsErrOf result ListingFault.Memory → EndedFront listed (after script.old.core.units initial).map script.old.out.items script.new.out.items (W.contents writer.old.inner) (W.contents writer.new.inner) }
+    ensures stopped { IsErrOf result ListingFault.Memory → EndedFront listed (after script.old.core.machine.units initial).map script.old.out.items script.new.out.items (W.contents writer.old.inner) (W.contents writer.new.inner) }
 {
     if listed {
         script.out.extend_from_slice(b"--\n")?;
@@ -148,23 +140,23 @@ fn run_pieces<R: Read, W: Write>(
     writer: &mut Counted<W>,
     log: &mut impl RefusalLog,
 ) -> Result<(), Fault>
-    requires core { script.old.core ≡ nothing_done }
+    requires good { IsGood script.old.core.machine }
     requires jobs { script.old.jobs ≡ [] }
     requires out { script.old.out.items ≡ [] }
     requires refused { script.old.refused ≡ false }
     ensures output { OnOk result (IfSome (R.remaining reader.old.inner)
-        (λ bytes. Wrote listed bytes script.new.refused (W.contents writer.old.inner) (W.contents writer.new.inner))) }
+        (λ bytes. Wrote script.old.core.machine listed bytes script.new.refused (W.contents writer.old.inner) (W.contents writer.new.inner))) }
     ensures at_end { OnOk result (IsAtEnd (R.remaining reader.new.inner)) }
     ensures begun { OnErr result (IfSome (R.remaining reader.old.inner)
-        (λ bytes. IsBegun listed bytes (W.contents writer.old.inner) (W.contents writer.new.inner))) }
+        (λ bytes. IsBegun script.old.core.machine listed bytes (W.contents writer.old.inner) (W.contents writer.new.inner))) }
     ensures answered { IsErrOf result Fault.Read → IfSome (R.remaining reader.old.inner) (λ bytes. IfSome (R.remaining reader.new.inner)
-        (λ more. HasAnsweredLines bytes more (W.contents writer.old.inner) (W.contents writer.new.inner))) }
+        (λ more. HasAnsweredLines script.old.core.machine bytes more (W.contents writer.old.inner) (W.contents writer.new.inner))) }
     ensures read { IsErrOf result Fault.Read → IsOneMore reader.old.failures reader.new.failures × (writer.new.failures ≡ writer.old.failures) }
     ensures write { IsErrOf result Fault.Write → IsOneMore writer.old.failures writer.new.failures × (reader.new.failures ≡ reader.old.failures) }
     ensures kept { OnOk result ((reader.new.failures ≡ reader.old.failures) × (writer.new.failures ≡ writer.old.failures)) }
     ensures memory { IsErrOf result Fault.Memory → (reader.new.failures ≡ reader.old.failures) × (writer.new.failures ≡ writer.old.failures) }
     ensures gathered { IsErrOf result Fault.Memory → IfSome (R.remaining reader.old.inner)
-        (λ bytes. HasGathered listed bytes script.new (W.contents writer.old.inner) (W.contents writer.new.inner)) }
+        (λ bytes. HasGathered script.old.core.machine listed bytes script.new (W.contents writer.old.inner) (W.contents writer.new.inner)) }
 {
     let mut begun = Vec::new(alloc);
     let mut buffer = [0; PIECE_BYTES];
@@ -179,33 +171,33 @@ fn run_pieces<R: Read, W: Write>(
     Err(Fault::Memory)
 }
 
-/// Runs a script as `run_script` does. Without `listed` neither `--` nor the listing is written, and `log` is told of
-/// each refused line.
-///
-/// The clauses name no `collect_every`: what is written is promised alike for each.
-pub fn run_with<R: Read, W: Write>(
+// A script that is new, to its end.
+fn run_whole<R: Read, W: Write>(
     alloc: Global,
     listed: bool,
-    collect_every: u64,
+    mut script: Script,
     reader: &mut Counted<R>,
     writer: &mut Counted<W>,
     log: &mut impl RefusalLog,
 ) -> Result<Outcome, Fault>
+    requires good { IsGood script.core.machine }
+    requires jobs { script.jobs ≡ [] }
+    requires out { script.out.items ≡ [] }
+    requires refused { script.refused ≡ false }
     ensures output { IfOk result (λ outcome. IfSome (R.remaining reader.old.inner)
-        (λ bytes. Wrote listed bytes outcome.refused (W.contents writer.old.inner) (W.contents writer.new.inner))) }
+        (λ bytes. Wrote script.core.machine listed bytes outcome.refused (W.contents writer.old.inner) (W.contents writer.new.inner))) }
     ensures at_end { OnOk result (IsAtEnd (R.remaining reader.new.inner)) }
     ensures begun { OnErr result (IfSome (R.remaining reader.old.inner)
-        (λ bytes. IsBegun listed bytes (W.contents writer.old.inner) (W.contents writer.new.inner))) }
+        (λ bytes. IsBegun script.core.machine listed bytes (W.contents writer.old.inner) (W.contents writer.new.inner))) }
     ensures answered { IsErrOf result Fault.Read → IfSome (R.remaining reader.old.inner) (λ bytes. IfSome (R.remaining reader.new.inner)
-        (λ more. HasAnsweredLines bytes more (W.contents writer.old.inner) (W.contents writer.new.inner))) }
+        (λ more. HasAnsweredLines script.core.machine bytes more (W.contents writer.old.inner) (W.contents writer.new.inner))) }
     ensures read { IsErrOf result Fault.Read → IsOneMore reader.old.failures reader.new.failures × (writer.new.failures ≡ writer.old.failures) }
     ensures write { IsErrOf result Fault.Write → IsOneMore writer.old.failures writer.new.failures × (reader.new.failures ≡ reader.old.failures) }
     ensures kept { OnOk result ((reader.new.failures ≡ reader.old.failures) × (writer.new.failures ≡ writer.old.failures)) }
     ensures memory { IsErrOf result Fault.Memory → (reader.new.failures ≡ reader.old.failures) × (writer.new.failures ≡ writer.old.failures) }
     ensures unlost { IsErrOf result Fault.Memory → IfSome (R.remaining reader.old.inner)
-        (λ bytes. HasKept listed bytes (W.contents writer.old.inner) (W.contents writer.new.inner)) }
+        (λ bytes. HasKept script.core.machine listed bytes (W.contents writer.old.inner) (W.contents writer.new.inner)) }
 {
-    let mut script = new_script(alloc, collect_every)?;
     match run_pieces(alloc, listed, &mut script, reader, writer, log) {
         Ok(()) => {
             let refused = script.refused;
@@ -227,12 +219,97 @@ pub fn run_with<R: Read, W: Write>(
     }
 }
 
+/// Runs a script as `run_with` does, from what a core holds, in which no transaction is open: its database and its journal
+/// go on. What is promised of `run_with` is the case of a core that has done nothing.
+pub fn run_with_core<R: Read, W: Write>(
+    alloc: Global,
+    core: JobCore,
+    listed: bool,
+    upkeep: Upkeep,
+    reader: &mut Counted<R>,
+    writer: &mut Counted<W>,
+    log: &mut impl RefusalLog,
+) -> Result<Outcome, Fault>
+    requires legal { IsLegal core.machine.units initial }
+    requires closed { core.machine.transactions ≡ finmap.empty }
+    ensures output { IfOk result (λ outcome. IfSome (R.remaining reader.old.inner)
+        (λ bytes. Wrote core.machine listed bytes outcome.refused (W.contents writer.old.inner) (W.contents writer.new.inner))) }
+    ensures at_end { OnOk result (IsAtEnd (R.remaining reader.new.inner)) }
+    ensures begun { OnErr result (IfSome (R.remaining reader.old.inner)
+        (λ bytes. IsBegun core.machine listed bytes (W.contents writer.old.inner) (W.contents writer.new.inner))) }
+    ensures answered { IsErrOf result Fault.Read → IfSome (R.remaining reader.old.inner) (λ bytes. IfSome (R.remaining reader.new.inner)
+        (λ more. HasAnsweredLines core.machine bytes more (W.contents writer.old.inner) (W.contents writer.new.inner))) }
+    ensures read { IsErrOf result Fault.Read → IsOneMore reader.old.failures reader.new.failures × (writer.new.failures ≡ writer.old.failures) }
+    ensures write { IsErrOf result Fault.Write → IsOneMore writer.old.failures writer.new.failures × (reader.new.failures ≡ reader.old.failures) }
+    ensures kept { OnOk result ((reader.new.failures ≡ reader.old.failures) × (writer.new.failures ≡ writer.old.failures)) }
+    ensures memory { IsErrOf result Fault.Memory → (reader.new.failures ≡ reader.old.failures) × (writer.new.failures ≡ writer.old.failures) }
+    ensures unlost { IsErrOf result Fault.Memory → IfSome (R.remaining reader.old.inner)
+        (λ bytes. HasKept core.machine listed bytes (W.contents writer.old.inner) (W.contents writer.new.inner)) }
+{
+    match new_room(alloc) {
+        Ok((jobs, out)) => {
+            let script = Script {
+                core,
+                jobs,
+                drafts: Drafts::new(alloc),
+                out,
+                refused: false,
+                lines: 0,
+                due: Due::new(upkeep),
+            };
+            run_whole(alloc, listed, script, reader, writer, log)
+        }
+        Err(AllocError) => {
+            drop(core);
+            Err(Fault::Memory)
+        }
+    }
+}
+
+/// Runs a script as `run_script` does. Without `listed` neither `--` nor the listing is written, and `log` is told of
+/// each refused line.
+///
+/// The clauses name no `upkeep`: what is written is promised alike for each.
+pub fn run_with<R: Read, W: Write>(
+    alloc: Global,
+    listed: bool,
+    upkeep: Upkeep,
+    reader: &mut Counted<R>,
+    writer: &mut Counted<W>,
+    log: &mut impl RefusalLog,
+) -> Result<Outcome, Fault>
+    ensures output { IfOk result (λ outcome. IfSome (R.remaining reader.old.inner)
+        (λ bytes. Wrote nothing_done listed bytes outcome.refused (W.contents writer.old.inner) (W.contents writer.new.inner))) }
+    ensures at_end { OnOk result (IsAtEnd (R.remaining reader.new.inner)) }
+    ensures begun { OnErr result (IfSome (R.remaining reader.old.inner)
+        (λ bytes. IsBegun nothing_done listed bytes (W.contents writer.old.inner) (W.contents writer.new.inner))) }
+    ensures answered { IsErrOf result Fault.Read → IfSome (R.remaining reader.old.inner) (λ bytes. IfSome (R.remaining reader.new.inner)
+        (λ more. HasAnsweredLines nothing_done bytes more (W.contents writer.old.inner) (W.contents writer.new.inner))) }
+    ensures read { IsErrOf result Fault.Read → IsOneMore reader.old.failures reader.new.failures × (writer.new.failures ≡ writer.old.failures) }
+    ensures write { IsErrOf result Fault.Write → IsOneMore writer.old.failures writer.new.failures × (reader.new.failures ≡ reader.old.failures) }
+    ensures kept { OnOk result ((reader.new.failures ≡ reader.old.failures) × (writer.new.failures ≡ writer.old.failures)) }
+    ensures memory { IsErrOf result Fault.Memory → (reader.new.failures ≡ reader.old.failures) × (writer.new.failures ≡ writer.old.failures) }
+    ensures unlost { IsErrOf result Fault.Memory → IfSome (R.remaining reader.old.inner)
+        (λ bytes. HasKept nothing_done listed bytes (W.contents writer.old.inner) (W.contents writer.new.inner)) }
+{
+    run_with_core(
+        alloc,
+        JobCore::new(alloc),
+        listed,
+        upkeep,
+        reader,
+        writer,
+        log,
+    )
+}
+
 /// Runs a script: reads lines to the end of input, does each in its turn, and writes a reply to each, then halts
 /// the open jobs in order of first appearance, and writes the listing. A job is open from its first line until a HALT
 /// that is done; a HALT at the end that a full journal refuses (`StampsUsedUp`) is passed over. Replies are written before the next read, and earlier where 16,384 bytes of them are gathered.
 ///
-/// After each so many replies as `collect_every` says the collector passes over all keys; 0 is never. No reply and no
-/// listing depends on it, but for what fits into memory, and a pass that finds no memory is passed over.
+/// After each so many replies as `upkeep` says the collector passes over all keys, and a checkpoint lets go of the
+/// journal's beginning. No reply and no listing depends on them, but for what fits into memory, and one that finds no
+/// memory is passed over.
 ///
 /// On `Ok` the text is whole and all input was read; where no reply in it is `OutOfMemory`, it is a function of the
 /// bytes read (`output_of`). After a fault the text is a beginning of a whole one, without a
@@ -245,23 +322,23 @@ pub fn run_with<R: Read, W: Write>(
 /// line longer than a piece, for a reply or a listing's line, or for an open job's HALT at the end of input.
 pub fn run_script<R: Read, W: Write>(
     alloc: Global,
-    collect_every: u64,
+    upkeep: Upkeep,
     reader: &mut Counted<R>,
     writer: &mut Counted<W>,
 ) -> Result<Outcome, Fault>
     ensures output { IfOk result (λ outcome. IfSome (R.remaining reader.old.inner)
-        (λ bytes. Wrote true bytes outcome.refused (W.contents writer.old.inner) (W.contents writer.new.inner))) }
+        (λ bytes. Wrote nothing_done true bytes outcome.refused (W.contents writer.old.inner) (W.contents writer.new.inner))) }
     ensures at_end { OnOk result (IsAtEnd (R.remaining reader.new.inner)) }
     ensures begun { OnErr result (IfSome (R.remaining reader.old.inner)
-        (λ bytes. IsBegun true bytes (W.contents writer.old.inner) (W.contents writer.new.inner))) }
+        (λ bytes. IsBegun nothing_done true bytes (W.contents writer.old.inner) (W.contents writer.new.inner))) }
     ensures answered { IsErrOf result Fault.Read → IfSome (R.remaining reader.old.inner) (λ bytes. IfSome (R.remaining reader.new.inner)
-        (λ more. HasAnsweredLines bytes more (W.contents writer.old.inner) (W.contents writer.new.inner))) }
+        (λ more. HasAnsweredLines nothing_done bytes more (W.contents writer.old.inner) (W.contents writer.new.inner))) }
     ensures read { IsErrOf result Fault.Read → IsOneMore reader.old.failures reader.new.failures × (writer.new.failures ≡ writer.old.failures) }
     ensures write { IsErrOf result Fault.Write → IsOneMore writer.old.failures writer.new.failures × (reader.new.failures ≡ reader.old.failures) }
     ensures kept { OnOk result ((reader.new.failures ≡ reader.old.failures) × (writer.new.failures ≡ writer.old.failures)) }
     ensures memory { IsErrOf result Fault.Memory → (reader.new.failures ≡ reader.old.failures) × (writer.new.failures ≡ writer.old.failures) }
     ensures unlost { IsErrOf result Fault.Memory → IfSome (R.remaining reader.old.inner)
-        (λ bytes. HasKept true bytes (W.contents writer.old.inner) (W.contents writer.new.inner)) }
+        (λ bytes. HasKept nothing_done true bytes (W.contents writer.old.inner) (W.contents writer.new.inner)) }
 {
-    run_with(alloc, true, collect_every, reader, writer, &mut NoLog)
+    run_with(alloc, true, upkeep, reader, writer, &mut NoLog)
 }

@@ -18,12 +18,12 @@ returns-in_err-write_full-clause-err g c =
     let said = c.answer_line-job.ensures in
     on_err _ _ (Broke-one c.args.line.now c.answer_line-job.result.2 c.answer_line-job.result.0 c.args.script.now _ _ _ _ said.job said.answer said.machine c.in_ok-write_reply.ensures.ok c.in_err-write_full.ensures.err)
 
--- the pass leaves the machine
+-- pass and checkpoint leave the machine
 pub returns-clause-ran : goal.returns-clause-ran
 returns-clause-ran g c =
     let said = c.answer_line-job.ensures in
     let refused = c.either-script.ensures ∙ ap (λ (b : Bool). c.args.script.now.refused || b) c.log_reply-refused.ensures in
-    let stays = c.collect_when_due.ensures in
+    let stays = c.keep_up.ensures in
     let jobs = c.note_line.ensures ∙ ap (λ (b : Bool). open_after c.answer_line-job.result.0 b c.args.script.now.jobs) said.ended in
     Ran-one c.args.line.now c.answer_line-job.result.2 c.answer_line-job.result.0 c.args.script.now _ _ _ _ said.job said.answer (◌∙◌ {A = Machine} stays said.machine) c.in_ok-write_reply.ensures.ok c.in_ok-write_full.ensures.ok refused jobs
 

@@ -5,4 +5,4 @@ use Rattle.script_run.proofs.open_jobs.halt_open.Given as goal
 
 -- with the HALTs of the jobs left it will be what all HALTs leave
 abbrev pub invariant-jobs : goal.invariant-jobs
-invariant-jobs l = run_of (halts_of (drop l.job-index l.jobs)) l.core ≡ run_of (halts_of l.jobs) l.fn.core
+invariant-jobs l = run_of (halts_of (drop l.job-index l.jobs)) l.core.machine ≡ run_of (halts_of l.jobs) l.fn.core.machine

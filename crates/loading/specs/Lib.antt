@@ -1,0 +1,5 @@
+pub mod Lines
+pub mod Settings
+pub mod Loaded
+pub mod Statements
+pub mod laws

@@ -1,0 +1,105 @@
+//! When the collector passes over the store and checkpoints are taken, and both.
+ghost use Rattle.std.specs.Prelude.{◌≡◌, ◌==◌, ◌-◌, if◌then◌else◌};
+
+use job_core::JobCore;
+
+/// After how many printed lines, again and again, the collector passes over all keys, and after how many a checkpoint is
+/// taken; 0 is never.
+#[derive(Clone, Copy, Debug, PartialEq, Eq)]
+pub struct Upkeep {
+    /// For the collector's pass.
+    pub collect_every: u64,
+    /// For a checkpoint, which comes after a pass at the same line.
+    pub checkpoint_every: u64,
+}
+
+impl Upkeep {
+    /// Neither passes nor checkpoints.
+    pub fn none() -> Upkeep
+        ensures { result ≡ record { collect_every = 0; checkpoint_every = 0 } }
+    {
+        Upkeep {
+            collect_every: 0,
+            checkpoint_every: 0,
+        }
+    }
+}
+
+// How many printed lines there are from one time to the next, and how many are left until the next. Both are 0 for
+// never.
+#[derive(Clone, Copy, Drop)]
+struct Countdown {
+    every: u64,
+    left: u64,
+}
+
+impl Countdown {
+    // Before the first line.
+    fn new(every: u64) -> Countdown
+        ensures { result ≡ record { every = every; left = every } }
+    {
+        Countdown { every, left: every }
+    }
+
+    // Counts a printed line, and answers whether something is due after it.
+    fn count_line(&mut self) -> bool
+        ensures due { result ≡ (self.old.left == 1) }
+        ensures next { self.new ≡ record self.old { left = if self.old.left == 1 then self.old.every else self.old.left - 1 } }
+    {
+        match self.left {
+            0 => false,
+            1 => {
+                self.left = self.every;
+                true
+            }
+            _ => {
+                self.left -= 1;
+                false
+            }
+        }
+    }
+}
+
+/// When the next pass and the next checkpoint are due.
+#[derive(Clone, Copy, Drop)]
+pub(crate) struct Due {
+    collector: Countdown,
+    checkpoint: Countdown,
+}
+
+impl Due {
+    /// Before the first line.
+    pub(crate) fn new(upkeep: Upkeep) -> Due {
+        Due {
+            collector: Countdown::new(upkeep.collect_every),
+            checkpoint: Countdown::new(upkeep.checkpoint_every),
+        }
+    }
+}
+
+// One whole pass of the collector, where one is due.
+fn collect_when_due(countdown: &mut Countdown, core: &mut JobCore)
+    ensures { core.new ≡ core.old }
+{
+    if countdown.count_line() {
+        let _ = core.collect(usize::MAX);
+    }
+}
+
+// A checkpoint, where one is due.
+fn checkpoint_when_due(countdown: &mut Countdown, core: &mut JobCore)
+    ensures { core.new.machine ≡ core.old.machine }
+{
+    if countdown.count_line() {
+        let _ = core.checkpoint();
+    }
+}
+
+/// After a printed line: a pass of the collector and a checkpoint, where they are due. The machine stays. What finds no
+/// memory is passed over: what it would have dropped is kept until a later one.
+pub(crate) fn keep_up(due: &mut Due, core: &mut JobCore)
+    ensures { core.new.machine ≡ core.old.machine }
+{
+    collect_when_due(&mut due.collector, core);
+    checkpoint_when_due(&mut due.checkpoint, core);
+}
