@@ -4,14 +4,18 @@
  * their own round each call; two engines have nothing in common.
  *
  * Every call answers an outcome: VG_DONE, a refusal (1 to 18), or one of the library's own (from 32). After a
- * refusal the database is as it was. Texts go by pointer and length, and may hold bytes 0; a text that is put into
- * a buffer has no byte 0 at its end. NULL may stand for an engine, which is told as VG_NO_ENGINE, for a text or
- * buffer of length 0, and for the place of a length that the caller doesn't want. */
+ * refusal the database is as it was. A call of a job, whose number is 1 to 4,096, may answer VG_BAD_JOB,
+ * VG_OUT_OF_MEMORY and any refusal of its command, also where none is named below.
+ *
+ * Texts go by pointer and length, and may hold bytes 0; a text that is put into a buffer has no byte 0 at its end.
+ * NULL may stand for an engine, which is told as VG_NO_ENGINE, for a text or buffer of length 0, and for the place of
+ * a length or number that the caller doesn't want. */
 #ifndef VORGUSHAN_H
 #define VORGUSHAN_H
 
 #include <stddef.h>
 #include <stdint.h>
+#include <string.h>
 
 #ifdef __cplusplus
 extern "C" {
@@ -43,12 +47,19 @@ enum {
     VG_NO_ENGINE = 32,        /* none was made, or it was ended */
     VG_ENGINE_THERE = 33,     /* one is there already */
     VG_BUFFER_TOO_SHORT = 34, /* the length that is wanted is told; what the buffer was to hold is kept */
-    VG_REPLY_KEPT = 35,       /* the line is done; no memory for its reply's text, which vg_reply makes later */
+    VG_REPLY_KEPT = 35,       /* the line or step is done; no memory for its reply's text or key: vg_reply tells it */
     VG_NO_REPLY = 36,         /* no line was run yet */
-    VG_AT_END = 37,           /* no node is left to list */
+    VG_AT_END = 37,           /* no node is left, to list or for vg_query */
     VG_UNKNOWN_NUMBER = 38,   /* no outcome has that number */
-    VG_NO_KEY = 39            /* none was made, or it was ended */
+    VG_NO_KEY = 39,           /* none was made, or it was ended */
+    VG_RESTARTED = 40         /* the transaction begins anew: what it had done is dropped */
 };
+
+/* The ways in which vg_order and vg_query go. */
+enum { VG_FORWARD = 0, VG_BACKWARD = 1 };
+
+/* Where vg_query starts: at the key, or at an empty subscript below it, as in ^A(1,""). */
+enum { VG_AT_KEY = 0, VG_BELOW_KEY = 1 };
 
 /* An engine. Set it to VG_ENGINE_NONE before the first call, and leave what is in it alone. It may be moved
  * between calls; of two copies only one may be used. */
@@ -73,7 +84,8 @@ typedef struct vg_statistics {
     uint64_t nodes;         /* nodes with a value */
 } vg_statistics;
 
-/* The library's own symbols, for which no pointer may be NULL: use the calls below. */
+/* The library's own symbols, for which no pointer may be NULL, and no two may name the same memory: use the calls
+ * below. */
 vg_outcome vorgushan_new(vg_engine *engine);
 vg_outcome vorgushan_end(vg_engine *engine);
 vg_outcome vorgushan_line(vg_engine *engine, const char *line, size_t line_length, char *reply, size_t reply_size,
@@ -90,6 +102,20 @@ vg_outcome vorgushan_set(vg_engine *engine, uint64_t job, vg_key *key, const cha
 vg_outcome vorgushan_kill(vg_engine *engine, uint64_t job, vg_key *key);
 vg_outcome vorgushan_get(vg_engine *engine, uint64_t job, vg_key *key, char *value, size_t value_size,
                          size_t *value_length);
+vg_outcome vorgushan_merge(vg_engine *engine, uint64_t job, vg_key *to, vg_key *from);
+vg_outcome vorgushan_data(vg_engine *engine, uint64_t job, vg_key *key, uint64_t *number);
+vg_outcome vorgushan_order(vg_engine *engine, uint64_t job, vg_key *key, const char *start, size_t start_length,
+                           uint32_t backward, char *subscript, size_t subscript_size, size_t *subscript_length);
+vg_outcome vorgushan_query(vg_engine *engine, uint64_t job, vg_key *key, uint32_t is_open, uint32_t backward);
+vg_outcome vorgushan_lock(vg_engine *engine, uint64_t job, vg_key *key, uint64_t *had);
+vg_outcome vorgushan_lock_more(vg_engine *engine, uint64_t job, vg_key *key, uint64_t *had);
+vg_outcome vorgushan_lock_fewer(vg_engine *engine, uint64_t job, vg_key *key, uint64_t *had);
+vg_outcome vorgushan_unlock(vg_engine *engine, uint64_t job, uint64_t *number);
+vg_outcome vorgushan_tstart(vg_engine *engine, uint64_t job, uint64_t *level);
+vg_outcome vorgushan_tcommit(vg_engine *engine, uint64_t job, uint64_t *number);
+vg_outcome vorgushan_trollback(vg_engine *engine, uint64_t job, uint64_t *number);
+vg_outcome vorgushan_trestart(vg_engine *engine, uint64_t job, uint64_t *restarts);
+vg_outcome vorgushan_halt(vg_engine *engine, uint64_t job, uint64_t *number);
 vg_outcome vorgushan_outcome_name(uint32_t outcome, char *name, size_t name_size, size_t *name_length);
 
 /* Makes an engine with an empty database where none is. VG_ENGINE_THERE, VG_OUT_OF_MEMORY. */
@@ -105,9 +131,9 @@ static inline vg_outcome vg_end(vg_engine *engine) {
 /* Runs a line, which comes without its end, as "1 SET ^A(1)=5", and copies its reply with a byte 10 at its end, as
  * "1 ok\n".
  *
- * The outcome is the reply's: VG_DONE, or its refusal. Where the reply is longer than the buffer the answer is
- * VG_BUFFER_TOO_SHORT: the line is done, nothing is copied, reply_length is what is wanted, and vg_reply copies
- * the reply. */
+ * The outcome is the reply's: VG_DONE, VG_RESTARTED, or its refusal. Where the reply is longer than the buffer the
+ * answer is VG_BUFFER_TOO_SHORT: the line is done, nothing is copied, reply_length is what is wanted, and vg_reply
+ * copies the reply. */
 static inline vg_outcome vg_line(vg_engine *engine, const char *line, size_t line_length, char *reply,
                                  size_t reply_size, size_t *reply_length) {
     char nothing = 0;
@@ -170,7 +196,7 @@ static inline vg_outcome vg_key_name(vg_key *key, const char *name, size_t name_
 }
 
 /* Puts one subscript more behind those of a key: its bytes, a number in canonic form. VG_TOO_MANY_SUBSCRIPTS over 31,
- * VG_EMPTY_SUBSCRIPT, VG_SUBSCRIPT_TOO_LONG over 127 bytes, VG_OUT_OF_MEMORY: then the key is as it was. */
+ * VG_EMPTY_SUBSCRIPT, VG_SUBSCRIPT_TOO_LONG over 255 bytes, VG_OUT_OF_MEMORY: then the key is as it was. */
 static inline vg_outcome vg_key_subscript(vg_key *key, const char *subscript, size_t subscript_length) {
     char nothing = 0;
     return key ? vorgushan_key_subscript(key, subscript ? subscript : &nothing, subscript ? subscript_length : 0)
@@ -212,6 +238,139 @@ static inline vg_outcome vg_get(vg_engine *engine, uint64_t job, vg_key *key, ch
     if (value_length)
         *value_length = length;
     return outcome;
+}
+
+/* MERGE: copies what is at and under one key's reference to the same places under another's. VG_MERGE_OVERLAP also
+ * where both are one vg_key: then there is no step. */
+static inline vg_outcome vg_merge(vg_engine *engine, uint64_t job, vg_key *to, vg_key *from) {
+    if (!engine)
+        return VG_NO_ENGINE;
+    if (!to || !from)
+        return VG_NO_KEY;
+    return to == from ? (vg_outcome)VG_MERGE_OVERLAP : vorgushan_merge(engine, job, to, from);
+}
+
+/* $DATA: tells 1 where a key's reference has a value, and 10 more where a descendant has one. */
+static inline vg_outcome vg_data(vg_engine *engine, uint64_t job, vg_key *key, uint64_t *number) {
+    uint64_t told = 0;
+    vg_outcome outcome = VG_NO_ENGINE;
+    if (engine)
+        outcome = key ? vorgushan_data(engine, job, key, &told) : (vg_outcome)VG_NO_KEY;
+    if (number)
+        *number = told;
+    return outcome;
+}
+
+/* $ORDER one level below a key: copies the subscript that comes next to `start`, which need not be there; the length
+ * is 0 behind the last. An empty start asks for the first, backward for the last. `start` and `subscript` may be the
+ * same bytes. VG_SUBSCRIPT_TOO_LONG over 255 bytes, VG_TOO_MANY_SUBSCRIPTS below a key with 31. */
+static inline vg_outcome vg_order(vg_engine *engine, uint64_t job, vg_key *key, const char *start, size_t start_length,
+                                  uint32_t direction, char *subscript, size_t subscript_size,
+                                  size_t *subscript_length) {
+    char from[256] = {0};
+    char nothing = 0;
+    size_t length = 0;
+    vg_outcome outcome = engine ? VG_NO_KEY : VG_NO_ENGINE;
+    if (!start)
+        start_length = 0;
+    if (engine && key && start_length > sizeof from)
+        outcome = VG_SUBSCRIPT_TOO_LONG;
+    else if (engine && key) {
+        if (start_length)
+            memcpy(from, start, start_length);
+        outcome = vorgushan_order(engine, job, key, from, start_length, direction, subscript ? subscript : &nothing,
+                                  subscript ? subscript_size : 0, &length);
+    }
+    if (subscript_length)
+        *subscript_length = length;
+    return outcome;
+}
+
+/* $QUERY: moves a key to the nearest node with a value in its name, from VG_AT_KEY, or from VG_BELOW_KEY, which
+ * backward is behind all under the key. VG_AT_END where no node is left, VG_REPLY_KEPT where memory is refused for a
+ * long key: then, and after a refusal, the key is as it was. vg_reply tells the reference as a line does. */
+static inline vg_outcome vg_query(vg_engine *engine, uint64_t job, vg_key *key, uint32_t from, uint32_t direction) {
+    if (!engine)
+        return VG_NO_ENGINE;
+    return key ? vorgushan_query(engine, job, key, from, direction) : (vg_outcome)VG_NO_KEY;
+}
+
+/* LOCK of a key's name, with its caret: the job's names are released, and then this one is asked for. Tells 1 where it
+ * was had, and 0 where another job is in the way. Nobody waits. */
+static inline vg_outcome vg_lock(vg_engine *engine, uint64_t job, vg_key *key, uint64_t *had) {
+    uint64_t told = 0;
+    vg_outcome outcome = VG_NO_ENGINE;
+    if (engine)
+        outcome = key ? vorgushan_lock(engine, job, key, &told) : (vg_outcome)VG_NO_KEY;
+    if (had)
+        *had = told;
+    return outcome;
+}
+
+/* LOCK with +: the name is asked for beside those that the job has. VG_LOCK_COUNT_FULL. */
+static inline vg_outcome vg_lock_more(vg_engine *engine, uint64_t job, vg_key *key, uint64_t *had) {
+    uint64_t told = 0;
+    vg_outcome outcome = VG_NO_ENGINE;
+    if (engine)
+        outcome = key ? vorgushan_lock_more(engine, job, key, &told) : (vg_outcome)VG_NO_KEY;
+    if (had)
+        *had = told;
+    return outcome;
+}
+
+/* LOCK with -: one count of the name is given back. */
+static inline vg_outcome vg_lock_fewer(vg_engine *engine, uint64_t job, vg_key *key) {
+    uint64_t told = 0;
+    if (!engine)
+        return VG_NO_ENGINE;
+    return key ? vorgushan_lock_fewer(engine, job, key, &told) : (vg_outcome)VG_NO_KEY;
+}
+
+/* LOCK without names: all names of the job are released. */
+static inline vg_outcome vg_unlock(vg_engine *engine, uint64_t job) {
+    uint64_t told = 0;
+    return engine ? vorgushan_unlock(engine, job, &told) : (vg_outcome)VG_NO_ENGINE;
+}
+
+/* TSTART: opens a transaction of the job, or raises its level, and tells the level. VG_LEVEL_TOO_DEEP. */
+static inline vg_outcome vg_tstart(vg_engine *engine, uint64_t job, uint64_t *level) {
+    uint64_t told = 0;
+    vg_outcome outcome = engine ? vorgushan_tstart(engine, job, &told) : (vg_outcome)VG_NO_ENGINE;
+    if (level)
+        *level = told;
+    return outcome;
+}
+
+/* TCOMMIT: VG_DONE where all that the transaction did is done, and tells 0; above level 1 it lowers the level, and
+ * tells that. VG_RESTARTED where another job was quicker: nothing of it is done, it begins anew, the job does its
+ * calls again, and told is how often that was. VG_NO_TRANSACTION. */
+static inline vg_outcome vg_tcommit(vg_engine *engine, uint64_t job, uint64_t *number) {
+    uint64_t told = 0;
+    vg_outcome outcome = engine ? vorgushan_tcommit(engine, job, &told) : (vg_outcome)VG_NO_ENGINE;
+    if (number)
+        *number = told;
+    return outcome;
+}
+
+/* TROLLBACK: drops what was done since the start, and ends the transaction. VG_NO_TRANSACTION. */
+static inline vg_outcome vg_trollback(vg_engine *engine, uint64_t job) {
+    uint64_t told = 0;
+    return engine ? vorgushan_trollback(engine, job, &told) : (vg_outcome)VG_NO_ENGINE;
+}
+
+/* TRESTART: drops what was done since the start, and begins anew: VG_RESTARTED. VG_NO_TRANSACTION. */
+static inline vg_outcome vg_trestart(vg_engine *engine, uint64_t job, uint64_t *restarts) {
+    uint64_t told = 0;
+    vg_outcome outcome = engine ? vorgushan_trestart(engine, job, &told) : (vg_outcome)VG_NO_ENGINE;
+    if (restarts)
+        *restarts = told;
+    return outcome;
+}
+
+/* HALT: ends the job. Its transaction is dropped, and its names are released. */
+static inline vg_outcome vg_halt(vg_engine *engine, uint64_t job) {
+    uint64_t told = 0;
+    return engine ? vorgushan_halt(engine, job, &told) : (vg_outcome)VG_NO_ENGINE;
 }
 
 /* Copies the name of an outcome, as "OutOfMemory". VG_UNKNOWN_NUMBER. */

@@ -75,8 +75,8 @@ pub record IsLineCall (line : List ℕ) (before after : Embedded) (outcome : Out
   pub last : Answered
   pub kept : after.last ≡ Some last
   pub job : last.job ≡ job_of_line line
-  pub answer : IsAnswer before.core (reading_of line) last.reply
-  pub machine : after.core ≡ told_by (reading_of line) last.reply before.core
+  pub answer : IsAnswer before.core.machine (reading_of line) last.reply
+  pub machine : after.core.machine ≡ told_by (reading_of line) last.reply before.core.machine
   pub listed : after.listed ≡ before.listed
   pub copied : IsReplyCopied (Some last) outcome old new wanted
 
@@ -95,7 +95,7 @@ pub record IsReplyCall (before after : Embedded) (outcome : Outcome) (old new : 
 
 -- the database: what the units leave
 abbrev pub database : Embedded → Database
-database e = (left_by e.core.units initial).map
+database e = (left_by e.core.machine.units initial).map
 
 -- the reference isn't after the one that was listed last
 abbrev pub is_listed : Option Reference → Reference → Bool
@@ -151,8 +151,8 @@ count_of m = min (length (finmap.entries m)) (2 ^ 64 - 1)
 
 -- the statistics are the engine's
 pub record IsCount (e : Embedded) (units bytes nodes : ℕ) : Type 0 where
-  pub of_units : units ≡ length e.core.units
-  pub of_bytes : bytes ≡ length (flat_map unit_bytes e.core.units)
+  pub of_units : units ≡ length e.core.machine.units
+  pub of_bytes : bytes ≡ length (flat_map unit_bytes (drop e.core.base e.core.machine.units))
   pub of_nodes : nodes ≡ count_of (database e)
 
 -- ---- the name of a number

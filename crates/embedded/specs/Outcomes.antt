@@ -3,9 +3,9 @@
 use Rattle.std.specs.Prelude.{ℕ, List, codes}
 use Rattle.refusal.specs.Refusal.{refusal_number, name_of}
 use Rattle.command.specs.declared.request.Reply.{Reply}
-use Rattle.command.specs.declared.request.Reply.TheVariants.{Answered, Finished, Had, Count, AtLevel, Committed, Restarted, Refused as RefusedReply}
+use Rattle.command.specs.declared.request.Reply.TheVariants.{Answered, Finished, Had, Count, AtLevel, Committed, Restarted as RestartedReply, Refused as RefusedReply}
 use Rattle.embedded.specs.declared.outcome.Outcome.{Outcome}
-use Rattle.embedded.specs.declared.outcome.Outcome.TheVariants.{Done, Refused, NoEngine, EngineThere, BufferTooShort, ReplyKept, NoReply, AtEnd, UnknownNumber, NoKey}
+use Rattle.embedded.specs.declared.outcome.Outcome.TheVariants.{Done, Refused, NoEngine, EngineThere, BufferTooShort, ReplyKept, NoReply, AtEnd, UnknownNumber, NoKey, Restarted}
 
 -- the number: 0, the refusal's own, or one of the library's
 abbrev pub outcome_number : Outcome → ℕ
@@ -19,6 +19,7 @@ outcome_number NoReply = 36
 outcome_number AtEnd = 37
 outcome_number UnknownNumber = 38
 outcome_number NoKey = 39
+outcome_number Restarted = 40
 
 -- the name
 abbrev pub outcome_name : Outcome → List ℕ
@@ -32,8 +33,9 @@ outcome_name NoReply = codes "NoReply"
 outcome_name AtEnd = codes "AtEnd"
 outcome_name UnknownNumber = codes "UnknownNumber"
 outcome_name NoKey = codes "NoKey"
+outcome_name Restarted = codes "Restarted"
 
--- what a reply tells: its refusal, or that it is done
+-- what a reply tells: its refusal, that the transaction begins anew, or that it is done
 abbrev pub outcome_of : Reply → Outcome
 outcome_of (Answered answer) = Done
 outcome_of Finished = Done
@@ -41,5 +43,5 @@ outcome_of (Had all) = Done
 outcome_of (Count n) = Done
 outcome_of (AtLevel n) = Done
 outcome_of Committed = Done
-outcome_of (Restarted n) = Done
+outcome_of (RestartedReply n) = Restarted
 outcome_of (RefusedReply refusal) = Refused refusal

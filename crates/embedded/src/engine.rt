@@ -45,8 +45,8 @@ fn answer_line(
     line: &[u8],
 ) -> (Option<Job>, Reply)
     ensures job { result.0 ≡ job_of_line line.now }
-    ensures answer { IsAnswer core.old (reading_of line.now) result.1 }
-    ensures machine { core.new ≡ told_by (reading_of line.now) result.1 core.old }
+    ensures answer { IsAnswer core.old.machine (reading_of line.now) result.1 }
+    ensures machine { core.new.machine ≡ told_by (reading_of line.now) result.1 core.old.machine }
 {
     match read_line(alloc, line, drafts) {
         Ok((job, command)) => (Some(job), core.step(job, command)),
@@ -81,7 +81,7 @@ fn copy_answered(
 impl Embedded {
     /// An engine without units and open transactions, whose database is empty. Takes no memory.
     pub fn new(alloc: Global) -> Embedded
-        ensures core { result.core ≡ nothing_done }
+        ensures core { result.core.machine ≡ nothing_done }
         ensures last { result.last ≡ None }
         ensures listed { result.listed ≡ None }
     {
@@ -118,9 +118,9 @@ impl Embedded {
     /// Copies the last reply's line, with a byte 10 at its end, to the front of a buffer, and tells its length. It
     /// stays kept, so it can be copied as often as one likes.
     ///
-    /// Answers the reply's own outcome: `Done`, or its refusal. `BufferTooShort` where the buffer is shorter than the
-    /// line, `ReplyKept` where memory was refused for its text, `NoReply` before the first line: then nothing is
-    /// copied.
+    /// Answers the reply's own outcome: `Done`, `Restarted`, or its refusal. `BufferTooShort` where the buffer is
+    /// shorter than the line, `ReplyKept` where memory was refused for its text, `NoReply` before the first line: then
+    /// nothing is copied.
     pub fn copy_reply(&mut self, buffer: &mut [u8], wanted: &mut usize) -> Outcome
         ensures { IsReplyCall self.old self.new result buffer.old buffer.new wanted.new }
     {

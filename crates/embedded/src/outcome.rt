@@ -18,16 +18,19 @@ pub enum Outcome {
     EngineThere,
     /// The buffer is too short. What it was to hold is kept, and the length that is wanted is told. Number 34.
     BufferTooShort,
-    /// Memory was refused for the text of a reply. The line is done, and its reply is kept. Number 35.
+    /// Memory was refused for a reply's text, or for the key that $QUERY found. The line or step is done, and its reply
+    /// is kept. Number 35.
     ReplyKept,
     /// No line was run yet. Number 36.
     NoReply,
-    /// No node is left to list. Number 37.
+    /// No node is left, to list or for $QUERY. Number 37.
     AtEnd,
     /// No outcome has that number. Number 38.
     UnknownNumber,
     /// There is no key: none was made, or it was ended. Number 39.
     NoKey,
+    /// The transaction begins anew: what it had done is dropped. Number 40.
+    Restarted,
 }
 
 impl Outcome {
@@ -46,6 +49,7 @@ impl Outcome {
             Outcome::AtEnd => 37,
             Outcome::UnknownNumber => 38,
             Outcome::NoKey => 39,
+            Outcome::Restarted => 40,
         }
     }
 
@@ -64,15 +68,17 @@ impl Outcome {
             Outcome::AtEnd => "AtEnd",
             Outcome::UnknownNumber => "UnknownNumber",
             Outcome::NoKey => "NoKey",
+            Outcome::Restarted => "Restarted",
         }
     }
 
-    /// How the call went whose reply this is: refused, or done.
+    /// How the call went whose reply this is: refused, begun anew, or done.
     pub fn of(reply: &Reply) -> Outcome
         ensures { result ≡ outcome_of_reply reply.now }
     {
         match reply {
             Reply::Refused(refusal) => Outcome::Refused(*refusal),
+            Reply::Restarted(_) => Outcome::Restarted,
             _ => Outcome::Done,
         }
     }
@@ -91,6 +97,7 @@ impl Outcome {
             37 => Some(Outcome::AtEnd),
             38 => Some(Outcome::UnknownNumber),
             39 => Some(Outcome::NoKey),
+            40 => Some(Outcome::Restarted),
             _ => match refusal_of(number) {
                 Some(refusal) => Some(Outcome::Refused(refusal)),
                 None => None,

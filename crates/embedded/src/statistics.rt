@@ -10,7 +10,7 @@ use globals::{Cut, OrderedView, walk_from};
 pub struct Statistics {
     /// How many units the journal has.
     pub units: u64,
-    /// How many bytes they take.
+    /// How many bytes those of them take that it hasn't dropped.
     pub journal_bytes: u64,
     /// How many nodes have a value. The count saturates at 2^64 - 1.
     pub nodes: u64,

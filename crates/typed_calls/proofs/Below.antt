@@ -1,19 +1,20 @@
--- The fault of a reference with one subscript more.
-use Rattle.std.proofs.Common.{◌≡◌, ℕ, ◌+◌, ◌-◌, ◌^◌, ◌≤◌, min, Bool, false, List, [], ◌∷◌, ◌++◌, length, length-append, sym, ap, ◌∙◌, arith}
+-- The fault of a reference, and of a place, with one subscript more.
+use Rattle.std.proofs.Common.{◌≡◌, ℕ, ◌+◌, ◌-◌, ◌^◌, ◌≤◌, min, Bool, true, false, List, [], ◌∷◌, ◌++◌, length, length-append, sym, ap, ◌∙◌, refl, arith}
 use Rattle.std.proofs.Math.Nat.{min-eq_left}
 use Rattle.std.proofs.lemmas.Bool.Decides.{nat_tests}
 use Rattle.std.specs.Option.{option_or}
-use Rattle.std.specs.Prelude.{Option, None, Some, cond, nat_lt}
+use Rattle.std.specs.Prelude.{Option, None, Some, ◌==◌, cond, nat_lt}
 use Rattle.refusal.specs.declared.Refusal.{Refusal}
 use Rattle.refusal.specs.declared.Refusal.TheVariants.{BadName, TooManySubscripts}
-use Rattle.collation.specs.Faults.{subscripts_fault, reference_fault}
+use Rattle.collation.specs.Faults.{subscripts_fault, reference_fault, place_fault, ends_open, closed_part}
 use Rattle.collation.specs.Limits.{most_subscripts}
+use Rattle.collation.specs.Name.{is_name}
 use Rattle.collation.specs.Reference.{Reference}
-use Rattle.key_codec.specs.Draft.{longer, reference_due}
+use Rattle.key_codec.specs.Draft.{longer, place_due, place_of, reference_due}
 use Rattle.key_codec.specs.Key.{IsFaultless}
-use Rattle.key_codec.specs.laws.Draft.{fault-more}
+use Rattle.key_codec.specs.laws.Draft.{closed_part-more, closed_part-whole, ends_open-more, fault-more}
 use Rattle.key_codec.specs.laws.Key.{not_over, not_too_many}
-use Rattle.typed_calls.specs.Typed.{below_fault}
+use Rattle.typed_calls.specs.Commands.{below_fault}
 
 -- a faultless reference has so few subscripts that their count is exact
 depth_is : (ss : List (List ℕ)) (depth : ℕ) → reference_fault ss ≡ None → depth ≡ min (length ss) (2 ^ 64 - 1) → depth ≡ length ss
@@ -38,3 +39,36 @@ longer_faultless r s depth form is none = record {
   name = form.name;
   subscripts = fault_is r.subscripts s form.subscripts ∙ ap (λ (n : ℕ). below_fault n s) (sym (depth_is r.subscripts depth form.subscripts is)) ∙ none;
 }
+
+twice : (b : Bool) (o : Option Refusal) → cond b (Some TooManySubscripts) (cond b (Some TooManySubscripts) o) ≡ cond b (Some TooManySubscripts) o
+twice true o = refl
+twice false o = refl
+
+-- an empty subscript opens the place
+pub open_place : (r : Reference) → place_of (longer r []) ≡ record { reference = r; is_open = true }
+open_place r =
+    ap (λ (ss : List (List ℕ)). record { reference = record { name = r.name; subscripts = ss }; is_open = ends_open (r.subscripts ++ [] ∷ []) }) (closed_part-more r.subscripts [])
+    ∙ ap (λ (b : Bool). record { reference = r; is_open = b }) (ends_open-more r.subscripts [])
+
+-- any other is the last of a closed one
+pub closed_place : (r : Reference) (s : List ℕ) → (length s == 0) ≡ false → place_of (longer r s) ≡ record { reference = longer r s; is_open = false }
+closed_place r s e =
+    ap (λ (ss : List (List ℕ)). record { reference = record { name = r.name; subscripts = ss }; is_open = ends_open (r.subscripts ++ s ∷ []) })
+    (closed_part-more r.subscripts s ∙ ap (λ (b : Bool). cond b r.subscripts (r.subscripts ++ s ∷ [])) e)
+    ∙ ap (λ (b : Bool). record { reference = longer r s; is_open = b }) (ends_open-more r.subscripts s ∙ e)
+
+-- a place that isn't open is refused as its reference is
+pub closed_due : (r : Reference) (s : List ℕ) → (length s == 0) ≡ false → place_due (longer r s) ≡ reference_due (longer r s)
+closed_due r s e =
+    let ss : List (List ℕ) = r.subscripts ++ s ∷ [] in
+    let whole : closed_part ss ≡ ss = closed_part-whole ss (ends_open-more r.subscripts s ∙ e) in
+    ap (λ (f : Option Refusal). cond (is_name r.name) f (Some BadName))
+    (ap (λ (xs : List (List ℕ)). cond (nat_lt most_subscripts (length ss)) (Some TooManySubscripts) (reference_fault xs)) whole ∙ twice (nat_lt most_subscripts (length ss)) (subscripts_fault ss))
+
+-- an open place below a faultless reference is refused where it would be too deep
+pub open_due : (r : Reference) (depth : ℕ) → IsFaultless r → depth ≡ min (length r.subscripts) (2 ^ 64 - 1) → nat_lt most_subscripts (depth + 1) ≡ true → place_due (longer r []) ≡ Some TooManySubscripts
+open_due r depth form is deep =
+    let same : depth ≡ length r.subscripts = depth_is r.subscripts depth form.subscripts is in
+    ap (λ (b : Bool). cond b (place_fault (r.subscripts ++ [] ∷ [])) (Some BadName)) form.name
+    ∙ ap (λ (b : Bool). cond b (Some TooManySubscripts) (reference_fault (closed_part (r.subscripts ++ [] ∷ []))))
+    (ap (nat_lt most_subscripts) (length-append r.subscripts ([] ∷ []) ∙ ap (λ (n : ℕ). n + 1) (sym same)) ∙ deep)

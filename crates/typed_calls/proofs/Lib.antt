@@ -1,1 +1,1 @@
-mod Below
+pub mod Below

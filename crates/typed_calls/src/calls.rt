@@ -1,72 +1,17 @@
-//! Commands on keys.
-ghost use Rattle.std.specs.Prelude.{◌≡◌, IfErr, IfOk};
-ghost use Rattle.command.specs.declared.request.Command.{Command as CommandOf};
-ghost use Rattle.typed_calls.specs.Typed.{IsStepCall, IsTypedCall, IsGetCall, IsValueCopied, IsCauseBefore, IsJobCause, IsMemory, IsValueCause, get_command as get_of, kill_command as kill_of, set_command as set_of};
+//! Typed calls on keys.
+ghost use Rattle.std.specs.Prelude.{◌≡◌};
+ghost use Rattle.typed_calls.specs.Commands.{data_command as data_of, get_command as get_of, kill_command as kill_of, lock_command as lock_of_key, merge_command as merge_of, order_command as order_of, query_command as query_of, set_command as set_of};
+ghost use Rattle.typed_calls.specs.Typed.{IsCauseBefore, IsFoundCall, IsMemory, IsNumberCall, IsPlaceCause, IsTypedCall, IsValueCall, IsValueCause};
 
-use collation::{Job, LONGEST_VALUE, Text};
-use command::{Answer, Command, DataCommand, Look, Reply};
-use embedded::{Answered, Embedded, Outcome, copied_as};
+use crate::commands::{
+    LockForm, data_command, get_command, kill_command, lock_command, merge_command, order_command,
+    query_command, set_command,
+};
+use crate::steps::{run_command, run_found, run_numbered, run_valued};
+use collation::Direction;
+use embedded::{Embedded, Outcome};
 use key_codec::Key;
-use refusal::Refusal;
 use std::alloc::Global;
-
-// Does a command of a job, and keeps its reply in the place of the last one.
-fn run_step(engine: &mut Embedded, job: Job, command: Command) -> Outcome
-    ensures { IsStepCall job command engine.old engine.new result }
-{
-    let reply = engine.core.step(job, command);
-    let outcome = Outcome::of(&reply);
-    engine.last = Some(Answered {
-        job: Some(job),
-        reply,
-    });
-    outcome
-}
-
-/// Does a command of a job, and keeps its reply in the place of the last one.
-///
-/// Outcomes: the reply's own, of `JobCore::step`; `BadJob` where the job isn't 1 to 4,096, and then nothing has
-/// changed.
-pub fn run_command(engine: &mut Embedded, job: u64, command: Command) -> Outcome
-    ensures { IsTypedCall (λ refusal. IsJobCause job refusal) job command engine.old engine.new result }
-{
-    match Job::new(job) {
-        Ok(job) => run_step(engine, job, command),
-        Err(refusal) => {
-            drop(command);
-            Outcome::Refused(refusal)
-        }
-    }
-}
-
-// SET of this key and a copy of the value.
-fn set_command(alloc: Global, key: &Key, value: &[u8]) -> Result<Command, Refusal>
-    ensures ok { IfOk result (λ command. command ≡ set_of key.now value.now) }
-    ensures err { IfErr result (λ refusal. IsValueCause value.now refusal) }
-{
-    if value.len() > LONGEST_VALUE {
-        return Err(Refusal::ValueTooLong);
-    }
-    let key = key.clone()?;
-    let value = Text::from_slice(alloc, value)?;
-    Ok(Command::Access(DataCommand::Set(key, value)))
-}
-
-fn kill_command(key: &Key) -> Result<Command, Refusal>
-    ensures ok { IfOk result (λ command. command ≡ kill_of key.now) }
-    ensures err { IfErr result (λ refusal. IsMemory refusal) }
-{
-    let key = key.clone()?;
-    Ok(Command::Access(DataCommand::Kill(key)))
-}
-
-fn get_command(key: &Key) -> Result<Command, Refusal>
-    ensures ok { IfOk result (λ command. command ≡ get_of key.now) }
-    ensures err { IfErr result (λ refusal. IsMemory refusal) }
-{
-    let key = key.clone()?;
-    Ok(Command::Access(DataCommand::Look(Look::Get(key, None))))
-}
 
 /// Gives the reference this value, whose bytes are copied.
 ///
@@ -92,32 +37,52 @@ pub fn kill(engine: &mut Embedded, job: u64, key: &Key) -> Outcome
     }
 }
 
-// Asks for the value of the reference.
-fn ask(engine: &mut Embedded, job: u64, key: &Key) -> Outcome
-    ensures { IsTypedCall (λ refusal. IsCauseBefore IsMemory job refusal) job (get_of key.now) engine.old engine.new result }
+/// Copies what is at and under `from` to the same places under `to`.
+///
+/// Outcomes: those of `run_command`; before the step `OutOfMemory`.
+pub fn merge(engine: &mut Embedded, job: u64, to: &Key, from: &Key) -> Outcome
+    ensures { IsTypedCall (λ refusal. IsCauseBefore IsMemory job refusal) job (merge_of to.now from.now) engine.old engine.new result }
 {
-    match get_command(key) {
+    match merge_command(to, from) {
         Ok(command) => run_command(engine, job, command),
         Err(refusal) => Outcome::Refused(refusal),
     }
 }
 
-/// Copies the bytes of the value that the last reply has, and tells how many they are.
+/// Tells 1 where the reference has a value, and 10 more where a descendant has one.
 ///
-/// `NoReply` where it has none; `BufferTooShort`: then nothing is copied.
-pub fn copy_value(last: &Option<Answered>, buffer: &mut [u8], wanted: &mut usize) -> Outcome
-    ensures { IsValueCopied last.now result buffer.old buffer.new wanted.new }
+/// Outcomes: those of `run_command`; before the step `OutOfMemory`. 0 is told where it is refused.
+pub fn data(engine: &mut Embedded, job: u64, key: &Key, number: &mut u64) -> Outcome
+    ensures { IsNumberCall (λ refusal. IsCauseBefore IsMemory job refusal) job (data_of key.now) engine.old engine.new result number.new }
 {
-    match last {
-        Some(
-            Answered {
-                reply: Reply::Answered(Answer::Value(value)),
-                ..
-            },
-        ) => copied_as(Outcome::Done, value.as_slice(), buffer, wanted),
-        _ => {
-            *wanted = 0;
-            Outcome::NoReply
+    match data_command(key) {
+        Ok(command) => run_numbered(engine, job, command, number),
+        Err(refusal) => {
+            *number = 0;
+            Outcome::Refused(refusal)
+        }
+    }
+}
+
+/// Does a LOCK of the key's name, with its caret, and tells 1 where it was had and 0 where another job is in the way.
+/// It answers at once.
+///
+/// Outcomes: those of `run_command`; before the step `OutOfMemory`. 0 is told where it is refused.
+pub fn lock(
+    engine: &mut Embedded,
+    alloc: Global,
+    job: u64,
+    form: LockForm,
+    key: &Key,
+    had: &mut u64,
+) -> Outcome
+    ensures { IsNumberCall (λ refusal. IsCauseBefore IsMemory job refusal) job (lock_of_key form key.now) engine.old engine.new result had.new }
+{
+    match lock_command(alloc, form, key) {
+        Ok(command) => run_numbered(engine, job, command, had),
+        Err(refusal) => {
+            *had = 0;
+            Outcome::Refused(refusal)
         }
     }
 }
@@ -133,11 +98,60 @@ pub fn get(
     buffer: &mut [u8],
     wanted: &mut usize,
 ) -> Outcome
-    ensures { IsGetCall job key.now engine.old engine.new result buffer.old buffer.new wanted.new }
+    ensures { IsValueCall (λ refusal. IsCauseBefore IsMemory job refusal) job (get_of key.now) engine.old engine.new result buffer.old buffer.new wanted.new }
 {
-    *wanted = 0;
-    match ask(engine, job, key) {
-        Outcome::Done => copy_value(&engine.last, buffer, wanted),
-        refused => refused,
+    match get_command(key) {
+        Ok(command) => run_valued(engine, job, command, buffer, wanted),
+        Err(refusal) => {
+            *wanted = 0;
+            Outcome::Refused(refusal)
+        }
+    }
+}
+
+/// Copies the bytes of the subscript one level below the key that comes next to `start`, or none where there is none,
+/// and tells how many they are. `start` need not be there; an empty one asks for the first, backward for the last.
+///
+/// Outcomes: those of `run_command` and `copy_value`; before the step `TooManySubscripts` below a key with 31,
+/// `SubscriptTooLong` where `start` has over 127 bytes, and `OutOfMemory`. After `BufferTooShort` the subscript is
+/// kept, and `copy_value` copies it.
+pub fn order(
+    engine: &mut Embedded,
+    alloc: Global,
+    job: u64,
+    level: &Key,
+    start: &[u8],
+    direction: Direction,
+    buffer: &mut [u8],
+    wanted: &mut usize,
+) -> Outcome
+    ensures { IsValueCall (λ refusal. IsCauseBefore (IsPlaceCause level.now start.now) job refusal) job (order_of level.now start.now direction) engine.old engine.new result buffer.old buffer.new wanted.new }
+{
+    match order_command(alloc, level, start, direction) {
+        Ok(command) => run_valued(engine, job, command, buffer, wanted),
+        Err(refusal) => {
+            *wanted = 0;
+            Outcome::Refused(refusal)
+        }
+    }
+}
+
+/// Moves the key to the nearest node with a value, in the same name. Where `is_open`, an empty subscript follows the
+/// key: backward that is behind all under it, forward it makes no difference.
+///
+/// Outcomes: those of `run_command`; before the step `OutOfMemory`; `AtEnd` where no node is left; `ReplyKept` where
+/// memory is refused for a key of over 38 bytes: the step is done. After all of these the key is as it was.
+pub fn query(
+    engine: &mut Embedded,
+    job: u64,
+    key: &mut Key,
+    is_open: bool,
+    direction: Direction,
+) -> Outcome
+    ensures { IsFoundCall (λ refusal. IsCauseBefore IsMemory job refusal) job (query_of key.old is_open direction) engine.old engine.new key.old key.new result }
+{
+    match query_command(key, is_open, direction) {
+        Ok(command) => run_found(engine, job, command, key),
+        Err(refusal) => Outcome::Refused(refusal),
     }
 }

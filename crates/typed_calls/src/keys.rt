@@ -1,11 +1,11 @@
 //! Keys of names and subscripts.
 ghost use Rattle.std.specs.Prelude.{◌≡◌, ◌-◌, ◌^◌, [], None, min, length, IfErr, IfOk};
-ghost use Rattle.key_codec.specs.Draft.{IsDueOrMemory, longer, reference_due};
-ghost use Rattle.typed_calls.specs.Typed.{below_fault};
+ghost use Rattle.key_codec.specs.Draft.{IsDueOrMemory, longer, place_due, place_of, reference_due};
+ghost use Rattle.typed_calls.specs.Commands.{below_fault};
 
 use canonic_number::LONGEST_SUBSCRIPT;
 use collation::{MOST_SUBSCRIPTS, Text};
-use key_codec::{Key, KeyDraft};
+use key_codec::{Key, KeyDraft, Place};
 use refusal::Refusal;
 use std::alloc::Global;
 
@@ -49,7 +49,7 @@ fn fault_below(depth: u64, subscript: &[u8]) -> Option<Refusal>
 
 /// The key one level below this one, by this subscript.
 ///
-/// Refusals, in this order: `TooManySubscripts` over 31; `EmptySubscript`; `SubscriptTooLong` over 127 bytes;
+/// Refusals, in this order: `TooManySubscripts` over 31; `EmptySubscript`; `SubscriptTooLong` over 255 bytes;
 /// `OutOfMemory`.
 pub fn key_below(alloc: Global, key: &Key, subscript: &[u8]) -> Result<Key, Refusal>
     ensures ok { IfOk result (λ below. below ≡ longer key.now subscript.now) }
@@ -62,4 +62,36 @@ pub fn key_below(alloc: Global, key: &Key, subscript: &[u8]) -> Result<Key, Refu
     let text = Text::from_slice(alloc, subscript)?;
     let below = key.below(alloc, &text)?;
     Ok(below)
+}
+
+// The open place below a key: an empty subscript follows.
+#[tactic(auto, using(crate::proofs::Below::open_place, crate::proofs::Below::open_due))]
+fn open_below(key: &Key) -> Result<Place, Refusal>
+    ensures ok { IfOk result (λ place. place ≡ place_of (longer key.now [])) }
+    ensures err { IfErr result (λ refusal. IsDueOrMemory refusal (place_due (longer key.now []))) }
+{
+    let _form = key.as_slice();
+    if depth_of(key) >= MOST_SUBSCRIPTS as u64 {
+        return Err(Refusal::TooManySubscripts);
+    }
+    let key = key.clone()?;
+    Ok(Place::new(key, true))
+}
+
+// The place one level below a key, at this subscript; it is open where that is empty.
+//
+// Refusals, in this order: `TooManySubscripts` over 31, an empty one among them; `SubscriptTooLong` over 127 bytes;
+// `OutOfMemory`.
+#[tactic(auto, using(crate::proofs::Below::open_place, crate::proofs::Below::closed_place, crate::proofs::Below::closed_due))]
+pub(crate) fn place_below(alloc: Global, key: &Key, subscript: &[u8]) -> Result<Place, Refusal>
+    ensures ok { IfOk result (λ place. place ≡ place_of (longer key.now subscript.now)) }
+    ensures err { IfErr result (λ refusal. IsDueOrMemory refusal (place_due (longer key.now subscript.now))) }
+{
+    if subscript.is_empty() {
+        return open_below(key);
+    }
+    match key_below(alloc, key, subscript) {
+        Ok(below) => Ok(Place::new(below, false)),
+        Err(refusal) => Err(refusal),
+    }
 }

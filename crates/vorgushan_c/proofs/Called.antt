@@ -8,7 +8,7 @@ use Rattle.embedded.specs.declared.outcome.Outcome.{Outcome}
 use Rattle.journal.specs.Story.{nothing_done}
 use Rattle.embedded.specs.declared.outcome.Outcome.TheVariants.{Done}
 use Rattle.vorgushan_c.specs.Exports.{IsCalled, IsMade}
-use Rattle.vorgushan_c.specs.Keys.{IsKeyCalled}
+use Rattle.vorgushan_c.specs.Keys.{IsKeyCalled, IsKeysCalled}
 
 pub called : (old now : Option Embedded) (number : ℕ) (Left : Type 0) (Does : Embedded → Embedded → Outcome → Type 0) (before after : Embedded) (outcome : Outcome)
     → old ≡ Some before → now ≡ Some after → number ≡ outcome_number outcome → Does before after outcome → IsCalled old now number Left Does
@@ -16,14 +16,22 @@ called old now number Left Does before after outcome was is told done =
     subst (λ (o : Option Embedded). IsCalled o now number Left Does) (sym was) (record { after = after; outcome = outcome; there = is; told = told; done = done })
 
 -- the same of a call on an engine and a key that are there
-pub key_called : (old now : Option Embedded) (key : Option Reference) (number : ℕ) (Does : Reference → Embedded → Embedded → Outcome → Type 0) (before after : Embedded) (r : Reference) (outcome : Outcome)
-    → old ≡ Some before → key ≡ Some r → now ≡ Some after → number ≡ outcome_number outcome → Does r before after outcome → IsKeyCalled old now key number Does
-key_called old now key number Does before after r outcome was at is told done =
-    subst (λ (o : Option Embedded). IsKeyCalled o now key number Does) (sym was)
-    (subst (λ (k : Option Reference). IsKeyCalled (Some before) now k number Does) (sym at) (record { after = after; outcome = outcome; there = is; told = told; done = done }))
+pub key_called : (old now : Option Embedded) (key : Option Reference) (number : ℕ) (Left : Type 0) (Does : Reference → Embedded → Embedded → Outcome → Type 0) (before after : Embedded) (r : Reference) (outcome : Outcome)
+    → old ≡ Some before → key ≡ Some r → now ≡ Some after → number ≡ outcome_number outcome → Does r before after outcome → IsKeyCalled old now key number Left Does
+key_called old now key number Left Does before after r outcome was at is told done =
+    subst (λ (o : Option Embedded). IsKeyCalled o now key number Left Does) (sym was)
+    (subst (λ (k : Option Reference). IsKeyCalled (Some before) now k number Left Does) (sym at) (record { after = after; outcome = outcome; there = is; told = told; done = done }))
+
+-- and of one on two keys
+pub keys_called : (old now : Option Embedded) (key other : Option Reference) (number : ℕ) (Does : Reference → Reference → Embedded → Embedded → Outcome → Type 0) (before after : Embedded) (r x : Reference) (outcome : Outcome)
+    → old ≡ Some before → key ≡ Some r → other ≡ Some x → now ≡ Some after → number ≡ outcome_number outcome → Does r x before after outcome → IsKeysCalled old now key other number Does
+keys_called old now key other number Does before after r x outcome was at from is told done =
+    subst (λ (o : Option Embedded). IsKeysCalled o now key other number Does) (sym was)
+    (subst (λ (k : Option Reference). IsKeysCalled (Some before) now k other number Does) (sym at)
+    (subst (λ (k : Option Reference). IsKeysCalled (Some before) now (Some r) k number Does) (sym from) (record { after = after; outcome = outcome; there = is; told = told; done = done })))
 
 -- an engine was made where none was
-pub made_new : (old now : Option Embedded) (number : ℕ) (made : Embedded) → old ≡ None → now ≡ Some made → made.core ≡ nothing_done → made.last ≡ None → made.listed ≡ None
+pub made_new : (old now : Option Embedded) (number : ℕ) (made : Embedded) → old ≡ None → now ≡ Some made → made.core.machine ≡ nothing_done → made.last ≡ None → made.listed ≡ None
     → number ≡ outcome_number Done → IsMade old now number
 made_new old now number made was is core last listed told =
     subst (λ (o : Option Embedded). IsMade o now number) (sym was) (inl (record { made = made; there = is; core = core; last = last; listed = listed; told = told }))

@@ -27,7 +27,7 @@ IsCalled (Some before) now number Left Does = IsCall before now number Does
 pub record IsNew (now : Option Embedded) (number : ℕ) : Type 0 where
   pub made : Embedded
   pub there : now ≡ Some made
-  pub core : made.core ≡ nothing_done
+  pub core : made.core.machine ≡ nothing_done
   pub last : made.last ≡ None
   pub listed : made.listed ≡ None
   pub told : number ≡ outcome_number Done

@@ -1,8 +1,10 @@
 -- What exported calls do with the key that they are given.
--- Read IsNamedKey, IsLongerKey, IsKeyCalled.
-use Rattle.std.specs.Prelude.{◌≡◌, ◌⊎◌, ℕ, List, [], Option, Some, None}
+-- Read IsNamedKey, IsLongerKey, IsKeyCalled, IsKeysCalled.
+use Rattle.std.specs.Prelude.{◌≡◌, ◌⊎◌, ℕ, ◌==◌, Bool, not, if◌then◌else◌, List, [], Option, Some, None}
 use Rattle.refusal.specs.declared.Refusal.{Refusal}
 use Rattle.collation.specs.Reference.{Reference}
+use Rattle.collation.specs.declared.direction.Direction.{Direction}
+use Rattle.collation.specs.declared.direction.Direction.TheVariants.{Forward, Backward}
 use Rattle.key_codec.specs.Draft.{IsDueOrMemory, longer, reference_due}
 use Rattle.embedded.specs.Outcomes.{outcome_number}
 use Rattle.embedded.specs.declared.engine.Embedded.{Embedded}
@@ -30,8 +32,31 @@ abbrev pub IsLongerKey : List ℕ → Option Reference → Option Reference → 
 IsLongerKey s None now number = (now ≡ None) × (number ≡ outcome_number NoKey)
 IsLongerKey s (Some r) now number = IsMadeKey (longer r s) (Some r) now number
 
--- the call on an engine and a key did this; where one of them isn't there it tells so, and the engine is as it was
-abbrev pub IsKeyCalled : Option Embedded → Option Embedded → Option Reference → ℕ → (Reference → Embedded → Embedded → Outcome → Type 0) → Type 0
-IsKeyCalled None now key number Does = (now ≡ None) × (number ≡ outcome_number NoEngine)
-IsKeyCalled (Some before) now None number Does = (now ≡ Some before) × (number ≡ outcome_number NoKey)
-IsKeyCalled (Some before) now (Some r) number Does = IsCall before now number (Does r)
+-- the call on an engine and a key did this; where one of them isn't there it tells so and does the other, and the engine is as it was
+abbrev pub IsKeyCalled : Option Embedded → Option Embedded → Option Reference → ℕ → Type 0 → (Reference → Embedded → Embedded → Outcome → Type 0) → Type 0
+IsKeyCalled None now key number Left Does = (now ≡ None) × (number ≡ outcome_number NoEngine) × Left
+IsKeyCalled (Some before) now None number Left Does = (now ≡ Some before) × (number ≡ outcome_number NoKey) × Left
+IsKeyCalled (Some before) now (Some r) number Left Does = IsCall before now number (Does r)
+
+-- the same of a call on an engine and two keys
+abbrev pub IsKeysCalled : Option Embedded → Option Embedded → Option Reference → Option Reference → ℕ → (Reference → Reference → Embedded → Embedded → Outcome → Type 0) → Type 0
+IsKeysCalled None now key other number Does = (now ≡ None) × (number ≡ outcome_number NoEngine)
+IsKeysCalled (Some before) now None other number Does = (now ≡ Some before) × (number ≡ outcome_number NoKey)
+IsKeysCalled (Some before) now (Some r) None number Does = (now ≡ Some before) × (number ≡ outcome_number NoKey)
+IsKeysCalled (Some before) now (Some r) (Some x) number Does = IsCall before now number (Does r x)
+
+-- a key is there, and this is so of it
+pub record IsMoved (now : Option Reference) (Is : Reference → Type 0) : Type 0 where
+  pub found : Reference
+  pub there : now ≡ Some found
+  pub so : Is found
+
+-- ---- numbers that stand for a choice
+
+-- any number but 0
+abbrev pub is_not_0 : ℕ → Bool
+is_not_0 n = not (n == 0)
+
+-- forward at 0, backward at any other number
+abbrev pub direction_of : ℕ → Direction
+direction_of n = if n == 0 then Forward else Backward

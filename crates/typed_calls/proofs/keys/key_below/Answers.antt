@@ -1,4 +1,4 @@
-use Rattle.std.proofs.Common.{◌∙◌, sym, ap, inr, subst, List, ℕ}
+use Rattle.std.proofs.Common.{◌∙◌, sym, inr, subst, List, ℕ}
 use Rattle.key_codec.specs.Draft.{longer}
 use Rattle.key_codec.specs.Key.{IsFaultless}
 use Rattle.typed_calls.proofs.Below.{due_is, longer_faultless}

@@ -4,4 +4,4 @@ use Rattle.vorgushan_c.proofs.typed.vorgushan_get.Goals as goal
 
 pub returns-clause-called : goal.returns-clause-called
 returns-clause-called c =
-    key_called _ _ _ _ _ c.deref_mut.result.now c.get-outcome.new.engine c.deref.result.now c.get-outcome.result (search rules) (search rules) (search rules) (search rules) c.get-outcome.ensures
+    key_called _ _ _ _ _ _ c.deref_mut.result.now c.get-outcome.new.engine c.deref.result.now c.get-outcome.result (search rules) (search rules) (search rules) (search rules) c.get-outcome.ensures

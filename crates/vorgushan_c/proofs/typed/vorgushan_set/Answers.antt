@@ -4,4 +4,4 @@ use Rattle.vorgushan_c.proofs.typed.vorgushan_set.Goals as goal
 
 pub returns-clause-called : goal.returns-clause-called
 returns-clause-called c =
-    key_called _ _ _ _ _ c.deref_mut.result.now c.set-outcome.new.engine c.deref.result.now c.set-outcome.result (search rules) (search rules) (search rules) (search rules) c.set-outcome.ensures
+    key_called _ _ _ _ _ _ c.deref_mut.result.now c.set-outcome.new.engine c.deref.result.now c.set-outcome.result (search rules) (search rules) (search rules) (search rules) c.set-outcome.ensures

@@ -1,6 +1,6 @@
 use Rattle.std.proofs.Common.{inr, refl, subst}
 use Rattle.collation.specs.Database.{Database}
-use Rattle.embedded.specs.Calls.{HasNextNode, next_node}
+use Rattle.embedded.specs.Calls.{HasNextNode}
 use Rattle.embedded.proofs.Nodes.{some_matches}
 use Rattle.embedded.proofs.engine.Embedded.copy_next_node.Goals as goal
 

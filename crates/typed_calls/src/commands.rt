@@ -1,0 +1,120 @@
+//! Commands on keys, built for one step.
+ghost use Rattle.std.specs.Prelude.{◌≡◌, IfErr, IfOk};
+ghost use Rattle.typed_calls.specs.Commands.{data_command as data_of, get_command as get_of, kill_command as kill_of, lock_command as lock_of_key, lock_of, merge_command as merge_of, order_command as order_of, query_command as query_of, set_command as set_of};
+ghost use Rattle.typed_calls.specs.Typed.{IsMemory, IsPlaceCause, IsValueCause};
+
+use crate::keys::place_below;
+use collation::{Direction, LONGEST_VALUE, LockCommand, LockName, LockNames, Text};
+use command::{Command, DataCommand, Look};
+use key_codec::{Key, Place};
+use refusal::Refusal;
+use std::alloc::Global;
+
+/// The forms of LOCK with a name.
+#[derive(Clone, Copy, Debug, PartialEq, Eq)]
+pub enum LockForm {
+    /// Without a sign: all names of the job are released, and then the name is asked for.
+    Only,
+    /// With +: the name is asked for too.
+    More,
+    /// With -: one count of the name is given back.
+    Fewer,
+}
+
+impl LockForm {
+    // LOCK of these names in this form.
+    fn of(self, names: LockNames) -> LockCommand
+        ensures { result ≡ lock_of self names }
+    {
+        match self {
+            LockForm::Only => LockCommand::Only(names),
+            LockForm::More => LockCommand::More(names),
+            LockForm::Fewer => LockCommand::Fewer(names),
+        }
+    }
+}
+
+// SET of this key and a copy of the value.
+pub(crate) fn set_command(alloc: Global, key: &Key, value: &[u8]) -> Result<Command, Refusal>
+    ensures ok { IfOk result (λ command. command ≡ set_of key.now value.now) }
+    ensures err { IfErr result (λ refusal. IsValueCause value.now refusal) }
+{
+    if value.len() > LONGEST_VALUE {
+        return Err(Refusal::ValueTooLong);
+    }
+    let key = key.clone()?;
+    let value = Text::from_slice(alloc, value)?;
+    Ok(Command::Access(DataCommand::Set(key, value)))
+}
+
+pub(crate) fn kill_command(key: &Key) -> Result<Command, Refusal>
+    ensures ok { IfOk result (λ command. command ≡ kill_of key.now) }
+    ensures err { IfErr result (λ refusal. IsMemory refusal) }
+{
+    let key = key.clone()?;
+    Ok(Command::Access(DataCommand::Kill(key)))
+}
+
+pub(crate) fn merge_command(to: &Key, from: &Key) -> Result<Command, Refusal>
+    ensures ok { IfOk result (λ command. command ≡ merge_of to.now from.now) }
+    ensures err { IfErr result (λ refusal. IsMemory refusal) }
+{
+    let to = to.clone()?;
+    let from = from.clone()?;
+    Ok(Command::Access(DataCommand::Merge(to, from)))
+}
+
+pub(crate) fn data_command(key: &Key) -> Result<Command, Refusal>
+    ensures ok { IfOk result (λ command. command ≡ data_of key.now) }
+    ensures err { IfErr result (λ refusal. IsMemory refusal) }
+{
+    let key = key.clone()?;
+    Ok(Command::Access(DataCommand::Look(Look::Data(key))))
+}
+
+pub(crate) fn get_command(key: &Key) -> Result<Command, Refusal>
+    ensures ok { IfOk result (λ command. command ≡ get_of key.now) }
+    ensures err { IfErr result (λ refusal. IsMemory refusal) }
+{
+    let key = key.clone()?;
+    Ok(Command::Access(DataCommand::Look(Look::Get(key, None))))
+}
+
+// $ORDER from this subscript below the key; from an empty one, the first or, backward, the last.
+pub(crate) fn order_command(
+    alloc: Global,
+    level: &Key,
+    start: &[u8],
+    direction: Direction,
+) -> Result<Command, Refusal>
+    ensures ok { IfOk result (λ command. command ≡ order_of level.now start.now direction) }
+    ensures err { IfErr result (λ refusal. IsPlaceCause level.now start.now refusal) }
+{
+    let place = place_below(alloc, level, start)?;
+    Ok(Command::Access(DataCommand::Look(Look::Order(place, direction))))
+}
+
+// $QUERY from the key, or from an empty subscript below it.
+pub(crate) fn query_command(
+    key: &Key,
+    is_open: bool,
+    direction: Direction,
+) -> Result<Command, Refusal>
+    ensures ok { IfOk result (λ command. command ≡ query_of key.now is_open direction) }
+    ensures err { IfErr result (λ refusal. IsMemory refusal) }
+{
+    let key = key.clone()?;
+    let place = Place::new(key, is_open);
+    Ok(Command::Access(DataCommand::Look(Look::Query(place, direction))))
+}
+
+// LOCK of the key's reference, with its caret.
+pub(crate) fn lock_command(alloc: Global, form: LockForm, key: &Key) -> Result<Command, Refusal>
+    ensures ok { IfOk result (λ command. command ≡ lock_of_key form key.now) }
+    ensures err { IfErr result (λ refusal. IsMemory refusal) }
+{
+    let reference = key.reference(alloc)?;
+    let mut names = Vec::new(alloc);
+    names.push(LockName::new(true, reference))?;
+    Ok(Command::Lock(form.of(LockNames::new(names))))
+}
