@@ -11,6 +11,8 @@ pub enum Expected {
     Job,
     /// A blank.
     Blank,
+    /// A blank and a reference, after the word of a command.
+    Operand,
     /// The word of a command, or `$` and that of a function.
     Command,
     /// The word of a function, after its `$`.
@@ -49,16 +51,18 @@ impl Expected {
         ensures { result.now ≡ expected.expected_text self }
     {
         match self {
-            Expected::Job => "a job, 1 to 4096",
+            Expected::Job => "a job, 1 to 4096, before all else",
             Expected::Blank => "a blank",
-            Expected::Command => "a command, or $ and a function",
-            Expected::Function => "a function",
+            Expected::Operand => "a blank and ^ and a name; there are no post-conditionals",
+            Expected::Command =>
+                "SET, KILL, MERGE, LOCK, TSTART, TCOMMIT, TROLLBACK, TRESTART or HALT, or $ and a function",
+            Expected::Function => "DATA, GET, ORDER, QUERY, TLEVEL or TRESTART",
             Expected::Reference => "^ and a name",
             Expected::Name => "a name",
             Expected::LockName => "a lock name",
-            Expected::Subscript => "a subscript",
-            Expected::Value => "a value",
-            Expected::Equals => "=",
+            Expected::Subscript => "a number, \"text\" or $C(0 to 255), without a blank",
+            Expected::Value => "a number, \"text\" or $C(0 to 255), without a blank",
+            Expected::Equals => "= without a blank",
             Expected::Opening => "(",
             Expected::Closing => ")",
             Expected::CommaOrClosing => "a comma or )",
@@ -78,7 +82,7 @@ fn rule_text(refusal: Refusal) -> &'static str
         Refusal::BadLine => "a line of the grammar",
         Refusal::BadName => "a letter or %, then letters and digits, at most 31 bytes",
         Refusal::EmptySubscript => "a subscript that isn't empty",
-        Refusal::SubscriptTooLong => "a subscript of at most 127 bytes",
+        Refusal::SubscriptTooLong => "a subscript of at most 255 bytes",
         Refusal::TooManySubscripts => "at most 31 subscripts",
         Refusal::ValueTooLong => "a value of at most 32767 bytes",
         Refusal::NeedSubscript => "a subscript",

@@ -7,8 +7,8 @@ use crate::sentence::direction_of;
 use crate::word::{DataWord, Word, act_of, function_of};
 use key_codec::KeyDraft;
 use m_text::{
-    after, read_literal, read_reference, skip_literal, skip_place, split_digits, split_letters,
-    split_word,
+    after, read_literal, read_named, read_reference, skip_literal, skip_place, split_digits,
+    split_letters, split_word,
 };
 use refusal::Refusal;
 use std::alloc::Global;
@@ -277,7 +277,7 @@ impl<'a> Look<'a> {
     {
         match word {
             Word::Access(word) => {
-                self.blank();
+                self.go(past_some_blank(self.rest), Expected::Operand);
                 self.place();
                 self.tail(alloc, word);
             }
@@ -402,6 +402,82 @@ fn faulty_operand(alloc: Global, operands: &[u8]) -> &[u8]
     }
 }
 
+// Whether this begins with LOCK's word.
+fn is_lock(command: &[u8]) -> bool {
+    let (letters, _) = split_letters(command);
+    matches!(act_of(letters), Some(Word::Lock))
+}
+
+fn past_caret(text: &[u8]) -> &[u8]
+    ensures { length result.now ≤ length text.now }
+{
+    after(b'^', text).unwrap_or(text)
+}
+
+// What follows a lock name, whatever faults it has.
+fn past_name(text: &[u8]) -> Option<&[u8]>
+    ensures { IfSome result (λ rest. length rest.now ≤ length text.now) }
+{
+    let mut look = Look {
+        rest: text,
+        stopped: None,
+    };
+    look.lock_name();
+    if look.stopped.is_none() {
+        Some(look.rest)
+    } else {
+        None
+    }
+}
+
+// Whether the name word and the subscripts in front are as they should be.
+fn is_named(alloc: Global, text: &[u8], draft: &mut KeyDraft) -> bool {
+    match read_named(alloc, text, draft) {
+        Ok(_) => draft.key(alloc).is_ok(),
+        Err(_) => false,
+    }
+}
+
+// What follows a lock name that is as it should be.
+fn past_lock_name<'a>(alloc: Global, text: &'a [u8], draft: &mut KeyDraft) -> Option<&'a [u8]>
+    ensures { IfSome result (λ rest. length rest.now ≤ length text.now) }
+{
+    if is_named(alloc, past_caret(text), draft) {
+        past_name(text)
+    } else {
+        None
+    }
+}
+
+// The first lock name that isn't as it should be, of those that stand after LOCK's word.
+fn faulty_lock_name(alloc: Global, operands: &[u8]) -> &[u8]
+    ensures { length result.now ≤ length operands.now }
+{
+    let names = after(b'+', operands).unwrap_or(operands);
+    let names = after(b'-', names).unwrap_or(names);
+    let mut name = after(b'(', names).unwrap_or(names);
+    let mut draft = KeyDraft::new(alloc);
+    'names: for _ in 0..operands.len() {
+        match past_lock_name(alloc, name, &mut draft) {
+            Some([b',', rest @ ..]) => name = rest,
+            _ => return name,
+        }
+    }
+    name
+}
+
+// The operand at fault: a lock name, or a reference.
+fn faulty_of(alloc: Global, line: &[u8]) -> &[u8]
+    ensures { length result.now ≤ length line.now }
+{
+    let operands = operands_in(line);
+    if is_lock(command_in(line)) {
+        faulty_lock_name(alloc, operands)
+    } else {
+        faulty_operand(alloc, operands)
+    }
+}
+
 // What is left of a line of the grammar where the operand begins that a refusal speaks of, or its command.
 fn fault_in(alloc: Global, line: &[u8], refusal: Refusal) -> &[u8]
     ensures within { length result.now ≤ length line.now }
@@ -412,10 +488,10 @@ fn fault_in(alloc: Global, line: &[u8], refusal: Refusal) -> &[u8]
         Refusal::NeedSubscript => operands_in(line),
         Refusal::MergeOverlap => operands_in(line),
         Refusal::ValueTooLong => second_operand(operands_in(line)),
-        Refusal::BadName => faulty_operand(alloc, operands_in(line)),
-        Refusal::EmptySubscript => faulty_operand(alloc, operands_in(line)),
-        Refusal::SubscriptTooLong => faulty_operand(alloc, operands_in(line)),
-        Refusal::TooManySubscripts => faulty_operand(alloc, operands_in(line)),
+        Refusal::BadName => faulty_of(alloc, line),
+        Refusal::EmptySubscript => faulty_of(alloc, line),
+        Refusal::SubscriptTooLong => faulty_of(alloc, line),
+        Refusal::TooManySubscripts => faulty_of(alloc, line),
         _ => command_in(line),
     }
 }
@@ -430,8 +506,7 @@ fn column_of(line: &[u8], rest: &[u8]) -> usize
 /// Where a line is at fault that was refused so, and what was expected there.
 ///
 /// A line that isn't of the grammar is at fault where it stops to be of it; a literal that is none, where it begins.
-/// Another is at fault at its job, at the operand that the refusal speaks of (of LOCK, at its names), or at its
-/// command, where the refusal isn't one of form. Takes memory for a short while; where that is wanting another operand
+/// Another is at fault at its job, at the operand that the refusal speaks of (of LOCK, the name), or at its command, where the refusal isn't one of form. Takes memory for a short while; where that is wanting another operand
 /// may be named. Columns are bytes, counted from 1.
 pub fn locate_fault(alloc: Global, line: &[u8], refusal: Refusal) -> LocatedFault
     ensures low { 1 ≤ result.column }

@@ -27,6 +27,8 @@ fn lines_stop_where_the_grammar_does(rt: HostRuntime) -> Result<(), Fail> {
         ("1", bad, 2, Expected::Blank),
         ("1x SET ^A=1", bad, 2, Expected::Blank),
         ("1 FOO", bad, 3, Expected::Command),
+        ("1 K", bad, 4, Expected::Operand),
+        ("1 S:1 ^A=1", bad, 4, Expected::Operand),
         ("1 $FOO(^A)", bad, 4, Expected::Function),
         ("1 SET A=1", bad, 7, Expected::Reference),
         ("1 SET ^=1", bad, 8, Expected::Name),
@@ -74,6 +76,8 @@ fn refused_operands_are_told(rt: HostRuntime) -> Result<(), Fail> {
         ruled("1 SET ^1A=1", Refusal::BadName, 7),
         ruled("1 MERGE ^A=^1B", Refusal::BadName, 12),
         ruled("1 LOCK 5", Refusal::BadName, 8),
+        ruled("1 LOCK +(^A,B(1),5)", Refusal::BadName, 18),
+        ruled("1 LOCK -(A(\"\"),B)", Refusal::EmptySubscript, 10),
         ruled("1 $DATA(^A(\"\"))", Refusal::EmptySubscript, 9),
         ruled("1 SET ^A(1)=5", Refusal::ValueTooLong, 13),
         ruled("1 $ORDER(^A)", Refusal::NeedSubscript, 10),
@@ -82,9 +86,6 @@ fn refused_operands_are_told(rt: HostRuntime) -> Result<(), Fail> {
         ruled("1 SET ^A=1", Refusal::OutOfMemory, 3),
     ];
     assert_eq!(rt; first_other(rt.alloc(), &rows), None);
-    assert_eq!(rt;
-        Expected::Rule(Refusal::BadJob).text(),
-        Expected::Job.text()
-    );
+    assert_eq!(rt; Expected::Rule(Refusal::BadJob).text(), "a job, 1 to 4096");
     Ok(())
 }

@@ -12,20 +12,20 @@ pub type Row = (&'static [u8], &'static [&'static [u8]], &'static [u8]);
 // In the order of references.
 pub const TABLE: [Row; 15] = [
     (b"A", &[], b"\x41\x00"),
-    (b"A", &[b"-1.5"], b"\x41\x00\x02\x7E\x09\x05\xFF"),
-    (b"A", &[b"-1"], b"\x41\x00\x02\x7E\x09\xFF"),
-    (b"A", &[b"-.5"], b"\x41\x00\x02\x7F\x05\xFF"),
+    (b"A", &[b"-1.5"], b"\x41\x00\x02\x00\xFE\x09\x05\xFF"),
+    (b"A", &[b"-1"], b"\x41\x00\x02\x00\xFE\x09\xFF"),
+    (b"A", &[b"-.5"], b"\x41\x00\x02\x00\xFF\x05\xFF"),
     (b"A", &[b"0"], b"\x41\x00\x03"),
-    (b"A", &[b".5"], b"\x41\x00\x04\x80\x06\x00"),
-    (b"A", &[b"7"], b"\x41\x00\x04\x81\x08\x00"),
-    (b"A", &[b"9"], b"\x41\x00\x04\x81\x0A\x00"),
-    (b"A", &[b"10"], b"\x41\x00\x04\x82\x02\x00"),
-    (b"A", &[b"10", b"0"], b"\x41\x00\x04\x82\x02\x00\x03"),
-    (b"A", &[b"12"], b"\x41\x00\x04\x82\x02\x03\x00"),
+    (b"A", &[b".5"], b"\x41\x00\x04\x01\x00\x06\x00"),
+    (b"A", &[b"7"], b"\x41\x00\x04\x01\x01\x08\x00"),
+    (b"A", &[b"9"], b"\x41\x00\x04\x01\x01\x0A\x00"),
+    (b"A", &[b"10"], b"\x41\x00\x04\x01\x02\x02\x00"),
+    (b"A", &[b"10", b"0"], b"\x41\x00\x04\x01\x02\x02\x00\x03"),
+    (b"A", &[b"12"], b"\x41\x00\x04\x01\x02\x02\x03\x00"),
     (b"A", &[b"\0\x01b"], b"\x41\x00\x05\x01\x01\x01\x02\x62\x00"),
     (b"A", &[b"007"], b"\x41\x00\x05\x30\x30\x37\x00"),
     (b"A", &[b"x"], b"\x41\x00\x05\x78\x00"),
-    (b"AB", &[b"1"], b"\x41\x42\x00\x04\x81\x02\x00"),
+    (b"AB", &[b"1"], b"\x41\x42\x00\x04\x01\x01\x02\x00"),
 ];
 
 fn is_written_as(alloc: Global, reference: &Ref, key: &[u8]) -> Result<bool, Refusal> {
@@ -115,25 +115,30 @@ fn is_no_key(alloc: Global, bytes: &[u8]) -> Result<bool, Refusal> {
 
 #[test]
 fn decode_of_bytes_that_are_no_key_is_none(rt: HostRuntime) -> Result<(), Fail> {
-    let no_keys: [&[u8]; 16] = [
+    let no_keys: [&[u8]; 20] = [
         // the rows of the table
         b"\x41",
         b"\x41\x00\x05\x37\x00",
-        b"\x41\x00\x04\x81\x01\x00",
-        b"\x41\x00\x04\x82\x02\x01\x00",
+        b"\x41\x00\x04\x01\x01\x01\x00",
+        b"\x41\x00\x04\x01\x02\x02\x01\x00",
         b"\x41\x00\x05\x01\x03\x00",
         b"\x41\x00\x05\x78",
         b"\x31\x00",
         // no name; no bytes; a digit byte out of range; no digit; an empty string; another tag; a number cut off
         b"\x00",
         b"",
-        b"\x41\x00\x04\x81\x0B\x00",
-        b"\x41\x00\x04\x81\x00",
+        b"\x41\x00\x04\x01\x01\x0B\x00",
+        b"\x41\x00\x04\x01\x01\x00",
         b"\x41\x00\x05\x00",
         b"\x41\x00\x06",
         b"\x41\x00\x02",
-        // a number of 128 bytes: a point, 126 zeros and a digit; 32 subscripts
-        b"\x41\x00\x04\x02\x02\x00",
+        // a place cut off; after its first byte; a place past the greatest; an end byte in the place of a digit
+        b"\x41\x00\x04",
+        b"\x41\x00\x04\x01",
+        b"\x41\x00\x04\x02\x00\x02\x00",
+        b"\x41\x00\x02\x00\xFE\x00\xFF",
+        // a number of 256 bytes: a point, 254 zeros and a digit; 32 subscripts
+        b"\x41\x00\x04\x00\x02\x02\x00",
         b"\x41\x00\x03\x03\x03\x03\x03\x03\x03\x03\x03\x03\x03\x03\x03\x03\x03\x03\x03\x03\x03\x03\x03\x03\x03\x03\x03\x03\x03\x03\x03\x03\x03\x03",
     ];
     for bytes in no_keys {
@@ -148,14 +153,14 @@ fn has_key_of_length(alloc: Global, reference: &Ref, length: usize) -> Result<bo
     Ok(key.len() == length && is_read_as(alloc, key.as_slice(), reference)?)
 }
 
-// 31 bytes of name, 00, and 31 strings of 127 escaped bytes, each 1 + 254 + 1.
+// 31 bytes of name, 00, and 31 strings of 255 escaped bytes, each 1 + 510 + 1.
 #[test]
-fn longest_key_has_7968_bytes(rt: HostRuntime) -> Result<(), Fail> {
+fn longest_key_has_15904_bytes(rt: HostRuntime) -> Result<(), Fail> {
     let name = [b'A'; 31];
-    let subscript = [0_u8; 127];
+    let subscript = [0_u8; 255];
     let subscripts: [&[u8]; 31] = [&subscript; 31];
     let longest = reference(rt.alloc(), &name, &subscripts)?;
-    assert!(rt; has_key_of_length(rt.alloc(), &longest, 7968)?);
+    assert!(rt; has_key_of_length(rt.alloc(), &longest, 15904)?);
     Ok(())
 }
 
@@ -168,8 +173,8 @@ fn is(written: Result<Vec<u8>, Refusal>, expected: &[u8]) -> Result<bool, Refusa
 fn bounds_are_the_key_and_the_key_with_06(rt: HostRuntime) -> Result<(), Fail> {
     let alloc = rt.alloc();
     let seven = reference(alloc, b"A", &[b"7"])?;
-    let low = b"\x41\x00\x04\x81\x08\x00";
-    let high = b"\x41\x00\x04\x81\x08\x00\x06";
+    let low = b"\x41\x00\x04\x01\x01\x08\x00";
+    let high = b"\x41\x00\x04\x01\x01\x08\x00\x06";
     assert!(rt; is(subtree_prefix(alloc, &seven), low)?);
     assert!(rt; is(sibling_before(alloc, &seven), low)?);
     assert!(rt; is(sibling_after(alloc, &seven), high)?);

@@ -17,6 +17,8 @@ mod literals;
 #[cfg(test)]
 mod numbers;
 #[cfg(test)]
+mod old_keys;
+#[cfg(test)]
 mod order;
 #[cfg(test)]
 mod readings;

@@ -91,10 +91,10 @@ fn parts_of_worked_numbers(rt: HostRuntime) {
 
 // As many digits as a subscript can have: no machine number holds them.
 #[test]
-fn cmp_numerals_of_127_digits_looks_at_the_last(rt: HostRuntime) -> Result<(), Fail> {
-    let greater = [b'9'; 127];
-    let mut less = [b'9'; 127];
-    less[126] = b'8';
+fn cmp_numerals_of_255_digits_looks_at_the_last(rt: HostRuntime) -> Result<(), Fail> {
+    let greater = [b'9'; 255];
+    let mut less = [b'9'; 255];
+    less[254] = b'8';
     let a: Numeral<'_> = read_numeral(&greater).ok_or("nines are no number")?;
     let b = read_numeral(&less).ok_or("nines and an eight are no number")?;
     assert_eq!(rt; cmp_numerals(&a, &b), Ordering::Greater);

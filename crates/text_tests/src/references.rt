@@ -66,8 +66,8 @@ fn refusal_of(alloc: Global, texts: &[&[u8]]) -> Option<Refusal> {
 
 #[test]
 fn references_are_refused_past_their_limits(rt: HostRuntime) {
-    let longest: &[u8] = &[b'9'; 127];
-    let too_long: &[u8] = &[b'9'; 128];
+    let longest: &[u8] = &[b'9'; 255];
+    let too_long: &[u8] = &[b'9'; 256];
     let one: &[u8] = b"1";
     let many = [one; 32];
     let rows: [(&[&[u8]], Option<Refusal>); 7] = [

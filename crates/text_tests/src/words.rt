@@ -1,6 +1,6 @@
 //! The words of `mrun` and `mjobs`: what their command lines ask for. Expected from README and `--help`.
 use clap::error::ErrorKind;
-use program_front::{MjobsArgs, MrunArgs, mjobs_args_of, mrun_args_of};
+use program_front::{MjobsArgs, MrunArgs, NamePlace, mjobs_args_of, mrun_args_of};
 use std::alloc::Global;
 use std::test::Fail;
 
@@ -25,9 +25,11 @@ fn asked(alloc: Global, words: &[&[u8]]) -> Result<Result<MrunArgs, ErrorKind>, 
 
 const PLAIN: MrunArgs = MrunArgs {
     file: None,
+    load: None,
     listed: true,
     errors: false,
     collect_every: 0,
+    checkpoint_every: 0,
 };
 
 #[test]
@@ -53,6 +55,37 @@ fn words_ask_for_a_file_or_standard_input(rt: HostRuntime) -> Result<(), Fail> {
             ..PLAIN
         })
     );
+    Ok(())
+}
+
+#[test]
+fn words_ask_for_a_listing(rt: HostRuntime) -> Result<(), Fail> {
+    let apart = asked(rt.alloc(), &[b"a.txt", b"--load", b"b.txt"])?;
+    let place = NamePlace {
+        argument: 3,
+        from: 0,
+    };
+    assert_eq!(rt;
+        apart,
+        Ok(MrunArgs {
+            file: Some(1),
+            load: Some(place),
+            ..PLAIN
+        })
+    );
+    let joined = asked(rt.alloc(), &[b"--load=\xffb.txt"])?;
+    let place = NamePlace {
+        argument: 1,
+        from: 7,
+    };
+    assert_eq!(rt;
+        joined,
+        Ok(MrunArgs {
+            load: Some(place),
+            ..PLAIN
+        })
+    );
+    assert_eq!(rt; asked(rt.alloc(), &[b"--load"])?.is_err(), true);
     Ok(())
 }
 
@@ -92,16 +125,21 @@ fn words_ask_for_help_or_are_wrong(rt: HostRuntime) -> Result<(), Fail> {
     Ok(())
 }
 
-// After how many printed lines the collector passes, by this word.
-fn passes(alloc: Global, word: &[u8]) -> Result<Result<u64, ErrorKind>, Fail> {
-    Ok(match asked(alloc, &[b"--collect-every", word])? {
+// After how many printed lines the collector passes, and a checkpoint is taken, by this word for either.
+fn every(alloc: Global, word: &[u8]) -> Result<[Result<u64, ErrorKind>; 2], Fail> {
+    let passes = match asked(alloc, &[b"--collect-every", word])? {
         Ok(args) => Ok(args.collect_every),
         Err(kind) => Err(kind),
-    })
+    };
+    let checkpoints = match asked(alloc, &[b"--checkpoint-every", word])? {
+        Ok(args) => Ok(args.checkpoint_every),
+        Err(kind) => Err(kind),
+    };
+    Ok([passes, checkpoints])
 }
 
 #[test]
-fn words_ask_for_the_collector(rt: HostRuntime) -> Result<(), Fail> {
+fn words_ask_for_the_collector_and_checkpoints(rt: HostRuntime) -> Result<(), Fail> {
     let rows = [
         (b"0".as_slice(), Ok(0)),
         (b"7", Ok(7)),
@@ -113,20 +151,24 @@ fn words_ask_for_the_collector(rt: HostRuntime) -> Result<(), Fail> {
         (b"-1", Err(ErrorKind::UnknownArgument)),
     ];
     for (word, want) in rows {
-        let found = passes(rt.alloc(), word)?;
-        assert_eq!(rt; found, want);
+        let found = every(rt.alloc(), word)?;
+        assert_eq!(rt; found, [want, want]);
     }
     Ok(())
 }
 
 #[test]
-fn words_ask_for_the_collector_and_a_file(rt: HostRuntime) -> Result<(), Fail> {
-    let both = asked(rt.alloc(), &[b"--collect-every=5", b"5"])?;
+fn words_ask_for_both_and_a_file(rt: HostRuntime) -> Result<(), Fail> {
+    let both = asked(
+        rt.alloc(),
+        &[b"--collect-every=5", b"--checkpoint-every=9", b"5"],
+    )?;
     assert_eq!(rt;
         both,
         Ok(MrunArgs {
-            file: Some(2),
+            file: Some(3),
             collect_every: 5,
+            checkpoint_every: 9,
             ..PLAIN
         })
     );
@@ -167,6 +209,8 @@ fn words_ask_for_jobs(rt: HostRuntime) -> Result<(), Fail> {
     );
     let every = asked_of_jobs(rt.alloc(), &[b"--collect-every", b"1"])?;
     assert_eq!(rt; every, Err(ErrorKind::UnknownArgument));
+    let checkpoints = asked_of_jobs(rt.alloc(), &[b"--checkpoint-every", b"1"])?;
+    assert_eq!(rt; checkpoints, Err(ErrorKind::UnknownArgument));
     let help = asked_of_jobs(rt.alloc(), &[b"--help"])?;
     assert_eq!(rt; help, Err(ErrorKind::DisplayHelp));
     Ok(())
