@@ -1,7 +1,7 @@
 //! Why a run ended early, and the exit status of one.
 ghost use Rattle.std.specs.Prelude.{◌≡◌, true, false, IfOk, OnErr};
 
-use listing::{ListingFault, ReadFault, WriteFault};
+use listing::{InputFault, ListingFault, WriteFault};
 use std::alloc::{AllocError, AllocFailed};
 use std::error::Error;
 use std::fmt;
@@ -110,14 +110,17 @@ impl From<AllocError> for JobsFault {
     }
 }
 
-impl From<ReadFault> for JobsFault {
+impl From<InputFault> for JobsFault {
     ghost use Rattle.std.specs.Prelude.{◌≡◌};
-    ghost use Rattle.job_server.specs.declared.fault.JobsFault.{JobsFault};
+    ghost use Rattle.job_server.specs.Faults.{fault_of_input};
 
-    ghost from_gives = { λ _ fault. fault ≡ JobsFault.Read };
+    ghost from_gives = { λ input fault. fault ≡ fault_of_input input };
 
-    fn from(_: ReadFault) -> JobsFault {
-        JobsFault::Read
+    fn from(fault: InputFault) -> JobsFault {
+        match fault {
+            InputFault::Read => JobsFault::Read,
+            InputFault::Memory => JobsFault::Memory,
+        }
     }
 }
 

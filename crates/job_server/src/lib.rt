@@ -26,7 +26,7 @@
 #![tactic(auto)]
 
 pub use fault::{JobsFault, ServerFault, status_of};
-pub use run::{read_all, run_jobs, run_text};
+pub use run::{run_jobs, run_text};
 pub use serving::{Served, serve};
 
 mod cursor;

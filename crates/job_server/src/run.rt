@@ -10,39 +10,15 @@ ghost use Rattle.job_server.specs.Output.{ending, IsJobsOutput, Wrote, IsBegun};
 use crate::{JobsFault, Served, serve};
 use job_core::Core;
 use job_scripts::{Report, scripts_of, write_reports};
-use listing::{Counted, write_listing_after};
+use listing::{Counted, read_all, write_listing_after};
 use shared_engine::Gate;
 use std::alloc::Global;
 use std::io::{Read, Write};
 use std::sync::Wait;
 use std::thread::Threads;
 
-// How many bytes are asked for at a time.
-const PIECE_BYTES: usize = 65536;
-
 // The buffer of the listing.
 const OUT_BYTES: usize = 65536;
-
-/// All that a reader gives.
-///
-/// After a fault nothing is kept: `Read` where a call of the reader failed, else `Memory`.
-pub fn read_all<R: Read>(alloc: Global, reader: &mut Counted<R>) -> Result<Vec<u8>, JobsFault>
-    ensures all { IfOk result (λ text. IfSome (R.remaining reader.old.inner) (λ bytes. text.items ≡ bytes)) }
-    ensures at_end { OnOk result (IsAtEnd (R.remaining reader.new.inner)) }
-    ensures kept { OnOk result (reader.new.failures ≡ reader.old.failures) }
-    ensures counted { IsErrOf result JobsFault.Read → IsOneMore reader.old.failures reader.new.failures }
-{
-    let mut text = Vec::new(alloc);
-    let mut piece = [0; PIECE_BYTES];
-    'pieces: for _ in 0..u64::MAX {
-        let n = reader.read_some(&mut piece)?;
-        if n == 0 {
-            return Ok(text);
-        }
-        text.extend_from_slice(&piece[..n])?;
-    }
-    Err(JobsFault::Memory)
-}
 
 // Writes `--` and the listing of a core's content, where it is asked for.
 fn write_ending<W: Write>(

@@ -167,7 +167,13 @@ fn lines_of<R: Threads + Wait + Sync>(
 fn jobs_in_all_numbers_are_answered(rt: HostRuntime) -> Result<(), Fail> {
     let all = lines_of(&rt, rt.alloc(), 4096, 1, 3)?;
     assert_eq!(rt; all, 4096 + 1 + 4096);
-    let one = lines_of(&rt, rt.alloc(), 1, 20_000, 16)?;
-    assert_eq!(rt; one, 20_000 + 1 + 1);
+    Ok(())
+}
+
+// One of sixteen workers has something to do. It takes longer than `rt try` allows.
+#[test]
+fn many_lines_of_one_job_are_answered(rt: HostRuntime) -> Result<(), Fail> {
+    let all = lines_of(&rt, rt.alloc(), 1, 1_000_000, 16)?;
+    assert_eq!(rt; all, 1_000_000 + 1 + 1);
     Ok(())
 }

@@ -2,7 +2,7 @@
 use crate::gates::Yielding;
 use job_server::run_jobs;
 use listing::Counted;
-use script_run::run_script;
+use script_run::{Upkeep, run_script};
 use std::alloc::Global;
 use std::sync::Wait;
 use std::test::Fail;
@@ -33,7 +33,7 @@ fn output_of<R: Threads + Wait + Sync>(
 fn output_of_one(alloc: Global, input: &[u8]) -> Result<(Vec<u8>, bool), Fail> {
     let mut reader = Counted::new(input);
     let mut writer = Counted::new(Vec::new(alloc));
-    let outcome = run_script(alloc, 0, &mut reader, &mut writer)?;
+    let outcome = run_script(alloc, Upkeep::none(), &mut reader, &mut writer)?;
     let text = Vec::from_slice(alloc, writer.inner())?;
     Ok((text, outcome.refused))
 }

@@ -8,7 +8,7 @@ use job_server::{Served, serve};
 use lines::{JOBS, Names, push_script};
 use listing::{Counted, ListingFault, write_listing};
 use plain::Plain;
-use script_run::{Fault, run_script};
+use script_run::{Fault, Upkeep, run_script};
 use shared_engine::Gate;
 use std::alloc::{AllocError, Global};
 use std::sync::Wait;
@@ -124,7 +124,7 @@ fn replayed(alloc: Global, served: &Served) -> Result<Outcome, Outcome> {
 fn answered_alone(alloc: Global, lines: &[u8]) -> Result<Vec<u8>, Outcome> {
     let mut reader = Counted::new(lines);
     let mut writer = Counted::new(Vec::new(alloc));
-    run_script(alloc, 0, &mut reader, &mut writer)?;
+    run_script(alloc, Upkeep::none(), &mut reader, &mut writer)?;
     let text = writer.inner();
     let end = match text
         .windows(4)

@@ -5,7 +5,12 @@ use denote.Struct.Declared.{shape}
 use Rattle.std.proofs.Crossing as heap
 use Rattle.btree.proofs.node.Node.TheLaws.TheKnot as nodes
 use Rattle.version_chain.proofs.version.Version.TheLaws.TheKnot as versions
-use Rattle.journal.proofs.list.Journal.TheSendSync as journal
+use Rattle.journal.proofs.past.Past.TheLaws.TheKnot as past
+use Rattle.journal.proofs.past.Adopted.TheSendSync as adopted
+use Rattle.journal.proofs.before.Before.TheSendSync as before
+use Rattle.journal.proofs.base.Base.TheSendSync as base
+use Rattle.journal.proofs.log.Log.TheSendSync as log
+use Rattle.journal.specs.contracts.list.Journal as Journal
 use Rattle.lock_table.proofs.table.LockTable.TheSendSync as locks
 use Rattle.key_codec.proofs.key.Key.TheSendSync as key
 use Rattle.collation.proofs.text.Text.TheSendSync as text
@@ -13,7 +18,7 @@ use Rattle.cell_pool.proofs.pool.Pool.TheSendSync as pool
 use Rattle.cell_pool.proofs.cell.Cell.TheSendSync as cell
 use Rattle.version_store.proofs.near.Near.TheSendSync as near
 use Rattle.std.proofs.option.Option.TheSendSync as option
-use Rattle.version_store.specs.contracts.store.Store as Store
+use Rattle.version_store.specs.contracts.store.KeyedStore as KeyedStore
 use Rattle.job_core.specs.contracts.kernel.Core as Core
 use Rattle.job_core.specs.contracts.state.JobState as JobState
 use Rattle.shared_engine.specs.contracts.session.Session as Session
@@ -30,20 +35,26 @@ use Rattle.shared_engine.proofs.adaptive.AdaptiveLock.TheSendSync as adaptive
 use Rattle.shared_engine.specs.contracts.shared.Shared as Shared
 use Rattle.job_core.specs.contracts.kernel.Core.TheInside as Inside
 
-pub store_send : IsSend Store.the_row
+pub store_send : IsSend KeyedStore.the_row
 store_send = search (heap.crosses, nodes.crosses, versions.crosses, key.the_send, key.the_sync, text.the_send, text.the_sync, pool.the_send, pool.the_sync, cell.the_send, cell.the_sync, near.the_send, near.the_sync, sendable) depth 60 fits 20000
 
-pub store_sync : IsSync Store.the_row
+pub store_sync : IsSync KeyedStore.the_row
 store_sync = search (heap.crosses, nodes.crosses, versions.crosses, key.the_send, key.the_sync, text.the_send, text.the_sync, pool.the_send, pool.the_sync, cell.the_send, cell.the_sync, near.the_send, near.the_sync, sendable) depth 60 fits 20000
+
+pub journal_send : IsSend Journal.the_row
+journal_send = search (heap.crosses, past.crosses, adopted.the_send, adopted.the_sync, before.the_send, before.the_sync, base.the_send, base.the_sync, log.the_send, log.the_sync, sendable) depth 60 fits 20000
+
+pub journal_sync : IsSync Journal.the_row
+journal_sync = search (heap.crosses, past.crosses, before.the_send, before.the_sync, base.the_sync, log.the_sync, sendable) depth 60 fits 20000
 
 pub core_send : IsSend Core.the_row
 core_send =
-    let c = struct_send (shape Inside.the_type) (search (heap.crosses, sendable) depth 60, (store_send, (journal.the_send, (locks.the_send, tt)))) in
+    let c = struct_send (shape Inside.the_type) (search (heap.crosses, sendable) depth 60, (store_send, (journal_send, (locks.the_send, tt)))) in
     record { owned = λ d vs x. (c.owned (Inside.the_type.to x.0) vs, tt); leaving = λ k d w. tt }
 
 pub core_sync : IsSync Core.the_row
 core_sync =
-    let c = struct_sync (shape Inside.the_type) (search (heap.crosses, sendable) depth 60, (store_sync, (journal.the_sync, (locks.the_sync, tt)))) in
+    let c = struct_sync (shape Inside.the_type) (search (heap.crosses, sendable) depth 60, (store_sync, (journal_sync, (locks.the_sync, tt)))) in
     record { shared = λ d b o κ x. (c.shared (Inside.the_type.to x.0) b o κ, tt) }
 
 pub state_send : IsSend JobState.the_row
@@ -56,12 +67,12 @@ session_send B g =
 
 pub locked_send : (B : RattleType) (g : BoardGhosts B.Denot) → IsSend (Locked.the_row B g)
 locked_send B g =
-    let c = struct_send (shape (LockedInside.the_type B g)) (seats.the_send B g, (search sendable, (search sendable, (core_send, (desk.the_send B g, tt))))) in
+    let c = struct_send (shape (LockedInside.the_type B g)) (seats.the_send B g, (search sendable, (search sendable, (search sendable, (core_send, (desk.the_send B g, tt)))))) in
     record { owned = λ d vs x. (c.owned ((LockedInside.the_type B g).to x.0) vs, tt); leaving = λ k d w. tt }
 
 pub locked_sync : (B : RattleType) (g : BoardGhosts B.Denot) → IsSync (Locked.the_row B g)
 locked_sync B g =
-    let c = struct_sync (shape (LockedInside.the_type B g)) (seats.the_sync B g, (search sendable, (search sendable, (core_sync, (desk.the_sync B g, tt))))) in
+    let c = struct_sync (shape (LockedInside.the_type B g)) (seats.the_sync B g, (search sendable, (search sendable, (search sendable, (core_sync, (desk.the_sync B g, tt)))))) in
     record { shared = λ d b o κ x. (c.shared ((LockedInside.the_type B g).to x.0) b o κ, tt) }
 
 pub shared_sync : (B : RattleType) (g : BoardGhosts B.Denot) → IsSync (Shared.the_row B g)

@@ -9,3 +9,4 @@ pub mod Alone
 pub mod Blocks
 pub mod Beginning
 pub mod Crossing
+pub mod Waiting

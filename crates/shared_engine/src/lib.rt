@@ -34,3 +34,4 @@ mod seats;
 mod serial_run;
 mod session;
 mod shared;
+mod sweep;

@@ -19,6 +19,7 @@ ghost use Rattle.shared_engine.specs.Engines.{has_session, SessionIs, SameSessio
 
 use crate::seats::Seats;
 use crate::session::{Pass, Session};
+use crate::sweep::{Sweep, looks};
 use collation::{Job, LockCommand};
 use collector::Progress;
 use command::{Answer, DataCommand};
@@ -49,13 +50,14 @@ pub struct Closed {
 }
 
 /// What all jobs share, the board's desk, the seats of the jobs that have no session, the horizon that was drawn last,
-/// and how many sessions were opened.
+/// how many sessions were opened, and how far the collector has gone round.
 #[derive(Drop)]
 pub(crate) struct Locked<B: BoardName> {
     // What only a writer looks at comes first: it lies beside the lock's own word, which each reader changes.
     seats: Seats<B>,
     horizon: u64,
     opened: u64,
+    sweep: Sweep,
     core: Core,
     pub(crate) desk: Desk<B>,
 }
@@ -122,6 +124,7 @@ impl<B: BoardName> Locked<B> {
             seats: Seats::new(alloc),
             horizon: 0,
             opened: 0,
+            sweep: Sweep::new(),
         }
     }
 
@@ -180,10 +183,12 @@ impl<B: BoardName> Locked<B> {
         ensures others { (self.new.opened ≡ self.old.opened) × (self.new.seats ≡ self.old.seats) }
     {
         session.numbers.reserve(1)?;
+        let looks = looks(&command);
         let (answer, receipt) = self
             .core
             .lone(session.state.job(), command, Some(self.horizon))?;
         board.write(rt, &mut self.desk, &mut session.pin, &receipt);
+        self.sweep.note_unit(receipt.number(), looks);
         session.numbers.push_reserved(receipt.number());
         Ok(answer)
     }
@@ -377,6 +382,8 @@ impl<B: BoardName> Locked<B> {
         match self.core.commit(&session.state, Some(self.horizon))? {
             Verdict::Committed(receipt) => {
                 board.write(rt, &mut self.desk, &mut session.pin, &receipt);
+                let looks = !session.state.has_written();
+                self.sweep.note_unit(receipt.number(), looks);
                 session.numbers.push_reserved(receipt.number());
                 board.leave(&mut session.pin);
                 session.state.end();
@@ -442,7 +449,35 @@ impl<B: BoardName> Locked<B> {
         ensures others { (self.new.opened ≡ self.old.opened) × (self.new.seats ≡ self.old.seats) }
     {
         self.horizon = board.draw(rt, &mut self.desk);
-        self.core.collect(self.horizon, limit)
+        let turn = self.core.collect(self.horizon, limit)?;
+        let keys = self.core.placed_count();
+        self.sweep.note_turn(self.horizon, turn, keys);
+        Ok(turn)
+    }
+
+    /// Draws a horizon, and moves the journal's base on to it; answers where the base is then. Where the horizon is before
+    /// the base, or before the store's cut, the base stays.
+    ///
+    /// Refusals, after which what all jobs share is as it was: `OutOfMemory`.
+    pub(crate) fn checkpoint<R: Wait>(&mut self, rt: &R, board: &Board<B>) -> Result<u64, Refusal>
+        ensures units { self.new.common.units ≡ self.old.common.units }
+        ensures store { self.new.common.store ≡ self.old.common.store }
+        ensures base { IfOk result (λ number. self.new.common.base ≡ number) }
+        ensures on { self.old.common.base ≤ self.new.common.base }
+        ensures refused { OnErr result (self.new.common ≡ self.old.common) }
+        ensures cause { IfErr result (λ refusal. refusal ≡ Refusal.OutOfMemory) }
+        ensures others { (self.new.opened ≡ self.old.opened) × (self.new.seats ≡ self.old.seats) }
+    {
+        self.horizon = board.draw(rt, &mut self.desk);
+        if self.horizon < self.core.cut() {
+            return Ok(self.core.base().number());
+        }
+        self.core.checkpoint(Some(self.horizon))
+    }
+
+    /// Whether the collector has visited all keys since the last write: it would find nothing.
+    pub(crate) fn is_swept(&self) -> bool {
+        self.sweep.is_done()
     }
 
     /// The core at the end. Where all passes are in, each job has as many units in the journal, but for rollbacks and
@@ -460,6 +495,7 @@ impl<B: BoardName> Locked<B> {
             seats: _,
             horizon: _,
             opened,
+            sweep: _,
         } = self;
         let mut tally = desk.into_tally(rt);
         gather(board, &mut tally, passes);

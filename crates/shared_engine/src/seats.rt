@@ -87,10 +87,10 @@ impl<B: BoardName> Seats<B> {
     {
         let place = job.number() as usize - 1;
         self.reach(rt, board, desk, place)?;
-        match self.places[place].take() {
-            Some(seat) => Ok(seat.take_up(rt)),
-            None => Err(Refusal::BadJob),
-        }
+        let Some(seat) = self.places[place].take() else {
+            return Err(Refusal::BadJob);
+        };
+        Ok(seat.take_up(rt))
     }
 
     /// Takes back the seat of a job whose session has ended. Takes no memory.

@@ -355,15 +355,40 @@ impl<B: BoardName> Shared<B> {
         locked.run_serial(rt, &self.board, alloc, session, block)
     }
 
+    // Whether the collector has nothing to do. The lock is given back before the caller goes on.
+    fn is_swept<R: Wait>(&self, rt: &R) -> bool {
+        self.lock.read(rt).is_swept()
+    }
+
     /// A turn of the collector over so many keys, at a horizon that is above no open transaction's start. Takes the
-    /// exclusive lock.
+    /// exclusive lock; where all keys were visited since the last write, and nothing is left that could go, only the shared
+    /// one, and visits no key.
     ///
     /// Refusals, after which no content is gone: `OutOfMemory`.
     pub fn collect<R: Wait>(&self, rt: &R, limit: usize) -> Result<Progress, Refusal>
         ensures few { IfOk result (λ progress. progress.visited ≤ limit) }
         ensures cause { IfErr result (λ refusal. refusal ≡ Refusal.OutOfMemory) }
     {
+        if self.is_swept(rt) {
+            return Ok(Progress {
+                visited: 0,
+                dropped: 0,
+                removed: 0,
+                left: 0,
+            });
+        }
         self.lock.write(rt).collect(rt, &self.board, limit)
+    }
+
+    /// Moves the journal's base on to a horizon that is above no open transaction's start: what the units up to it leave is
+    /// kept in their place, and their bytes are given back. Answers where the base is then, which is where it was if no
+    /// horizon after it can be had. Takes the exclusive lock, for as long as a copy of the database takes.
+    ///
+    /// Refusals, after which the base is where it was: `OutOfMemory`.
+    pub fn checkpoint<R: Wait>(&self, rt: &R) -> Result<u64, Refusal>
+        ensures cause { IfErr result (λ refusal. refusal ≡ Refusal.OutOfMemory) }
+    {
+        self.lock.write(rt).checkpoint(rt, &self.board)
     }
 
     /// Holds the shared lock until the share is dropped.

@@ -11,6 +11,8 @@ mod crossing;
 #[cfg(test)]
 mod many;
 #[cfg(test)]
+mod rounds;
+#[cfg(test)]
 mod rows;
 #[cfg(test)]
 mod serial_runs;

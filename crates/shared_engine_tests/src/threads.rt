@@ -151,16 +151,16 @@ fn turn<B: BoardName, R: Wait>(
 // The collector's turns.
 fn collector<B: BoardName, R: Wait>(rt: &R, engine: &Shared<B>) -> Option<u64> {
     let mut failed = 0u64;
-    for _ in 0..1_000 {
-        if engine.collect(rt, 8).is_err() {
+    for _ in 0..10_000 {
+        if engine.collect(rt, 1).is_err() {
             failed = failed.wrapping_add(1);
         }
     }
     Some(failed)
 }
 
-// Three readers and a collector. How much was wrong.
-fn three_and_one<B: BoardName + Send + Sync, R: Threads + Wait + Sync>(
+// Four readers and a collector. How much was wrong.
+fn four_and_one<B: BoardName + Send + Sync, R: Threads + Wait + Sync>(
     rt: &R,
     alloc: Global,
     engine: &Shared<B>,
@@ -168,9 +168,9 @@ fn three_and_one<B: BoardName + Send + Sync, R: Threads + Wait + Sync>(
     let made = thread::map_indices(
         rt,
         alloc,
-        4,
+        5,
         &|i| {
-            if i < 3 {
+            if i < 4 {
                 reader(rt, alloc, engine, i as u64 + 2)
             } else {
                 collector(rt, engine)
@@ -195,7 +195,7 @@ fn sees_its_start<B: BoardName + Send + Sync, R: Threads + Wait + Sync>(
 ) -> (bool, Option<u64>) {
     let is_set = is_replied(rt, alloc, engine, session, "1 SET ^R=1", "0 ok\n");
     let is_begun = is_replied(rt, alloc, engine, session, "1 TSTART", "0 level 1\n");
-    let wrong = three_and_one(rt, alloc, engine);
+    let wrong = four_and_one(rt, alloc, engine);
     let is_read = is_replied(rt, alloc, engine, session, "1 $GET(^R)", "0 1\n");
     (is_set && is_begun && is_read, wrong)
 }

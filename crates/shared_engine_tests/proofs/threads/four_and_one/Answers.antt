@@ -1,7 +1,7 @@
 use denote.Param.{param}
 use Rattle.std.proofs.Crossing as heap
 use Rattle.shared_engine.proofs.Crossing.{shared_sync}
-use Rattle.shared_engine_tests.proofs.threads.three_and_one.Goals as goal
+use Rattle.shared_engine_tests.proofs.threads.four_and_one.Goals as goal
 
 -- the leave to wait, the allocator and the engine may be lent to threads
 pub map_indices-requires-sync-F : goal.map_indices-requires-sync-F

@@ -1,0 +1,19 @@
+use Rattle.std.proofs.Common.{sym, ap, subst, ◌∙◌, arith, length}
+use Rattle.shared_engine.specs.Engines.{SameSessions}
+use Rattle.shared_engine.proofs.Lending.{lent_out}
+use Rattle.shared_engine.proofs.seats.Seats.lend.Goals as goal
+
+pub returns-clause-pin : goal.returns-clause-pin
+returns-clause-pin g c =
+    let out = lent_out _ _ _ _ _ _ (subst (SameSessions c.args.self.now) (sym c.self.view_is) c.in_ok-reach.ensures.same) c.self.invariant (omega (arith, c.number.ensures.value, c.number.ensures.low)) (omega (arith, c.in_ok-reach.ensures.reached, ap length c.self.view_is)) c.index_mut.ensures.value (sym c.take.ensures.value ∙ c.in-Some.is) in
+    (rw c.take_up.ensures.place out.here, (c.take_up.ensures.free, c.take_up.ensures.empty))
+
+pub returns-clause-lent : goal.returns-clause-lent
+returns-clause-lent g c =
+    let out = lent_out _ _ _ _ _ _ (subst (SameSessions c.args.self.now) (sym c.self.view_is) c.in_ok-reach.ensures.same) c.self.invariant (omega (arith, c.number.ensures.value, c.number.ensures.low)) (omega (arith, c.in_ok-reach.ensures.reached, ap length c.self.view_is)) c.index_mut.ensures.value (sym c.take.ensures.value ∙ c.in-Some.is) in
+    rw c.take.ensures.after out.lent
+
+pub returns-clause-free : goal.returns-clause-free
+returns-clause-free g c =
+    let out = lent_out _ _ _ _ _ _ (subst (SameSessions c.args.self.now) (sym c.self.view_is) c.in_ok-reach.ensures.same) c.self.invariant (omega (arith, c.number.ensures.value, c.number.ensures.low)) (omega (arith, c.in_ok-reach.ensures.reached, ap length c.self.view_is)) c.index_mut.ensures.value (sym c.take.ensures.value ∙ c.in-Some.is) in
+    out.free

@@ -1,0 +1,147 @@
+//! Turns of a collector that has gone round, and checkpoints.
+ghost use Rattle.std.specs.Prelude.{◌≡◌};
+
+use pin_board::{Blank, BoardName, SEATS};
+use session_acts::{is_replied, opened};
+use shared_engine::{Session, Shared};
+use std::alloc::Global;
+use std::marker::Brand;
+use std::sync::Wait;
+use std::test::*;
+
+// How many keys a turn of two visits. No turn is refused here.
+fn visited<B: BoardName, R: Wait>(rt: &R, engine: &Shared<B>) -> usize {
+    match engine.collect(rt, 2) {
+        Ok(turn) => turn.visited,
+        Err(_) => 9,
+    }
+}
+
+fn is_set<B: BoardName, R: Wait>(
+    rt: &R,
+    alloc: Global,
+    engine: &Shared<B>,
+    session: &mut Session<B>,
+    line: &str,
+) -> bool {
+    is_replied(rt, alloc, engine, session, line, "0 ok\n")
+}
+
+// Four turns over three keys.
+fn four_turns<B: BoardName, R: Wait>(rt: &R, engine: &Shared<B>) -> [usize; 4] {
+    let first = visited(rt, engine);
+    let second = visited(rt, engine);
+    let third = visited(rt, engine);
+    let fourth = visited(rt, engine);
+    [first, second, third, fourth]
+}
+
+// The turns after three SETs.
+fn after_three_sets<B: BoardName, R: Wait>(
+    rt: &R,
+    alloc: Global,
+    engine: &Shared<B>,
+    session: &mut Session<B>,
+) -> [usize; 4] {
+    let one = is_set(rt, alloc, engine, session, "1 SET ^A(1)=1");
+    let two = is_set(rt, alloc, engine, session, "1 SET ^A(2)=2");
+    let three = is_set(rt, alloc, engine, session, "1 SET ^A(3)=3");
+    if one && two && three {
+        four_turns(rt, engine)
+    } else {
+        [9; 4]
+    }
+}
+
+// Those after one more, beside a transaction that began before it.
+fn beside_a_transaction<B: BoardName, R: Wait>(
+    rt: &R,
+    alloc: Global,
+    engine: &Shared<B>,
+    session: &mut Session<B>,
+    other: &mut Session<B>,
+) -> [usize; 4] {
+    let is_begun = is_replied(rt, alloc, engine, other, "2 TSTART", "0 level 1\n");
+    let is_written = is_set(rt, alloc, engine, session, "1 SET ^A(1)=4");
+    if is_begun && is_written {
+        four_turns(rt, engine)
+    } else {
+        [9; 4]
+    }
+}
+
+fn both<B: BoardName, R: Wait>(
+    rt: &R,
+    alloc: Global,
+    engine: &Shared<B>,
+) -> Option<([usize; 4], [usize; 4], [usize; 4])> {
+    let mut session = opened(rt, alloc, engine, 1)?;
+    let mut other = opened(rt, alloc, engine, 2)?;
+    let alone = after_three_sets(rt, alloc, engine, &mut session);
+    let beside = beside_a_transaction(rt, alloc, engine, &mut session, &mut other);
+    let is_over = is_replied(rt, alloc, engine, &mut other, "2 TROLLBACK", "0 ok\n");
+    let over = if is_over {
+        four_turns(rt, engine)
+    } else {
+        [9; 4]
+    };
+    let is_read = is_replied(rt, alloc, engine, &mut session, "1 $GET(^A(1))", "0 4\n");
+    if is_read && visited(rt, engine) == 0 {
+        Some((alone, beside, over))
+    } else {
+        None
+    }
+}
+
+fn turns<B: BoardName, R: Wait>(
+    rt: &R,
+    alloc: Global,
+    blank: Blank,
+) -> Option<([usize; 4], [usize; 4], [usize; 4])>
+    requires { (blank.seat.table_id ≡ B.table) × (blank.words.seats ≡ 4096) }
+{
+    let engine = Shared::<B>::new(alloc, blank);
+    both(rt, alloc, &engine)
+}
+
+// Three keys are visited by two turns, and then none until something is written; beside a transaction that began before that
+// they are visited again and again, and once more after its end.
+#[test]
+fn a_collector_that_has_gone_round_waits_for_a_write(rt: HostRuntime) -> Result<(), Fail> {
+    let blank = Blank::new(rt.alloc(), SEATS)?;
+    let found = turns::<Brand, _>(&rt, rt.alloc(), blank);
+    assert_eq!(rt; found, Some(([2, 2, 0, 0], [2, 2, 2, 2], [2, 2, 0, 0])));
+    Ok(())
+}
+
+// Where the base stands while a transaction is open that began after the first of two SETs, and after its end.
+fn bases<B: BoardName, R: Wait>(rt: &R, alloc: Global, engine: &Shared<B>) -> Option<(u64, u64)> {
+    let mut session = opened(rt, alloc, engine, 1)?;
+    let mut other = opened(rt, alloc, engine, 2)?;
+    let one = is_set(rt, alloc, engine, &mut session, "1 SET ^A=1");
+    let is_begun = is_replied(rt, alloc, engine, &mut other, "2 TSTART", "0 level 1\n");
+    let two = is_set(rt, alloc, engine, &mut session, "1 SET ^A=2");
+    let first = engine.checkpoint(rt).ok()?;
+    let is_over = is_replied(rt, alloc, engine, &mut other, "2 TROLLBACK", "0 ok\n");
+    let second = engine.checkpoint(rt).ok()?;
+    if one && is_begun && two && is_over {
+        Some((first, second))
+    } else {
+        None
+    }
+}
+
+fn bases_of<B: BoardName, R: Wait>(rt: &R, alloc: Global, blank: Blank) -> Option<(u64, u64)>
+    requires { (blank.seat.table_id ≡ B.table) × (blank.words.seats ≡ 4096) }
+{
+    let engine = Shared::<B>::new(alloc, blank);
+    bases(rt, alloc, &engine)
+}
+
+#[test]
+fn a_checkpoint_stops_at_an_open_start(rt: HostRuntime) -> Result<(), Fail> {
+    let blank = Blank::new(rt.alloc(), SEATS)?;
+    let found = bases_of::<Brand, _>(&rt, rt.alloc(), blank);
+    assert_eq!(rt; found, Some((1, 2)));
+    Ok(())
+}
