@@ -2,7 +2,7 @@
 use crate::streams::{Heard, Pieces, Taken, Watching};
 use listing::Counted;
 use refusal::Refusal;
-use script_run::{Fault, NoLog, Outcome, RefusalLog, run_script, run_with};
+use script_run::{Fault, NoLog, Outcome, RefusalLog, Upkeep, run_script, run_with};
 use std::alloc::Global;
 use std::cell::Cell;
 use std::test::Fail;
@@ -56,7 +56,7 @@ fn writer_of(alloc: Global, size: usize, failing: Failing) -> Counted<Taken> {
 fn run_pieces(alloc: Global, script: &str, size: usize, failing: Failing) -> Result<Went, Fail> {
     let mut reader = reader_of(script.as_bytes(), size, failing);
     let mut writer = writer_of(alloc, size, failing);
-    let outcome = run_script(alloc, 0, &mut reader, &mut writer);
+    let outcome = run_script(alloc, Upkeep::none(), &mut reader, &mut writer);
     let text = Vec::from_slice(alloc, &writer.inner().text)?;
     Ok(Went {
         outcome,
@@ -206,7 +206,7 @@ fn reads_out_of_turn(alloc: Global, size: usize) -> Result<u64, Fail> {
         out_of_turn: 0,
     });
     let mut writer = Counted::new(Heard { written: &written });
-    let outcome = run_script(alloc, 0, &mut reader, &mut writer);
+    let outcome = run_script(alloc, Upkeep::none(), &mut reader, &mut writer);
     Ok(if outcome.is_ok() {
         reader.inner().out_of_turn
     } else {
@@ -235,7 +235,7 @@ fn largest_write(alloc: Global) -> Result<usize, Fail> {
     }
     let mut reader = reader_of(&script, script.len(), NONE);
     let mut writer = writer_of(alloc, usize::MAX, NONE);
-    let outcome = run_script(alloc, 0, &mut reader, &mut writer);
+    let outcome = run_script(alloc, Upkeep::none(), &mut reader, &mut writer);
     Ok(if outcome.is_ok() {
         writer.inner().largest
     } else {
@@ -278,7 +278,14 @@ fn unlisted(alloc: Global) -> Result<(Vec<u8>, u64, usize, u64), Fail> {
         bytes: 0,
         refusals: 0,
     };
-    let outcome = run_with(alloc, false, 0, &mut reader, &mut writer, &mut told);
+    let outcome = run_with(
+        alloc,
+        false,
+        Upkeep::none(),
+        &mut reader,
+        &mut writer,
+        &mut told,
+    );
     let text = if outcome == Ok(Outcome { refused: true }) {
         Vec::from_slice(alloc, &writer.inner().text)?
     } else {
@@ -302,7 +309,14 @@ fn run_without_listing_prints_replies_alone(rt: HostRuntime) -> Result<(), Fail>
 fn listed(alloc: Global) -> Result<Vec<u8>, Fail> {
     let mut reader = reader_of(b"1 SET ^A=1", 7, NONE);
     let mut writer = writer_of(alloc, 7, NONE);
-    let outcome = run_with(alloc, true, 0, &mut reader, &mut writer, &mut NoLog);
+    let outcome = run_with(
+        alloc,
+        true,
+        Upkeep::none(),
+        &mut reader,
+        &mut writer,
+        &mut NoLog,
+    );
     Ok(if outcome == Ok(Outcome { refused: false }) {
         Vec::from_slice(alloc, &writer.inner().text)?
     } else {

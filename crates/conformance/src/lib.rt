@@ -6,13 +6,19 @@
 #![tactic(auto)]
 
 #[cfg(test)]
+mod adopted;
+#[cfg(test)]
 mod answers;
+#[cfg(test)]
+mod checkpoints;
 #[cfg(test)]
 mod commands;
 #[cfg(test)]
 mod faults;
 #[cfg(test)]
 mod lines;
+#[cfg(test)]
+mod loads;
 #[cfg(test)]
 mod locks;
 #[cfg(test)]

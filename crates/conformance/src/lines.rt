@@ -119,7 +119,9 @@ pub fn stretched(
 fn limits_measure_the_string_that_a_literal_stands_for(rt: HostRuntime) -> Result<(), Fail> {
     let value: &[u8] = b"1 SET ^A=\"";
     let subscript: &[u8] = b"1 SET ^A(";
-    let rows: [(&[u8], u8, usize, &[u8], &[u8]); 9] = [
+    let below_zero: &[u8] = b"1 SET ^A(-";
+    let fraction: &[u8] = b"1 SET ^A(.";
+    let rows: [(&[u8], u8, usize, &[u8], &[u8]); 13] = [
         (value, b'x', 32767, b"\"", b"1 ok"),
         (value, b'x', 32768, b"\"", b"1 error 6 ValueTooLong"),
         (
@@ -132,8 +134,12 @@ fn limits_measure_the_string_that_a_literal_stands_for(rt: HostRuntime) -> Resul
         (b"1 SET ^A=", b'0', 40000, b"7", b"1 ok"),
         (b"1 SET ^A=", b'9', 300, b"", b"1 ok"),
         (subscript, b'0', 400, b"1)=1", b"1 ok"),
-        (subscript, b'9', 127, b")=1", b"1 ok"),
-        (subscript, b'9', 128, b")=1", b"1 error 4 SubscriptTooLong"),
+        (subscript, b'9', 255, b")=1", b"1 ok"),
+        (subscript, b'9', 256, b")=1", b"1 error 4 SubscriptTooLong"),
+        (below_zero, b'9', 254, b")=1", b"1 ok"),
+        (below_zero, b'9', 255, b")=1", b"1 error 4 SubscriptTooLong"),
+        (fraction, b'0', 253, b"1)=1", b"1 ok"),
+        (fraction, b'0', 254, b"1)=1", b"1 error 4 SubscriptTooLong"),
         (
             b"1 SET ^A(\"\",",
             b'9',

@@ -153,27 +153,27 @@ fn names_and_texts_are_taken_up_to_their_limits(rt: HostRuntime) -> Result<(), F
         (b"1 SET ^", b'A', 32, b"=1", b"1 error 2 BadName"),
         (b"1 MERGE ^A=^%", b'9', 30, b"", b"1 ok"),
         (b"1 MERGE ^A=^%", b'9', 31, b"", b"1 error 2 BadName"),
-        (b"1 $ORDER(^A(\"", b'x', 127, b"\"),-1)", b"1 \"\""),
+        (b"1 $ORDER(^A(\"", b'x', 255, b"\"),-1)", b"1 \"\""),
         (
             b"1 $ORDER(^A(\"",
             b'x',
-            128,
+            256,
             b"\"),-1)",
             b"1 error 4 SubscriptTooLong",
         ),
-        (b"1 LOCK +(A,^B(\"", b'x', 127, b"\"))", b"1 1"),
+        (b"1 LOCK +(A,^B(\"", b'x', 255, b"\"))", b"1 1"),
         (
             b"1 LOCK +(A,^B(\"",
             b'x',
-            128,
+            256,
             b"\"))",
             b"1 error 4 SubscriptTooLong",
         ),
-        (b"1 KILL ^A(1", b'0', 126, b")", b"1 ok"),
+        (b"1 KILL ^A(1", b'0', 254, b")", b"1 ok"),
         (
             b"1 KILL ^A(1",
             b'0',
-            127,
+            255,
             b")",
             b"1 error 4 SubscriptTooLong",
         ),
@@ -183,6 +183,43 @@ fn names_and_texts_are_taken_up_to_their_limits(rt: HostRuntime) -> Result<(), F
         assert!(rt;
             is_answered(rt.alloc(), &line, reply)?,
             "{front:?} and {count}"
+        );
+    }
+    Ok(())
+}
+
+// What stands before and after a text subscript, wherever a line can have one, and the line's reply.
+const PLACES: [(&[u8], &[u8], &[u8]); 14] = [
+    (b"1 SET ^A(\"", b"\")=1", b"1 ok"),
+    (b"1 KILL ^A(1,\"", b"\")", b"1 ok"),
+    (b"1 MERGE ^A(\"", b"\")=^B", b"1 ok"),
+    (b"1 MERGE ^B=^A(\"", b"\",1)", b"1 ok"),
+    (b"1 LOCK ^A(\"", b"\")", b"1 1"),
+    (b"1 LOCK -A(\"", b"\")", b"1 1"),
+    (b"1 LOCK +(^B,A(0,\"", b"\")):5", b"1 1"),
+    (b"1 $DATA(^A(\"", b"\"))", b"1 0"),
+    (b"1 $GET(^A(\"", b"\"),7)", b"1 7"),
+    (b"1 $ORDER(^A(\"", b"\"))", b"1 \"\""),
+    (b"1 $ORDER(^A(\"", b"\",\"\"),-1)", b"1 \"\""),
+    (b"1 $QUERY(^A(\"", b"\"))", b"1 \"\""),
+    (b"1 $QUERY(^A(\"", b"\",\"\"),-1)", b"1 \"\""),
+    (b"1 $QUERY(^A(1,\"", b"\"),1)", b"1 \"\""),
+];
+
+#[test]
+fn subscripts_have_up_to_255_bytes_wherever_they_stand(rt: HostRuntime) -> Result<(), Fail> {
+    for (front, back, reply) in PLACES {
+        for count in [127, 128, 254, 255] {
+            let line = stretched(rt.alloc(), front, b'x', count, back)?;
+            assert!(rt;
+                is_answered(rt.alloc(), &line, reply)?,
+                "{front:?} and {count}"
+            );
+        }
+        let line = stretched(rt.alloc(), front, b'x', 256, back)?;
+        assert!(rt;
+            is_answered(rt.alloc(), &line, b"1 error 4 SubscriptTooLong")?,
+            "{front:?}"
         );
     }
     Ok(())
@@ -203,11 +240,11 @@ fn set_line(alloc: Global, count: usize, size: usize) -> Result<Vec<u8>, Fail> {
 }
 
 #[test]
-fn references_have_up_to_31_subscripts_of_127_bytes(rt: HostRuntime) -> Result<(), Fail> {
+fn references_have_up_to_31_subscripts_of_255_bytes(rt: HostRuntime) -> Result<(), Fail> {
     let rows: [(usize, usize, &[u8]); 4] = [
-        (31, 127, b"1 ok"),
-        (31, 128, b"1 error 4 SubscriptTooLong"),
-        (32, 127, b"1 error 5 TooManySubscripts"),
+        (31, 255, b"1 ok"),
+        (31, 256, b"1 error 4 SubscriptTooLong"),
+        (32, 255, b"1 error 5 TooManySubscripts"),
         (32, 0, b"1 error 5 TooManySubscripts"),
     ];
     for (count, size, reply) in rows {

@@ -4,7 +4,7 @@
 #![tactic(auto)]
 
 use listing::Counted;
-use script_run::{Fault, run_script};
+use script_run::{Fault, Upkeep, run_script};
 use std::alloc::Global;
 use std::rt::Files;
 use std::{env, fs, io};
@@ -12,7 +12,7 @@ use std::{env, fs, io};
 fn run(alloc: Global, script: &[u8]) -> Result<Vec<u8>, Fault> {
     let mut reader = Counted::new(script);
     let mut writer = Counted::new(Vec::new(alloc));
-    run_script(alloc, 0, &mut reader, &mut writer)?;
+    run_script(alloc, Upkeep::none(), &mut reader, &mut writer)?;
     match Vec::from_slice(alloc, writer.inner()) {
         Ok(output) => Ok(output),
         Err(_) => Err(Fault::Memory),

@@ -85,7 +85,7 @@ fn is_alike(
 }
 
 // The number of the first step that is answered otherwise; or none. After each step the collector visits up to three
-// keys.
+// keys, and after one in four a checkpoint is taken.
 fn first_other(
     alloc: Global,
     seed: u64,
@@ -101,6 +101,9 @@ fn first_other(
             return Ok(Some(step));
         }
         let _progress = core.collect(numbers.below(4));
+        if step % 4 == 0 {
+            let _number = core.checkpoint();
+        }
     }
     Ok(None)
 }

@@ -24,7 +24,8 @@ static void name(vg_outcome outcome) {
     printf("%" PRIu32 " %.*s\n", outcome, (int)length, text);
 }
 
-/* A transfer in a transaction, which is tried again where another job was quicker: its commit then answers a restart. */
+/* A transfer in a transaction, which is tried again where another job was quicker: its commit then answers a
+ * restart. */
 static void transfer(vg_engine *engine) {
     run(engine, "1 TSTART");
     run(engine, "1 $GET(^Account(\"ann\"))");
@@ -55,6 +56,59 @@ static void use_keys(vg_engine *engine) {
     name(vg_kill(engine, 3, &key));
 }
 
+/* The same by $ORDER and $QUERY: each account's name and value, and then the last node. */
+static void walk(vg_engine *engine) {
+    char account[128], value[8];
+    size_t length = 0, value_length = 0;
+    uint64_t data = 0;
+    vg_key accounts = VG_KEY_NONE, copy = VG_KEY_NONE;
+    vg_key_name(&accounts, "Account", 7);
+    vg_key_name(&copy, "Copy", 4);
+    name(vg_merge(engine, 3, &copy, &accounts));
+    vg_data(engine, 3, &copy, &data);
+    printf("$DATA(^Copy) is %" PRIu64 "\n", data);
+    vg_order(engine, 3, &copy, "", 0, VG_FORWARD, account, sizeof account, &length);
+    while (length) {
+        printf("%.*s ", (int)length, account);
+        vg_order(engine, 3, &copy, account, length, VG_FORWARD, account, sizeof account, &length);
+    }
+    while (vg_query(engine, 3, &accounts, VG_AT_KEY, VG_FORWARD) == VG_DONE) {
+        vg_get(engine, 3, &accounts, value, sizeof value, &value_length);
+        printf("%.*s ", (int)value_length, value);
+    }
+    name(vg_query(engine, 3, &copy, VG_BELOW_KEY, VG_BACKWARD));
+    run(engine, "3 $QUERY(^Copy(\"\"),-1)");
+    vg_key_name(&copy, "Copy", 4);
+    name(vg_kill(engine, 3, &copy));
+    vg_key_end(&copy);
+    vg_key_end(&accounts);
+}
+
+/* Job 4 adds to an account in a transaction, under a lock. Job 5, who takes no lock, is quicker: the first commit
+ * answers a restart, and the transaction's calls are done again. */
+static void add(vg_engine *engine) {
+    char value[8];
+    size_t length = 0;
+    uint64_t had = 0, level = 0, restarts = 0;
+    vg_key bo = VG_KEY_NONE;
+    vg_key_name(&bo, "Account", 7);
+    vg_key_subscript(&bo, "bo", 2);
+    vg_lock(engine, 4, &bo, &had);
+    vg_lock_more(engine, 5, &bo, &level);
+    printf("job 4 %s the lock, job 5 %s\n", had ? "has" : "hasn't", level ? "has it too" : "hasn't");
+    vg_tstart(engine, 4, &level);
+    do {
+        vg_get(engine, 4, &bo, value, sizeof value, &length);
+        if (restarts == 0)
+            vg_set(engine, 5, &bo, "85", 2);
+        vg_set(engine, 4, &bo, length == 2 && value[1] == '5' ? "86" : "81", 2);
+    } while (vg_tcommit(engine, 4, &restarts) == VG_RESTARTED);
+    run(engine, "4 $GET(^Account(\"bo\"))");
+    vg_unlock(engine, 4);
+    name(vg_trollback(engine, 4));
+    vg_key_end(&bo);
+}
+
 static void list(vg_engine *engine) {
     char node[64];
     size_t length = 0;
@@ -79,6 +133,8 @@ int main(void) {
     vg_reply(&engine, reply, sizeof reply, &wanted);
     printf("%.*s", (int)wanted, reply);
     use_keys(&engine);
+    walk(&engine);
+    add(&engine);
     list(&engine);
     vg_collect(&engine, 100);
     vg_count(&engine, &statistics);
