@@ -31,26 +31,48 @@ fn told(core: &JobCore) -> Result<(u64, u64, usize, u64), Refusal> {
     ))
 }
 
+// What is told of a store of fifteen references that was taken over, and after one unit more.
+fn goes_on(alloc: Global, core: &mut JobCore) -> Result<bool, Fail> {
+    let first = told(core)? == (45, 45, 10, 0) && is_seen_at(alloc, &core.content(), 45)?;
+    let is_read = answers(alloc, core, b"1 $GET(^AB(1))", b"1 \"a\"")?;
+    let next = told(core)? == (46, 45, 10, 0);
+    Ok(first && is_read && next)
+}
+
+fn store_of_old_keys(alloc: Global) -> Result<Store, Refusal> {
+    let mut store = Store::new_short(alloc);
+    match fill(alloc, &mut store) {
+        Ok(_) => Ok(store),
+        Err(refusal) => {
+            drop(store);
+            Err(refusal)
+        }
+    }
+}
+
 // Ten of the fifteen references have a value at the last of 45 stamps.
 #[test]
 fn a_store_of_old_keys_is_taken_over(rt: HostRuntime) -> Result<(), Fail> {
-    let alloc = rt.alloc();
-    let mut store = Store::new_short(alloc);
-    assert!(rt; fill(alloc, &mut store)?);
-    let mut core = core_of_store(alloc, store)?;
-    assert_eq!(rt; told(&core)?, (45, 45, 10, 0));
-    assert!(rt; is_seen_at(alloc, &core.content(), 45)?);
-    assert!(rt; answers(alloc, &mut core, b"1 $GET(^AB(1))", b"1 \"a\"")?);
-    assert_eq!(rt; told(&core)?, (46, 45, 10, 0));
+    let store = store_of_old_keys(rt.alloc())?;
+    let mut core = core_of_store(rt.alloc(), store)?;
+    let went = goes_on(rt.alloc(), &mut core)?;
+    drop(core);
+    assert!(rt; went);
     Ok(())
+}
+
+// What is told of a store without references, and after one unit more.
+fn begins(alloc: Global, core: &mut JobCore) -> Result<bool, Fail> {
+    let first = told(core)? == (0, 0, 0, 0);
+    let is_set = answers(alloc, core, b"1 SET ^A=1", b"1 ok")?;
+    Ok(first && is_set && told(core)? == (1, 0, 0, 0))
 }
 
 #[test]
 fn a_store_without_references_is_taken_over(rt: HostRuntime) -> Result<(), Fail> {
-    let alloc = rt.alloc();
-    let mut core = core_of_store(alloc, Store::new(alloc))?;
-    assert_eq!(rt; told(&core)?, (0, 0, 0, 0));
-    assert!(rt; answers(alloc, &mut core, b"1 SET ^A=1", b"1 ok")?);
-    assert_eq!(rt; told(&core)?, (1, 0, 0, 0));
+    let mut core = core_of_store(rt.alloc(), Store::new(rt.alloc()))?;
+    let went = begins(rt.alloc(), &mut core)?;
+    drop(core);
+    assert!(rt; went);
     Ok(())
 }

@@ -206,22 +206,41 @@ const PLACES: [(&[u8], &[u8], &[u8]); 14] = [
     (b"1 $QUERY(^A(1,\"", b"\"),1)", b"1 \"\""),
 ];
 
+// Whether a line with a text subscript of so many bytes has this reply.
+fn is_answered_at(
+    alloc: Global,
+    front: &[u8],
+    count: usize,
+    back: &[u8],
+    reply: &[u8],
+) -> Result<bool, Fail> {
+    let line = stretched(alloc, front, b'x', count, back)?;
+    is_answered(alloc, &line, reply)
+}
+
+// Whether a place takes subscripts of up to 255 bytes, and no longer ones.
+fn takes_255(alloc: Global, front: &[u8], back: &[u8], reply: &[u8]) -> Result<bool, Fail> {
+    for count in [127, 128, 254, 255] {
+        if !is_answered_at(alloc, front, count, back, reply)? {
+            return Ok(false);
+        }
+    }
+    is_answered_at(alloc, front, 256, back, b"1 error 4 SubscriptTooLong")
+}
+
+// The first place that doesn't; or none.
+fn first_other_place(alloc: Global) -> Result<Option<usize>, Fail> {
+    for (i, (front, back, reply)) in PLACES.iter().enumerate() {
+        if !takes_255(alloc, front, back, reply)? {
+            return Ok(Some(i));
+        }
+    }
+    Ok(None)
+}
+
 #[test]
 fn subscripts_have_up_to_255_bytes_wherever_they_stand(rt: HostRuntime) -> Result<(), Fail> {
-    for (front, back, reply) in PLACES {
-        for count in [127, 128, 254, 255] {
-            let line = stretched(rt.alloc(), front, b'x', count, back)?;
-            assert!(rt;
-                is_answered(rt.alloc(), &line, reply)?,
-                "{front:?} and {count}"
-            );
-        }
-        let line = stretched(rt.alloc(), front, b'x', 256, back)?;
-        assert!(rt;
-            is_answered(rt.alloc(), &line, b"1 error 4 SubscriptTooLong")?,
-            "{front:?}"
-        );
-    }
+    assert_eq!(rt; first_other_place(rt.alloc())?, None);
     Ok(())
 }
 
