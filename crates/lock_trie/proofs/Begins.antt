@@ -1,24 +1,97 @@
--- Beginnings of paths.
-use Rattle.std.proofs.Common.{zero, suc, ◌≡◌, ◌≤◌, ◌<◌, ◌+◌, ℕ, List, [], ◌∷◌, Bool, true, false, length, take, refl, sym, ap, subst, ◌∙◌, arith}
-use Rattle.std.specs.Prelude.{cond, ◌-◌, ◌&&◌, ◌||◌, nat_eq, nat_lt}
-use Rattle.std.specs.Cmp.{nat_eq_equiv}
-use Rattle.std.specs.Cmp.Lexicographic.{pointwise, lists_equiv, bytes_decides}
-use Rattle.std.specs.Ordering.{nat_cmp, is_eq, eq_by_cmp}
-use Rattle.std.specs.Cmp.{first_so, second_so, nat_cmp_total, tied_itself}
-use Rattle.std.specs.FinMap.{nat_cmp-IsAntisymmetric}
-use Rattle.collation.specs.laws.Order.{is_equal}
-use Rattle.std.proofs.lemmas.Bool.{and_from, ltb-true, ltb-false}
-use Rattle.std.proofs.lemmas.List.{length-take-le}
+-- Beginnings of lists of subscripts.
+use Rattle.std.proofs.Common.{zero, suc, ◌≡◌, ◌≤◌, ◌+◌, ℕ, List, [], ◌∷◌, Bool, true, false, length, take, refl, sym, ap, subst, ◌∙◌, arith}
+use Rattle.std.specs.Prelude.{cond, ◌&&◌, ◌==◌, nat_eq, Some, None}
+use Rattle.std.specs.Cmp.{nat_eq_equiv, first_so, second_so, tied_itself}
+use Rattle.std.specs.Cmp.Lexicographic.{slice_cmp, pointwise, lists_equiv, bytes_decides}
+use Rattle.std.specs.declared.cmp.Ordering.{Ordering}
+use Rattle.std.specs.declared.cmp.Ordering.TheVariants.{Less, Equal, Greater}
+use Rattle.std.specs.Ordering.{is_gt, ordering_then, ordering_reverse}
+use Rattle.std.proofs.lemmas.Bool.{and_from, eqb-true, eq-eqb}
+use Rattle.refusal.specs.declared.Refusal.TheVariants.{EmptySubscript, SubscriptTooLong, TooManySubscripts}
 use Rattle.collation.specs.Database.{begins_with}
-use Rattle.lock_trie.specs.Paths.{Path, path_cmp, IsPutAt, AreKept}
-use Rattle.lock_trie.specs.Tallied.{IsAlong}
-use Rattle.lock_trie.proofs.AtPaths.{same_path, path_itself}
+use Rattle.collation.specs.Faults.{subscripts_fault, reference_fault}
+use Rattle.collation.specs.Order.{subscript_cmp}
+use Rattle.collation.specs.laws.Order.{subscript_cmp_total, subscript_cmp-IsAntisymmetric}
+use Rattle.lock_trie.specs.Names.{shared}
 
-text_itself : (t : List ℕ) → pointwise nat_eq t t ≡ true
+abbrev pub Path : Type 0
+Path = List (List ℕ)
+
+pub text_itself : (t : List ℕ) → pointwise nat_eq t t ≡ true
 text_itself t = let laws = lists_equiv nat_eq_equiv in laws.refl t
 
-same_text : (s t : List ℕ) → pointwise nat_eq s t ≡ true → s ≡ t
+pub same_text : (s t : List ℕ) → pointwise nat_eq s t ≡ true → s ≡ t
 same_text s t e = let d = bytes_decides s t in d.0 e
+
+pub equal_texts : (s t : List ℕ) → s ≡ t → pointwise nat_eq s t ≡ true
+equal_texts s t e = subst (λ z. pointwise nat_eq s z ≡ true) e (text_itself s)
+
+turned_text : (s t : List ℕ) → pointwise nat_eq s t ≡ pointwise nat_eq t s
+turned_text s t = let laws = lists_equiv nat_eq_equiv in laws.symm s t
+
+-- the subscripts of a reference have no fault
+pub form_of : (xs : Path) → reference_fault xs ≡ None → subscripts_fault xs ≡ None
+form_of xs h = by_test _ h
+  where
+    by_test : (a : Bool) → cond a (Some TooManySubscripts) (subscripts_fault xs) ≡ None → subscripts_fault xs ≡ None
+    by_test true h = absurd (cc)
+    by_test false h = h
+
+-- the first subscripts of a list without fault have none
+pub fault_taken : (i : ℕ) (xs : Path) → subscripts_fault xs ≡ None → subscripts_fault (take i xs) ≡ None
+fault_taken zero xs h = refl
+fault_taken (suc i) [] h = refl
+fault_taken (suc i) (x ∷ xs) h = by_tests _ _ (fault_taken i xs) h
+  where
+    by_tests : (a b : Bool) → (subscripts_fault xs ≡ None → subscripts_fault (take i xs) ≡ None) → cond a (Some EmptySubscript) (cond b (Some SubscriptTooLong) (subscripts_fault xs)) ≡ None
+        → cond a (Some EmptySubscript) (cond b (Some SubscriptTooLong) (subscripts_fault (take i xs))) ≡ None
+    by_tests true b rest h = absurd (cc)
+    by_tests false true rest h = absurd (cc)
+    by_tests false false rest h = rest h
+
+never : (n : ℕ) → (0 == suc n) ≡ false
+never n = by_test (0 == suc n) refl
+  where
+    by_test : (b : Bool) → (0 == suc n) ≡ b → (0 == suc n) ≡ false
+    by_test true e = let h : 0 ≡ suc n = eqb-true 0 (suc n) e in absurd (omega arith)
+    by_test false e = e
+
+next_too : (a b : ℕ) → (1 + a == suc b) ≡ (a == b)
+next_too a b = by_tests (1 + a == suc b) (a == b) refl refl
+  where
+    by_tests : (x y : Bool) → (1 + a == suc b) ≡ x → (a == b) ≡ y → (1 + a == suc b) ≡ (a == b)
+    by_tests true true e f = e ∙ sym f
+    by_tests true false e f =
+        let h : 1 + a ≡ suc b = eqb-true (1 + a) (suc b) e in
+        let t : true ≡ false = sym (eq-eqb a b (omega arith)) ∙ f in
+        absurd (cc)
+    by_tests false true e f =
+        let h : a ≡ b = eqb-true a b f in
+        let t : true ≡ false = sym (eq-eqb (1 + a) (suc b) (omega arith)) ∙ e in
+        absurd (cc)
+    by_tests false false e f = e ∙ sym f
+
+-- a beginning is shared to its end
+pub begins_shared : (ps xs : Path) → (shared ps xs == length ps) ≡ begins_with xs ps
+begins_shared [] xs = refl
+begins_shared (p ∷ ps) [] = never (length ps)
+begins_shared (p ∷ ps) (x ∷ xs) = by_test (pointwise nat_eq p x) refl (begins_shared ps xs)
+  where
+    by_test : (b : Bool) → pointwise nat_eq p x ≡ b → (shared ps xs == length ps) ≡ begins_with xs ps → (cond b (1 + shared ps xs) 0 == suc (length ps)) ≡ (pointwise nat_eq x p && begins_with xs ps)
+    by_test true e rest = next_too (shared ps xs) (length ps) ∙ rest ∙ ap (λ c. c && begins_with xs ps) (sym (turned_text x p ∙ e))
+    by_test false e rest = never (length ps) ∙ ap (λ c. c && begins_with xs ps) (sym (turned_text x p ∙ e))
+
+-- what two lists begin with they share
+pub shared_most : (ps ns xs : Path) → begins_with ps xs ≡ true → begins_with ns xs ≡ true → length xs ≤ shared ps ns
+shared_most ps ns [] b c = omega arith
+shared_most [] ns (x ∷ xs) b c = absurd (cc)
+shared_most (p ∷ ps) [] (x ∷ xs) b c = absurd (cc)
+shared_most (p ∷ ps) (n ∷ ns) (x ∷ xs) b c =
+    let s : p ≡ x = same_text p x (first_so _ _ b) in
+    let t : n ≡ x = same_text n x (first_so _ _ c) in
+    let e : pointwise nat_eq p n ≡ true = equal_texts p n (s ∙ sym t) in
+    let h : length xs ≤ shared ps ns = shared_most ps ns xs (second_so (pointwise nat_eq p x) _ b) (second_so (pointwise nat_eq n x) _ c) in
+    subst (λ k. suc (length xs) ≤ cond k (1 + shared ps ns) 0) (sym e) (omega arith)
 
 pub begins_short : (p x : Path) → begins_with p x ≡ true → length x ≤ length p
 begins_short p [] e = omega arith
@@ -39,87 +112,43 @@ take_begins (suc i) [] = refl
 take_begins (suc i) (q ∷ ps) = and_from _ _ (text_itself q) (take_begins i ps)
 
 -- a beginning that is as long as the path is the path
-whole_begins : (p x : Path) → begins_with p x ≡ true → length p ≤ length x → begins_with x p ≡ true
+pub whole_begins : (p x : Path) → begins_with p x ≡ true → length p ≤ length x → begins_with x p ≡ true
 whole_begins [] x b h = refl
 whole_begins (q ∷ ps) [] b h = absurd (omega arith)
 whole_begins (q ∷ ps) (y ∷ ys) b h =
     let t : q ≡ y = same_text q y (first_so (pointwise nat_eq q y) (begins_with ps ys) b) in
-    and_from _ _ (subst (λ z. pointwise nat_eq y z ≡ true) (sym t) (text_itself y)) (whole_begins ps ys (second_so (pointwise nat_eq q y) (begins_with ps ys) b) (omega arith))
+    and_from _ _ (equal_texts y q (sym t)) (whole_begins ps ys (second_so (pointwise nat_eq q y) (begins_with ps ys) b) (omega arith))
 
--- what is nowhere at or below a path nor at a shorter beginning of it
-pub neither_way : (f : Path → ℕ) (p x : Path) → (begins_with x p ≡ true → f x ≡ 0) → (begins_with p x ≡ true → length x < length p → f x ≡ 0) → (begins_with x p || begins_with p x) ≡ true → f x ≡ 0
-neither_way f p x below above either = by_test (begins_with x p) refl either
-  where
-    by_length : begins_with x p ≡ false → begins_with p x ≡ true → (t : Bool) → nat_lt (length x) (length p) ≡ t → f x ≡ 0
-    by_length no_ b true l = above b (ltb-true (length x) (length p) l)
-    by_length no_ b false l = let yes_ : begins_with x p ≡ true = whole_begins p x b (ltb-false (length x) (length p) l) in absurd (cc)
+-- ---- in the order of lists
 
-    by_test : (t : Bool) → begins_with x p ≡ t → (t || begins_with p x) ≡ true → f x ≡ 0
-    by_test true e either = below e
-    by_test false e either = by_length e either (nat_lt (length x) (length p)) refl
+-- what begins with a list doesn't stand before it
+pub not_before : (ps xs : Path) → begins_with xs ps ≡ true → is_gt (slice_cmp subscript_cmp ps xs) ≡ false
+not_before [] [] b = refl
+not_before [] (x ∷ xs) b = refl
+not_before (p ∷ ps) [] b = absurd (cc)
+not_before (p ∷ ps) (x ∷ xs) b =
+    let t : x ≡ p = same_text x p (first_so _ _ b) in
+    let e : subscript_cmp p x ≡ Equal = ap (subscript_cmp p) t ∙ tied_itself subscript_cmp_total p in
+    rw e (not_before ps xs (second_so (pointwise nat_eq x p) _ b))
 
--- ---- one count that is put
+pub record Squeezed (q a b : Ordering) : Type 0 where
+  pub same : q ≡ Equal
+  pub low : is_gt a ≡ false
+  pub high : b ≡ Less
 
-pub put_itself : (old new : Path → ℕ → ℕ) (path : Path) (job c : ℕ) → IsPutAt old new path job c → new path job ≡ c
-put_itself old new path job c is = is path job ∙ ap (λ b. cond b c (old path job)) (and_from _ _ (ap is_eq (tied_itself nat_cmp_total job)) (path_itself path))
+-- two comparisons with something between, of which the first members tie
+pub squeezed : (q a b : Ordering) → is_gt (ordering_then q a) ≡ false → ordering_then (ordering_reverse q) b ≡ Less → Squeezed q a b
+squeezed Less a b h k = absurd (cc)
+squeezed Equal a b h k = record { same = refl; low = h; high = k }
+squeezed Greater a b h k = absurd (cc)
 
-pub put_others : (old new : Path → ℕ → ℕ) (path : Path) (job c : ℕ) → IsPutAt old new path job c → (x : Path) (other : ℕ) → (other ≡ job → x ≡ path → ⊥) → new x other ≡ old x other
-put_others old new path job c is x other apart = is x other ∙ by_test (eq_by_cmp nat_cmp other job) (eq_by_cmp path_cmp x path) refl refl
-  where
-    by_test : (a b : Bool) → eq_by_cmp nat_cmp other job ≡ a → eq_by_cmp path_cmp x path ≡ b → cond (a && b) c (old x other) ≡ old x other
-    by_test true true e d = absurd (apart (nat_cmp-IsAntisymmetric other job (is_equal (nat_cmp other job) e)) (same_path x path d))
-    by_test true false e d = refl
-    by_test false b e d = refl
-
--- ---- counts along a path
-
-pub along_next : (f : ℕ → ℕ) (old now next : Path → ℕ → ℕ) (path : Path) (job i : ℕ) → i ≤ length path → IsAlong f old now path job i → IsPutAt now next (take i path) job (f (now (take i path) job)) → IsAlong f old next path job (i + 1)
-along_next f old now next path job i h along put = record { on = on; off = off }
-  where
-    long : length (take i path) ≡ i
-    long = length-take-le i path h
-
-    on : (x : Path) → begins_with path x ≡ true → length x < i + 1 → next x job ≡ f (old x job)
-    on x b l = by_test (eq_by_cmp path_cmp x (take i path)) refl
-      where
-        by_test : (t : Bool) → eq_by_cmp path_cmp x (take i path) ≡ t → next x job ≡ f (old x job)
-        by_test true e =
-            let is : x ≡ take i path = same_path x (take i path) e in
-            let before : now (take i path) job ≡ old (take i path) job = along.off (take i path) job (λ j c s. let g : length (take i path) ≡ i = long in absurd (omega arith)) in
-            ap (λ y. next y job) is ∙ put_itself now next (take i path) job _ put ∙ ap f before ∙ ap (λ y. f (old y job)) (sym is)
-        by_test false e =
-            let apart : x ≡ take i path → ⊥ = λ is. let t : false ≡ true = sym e ∙ ap (λ y. eq_by_cmp path_cmp x y) (sym is) ∙ path_itself x in absurd (cc) in
-            let unlike : length x ≡ i → ⊥ = λ z. apart (begins_is path x b ∙ ap (λ k. take k path) z) in
-            put_others now next (take i path) job _ put x job (λ j is. apart is) ∙ along.on x b (shorter (length x) i l unlike)
-          where
-            shorter : (m n : ℕ) → m < n + 1 → (m ≡ n → ⊥) → m < n
-            shorter m n l ne = omega (arith, l, ne)
-
-    off : (x : Path) (other : ℕ) → (other ≡ job → begins_with path x ≡ true → length x < i + 1 → ⊥) → next x other ≡ old x other
-    off x other no_ =
-        put_others now next (take i path) job _ put x other (λ j is.
-        let g : length x ≡ i = ap length is ∙ long in
-        no_ j (ap (begins_with path) is ∙ take_begins i path) (omega arith))
-        ∙ along.off x other (λ j b l. no_ j b (omega arith))
-
-pub along_kept : (f : ℕ → ℕ) (old now next : Path → ℕ → ℕ) (path : Path) (job m : ℕ) → IsAlong f old now path job m → AreKept now next → IsAlong f old next path job m
-along_kept f old now next path job m along kept = record { on = λ x b l. kept x job ∙ along.on x b l; off = λ x other no_. kept x other ∙ along.off x other no_ }
-
--- the two cases of a count that is changed along a path
-pub by_place : (P : Type 0) (path x : Path) (job other m : ℕ) → (other ≡ job → begins_with path x ≡ true → length x < m → P) → ((other ≡ job → begins_with path x ≡ true → length x < m → ⊥) → P) → P
-by_place P path x job other m here away = by_test (eq_by_cmp nat_cmp other job) (begins_with path x) (nat_lt (length x) m) refl refl refl
-  where
-    by_test : (a b t : Bool) → eq_by_cmp nat_cmp other job ≡ a → begins_with path x ≡ b → nat_lt (length x) m ≡ t → P
-    by_test true true true e d l = here (nat_cmp-IsAntisymmetric other job (is_equal (nat_cmp other job) e)) d (ltb-true (length x) m l)
-    by_test true true false e d l = away (λ j b h. let g : m ≤ length x = ltb-false (length x) m l in absurd (omega arith))
-    by_test true false t e d l = away (λ j b h. let g : false ≡ true = sym d ∙ b in absurd (cc))
-    by_test false b t e d l = away (λ j b h. let g : false ≡ true = sym e ∙ ap (λ k. eq_by_cmp nat_cmp other k) (sym j) ∙ ap is_eq (tied_itself nat_cmp_total other) in absurd (cc))
-
-pub along_back : (n : ℕ) (old now new : Path → ℕ → ℕ) (path : Path) (job m : ℕ) → IsAlong (λ v. v + n) old now path job m → IsAlong (λ v. v - n) now new path job m → AreKept old new
-along_back n old now new path job m up down x other = by_place (new x other ≡ old x other) path x job other m
-    (λ j b l.
-    let a : now x job ≡ old x job + n = up.on x b l in
-    let c : new x job ≡ now x job - n = down.on x b l in
-    let e : new x job ≡ old x job = omega arith in
-    ap (new x) j ∙ e ∙ ap (old x) (sym j))
-    (λ no_. down.off x other no_ ∙ up.off x other no_)
+-- what lies between a list and one that begins with it begins with it too
+pub between : (ps xs ys : Path) → is_gt (slice_cmp subscript_cmp ps xs) ≡ false → slice_cmp subscript_cmp xs ys ≡ Less → begins_with ys ps ≡ true → begins_with xs ps ≡ true
+between [] xs ys low high b = refl
+between (p ∷ ps) [] ys low high b = absurd (cc)
+between (p ∷ ps) (x ∷ xs) [] low high b = absurd (cc)
+between (p ∷ ps) (x ∷ xs) (y ∷ ys) low high b =
+    let t : y ≡ p = same_text y p (first_so _ _ b) in
+    let turned : subscript_cmp x y ≡ ordering_reverse (subscript_cmp p x) = ap (subscript_cmp x) t ∙ subscript_cmp_total.antisymm x p in
+    let s = squeezed (subscript_cmp p x) (slice_cmp subscript_cmp ps xs) (slice_cmp subscript_cmp xs ys) low (rw turned at high) in
+    and_from _ _ (equal_texts x p (sym (subscript_cmp-IsAntisymmetric p x s.same))) (between ps xs ys s.low s.high (second_so (pointwise nat_eq y p) _ b))

@@ -1,7 +1,4 @@
-pub mod Codes
+pub mod Names
+pub mod Holders
 pub mod Held
-pub mod Marks
-pub mod Paths
-pub mod Tallied
-pub mod Roots
 pub mod laws

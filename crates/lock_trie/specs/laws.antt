@@ -1,3 +1,4 @@
 pub mod Mapped
 pub mod Conflicts
 pub mod Results
+pub mod Named

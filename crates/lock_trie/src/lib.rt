@@ -6,36 +6,38 @@
 //!
 //! | Level | Keyed by | Keeps | File |
 //! |---|---|---|---|
-//! | `LockTrie` | caret or none | the roots of each | `trie.rt` |
-//! | `Roots` | the name | a root | `roots.rt` |
-//! | `Root` | | what is held at each path, and how much of it at and below each | `root.rt` |
-//! | `Paths` | the path: the subscripts | a node | `paths.rt` |
-//! | `Marks` | the job | a count | `marks.rt` |
+//! | `LockTrie` | | who holds what | `trie.rt` |
+//! | `NameMap` | the lock name, in the order of names | a value; a B-tree (`btree`) | `map.rt` |
+//! | `Holders` | the job | its count; two jobs lie in the value itself | `holders.rt` |
 //!
-//! A root is a tree by subscripts whose nodes lie in two ordered maps by path. A path is looked up by a slice of the name's
-//! subscripts, so each beginning of it is found without memory, and nothing recurs.
+//! Only held names have entries, none for their beginnings. In the order of names what a name begins stands behind it in a
+//! row: what is held at and below a name are the entries from it on that begin with it. What lies between a name and its
+//! beginning begins so too: so the entry before a name shares with it all that a held beginning has. What depends on how a
+//! name is kept is in `names.rt`.
 //!
 //! Invariants:
-//! (1) the counts at and below a path are those of all held paths that begin with it (`specs/Tallied.antt`);
-//! (2) no held count is above 65,535;
-//! (3) nodes and roots without counts have no entry: what takes counts away takes the entry too, where none is left (`gone`);
-//! (4) no held path has fewer subscripts than a root's `least`, the fewest that one has had since the root is there.
+//! (1) the names rise (`NameMap`);
+//! (2) a job is there once among a name's holders, with a count from 1 to 65,535 (`AreHolders` in `specs/Holders.antt`);
+//! (3) a name that has an entry has a holder (`AreHeld` in `specs/Held.antt`);
+//! (4) no held name has fewer subscripts than `least`, the fewest that one has ever had.
 //!
-//! `blocked` looks once at the path's node for what is at and below it, and once at each shorter beginning of the path that
-//! has at least `least` subscripts for what is held there, at two jobs of a node at most: where all held paths are equally
-//! long that is one look. `add` and `take_away` change the node and one count for each beginning; each is looked up once,
-//! and once more where it comes or goes. So each costs the depth of the name times a logarithm of how many names and paths
-//! are held, whatever is held elsewhere.
-//! A held path of d subscripts takes d + 2 keys, of d²/2 subscripts in all; paths that begin alike share them.
+//! `blocked` goes down the tree once, and looks at the entries from the name on until one is another job's or doesn't begin
+//! with it. Only where a held name may be shorter than this one it goes down again, to the entry before, and once more for
+//! each beginning that has `least` subscripts or more and that the entry before shares. `add` goes down once, and once more
+//! where the name is held; `take_away` twice. So each costs a logarithm of how many names are held, times the
+//! depth of the name at most, beside what the job itself holds below it.
+//! A held name takes one entry: a copy of it, and its holders.
 //!
-//! Read `specs/Held.antt`, then `trie.rt`, `root.rt`.
+//! With `^A(1)`, `^A(1,2)` and `^A(3)` held, `^A(1)` is told by the first two; of `^A(1,2,7)` the entry before is `^A(1,2)`,
+//! which shares two subscripts with it, so that `^A`, `^A(1)` and `^A(1,2)` are looked up.
+//!
+//! Read `specs/Held.antt`, then `trie.rt`, `names.rt`, `map.rt`, `holders.rt`.
 //! Not promised: any time.
 #![tactic(auto)]
 
 pub use trie::LockTrie;
 
-mod marks;
-mod paths;
-mod root;
-mod roots;
+mod holders;
+mod map;
+mod names;
 mod trie;

@@ -1,18 +1,39 @@
 //! Each job's held counts.
-ghost use Rattle.std.specs.Prelude.{true, false, ◌≡◌, ◌≤◌, ◌+◌, ◌-◌, ℕ, IfOk, OnOk, OnErr};
+ghost use Rattle.std.specs.Prelude.{true, false, ◌≡◌, ◌≤◌, ◌+◌, ◌-◌, ℕ, IsSome, IfOk, OnOk, OnErr};
+ghost use Rattle.std.specs.FinMap as finmap;
 ghost use Rattle.collation.specs.Limits.{most_locks};
 ghost use Rattle.collation.specs.Reference.{Resource};
-ghost use Rattle.lock_trie.specs.Held.{held_count, roots_of, IsHeldByAnother, IsRecounted, IsSame};
+ghost use Rattle.lock_trie.specs.Held.{held_count, IsEntryPut, IsHeldByAnother, IsHeldWhere, IsRecounted, IsSame};
+ghost use Rattle.lock_trie.specs.Holders.{entry_of, IsEntry};
+ghost use Rattle.lock_trie.specs.Names.{is_above, is_at_or_under as is_at_or_under_spec};
 
-use crate::roots::Roots;
+use crate::holders::Holders;
+use crate::map::NameMap;
+use crate::names::{depth, is_at_or_under};
+use btree::Trail;
 use collation::LockName;
 use std::alloc::{AllocError, Global};
+use std::marker::Model;
 
 /// The held counts of all jobs.
 #[derive(Drop)]
 pub struct LockTrie {
-    plain: Roots,
-    caret: Roots,
+    map: NameMap<Holders>,
+    /// No held name has fewer subscripts, so no shorter beginning is looked up.
+    least: usize,
+    alloc: Global,
+}
+
+impl Model for LockTrie {
+    ghost use Rattle.lock_trie.specs.Held.{Held, held_code, AreHeld, HasNoShorter};
+
+    ghost Value = { Held };
+
+    ghost coded = { held_code };
+
+    ghost view = { λ t. t.map };
+
+    ghost invariant = { λ t. AreHeld t.map × HasNoShorter t.map t.least };
 }
 
 impl LockTrie {
@@ -21,19 +42,9 @@ impl LockTrie {
         ensures { (job : ℕ) → (n : Resource) → held_count result job n ≡ 0 }
     {
         LockTrie {
-            plain: Roots::new(alloc),
-            caret: Roots::new(alloc),
-        }
-    }
-
-    /// The roots among which the name has its own.
-    fn roots(&self, name: &LockName) -> &Roots
-        ensures { result.now ≡ roots_of self.now name.now }
-    {
-        if name.has_caret() {
-            &self.caret
-        } else {
-            &self.plain
+            map: NameMap::new(alloc),
+            least: usize::MAX,
+            alloc,
         }
     }
 
@@ -42,9 +53,31 @@ impl LockTrie {
         ensures count { result ≡ held_count self.now job name.now }
         ensures small { result ≤ most_locks }
     {
-        let reference = name.reference();
-        self.roots(name)
-            .count(job, reference.name(), reference.subscripts())
+        match self.map.get(name) {
+            Some(holders) => holders.count(job),
+            None => 0,
+        }
+    }
+
+    // These hold this one, which nobody held. The trail is that of its look-up.
+    fn put(&mut self, name: &LockName, holders: Holders, trail: &Trail) -> Result<(), AllocError>
+        requires { IsEntry holders }
+        ensures ok { OnOk result (self.new ≡ finmap.insert self.old name.now holders) }
+        ensures err { OnErr result (self.new ≡ self.old) }
+    {
+        let key = name.clone()?;
+        self.map.insert_by(self.alloc, key, holders, trail)?;
+        self.least = self.least.min(depth(name));
+        Ok(())
+    }
+
+    // These hold this one, which somebody held. Takes no memory.
+    fn change(&mut self, name: &LockName, holders: Holders)
+        requires there { IsSome (finmap.get self.old name.now) }
+        requires held { IsEntry holders }
+        ensures { self.new ≡ finmap.insert self.old name.now holders }
+    {
+        drop(self.map.replace(name, holders));
     }
 
     /// The job holds this one n times more. Where memory is refused nothing has changed.
@@ -57,13 +90,17 @@ impl LockTrie {
         if n == 0 {
             return Ok(());
         }
-        let reference = name.reference();
-        if name.has_caret() {
-            self.caret
-                .add(job, reference.name(), reference.subscripts(), n)
-        } else {
-            self.plain
-                .add(job, reference.name(), reference.subscripts(), n)
+        let (found, trail) = self.map.look_up(name);
+        match found {
+            Some(holders) => {
+                let more = holders.more(job, n)?;
+                self.change(name, more);
+                Ok(())
+            }
+            None => {
+                let holders = Holders::of_one(self.alloc, job, n)?;
+                self.put(name, holders, &trail)
+            }
         }
     }
 
@@ -71,14 +108,47 @@ impl LockTrie {
     pub fn take_away(&mut self, job: u16, name: &LockName, n: u32)
         ensures { IsRecounted self.old self.new job name.now (held_count self.old job name.now - n) }
     {
-        let reference = name.reference();
-        if name.has_caret() {
-            self.caret
-                .take_away(job, reference.name(), reference.subscripts(), n);
-        } else {
-            self.plain
-                .take_away(job, reference.name(), reference.subscripts(), n);
+        match self.map.replace(name, Holders::none(self.alloc)) {
+            Ok(mut holders) => {
+                holders.take(job, n);
+                settle(&mut self.map, name, holders);
+            }
+            Err(none) => drop(none),
         }
+    }
+
+    // Whether another job holds this one or a descendant: a look at the names from this one on, as long as they are under it.
+    fn is_blocked_below(&self, job: u16, name: &LockName) -> bool
+        ensures some { result ≡ true → IsHeldWhere (is_at_or_under_spec name.now) self.now job }
+        ensures none { result ≡ false → IsHeldWhere (is_at_or_under_spec name.now) self.now job → ⊥ }
+    {
+        for (held, holders) in self.map.walk_from(name) {
+            if !is_at_or_under(held, name) {
+                return false;
+            }
+            if holders.has_other(job) {
+                return true;
+            }
+        }
+        false
+    }
+
+    // Whether another job holds an ancestor of this one. Where no held name is shorter than this one nothing is looked up.
+    fn is_blocked_above(&self, job: u16, name: &LockName) -> bool
+        ensures some { result ≡ true → IsHeldWhere (λ x. is_at_or_under_spec x name.now) self.now job }
+        ensures none { result ≡ false → IsHeldWhere (is_above name.now) self.now job → ⊥ }
+    {
+        if self.least >= depth(name) {
+            return false;
+        }
+        for i in self.least..self.map.reach_above(name) {
+            if let Some(holders) = self.map.at_beginning(name, i)
+                && holders.has_other(job)
+            {
+                return true;
+            }
+        }
+        false
     }
 
     /// Whether another job holds this one, an ancestor of it or a descendant. Takes no memory.
@@ -86,17 +156,50 @@ impl LockTrie {
         ensures some { result ≡ true → IsHeldByAnother self.now job name.now }
         ensures none { result ≡ false → IsHeldByAnother self.now job name.now → ⊥ }
     {
-        let reference = name.reference();
-        self.roots(name)
-            .blocked(job, reference.name(), reference.subscripts())
+        let _map = &self.map;
+        self.is_blocked_below(job, name) || self.is_blocked_above(job, name)
     }
 
     /// A copy: each job holds in it what it holds. Fails only for want of memory.
     pub fn copy(&self) -> Result<LockTrie, AllocError>
         ensures { IfOk result (λ copy. IsSame self.now copy) }
     {
-        let plain = self.plain.clone()?;
-        let caret = self.caret.clone()?;
-        Ok(LockTrie { plain, caret })
+        let mut map = NameMap::new(self.alloc);
+        for (name, holders) in self.map.iter() {
+            push_copy(&mut map, self.alloc, name, holders)?;
+        }
+        Ok(LockTrie {
+            map,
+            least: self.least,
+            alloc: self.alloc,
+        })
     }
+}
+
+// The holders of a name that has an entry are these now; where they are none its entry goes. Takes no memory.
+fn settle(map: &mut NameMap<Holders>, name: &LockName, holders: Holders)
+    requires { IsSome (finmap.get map.old name.now) }
+    ensures { IsEntryPut map.old map.new name.now (entry_of holders) }
+{
+    if holders.is_empty() {
+        drop(holders);
+        drop(map.remove(name));
+    } else {
+        drop(map.replace(name, holders));
+    }
+}
+
+// A copy of a name and of those that hold it goes into the map.
+fn push_copy(
+    map: &mut NameMap<Holders>,
+    alloc: Global,
+    name: &LockName,
+    holders: &Holders,
+) -> Result<(), AllocError>
+    ensures { OnOk result (map.new ≡ finmap.insert map.old name.now holders.now) }
+{
+    let key = name.clone()?;
+    let copy = holders.copy()?;
+    let (_, trail) = map.look_up(name);
+    map.insert_by(alloc, key, copy, &trail)
 }

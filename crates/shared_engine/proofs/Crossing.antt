@@ -3,15 +3,22 @@ use denote.RattleType.{RattleType}
 use denote.Param.Send.{IsSend, IsSync, sendable, struct_send, struct_sync}
 use denote.Struct.Declared.{shape}
 use Rattle.std.proofs.Crossing as heap
+use Rattle.std.proofs.MapsCrossing as maps
 use Rattle.btree.proofs.node.Node.TheLaws.TheKnot as nodes
 use Rattle.version_chain.proofs.version.Version.TheLaws.TheKnot as versions
 use Rattle.journal.proofs.past.Past.TheLaws.TheKnot as past
 use Rattle.journal.proofs.past.Adopted.TheSendSync as adopted
 use Rattle.journal.proofs.before.Before.TheSendSync as before
-use Rattle.journal.proofs.base.Base.TheSendSync as base
+use Rattle.journal.specs.contracts.base.Base as Base
+use Rattle.journal.proofs.tallies.Tallies.TheSendSync as tallies
 use Rattle.journal.proofs.log.Log.TheSendSync as log
 use Rattle.journal.specs.contracts.list.Journal as Journal
-use Rattle.lock_table.proofs.table.LockTable.TheSendSync as locks
+use Rattle.lock_table.specs.contracts.table.LockTable as LockTable
+use Rattle.lock_table.specs.contracts.table.LockTable.TheInside as LocksInside
+use Rattle.lock_trie.specs.contracts.trie.LockTrie as LockTrie
+use Rattle.lock_table.proofs.row.Row.TheSendSync as row
+use Rattle.lock_trie.proofs.holders.Holders.TheSendSync as holders
+use Rattle.collation.proofs.lock.LockName.TheSendSync as lock_name
 use Rattle.key_codec.proofs.key.Key.TheSendSync as key
 use Rattle.collation.proofs.text.Text.TheSendSync as text
 use Rattle.cell_pool.proofs.pool.Pool.TheSendSync as pool
@@ -41,20 +48,42 @@ store_send = search (heap.crosses, nodes.crosses, versions.crosses, key.the_send
 pub store_sync : IsSync KeyedStore.the_row
 store_sync = search (heap.crosses, nodes.crosses, versions.crosses, key.the_send, key.the_sync, text.the_send, text.the_sync, pool.the_send, pool.the_sync, cell.the_send, cell.the_sync, near.the_send, near.the_sync, sendable) depth 60 fits 20000
 
+names_send : IsSend LockTrie.the_row
+names_send = search (heap.crosses, nodes.crosses, holders.the_send, holders.the_sync, lock_name.the_send, lock_name.the_sync, sendable) depth 60 fits 20000
+
+names_sync : IsSync LockTrie.the_row
+names_sync = search (heap.crosses, nodes.crosses, holders.the_send, holders.the_sync, lock_name.the_send, lock_name.the_sync, sendable) depth 60 fits 20000
+
+locks_send : IsSend LockTable.the_row
+locks_send =
+    let c = struct_send (shape LocksInside.the_type) (search (heap.crosses, maps.crosses, row.the_send, sendable) depth 60, (names_send, (search (heap.crosses, sendable) depth 60, tt))) in
+    record { owned = λ d vs x. (c.owned (LocksInside.the_type.to x.0) vs, tt); leaving = λ k d w. tt }
+
+locks_sync : IsSync LockTable.the_row
+locks_sync =
+    let c = struct_sync (shape LocksInside.the_type) (search (heap.crosses, maps.crosses, row.the_sync, sendable) depth 60, (names_sync, (search (heap.crosses, sendable) depth 60, tt))) in
+    record { shared = λ d b o κ x. (c.shared (LocksInside.the_type.to x.0) b o κ, tt) }
+
+base_send : IsSend Base.the_row
+base_send = search (heap.crosses, locks_send, tallies.the_send, key.the_send, text.the_send, sendable) depth 60 fits 20000
+
+base_sync : IsSync Base.the_row
+base_sync = search (heap.crosses, locks_sync, tallies.the_sync, key.the_sync, text.the_sync, sendable) depth 60 fits 20000
+
 pub journal_send : IsSend Journal.the_row
-journal_send = search (heap.crosses, past.crosses, adopted.the_send, adopted.the_sync, before.the_send, before.the_sync, base.the_send, base.the_sync, log.the_send, log.the_sync, sendable) depth 60 fits 20000
+journal_send = search (heap.crosses, past.crosses, adopted.the_send, adopted.the_sync, before.the_send, before.the_sync, base_send, base_sync, log.the_send, log.the_sync, sendable) depth 60 fits 20000
 
 pub journal_sync : IsSync Journal.the_row
-journal_sync = search (heap.crosses, past.crosses, before.the_send, before.the_sync, base.the_sync, log.the_sync, sendable) depth 60 fits 20000
+journal_sync = search (heap.crosses, past.crosses, before.the_send, before.the_sync, base_sync, log.the_sync, sendable) depth 60 fits 20000
 
 pub core_send : IsSend Core.the_row
 core_send =
-    let c = struct_send (shape Inside.the_type) (search (heap.crosses, sendable) depth 60, (store_send, (journal_send, (locks.the_send, tt)))) in
+    let c = struct_send (shape Inside.the_type) (search (heap.crosses, sendable) depth 60, (store_send, (journal_send, (locks_send, tt)))) in
     record { owned = λ d vs x. (c.owned (Inside.the_type.to x.0) vs, tt); leaving = λ k d w. tt }
 
 pub core_sync : IsSync Core.the_row
 core_sync =
-    let c = struct_sync (shape Inside.the_type) (search (heap.crosses, sendable) depth 60, (store_sync, (journal_sync, (locks.the_sync, tt)))) in
+    let c = struct_sync (shape Inside.the_type) (search (heap.crosses, sendable) depth 60, (store_sync, (journal_sync, (locks_sync, tt)))) in
     record { shared = λ d b o κ x. (c.shared (Inside.the_type.to x.0) b o κ, tt) }
 
 pub state_send : IsSend JobState.the_row

@@ -1,0 +1,143 @@
+//! Values by lock name.
+ghost use Rattle.std.specs.Prelude.{◌≡◌, ◌<◌, true, not, filter, length, None, Some, IsSome, IfSome, IfOk, IfErr, OnErr};
+ghost use Rattle.std.specs.Option.{option_copied};
+ghost use Rattle.std.specs.Ordering.{is_lt};
+ghost use Rattle.std.specs.FinMap as finmap;
+ghost use Rattle.collation.specs.Reference.{Resource};
+ghost use Rattle.collation.specs.Locks.{resource_cmp};
+ghost use Rattle.lock_trie.specs.Names.{beginning, IsWithinReach};
+
+use crate::names::{Beginning, depth, reach};
+use btree::{Trail, Tree, Walk};
+use collation::LockName;
+use std::alloc::{AllocError, Global};
+use std::marker::Model;
+
+/// Values by lock name, in the order of names.
+#[derive(Drop)]
+pub struct NameMap<X> {
+    tree: Tree<LockName, X>,
+}
+
+impl<X> Model for NameMap<X> {
+    ghost use Rattle.std.specs.Prelude.{IsTrue};
+    ghost use Rattle.std.specs.FinMap.{FinMap, code, from_sorted, is_sorted};
+    ghost use Rattle.collation.specs.Locks.{resource_cmp};
+    ghost use Rattle.lock_trie.specs.Names.{resource_code};
+
+    ghost Value = { FinMap resource_cmp X };
+
+    ghost coded = { code resource_code X.code };
+
+    ghost view = { λ m. from_sorted m.tree.pairs };
+
+    ghost invariant = { λ m. IsTrue (is_sorted resource_cmp m.tree.pairs) };
+}
+
+impl<X> NameMap<X> {
+    /// A map without names. Takes no memory.
+    pub fn new(alloc: Global) -> NameMap<X>
+        ensures { result ≡ finmap.empty }
+    {
+        NameMap {
+            tree: Tree::new(alloc),
+        }
+    }
+
+    /// The value of a name, where it has one, and where its look-up went.
+    pub fn look_up(&self, name: &LockName) -> (Option<&X>, Trail)
+        ensures { option_copied result.0 ≡ finmap.get self.now name.now }
+    {
+        self.tree.look_up(name)
+    }
+
+    /// The value of a name, where it has one.
+    pub fn get(&self, name: &LockName) -> Option<&X>
+        ensures { option_copied result ≡ finmap.get self.now name.now }
+    {
+        self.tree.get(name).0
+    }
+
+    /// The value of a name's beginning of so many subscripts, where it has one.
+    pub fn at_beginning(&self, name: &LockName, len: usize) -> Option<&X>
+        ensures { option_copied result ≡ finmap.get self.now (beginning name.now len) }
+    {
+        let point = Beginning::of(name, len);
+        match self.tree.first_from(&point).0 {
+            Some((key, value)) => {
+                if point.compare(key).is_eq() {
+                    Some(value)
+                } else {
+                    None
+                }
+            }
+            None => None,
+        }
+    }
+
+    /// A number of subscripts: each name of the map that is a shorter beginning of this one has fewer. The name before this
+    /// one tells it: what lies between a name and its beginning begins so too.
+    pub fn reach_above(&self, name: &LockName) -> usize
+        ensures { IsWithinReach self.now name.now result }
+    {
+        let point = Beginning::of(name, depth(name));
+        match self.tree.last_before(&point).0 {
+            Some((before, _)) => reach(before, name),
+            None => 0,
+        }
+    }
+
+    /// The names that don't stand before this one with their values, in order.
+    pub fn walk_from(&self, name: &LockName) -> Walk<'_, LockName, X>
+        ensures { result ≡ filter (λ e. not (is_lt (resource_cmp e.0 name.now))) (finmap.entries self.now) }
+    {
+        self.tree.from(&Beginning::of(name, depth(name)))
+    }
+
+    /// The names with their values, in order.
+    pub fn iter(&self) -> Walk<'_, LockName, X>
+        ensures { result ≡ finmap.entries self.now }
+    {
+        self.tree.iter()
+    }
+}
+
+impl<X: Drop> NameMap<X> {
+    /// Sets the value of a name by the trail of its look-up.
+    ///
+    /// Refused where there is no memory: then nothing has changed.
+    pub fn insert_by(
+        &mut self,
+        alloc: Global,
+        name: LockName,
+        value: X,
+        trail: &Trail,
+    ) -> Result<(), AllocError>
+        ensures map { IfOk result (λ _. self.new ≡ finmap.insert self.old name value) }
+        ensures refused { OnErr result (self.new ≡ self.old) }
+    {
+        let before = self.tree.insert_by(alloc, name, value, trail)?;
+        drop(before);
+        Ok(())
+    }
+
+    /// Sets the value of a name that is there, and gives the one before. Takes no memory. Where the name isn't there nothing
+    /// has changed, and the value comes back.
+    pub fn replace(&mut self, name: &LockName, value: X) -> Result<X, X>
+        ensures before { IfOk result (λ before. finmap.get self.old name.now ≡ Some before) }
+        ensures map { IfOk result (λ _. self.new ≡ finmap.insert self.old name.now value) }
+        ensures handed_back { IfErr result (λ back. back ≡ value) }
+        ensures missed { OnErr result (finmap.get self.old name.now ≡ None) }
+        ensures kept { OnErr result (self.new ≡ self.old) }
+    {
+        self.tree.replace(name, value)
+    }
+
+    /// Takes out a name, and gives its value. Takes no memory.
+    pub fn remove(&mut self, name: &LockName) -> Option<X>
+        ensures value { result ≡ finmap.get self.old name.now }
+        ensures map { self.new ≡ finmap.remove self.old name.now }
+    {
+        self.tree.remove(name)
+    }
+}
