@@ -10,6 +10,7 @@ pub mod Kept
 pub mod laws
 pub mod Log
 pub mod Reading
+pub mod Statements
 pub mod Stored
 pub mod Story
 pub mod Touching

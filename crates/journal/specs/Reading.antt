@@ -1,5 +1,6 @@
 -- What bytes of the log read as; none where they are no such thing. Source: docs/FORMATS.md, "Units".
 -- Read unit_at, then down to number_at. That each unit reads back, whatever follows it: specs/laws/Reading.antt.
+-- That nothing else reads as a unit: specs/Statements.antt.
 use Rattle.std.specs.Prelude.{ℕ, ◌/◌, ◌%◌, ◌==◌, Bool, true, false, ◌&&◌, nat_lt, nat_le, nat_eq, if◌then◌else◌, List, [], ◌∷◌, length, take, drop, Option, None, Some, zero, suc, is_none, option_and_then}
 use Rattle.std.specs.Cmp.Lexicographic.{pointwise}
 use Rattle.std.specs.Int.{Width, w16, w64, byte_len, from_be_bytes}
@@ -27,14 +28,18 @@ infixl 10 ◌>>=◌
 abbrev pub ◌>>=◌ : {A B : Type 0} → Option A → (A → Option B) → Option B
 o >>= f = option_and_then f o
 
--- a number in so many bytes, the highest first
-abbrev pub wide_at : Width → List ℕ → Option (ℕ × List ℕ)
-wide_at w bytes = if nat_le (byte_len w) (length bytes) then Some (from_be_bytes w (take (byte_len w) bytes), drop (byte_len w) bytes) else None
+-- a number and the bytes after it, if it is at least so much: a smaller one has a shorter form
+abbrev pub at_least : ℕ → ℕ → List ℕ → Option (ℕ × List ℕ)
+at_least least n bytes = if nat_le least n then Some (n, bytes) else None
+
+-- a number in so many bytes, the highest first, which is at least so much
+abbrev pub wide_at : Width → ℕ → List ℕ → Option (ℕ × List ℕ)
+wide_at w least bytes = if nat_le (byte_len w) (length bytes) then at_least least (from_be_bytes w (take (byte_len w) bytes)) (drop (byte_len w) bytes) else None
 
 -- each reader answers what it read and the bytes after it
 unfoldable pub number_at : List ℕ → Option (ℕ × List ℕ)
 number_at [] = None
-number_at (b ∷ bytes) = if nat_lt b 254 then Some (b, bytes) else (if b == 254 then wide_at w16 bytes else wide_at w64 bytes)
+number_at (b ∷ bytes) = if nat_lt b 254 then Some (b, bytes) else (if b == 254 then wide_at w16 254 bytes else wide_at w64 65536 bytes)
 
 -- so many bytes
 abbrev pub bytes_at : ℕ → List ℕ → Option (List ℕ × List ℕ)
@@ -58,7 +63,7 @@ caret_of b = b == 1
 
 unfoldable pub name_at : List ℕ → Option (Resource × List ℕ)
 name_at [] = None
-name_at (b ∷ bytes) = reference_at bytes >>= λ r. Some (record { has_caret = caret_of b; reference = r.0 }, r.1)
+name_at (b ∷ bytes) = if nat_le b 1 then (reference_at bytes >>= λ r. Some (record { has_caret = caret_of b; reference = r.0 }, r.1)) else None
 
 -- so many, one after the other
 abbrev pub list_at : {A : Type 0} → (List ℕ → Option (A × List ℕ)) → ℕ → List ℕ → Option (List A × List ℕ)
@@ -94,7 +99,7 @@ order_at is_open direction bytes = reference_at bytes >>= λ r. Some (Order (rec
 abbrev pub query_at : Bool → Direction → List ℕ → Option (LookCommand × List ℕ)
 query_at is_open direction bytes = reference_at bytes >>= λ r. Some (Query (record { reference = r.0; is_open = is_open }) direction, r.1)
 
--- $ORDER and $QUERY by their kind
+-- $ORDER and $QUERY by their kind, which is from 6 to 13
 abbrev pub traversal_at : ℕ → List ℕ → Option (LookCommand × List ℕ)
 traversal_at kind bytes =
     if kind == 6 then order_at false Forward bytes
@@ -104,7 +109,8 @@ traversal_at kind bytes =
     else (if kind == 10 then query_at false Forward bytes
     else (if kind == 11 then query_at false Backward bytes
     else (if kind == 12 then query_at true Forward bytes
-    else query_at true Backward bytes))))))
+    else (if kind == 13 then query_at true Backward bytes
+    else None)))))))
 
 -- any command that looks
 unfoldable pub looks_at : ℕ → List ℕ → Option (LookCommand × List ℕ)
@@ -157,8 +163,9 @@ named kind ns = if kind == 16 then Only ns else (if kind == 17 then More ns else
 abbrev pub named_lock_at : ℕ → List ℕ → Option (LockCommand × List ℕ)
 named_lock_at kind bytes = names_at bytes >>= λ ns. Some (named kind ns.0, ns.1)
 
+-- any, by its kind, which is from 15 to 18
 unfoldable pub lock_command_at : ℕ → List ℕ → Option (LockCommand × List ℕ)
-lock_command_at kind bytes = if kind == 15 then Some (Release, bytes) else named_lock_at kind bytes
+lock_command_at kind bytes = if kind == 15 then Some (Release, bytes) else (if nat_le 16 kind && nat_le kind 18 then named_lock_at kind bytes else None)
 
 -- ---- units
 

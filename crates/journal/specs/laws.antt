@@ -1,5 +1,7 @@
 pub mod Adopted
 pub mod Checkpoints
+pub mod Exact
+pub mod ExactParts
 pub mod Exchanges
 pub mod History
 pub mod Log

@@ -20,6 +20,7 @@ ghost use Rattle.journal.specs.Counting.{tally_of};
 ghost use Rattle.journal.specs.Format.{unit_bytes};
 ghost use Rattle.journal.specs.History.{State, initial, after, IsLegal};
 ghost use Rattle.journal.specs.Reading.{unit_at};
+ghost use Rattle.journal.specs.Statements.{UnitsAreReadExactly};
 ghost use Rattle.journal.specs.Stored.{Each, FitsUnit};
 ghost use Rattle.journal.specs.Story.{Machine, told, story_of};
 
@@ -80,6 +81,12 @@ pub fn logs_read_back()
     ensures back { (u : JournalUnit) → (t : List ℕ) → FitsUnit u → unit_at (unit_bytes u ++ t) ≡ Some (u, t) }
     ensures apart { (u v : JournalUnit) → (s t : List ℕ) → FitsUnit u → FitsUnit v → unit_bytes u ++ s ≡ unit_bytes v ++ t → (u ≡ v) × (s ≡ t) }
     ensures logs { (us vs : List JournalUnit) → Each FitsUnit us → Each FitsUnit vs → flat_map unit_bytes us ≡ flat_map unit_bytes vs → us ≡ vs }
+{}
+
+/// Bytes that read as a unit are just the bytes of that unit, and then what follows; and the unit keeps the limits. So
+/// what no journal writes, such as a number in more bytes than it needs or a tag of no unit, isn't read.
+pub fn units_are_read_exactly()
+    ensures { UnitsAreReadExactly }
 {}
 
 /// Whatever a step is replied, a number that no open transaction began before stays one; and a checkpoint, which moves a

@@ -9,7 +9,8 @@
 //! (2) a unit, once in the journal, never changes, and none is taken out;
 //! (3) a unit's number is the stamp of its writes;
 //! (4) a receipt is made only by the push of its unit, and can't be copied;
-//! (5) the bytes are `unit_bytes` of each unit in turn (`specs/Format.antt`), and read back as these units.
+//! (5) the bytes are `unit_bytes` of each unit in turn (`specs/Format.antt`), and read back as these units; no other
+//! bytes read as a unit (`specs/Statements.antt`).
 //!
 //! A `prepare_..` writes a unit at the end of the bytes, behind those of the units, and may be refused; `push_prepared`
 //! then counts it among them, copies nothing and can't be refused. A unit that is prepared and not pushed leaves nothing
@@ -26,7 +27,7 @@ pub use exchanges::{ExchangeLog, ExchangeMark};
 pub use laws::{
     adopted_units_leave_the_database, bases_stay_behind, joined_histories, joined_stories,
     locks_are_right_and_act, logs_read_back, lone_commands_are_right_and_act,
-    transactions_are_right_and_act,
+    transactions_are_right_and_act, units_are_read_exactly,
 };
 pub use list::{Journal, Receipt};
 pub use unit::{Exchange, Exchanges, Unit};

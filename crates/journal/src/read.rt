@@ -25,22 +25,34 @@ impl From<AllocError> for Unread {
     }
 }
 
+// A number, if it is at least so much: a smaller one has a shorter form.
+fn at_least(least: u64, number: u64, rest: &[u8]) -> Result<(u64, &[u8]), Unread>
+    ensures some { IfOk result (λ p. reading.at_least least number rest.now ≡ Some (p.0, p.1.now)) }
+    ensures none { IfErr result (λ e. reading.at_least least number rest.now ≡ None) }
+{
+    if least <= number {
+        Ok((number, rest))
+    } else {
+        Err(Unread::Form)
+    }
+}
+
 fn read_two(bytes: &[u8]) -> Result<(u64, &[u8]), Unread>
-    ensures some { IfOk result (λ p. reading.wide_at w16 bytes.now ≡ Some (p.0, p.1.now)) }
-    ensures none { IfErr result (λ e. reading.wide_at w16 bytes.now ≡ None) }
+    ensures some { IfOk result (λ p. reading.wide_at w16 254 bytes.now ≡ Some (p.0, p.1.now)) }
+    ensures none { IfErr result (λ e. reading.wide_at w16 254 bytes.now ≡ None) }
 {
     match bytes.split_first_chunk::<2>() {
-        Some((head, rest)) => Ok((u64::from(u16::from_be_bytes(*head)), rest)),
+        Some((head, rest)) => at_least(254, u64::from(u16::from_be_bytes(*head)), rest),
         None => Err(Unread::Form),
     }
 }
 
 fn read_eight(bytes: &[u8]) -> Result<(u64, &[u8]), Unread>
-    ensures some { IfOk result (λ p. reading.wide_at w64 bytes.now ≡ Some (p.0, p.1.now)) }
-    ensures none { IfErr result (λ e. reading.wide_at w64 bytes.now ≡ None) }
+    ensures some { IfOk result (λ p. reading.wide_at w64 65536 bytes.now ≡ Some (p.0, p.1.now)) }
+    ensures none { IfErr result (λ e. reading.wide_at w64 65536 bytes.now ≡ None) }
 {
     match bytes.split_first_chunk::<8>() {
-        Some((head, rest)) => Ok((u64::from_be_bytes(*head), rest)),
+        Some((head, rest)) => at_least(65536, u64::from_be_bytes(*head), rest),
         None => Err(Unread::Form),
     }
 }
@@ -144,6 +156,9 @@ fn read_name(alloc: Global, bytes: &[u8]) -> Result<(LockName, &[u8]), Unread>
     let [caret, behind @ ..] = bytes else {
         return Err(Unread::Form);
     };
+    if *caret > 1 {
+        return Err(Unread::Form);
+    }
     let (reference, rest) = read_reference(alloc, behind)?;
     Ok((LockName::new(*caret == 1, reference), rest))
 }
@@ -284,7 +299,8 @@ fn read_traversal(alloc: Global, kind: u8, bytes: &[u8]) -> Result<(Look, &[u8])
         10 => read_query(alloc, false, Direction::Forward, bytes),
         11 => read_query(alloc, false, Direction::Backward, bytes),
         12 => read_query(alloc, true, Direction::Forward, bytes),
-        _ => read_query(alloc, true, Direction::Backward, bytes),
+        13 => read_query(alloc, true, Direction::Backward, bytes),
+        _ => Err(Unread::Form),
     }
 }
 
@@ -444,7 +460,8 @@ fn read_lock(alloc: Global, kind: u8, bytes: &[u8]) -> Result<(LockCommand, &[u8
 {
     match kind {
         15 => Ok((LockCommand::Release, bytes)),
-        _ => read_named(alloc, kind, bytes),
+        16..=18 => read_named(alloc, kind, bytes),
+        _ => Err(Unread::Form),
     }
 }
 

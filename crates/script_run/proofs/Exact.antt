@@ -1,5 +1,5 @@
 -- Where no reply tells of a want of memory, the text is a function of the bytes read.
-use Rattle.std.proofs.Common.{◌≡◌, ℕ, Bool, true, false, ◌||◌, List, [], ◌∷◌, map, refl, ap, ◌∙◌, inl, inr}
+use Rattle.std.proofs.Common.{◌≡◌, ℕ, Bool, true, false, ◌||◌, List, [], ◌∷◌, map, refl, ap, sym, ◌∙◌, inl, inr}
 use Rattle.std.specs.Prelude.{Result, Ok, Err}
 use Rattle.refusal.specs.declared.Refusal.{Refusal}
 use Rattle.command.specs.declared.request.Command.{Command}
@@ -7,6 +7,7 @@ use Rattle.command.specs.declared.request.Reply.{Reply}
 use Rattle.journal.specs.Story.{Machine}
 use Rattle.serial.specs.Memory.{is_out_of_memory}
 use Rattle.script_run.specs.Output.{Answer, asked_by, told_by, IsAnswer, AreAnswers, IsOutput, exact_reply, exact_answers, text_with_ending, output_of, some_wanting}
+use Rattle.script_run.specs.declared.outcome.Outcome.{Outcome}
 
 -- a reply that tells of no want of memory is the machine's
 exact_one : (asked : Result (ℕ × Command) Refusal) (reply : Reply) (s : Machine) → IsAnswer s asked reply → is_out_of_memory reply ≡ false → reply ≡ exact_reply asked s
@@ -30,6 +31,6 @@ exact_all (a ∷ answers) s each had =
     ∙ ap (λ (r : Reply). (a.0, r) ∷ exact_answers (map (λ a. a.0) answers) (told_by (asked_by a.0) r s)) one
 
 -- an output without such a reply
-pub exact_output : (start : Machine) (listed : Bool) (bytes text : List ℕ) (refused : Bool) (o : IsOutput start listed bytes text refused) → some_wanting o.answers ≡ false → text ≡ output_of start listed bytes
-exact_output start listed bytes text refused o had =
-    o.written ∙ ap (text_with_ending start listed) (exact_all o.answers start o.each had ∙ ap (λ (lines : List (List ℕ)). exact_answers lines start) o.of_lines)
+pub exact_output : (start : Machine) (listed : Bool) (bytes text : List ℕ) (outcome : Outcome) (o : IsOutput start listed bytes text outcome) → outcome.wanting ≡ false → text ≡ output_of start listed bytes
+exact_output start listed bytes text outcome o had =
+    o.written ∙ ap (text_with_ending start listed) (exact_all o.answers start o.each (ap (λ (went : Outcome). went.wanting) (sym o.told) ∙ had) ∙ ap (λ (lines : List (List ℕ)). exact_answers lines start) o.of_lines)

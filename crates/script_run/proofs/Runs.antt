@@ -1,8 +1,7 @@
 -- Lines that were answered, one after the other.
-use Rattle.std.proofs.Common.{◌≡◌, ℕ, suc, ◌+◌, ◌-◌, ◌<◌, ◌≤◌, take, Bool, true, ◌||◌, List, [], ◌∷◌, ◌++◌, map, length, drop, Option, Result, Ok, Err, inl, inr, refl, sym, ap, subst, ◌∙◌, append_assoc, arith, length-drop, drop-drop}
+use Rattle.std.proofs.Common.{◌≡◌, ℕ, suc, ◌+◌, ◌-◌, ◌<◌, ◌≤◌, take, Bool, true, List, [], ◌∷◌, ◌++◌, map, length, drop, Option, Result, Ok, Err, inl, inr, refl, sym, ap, subst, ◌∙◌, append_assoc, arith, length-drop, drop-drop}
 use Rattle.std.proofs.lemmas.List.{append-nil, map-append}
 use Rattle.std.proofs.lemmas.Grind.{flat_map-append}
-use Rattle.std.proofs.lemmas.List.Folds.{list_any-append}
 use Rattle.command.specs.declared.request.Command.{Command}
 use Rattle.command.specs.declared.request.Reply.{Reply}
 use Rattle.journal.specs.History.{initial, after as after_units}
@@ -17,14 +16,14 @@ use Rattle.script.specs.Line.{job_of_line}
 use Rattle.script.specs.Text.{reply_text}
 use Rattle.std.specs.Prelude.{Some, None}
 use Rattle.std.specs.Io.BufRead.{strip_last}
-use Rattle.std.proofs.Math.Bool.{or-false, or_assoc}
 use Rattle.listing.specs.Bytes.{WritesBeginning, WritesFront}
 use Rattle.listing.specs.laws.Bytes.{rest_of, Appends-nothing, WritesBeginning-all, WritesBeginning-longer, Passes-none, Passes-all, Passes-more, Passes-then, Passes-begun, Passes-Appends}
 use Rattle.std.specs.Io.KnownBytes.{Appends}
 use Rattle.bstr.specs.Find.{IsFirstByte, is_byte}
 use Rattle.script_run.specs.Lines.{nonempty_line, lines_of, has_no_end}
 use Rattle.script_run.proofs.Cut.{end_of, first_line, no_end, joined_line, has_no_end-append}
-use Rattle.script_run.specs.Output.{Answer, asked_by, IsAnswer, AreAnswers, told_by, left_by, exact_reply, exact_answers, ends_session, left_open, halts_of, left_at_end, text_of, is_refused, some_refused, ending}
+use Rattle.script_run.specs.Output.{Answer, asked_by, IsAnswer, AreAnswers, told_by, left_by, exact_reply, exact_answers, ends_session, left_open, halts_of, left_at_end, text_of, with_reply, noted, ending}
+use Rattle.script_run.proofs.Outcomes.{noted-none, noted-one, noted-then}
 use Rattle.script_run.specs.Runs.{Ran, Broke, RanFront, BrokeFront, RanEnd, BrokeEnd}
 use Rattle.script_run.specs.declared.answers.Script.{Script}
 
@@ -39,14 +38,14 @@ answered-good s t (Err refusal) reply is left good = subst IsGood (sym left) goo
 
 -- one line was answered, and its reply gathered
 pub Ran-one : (line : List ℕ) (reply : Reply) (job : Option ℕ) (old new : Script) (before now : Option (List ℕ)) (out : List ℕ) → job ≡ job_of_line line → IsAnswer old.core.machine (asked_by line) reply → new.core.machine ≡ told_by (asked_by line) reply old.core.machine
-    → out ≡ old.out.items ++ reply_text job reply → WritesFront before now out new.out.items → new.refused ≡ (old.refused || is_refused reply) → new.jobs ≡ open_after job (ends_session line reply) old.jobs → Ran (line ∷ []) old new before now
+    → out ≡ old.out.items ++ reply_text job reply → WritesFront before now out new.out.items → new.outcome ≡ with_reply reply old.outcome → new.jobs ≡ open_after job (ends_session line reply) old.jobs → Ran (line ∷ []) old new before now
 Ran-one line reply job old new before now out j a u t p r o = record {
   answers = (line, reply) ∷ [];
   of_lines = refl;
   each = (a, tt);
   machine = u;
   passes = subst (λ (ts : List ℕ). WritesFront before now ts new.out.items) (one-text line reply job old out j t) p;
-  refused = r ∙ ap (λ (b : Bool). old.refused || b) (sym (or-false _));
+  outcome = r ∙ noted-one (line, reply) old.outcome;
   jobs = o ∙ ap (λ (k : Option ℕ). open_after k (ends_session line reply) old.jobs) j;
   good = answered-good old.core.machine new.core.machine (asked_by line) reply a u;
 }
@@ -67,19 +66,19 @@ pub nothing_begun : (a : Option (List ℕ)) (x : List ℕ) → WritesBeginning a
 nothing_begun a x = WritesBeginning-longer a a [] x (WritesBeginning-all a a [] (Appends-nothing a))
 
 -- an empty line has no answer
-pub Ran-none : (old new : Script) (a : Option (List ℕ)) → new.core.machine ≡ old.core.machine → new.out.items ≡ old.out.items → new.refused ≡ old.refused → new.jobs ≡ old.jobs → Ran [] old new a a
+pub Ran-none : (old new : Script) (a : Option (List ℕ)) → new.core.machine ≡ old.core.machine → new.out.items ≡ old.out.items → new.outcome ≡ old.outcome → new.jobs ≡ old.jobs → Ran [] old new a a
 Ran-none old new a u o r j = record {
   answers = [];
   of_lines = refl;
   each = tt;
   machine = u;
   passes = subst (λ (ts : List ℕ). WritesFront a a ts new.out.items) (o ∙ sym (append-nil old.out.items)) (Passes-none a new.out.items);
-  refused = r ∙ sym (or-false old.refused);
+  outcome = r ∙ sym (noted-none old.outcome);
   jobs = j;
   good = λ h. subst IsGood (sym u) h;
 }
 
-pub Ran-empty : (line : List ℕ) (old new : Script) (a : Option (List ℕ)) → length line < 1 → new.core.machine ≡ old.core.machine → new.out.items ≡ old.out.items → new.refused ≡ old.refused → new.jobs ≡ old.jobs → Ran (nonempty_line line) old new a a
+pub Ran-empty : (line : List ℕ) (old new : Script) (a : Option (List ℕ)) → length line < 1 → new.core.machine ≡ old.core.machine → new.out.items ≡ old.out.items → new.outcome ≡ old.outcome → new.jobs ≡ old.jobs → Ran (nonempty_line line) old new a a
 Ran-empty [] old new a lt u o r j = Ran-none old new a u o r j
 Ran-empty (b ∷ bs) old new a lt u o r j = absurd (omega (arith, lt))
 
@@ -119,8 +118,7 @@ Ran-then ls ms a b c p q r h k = record {
   machine = k.machine ∙ left-then a.core.machine b.core.machine h.answers k.answers h.machine;
   passes = subst (λ (ts : List ℕ). WritesFront p r ts c.out.items) (text-then a.out.items h.answers k.answers)
       (Passes-then p q r ((a.out.items ++ text_of h.answers) ++ text_of k.answers) (b.out.items ++ text_of k.answers) c.out.items (Passes-more p q (a.out.items ++ text_of h.answers) b.out.items (text_of k.answers) h.passes) k.passes);
-  refused = k.refused ∙ ap (λ (x : Bool). x || some_refused k.answers) h.refused ∙ or_assoc a.refused (some_refused h.answers) (some_refused k.answers)
-      ∙ ap (λ (x : Bool). a.refused || x) (sym (list_any-append _ h.answers k.answers));
+  outcome = k.outcome ∙ ap (noted k.answers) h.outcome ∙ noted-then h.answers k.answers a.outcome;
   jobs = k.jobs ∙ open-then a.jobs b.jobs h.answers k.answers h.jobs;
   good = λ l. k.good (h.good l);
 }
@@ -185,7 +183,7 @@ pub BrokeFront-after : (text rest : List ℕ) (a b : Script) (p q r : Option (Li
 BrokeFront-after text rest a b p q r h w = record { lines = h.lines; rest = rest; broke = Broke-after h.lines a b p q r h.ran w; split = h.split }
 
 -- all that was gathered was written then
-pub RanFront-written : (text rest : List ℕ) (a b c : Script) (p q r : Option (List ℕ)) → RanFront text rest a b p q → Appends q r b.out.items → c.core.machine ≡ b.core.machine → c.refused ≡ b.refused → c.jobs ≡ b.jobs → c.out.items ≡ [] → RanFront text rest a c p r
+pub RanFront-written : (text rest : List ℕ) (a b c : Script) (p q r : Option (List ℕ)) → RanFront text rest a b p q → Appends q r b.out.items → c.core.machine ≡ b.core.machine → c.outcome ≡ b.outcome → c.jobs ≡ b.jobs → c.out.items ≡ [] → RanFront text rest a c p r
 RanFront-written text rest a b c p q r h w u d j o = record {
   lines = h.lines;
   ran = record {
@@ -194,7 +192,7 @@ RanFront-written text rest a b c p q r h w u d j o = record {
     each = h.ran.each;
     machine = u ∙ h.ran.machine;
     passes = Passes-then p q r (a.out.items ++ text_of h.ran.answers) b.out.items c.out.items h.ran.passes (Passes-all q r b.out.items c.out.items w o);
-    refused = d ∙ h.ran.refused;
+    outcome = d ∙ h.ran.outcome;
     jobs = j ∙ h.ran.jobs;
     good = λ l. subst IsGood (sym u) (h.ran.good l);
   };
@@ -206,7 +204,7 @@ pub RanFront-is : (text rest same : List ℕ) (a b : Script) (p q : Option (List
 RanFront-is text rest same a b p q e h = subst (λ (t : List ℕ). RanFront text t a b p q) (sym e) h
 
 -- nothing of the text is answered yet
-pub RanFront-none : (text : List ℕ) (a b : Script) (p : Option (List ℕ)) → b.core.machine ≡ a.core.machine → b.out.items ≡ a.out.items → b.refused ≡ a.refused → b.jobs ≡ a.jobs → RanFront text text a b p p
+pub RanFront-none : (text : List ℕ) (a b : Script) (p : Option (List ℕ)) → b.core.machine ≡ a.core.machine → b.out.items ≡ a.out.items → b.outcome ≡ a.outcome → b.jobs ≡ a.jobs → RanFront text text a b p p
 RanFront-none text a b p u o r j = record { lines = []; ran = Ran-none a b p u o r j; split = λ more. refl }
 
 pub RanFront-more : (text rest after : List ℕ) (ls : List (List ℕ)) (a b c : Script) (p q r : Option (List ℕ)) → RanFront text rest a b p q → Ran ls b c q r
@@ -305,13 +303,13 @@ halted-good ls a b p q h l = good_run (halts_of (left_open h.answers a.jobs)) (l
 
 -- and then the ending was written
 pub ended : (listed : Bool) (begun : List ℕ) (a b c : Script) (core : Machine) (p q r : Option (List ℕ)) → Ran (nonempty_line begun) a b p q → core ≡ run_of (halts_of b.jobs) b.core.machine → Appends q r (b.out.items ++ ending listed (after_units core.units initial).map)
-    → c.refused ≡ b.refused → RanEnd listed begun a c p r
+    → c.outcome ≡ b.outcome → RanEnd listed begun a c p r
 ended listed begun a b c core p q r h e w d = record {
   answers = h.answers;
   of_lines = h.of_lines;
   each = h.each;
   good = halted-good (nonempty_line begun) a b p q h;
-  refused = d ∙ h.refused;
+  outcome = d ∙ h.outcome;
   written = subst (λ (s : Machine). Appends p r ((a.out.items ++ text_of h.answers) ++ ending listed (after_units s.units initial).map)) (halted (nonempty_line begun) a b core p q h e)
       (Passes-Appends p q r _ _ (Passes-more p q (a.out.items ++ text_of h.answers) b.out.items (ending listed (after_units core.units initial).map) h.passes) w);
 }

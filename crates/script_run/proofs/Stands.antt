@@ -1,8 +1,7 @@
 -- How far a script has come.
-use Rattle.std.proofs.Common.{◌≡◌, ℕ, Bool, true, false, ◌||◌, List, [], ◌++◌, map, length, Option, Some, None, IfSome, refl, sym, ap, subst, ◌∙◌, append_assoc}
+use Rattle.std.proofs.Common.{◌≡◌, ℕ, Bool, true, List, [], ◌++◌, map, length, Option, Some, None, IfSome, refl, sym, ap, subst, ◌∙◌, append_assoc}
 use Rattle.std.proofs.lemmas.List.{append-nil, map-append, nil_from_length}
 use Rattle.std.proofs.lemmas.Grind.{flat_map-append}
-use Rattle.std.proofs.lemmas.List.Folds.{list_any-append}
 use Rattle.std.specs.Prelude.{⊤}
 use Rattle.std.specs.Io.KnownBytes.{Appends, Consumes, IsAtEnd, Keeps}
 use Rattle.std.specs.Ordering.{nat_cmp}
@@ -16,7 +15,9 @@ use Rattle.serial.specs.laws.Good.{good_run}
 use Rattle.listing.specs.Bytes.{WritesBeginning, WritesFront}
 use Rattle.script_run.specs.Lines.{nonempty_line, lines_of, has_no_end}
 use Rattle.script_run.proofs.Exact.{exact_output}
-use Rattle.script_run.specs.Output.{Answer, AreAnswers, left_by, exact_answers, left_open, halts_of, left_at_end, text_of, some_refused, ending, IsOutput, Wrote, IsBegun, HasAnsweredLines}
+use Rattle.script_run.proofs.Outcomes.{noted-then}
+use Rattle.script_run.specs.declared.outcome.Outcome.{Outcome}
+use Rattle.script_run.specs.Output.{Answer, AreAnswers, left_by, exact_answers, left_open, halts_of, left_at_end, text_of, noted, outcome_of, ending, IsOutput, Wrote, IsBegun, HasAnsweredLines}
 use Rattle.script_run.specs.Runs.{RanFront, BrokeFront, RanEnd, BrokeEnd, HasRead}
 use Rattle.script_run.specs.declared.answers.Script.{Script}
 use Rattle.listing.specs.laws.Bytes.{Appends-nothing, Appends-more, WritesBeginning-all, WritesBeginning-longer, WritesBeginning-then, Passes-Appends}
@@ -47,7 +48,7 @@ pub record Stands (start : Machine) (all left : Option (List ℕ)) (begun : List
   pub jobs : script.jobs ≡ left_open answers []
   pub good : IsGood script.core.machine
   pub out : script.out.items ≡ []
-  pub refused : script.refused ≡ some_refused answers
+  pub outcome : script.outcome ≡ outcome_of answers
   pub written : Appends old new (text_of answers)
   pub split : Follows all left (lines_in answers) begun
   pub whole : has_no_end begun ≡ true
@@ -56,7 +57,7 @@ Follows-start : (all : Option (List ℕ)) → Follows all all [] []
 Follows-start None = tt
 Follows-start (Some xs) = refl
 
-pub stands_first : (start : Machine) (all old : Option (List ℕ)) (begun : List ℕ) (script : Script) → script.core.machine ≡ start → script.jobs ≡ [] → script.out.items ≡ [] → script.refused ≡ false → begun ≡ [] → IsGood start → Stands start all all begun old old script
+pub stands_first : (start : Machine) (all old : Option (List ℕ)) (begun : List ℕ) (script : Script) → script.core.machine ≡ start → script.jobs ≡ [] → script.out.items ≡ [] → script.outcome ≡ outcome_of [] → begun ≡ [] → IsGood start → Stands start all all begun old old script
 stands_first start all old begun script u j o r b good = record {
   answers = [];
   each = tt;
@@ -64,7 +65,7 @@ stands_first start all old begun script u j o r b good = record {
   jobs = j;
   good = subst IsGood (sym u) good;
   out = o;
-  refused = r;
+  outcome = r;
   written = Appends-nothing old;
   split = subst (λ (l : List ℕ). Follows all all [] l) (sym b) (Follows-start all);
   whole = subst (λ (l : List ℕ). has_no_end l ≡ true) (sym b) refl;
@@ -108,7 +109,7 @@ stands_next start all left left' old new new' begun piece rest a b h r f w o = r
   jobs = f.ran.jobs ∙ open-then [] a.jobs h.answers f.ran.answers h.jobs;
   good = f.ran.good h.good;
   out = o;
-  refused = f.ran.refused ∙ ap (λ (x : Bool). x || some_refused f.ran.answers) h.refused ∙ sym (list_any-append _ h.answers f.ran.answers);
+  outcome = f.ran.outcome ∙ ap (noted f.ran.answers) h.outcome ∙ noted-then h.answers f.ran.answers (outcome_of []);
   written = written-next old new new' h.answers f.ran.answers a b h.written h.out f.ran.passes o;
   split = Follows-piece all left left' begun piece rest h.answers f.ran.answers f.lines h.split r.consumed f.ran.of_lines f.split;
   whole = w;
@@ -116,8 +117,8 @@ stands_next start all left left' old new new' begun piece rest a b h r f w o = r
 
 pub record Goes (start : Machine) (listed : Bool) (bytes text : List ℕ) : Type 0 where
   pub more : List ℕ
-  pub refused : Bool
-  pub output : IsOutput start listed bytes (text ++ more) refused
+  pub outcome : Outcome
+  pub output : IsOutput start listed bytes (text ++ more) outcome
 
 -- a text of answers goes on to a whole output
 pub goes_on : (start : Machine) (listed : Bool) (bytes : List ℕ) (answers : List Answer) (rest : List (List ℕ)) → lines_of bytes ≡ lines_in answers ++ rest → AreAnswers start answers → IsGood (left_by answers start) → Goes start listed bytes (text_of answers)
@@ -129,7 +130,7 @@ goes_on start listed bytes answers rest e each good =
     let ends : IsGood (left_at_end whole [] start) = good_run (halts_of (left_open whole [])) (left_by whole start) (subst IsGood (sym (left-append answers more start)) (exact-good rest left good)) in
     record {
       more = text_of more ++ tail;
-      refused = some_refused whole;
+      outcome = outcome_of whole;
       output = record {
         answers = whole;
         of_lines = lines-append answers more ∙ ap (λ (l : List (List ℕ)). lines_in answers ++ l) (exact-lines rest left) ∙ sym e;
@@ -148,7 +149,7 @@ begun_of start listed None left old new answers begun f each good w = tt
 begun_of start listed (Some bytes) None old new answers begun f each good w = absurd f
 begun_of start listed (Some bytes) (Some more) old new answers begun f each good w =
     let g = goes_on start listed bytes answers (lines_of (begun ++ more)) f each good in
-    record { text = text_of answers ++ g.more; refused = g.refused; output = g.output; written = WritesBeginning-longer old new (text_of answers) g.more w }
+    record { text = text_of answers ++ g.more; outcome = g.outcome; output = g.output; written = WritesBeginning-longer old new (text_of answers) g.more w }
 
 -- nothing was done yet
 pub begun_first : (start : Machine) (listed : Bool) (all old : Option (List ℕ)) → IsGood start → IfSome all (λ bytes. IsBegun start listed bytes old old)
@@ -179,7 +180,7 @@ at_end bytes (Some more) (Some more') ls begun piece h k p e =
 -- the whole output, of the answers before the end of input and of that to the last line
 whole_output : (start : Machine) (listed : Bool) (bytes : List ℕ) (left left' old new : Option (List ℕ)) (begun piece : List ℕ) (a : Script) (last : List Answer) (h : Stands start (Some bytes) left begun old new a) → HasRead left left' piece → length piece ≡ 0
     → lines_in last ≡ nonempty_line begun → AreAnswers a.core.machine last → (IsGood a.core.machine → IsGood (left_at_end last a.jobs a.core.machine))
-    → IsOutput start listed bytes (text_of h.answers ++ ((a.out.items ++ text_of last) ++ ending listed (after (left_at_end last a.jobs a.core.machine).units initial).map)) (a.refused || some_refused last)
+    → IsOutput start listed bytes (text_of h.answers ++ ((a.out.items ++ text_of last) ++ ending listed (after (left_at_end last a.jobs a.core.machine).units initial).map)) (noted last a.outcome)
 whole_output start listed bytes left left' old new begun piece a last h r none of_lines each good =
     let whole : List Answer = h.answers ++ last in
     let left-is : left_by last a.core.machine ≡ left_by whole start = left-then start a.core.machine h.answers last h.machine in
@@ -193,19 +194,19 @@ whole_output start listed bytes left left' old new begun piece a last h r none o
       legal = (subst IsGood end-is (good h.good)).legal;
       written = ap (λ (t : List ℕ). text_of h.answers ++ ((t ++ text_of last) ++ tail)) h.out ∙ sym (append_assoc (text_of h.answers) (text_of last) tail) ∙ ap (λ (t : List ℕ). t ++ tail) (sym (flat_map-append _ h.answers last))
           ∙ ap (λ (s : Machine). text_of whole ++ ending listed (after s.units initial).map) end-is;
-      told = ap (λ (x : Bool). x || some_refused last) h.refused ∙ sym (list_any-append _ h.answers last);
+      told = ap (noted last) h.outcome ∙ noted-then h.answers last (outcome_of []);
     }
 
 pub wrote_all : (start : Machine) (listed : Bool) (all left left' old new last : Option (List ℕ)) (begun piece : List ℕ) (a b : Script) → Stands start all left begun old new a → HasRead left left' piece → length piece ≡ 0 → RanEnd listed begun a b new last
-    → IfSome all (λ bytes. Wrote start listed bytes b.refused old last)
+    → IfSome all (λ bytes. Wrote start listed bytes b.outcome old last)
 wrote_all start listed None left left' old new last begun piece a b h r none e = tt
 wrote_all start listed (Some bytes) left left' old new last begun piece a b h r none e =
     let end : List ℕ = (a.out.items ++ text_of e.answers) ++ ending listed (after (left_at_end e.answers a.jobs a.core.machine).units initial).map in
-    let output : IsOutput start listed bytes (text_of h.answers ++ end) b.refused = subst (IsOutput start listed bytes (text_of h.answers ++ end)) (sym e.refused) (whole_output start listed bytes left left' old new begun piece a e.answers h r none e.of_lines e.each e.good) in
+    let output : IsOutput start listed bytes (text_of h.answers ++ end) b.outcome = subst (IsOutput start listed bytes (text_of h.answers ++ end)) (sym e.outcome) (whole_output start listed bytes left left' old new begun piece a e.answers h r none e.of_lines e.each e.good) in
     record {
       text = text_of h.answers ++ end;
       output = output;
-      exact = exact_output start listed bytes (text_of h.answers ++ end) b.refused output;
+      exact = exact_output start listed bytes (text_of h.answers ++ end) b.outcome output;
       written = Appends-more old new last (text_of h.answers) end h.written e.written;
     }
 
@@ -217,7 +218,7 @@ begun_end start listed (Some bytes) left left' old new last begun piece a h r no
     let end : List ℕ = (a.out.items ++ text_of e.answers) ++ ending listed (after (left_at_end e.answers a.jobs a.core.machine).units initial).map in
     record {
       text = text_of h.answers ++ end;
-      refused = a.refused || some_refused e.answers;
+      outcome = noted e.answers a.outcome;
       output = whole_output start listed bytes left left' old new begun piece a e.answers h r none e.of_lines e.each e.good;
       written = WritesBeginning-then old new last (text_of h.answers) end h.written e.begun;
     }

@@ -24,7 +24,7 @@ use Rattle.script_run.specs.declared.fault.Fault.{Fault}
 use Rattle.script_run.specs.declared.fault.Fault.TheVariants.{Memory}
 use Rattle.script_run.specs.Faults.{fault_of}
 use Rattle.script_run.specs.Lines.{nonempty_line, lines_of, has_no_end}
-use Rattle.script_run.specs.Output.{Answer, asked_by, IsAnswer, AreAnswers, told_by, left_by, left_open, left_at_end, halts_of, text_of, some_refused, ending, IsBegun, IsEndingFront, HasKept}
+use Rattle.script_run.specs.Output.{Answer, asked_by, IsAnswer, AreAnswers, told_by, left_by, left_open, left_at_end, halts_of, text_of, outcome_of, ending, IsBegun, IsEndingFront, HasKept}
 use Rattle.script_run.specs.Runs.{Ran, RanFront, HasRead, Stopped, StoppedFront, EndedFront, StoppedEnd, HasGathered}
 use Rattle.script_run.specs.declared.answers.Script.{Script}
 use Rattle.script_run.specs.laws.Lines.{last_line}
@@ -342,7 +342,7 @@ begun_known start listed bytes script old new last h w = by_front h.front
         let g = goes_on start listed bytes h.answers (lines_in h.lost ++ h.unread) h.of_lines (each-front start h.answers h.lost h.each) h.good in
         record {
           text = text_of h.answers ++ g.more;
-          refused = g.refused;
+          outcome = g.outcome;
           output = g.output;
           written = WritesBeginning-longer old last (text_of h.answers) g.more (subst (WritesBeginning old last) (ap (λ (ts : List ℕ). text_of h.answers ++ ts) none ∙ append-nil (text_of h.answers)) begun);
         }
@@ -355,7 +355,7 @@ begun_known start listed bytes script old new last h w = by_front h.front
         ∙ sym (append_assoc (codes "--\n") front.nodes more) ∙ ap (λ (ts : List ℕ). ts ++ more) (sym front.headed) in
         record {
           text = (text_of h.answers ++ h.behind) ++ more;
-          refused = some_refused h.answers;
+          outcome = outcome_of h.answers;
           output = record {
             answers = h.answers;
             of_lines = sym (h.of_lines ∙ ap (λ (l : List (List ℕ)). lines_in h.answers ++ l) front.none_left ∙ append-nil (lines_in h.answers));

@@ -1,6 +1,6 @@
 -- What a script writes.
 -- Read IsOutput, output_of, Wrote, IsBegun, HasAnsweredLines and HasKept; the contract of run_script cites these.
-use Rattle.std.specs.Prelude.{◌≡◌, ◌⊎◌, ⊤, ℕ, Bool, true, false, not, ◌&&◌, List, [], ◌∷◌, ◌++◌, map, Option, Result, Ok, Err, codes}
+use Rattle.std.specs.Prelude.{◌≡◌, ◌⊎◌, ⊤, ℕ, Bool, true, false, not, ◌&&◌, ◌||◌, List, [], ◌∷◌, ◌++◌, map, Option, Result, Ok, Err, codes}
 use Rattle.std.specs.List.{flat_map, list_any}
 use Rattle.std.specs.Io.KnownBytes.{Appends}
 use Rattle.refusal.specs.declared.Refusal.{Refusal}
@@ -20,6 +20,7 @@ use Rattle.listing.specs.Listing.{listing_text, IsListedFront}
 use Rattle.listing.specs.Bytes.{WritesBeginning}
 use Rattle.script_run.specs.Lines.{lines_of, has_no_end}
 use Rattle.script_run.specs.OpenJobs.{open_after}
+use Rattle.script_run.specs.declared.outcome.Outcome.{Outcome}
 
 -- a line and its reply
 abbrev pub Answer : Type 0
@@ -65,6 +66,22 @@ is_refused (Refused refusal) = true
 abbrev pub some_refused : List Answer → Bool
 some_refused answers = list_any (λ a. is_refused a.1) answers
 
+-- a reply tells that memory was wanting
+abbrev pub some_wanting : List Answer → Bool
+some_wanting answers = list_any (λ a. is_out_of_memory a.1) answers
+
+-- how a script goes with one reply more
+abbrev pub with_reply : Reply → Outcome → Outcome
+with_reply reply before = record { refused = before.refused || is_refused reply; wanting = before.wanting || is_out_of_memory reply }
+
+-- and with these answers more
+abbrev pub noted : List Answer → Outcome → Outcome
+noted answers before = record { refused = before.refused || some_refused answers; wanting = before.wanting || some_wanting answers }
+
+-- how a script went that has these answers
+abbrev pub outcome_of : List Answer → Outcome
+outcome_of answers = record { refused = some_refused answers; wanting = some_wanting answers }
+
 -- ---- the end of input
 
 -- the command is HALT
@@ -106,14 +123,14 @@ abbrev pub ending : Bool → Database → List ℕ
 ending true m = codes "--\n" ++ listing_text m
 ending false m = []
 
--- the text of a script's output, with or without the listing, and whether a reply in it is a refusal
-pub record IsOutput (start : Machine) (listed : Bool) (bytes text : List ℕ) (refused : Bool) : Type 0 where
+-- the text of a script's output, with or without the listing, and how the script went
+pub record IsOutput (start : Machine) (listed : Bool) (bytes text : List ℕ) (outcome : Outcome) : Type 0 where
   pub answers : List Answer
   pub of_lines : map (λ a. a.0) answers ≡ lines_of bytes
   pub each : AreAnswers start answers
   pub legal : IsLegal (left_at_end answers [] start).units initial
   pub written : text ≡ text_of answers ++ ending listed (after (left_at_end answers [] start).units initial).map
-  pub told : refused ≡ some_refused answers
+  pub told : outcome ≡ outcome_of answers
 
 -- ---- where memory is never wanting
 
@@ -135,24 +152,20 @@ text_with_ending start listed answers = text_of answers ++ ending listed (after 
 abbrev pub output_of : Machine → Bool → List ℕ → List ℕ
 output_of start listed bytes = text_with_ending start listed (exact_answers (lines_of bytes) start)
 
--- a reply tells that memory was wanting
-abbrev pub some_wanting : List Answer → Bool
-some_wanting answers = list_any (λ a. is_out_of_memory a.1) answers
-
 -- ---- what was written
 
 -- such a text was written; where no reply tells of a want of memory, just that of the bytes read
-pub record Wrote (start : Machine) (listed : Bool) (bytes : List ℕ) (refused : Bool) (old new : Option (List ℕ)) : Type 0 where
+pub record Wrote (start : Machine) (listed : Bool) (bytes : List ℕ) (outcome : Outcome) (old new : Option (List ℕ)) : Type 0 where
   pub text : List ℕ
-  pub output : IsOutput start listed bytes text refused
-  pub exact : some_wanting output.answers ≡ false → text ≡ output_of start listed bytes
+  pub output : IsOutput start listed bytes text outcome
+  pub exact : outcome.wanting ≡ false → text ≡ output_of start listed bytes
   pub written : Appends old new text
 
 -- a beginning of such a text was written
 pub record IsBegun (start : Machine) (listed : Bool) (bytes : List ℕ) (old new : Option (List ℕ)) : Type 0 where
   pub text : List ℕ
-  pub refused : Bool
-  pub output : IsOutput start listed bytes text refused
+  pub outcome : Outcome
+  pub output : IsOutput start listed bytes text outcome
   pub written : WritesBeginning old new text
 
 -- the lines that ended before what is left were answered, and just their replies were written

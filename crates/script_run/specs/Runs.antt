@@ -1,5 +1,5 @@
 -- What the private functions of a run do to its state and to the writer.
-use Rattle.std.specs.Prelude.{◌≡◌, ◌≤◌, ◌⊎◌, ℕ, Bool, ◌||◌, List, [], ◌++◌, map, Option, length}
+use Rattle.std.specs.Prelude.{◌≡◌, ◌≤◌, ◌⊎◌, ℕ, Bool, List, [], ◌++◌, map, Option, length}
 use Rattle.std.specs.Io.KnownBytes.{Appends, Consumes, IsAtEnd}
 use Rattle.collation.specs.Database.{Database}
 use Rattle.journal.specs.History.{initial, after}
@@ -7,7 +7,7 @@ use Rattle.journal.specs.Story.{Machine}
 use Rattle.serial.specs.Soundness.{IsGood}
 use Rattle.listing.specs.Bytes.{WritesBeginning, WritesFront}
 use Rattle.script_run.specs.Lines.{nonempty_line, lines_of}
-use Rattle.script_run.specs.Output.{Answer, AreAnswers, left_by, left_open, left_at_end, text_of, some_refused, ending, IsEndingFront}
+use Rattle.script_run.specs.Output.{Answer, AreAnswers, left_by, left_open, left_at_end, text_of, noted, ending, IsEndingFront}
 use Rattle.script_run.specs.declared.answers.Script.{Script}
 
 -- the lines were answered, one after the other, and each reply was written or is gathered
@@ -17,7 +17,7 @@ pub record Ran (lines : List (List ℕ)) (old new : Script) (before now : Option
   pub each : AreAnswers old.core.machine answers
   pub machine : new.core.machine ≡ left_by answers old.core.machine
   pub passes : WritesFront before now (old.out.items ++ text_of answers) new.out.items
-  pub refused : new.refused ≡ (old.refused || some_refused answers)
+  pub outcome : new.outcome ≡ noted answers old.outcome
   pub jobs : new.jobs ≡ left_open answers old.jobs
   pub good : IsGood old.core.machine → IsGood new.core.machine
 
@@ -48,7 +48,7 @@ pub record RanEnd (listed : Bool) (line : List ℕ) (old new : Script) (before n
   pub of_lines : map (λ a. a.0) answers ≡ nonempty_line line
   pub each : AreAnswers old.core.machine answers
   pub good : IsGood old.core.machine → IsGood (left_at_end answers old.jobs old.core.machine)
-  pub refused : new.refused ≡ (old.refused || some_refused answers)
+  pub outcome : new.outcome ≡ noted answers old.outcome
   pub written : Appends before now ((old.out.items ++ text_of answers) ++ ending listed (after (left_at_end answers old.jobs old.core.machine).units initial).map)
 
 -- a beginning of that was written

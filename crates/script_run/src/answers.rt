@@ -1,14 +1,15 @@
 //! A line, its reply, and the reply's text.
-ghost use Rattle.std.specs.Prelude.{◌≡◌, ◌++◌, ◌∷◌, [], OnOk, OnErr, IsErrOf, ◌||◌, ◌&&◌, not};
+ghost use Rattle.std.specs.Prelude.{◌≡◌, ◌++◌, ◌∷◌, [], OnOk, OnErr, IsErrOf, ◌&&◌, not};
 ghost use Rattle.script.specs.Line.{job_of_line};
 ghost use Rattle.listing.specs.Bytes.{IsOneMore};
 ghost use Rattle.script_run.specs.Lines.{nonempty_line};
-ghost use Rattle.script_run.specs.Output.{asked_by, ends_session, is_halt as is_halt_command, IsAnswer, told_by, is_refused as refused_of};
+ghost use Rattle.script_run.specs.Output.{asked_by, ends_session, is_halt as is_halt_command, IsAnswer, told_by};
 ghost use Rattle.script_run.specs.Runs.{Ran, Broke, Stopped};
 
-use crate::RefusalLog;
 use crate::open_jobs::OpenJobs;
+use crate::outcome::is_refusal;
 use crate::upkeep::{Due, keep_up};
+use crate::{Outcome, RunLog};
 use collation::Job;
 use command::{Command, Reply};
 use job_core::JobCore;
@@ -18,15 +19,15 @@ use std::alloc::Global;
 use std::io::Write;
 
 // The machine, the open jobs, the references of the line that is read, the text that is gathered and not yet written,
-// whether a reply was a refusal, how many lines came, empty ones too, and when the collector passes and a checkpoint is
-// taken next. The number of lines saturates.
+// how it went so far, how many lines came, empty ones too, and when the collector passes and a checkpoint is taken next.
+// The number of lines saturates.
 #[derive(Drop)]
 pub(crate) struct Script {
     pub(crate) core: JobCore,
     pub(crate) jobs: OpenJobs,
     pub(crate) drafts: Drafts,
     pub(crate) out: Vec<u8>,
-    pub(crate) refused: bool,
+    pub(crate) outcome: Outcome,
     pub(crate) lines: u64,
     pub(crate) due: Due,
 }
@@ -35,12 +36,6 @@ fn is_halt(command: &Command) -> bool
     ensures { result ≡ is_halt_command command.now }
 {
     matches!(command, Command::Halt)
-}
-
-fn is_refusal(reply: &Reply) -> bool
-    ensures { result ≡ refused_of reply.now }
-{
-    matches!(reply, Reply::Refused(_))
 }
 
 fn is_done(halts: bool, refused: bool) -> bool
@@ -72,23 +67,11 @@ fn answer_line(
     }
 }
 
-// Tells the log of a refusal, and answers whether it is one.
-fn log_reply(log: &mut impl RefusalLog, number: u64, line: &[u8], reply: &Reply) -> bool
-    ensures { result ≡ refused_of reply.now }
-{
-    match reply {
-        Reply::Refused(refusal) => {
-            log.refused(number, line, *refusal);
-            true
-        }
-        _ => false,
+// Tells the log of a refusal.
+fn log_reply(log: &mut impl RunLog, number: u64, line: &[u8], reply: &Reply) {
+    if let Reply::Refused(refusal) = reply {
+        log.refused(number, line, *refusal);
     }
-}
-
-fn either(a: bool, b: bool) -> bool
-    ensures { result ≡ (a || b) }
-{
-    a || b
 }
 
 // The reply is gathered, and what is gathered written once it is enough. Then come the collector's pass and a
@@ -98,7 +81,7 @@ fn run_line<W: Write>(
     script: &mut Script,
     line: &[u8],
     writer: &mut Counted<W>,
-    log: &mut impl RefusalLog,
+    log: &mut impl RunLog,
 ) -> Result<(), ListingFault>
     ensures ran { OnOk result (Ran (line.now ∷ []) script.old script.new (W.contents writer.old.inner) (W.contents writer.new.inner)) }
     ensures err { OnErr result (Broke (line.now ∷ []) script.old (W.contents writer.old.inner) (W.contents writer.new.inner)) }
@@ -109,8 +92,8 @@ fn run_line<W: Write>(
 {
     let (job, ended, reply) = answer_line(alloc, &mut script.core, &mut script.drafts, line);
     script.jobs.note_line(&job, ended);
-    let refused = log_reply(log, script.lines, line, &reply);
-    script.refused = either(script.refused, refused);
+    log_reply(log, script.lines, line, &reply);
+    script.outcome = script.outcome.with(&reply);
     write_reply(job, &reply, &mut script.out)?;
     writer.write_full(&mut script.out)?;
     keep_up(&mut script.due, &mut script.core);
@@ -123,7 +106,7 @@ pub(crate) fn run_kept<W: Write>(
     script: &mut Script,
     line: &[u8],
     writer: &mut Counted<W>,
-    log: &mut impl RefusalLog,
+    log: &mut impl RunLog,
 ) -> Result<(), ListingFault>
     ensures ran { OnOk result (Ran (nonempty_line line.now) script.old script.new (W.contents writer.old.inner) (W.contents writer.new.inner)) }
     ensures err { OnErr result (Broke (nonempty_line line.now) script.old (W.contents writer.old.inner) (W.contents writer.new.inner)) }

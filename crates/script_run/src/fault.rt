@@ -53,8 +53,8 @@ pub fn status_of(outcome: &Result<Outcome, Fault>) -> u8
     ensures fault { OnErr outcome.now (result ≡ 2) }
 {
     match outcome {
-        Ok(Outcome { refused: false }) => 0,
-        Ok(Outcome { refused: true }) => 1,
+        Ok(Outcome { refused: false, .. }) => 0,
+        Ok(Outcome { refused: true, .. }) => 1,
         Err(_) => 2,
     }
 }

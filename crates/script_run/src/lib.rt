@@ -17,15 +17,16 @@
 //! After each so many replies as the caller says the collector passes over the store, and a checkpoint is taken
 //! (`upkeep.rt`). Both leave the machine, so no clause names them.
 //!
-//! Read `specs/Lines.antt`, `specs/OpenJobs.antt`, `specs/Output.antt`, then `answers.rt`, `open_jobs.rt`,
+//! Read `specs/Lines.antt`, `specs/OpenJobs.antt`, `specs/Output.antt`, then `outcome.rt`, `answers.rt`, `open_jobs.rt`,
 //! `upkeep.rt`, `lines.rt`, `run.rt`.
 //! Not promised: that memory is there; how the text is cut into writes; what a log is told.
 #![tactic(auto)]
 
 pub use fault::{Fault, status_of};
 pub use laws::lines_are_cut_at_their_ends;
-pub use log::{NoLog, RefusalLog};
-pub use run::{Outcome, run_script, run_with, run_with_core};
+pub use log::{NoLog, RunLog};
+pub use outcome::Outcome;
+pub use run::{run_script, run_with, run_with_core};
 pub use upkeep::Upkeep;
 
 mod answers;
@@ -34,5 +35,6 @@ mod laws;
 mod lines;
 mod log;
 mod open_jobs;
+mod outcome;
 mod run;
 mod upkeep;

@@ -7,7 +7,7 @@ ghost use Rattle.listing.specs.Bytes.{IsOneMore};
 ghost use Rattle.script_run.specs.Lines.{nonempty_line, has_no_end};
 ghost use Rattle.script_run.specs.Runs.{Ran, Broke, RanFront, BrokeFront, Stopped, StoppedFront};
 
-use crate::RefusalLog;
+use crate::RunLog;
 use crate::answers::{Script, run_kept};
 use bstr::ByteSlice;
 use listing::{Counted, ListingFault};
@@ -38,7 +38,7 @@ fn run_lines<W: Write>(
     script: &mut Script,
     text: &[u8],
     writer: &mut Counted<W>,
-    log: &mut impl RefusalLog,
+    log: &mut impl RunLog,
 ) -> Result<usize, ListingFault>
     ensures in_range { IfOk result (λ at. at ≤ length text.now) }
     ensures ran { IfOk result (λ at. RanFront text.now (drop at text.now) script.old script.new (W.contents writer.old.inner) (W.contents writer.new.inner)) }
@@ -89,7 +89,7 @@ fn end_line<W: Write>(
     begun: &mut Vec<u8>,
     front: &[u8],
     writer: &mut Counted<W>,
-    log: &mut impl RefusalLog,
+    log: &mut impl RunLog,
 ) -> Result<(), ListingFault>
     ensures ran { OnOk result (Ran (nonempty_line (strip_last byte.carriage_return (begun.old.items ++ front.now))) script.old script.new (W.contents writer.old.inner) (W.contents writer.new.inner)) }
     ensures begun { OnOk result (begun.new.items ≡ []) }
@@ -115,7 +115,7 @@ pub(crate) fn run_piece<W: Write>(
     begun: &mut Vec<u8>,
     piece: &[u8],
     writer: &mut Counted<W>,
-    log: &mut impl RefusalLog,
+    log: &mut impl RunLog,
 ) -> Result<(), ListingFault>
     requires { has_no_end begun.old.items ≡ true }
     ensures ran { OnOk result (RanFront (begun.old.items ++ piece.now) begun.new.items script.old script.new (W.contents writer.old.inner) (W.contents writer.new.inner)) }

@@ -1,16 +1,22 @@
-//! What is told of refused lines beside their replies.
+//! What is told of a run beside its text.
+use job_core::JobCore;
 use refusal::Refusal;
 
-/// Told of each refused line while a script runs. What it does with that is no part of any promise.
-pub trait RefusalLog {
+/// Told of a script while it runs. What it does with that is no part of any promise.
+pub trait RunLog {
     /// Line `number` of the input was refused. Lines are counted from 1, empty ones too.
     fn refused(&mut self, number: u64, line: &[u8], refusal: Refusal);
+
+    /// The run is over, well or not. This is what the core holds then; after a fault no open job was halted.
+    fn ended(&mut self, core: &JobCore);
 }
 
 /// A log that keeps nothing.
 #[derive(Clone, Copy, Debug, PartialEq, Eq)]
 pub struct NoLog;
 
-impl RefusalLog for NoLog {
+impl RunLog for NoLog {
     fn refused(&mut self, _number: u64, _line: &[u8], _refusal: Refusal) {}
+
+    fn ended(&mut self, _core: &JobCore) {}
 }

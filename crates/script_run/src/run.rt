@@ -7,14 +7,14 @@ ghost use Rattle.journal.specs.Story.{nothing_done};
 ghost use Rattle.serial.specs.Soundness.{IsGood};
 ghost use Rattle.listing.specs.Bytes.{IsOneMore, WritesBeginning};
 ghost use Rattle.script_run.specs.Lines.{has_no_end};
-ghost use Rattle.script_run.specs.Output.{ending, Wrote, IsBegun, HasAnsweredLines, HasKept};
+ghost use Rattle.script_run.specs.Output.{ending, outcome_of, Wrote, IsBegun, HasAnsweredLines, HasKept};
 ghost use Rattle.script_run.specs.Runs.{RanFront, BrokeFront, RanEnd, BrokeEnd, HasRead, StoppedFront, EndedFront, StoppedEnd, HasGathered};
 
 use crate::answers::{Script, run_kept};
 use crate::lines::run_piece;
 use crate::open_jobs::{OpenJobs, halt_open};
 use crate::upkeep::Due;
-use crate::{Fault, NoLog, RefusalLog, Upkeep};
+use crate::{Fault, NoLog, Outcome, RunLog, Upkeep};
 use job_core::JobCore;
 use listing::{Counted, ListingFault, ReadFault, write_listing_after};
 use script::Drafts;
@@ -27,13 +27,6 @@ const PIECE_BYTES: usize = 65536;
 // The buffer of replies and of the listing. Text is written once 16,384 bytes are gathered, and the longest line comes
 // to some 265,000: a value of 32,767 bytes and 31 subscripts of 255, at six and a half bytes for each.
 const OUT_BYTES: usize = 294912;
-
-/// How a script went.
-#[derive(Clone, Copy, Debug, PartialEq, Eq)]
-pub struct Outcome {
-    /// Whether one of the replies is a refusal.
-    pub refused: bool,
-}
 
 // Reads once. Nothing came only where nothing is left.
 fn read_piece<'a, R: Read>(
@@ -67,7 +60,7 @@ fn take_piece<W: Write>(
     begun: &mut Vec<u8>,
     piece: &[u8],
     writer: &mut Counted<W>,
-    log: &mut impl RefusalLog,
+    log: &mut impl RunLog,
 ) -> Result<(), ListingFault>
     requires { has_no_end begun.old.items ≡ true }
     ensures ran { OnOk result (RanFront (begun.old.items ++ piece.now) begun.new.items script.old script.new (W.contents writer.old.inner) (W.contents writer.new.inner)) }
@@ -93,7 +86,7 @@ fn write_ending<W: Write>(
 ) -> Result<(), ListingFault>
     ensures ok { OnOk result (Appends (W.contents writer.old.inner) (W.contents writer.new.inner) (script.old.out.items ++ ending listed (after script.old.core.machine.units initial).map)) }
     ensures err { OnErr result (WritesBeginning (W.contents writer.old.inner) (W.contents writer.new.inner) (script.old.out.items ++ ending listed (after script.old.core.machine.units initial).map)) }
-    ensures refused { script.new.refused ≡ script.old.refused }
+    ensures outcome { script.new.outcome ≡ script.old.outcome }
     ensures counts { OnOk result (writer.new.failures ≡ writer.old.failures) }
     ensures counted { IsErrOf result ListingFault.Write → IsOneMore writer.old.failures writer.new.failures }
     ensures memory { IsErrOf result ListingFault.Memory → writer.new.failures ≡ writer.old.failures }
@@ -116,7 +109,7 @@ fn finish<W: Write>(
     script: &mut Script,
     begun: &[u8],
     writer: &mut Counted<W>,
-    log: &mut impl RefusalLog,
+    log: &mut impl RunLog,
 ) -> Result<(), ListingFault>
     ensures ran { OnOk result (RanEnd listed begun.now script.old script.new (W.contents writer.old.inner) (W.contents writer.new.inner)) }
     ensures err { OnErr result (BrokeEnd listed begun.now script.old (W.contents writer.old.inner) (W.contents writer.new.inner)) }
@@ -138,14 +131,14 @@ fn run_pieces<R: Read, W: Write>(
     script: &mut Script,
     reader: &mut Counted<R>,
     writer: &mut Counted<W>,
-    log: &mut impl RefusalLog,
+    log: &mut impl RunLog,
 ) -> Result<(), Fault>
     requires good { IsGood script.old.core.machine }
     requires jobs { script.old.jobs ≡ [] }
     requires out { script.old.out.items ≡ [] }
-    requires refused { script.old.refused ≡ false }
+    requires outcome { script.old.outcome ≡ outcome_of [] }
     ensures output { OnOk result (IfSome (R.remaining reader.old.inner)
-        (λ bytes. Wrote script.old.core.machine listed bytes script.new.refused (W.contents writer.old.inner) (W.contents writer.new.inner))) }
+        (λ bytes. Wrote script.old.core.machine listed bytes script.new.outcome (W.contents writer.old.inner) (W.contents writer.new.inner))) }
     ensures at_end { OnOk result (IsAtEnd (R.remaining reader.new.inner)) }
     ensures begun { OnErr result (IfSome (R.remaining reader.old.inner)
         (λ bytes. IsBegun script.old.core.machine listed bytes (W.contents writer.old.inner) (W.contents writer.new.inner))) }
@@ -171,6 +164,12 @@ fn run_pieces<R: Read, W: Write>(
     Err(Fault::Memory)
 }
 
+// Shows the log what the core holds, and gives all back.
+fn end(script: Script, log: &mut impl RunLog) {
+    log.ended(&script.core);
+    drop(script);
+}
+
 // A script that is new, to its end.
 fn run_whole<R: Read, W: Write>(
     alloc: Global,
@@ -178,14 +177,14 @@ fn run_whole<R: Read, W: Write>(
     mut script: Script,
     reader: &mut Counted<R>,
     writer: &mut Counted<W>,
-    log: &mut impl RefusalLog,
+    log: &mut impl RunLog,
 ) -> Result<Outcome, Fault>
     requires good { IsGood script.core.machine }
     requires jobs { script.jobs ≡ [] }
     requires out { script.out.items ≡ [] }
-    requires refused { script.refused ≡ false }
+    requires outcome { script.outcome ≡ outcome_of [] }
     ensures output { IfOk result (λ outcome. IfSome (R.remaining reader.old.inner)
-        (λ bytes. Wrote script.core.machine listed bytes outcome.refused (W.contents writer.old.inner) (W.contents writer.new.inner))) }
+        (λ bytes. Wrote script.core.machine listed bytes outcome (W.contents writer.old.inner) (W.contents writer.new.inner))) }
     ensures at_end { OnOk result (IsAtEnd (R.remaining reader.new.inner)) }
     ensures begun { OnErr result (IfSome (R.remaining reader.old.inner)
         (λ bytes. IsBegun script.core.machine listed bytes (W.contents writer.old.inner) (W.contents writer.new.inner))) }
@@ -200,20 +199,20 @@ fn run_whole<R: Read, W: Write>(
 {
     match run_pieces(alloc, listed, &mut script, reader, writer, log) {
         Ok(()) => {
-            let refused = script.refused;
-            drop(script);
-            Ok(Outcome { refused })
+            let outcome = script.outcome;
+            end(script, log);
+            Ok(outcome)
         }
         Err(Fault::Memory) => {
             let written = writer.write_gathered(&mut script.out);
-            drop(script);
+            end(script, log);
             match written {
                 Ok(()) => Err(Fault::Memory),
                 Err(_) => Err(Fault::Write),
             }
         }
         Err(fault) => {
-            drop(script);
+            end(script, log);
             Err(fault)
         }
     }
@@ -228,12 +227,12 @@ pub fn run_with_core<R: Read, W: Write>(
     upkeep: Upkeep,
     reader: &mut Counted<R>,
     writer: &mut Counted<W>,
-    log: &mut impl RefusalLog,
+    log: &mut impl RunLog,
 ) -> Result<Outcome, Fault>
     requires legal { IsLegal core.machine.units initial }
     requires closed { core.machine.transactions ≡ finmap.empty }
     ensures output { IfOk result (λ outcome. IfSome (R.remaining reader.old.inner)
-        (λ bytes. Wrote core.machine listed bytes outcome.refused (W.contents writer.old.inner) (W.contents writer.new.inner))) }
+        (λ bytes. Wrote core.machine listed bytes outcome (W.contents writer.old.inner) (W.contents writer.new.inner))) }
     ensures at_end { OnOk result (IsAtEnd (R.remaining reader.new.inner)) }
     ensures begun { OnErr result (IfSome (R.remaining reader.old.inner)
         (λ bytes. IsBegun core.machine listed bytes (W.contents writer.old.inner) (W.contents writer.new.inner))) }
@@ -253,7 +252,7 @@ pub fn run_with_core<R: Read, W: Write>(
                 jobs,
                 drafts: Drafts::new(alloc),
                 out,
-                refused: false,
+                outcome: Outcome::new(),
                 lines: 0,
                 due: Due::new(upkeep),
             };
@@ -266,8 +265,8 @@ pub fn run_with_core<R: Read, W: Write>(
     }
 }
 
-/// Runs a script as `run_script` does. Without `listed` neither `--` nor the listing is written, and `log` is told of
-/// each refused line.
+/// Runs a script as `run_script` does. Without `listed` neither `--` nor the listing is written. `log` is told of each
+/// refused line, and once of what the core holds when the run is over.
 ///
 /// The clauses name no `upkeep`: what is written is promised alike for each.
 pub fn run_with<R: Read, W: Write>(
@@ -276,10 +275,10 @@ pub fn run_with<R: Read, W: Write>(
     upkeep: Upkeep,
     reader: &mut Counted<R>,
     writer: &mut Counted<W>,
-    log: &mut impl RefusalLog,
+    log: &mut impl RunLog,
 ) -> Result<Outcome, Fault>
     ensures output { IfOk result (λ outcome. IfSome (R.remaining reader.old.inner)
-        (λ bytes. Wrote nothing_done listed bytes outcome.refused (W.contents writer.old.inner) (W.contents writer.new.inner))) }
+        (λ bytes. Wrote nothing_done listed bytes outcome (W.contents writer.old.inner) (W.contents writer.new.inner))) }
     ensures at_end { OnOk result (IsAtEnd (R.remaining reader.new.inner)) }
     ensures begun { OnErr result (IfSome (R.remaining reader.old.inner)
         (λ bytes. IsBegun nothing_done listed bytes (W.contents writer.old.inner) (W.contents writer.new.inner))) }
@@ -311,8 +310,8 @@ pub fn run_with<R: Read, W: Write>(
 /// journal's beginning. No reply and no listing depends on them, but for what fits into memory, and one that finds no
 /// memory is passed over.
 ///
-/// On `Ok` the text is whole and all input was read; where no reply in it is `OutOfMemory`, it is a function of the
-/// bytes read (`output_of`). After a fault the text is a beginning of a whole one, without a
+/// On `Ok` the text is whole and all input was read; where the outcome isn't `wanting`, it is a function of the bytes
+/// read (`output_of`). After a fault the text is a beginning of a whole one, without a
 /// listing unless the fault came while that was written; after `Read` it is the replies of the lines that had ended;
 /// after `Memory` it is the replies of the lines before one of them, each whole, or of all lines and then `--` and whole lines
 /// of the listing. What was done is then just those lines and at most one more: where memory is refused for a reply's own text,
@@ -327,7 +326,7 @@ pub fn run_script<R: Read, W: Write>(
     writer: &mut Counted<W>,
 ) -> Result<Outcome, Fault>
     ensures output { IfOk result (λ outcome. IfSome (R.remaining reader.old.inner)
-        (λ bytes. Wrote nothing_done true bytes outcome.refused (W.contents writer.old.inner) (W.contents writer.new.inner))) }
+        (λ bytes. Wrote nothing_done true bytes outcome (W.contents writer.old.inner) (W.contents writer.new.inner))) }
     ensures at_end { OnOk result (IsAtEnd (R.remaining reader.new.inner)) }
     ensures begun { OnErr result (IfSome (R.remaining reader.old.inner)
         (λ bytes. IsBegun nothing_done true bytes (W.contents writer.old.inner) (W.contents writer.new.inner))) }

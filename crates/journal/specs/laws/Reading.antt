@@ -31,7 +31,7 @@ use Rattle.journal.specs.declared.unit.Exchange.{Exchange}
 use Rattle.journal.specs.declared.unit.Unit.{Unit as JournalUnit}
 use Rattle.journal.specs.declared.unit.Unit.TheVariants.{Lone, Whole, Lock, Back, End}
 use Rattle.journal.specs.Format.{number_bytes, string_bytes, reference_bytes, caret_byte, name_bytes, names_bytes, order_kind, query_kind, look_kind, look_bytes, command_kind, command_bytes, answer_kind, answer_bytes, exchange_bytes, lock_flags, lock_kind, lock_bytes, deed_bytes, unit_bytes}
-use Rattle.journal.specs.Reading.{number_at, wide_at, bytes_at, string_at, is_key, key_at, reference_at, name_at, list_at, names_at, looks_at, data_command_at, answer_at, answered_at, exchange_at, lock_command_at, exchanges_at, deed_at, deed_of, unit_at, is_inside, has_had}
+use Rattle.journal.specs.Reading.{at_least, number_at, wide_at, bytes_at, string_at, is_key, key_at, reference_at, name_at, list_at, names_at, looks_at, data_command_at, answer_at, answered_at, exchange_at, lock_command_at, exchanges_at, deed_at, deed_of, unit_at, is_inside, has_had}
 use Rattle.collation.specs.Limits.{is_job}
 use Rattle.journal.specs.Kept.{job_of}
 use Rattle.journal.specs.Stored.{FitsNumber, FitsString, FitsReference, FitsName, Each, FitNames, FitsLook, FitsCommand, FitsAnswer, FitsExchange, FitExchanges, FitsLock, FitsDeed, FitsUnit}
@@ -40,21 +40,24 @@ use Rattle.journal.specs.Stored.{FitsNumber, FitsString, FitsReference, FitsName
 wide_back : (bs t : List ℕ) (k : ℕ) → length bs ≡ k → nat_le k (length (bs ++ t)) ≡ true
 wide_back bs t k e = let l = length-append bs t in grind (arith, nat_tests)
 
-two_back : (n : ℕ) (t : List ℕ) → n < 65536 → wide_at w16 (to_be_bytes w16 n ++ t) ≡ Some (n, t)
-two_back n t h =
-    let room : nat_le 2 (length (to_be_bytes w16 n ++ t)) ≡ true = wide_back (to_be_bytes w16 n) t 2 refl in
-    rw room (ap (λ m. Some (m, t)) (from_be_bytes-to_be_bytes_2 n h))
+least_back : (least n : ℕ) (t : List ℕ) → least ≤ n → at_least least n t ≡ Some (n, t)
+least_back least n t h = let some : nat_le least n ≡ true = grind (arith, nat_tests) in rw some refl
 
-eight_back : (n : ℕ) (t : List ℕ) → n < 2 ^ 64 → wide_at w64 (to_be_bytes w64 n ++ t) ≡ Some (n, t)
-eight_back n t h =
+two_back : (n : ℕ) (t : List ℕ) → 254 ≤ n → n < 65536 → wide_at w16 254 (to_be_bytes w16 n ++ t) ≡ Some (n, t)
+two_back n t some h =
+    let room : nat_le 2 (length (to_be_bytes w16 n ++ t)) ≡ true = wide_back (to_be_bytes w16 n) t 2 refl in
+    rw room (ap (λ m. at_least 254 m t) (from_be_bytes-to_be_bytes_2 n h) ∙ least_back 254 n t some)
+
+eight_back : (n : ℕ) (t : List ℕ) → 65536 ≤ n → n < 2 ^ 64 → wide_at w64 65536 (to_be_bytes w64 n ++ t) ≡ Some (n, t)
+eight_back n t some h =
     let room : nat_le 8 (length (to_be_bytes w64 n ++ t)) ≡ true = wide_back (to_be_bytes w64 n) t 8 refl in
-    rw room (ap (λ m. Some (m, t)) (from_be_bytes-to_be_bytes_8 n h))
+    rw room (ap (λ m. at_least 65536 m t) (from_be_bytes-to_be_bytes_8 n h) ∙ least_back 65536 n t some)
 
 number_back_by : (n : ℕ) (t : List ℕ) → n < 2 ^ 64 → (b c : Bool) → nat_lt n 254 ≡ b → nat_lt n 65536 ≡ c → number_at (number_bytes n ++ t) ≡ Some (n, t)
 unfolding number_at number_bytes
 number_back_by n t h true c e f = simp e
-number_back_by n t h false true e f = simp (e, f) (two_back n t (grind (arith, nat_tests)))
-number_back_by n t h false false e f = simp (e, f) (eight_back n t h)
+number_back_by n t h false true e f = simp (e, f) (two_back n t (grind (arith, nat_tests)) (grind (arith, nat_tests)))
+number_back_by n t h false false e f = simp (e, f) (eight_back n t (grind (arith, nat_tests)) h)
 
 pub number_back : (n : ℕ) (t : List ℕ) → FitsNumber n → number_at (number_bytes n ++ t) ≡ Some (n, t)
 number_back n t h = number_back_by n t h.fits (nat_lt n 254) (nat_lt n 65536) refl refl
@@ -91,7 +94,7 @@ pub key_known : (bytes : List ℕ) (r : Reference) → IsFaultless r → key_of 
 key_known bytes r is e = ap key_at (sym e) ∙ key_back r is
 
 -- what a known key says
-key_means : (bytes : List ℕ) → is_key bytes ≡ true → IsFaultless (reference_of bytes) × (bytes ≡ key_of (reference_of bytes))
+pub key_means : (bytes : List ℕ) → is_key bytes ≡ true → IsFaultless (reference_of bytes) × (bytes ≡ key_of (reference_of bytes))
 unfolding is_key
 key_means bytes e =
     let both : (is_name (reference_of bytes).name && is_none (reference_fault (reference_of bytes).subscripts)) ≡ true = first_so _ _ e in (
@@ -142,11 +145,15 @@ caret_back : (b : Bool) → (caret_byte b == 1) ≡ b
 caret_back true = refl
 caret_back false = refl
 
+caret_low : (b : Bool) → nat_le (caret_byte b) 1 ≡ true
+caret_low true = refl
+caret_low false = refl
+
 pub name_back : (n : Resource) (t : List ℕ) → FitsName n → name_at (name_bytes n ++ t) ≡ Some (n, t)
 unfolding name_at
 name_back n t h =
     let r : reference_at (reference_bytes n.reference ++ t) ≡ Some (n.reference, t) = reference_back n.reference t h.reference in
-    rw r (ap (λ b. Some (record { has_caret = b; reference = n.reference }, t)) (caret_back n.has_caret))
+    rw (caret_low n.has_caret, r) (ap (λ b. Some (record { has_caret = b; reference = n.reference }, t)) (caret_back n.has_caret))
 
 pub names_back : (ns : List Resource) (t : List ℕ) → FitNames ns → names_at (names_bytes ns ++ t) ≡ Some (ns, t)
 unfolding names_at

@@ -1,4 +1,4 @@
-use Rattle.std.proofs.Common.{Bool, ap, ◌∙◌, ◌||◌, refl}
+use Rattle.std.proofs.Common.{Bool, ap, ◌∙◌, refl}
 use Rattle.listing.specs.laws.Bytes.{on_err}
 use Rattle.journal.specs.Story.{Machine}
 use Rattle.script_run.specs.OpenJobs.{open_after}
@@ -22,10 +22,9 @@ returns-in_err-write_full-clause-err g c =
 pub returns-clause-ran : goal.returns-clause-ran
 returns-clause-ran g c =
     let said = c.answer_line-job.ensures in
-    let refused = c.either-script.ensures ∙ ap (λ (b : Bool). c.args.script.now.refused || b) c.log_reply-refused.ensures in
     let stays = c.keep_up.ensures in
     let jobs = c.note_line.ensures ∙ ap (λ (b : Bool). open_after c.answer_line-job.result.0 b c.args.script.now.jobs) said.ended in
-    Ran-one c.args.line.now c.answer_line-job.result.2 c.answer_line-job.result.0 c.args.script.now _ _ _ _ said.job said.answer (◌∙◌ {A = Machine} stays said.machine) c.in_ok-write_reply.ensures.ok c.in_ok-write_full.ensures.ok refused jobs
+    Ran-one c.args.line.now c.answer_line-job.result.2 c.answer_line-job.result.0 c.args.script.now _ _ _ _ said.job said.answer (◌∙◌ {A = Machine} stays said.machine) c.in_ok-write_reply.ensures.ok c.in_ok-write_full.ensures.ok c.with-script.ensures jobs
 
 -- the line was done, and its reply found no memory
 pub returns-in_err-write_reply-clause-stopped : goal.returns-in_err-write_reply-clause-stopped

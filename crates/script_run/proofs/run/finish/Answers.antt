@@ -14,7 +14,7 @@ pub returns-in_err-write_ending-clause-err : goal.returns-in_err-write_ending-cl
 returns-in_err-write_ending-clause-err g c = on_err _ _ (broke_ending _ _ _ _ _ _ _ _ c.in_ok-run_kept.ensures.ran (rw c.as_slice.ensures at c.in_ok-halt_open.ensures) c.in_err-write_ending.ensures.err)
 
 pub returns-clause-ran : goal.returns-clause-ran
-returns-clause-ran g c = ended _ _ _ _ _ _ _ _ _ c.in_ok-run_kept.ensures.ran (rw c.as_slice.ensures at c.in_ok-halt_open.ensures) c.in_ok-write_ending.ensures.ok c.in_ok-write_ending.ensures.refused
+returns-clause-ran g c = ended _ _ _ _ _ _ _ _ _ c.in_ok-run_kept.ensures.ran (rw c.as_slice.ensures at c.in_ok-halt_open.ensures) c.in_ok-write_ending.ensures.ok c.in_ok-write_ending.ensures.outcome
 
 -- ---- where memory was refused
 

@@ -6,7 +6,7 @@ use Rattle.script_run.proofs.Stopped.{is_memory, gathered_at, gathered_piece, ga
 use Rattle.script_run.proofs.run.run_pieces.Goals as goal
 
 pub pieces-init : goal.pieces-init
-pieces-init g c = record { stands = stands_first _ _ _ _ _ refl c.requires.jobs c.requires.out c.requires.refused c.new-begun.ensures.items c.requires.good; reads = refl; writes = refl }
+pieces-init g c = record { stands = stands_first _ _ _ _ _ refl c.requires.jobs c.requires.out c.requires.outcome c.new-begun.ensures.items c.requires.good; reads = refl; writes = refl }
 
 pub returns-in_err-piece-clause-begun : goal.returns-in_err-piece-clause-begun
 returns-in_err-piece-clause-begun g c = on_err _ _ (begun_at _ _ _ _ _ _ _ _ c.pieces.invariant.stands)

@@ -1,4 +1,3 @@
-use Rattle.listing.specs.laws.Bytes.{on_err}
 use Rattle.script_run.proofs.Stands.{good_start, begun_first}
 use Rattle.script_run.proofs.Stopped.{kept_first}
 use Rattle.script_run.proofs.run.run_with_core.Goals as goal

@@ -1,0 +1,4 @@
+pub mod Steps
+pub mod Journals
+pub mod Statements
+pub mod laws

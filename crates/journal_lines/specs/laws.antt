@@ -1,0 +1,3 @@
+pub mod Spelled
+pub mod Plain
+pub mod Askable
