@@ -1,3 +1,4 @@
+pub mod Blocks
+pub mod Cut
 pub mod OneMore
 pub mod Written
-pub mod Blocks

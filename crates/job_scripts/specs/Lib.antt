@@ -1,3 +1,4 @@
 pub mod Blocks
 pub mod Groups
+pub mod Lines
 pub mod Reports

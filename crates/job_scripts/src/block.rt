@@ -1,12 +1,14 @@
 //! Blocks: lines that are done under one hold of an engine's lock.
-ghost use Rattle.std.specs.Prelude.{◌≡◌, ◌≢◌, ◌≤◌, ◌++◌, ◌∷◌, [], List, Option, None, length, max, IfOk, OnOk};
+ghost use Rattle.std.specs.Prelude.{◌≡◌, ◌≢◌, ◌≤◌, ◌++◌, ◌∷◌, [], ℕ, List, Option, None, Some, length, max, IfOk, OnOk};
 ghost use Rattle.std.specs.Vec.Iter.{into_iter_items};
 ghost use Rattle.refusal.specs.declared.Refusal.{Refusal};
 ghost use Rattle.std.specs.List.{All};
 ghost use Rattle.collation.specs.Limits.{most_levels};
 ghost use Rattle.command.specs.declared.access.DataCommand.{DataCommand};
 ghost use Rattle.command.specs.declared.request.Command.{Command};
-ghost use Rattle.job_scripts.specs.Blocks.{level_after as level_left, IsOneBlock, in_place};
+ghost use Rattle.command.specs.declared.request.Command.TheVariants.{Access};
+ghost use Rattle.job_scripts.specs.Lines.{lines_of_script};
+ghost use Rattle.job_scripts.specs.Blocks.{level_after as level_left, IsOneBlock, in_place, Asks, AreInFront};
 
 use crate::lines::next_line;
 use collation::MOST_LEVELS;
@@ -39,14 +41,46 @@ impl<'a> Block<'a> {
         }
     }
 
-    // One line more, with its command.
-    fn add(&mut self, command: Command) -> Result<(), AllocError>
-        ensures commands { OnOk result (self.new.commands.items ≡ self.old.commands.items ++ command ∷ []) }
-        ensures places { OnOk result (self.new.places.items ≡ self.old.places.items ++ None ∷ []) }
+    // The command of a line before these.
+    #[tactic(auto, using(crate::proofs::Blocks::first_in_front))]
+    fn begin(&mut self, command: Command) -> Result<(), AllocError>
+        requires { (self.old.commands.items ≡ []) × (self.old.places.items ≡ []) }
+        ensures commands { OnOk result (self.new.commands.items ≡ command ∷ []) }
+        ensures places { OnOk result (self.new.places.items ≡ None ∷ []) }
         ensures rest { self.new.rest.now ≡ self.old.rest.now }
+        ensures asked { OnOk result ((line : List ℕ) → Asks line command → AreInFront (line ∷ lines_of_script self.old.rest.now) (lines_of_script self.new.rest.now) self.new.places.items self.new.commands.items) }
     {
         self.commands.push(command)?;
         self.places.push(None)?;
+        Ok(())
+    }
+
+    // One line more, with its command.
+    #[tactic(auto, using(crate::proofs::Blocks::command_in_front))]
+    fn add(&mut self, command: Command, line: &[u8], rest: &'a [u8]) -> Result<(), AllocError>
+        ensures commands { OnOk result (self.new.commands.items ≡ self.old.commands.items ++ command ∷ []) }
+        ensures places { OnOk result (self.new.places.items ≡ self.old.places.items ++ None ∷ []) }
+        ensures rest { OnOk result (self.new.rest.now ≡ rest.entry.now) }
+        ensures asked { OnOk result ((all : List (List ℕ)) → AreInFront all (lines_of_script self.old.rest.now) self.old.places.items self.old.commands.items → lines_of_script self.old.rest.now ≡ line.now ∷ lines_of_script rest.entry.now
+            → Asks line.now command → AreInFront all (lines_of_script self.new.rest.now) self.new.places.items self.new.commands.items) }
+    {
+        self.commands.push(command)?;
+        self.places.push(None)?;
+        self.rest = rest;
+        Ok(())
+    }
+
+    // One line more, which is refused.
+    #[tactic(auto, using(crate::proofs::Blocks::refusal_in_front))]
+    fn refuse(&mut self, refusal: Refusal, line: &[u8], rest: &'a [u8]) -> Result<(), AllocError>
+        ensures commands { self.new.commands.items ≡ self.old.commands.items }
+        ensures places { OnOk result (self.new.places.items ≡ self.old.places.items ++ Some refusal ∷ []) }
+        ensures rest { OnOk result (self.new.rest.now ≡ rest.entry.now) }
+        ensures asked { OnOk result ((all : List (List ℕ)) → AreInFront all (lines_of_script self.old.rest.now) self.old.places.items self.old.commands.items → lines_of_script self.old.rest.now ≡ line.now ∷ lines_of_script rest.entry.now
+            → AreInFront all (lines_of_script self.new.rest.now) self.new.places.items self.new.commands.items) }
+    {
+        self.places.push(Some(refusal))?;
+        self.rest = rest;
         Ok(())
     }
 }
@@ -71,6 +105,7 @@ fn level_after(level: u64, command: &Command) -> u64
 ///
 /// `AllocError` where memory for the block is refused. A line that can't be read for want of memory has that refusal in
 /// its place.
+#[tactic(auto, using(crate::proofs::Blocks::none_in_front, crate::proofs::Blocks::asks_of))]
 pub fn block_of<'a>(
     alloc: Global,
     lines: &'a [u8],
@@ -79,6 +114,7 @@ pub fn block_of<'a>(
     ensures goes_on { IfOk result (λ block. All (λ (c : Command). c ≢ Command.Halt) block.commands.items) }
     ensures one { IfOk result (λ block. IsOneBlock 1 block.commands.items) }
     ensures rest { IfOk result (λ block. length block.rest.now ≤ length lines.now) }
+    ensures asked { IfOk result (λ block. AreInFront (lines_of_script lines.now) (lines_of_script block.rest.now) block.places.items block.commands.items) }
 {
     let mut block = Block::new(alloc, lines);
     let mut level = 1;
@@ -90,11 +126,10 @@ pub fn block_of<'a>(
             Ok((_, Command::Halt)) => return Ok(block),
             Ok((_, command)) => {
                 level = level_after(level, &command);
-                block.add(command)?;
+                block.add(command, line, rest)?;
             }
-            Err(fault) => block.places.push(Some(fault.refusal))?,
+            Err(fault) => block.refuse(fault.refusal, line, rest)?,
         }
-        block.rest = rest;
     }
     Ok(block)
 }
@@ -103,6 +138,7 @@ pub fn block_of<'a>(
 /// many lines in all.
 ///
 /// `AllocError` as `block_of`; a line that can't be read has its refusal in its place.
+#[tactic(auto, using(crate::proofs::Blocks::none_in_front, crate::proofs::Blocks::asks_of))]
 pub fn data_block<'a>(
     alloc: Global,
     first: DataCommand,
@@ -114,19 +150,19 @@ pub fn data_block<'a>(
     ensures accesses { IfOk result (λ block. All (λ (c : Command). (d : DataCommand) × (c ≡ Command.Access d)) block.commands.items) }
     ensures few { IfOk result (λ block. length block.places.items ≤ max 1 most) }
     ensures rest { IfOk result (λ block. length block.rest.now ≤ length lines.now) }
+    ensures asked { IfOk result (λ block. (line : List ℕ) → Asks line (Access first) → AreInFront (line ∷ lines_of_script lines.now) (lines_of_script block.rest.now) block.places.items block.commands.items) }
 {
     let mut block = Block::new(alloc, lines);
-    block.add(Command::Access(first))?;
+    block.begin(Command::Access(first))?;
     'lines: while block.places.len() < most {
         let Some((line, rest)) = next_line(block.rest) else {
             break;
         };
         match read_line(alloc, line, drafts) {
-            Ok((_, Command::Access(command))) => block.add(Command::Access(command))?,
+            Ok((_, Command::Access(command))) => block.add(Command::Access(command), line, rest)?,
             Ok(_) => break,
-            Err(fault) => block.places.push(Some(fault.refusal))?,
+            Err(fault) => block.refuse(fault.refusal, line, rest)?,
         }
-        block.rest = rest;
     }
     Ok(block)
 }

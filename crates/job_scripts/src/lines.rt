@@ -1,6 +1,7 @@
 //! The lines of one job.
 ghost use Rattle.std.specs.Prelude.{◌≡◌, ◌⊎◌, ◌<◌, ◌++◌, ◌∷◌, [], length, IfSome, IfNone};
 ghost use Rattle.collation.specs.Bytes as byte;
+ghost use Rattle.job_scripts.specs.Lines.{lines_of_script};
 
 use bstr::ByteSlice;
 use collation::Job;
@@ -19,6 +20,7 @@ pub struct Script {
 /// The first line of a text, without its byte 10, and what follows it; none where nothing is left.
 pub fn next_line(text: &[u8]) -> Option<(&[u8], &[u8])>
     ensures line { IfSome result (λ r. (text.now ≡ r.0.now ++ byte.line_feed ∷ r.1.now) ⊎ ((text.now ≡ r.0.now) × (r.1.now ≡ []))) }
+    ensures first { IfSome result (λ r. lines_of_script text.now ≡ r.0.now ∷ lines_of_script r.1.now) }
     ensures shorter { IfSome result (λ r. length r.1.now < length text.now) }
     ensures none { IfNone result (text.now ≡ []) }
 {

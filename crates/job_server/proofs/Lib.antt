@@ -1,3 +1,10 @@
+pub mod Answering
+pub mod Doing
+pub mod Ending
+pub mod Following
+pub mod GoingOn
+pub mod Handing
 pub mod Outputs
 pub mod Reading
-pub mod Slotting
+pub mod Standing
+pub mod Units

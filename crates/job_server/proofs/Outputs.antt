@@ -4,31 +4,27 @@ use Rattle.std.specs.List.{list_any}
 use Rattle.journal.specs.declared.unit.Unit.{Unit as JournalUnit}
 use Rattle.journal.specs.History.{initial, after, IsLegal}
 use Rattle.job_scripts.specs.declared.lines.Script.{Script}
-use Rattle.job_scripts.specs.Groups.{groups_in, shown}
+use Rattle.job_scripts.specs.Groups.{Group, groups_in, shown}
 use Rattle.job_scripts.specs.Reports.{Answers, reports_text, some_refused}
-use Rattle.job_server.specs.Served.{Tally, AreAnswered, asked, answered}
+use Rattle.job_server.specs.Served.{wanted, AreBooked}
 use Rattle.listing.specs.Bytes.{WritesBeginning}
-use Rattle.job_server.specs.Output.{ending, answered_by, asked_by, IsJobsOutput, IsBegun}
+use Rattle.job_server.specs.Output.{ending, group_of_script, IsJobsOutput, IsBegun}
 
-abbrev numbered : Tally → ℕ × ℕ
-numbered t = (unwrap_or t.0 0, t.1)
+same_groups : (scripts : List Script) → map group_of_script (map wanted scripts) ≡ map shown scripts
+same_groups [] = refl
+same_groups (s ∷ ss) = ap (λ (l : List Group). shown s ∷ l) (same_groups ss)
 
-twice_answered : (reports : List Answers) → map answered_by reports ≡ map numbered (map answered reports)
-twice_answered [] = refl
-twice_answered (r ∷ rs) = ap (λ (l : List (ℕ × ℕ)). answered_by r ∷ l) (twice_answered rs)
-
-twice_asked : (scripts : List Script) → map numbered (map asked scripts) ≡ map asked_by (map shown scripts)
-twice_asked [] = refl
-twice_asked (s ∷ ss) = ap (λ (l : List (ℕ × ℕ)). numbered (asked s) ∷ l) (twice_asked ss)
-
-pub made : (listed : Bool) (scripts : List Script) (reports : List Answers) (units : List JournalUnit) (text : List ℕ) (refused : Bool) → AreAnswered scripts reports → map shown scripts ≡ groups_in text → IsLegal units initial
+pub made : (listed : Bool) (scripts : List Script) (reports : List Answers) (units : List JournalUnit) (sessions : ℕ) (text : List ℕ) (refused : Bool) → ∥ AreBooked (map wanted scripts) reports units sessions ∥₁ → map shown scripts ≡ groups_in text → IsLegal units initial
     → refused ≡ list_any some_refused reports → IsJobsOutput listed text (reports_text reports ++ ending listed (after units initial).map) refused
-made listed scripts reports units text refused a g legal told = record {
+made listed scripts reports units sessions text refused booked g legal is_told = record {
+  scripts = map wanted scripts;
   reports = reports;
   units = units;
-  of_groups = twice_answered reports ∙ ap (map numbered) a ∙ twice_asked scripts ∙ ap (map asked_by) g;
+  sessions = sessions;
+  of_groups = same_groups scripts ∙ g;
+  booked = booked;
   legal = legal;
-  told = told;
+  told = is_told;
   written = refl;
 }
 

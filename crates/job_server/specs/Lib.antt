@@ -1,4 +1,6 @@
 pub mod Faults
 pub mod Output
+pub mod Replying
 pub mod Served
-pub mod Slots
+pub mod Telling
+pub mod Told

@@ -10,25 +10,26 @@ use Rattle.journal.specs.History.{initial, after, IsLegal}
 use Rattle.listing.specs.Listing.{listing_text}
 use Rattle.job_scripts.specs.Groups.{Group, groups_in}
 use Rattle.job_scripts.specs.Reports.{Answers, reports_text, some_refused}
+use Rattle.job_server.specs.Served.{Wanted, AreBooked}
 
 -- what follows the replies: "--" and the listing, or nothing where no listing is asked for
 abbrev pub ending : Bool → Database → List ℕ
 ending true m = codes "--\n" ++ listing_text m
 ending false m = []
 
--- a report's number and how many replies it has
-abbrev pub answered_by : Answers → ℕ × ℕ
-answered_by a = (unwrap_or a.job 0, length a.replies)
+-- the group of a script
+abbrev pub group_of_script : Wanted → Group
+group_of_script w = record { number = unwrap_or w.job 0; text = w.text; count = w.lines }
 
--- a group's number and how many lines it has
-abbrev pub asked_by : Group → ℕ × ℕ
-asked_by g = (g.number, g.count)
-
--- the output for a text: a report for each of its groups, in order, with a reply for each line, and the listing of what a legal journal leaves
+-- the output for a text: a report for each of its groups, in order, with a reply for each line, and the listing of what a legal journal leaves;
+-- the replies tell the units of the jobs' books, which are in the journal
 pub record IsJobsOutput (listed : Bool) (text output : List ℕ) (refused : Bool) : Type 0 where
+  pub scripts : List Wanted
   pub reports : List Answers
   pub units : List JournalUnit
-  pub of_groups : map answered_by reports ≡ map asked_by (groups_in text)
+  pub sessions : ℕ
+  pub of_groups : map group_of_script scripts ≡ groups_in text
+  pub booked : ∥ AreBooked scripts reports units sessions ∥₁
   pub legal : IsLegal units initial
   pub told : refused ≡ list_any some_refused reports
   pub written : output ≡ reports_text reports ++ ending listed (after units initial).map

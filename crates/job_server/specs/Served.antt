@@ -1,31 +1,60 @@
 -- What is known of jobs that were served.
--- Read AreAnswered and AreBooked; the contract of serve cites these.
-use Rattle.std.specs.Prelude.{◌≡◌, ℕ, List, length, map, Option}
-use Rattle.std.specs.List.{All, sum_by}
+-- Read IsReport, AreReports and AreBooked; the contract of serve cites these.
+use Rattle.std.specs.Prelude.{◌≡◌, ⊤, ℕ, List, [], ◌∷◌, length, map, slice_get, Option, Some}
+use Rattle.std.specs.List.{All, flat_map, sum_by}
 use Rattle.journal.specs.declared.unit.Unit.{Unit as JournalUnit}
 use Rattle.pin_board.specs.Slips.{AreInJournal}
 use Rattle.shared_engine.specs.Receipts.{Book, receipted}
 use Rattle.shared_engine.specs.Engines.{receipts_of}
 use Rattle.job_scripts.specs.declared.lines.Script.{Script}
 use Rattle.job_scripts.specs.Reports.{Answers}
+use Rattle.job_server.specs.Told.{IsTold}
 
--- a job, and how many lines it has or replies it was given
-abbrev pub Tally : Type 0
-Tally = Option ℕ × ℕ
+-- a script's job, its text, and how many lines it has
+pub record Wanted : Type 0 where
+  pub job : Option ℕ
+  pub text : List ℕ
+  pub lines : ℕ
 
-abbrev pub asked : Script → Tally
-asked s = (s.job, s.lines)
+abbrev pub wanted : Script → Wanted
+wanted s = record { job = s.job; text = s.text.items; lines = s.lines }
 
-abbrev pub answered : Answers → Tally
-answered a = (a.job, length a.replies)
+-- the report is of the script's job, with as many replies as there are lines, which tell the units of these books
+pub record IsReport (w : Wanted) (report : Answers) (books : List Book) : Type 0 where
+  pub whose : report.job ≡ w.job
+  pub each : length report.replies ≡ w.lines
+  pub is_told : IsTold w.job w.text report.replies books
 
--- each script has its report in its place, of its job, with as many replies as it has lines
-abbrev pub AreAnswered : List Script → List Answers → Type 0
-AreAnswered scripts reports = map answered reports ≡ map asked scripts
+-- the same of the script at this place
+pub record IsReportAt (scripts : List Wanted) (place : ℕ) (report : Answers) (books : List Book) : Type 0 where
+  pub script : Wanted
+  pub at : slice_get scripts place ≡ Some script
+  pub is_report : IsReport script report books
 
--- each session has a book, whose units are in the journal at their numbers, and each unit of a job but for rollbacks and ends is in a book of its
-pub record AreBooked (units : List JournalUnit) (sessions : ℕ) : Type 0 where
-  pub books : List Book
-  pub each : length books ≡ sessions
-  pub written : All (λ (b : Book). AreInJournal units b.receipts) books
-  pub all : (job : ℕ) → sum_by (receipted job) units ≡ receipts_of job books
+-- each script has its report in its place, and its books
+abbrev pub AreReports : List Wanted → List Answers → List (List Book) → Type 0
+AreReports [] [] [] = ⊤
+AreReports [] [] (own ∷ owns) = ⊥
+AreReports [] (report ∷ reports) owns = ⊥
+AreReports (w ∷ ws) [] owns = ⊥
+AreReports (w ∷ ws) (report ∷ reports) [] = ⊥
+AreReports (w ∷ ws) (report ∷ reports) (own ∷ owns) = IsReport w report own × AreReports ws reports owns
+
+-- the books of all, one behind the other
+abbrev pub all_of : List (List Book) → List Book
+all_of owns = flat_map (λ (own : List Book). own) owns
+
+-- the reports of scripts, and the books of all
+pub record AreHanded (scripts : List Wanted) (reports : List Answers) (all : List Book) : Type 0 where
+  pub books : List (List Book)
+  pub are_told : AreReports scripts reports books
+  pub all_is : all ≡ all_of books
+
+-- each session has a book, whose units are in the journal at their numbers, and each unit of a job but for rollbacks and ends is in a book of its;
+-- and what the reports tell are the units of the books of their jobs
+pub record AreBooked (scripts : List Wanted) (reports : List Answers) (units : List JournalUnit) (sessions : ℕ) : Type 0 where
+  pub books : List (List Book)
+  pub are_told : AreReports scripts reports books
+  pub each : length (all_of books) ≡ sessions
+  pub written : All (λ (b : Book). AreInJournal units b.receipts) (all_of books)
+  pub all : (job : ℕ) → sum_by (receipted job) units ≡ receipts_of job (all_of books)

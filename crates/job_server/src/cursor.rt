@@ -1,5 +1,6 @@
 //! A place in a job's lines.
-ghost use Rattle.std.specs.Prelude.{◌≡◌, ◌<◌, length, IfSome};
+ghost use Rattle.std.specs.Prelude.{◌≡◌, ◌<◌, ◌∷◌, [], length, IfSome, IfNone};
+ghost use Rattle.job_scripts.specs.Lines.{lines_of_script};
 
 use job_scripts::next_line;
 
@@ -10,10 +11,11 @@ pub(crate) struct Cursor<'a> {
     pub(crate) number: u64,
 }
 
-/// A line of a job, without its end, and the place behind it.
+/// A line of a job, without its end, its number, and the place behind it.
 #[derive(Clone, Copy, Debug)]
 pub(crate) struct Line<'a> {
     pub(crate) text: &'a [u8],
+    pub(crate) number: u64,
     pub(crate) next: Cursor<'a>,
 }
 
@@ -27,11 +29,14 @@ impl<'a> Cursor<'a> {
 
     /// The next line; none behind the last.
     pub(crate) fn next(&self) -> Option<Line<'a>>
-        ensures { IfSome result (λ line. length line.next.lines.now < length self.now.lines.now) }
+        ensures fewer { IfSome result (λ line. length line.next.lines.now < length self.now.lines.now) }
+        ensures first { IfSome result (λ line. lines_of_script self.now.lines.now ≡ line.text.now ∷ lines_of_script line.next.lines.now) }
+        ensures none { IfNone result (lines_of_script self.now.lines.now ≡ []) }
     {
         let (text, lines) = next_line(self.lines)?;
         Some(Line {
             text,
+            number: self.number,
             next: Cursor {
                 lines,
                 number: self.number.saturating_add(1),

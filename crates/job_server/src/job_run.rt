@@ -1,5 +1,9 @@
 //! A command of a job, by the calls of its session.
-ghost use Rattle.std.specs.Prelude.{◌≡◌, ◌≤◌};
+ghost use Rattle.std.specs.Prelude.{◌≡◌, ◌≤◌, true};
+ghost use Rattle.command.specs.declared.request.Command.{Command};
+ghost use Rattle.command.specs.declared.request.Reply.{Reply};
+ghost use Rattle.shared_engine.specs.Blocks.{said};
+ghost use Rattle.job_server.specs.Telling.{Follows, HasLocked, names_some as has_some};
 
 use crate::replies::{answered, at_level, ended, finished, locked, restarted, written};
 use collation::{Job, LockCommand};
@@ -27,13 +31,17 @@ impl<'a, B: BoardName, R, G> Drop for Calls<'a, B, R, G> {
 }
 
 impl<'a, B: BoardName, R: Wait, G: Gate> Calls<'a, B, R, G> {
-    /// The reply to a command of a session, but for HALT, which is refused here. `seconds` is a LOCK's timeout.
+    /// The reply to a command of a session, but for HALT, which is refused here. `seconds` is a LOCK's timeout. The session
+    /// goes on as the reply tells.
+    #[tactic(auto, using(crate::proofs::Answering::follows_as, crate::proofs::Following::counted_follows, crate::proofs::Following::refused_follows))]
     pub(crate) fn reply_to(
         &self,
         session: &mut Session<B>,
         command: Command,
         seconds: Option<u64>,
-    ) -> Reply {
+    ) -> Reply
+        ensures { Follows command result session.old session.new }
+    {
         match command {
             Command::Access(command) => answered(self.access(session, command)),
             Command::Lock(command) => self.lock(session, command, seconds),
@@ -47,7 +55,10 @@ impl<'a, B: BoardName, R: Wait, G: Gate> Calls<'a, B, R, G> {
         }
     }
 
-    fn access(&self, session: &mut Session<B>, command: DataCommand) -> Result<Answer, Refusal> {
+    #[tactic(auto, using(crate::proofs::Answering::lone_told))]
+    fn access(&self, session: &mut Session<B>, command: DataCommand) -> Result<Answer, Refusal>
+        ensures { Follows (Command.Access command) (said Reply.Answered result) session.old session.new }
+    {
         if session.tlevel() == 0 {
             return self.engine.lone(self.rt, session, command);
         }
@@ -55,12 +66,14 @@ impl<'a, B: BoardName, R: Wait, G: Gate> Calls<'a, B, R, G> {
     }
 
     // A data command in a transaction. SET and KILL take no lock.
+    #[tactic(auto, using(crate::proofs::Answering::written_told, crate::proofs::Answering::read_told))]
     fn access_inside(
         &self,
         session: &mut Session<B>,
         command: DataCommand,
     ) -> Result<Answer, Refusal>
         requires { 1 ≤ session.old.state.level }
+        ensures { Follows (Command.Access command) (said Reply.Answered result) session.old session.new }
     {
         match command {
             DataCommand::Set(key, value) => written(session.set(key, value)),
@@ -73,27 +86,43 @@ impl<'a, B: BoardName, R: Wait, G: Gate> Calls<'a, B, R, G> {
         }
     }
 
-    fn lock(&self, session: &mut Session<B>, command: LockCommand, seconds: Option<u64>) -> Reply {
+    #[tactic(auto, using(crate::proofs::Answering::follows_as, crate::proofs::Following::locked_follows))]
+    fn lock(&self, session: &mut Session<B>, command: LockCommand, seconds: Option<u64>) -> Reply
+        ensures { Follows (Command.Lock command) result session.old session.new }
+    {
         let done = match seconds {
-            Some(seconds) => self
-                .engine
-                .lock_within(self.rt, session, &command, seconds, self.gate),
-            None => self.lock_untimed(session, &command),
+            Some(seconds) if has_names(&command) => self.lock_timed(session, &command, seconds),
+            _ => self.lock_untimed(session, &command),
         };
         locked(&command, done)
     }
 
-    fn lock_untimed(
+    #[tactic(auto, using(crate::proofs::Answering::within_locked))]
+    fn lock_timed(
         &self,
         session: &mut Session<B>,
         command: &LockCommand,
-    ) -> Result<bool, Refusal> {
+        seconds: u64,
+    ) -> Result<bool, Refusal>
+        requires { has_some command.now ≡ true }
+        ensures { HasLocked command.now result session.old session.new }
+    {
+        self.engine
+            .lock_within(self.rt, session, command, seconds, self.gate)
+    }
+
+    fn lock_untimed(&self, session: &mut Session<B>, command: &LockCommand) -> Result<bool, Refusal>
+        ensures { HasLocked command.now result session.old session.new }
+    {
         self.engine.lock(self.rt, session, command, self.gate)?;
         Ok(true)
     }
 
     // TSTART. The outermost one is tried again where a horizon passed its start as it was taken.
-    fn start(&self, session: &mut Session<B>) -> Result<u64, Refusal> {
+    #[tactic(auto, using(crate::proofs::Answering::inner_told, crate::proofs::Answering::outer_told))]
+    fn start(&self, session: &mut Session<B>) -> Result<u64, Refusal>
+        ensures { Follows Command.Start (said Reply.AtLevel result) session.old session.new }
+    {
         if session.tlevel() > 0 {
             return session.tstart_inner();
         }
@@ -106,7 +135,10 @@ impl<'a, B: BoardName, R: Wait, G: Gate> Calls<'a, B, R, G> {
         unreachable!()
     }
 
-    fn commit(&self, session: &mut Session<B>) -> Reply {
+    #[tactic(auto, using(crate::proofs::Answering::follows_as, crate::proofs::Answering::commit_told, crate::proofs::Following::lower_follows, crate::proofs::Following::refused_follows))]
+    fn commit(&self, session: &mut Session<B>) -> Reply
+        ensures { Follows Command.Commit result session.old session.new }
+    {
         match session.tlevel() {
             0 => Reply::Refused(Refusal::NoTransaction),
             1 => ended(self.engine.tcommit(self.rt, session)),
@@ -114,17 +146,33 @@ impl<'a, B: BoardName, R: Wait, G: Gate> Calls<'a, B, R, G> {
         }
     }
 
-    fn rollback(&self, session: &mut Session<B>) -> Reply {
+    #[tactic(auto, using(crate::proofs::Answering::follows_as, crate::proofs::Answering::rollback_told, crate::proofs::Following::refused_follows))]
+    fn rollback(&self, session: &mut Session<B>) -> Reply
+        ensures { Follows Command.Rollback result session.old session.new }
+    {
         if session.tlevel() == 0 {
             return Reply::Refused(Refusal::NoTransaction);
         }
         finished(self.engine.trollback(self.rt, session))
     }
 
-    fn restart(&self, session: &mut Session<B>) -> Reply {
+    #[tactic(auto, using(crate::proofs::Answering::follows_as, crate::proofs::Answering::restart_told, crate::proofs::Following::refused_follows))]
+    fn restart(&self, session: &mut Session<B>) -> Reply
+        ensures { Follows Command.Restart result session.old session.new }
+    {
         if session.tlevel() == 0 {
             return Reply::Refused(Refusal::NoTransaction);
         }
         restarted(self.engine.trestart(self.rt, session))
+    }
+}
+
+// Whether a LOCK has names.
+fn has_names(command: &LockCommand) -> bool
+    ensures { result ≡ has_some command.now }
+{
+    match command {
+        LockCommand::Release => false,
+        LockCommand::Only(_) | LockCommand::More(_) | LockCommand::Fewer(_) => true,
     }
 }

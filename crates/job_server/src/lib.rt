@@ -17,8 +17,10 @@
 //! | `cursor.rt` | a place in a job's lines |
 //! | `replies.rt` | what calls of the engine are replied |
 //! | `job_run.rt` | a command of a job, by the calls of its session |
-//! | `worker.rt` | the lines and blocks of one job, and of one job after the other |
-//! | `slot.rt` | a place for a report |
+//! | `running.rt` | a job as it is run, and one line of it |
+//! | `holding.rt` | lines that are done under one hold of the engine's lock |
+//! | `blocks.rt` | blocks, as often as they are overtaken |
+//! | `worker.rt` | the lines of one job, and of one job after the other |
 //! | `serving.rt` | the workers, the channels, the reports in order |
 //! | `run.rt` | bytes in, bytes out |
 //!
@@ -29,11 +31,13 @@ pub use fault::{JobsFault, ServerFault, status_of};
 pub use run::{run_jobs, run_text};
 pub use serving::{Served, serve};
 
+mod blocks;
 mod cursor;
 mod fault;
+mod holding;
 mod job_run;
 mod replies;
 mod run;
+mod running;
 mod serving;
-mod slot;
 mod worker;

@@ -1,11 +1,19 @@
 //! What calls of the engine are replied.
+ghost use Rattle.std.specs.Prelude.{◌≡◌};
+ghost use Rattle.command.specs.declared.request.Reply.TheVariants.{Answered, Finished as finished_reply, AtLevel, Restarted as restarted_reply};
+ghost use Rattle.serial.specs.Machine.{told_had};
+ghost use Rattle.shared_engine.specs.Blocks.{said};
+ghost use Rattle.job_server.specs.Replying.{written_as, ended_as};
+
 use collation::LockCommand;
 use command::{Answer, Reply};
 use refusal::Refusal;
 use shared_engine::Ended;
 
 /// A data command's reply.
-pub(crate) fn answered(done: Result<Answer, Refusal>) -> Reply {
+pub(crate) fn answered(done: Result<Answer, Refusal>) -> Reply
+    ensures { result ≡ said Answered done }
+{
     match done {
         Ok(answer) => Reply::Answered(answer),
         Err(refusal) => Reply::Refused(refusal),
@@ -13,7 +21,9 @@ pub(crate) fn answered(done: Result<Answer, Refusal>) -> Reply {
 }
 
 /// What SET and KILL in a transaction answer.
-pub(crate) fn written(done: Result<(), Refusal>) -> Result<Answer, Refusal> {
+pub(crate) fn written(done: Result<(), Refusal>) -> Result<Answer, Refusal>
+    ensures { result ≡ written_as done }
+{
     match done {
         Ok(()) => Ok(Answer::Done),
         Err(refusal) => Err(refusal),
@@ -21,7 +31,9 @@ pub(crate) fn written(done: Result<(), Refusal>) -> Result<Answer, Refusal> {
 }
 
 /// The reply to a LOCK.
-pub(crate) fn locked(command: &LockCommand, done: Result<bool, Refusal>) -> Reply {
+pub(crate) fn locked(command: &LockCommand, done: Result<bool, Refusal>) -> Reply
+    ensures { result ≡ said (told_had command.now) done }
+{
     match (command, done) {
         (_, Err(refusal)) => Reply::Refused(refusal),
         (LockCommand::Release, Ok(_)) => Reply::Finished,
@@ -30,7 +42,9 @@ pub(crate) fn locked(command: &LockCommand, done: Result<bool, Refusal>) -> Repl
 }
 
 /// The reply to TSTART.
-pub(crate) fn at_level(done: Result<u64, Refusal>) -> Reply {
+pub(crate) fn at_level(done: Result<u64, Refusal>) -> Reply
+    ensures { result ≡ said AtLevel done }
+{
     match done {
         Ok(level) => Reply::AtLevel(level),
         Err(refusal) => Reply::Refused(refusal),
@@ -38,7 +52,9 @@ pub(crate) fn at_level(done: Result<u64, Refusal>) -> Reply {
 }
 
 /// The reply to the outermost TCOMMIT.
-pub(crate) fn ended(done: Result<Ended, Refusal>) -> Reply {
+pub(crate) fn ended(done: Result<Ended, Refusal>) -> Reply
+    ensures { result ≡ ended_as done }
+{
     match done {
         Ok(Ended::Committed) => Reply::Committed,
         Ok(Ended::Restarted(restarts)) => Reply::Restarted(restarts),
@@ -47,7 +63,9 @@ pub(crate) fn ended(done: Result<Ended, Refusal>) -> Reply {
 }
 
 /// The reply to TROLLBACK.
-pub(crate) fn finished(done: Result<(), Refusal>) -> Reply {
+pub(crate) fn finished(done: Result<(), Refusal>) -> Reply
+    ensures { result ≡ said (λ d. finished_reply) done }
+{
     match done {
         Ok(()) => Reply::Finished,
         Err(refusal) => Reply::Refused(refusal),
@@ -55,7 +73,9 @@ pub(crate) fn finished(done: Result<(), Refusal>) -> Reply {
 }
 
 /// The reply to TRESTART.
-pub(crate) fn restarted(done: Result<u64, Refusal>) -> Reply {
+pub(crate) fn restarted(done: Result<u64, Refusal>) -> Reply
+    ensures { result ≡ said restarted_reply done }
+{
     match done {
         Ok(restarts) => Reply::Restarted(restarts),
         Err(refusal) => Reply::Refused(refusal),

@@ -68,6 +68,8 @@ fn any_refused(reports: &[Report]) -> bool
 /// Runs the jobs of a text at the same time, and writes their replies, by job in order of the jobs' first lines, then, where
 /// it is asked for, `--` and the listing of the database that they leave. Answers whether a reply is a refusal.
 ///
+/// A job's replies tell the units that it wrote, as `serve` says; the listing is of the map that all units leave.
+///
 /// After a fault a beginning of that was written: nothing where jobs weren't served to their end; `Write` only where a call
 /// of the writer failed.
 pub fn run_text<R: Threads + Wait + Sync, W: Write, G: Gate + Sync>(

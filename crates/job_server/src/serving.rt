@@ -1,18 +1,16 @@
 //! The workers, the channels, the reports in order.
-ghost use Rattle.std.specs.Prelude.{◌≡◌, ◌++◌, ◌∷◌, [], IfOk, OnOk, map};
-ghost use Rattle.job_server.specs.Served.{AreAnswered, AreBooked, asked, answered};
-ghost use Rattle.job_server.specs.Slots.{wanted};
+ghost use Rattle.std.specs.Prelude.{◌≡◌, ◌+◌, ℕ, IfOk, OnOk, map, take, length};
+ghost use Rattle.job_server.specs.Served.{Wanted, wanted, AreHanded, AreBooked};
 
 use crate::ServerFault;
 use crate::job_run::Calls;
-use crate::slot::Slot;
-use crate::worker::{Done, Task, Worker};
+use crate::worker::{Batch, Done, Task, Worker};
 use crossbeam_channel::{Receiver, Sender, unbounded};
 use job_scripts::{Report, Script};
 use pin_board::{Blank, BoardName, SEATS};
 use shared_engine::{Closed, Gate, Pass, Shared};
 use std::alloc::Global;
-use std::marker::Brand;
+use std::marker::{Brand, PhantomData};
 use std::sync::Wait;
 use std::thread;
 use std::thread::{Scope, Threads};
@@ -26,42 +24,40 @@ pub struct Served {
     pub closed: Closed,
 }
 
-// The reports and passes so far, the first fault, and how many jobs are done, with how many lines.
+// What came of the tasks so far, by place, the first fault, and how many jobs are done, with how many lines.
 #[derive(Drop)]
-struct Gathered<B: BoardName> {
-    slots: Vec<Slot>,
-    passes: Vec<Pass<B>>,
+struct Gathered<B: BoardName + Batch> {
+    slots: Vec<Option<Done<B>>>,
     fault: Option<ServerFault>,
     done: u64,
     lines: u64,
 }
 
-// Puts a report in its place.
-fn fill_at(slots: &mut Vec<Slot>, place: usize, report: Report) -> Result<(), ServerFault>
-    ensures { map wanted slots.new.items ≡ map wanted slots.old.items }
-{
-    if place >= slots.len() {
+// Puts what came of a task in its place, where nothing is yet.
+fn fill_at<B: BoardName + Batch>(
+    slots: &mut Vec<Option<Done<B>>>,
+    done: Done<B>,
+) -> Result<(), ServerFault> {
+    let place = done.place;
+    if place >= slots.len() || slots[place].is_some() {
         return Err(ServerFault::Missing);
     }
-    slots[place].fill(report)
+    slots[place] = Some(done);
+    Ok(())
 }
 
-impl<B: BoardName> Gathered<B> {
+impl<B: BoardName + Batch> Gathered<B> {
     // Takes what came of a task in.
-    fn take_in(&mut self, done: Done<B>) -> Result<(), ServerFault>
-        ensures { map wanted self.new.slots.items ≡ map wanted self.old.slots.items }
-    {
-        let mut ran = done.outcome?;
-        self.lines = self.lines.wrapping_add(ran.report.replies().len() as u64);
-        fill_at(&mut self.slots, done.place, ran.report)?;
-        self.passes.append(&mut ran.passes)?;
-        Ok(())
+    fn take_in(&mut self, done: Done<B>) -> Result<(), ServerFault> {
+        match &done.outcome {
+            Ok(ran) => self.lines = self.lines.wrapping_add(ran.report.replies().len() as u64),
+            Err(fault) => return Err(*fault),
+        }
+        fill_at(&mut self.slots, done)
     }
 
     // Takes what came of a task in, keeps the first fault, and tells how many are done.
-    fn note<G: Gate>(&mut self, done: Done<B>, gate: &G)
-        ensures { map wanted self.new.slots.items ≡ map wanted self.old.slots.items }
-    {
+    fn note<G: Gate>(&mut self, done: Done<B>, gate: &G) {
         if let Err(fault) = self.take_in(done) {
             if self.fault.is_none() {
                 self.fault = Some(fault);
@@ -72,49 +68,81 @@ impl<B: BoardName> Gathered<B> {
     }
 }
 
-// The report of a slot, where it is there.
-fn push_report(slot: Slot, reports: &mut Vec<Report>) -> Result<(), ServerFault>
-    ensures { OnOk result (map answered reports.new.items ≡ map answered reports.old.items ++ wanted slot ∷ []) }
-{
-    match slot.into_report() {
-        Some(report) => {
-            reports.push(report)?;
-            Ok(())
+// The reports in order, and the passes of all sessions.
+#[derive(Drop)]
+struct Handed<B: BoardName> {
+    reports: Vec<Report>,
+    passes: Vec<Pass<B>>,
+}
+
+impl<B: BoardName + Batch> Handed<B> {
+    // One more, where it is there, and of this place.
+    fn take(&mut self, place: usize, slot: Option<Done<B>>) -> Result<(), ServerFault>
+        ensures { OnOk result (∥ AreHanded (take place B.scripts) self.old.reports.items self.old.passes.items ∥₁ → ∥ AreHanded (take (place + 1) B.scripts) self.new.reports.items self.new.passes.items ∥₁) }
+    {
+        let Some(done) = slot else {
+            return Err(ServerFault::Missing);
+        };
+        if done.place != place {
+            return Err(ServerFault::Missing);
         }
-        None => Err(ServerFault::Missing),
+        let mut ran = done.outcome?;
+        self.reports.push(ran.report)?;
+        self.passes.append(&mut ran.passes)?;
+        Ok(())
     }
 }
 
-// The reports in order, once all are there.
-fn reports_of(alloc: Global, slots: Vec<Slot>) -> Result<Vec<Report>, ServerFault>
-    ensures { IfOk result (λ reports. map answered reports.items ≡ map wanted slots.items) }
+// The reports in order, once all are there, and the passes.
+fn reports_of<B: BoardName + Batch>(
+    alloc: Global,
+    slots: Vec<Option<Done<B>>>,
+) -> Result<Handed<B>, ServerFault>
+    ensures { IfOk result (λ handed. ∥ AreHanded (take (length slots.items) B.scripts) handed.reports.items handed.passes.items ∥₁) }
 {
-    let mut reports = Vec::new(alloc);
-    for slot in slots {
-        push_report(slot, &mut reports)?;
+    let mut handed = Handed {
+        reports: Vec::new(alloc),
+        passes: Vec::new(alloc),
+    };
+    for (place, slot) in slots.into_iter().enumerate() {
+        handed.take(place, slot)?;
     }
-    Ok(reports)
+    Ok(handed)
 }
 
-// An empty slot for each script.
-fn slots_of(alloc: Global, scripts: &[Script]) -> Result<Vec<Slot>, ServerFault>
-    ensures { IfOk result (λ slots. map wanted slots.items ≡ map asked scripts.now) }
-{
+// Nothing yet at one place more.
+fn wait_for<B: BoardName + Batch>(slots: &mut Vec<Option<Done<B>>>) -> Result<(), ServerFault> {
+    slots.push(None)?;
+    Ok(())
+}
+
+// Nothing yet at so many places.
+fn slots_of<B: BoardName + Batch>(
+    alloc: Global,
+    count: usize,
+) -> Result<Vec<Option<Done<B>>>, ServerFault> {
     let mut slots = Vec::new(alloc);
-    for script in scripts {
-        slots.push(Slot::new(script))?;
+    for _ in 0..count {
+        wait_for(&mut slots)?;
     }
     Ok(slots)
 }
 
 // Queues each script.
-fn queue<R: Wait>(
+fn queue<B: Batch, R: Wait>(
     rt: &R,
     scripts: Vec<Script>,
-    tasks: &Sender<Task, Global>,
-) -> Result<(), ServerFault> {
+    tasks: &Sender<Task<B>, Global>,
+) -> Result<(), ServerFault>
+    requires { map wanted scripts.items ≡ B.scripts }
+{
     for (place, script) in scripts.into_iter().enumerate() {
-        if tasks.send(rt, Task { place, script }).is_err() {
+        let task = Task {
+            place,
+            script,
+            of: PhantomData,
+        };
+        if tasks.send(rt, task).is_err() {
             return Err(ServerFault::Memory);
         }
     }
@@ -122,14 +150,12 @@ fn queue<R: Wait>(
 }
 
 // Takes in what comes of each task, until no worker is left.
-fn gather<B: BoardName, R: Wait, G: Gate>(
+fn gather<B: BoardName + Batch, R: Wait, G: Gate>(
     rt: &R,
     gathered: &mut Gathered<B>,
     reports: &Receiver<Done<B>, Global>,
     gate: &G,
-)
-    ensures { map wanted gathered.new.slots.items ≡ map wanted gathered.old.slots.items }
-{
+) {
     'reports: for _ in rt.forever() {
         match reports.recv(rt) {
             Ok(done) => gathered.note(done, gate),
@@ -139,11 +165,11 @@ fn gather<B: BoardName, R: Wait, G: Gate>(
 }
 
 // Starts a worker.
-fn start<'s, E, B: BoardName + Send + Sync, R: Wait + Sync, G: Gate + Sync>(
+fn start<'s, E, B: BoardName + Batch + Send + Sync, R: Wait + Sync, G: Gate + Sync>(
     scope: &Scope<'s, E>,
     alloc: Global,
     calls: Calls<'s, B, R, G>,
-    tasks: Receiver<Task, Global>,
+    tasks: Receiver<Task<B>, Global>,
     reports: Sender<Done<B>, Global>,
 ) -> Result<(), ServerFault> {
     let started = scope.spawn(move || {
@@ -161,7 +187,7 @@ fn start<'s, E, B: BoardName + Send + Sync, R: Wait + Sync, G: Gate + Sync>(
 }
 
 // Starts the workers, hands the scripts out, and gathers what comes back.
-fn share_out<B: BoardName + Send + Sync, R: Threads + Wait + Sync, G: Gate + Sync>(
+fn share_out<B: BoardName + Batch + Send + Sync, R: Threads + Wait + Sync, G: Gate + Sync>(
     rt: &R,
     alloc: Global,
     engine: &Shared<B>,
@@ -169,11 +195,10 @@ fn share_out<B: BoardName + Send + Sync, R: Threads + Wait + Sync, G: Gate + Syn
     workers: usize,
     gate: &G,
 ) -> Result<Gathered<B>, ServerFault>
-    ensures { IfOk result (λ gathered. map wanted gathered.slots.items ≡ map asked scripts.items) }
+    requires { map wanted scripts.items ≡ B.scripts }
 {
     let mut gathered = Gathered {
-        slots: slots_of(alloc, scripts.as_slice())?,
-        passes: Vec::new(alloc),
+        slots: slots_of(alloc, scripts.len())?,
         fault: None,
         done: 0,
         lines: 0,
@@ -184,7 +209,7 @@ fn share_out<B: BoardName + Send + Sync, R: Threads + Wait + Sync, G: Gate + Syn
         thread::scope_env(),
         rt,
         move |scope| -> Result<Gathered<B>, ServerFault>
-            ensures { IfOk result (λ done. map wanted done.slots.items ≡ map wanted gathered.slots.items) }
+            requires { map wanted scripts.items ≡ B.scripts }
         {
             for _ in 0..workers {
                 let tasks = task_receiver.clone()?;
@@ -200,8 +225,8 @@ fn share_out<B: BoardName + Send + Sync, R: Threads + Wait + Sync, G: Gate + Syn
     )
 }
 
-// Serves on a board that is this one.
-fn serve_on<B: BoardName + Send + Sync, R: Threads + Wait + Sync, G: Gate + Sync>(
+// Serves these scripts on a board that is this one.
+fn serve_on<B: BoardName + Batch + Send + Sync, R: Threads + Wait + Sync, G: Gate + Sync>(
     rt: &R,
     alloc: Global,
     blank: Blank,
@@ -209,22 +234,29 @@ fn serve_on<B: BoardName + Send + Sync, R: Threads + Wait + Sync, G: Gate + Sync
     workers: usize,
     gate: &G,
 ) -> Result<Served, ServerFault>
-    requires { (blank.seat.table_id ≡ B.table) × (blank.words.seats ≡ 4096) }
-    ensures answered { IfOk result (λ served. AreAnswered scripts.items served.reports.items) }
-    ensures booked { IfOk result (λ served. AreBooked served.closed.core.units served.closed.sessions) }
+    requires board { (blank.seat.table_id ≡ B.table) × (blank.words.seats ≡ 4096) }
+    requires scripts { map wanted scripts.items ≡ B.scripts }
+    ensures booked { IfOk result (λ served. ∥ AreBooked (map wanted scripts.items) served.reports.items served.closed.core.units served.closed.sessions ∥₁) }
 {
     let engine = Shared::<B>::new(alloc, blank);
+    let count = scripts.len();
     let gathered = share_out(rt, alloc, &engine, scripts, workers, gate)?;
     if let Some(fault) = gathered.fault {
         return Err(fault);
     }
-    let reports = reports_of(alloc, gathered.slots)?;
-    let passes = gathered.passes.len() as u64;
-    let closed = engine.finish(rt, gathered.passes);
+    if gathered.slots.len() != count {
+        return Err(ServerFault::Missing);
+    }
+    let handed = reports_of(alloc, gathered.slots)?;
+    let passes = handed.passes.len() as u64;
+    let closed = engine.finish(rt, handed.passes);
     if closed.sessions != passes {
         return Err(ServerFault::Missing);
     }
-    Ok(Served { reports, closed })
+    Ok(Served {
+        reports: handed.reports,
+        closed,
+    })
 }
 
 /// Runs the scripts of jobs at the same time, on so many workers and an engine that is new, and answers a report for each
@@ -232,6 +264,9 @@ fn serve_on<B: BoardName + Send + Sync, R: Threads + Wait + Sync, G: Gate + Sync
 ///
 /// A script is one job's alone, and its lines are as many as it says. With no worker nothing is done, and each report is
 /// missing.
+///
+/// A report's replies tell the units of its job's books, which are in the closed journal; a LOCK that no reply tells may stand
+/// among them: a first try of one that waited, or one of a try of a block that was overtaken.
 ///
 /// After a fault no report is handed out: `Memory` where memory was refused and no reply could say so, also where a worker
 /// couldn't be started, a session begun or its last HALT done; `Missing` where a report didn't come, or isn't one reply for
@@ -243,8 +278,7 @@ pub fn serve<R: Threads + Wait + Sync, G: Gate + Sync>(
     workers: usize,
     gate: &G,
 ) -> Result<Served, ServerFault>
-    ensures answered { IfOk result (λ served. AreAnswered scripts.items served.reports.items) }
-    ensures booked { IfOk result (λ served. AreBooked served.closed.core.units served.closed.sessions) }
+    ensures booked { IfOk result (λ served. ∥ AreBooked (map wanted scripts.items) served.reports.items served.closed.core.units served.closed.sessions ∥₁) }
 {
     let blank = Blank::new(alloc, SEATS)?;
     serve_on::<Brand, _, _>(rt, alloc, blank, scripts, workers, gate)

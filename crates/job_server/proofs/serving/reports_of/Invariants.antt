@@ -1,9 +1,12 @@
-use Rattle.std.proofs.Common.{◌≡◌, ◌++◌, map}
+use Rattle.std.proofs.Common.{◌≡◌, ◌+◌, length, take}
 use Rattle.std.specs.Vec.Iter.{into_iter_items}
-use Rattle.job_server.specs.Served.{answered}
-use Rattle.job_server.specs.Slots.{wanted}
+use Rattle.std.specs.Iterator.Adapters.{enumerate_source, enumerate_count}
+use Rattle.job_server.specs.Served.{AreHanded}
 use Rattle.job_server.proofs.serving.reports_of.Given as goal
 
--- with what is left it will be the whole
-abbrev pub invariant-loop-slot : goal.invariant-loop-slot
-invariant-loop-slot l = map answered l.reports.items ++ map wanted (into_iter_items l.slot-iterator) ≡ map wanted l.fn.slots.items
+-- the reports in front are handed over
+abbrev pub invariant-loop-place : goal.invariant-loop-place
+invariant-loop-place g l = record {
+  count : enumerate_count l.place-iterator + length (into_iter_items (enumerate_source l.place-iterator)) ≡ length l.fn.slots.items;
+  handed : ∥ AreHanded (take (enumerate_count l.place-iterator) g.B.Batch.scripts) l.handed.reports.items l.handed.passes.items ∥₁;
+}

@@ -1,0 +1,188 @@
+-- A block of lines, done under one hold of the lock.
+use Rattle.std.proofs.Common.{◌≡◌, ◌≢◌, ◌⊎◌, inl, inr, ℕ, zero, suc, ◌+◌, ◌-◌, ◌≤◌, ◌<◌, nat_lt, Bool, true, false, List, [], ◌∷◌, ◌++◌, length, refl, sym, ap, ◌∙◌, subst, arith, true≢false}
+use Rattle.std.specs.Prelude.{Option, Some, None, Result, Ok, Err, if◌then◌else◌}
+use Rattle.std.specs.List.{All}
+use Rattle.std.proofs.lemmas.List.Elements.{All-rest}
+use Rattle.refusal.specs.declared.Refusal.{Refusal}
+use Rattle.refusal.specs.declared.Refusal.TheVariants.{NoTransaction}
+use Rattle.collation.specs.Locks.{lock_reply}
+use Rattle.collation.specs.declared.lock.LockCommand.{LockCommand}
+use Rattle.collation.specs.declared.lock.LockCommand.TheVariants.{Release}
+use Rattle.command.specs.declared.access.DataCommand.{DataCommand}
+use Rattle.command.specs.declared.access.Answer.{Answer}
+use Rattle.command.specs.declared.request.Command.{Command}
+use Rattle.command.specs.declared.request.Command.TheVariants.{Access, Lock as lock_command, Start, Commit, Rollback, Restart, Level, Restarts, Halt}
+use Rattle.command.specs.declared.request.Reply.{Reply}
+use Rattle.command.specs.declared.request.Reply.TheVariants.{Answered, Finished, Had, Count, AtLevel, Committed as committed_reply, Restarted as restarted_reply, Refused}
+use Rattle.journal.specs.declared.unit.Unit.{Unit as JournalUnit}
+use Rattle.journal.specs.History.{initial, after}
+use Rattle.journal.specs.Story.{Transaction, Machine, transaction_of, told}
+use Rattle.script.specs.Line.{reading_of}
+use Rattle.serial.specs.Machine.{told_had}
+use Rattle.job_core.specs.Sessions.{Session as JobSession, IsAnsweredOrRefused}
+use Rattle.shared_engine.specs.Sessions.{Held, held}
+use Rattle.shared_engine.specs.Blocks.{said, IsLone, IsReadAt, IsInside, IsTried, IsOpened, IsDeeper, IsNone, IsCommitted, IsLower, IsRolledBack, IsRestarted, HasDone, AreDone, IsReady, moved, moved_open}
+use Rattle.job_scripts.specs.Blocks.{in_place, AreAsked}
+use Rattle.job_server.specs.Told.{told_by, told_by_lines, units_of, IsToldIn, given}
+use Rattle.job_server.specs.Telling.{Shows, Stands, Follows}
+use Rattle.job_server.proofs.Following.{refused_follows, counted_follows, lone_follows, read_at_follows, tried_follows, begun_follows, deeper_follows, lower_follows, committed_follows, restarted_follows, rolled_back_follows}
+use Rattle.job_server.proofs.Answering.{follows_as}
+
+-- ---- one command
+
+lone_done : (command : DataCommand) (result : Result Answer Refusal) (units more : List JournalUnit) (old new : Held) → old.state.level ≡ 0 → IsLone command result units more old new → Follows (Access command) (said Answered result) old new
+lone_done command (Ok answer) units more old new level h = lone_follows command answer (length units + 1) old new level h.1.1
+lone_done command (Err refusal) units more old new level h = refused_follows (Access command) refusal old new h.1.1
+
+tried_done : (command : LockCommand) (result : Result Bool Refusal) (units more : List JournalUnit) (old new : Held) → IsTried command result units more old new → Follows (lock_command command) (said (told_had command) result) old new
+tried_done command (Ok had) units more old new h =
+    tried_follows command had (length units + 1) old new (λ is. h.0.0 ∙ ap (λ (c : LockCommand). lock_reply old.state.work.job c (after units initial).locks) is) h.1.1
+tried_done command (Err refusal) units more old new h = refused_follows (lock_command command) refusal old new h.1.1
+
+opened_done : (result : Result ℕ Refusal) (units more : List JournalUnit) (old new : Held) → old.state.level ≡ 0 → IsOpened result units more old new → Follows Start (said AtLevel result) old new
+opened_done (Ok level) units more old new none h = subst (λ (l : ℕ). Follows Start (AtLevel l) old new) (sym h.0) (begun_follows units old new none h.1.1)
+opened_done (Err refusal) units more old new none h = refused_follows Start refusal old new h.1.1
+
+deeper_done : (result : Result ℕ Refusal) (units more : List JournalUnit) (old new : Held) → 1 ≤ old.state.level → IsDeeper result units more old new → Follows Start (said AtLevel result) old new
+deeper_done (Ok level) units more old new one h = deeper_follows level old new one h.0 h.1.1
+deeper_done (Err refusal) units more old new one h = refused_follows Start refusal old new h.1.1
+
+none_done : {A : Type 0} (command : Command) (reply : A → Reply) (result : Result A Refusal) (units more : List JournalUnit) (old new : Held) → IsNone result units more old new → Follows command (said reply result) old new
+none_done {A} command reply result units more old new h = subst (λ (r : Result A Refusal). Follows command (said reply r) old new) (sym h.0) (refused_follows command NoTransaction old new h.1.1)
+
+committed_done : (result : Result Reply Refusal) (units more : List JournalUnit) (old new : Held) → old.state.level ≡ 1 → IsCommitted result units more old new → Follows Commit (said (λ r. r) result) old new
+committed_done (Ok reply) units more old new one h = follows_as Commit committed_reply reply old new (committed_follows units more old new (omega (arith, one)) h.1) h.0
+committed_done (Err refusal) units more old new one h = refused_follows Commit refusal old new h.1.1
+
+lower_done : (result : Result Reply Refusal) (units more : List JournalUnit) (old new : Held) → 1 < old.state.level → IsLower result units more old new → Follows Commit (said (λ r. r) result) old new
+lower_done result units more old new deep h =
+    subst (λ (r : Result Reply Refusal). Follows Commit (said (λ x. x) r) old new) (sym h.0) (lower_follows (old.state.level - 1) old new deep refl h.1.1)
+
+rolled_back_done : (result : Result (Unit {0}) Refusal) (units more : List JournalUnit) (old new : Held) → IsRolledBack result units more old new → Follows Rollback (said (λ d. Finished) result) old new
+rolled_back_done (Ok d) units more old new h = rolled_back_follows old new h.1
+rolled_back_done (Err refusal) units more old new h = refused_follows Rollback refusal old new h.1.1
+
+restarted_done : (result : Result ℕ Refusal) (units more : List JournalUnit) (old new : Held) → IsRestarted result units more old new → Follows Restart (said restarted_reply result) old new
+restarted_done (Ok restarts) units more old new h = restarted_follows restarts more old new h.1.1
+restarted_done (Err refusal) units more old new h = refused_follows Restart refusal old new h.1.1
+
+-- the level is 0, 1 or more
+by_level : {P : Type 0} (level : ℕ) → (level ≡ 0 → P) → (level ≡ 1 → P) → (1 < level → P) → P
+by_level zero none one deep = none refl
+by_level (suc zero) none one deep = one refl
+by_level (suc (suc n)) none one deep = deep (omega arith)
+
+-- outside a transaction or inside
+in_or_out : {P : Type 0} (level : ℕ) → (level ≡ 0 → P) → (1 ≤ level → P) → P
+in_or_out zero none one = none refl
+in_or_out (suc n) none one = one (omega arith)
+
+pub done_follows : (command : Command) (reply : Reply) (units more : List JournalUnit) (old new : Held) → HasDone command reply units more old new → Follows command reply old new
+done_follows (Access command) reply units more old new h =
+    follows_as (Access command) (said Answered h.0) reply old new
+    (in_or_out old.state.level (λ none. lone_done command h.0 units more old new none (h.2 none)) (λ one. read_at_follows old.start command h.0 old new one (h.3 one).0 (h.3 one).1.1.1)) h.1
+done_follows (lock_command command) reply units more old new h = follows_as (lock_command command) (said (told_had command) h.0) reply old new (tried_done command h.0 units more old new h.2) h.1
+done_follows Start reply units more old new h =
+    follows_as Start (said AtLevel h.0) reply old new
+    (in_or_out old.state.level (λ none. opened_done h.0 units more old new none (h.2 none)) (λ one. deeper_done h.0 units more old new one (h.3 one))) h.1
+done_follows Commit reply units more old new h =
+    follows_as Commit (said (λ r. r) h.0) reply old new
+    (by_level old.state.level (λ none. none_done Commit (λ r. r) h.0 units more old new (h.2 none)) (λ one. committed_done h.0 units more old new one (h.3 one)) (λ deep. lower_done h.0 units more old new deep (h.4 deep))) h.1
+done_follows Rollback reply units more old new h =
+    follows_as Rollback (said (λ d. Finished) h.0) reply old new
+    (in_or_out old.state.level (λ none. none_done Rollback (λ d. Finished) h.0 units more old new (h.2 none)) (λ one. rolled_back_done h.0 units more old new (h.3 one))) h.1
+done_follows Restart reply units more old new h =
+    follows_as Restart (said restarted_reply h.0) reply old new
+    (in_or_out old.state.level (λ none. none_done Restart restarted_reply h.0 units more old new (h.2 none)) (λ one. restarted_done h.0 units more old new (h.3 one))) h.1
+done_follows Level reply units more old new h = follows_as Level (Count old.state.level) reply old new (counted_follows Level old.state.level old new h.1.1) h.0
+done_follows Restarts reply units more old new h = follows_as Restarts (Count old.state.restarts) reply old new (counted_follows Restarts old.state.restarts old new h.1.1) h.0
+done_follows Halt reply units more old new h = absurd h
+
+-- ---- lines
+
+-- a refused line tells nothing
+pub refused_tells : (job : ℕ) (read : Result (ℕ × Command) Refusal) (refusal : Refusal) (s : Machine) → told_by job read (Refused refusal) s ≡ s
+refused_tells job (Ok step) refusal s = refl
+refused_tells job (Err fault) refusal s = refl
+
+-- a block's lines were told, and lead on to the lines behind them
+pub record HasTold (job : ℕ) (front : List JournalUnit) (lines : List (List ℕ)) (replies : List Reply) (s : Machine) (new : Held) : Type 0 where
+  pub machine : Machine
+  pub led : (left : List (List ℕ)) (later : List Reply) → told_by_lines job (lines ++ left) (replies ++ later) s ≡ told_by_lines job left later machine
+  pub whose : new.state.work.job ≡ job
+  pub stands : Stands front machine new
+
+-- a line more in front
+line_before : (job : ℕ) (front : List JournalUnit) (line : List ℕ) (lines : List (List ℕ)) (reply : Reply) (replies : List Reply) (s middle : Machine) (new : Held) → told_by job (reading_of line) reply s ≡ middle → HasTold job front lines replies middle new
+    → HasTold job front (line ∷ lines) (reply ∷ replies) s new
+line_before job front line lines reply replies s middle new is h = record {
+  machine = h.machine;
+  led = λ left later. ap (λ (m : Machine). told_by_lines job (lines ++ left) (replies ++ later) m) is ∙ h.led left later;
+  whose = h.whose;
+  stands = h.stands;
+}
+
+pub block_told : (job : ℕ) (front : List JournalUnit) (lines : List (List ℕ)) (places : List (Option Refusal)) (commands : List Command) (replies : List Reply) (units more : List JournalUnit) (old new : Held) (s : Machine)
+    → AreAsked lines places commands → AreDone commands replies units more old new → old.state.work.job ≡ job → Stands front s old → HasTold job front lines (in_place places replies) s new
+block_told job front [] [] [] [] units more old new s asked done whose stands = record {
+  machine = s;
+  led = λ left later. refl;
+  whose = ap (λ (h : Held). h.state.work.job) done.1 ∙ whose;
+  stands = subst (λ (h : Held). Stands front s h) (sym done.1) stands;
+}
+block_told job front [] [] [] (reply ∷ replies) units more old new s asked done whose stands = absurd done
+block_told job front [] [] (command ∷ commands) replies units more old new s asked done whose stands = absurd asked
+block_told job front [] (place ∷ places) commands replies units more old new s asked done whose stands = absurd asked
+block_told job front (line ∷ lines) [] commands replies units more old new s asked done whose stands = absurd asked
+block_told job front (line ∷ lines) (Some refusal ∷ places) commands replies units more old new s asked done whose stands =
+    line_before job front line lines (Refused refusal) (in_place places replies) s s new (refused_tells job (reading_of line) refusal s) (block_told job front lines places commands replies units more old new s asked done whose stands)
+block_told job front (line ∷ lines) (None ∷ places) [] replies units more old new s asked done whose stands = absurd asked
+block_told job front (line ∷ lines) (None ∷ places) (command ∷ commands) [] units more old new s asked done whose stands = absurd done
+block_told job front (line ∷ lines) (None ∷ places) (command ∷ commands) (reply ∷ replies) units more old new s asked done whose stands =
+    let follows : Follows command reply old done.1 = done_follows command reply units done.0 old done.1 done.2 in
+    line_before job front line lines reply (in_place places replies) s (told job command reply s) new (ap (λ (r : Result (ℕ × Command) Refusal). told_by job r reply s) asked.0.1)
+    (block_told job front lines places commands replies done.0 more done.1 new (told job command reply s) asked.1 done.3 (follows.whose ∙ whose)
+    (subst (λ (j : ℕ). Stands front (told j command reply s) done.1) whose (follows.stands front s stands)))
+
+-- ---- before a block
+
+-- its start is moved where a transaction is open, which has done nothing
+pub moved_stands : (front : List JournalUnit) (units : List JournalUnit) (s : Machine) (h : Held) → IsReady h → Stands front s h → Stands front s (moved_open units h)
+moved_stands front units s h (inl none) stands = subst (λ (x : Held). Stands front s x) (sym (ap (λ (b : Bool). if b then moved units h else h) (ap (λ (n : ℕ). nat_lt 0 n) none))) stands
+moved_stands front units s h (inr fresh) stands =
+    subst (λ (x : Held). Stands front s x) (sym (ap (λ (b : Bool). if b then moved units h else h) (ap (λ (n : ℕ). nat_lt 0 n) fresh.0)))
+    (record { shows = still (transaction_of h.state.work.job s) stands.shows; is_told = stands.is_told })
+  where
+    still : (t : Option Transaction) → Shows h.state t → Shows (moved units h).state t
+    still None shows = shows
+    still (Some t) shows = (shows.0, (shows.1.0, sym fresh.1.0 ∙ shows.1.1))
+
+pub moved_job : (units : List JournalUnit) (h : Held) → (moved_open units h).state.work.job ≡ h.state.work.job
+moved_job units h = by_test (nat_lt 0 h.state.level)
+  where
+    by_test : (b : Bool) → (if b then moved units h else h).state.work.job ≡ h.state.work.job
+    by_test true = refl
+    by_test false = refl
+
+-- ---- data commands in a transaction
+
+abbrev IsAccess : Command → Type 0
+IsAccess command = (d : DataCommand) × (command ≡ Access d)
+
+same_level : (start : Option (List JournalUnit)) (command : DataCommand) (result : Result Answer Refusal) (old new : JobSession) → IsReadAt start command result old new → new.level ≡ old.level
+same_level None command result old new h = absurd h
+same_level (Some base) command (Ok answer) old new h = h.level
+same_level (Some base) command (Err refusal) old new h = ap (λ (x : JobSession). x.level) h.same
+
+-- they write nothing
+pub reads_keep : (commands : List Command) (replies : List Reply) (units more : List JournalUnit) (old new : Held) → All IsAccess commands → AreDone commands replies units more old new → 1 ≤ old.state.level
+    → (new.state.level ≡ old.state.level) × (new.receipts ≡ old.receipts)
+reads_keep [] [] units more old new all done one = (ap (λ (h : Held). h.state.level) done.1, ap (λ (h : Held). h.receipts) done.1)
+reads_keep [] (reply ∷ replies) units more old new all done one = absurd done
+reads_keep (command ∷ commands) [] units more old new all done one = absurd done
+reads_keep (command ∷ commands) (reply ∷ replies) units more old new all done one =
+    let first : IsAccess command = all 0 command (omega arith) in
+    let access : HasDone (Access first.0) reply units done.0 old done.1 = subst (λ (c : Command). HasDone c reply units done.0 old done.1) first.1 done.2 in
+    let level : done.1.state.level ≡ old.state.level = same_level old.start first.0 access.0 old.state done.1.state (access.3 one).0 in
+    let later = reads_keep commands replies done.0 more done.1 new (All-rest IsAccess command commands (command ∷ commands) refl all) done.3 (omega (arith, one, level)) in
+    (later.0 ∙ level, later.1 ∙ (access.3 one).1.1.1)

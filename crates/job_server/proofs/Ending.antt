@@ -1,0 +1,64 @@
+-- A session ends, and a call's answer is of one kind.
+use Rattle.std.proofs.Common.{◌≡◌, ℕ, Bool, true, false, not, List, [], ◌∷◌, ◌++◌, refl, sym, ap, ◌∙◌, subst, true≢false}
+use Rattle.std.specs.Prelude.{Option, Some, None, Result, Ok, Err, is_some, IfSome, IfNone}
+use Rattle.command.specs.declared.request.Command.TheVariants.{Halt}
+use Rattle.command.specs.declared.request.Reply.{Reply}
+use Rattle.command.specs.declared.request.Reply.TheVariants.{Finished}
+use Rattle.journal.specs.Story.{Machine, told}
+use Rattle.shared_engine.specs.Receipts.{Book, book}
+use Rattle.shared_engine.specs.Sessions.{Held}
+use Rattle.shared_engine.specs.Engines.{OnOkThat}
+use Rattle.job_scripts.specs.Lines.{lines_of_script}
+use Rattle.job_server.specs.Told.{IsTold}
+use Rattle.job_server.specs.Telling.{GoesOn, Serves, running}
+use Rattle.job_server.proofs.GoingOn.{halted_none, halted_some, run_told}
+
+-- a test found none
+pub none_where : (o : Option Held) (b : Bool) → is_some o ≡ not b → b ≡ true → o ≡ None
+none_where None b is found = refl
+none_where (Some h) b is found = absurd (true≢false (is ∙ ap not found))
+
+-- HALT without a session
+pub none_halted : (job : ℕ) (books : List Book) (old later : Option Held) → old ≡ None → later ≡ None → GoesOn (told job Halt Finished) job books old books later
+none_halted job books old later was is =
+    subst (λ (o : Option Held). GoesOn (told job Halt Finished) job books o books later) (sym was)
+    (subst (λ (o : Option Held). GoesOn (told job Halt Finished) job books None books o) (sym is) (halted_none job books))
+
+-- HALT of a session, which gives its book
+pub some_halted : (job : ℕ) (books more : List Book) (old later : Option Held) (h : Held) (pass : Book) → old ≡ Some h → later ≡ None → pass ≡ book h.state.work.job h.receipts → more ≡ books ++ pass ∷ []
+    → GoesOn (told job Halt Finished) job books old more later
+some_halted job books more old later h pass was is gives one_more =
+    subst (λ (o : Option Held). GoesOn (told job Halt Finished) job books o more later) (sym was)
+    (subst (λ (o : Option Held). GoesOn (told job Halt Finished) job books (Some h) more o) (sym is)
+    (subst (λ (bs : List Book). GoesOn (told job Halt Finished) job books (Some h) bs None) (sym (one_more ∙ ap (λ (p : Book). books ++ p ∷ []) gives)) (halted_some job books h)))
+
+-- the same books
+pub from_books : (tell : Machine → Machine) (job : ℕ) (books other more : List Book) (session later : Option Held) → other ≡ books → GoesOn tell job other session more later → GoesOn tell job books session more later
+from_books tell job books other more session later same h = subst (λ (bs : List Book). GoesOn tell job bs session more later) same h
+
+-- the job's lines were done, and then its last HALT
+pub run_ended : (job : ℕ) (text : List ℕ) (first replies : List Reply) (none books more : List Book) (closed session later : Option Held) (reply : Reply) → first ≡ [] → none ≡ [] → closed ≡ None
+    → Serves job (lines_of_script text) [] (running first none closed) (running replies books session) → GoesOn (told job Halt reply) job books session more later → reply ≡ Finished → later ≡ None → IsTold (Some job) text replies more
+run_ended job text first replies none books more closed session later reply no_reply no_book no_session h goes is over =
+    run_told job text replies books more session later
+    (subst (λ (rs : List Reply). Serves job (lines_of_script text) [] (running rs [] None) (running replies books session)) no_reply
+    (subst (λ (bs : List Book). Serves job (lines_of_script text) [] (running first bs None) (running replies books session)) no_book
+    (subst (λ (o : Option Held). Serves job (lines_of_script text) [] (running first none o) (running replies books session)) no_session h)))
+    (subst (λ (r : Reply). GoesOn (told job Halt r) job books session more later) is goes) over
+
+-- ---- answers
+
+-- what holds where the answer is yes
+pub where_yes : {E P : Type 0} (r : Result Bool E) → OnOkThat r P → r ≡ Ok true → P
+where_yes (Ok true) h is = h
+where_yes (Ok false) h is = absurd (cc)
+where_yes (Err e) h is = absurd (cc)
+
+-- where there is none
+pub where_none : {A P : Type 0} (o : Option A) → IfNone o P → o ≡ None → P
+where_none None h is = h
+where_none (Some a) h is = absurd (true≢false (ap is_some is))
+
+-- where there is one
+pub where_some : {A : Type 0} (o : Option A) (a : A) (P : A → Type 0) → IfSome o P → o ≡ Some a → P a
+where_some o a P h is = subst (λ x. IfSome x P) is h

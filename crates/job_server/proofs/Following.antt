@@ -1,0 +1,194 @@
+-- A session goes on as its reply tells, call by call.
+use Rattle.std.proofs.Common.{◌≡◌, ◌≢◌, ◌⊎◌, inl, inr, ℕ, zero, suc, ◌+◌, ◌-◌, ◌≤◌, ◌<◌, Bool, true, false, List, [], ◌∷◌, ◌++◌, length, refl, sym, ap, ◌∙◌, subst, arith, true≢false}
+use Rattle.std.specs.Prelude.{Option, Some, None, Result, Ok, Err, IfSome, IsSome}
+use Rattle.refusal.specs.declared.Refusal.{Refusal}
+use Rattle.collation.specs.Database.{Database}
+use Rattle.collation.specs.declared.lock.LockCommand.{LockCommand}
+use Rattle.collation.specs.declared.lock.LockCommand.TheVariants.{Release, Only, More, Fewer}
+use Rattle.command.specs.declared.access.DataCommand.{DataCommand}
+use Rattle.command.specs.declared.access.Answer.{Answer}
+use Rattle.command.specs.declared.access.Answer.TheVariants.{Done}
+use Rattle.command.specs.declared.request.Command.{Command}
+use Rattle.command.specs.declared.request.Command.TheVariants.{Access, Lock as lock_command, Start, Commit, Rollback, Restart, Level, Restarts, Halt}
+use Rattle.command.specs.declared.request.Reply.{Reply}
+use Rattle.command.specs.declared.request.Reply.TheVariants.{Answered, Finished, Had, Count, AtLevel, Committed as committed_reply, Restarted as restarted_reply, Refused}
+use Rattle.journal.specs.declared.unit.Unit.{Unit as JournalUnit}
+use Rattle.journal.specs.declared.unit.Unit.TheVariants.{Lone}
+use Rattle.journal.specs.Kept.{Claim}
+use Rattle.journal.specs.History.{initial, after}
+use Rattle.journal.specs.Story.{Machine, transaction_of, told, told_lock, told_back, told_level, told_commit, begin, close}
+use Rattle.serial.specs.Machine.{told_had}
+use Rattle.job_core.specs.Sessions.{Session as JobSession, at_level, just_opened, IsAnswered, IsRefused, IsAnsweredOrRefused, HasWritten}
+use Rattle.shared_engine.specs.Sessions.{Held, held, and_receipt, begun_anew, ended, HasBegun}
+use Rattle.shared_engine.specs.Engines.{HasEnded, HasItsNames, WasBlocked, after_try, lock_unit, whole_of}
+use Rattle.shared_engine.specs.declared.locked.Ended.TheVariants.{Committed, Restarted}
+use Rattle.shared_engine.specs.Blocks.{said, IsReadAt}
+use Rattle.job_server.specs.Told.{given, IsToldIn, units_of}
+use Rattle.job_server.specs.Telling.{Shows, Stands, AreStillTold, Follows, names_some, HasLocked}
+use Rattle.job_server.proofs.Units.{lock_receipt_more}
+use Rattle.job_server.proofs.Standing.{shown_none, with_open, with_none, with_closed, told_lone, told_inside, tried_untold, tried_told, tried_job, tried_level, back_given, told_begun, told_at, told_whole}
+
+-- the receipts are the same
+same_told : (old new : Held) (front : List JournalUnit) → new.receipts ≡ old.receipts → AreStillTold (front ++ units_of old.receipts) (front ++ units_of new.receipts)
+same_told old new front same ts h = subst (λ (cs : List Claim). IsToldIn ts (front ++ units_of cs)) (sym same) h
+
+-- ---- nothing has changed
+
+pub refused_follows : (command : Command) (refusal : Refusal) (old new : Held) → new ≡ old → Follows command (Refused refusal) old new
+refused_follows command refusal old new same = record {
+  whose = ap (λ (h : Held). h.state.work.job) same;
+  stands = λ front s stands. subst (λ (h : Held). Stands front s h) (sym same) stands;
+  keeps = λ before later front. same_told old new front (ap (λ (h : Held). h.receipts) same);
+}
+
+pub counted_follows : (command : Command) (n : ℕ) (old new : Held) → new ≡ old → Follows command (Count n) old new
+counted_follows command n old new same = record {
+  whose = ap (λ (h : Held). h.state.work.job) same;
+  stands = λ front s stands. subst (λ (h : Held). Stands front s h) (sym same) stands;
+  keeps = λ before later front. same_told old new front (ap (λ (h : Held). h.receipts) same);
+}
+
+-- ---- data commands
+
+pub lone_follows : (command : DataCommand) (answer : Answer) (n : ℕ) (old new : Held) → old.state.level ≡ 0 → new ≡ and_receipt n (Lone old.state.work.job command answer) old → Follows (Access command) (Answered answer) old new
+lone_follows command answer n old new level is = record {
+  whose = ap (λ (h : Held). h.state.work.job) is;
+  stands = λ front s stands. subst (λ (h : Held). Stands front (told old.state.work.job (Access command) (Answered answer) s) h) (sym is) (told_lone front s old command answer n level stands);
+  keeps = λ before later front. absurd (omega (arith, before, level));
+}
+
+pub inside_follows : (command : DataCommand) (answer : Answer) (old new : Held) → 1 ≤ old.state.level → new.state.level ≡ old.state.level → new.state.work.exchanges ≡ old.state.work.exchanges ++ record { command = command; answer = answer } ∷ []
+    → new.state.work.job ≡ old.state.work.job → new.receipts ≡ old.receipts → Follows (Access command) (Answered answer) old new
+inside_follows command answer old new one level exchanges job receipts = record {
+  whose = job;
+  stands = λ front s stands. told_inside front s old new command answer one stands level exchanges job receipts;
+  keeps = λ before later front. same_told old new front receipts;
+}
+
+-- nothing of a session has changed but what isn't seen of it
+pub unchanged_follows : (command : Command) (refusal : Refusal) (old new : Held) → new.state ≡ old.state → new.receipts ≡ old.receipts → Follows command (Refused refusal) old new
+unchanged_follows command refusal old new state receipts = record {
+  whose = ap (λ (x : JobSession). x.work.job) state;
+  stands = λ front s stands. record {
+    shows = subst (λ (x : JobSession). Shows x (transaction_of x.work.job s)) (sym state) stands.shows;
+    is_told = subst (λ (cs : List Claim). IsToldIn (given s) (front ++ units_of cs)) (sym receipts) stands.is_told;
+  };
+  keeps = λ before later front. same_told old new front receipts;
+}
+
+pub read_follows : (command : DataCommand) (result : Result Answer Refusal) (m : Database) (old new : Held) → 1 ≤ old.state.level → IsAnsweredOrRefused command result m old.state new.state → new.receipts ≡ old.receipts
+    → Follows (Access command) (said Answered result) old new
+read_follows command (Ok answer) m old new one h receipts = inside_follows command answer old new one h.level h.exchanges h.job receipts
+read_follows command (Err refusal) m old new one h receipts = unchanged_follows (Access command) refusal old new h.same receipts
+
+pub read_at_follows : (start : Option (List JournalUnit)) (command : DataCommand) (result : Result Answer Refusal) (old new : Held) → 1 ≤ old.state.level → IsReadAt start command result old.state new.state → new.receipts ≡ old.receipts
+    → Follows (Access command) (said Answered result) old new
+read_at_follows None command result old new one h receipts = absurd h
+read_at_follows (Some base) command result old new one h receipts = read_follows command result (after base initial).map old new one h receipts
+
+pub written_follows : (command : DataCommand) (old new : Held) → 1 ≤ old.state.level → HasWritten command old.state new.state → new.receipts ≡ old.receipts → Follows (Access command) (Answered Done) old new
+written_follows command old new one h receipts = inside_follows command Done old new one h.level h.kept.exchanges h.kept.job receipts
+
+-- ---- LOCK
+
+-- what the reply tells
+lock_told : (job : ℕ) (command : LockCommand) (had : Bool) (s : Machine) → ((command ≡ Release) → had ≡ true) → told job (lock_command command) (told_had command had) s ≡ told_lock job command had (transaction_of job s) s
+lock_told job Release had s is = ap (λ (b : Bool). told_lock job Release b (transaction_of job s) s) (sym (is refl))
+lock_told job (Only names) had s is = refl
+lock_told job (More names) had s is = refl
+lock_told job (Fewer names) had s is = refl
+
+pub tried_follows : (command : LockCommand) (had : Bool) (n : ℕ) (old new : Held) → ((command ≡ Release) → had ≡ true) → new ≡ after_try n command had old → Follows (lock_command command) (told_had command had) old new
+tried_follows command had n old new frees is = record {
+  whose = ap (λ (h : Held). h.state.work.job) is ∙ tried_job n command had old;
+  stands = λ front s stands.
+      subst (λ (m : Machine). Stands front m new) (sym (lock_told old.state.work.job command had s frees))
+      (subst (λ (h : Held). Stands front (told_lock old.state.work.job command had (transaction_of old.state.work.job s) s) h) (sym is) (tried_told front s old command had n (transaction_of old.state.work.job s) refl stands));
+  keeps = λ before later front ts h. subst (λ (x : Held). IsToldIn ts (front ++ units_of x.receipts)) (sym is) (lock_receipt_more ts front old.receipts n (lock_unit old.state command had) refl h);
+}
+
+-- a first try in vain, and then another step
+blocked_then : (command : LockCommand) (reply : Reply) (n : ℕ) (old new : Held) → Follows (lock_command command) reply (after_try n command false old) new → Follows (lock_command command) reply old new
+blocked_then command reply n old new then = record {
+  whose = then.whose ∙ tried_job n command false old;
+  stands = λ front s stands.
+      subst (λ (j : ℕ). Stands front (told j (lock_command command) reply s) new) (tried_job n command false old)
+      (then.stands front s (tried_untold front s old command false n stands));
+  keeps = λ before later front ts h.
+      then.keeps (omega (arith, before, tried_level n command false old)) later front ts (lock_receipt_more ts front old.receipts n (lock_unit old.state command false) refl h);
+}
+
+pub locked_follows : (command : LockCommand) (result : Result Bool Refusal) (old new : Held) → HasLocked command result old new → Follows (lock_command command) (said (told_had command) result) old new
+locked_follows command (Ok true) old new (inl h) = tried_follows command true h.0 old new (λ is. refl) h.1
+locked_follows command (Ok true) old new (inr h) = blocked_then command (told_had command true) h.0 old new (tried_follows command true h.1 (after_try h.0 command false old) new (λ is. refl) h.2)
+locked_follows command (Ok false) old new h =
+    tried_follows command false h.1.0 old new (λ is. absurd (true≢false (sym h.0 ∙ ap names_some is))) h.1.1
+locked_follows command (Err refusal) old new (inl h) = refused_follows (lock_command command) refusal old new h
+locked_follows command (Err refusal) old new (inr h) = blocked_then command (Refused refusal) h.0 old new (refused_follows (lock_command command) refusal (after_try h.0 command false old) new h.1)
+
+-- ---- transactions
+
+pub begun_follows : (base : List JournalUnit) (old new : Held) → old.state.level ≡ 0 → HasBegun base old new → Follows Start (AtLevel 1) old new
+begun_follows base old new level h = record {
+  whose = ap (λ (x : Held). x.state.work.job) h.is;
+  stands = λ front s stands.
+      let none : transaction_of old.state.work.job s ≡ None = shown_none old.state (transaction_of old.state.work.job s) stands.shows level in
+      subst (λ (x : Held). Stands front (told old.state.work.job Start (AtLevel 1) s) x) (sym h.is)
+      (subst (λ o. Stands front (told_level old.state.work.job 1 o s) (held (just_opened old.state.work.job (length base)) (Some base) old.receipts)) (sym none)
+      (told_begun front s (held (just_opened old.state.work.job (length base)) (Some base) old.receipts) 0 refl refl stands.is_told));
+  keeps = λ before later front. absurd (omega (arith, before, level));
+}
+
+pub level_follows : (command : Command) (level : ℕ) (old new : Held) → ((s : Machine) → told old.state.work.job command (AtLevel level) s ≡ told_level old.state.work.job level (transaction_of old.state.work.job s) s) → 1 ≤ old.state.level → 1 ≤ level
+    → new ≡ held (at_level level old.state) old.start old.receipts → Follows command (AtLevel level) old new
+level_follows command level old new tells one some is = record {
+  whose = ap (λ (x : Held). x.state.work.job) is;
+  stands = λ front s stands.
+      subst (λ (m : Machine). Stands front m new) (sym (tells s))
+      (told_at front s old new level one stands some (ap (λ (x : Held). x.state.level) is) (ap (λ (x : Held). x.state.work.exchanges) is) (ap (λ (x : Held). x.state.work.job) is) (ap (λ (x : Held). x.receipts) is));
+  keeps = λ before later front. same_told old new front (ap (λ (x : Held). x.receipts) is);
+}
+
+pub deeper_follows : (level : ℕ) (old new : Held) → 1 ≤ old.state.level → level ≡ old.state.level + 1 → new ≡ held (at_level level old.state) old.start old.receipts → Follows Start (AtLevel level) old new
+deeper_follows level old new one is h = level_follows Start level old new (λ s. refl) one (omega (arith, one, is)) h
+
+pub lower_follows : (level : ℕ) (old new : Held) → 1 < old.state.level → level ≡ old.state.level - 1 → new ≡ held (at_level (old.state.level - 1) old.state) old.start old.receipts → Follows Commit (AtLevel level) old new
+lower_follows level old new deep is h =
+    level_follows Commit level old new (λ s. refl) (omega (arith, deep)) (omega (arith, deep, is)) (h ∙ ap (λ (n : ℕ). held (at_level n old.state) old.start old.receipts) (sym is))
+
+pub committed_follows : (units more : List JournalUnit) (old new : Held) → 1 ≤ old.state.level → HasEnded Committed units more old new → Follows Commit committed_reply old new
+committed_follows units more old new one h = record {
+  whose = ap (λ (x : Held). x.state.work.job) h.1.1;
+  stands = λ front s stands.
+      told_whole front s old new (length units + 1) one stands (ap (λ (x : Held). x.state.level) h.1.1) (ap (λ (x : Held). x.state.work.job) h.1.1) (ap (λ (x : Held). x.receipts) h.1.1);
+  keeps = λ before later front. absurd (omega (arith, later, ap (λ (x : Held). x.state.level) h.1.1));
+}
+
+-- the transaction begins anew
+pub anew_follows : (command : Command) (restarts : ℕ) (units : List JournalUnit) (old new : Held) → ((s : Machine) → told old.state.work.job command (restarted_reply restarts) s ≡ begin old.state.work.job restarts (told_back old.state.work.job (transaction_of old.state.work.job s) s))
+    → new ≡ begun_anew units old → Follows command (restarted_reply restarts) old new
+anew_follows command restarts units old new tells is = record {
+  whose = ap (λ (x : Held). x.state.work.job) is;
+  stands = λ front s stands.
+      subst (λ (m : Machine). Stands front m new) (sym (tells s))
+      (subst (λ (x : Held). Stands front (begin old.state.work.job restarts (told_back old.state.work.job (transaction_of old.state.work.job s) s)) x) (sym is)
+      (told_begun front (told_back old.state.work.job (transaction_of old.state.work.job s) s) (begun_anew units old) restarts refl refl
+      (subst (λ (us : List JournalUnit). IsToldIn us (front ++ units_of old.receipts)) (sym (back_given old.state.work.job (transaction_of old.state.work.job s) s)) stands.is_told)));
+  keeps = λ before later front. same_told old new front (ap (λ (x : Held). x.receipts) is);
+}
+
+pub overtaken_follows : (restarts : ℕ) (units more : List JournalUnit) (old new : Held) → HasEnded (Restarted restarts) units more old new → Follows Commit (restarted_reply restarts) old new
+overtaken_follows restarts units more old new h = anew_follows Commit restarts more old new (λ s. refl) h.1.1.0
+
+pub restarted_follows : (restarts : ℕ) (units : List JournalUnit) (old new : Held) → new ≡ begun_anew units old → Follows Restart (restarted_reply restarts) old new
+restarted_follows restarts units old new is = anew_follows Restart restarts units old new (λ s. refl) is
+
+pub rolled_back_follows : (old new : Held) → new ≡ ended old → Follows Rollback Finished old new
+rolled_back_follows old new is = record {
+  whose = ap (λ (x : Held). x.state.work.job) is;
+  stands = λ front s stands.
+      subst (λ (x : Held). Stands front (close old.state.work.job (told_back old.state.work.job (transaction_of old.state.work.job s) s)) x) (sym is)
+      (with_closed front (told_back old.state.work.job (transaction_of old.state.work.job s) s) (ended old) refl
+      (subst (λ (us : List JournalUnit). IsToldIn us (front ++ units_of old.receipts)) (sym (back_given old.state.work.job (transaction_of old.state.work.job s) s)) stands.is_told));
+  keeps = λ before later front. absurd (omega (arith, later, ap (λ (x : Held). x.state.level) is));
+}

@@ -1,0 +1,19 @@
+use Rattle.std.proofs.Common.{sym, subst}
+use Rattle.command.specs.declared.access.DataCommand.{DataCommand}
+use Rattle.command.specs.declared.access.DataCommand.TheVariants.{Merge, Look}
+use Rattle.command.specs.declared.request.Command.TheVariants.{Access}
+use Rattle.command.specs.declared.request.Reply.TheVariants.{Answered}
+use Rattle.shared_engine.specs.Blocks.{said}
+use Rattle.job_server.specs.Telling.{Follows}
+use Rattle.job_server.proofs.Answering.{read_told}
+use Rattle.job_server.proofs.job_run.Calls.access_inside.Goals as goal
+
+pub returns-in-Merge : goal.returns-in-Merge
+returns-in-Merge g c =
+    subst (λ (d : DataCommand). Follows (Access d) (said Answered c.read.result) c.args.session.now c.read.new.session) (sym c.in-Merge.is)
+    (read_told (Merge c.in-Merge.to c.in-Merge.from) c.read.result c.args.session.now c.read.new.session c.requires c.read.ensures.answered c.read.ensures.open c.read.ensures.same)
+
+pub returns-in-Look : goal.returns-in-Look
+returns-in-Look g c =
+    subst (λ (d : DataCommand). Follows (Access d) (said Answered c.read-in-Look.result) c.args.session.now c.read-in-Look.new.session) (sym c.in-Look.is)
+    (read_told (Look c.in-Look.look) c.read-in-Look.result c.args.session.now c.read-in-Look.new.session c.requires c.read-in-Look.ensures.answered c.read-in-Look.ensures.open c.read-in-Look.ensures.same)

@@ -1,0 +1,10 @@
+use Rattle.command.specs.declared.request.Command.TheVariants.{Restart}
+use Rattle.command.specs.declared.request.Reply.TheVariants.{Restarted as restarted_reply}
+use Rattle.shared_engine.specs.Blocks.{said}
+use Rattle.job_server.proofs.Answering.{follows_as, restart_told}
+use Rattle.job_server.proofs.job_run.Calls.restart.Goals as goal
+
+pub returns : goal.returns
+returns g c =
+    follows_as Restart (said restarted_reply c.trestart.result) c.restarted.result c.args.session.now c.trestart.new.session
+    (restart_told c.trestart.result c.args.session.now c.trestart.new.session c.trestart.ensures.anew c.trestart.ensures.refused) c.restarted.ensures

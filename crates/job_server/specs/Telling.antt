@@ -1,0 +1,175 @@
+-- How a job stands while its lines are done: what its replies told so far, its session and its books.
+-- Read Stands, Follows, StandsIn, GoesOn, Serves and Begins.
+use Rattle.std.specs.Prelude.{◌≡◌, ◌⊎◌, ⊤, ℕ, ◌≤◌, nat_lt, Bool, true, false, List, [], ◌∷◌, ◌++◌, length, Option, None, Some, Result, Ok, Err}
+use Rattle.std.specs.List.{All}
+use Rattle.refusal.specs.declared.Refusal.{Refusal}
+use Rattle.collation.specs.declared.lock.LockCommand.{LockCommand}
+use Rattle.collation.specs.declared.lock.LockCommand.TheVariants.{Release, Only, More, Fewer}
+use Rattle.command.specs.declared.request.Command.{Command}
+use Rattle.command.specs.declared.request.Command.TheVariants.{Start, Commit}
+use Rattle.command.specs.declared.request.Reply.{Reply}
+use Rattle.command.specs.declared.request.Reply.TheVariants.{Restarted}
+use Rattle.journal.specs.declared.unit.Unit.{Unit as JournalUnit}
+use Rattle.journal.specs.Kept.{Claim}
+use Rattle.journal.specs.Story.{Transaction, Machine, transaction_of, told}
+use Rattle.script.specs.Line.{reading_of}
+use Rattle.job_core.specs.Sessions.{Session as JobSession}
+use Rattle.shared_engine.specs.Receipts.{Book}
+use Rattle.shared_engine.specs.Sessions.{Held}
+use Rattle.shared_engine.specs.Engines.{HasItsNames, WasBlocked}
+use Rattle.shared_engine.specs.Blocks.{AreDone, IsReady, moved_open}
+use Rattle.job_scripts.specs.Blocks.{Asks}
+use Rattle.job_scripts.specs.Lines.{lines_of_script}
+use Rattle.job_server.specs.Told.{told_by, given, IsToldIn, told_by_lines, units_of, units_in}
+
+-- ---- one session
+
+-- the session has the machine's transaction, as far as replies tell it
+abbrev pub Shows : JobSession → Option Transaction → Type 0
+Shows state None = state.level ≡ 0
+Shows state (Some t) = (1 ≤ state.level) × ((state.level ≡ t.level) × (state.work.exchanges ≡ t.exchanges))
+
+-- behind these units of earlier sessions the session has the machine's transaction, and what was told are the units so far
+pub record Stands (front : List JournalUnit) (s : Machine) (h : Held) : Type 0 where
+  pub shows : Shows h.state (transaction_of h.state.work.job s)
+  pub is_told : IsToldIn (given s) (front ++ units_of h.receipts)
+
+-- what was told in the first units is told in the others
+abbrev pub AreStillTold : List JournalUnit → List JournalUnit → Type 0
+AreStillTold old new = (ts : List JournalUnit) → IsToldIn ts old → IsToldIn ts new
+
+-- the session goes on as the reply tells; while its transaction stays open all that it writes is LOCKs
+pub record Follows (command : Command) (reply : Reply) (old new : Held) : Type 0 where
+  pub whose : new.state.work.job ≡ old.state.work.job
+  pub stands : (front : List JournalUnit) (s : Machine) → Stands front s old → Stands front (told old.state.work.job command reply s) new
+  pub keeps : 1 ≤ old.state.level → 1 ≤ new.state.level → (front : List JournalUnit) → AreStillTold (front ++ units_of old.receipts) (front ++ units_of new.receipts)
+
+-- whether a LOCK has names
+abbrev pub names_some : LockCommand → Bool
+names_some Release = false
+names_some (Only names) = true
+names_some (More names) = true
+names_some (Fewer names) = true
+
+-- what a LOCK answered, and what it left
+abbrev pub HasLocked : LockCommand → Result Bool Refusal → Held → Held → Type 0
+HasLocked command (Ok true) old new = HasItsNames command old new
+HasLocked command (Ok false) old new = (names_some command ≡ true) × WasBlocked command old new
+HasLocked command (Err refusal) old new = (new ≡ old) ⊎ WasBlocked command old new
+
+-- ---- a job with its sessions
+
+-- whether a transaction is open
+abbrev pub is_open : Option Held → Bool
+is_open None = false
+is_open (Some h) = nat_lt 0 h.state.level
+
+-- the units of the books and of the session
+abbrev pub units_behind : List Book → Option Held → List JournalUnit
+units_behind books None = units_in books
+units_behind books (Some h) = units_in books ++ units_of h.receipts
+
+-- the books are the job's
+abbrev pub AreOf : ℕ → List Book → Type 0
+AreOf job books = All (λ (b : Book). b.job ≡ job) books
+
+-- the job has these books and this session, where what was told has led
+abbrev pub StandsIn : ℕ → List Book → Option Held → Machine → Type 0
+StandsIn job books None s = AreOf job books × ((transaction_of job s ≡ None) × IsToldIn (given s) (units_in books))
+StandsIn job books (Some h) s = AreOf job books × ((h.state.work.job ≡ job) × Stands (units_in books) s h)
+
+-- the job goes on as is told
+pub record GoesOn (tell : Machine → Machine) (job : ℕ) (books : List Book) (session : Option Held) (more : List Book) (later : Option Held) : Type 0 where
+  pub stands : (s : Machine) → StandsIn job books session s → StandsIn job more later (tell s)
+  pub keeps : is_open session ≡ true → is_open later ≡ true → AreStillTold (units_behind books session) (units_behind more later)
+
+-- the line asks for what was read of it, where it could be read
+abbrev pub IsAsked : List ℕ → Result Command Refusal → Type 0
+IsAsked line (Ok command) = Asks line command
+IsAsked line (Err refusal) = ⊤
+
+-- ---- lines
+
+-- the replies so far, the books of the sessions that ended, and the session
+pub record Running : Type 0 where
+  pub replies : List Reply
+  pub books : List Book
+  pub session : Option Held
+
+abbrev pub running : List Reply → List Book → Option Held → Running
+running replies books session = record { replies = replies; books = books; session = session }
+
+-- lines and their replies lead the machine on, and the job stands where they lead
+pub record Leads (job : ℕ) (lines : List (List ℕ)) (replies : List Reply) (s : Machine) (books : List Book) (session : Option Held) : Type 0 where
+  pub machine : Machine
+  pub led : (left : List (List ℕ)) (later : List Reply) → told_by_lines job (lines ++ left) (replies ++ later) s ≡ told_by_lines job left later machine
+  pub stands : StandsIn job books session machine
+
+-- the lines in front of the rest were done: their replies are behind those before, and lead on from wherever the job stood
+pub record Serves (job : ℕ) (lines rest : List (List ℕ)) (old new : Running) : Type 0 where
+  pub lines_done : List (List ℕ)
+  pub their_replies : List Reply
+  pub split : lines ≡ lines_done ++ rest
+  pub replied : new.replies ≡ old.replies ++ their_replies
+  pub leads : (s : Machine) → StandsIn job old.books old.session s → Leads job lines_done their_replies s new.books new.session
+
+-- while a transaction is open from here to there all that is written is LOCKs
+abbrev pub Keeps : Running → Running → Type 0
+Keeps old new = is_open old.session ≡ true → is_open new.session ≡ true → AreStillTold (units_behind old.books old.session) (units_behind new.books new.session)
+
+-- a line was answered
+pub record HasAnswered (job : ℕ) (line : List ℕ) (old new : Running) : Type 0 where
+  pub reply : Reply
+  pub replied : new.replies ≡ old.replies ++ reply ∷ []
+  pub goes : GoesOn (told_by job (reading_of line) reply) job old.books old.session new.books new.session
+
+-- a line was done, and perhaps some of the text behind it, of which this is left
+pub record Advances (job : ℕ) (line next left : List ℕ) (old new : Running) : Type 0 where
+  pub fewer : length left ≤ length next
+  pub serves : Serves job (line ∷ lines_of_script next) (lines_of_script left) old new
+
+-- lines of the text were done, and this is left
+pub record Reaches (job : ℕ) (text left : List ℕ) (old new : Running) : Type 0 where
+  pub fewer : length left ≤ length text
+  pub serves : Serves job (lines_of_script text) (lines_of_script left) old new
+
+-- ---- blocks
+
+-- the session did a block, before which its start was moved where a transaction was open
+abbrev pub HasRun : List Command → List Reply → Option Held → Option Held → Type 0
+HasRun commands replies None later = ⊥
+HasRun commands replies (Some old) None = ⊥
+HasRun commands replies (Some old) (Some new) = IsReady old × (units more : List JournalUnit) × AreDone commands replies units more (moved_open units old) new
+
+-- the session did commands in its transaction, and nothing was written
+abbrev pub HasReadAll : List Command → List Reply → Option Held → Option Held → Type 0
+HasReadAll commands replies None later = ⊥
+HasReadAll commands replies (Some old) None = ⊥
+HasReadAll commands replies (Some old) (Some new) = (1 ≤ old.state.level) × (units : List JournalUnit) × AreDone commands replies units units old new
+
+-- a transaction has just begun
+abbrev pub HasJustBegun : Option Transaction → Type 0
+HasJustBegun None = ⊥
+HasJustBegun (Some t) = (t.level ≡ 1) × (t.exchanges ≡ [])
+
+-- a TSTART was answered, and its transaction has just begun
+pub record Begins (job : ℕ) (old new : Running) : Type 0 where
+  pub reply : Reply
+  pub replied : new.replies ≡ old.replies ++ reply ∷ []
+  pub stands : (s : Machine) → StandsIn job old.books old.session s → StandsIn job new.books new.session (told job Start reply s) × HasJustBegun (transaction_of job (told job Start reply s))
+
+-- the outermost TCOMMIT began the transaction anew, and no reply was kept
+abbrev pub WasOvertaken : ℕ → Running → Running → Type 0
+WasOvertaken job old new = (new.replies ≡ old.replies) × (restarts : ℕ) × GoesOn (told job Commit (Restarted restarts)) job old.books old.session new.books new.session
+
+-- the transaction is still open, and what was told before is still told
+abbrev pub IsStillOpen : Running → Running → Type 0
+IsStillOpen old new = is_open old.session ≡ true → (is_open new.session ≡ true) × AreStillTold (units_behind old.books old.session) (units_behind new.books new.session)
+
+-- the job stands again as behind its TSTART
+abbrev pub IsBack : ℕ → Running → Running → Type 0
+IsBack job old new = (first : Machine) → StandsIn job old.books old.session first → HasJustBegun (transaction_of job first) → StandsIn job new.books new.session first
+
+-- the replies are those before and more
+abbrev pub GoesOnFrom : List Reply → List Reply → Type 0
+GoesOnFrom old new = (more : List Reply) × (new ≡ old ++ more)

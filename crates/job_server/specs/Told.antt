@@ -1,0 +1,61 @@
+-- What a job's replies tell of the units that the job wrote. Source: docs/THEOREMS.md, "Many jobs".
+-- Read told_by_lines, units_told, IsToldIn, then IsTold.
+use Rattle.std.specs.Prelude.{◌≡◌, ◌⊎◌, ⊤, ℕ, Bool, true, false, List, [], ◌∷◌, ◌++◌, map, Option, None, Some, Result, Ok, Err}
+use Rattle.std.specs.List.{All, filter, flat_map}
+use Rattle.refusal.specs.declared.Refusal.{Refusal}
+use Rattle.command.specs.declared.request.Command.{Command}
+use Rattle.command.specs.declared.request.Reply.{Reply}
+use Rattle.journal.specs.declared.unit.Unit.{Unit as JournalUnit}
+use Rattle.journal.specs.declared.unit.Unit.TheVariants.{Lone, Whole, Lock, Back, End}
+use Rattle.journal.specs.Kept.{Claim}
+use Rattle.journal.specs.Story.{Machine, nothing_done, told}
+use Rattle.script.specs.Line.{reading_of}
+use Rattle.shared_engine.specs.Receipts.{Book, has_receipt}
+use Rattle.job_scripts.specs.Lines.{lines_of_script}
+use Rattle.job_scripts.specs.Reports.{is_refused}
+
+-- what a line and its reply change: a line that can't be read tells nothing
+abbrev pub told_by : ℕ → Result (ℕ × Command) Refusal → Reply → Machine → Machine
+told_by job (Ok step) reply s = told job step.1 reply s
+told_by job (Err refusal) reply s = s
+
+-- what a job's lines and their replies change, in turn
+abbrev pub told_by_lines : ℕ → List (List ℕ) → List Reply → Machine → Machine
+told_by_lines job [] replies s = s
+told_by_lines job (line ∷ lines) [] s = s
+told_by_lines job (line ∷ lines) (reply ∷ replies) s = told_by_lines job lines replies (told_by job (reading_of line) reply s)
+
+-- the units that give receipts
+abbrev pub given : Machine → List JournalUnit
+given s = filter has_receipt s.units
+
+-- the units with receipts that a job's text and its replies tell
+abbrev pub units_told : ℕ → List ℕ → List Reply → List JournalUnit
+units_told job text replies = given (told_by_lines job (lines_of_script text) replies nothing_done)
+
+abbrev pub is_lock : JournalUnit → Bool
+is_lock (Lone job command answer) = false
+is_lock (Whole job exchanges) = false
+is_lock (Lock job inside command had) = true
+is_lock (Back job) = false
+is_lock (End job) = false
+
+-- what is told are these units, in order, but for LOCKs that no reply tells
+abbrev pub IsToldIn : List JournalUnit → List JournalUnit → Type 0
+IsToldIn [] [] = ⊤
+IsToldIn [] (u ∷ units) = (is_lock u ≡ true) × IsToldIn [] units
+IsToldIn (t ∷ ts) [] = ⊥
+IsToldIn (t ∷ ts) (u ∷ units) = ((t ≡ u) × IsToldIn ts units) ⊎ ((is_lock u ≡ true) × IsToldIn (t ∷ ts) units)
+
+-- the units of receipts
+abbrev pub units_of : List Claim → List JournalUnit
+units_of receipts = map (λ (c : Claim). c.unit) receipts
+
+-- the units of books, one behind the other
+abbrev pub units_in : List Book → List JournalUnit
+units_in books = flat_map (λ (b : Book). units_of b.receipts) books
+
+-- the replies to a job's lines tell the units of its books; without a job there is no book, and each reply is a refusal
+abbrev pub IsTold : Option ℕ → List ℕ → List Reply → List Book → Type 0
+IsTold None text replies books = (books ≡ []) × All (λ (r : Reply). is_refused r ≡ true) replies
+IsTold (Some job) text replies books = All (λ (b : Book). b.job ≡ job) books × IsToldIn (units_told job text replies) (units_in books)

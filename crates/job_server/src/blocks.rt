@@ -1,0 +1,136 @@
+//! Blocks: a TSTART, and the lines behind it as often as they are overtaken.
+ghost use Rattle.std.specs.Prelude.{◌≡◌, false, IfOk, IfSome, IfNone, OnOk};
+ghost use Rattle.command.specs.declared.request.Command.{Command};
+ghost use Rattle.job_scripts.specs.Blocks.{Asks};
+ghost use Rattle.job_server.specs.Telling.{is_open as is_open_in, IsAsked, Keeps, Advances, Reaches, WasOvertaken, IsBack, GoesOnFrom, running};
+
+use crate::ServerFault;
+use crate::cursor::{Cursor, Line};
+use crate::running::{JobRun, push_unless_restarted, read_within};
+use crate::worker::Worker;
+use collation::Job;
+use command::Command;
+use pin_board::BoardName;
+use refusal::Refusal;
+use shared_engine::Gate;
+use std::sync::Wait;
+
+// How often a block is begun anew before it is done by itself alone.
+const MOST_RESTARTS: usize = 3;
+
+impl<'a, B: BoardName, R: Wait, G: Gate> Worker<'a, B, R, G> {
+    // Does a TCOMMIT of a block. Answers the place behind it, or none where it found that the transaction was overtaken, and
+    // has begun it anew.
+    #[tactic(auto, using(crate::proofs::GoingOn::committed_keeps, crate::proofs::GoingOn::was_overtaken))]
+    fn try_commit<'b>(
+        &mut self,
+        run: &mut JobRun<B>,
+        job: Job,
+        line: Line<'b>,
+    ) -> Result<Option<Cursor<'b>>, ServerFault>
+        requires { Asks line.text.now Command.Commit }
+        ensures on { IfOk result (λ ended. IfSome ended (λ behind. Advances job line.entry.text.now line.entry.next.lines.now behind.lines.now (running run.old.replies.items run.old.sessions.passes.items run.old.sessions.open) (running run.new.replies.items run.new.sessions.passes.items run.new.sessions.open))) }
+        ensures keeps { IfOk result (λ ended. IfSome ended (λ behind. Keeps (running run.old.replies.items run.old.sessions.passes.items run.old.sessions.open) (running run.new.replies.items run.new.sessions.passes.items run.new.sessions.open))) }
+        ensures again { IfOk result (λ ended. IfNone ended (WasOvertaken job (running run.old.replies.items run.old.sessions.passes.items run.old.sessions.open) (running run.new.replies.items run.new.sessions.passes.items run.new.sessions.open))) }
+    {
+        let reply = self.do_line(&mut run.sessions, job, line, Ok(Command::Commit))?;
+        if push_unless_restarted(&mut run.replies, reply)? {
+            return Ok(Some(line.next));
+        }
+        Ok(None)
+    }
+
+    // Does a command of a block's line.
+    fn try_command<'b>(
+        &mut self,
+        run: &mut JobRun<B>,
+        job: Job,
+        line: Line<'b>,
+        command: Command,
+    ) -> Result<Option<Cursor<'b>>, ServerFault>
+        requires { Asks line.text.now command }
+        ensures on { IfOk result (λ ended. IfSome ended (λ behind. Advances job line.entry.text.now line.entry.next.lines.now behind.lines.now (running run.old.replies.items run.old.sessions.passes.items run.old.sessions.open) (running run.new.replies.items run.new.sessions.passes.items run.new.sessions.open))) }
+        ensures keeps { IfOk result (λ ended. IfSome ended (λ behind. Keeps (running run.old.replies.items run.old.sessions.passes.items run.old.sessions.open) (running run.new.replies.items run.new.sessions.passes.items run.new.sessions.open))) }
+        ensures again { IfOk result (λ ended. IfNone ended (WasOvertaken job (running run.old.replies.items run.old.sessions.passes.items run.old.sessions.open) (running run.new.replies.items run.new.sessions.passes.items run.new.sessions.open))) }
+    {
+        match command {
+            Command::Commit => self.try_commit(run, job, line),
+            Command::Access(first) => Ok(Some(self.serve_access(run, job, first, line)?)),
+            command => Ok(Some(self.pass_line(run, job, line, Ok(command))?)),
+        }
+    }
+
+    // Does a line of a block.
+    fn try_line<'b>(
+        &mut self,
+        run: &mut JobRun<B>,
+        job: Job,
+        line: Line<'b>,
+        asked: Result<Command, Refusal>,
+    ) -> Result<Option<Cursor<'b>>, ServerFault>
+        requires { IsAsked line.text.now asked }
+        ensures on { IfOk result (λ ended. IfSome ended (λ behind. Advances job line.entry.text.now line.entry.next.lines.now behind.lines.now (running run.old.replies.items run.old.sessions.passes.items run.old.sessions.open) (running run.new.replies.items run.new.sessions.passes.items run.new.sessions.open))) }
+        ensures keeps { IfOk result (λ ended. IfSome ended (λ behind. Keeps (running run.old.replies.items run.old.sessions.passes.items run.old.sessions.open) (running run.new.replies.items run.new.sessions.passes.items run.new.sessions.open))) }
+        ensures again { IfOk result (λ ended. IfNone ended (WasOvertaken job (running run.old.replies.items run.old.sessions.passes.items run.old.sessions.open) (running run.new.replies.items run.new.sessions.passes.items run.new.sessions.open))) }
+    {
+        match asked {
+            Ok(command) => self.try_command(run, job, line, command),
+            Err(refusal) => Ok(Some(self.pass_line(run, job, line, Err(refusal))?)),
+        }
+    }
+
+    // Tries the lines of a block behind its TSTART. Answers the place behind it, or none where its TCOMMIT found that the
+    // transaction was overtaken, and has begun it anew.
+    #[tactic(auto, using(crate::proofs::GoingOn::reaches_none, crate::proofs::GoingOn::reaches_on, crate::proofs::GoingOn::still_none, crate::proofs::GoingOn::still_on, crate::proofs::GoingOn::tried_replies, crate::proofs::GoingOn::reaches_replies))]
+    fn try_block<'b>(
+        &mut self,
+        run: &mut JobRun<B>,
+        job: Job,
+        begin: Cursor<'b>,
+    ) -> Result<Option<Cursor<'b>>, ServerFault>
+        ensures over { IfOk result (λ ended. IfSome ended (λ behind. Reaches job begin.entry.lines.now behind.lines.now (running run.old.replies.items run.old.sessions.passes.items run.old.sessions.open) (running run.new.replies.items run.new.sessions.passes.items run.new.sessions.open))) }
+        ensures again { IfOk result (λ ended. IfNone ended (IsBack job (running run.old.replies.items run.old.sessions.passes.items run.old.sessions.open) (running run.new.replies.items run.new.sessions.passes.items run.new.sessions.open))) }
+        ensures replies { IfOk result (λ ended. IfNone ended (GoesOnFrom run.old.replies.items run.new.replies.items)) }
+    {
+        let mut place = begin;
+        'lines: while let Some(line) = place.next() {
+            let Some(asked) = read_within(self.alloc, job, line.text, &mut run.drafts) else {
+                return Ok(Some(place));
+            };
+            let Some(behind) = self.try_line(run, job, line, asked)? else {
+                return Ok(None);
+            };
+            place = behind;
+            if !run.is_open() {
+                return Ok(Some(place));
+            }
+        }
+        Ok(Some(place))
+    }
+
+    /// Does a block. Answers the place behind it.
+    #[tactic(auto, using(crate::proofs::GoingOn::answered_advances, crate::proofs::GoingOn::begins))]
+    pub(crate) fn serve_block<'b>(
+        &mut self,
+        run: &mut JobRun<B>,
+        job: Job,
+        line: Line<'b>,
+    ) -> Result<Cursor<'b>, ServerFault>
+        requires asks { Asks line.text.now Command.Start }
+        requires closed { is_open_in run.old.sessions.open ≡ false }
+        ensures { IfOk result (λ behind. Advances job line.entry.text.now line.entry.next.lines.now behind.lines.now (running run.old.replies.items run.old.sessions.passes.items run.old.sessions.open) (running run.new.replies.items run.new.sessions.passes.items run.new.sessions.open)) }
+    {
+        self.answer_line(run, job, line, Ok(Command::Start))?;
+        if !run.is_open() {
+            return Ok(line.next);
+        }
+        let kept = run.replies.len();
+        'tries: for _ in 0..MOST_RESTARTS {
+            if let Some(place) = self.try_block(run, job, line.next)? {
+                return Ok(place);
+            }
+            run.replies.truncate(kept);
+        }
+        self.serve_serially(run, job, line.next)
+    }
+}

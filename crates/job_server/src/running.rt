@@ -1,0 +1,311 @@
+//! A job as it is run, and one line of it.
+ghost use Rattle.std.specs.Prelude.{◌≡◌, ◌<◌, ◌∷◌, ◌++◌, ℕ, List, [], None, true, length, vec_capacity, IfOk, IfSome, OnOk};
+ghost use Rattle.command.specs.declared.request.Command.{Command};
+ghost use Rattle.command.specs.declared.request.Reply.{Reply};
+ghost use Rattle.journal.specs.Story.{told as told_of};
+ghost use Rattle.script.specs.Line.{reading_of};
+ghost use Rattle.shared_engine.specs.Receipts.{Book};
+ghost use Rattle.shared_engine.specs.Engines.{OnOkThat, OnOkNot};
+ghost use Rattle.job_server.specs.Told.{told_by};
+ghost use Rattle.job_server.specs.Telling.{is_open as is_open_in, GoesOn, IsAsked, Keeps, HasAnswered, Advances, running};
+
+use crate::ServerFault;
+use crate::cursor::{Cursor, Line};
+use crate::worker::Worker;
+use collation::Job;
+use command::{Command, Reply};
+use job_scripts::timeout_of;
+use pin_board::BoardName;
+use refusal::Refusal;
+use script::{Drafts, read_line};
+use shared_engine::{Gate, Pass, Session};
+use std::alloc::{AllocError, Global};
+use std::sync::Wait;
+
+/// A job's open session, and the passes of those that ended.
+#[derive(Drop)]
+pub(crate) struct Sessions<B: BoardName> {
+    pub(crate) open: Option<Session<B>>,
+    pub(crate) passes: Vec<Pass<B>>,
+}
+
+/// A job as it is run: its sessions, and the replies so far.
+#[derive(Drop)]
+pub(crate) struct JobRun<B: BoardName> {
+    pub(crate) sessions: Sessions<B>,
+    pub(crate) replies: Vec<Reply>,
+    pub(crate) drafts: Drafts,
+}
+
+impl<B: BoardName> JobRun<B> {
+    /// Before the first line.
+    pub(crate) fn new(alloc: Global) -> JobRun<B>
+        ensures { (result.sessions.open ≡ None) × ((result.sessions.passes.items ≡ []) × (result.replies.items ≡ [])) }
+    {
+        JobRun {
+            sessions: Sessions {
+                open: None,
+                passes: Vec::new(alloc),
+            },
+            replies: Vec::new(alloc),
+            drafts: Drafts::new(alloc),
+        }
+    }
+
+    /// Whether a transaction is open.
+    pub(crate) fn is_open(&self) -> bool
+        ensures { result ≡ is_open_in self.now.sessions.open }
+    {
+        match &self.sessions.open {
+            Some(session) => session.tlevel() > 0,
+            None => false,
+        }
+    }
+}
+
+/// What a line asks of a job.
+#[tactic(auto, using(crate::proofs::GoingOn::asked_of))]
+pub(crate) fn read_for(
+    alloc: Global,
+    job: Job,
+    line: &[u8],
+    drafts: &mut Drafts,
+) -> Result<Command, Refusal>
+    ensures { IsAsked line.now result }
+{
+    match read_line(alloc, line, drafts) {
+        Ok((named, command)) => {
+            if named == job {
+                return Ok(command);
+            }
+            drop(command);
+            Err(Refusal::BadJob)
+        }
+        Err(fault) => Err(fault.refusal),
+    }
+}
+
+/// The same in a block, but for HALT, before which a block ends.
+pub(crate) fn read_within(
+    alloc: Global,
+    job: Job,
+    line: &[u8],
+    drafts: &mut Drafts,
+) -> Option<Result<Command, Refusal>>
+    ensures { IfSome result (λ asked. IsAsked line.now asked) }
+{
+    match read_for(alloc, job, line, drafts) {
+        Ok(Command::Halt) => None,
+        asked => Some(asked),
+    }
+}
+
+fn is_halt(command: &Command) -> bool
+    ensures { result ≡ true → command.now ≡ Command.Halt }
+{
+    matches!(command, Command::Halt)
+}
+
+fn is_restarted(reply: &Reply) -> bool
+    ensures { result ≡ true → (restarts : ℕ) × (reply.now ≡ Reply.Restarted restarts) }
+{
+    matches!(reply, Reply::Restarted(_))
+}
+
+/// Takes a reply in, unless it says that a transaction was begun anew. Answers whether it was taken in.
+pub(crate) fn push_unless_restarted(
+    replies: &mut Vec<Reply>,
+    reply: Reply,
+) -> Result<bool, AllocError>
+    ensures kept { OnOkThat result (replies.new.items ≡ replies.old.items ++ reply ∷ []) }
+    ensures again { OnOkNot result ((replies.new.items ≡ replies.old.items) × (restarts : ℕ) × (reply ≡ Reply.Restarted restarts)) }
+{
+    if is_restarted(&reply) {
+        drop(reply);
+        return Ok(false);
+    }
+    replies.push(reply)?;
+    Ok(true)
+}
+
+impl<'a, B: BoardName, R: Wait, G: Gate> Worker<'a, B, R, G> {
+    /// Begins a session of the job, where it has none.
+    #[tactic(auto, using(crate::proofs::GoingOn::same_goes, crate::proofs::GoingOn::opened_goes))]
+    pub(crate) fn open(&self, job: Job, session: &mut Option<Session<B>>) -> Result<(), ServerFault>
+        ensures told { OnOk result ((books : List Book) → GoesOn (λ s. s) job books session.old books session.new) }
+        ensures stays { OnOk result (is_open_in session.new ≡ is_open_in session.old) }
+    {
+        if session.is_some() {
+            return Ok(());
+        }
+        match self.calls.engine.open(self.calls.rt, self.alloc, job) {
+            Ok(begun) => {
+                *session = Some(begun);
+                Ok(())
+            }
+            Err(_) => Err(ServerFault::Memory),
+        }
+    }
+
+    /// HALT. Where it is refused the session goes on.
+    pub(crate) fn halt(&self, sessions: &mut Sessions<B>) -> Result<Reply, ServerFault>
+        ensures told { IfOk result (λ reply. (job : ℕ) → GoesOn (told_of job Command.Halt reply) job sessions.old.passes.items sessions.old.open sessions.new.passes.items sessions.new.open) }
+        ensures over { IfOk result (λ reply. reply ≡ Reply.Finished → sessions.new.open ≡ None) }
+    {
+        if sessions.open.is_none() {
+            return Ok(Reply::Finished);
+        }
+        sessions.passes.reserve(1)?;
+        Ok(self.halt_reserved(sessions))
+    }
+
+    // The same, with room for the pass.
+    #[tactic(auto, using(crate::proofs::GoingOn::same_goes))]
+    fn halt_reserved(&self, sessions: &mut Sessions<B>) -> Reply
+        requires { length sessions.old.passes.items < vec_capacity sessions.old.passes }
+        ensures told { (job : ℕ) → GoesOn (told_of job Command.Halt result) job sessions.old.passes.items sessions.old.open sessions.new.passes.items sessions.new.open }
+        ensures over { result ≡ Reply.Finished → sessions.new.open ≡ None }
+    {
+        let Some(session) = sessions.open.take() else {
+            return Reply::Finished;
+        };
+        match self.calls.engine.halt(self.calls.rt, session) {
+            Ok(pass) => {
+                sessions.passes.push_reserved(pass);
+                Reply::Finished
+            }
+            Err((session, refusal)) => {
+                sessions.open = Some(session);
+                Reply::Refused(refusal)
+            }
+        }
+    }
+
+    // The reply to a command of a session that is there, but for HALT.
+    #[tactic(auto, using(crate::proofs::GoingOn::step_goes))]
+    fn reply_in(
+        &self,
+        session: &mut Option<Session<B>>,
+        command: Command,
+        line: &[u8],
+    ) -> Result<Reply, ServerFault>
+        ensures { IfOk result (λ reply. (job : ℕ) (books : List Book) → GoesOn (told_of job command reply) job books session.old books session.new) }
+    {
+        match session {
+            Some(session) => Ok(self.calls.reply_to(session, command, timeout_of(line))),
+            None => {
+                drop(command);
+                Err(ServerFault::Missing)
+            }
+        }
+    }
+
+    // The reply to a command, where a session is there.
+    fn reply_opened(
+        &self,
+        sessions: &mut Sessions<B>,
+        command: Command,
+        line: &[u8],
+    ) -> Result<Reply, ServerFault>
+        ensures { IfOk result (λ reply. (job : ℕ) → GoesOn (told_of job command reply) job sessions.old.passes.items sessions.old.open sessions.new.passes.items sessions.new.open) }
+    {
+        if is_halt(&command) {
+            drop(command);
+            return self.halt(sessions);
+        }
+        self.reply_in(&mut sessions.open, command, line)
+    }
+
+    // The reply to a command.
+    fn reply_to(
+        &self,
+        sessions: &mut Sessions<B>,
+        job: Job,
+        command: Command,
+        line: &[u8],
+    ) -> Result<Reply, ServerFault>
+        ensures { IfOk result (λ reply. GoesOn (told_of job command reply) job sessions.old.passes.items sessions.old.open sessions.new.passes.items sessions.new.open) }
+    {
+        match self.open(job, &mut sessions.open) {
+            Ok(()) => self.reply_opened(sessions, command, line),
+            Err(fault) => {
+                drop(command);
+                Err(fault)
+            }
+        }
+    }
+
+    // The reply to a line.
+    #[tactic(auto, using(crate::proofs::GoingOn::asked_goes, crate::proofs::GoingOn::refused_goes, crate::proofs::GoingOn::same_goes))]
+    fn reply_asked(
+        &self,
+        sessions: &mut Sessions<B>,
+        job: Job,
+        line: &[u8],
+        asked: Result<Command, Refusal>,
+    ) -> Result<Reply, ServerFault>
+        requires { IsAsked line.now asked }
+        ensures { IfOk result (λ reply. GoesOn (told_by job (reading_of line.now) reply) job sessions.old.passes.items sessions.old.open sessions.new.passes.items sessions.new.open) }
+    {
+        match asked {
+            Ok(command) => self.reply_to(sessions, job, command, line),
+            Err(refusal) => Ok(Reply::Refused(refusal)),
+        }
+    }
+
+    /// Does a line, in the sight of the gate.
+    pub(crate) fn do_line<'b>(
+        &mut self,
+        sessions: &mut Sessions<B>,
+        job: Job,
+        line: Line<'b>,
+        asked: Result<Command, Refusal>,
+    ) -> Result<Reply, ServerFault>
+        requires { IsAsked line.text.now asked }
+        ensures { IfOk result (λ reply. GoesOn (told_by job (reading_of line.entry.text.now) reply) job sessions.old.passes.items sessions.old.open sessions.new.passes.items sessions.new.open) }
+    {
+        self.calls.gate.before(job, line.number);
+        match self.reply_asked(sessions, job, line.text, asked) {
+            Ok(reply) => {
+                self.calls.gate.after(job, line.number);
+                self.note_lines(1);
+                Ok(reply)
+            }
+            Err(fault) => Err(fault),
+        }
+    }
+
+    /// Does a line, and takes its reply in.
+    #[tactic(auto, using(crate::proofs::GoingOn::has_answered))]
+    pub(crate) fn answer_line<'b>(
+        &mut self,
+        run: &mut JobRun<B>,
+        job: Job,
+        line: Line<'b>,
+        asked: Result<Command, Refusal>,
+    ) -> Result<(), ServerFault>
+        requires { IsAsked line.text.now asked }
+        ensures { OnOk result (HasAnswered job line.entry.text.now (running run.old.replies.items run.old.sessions.passes.items run.old.sessions.open) (running run.new.replies.items run.new.sessions.passes.items run.new.sessions.open)) }
+    {
+        let reply = self.do_line(&mut run.sessions, job, line, asked)?;
+        run.replies.push(reply)?;
+        Ok(())
+    }
+
+    /// The same. Answers the place behind the line.
+    #[tactic(auto, using(crate::proofs::GoingOn::answered_advances, crate::proofs::GoingOn::answered_keeps))]
+    pub(crate) fn pass_line<'b>(
+        &mut self,
+        run: &mut JobRun<B>,
+        job: Job,
+        line: Line<'b>,
+        asked: Result<Command, Refusal>,
+    ) -> Result<Cursor<'b>, ServerFault>
+        requires { IsAsked line.text.now asked }
+        ensures on { IfOk result (λ behind. Advances job line.entry.text.now line.entry.next.lines.now behind.lines.now (running run.old.replies.items run.old.sessions.passes.items run.old.sessions.open) (running run.new.replies.items run.new.sessions.passes.items run.new.sessions.open)) }
+        ensures keeps { OnOk result (Keeps (running run.old.replies.items run.old.sessions.passes.items run.old.sessions.open) (running run.new.replies.items run.new.sessions.passes.items run.new.sessions.open)) }
+    {
+        self.answer_line(run, job, line, asked)?;
+        Ok(line.next)
+    }
+}
