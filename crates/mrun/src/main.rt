@@ -3,8 +3,8 @@
 //! It prints a line `job reply` for each line that isn't empty, then `--` and the listing of the database.
 //! What is printed is what `script_run::run_with_core` promises, the exit status is `script_run::status_of` of its outcome
 //! and the text of a fault is `script_run::Fault::text`; what its words ask for is `program_front::mrun_args_of`, and what
-//! a listing leaves that is loaded first is what `loading::load` promises. This file only opens files and prints what went
-//! wrong:
+//! a listing leaves that is loaded first is what `loading::load` promises, what is written of the journal what
+//! `journal_lines::write_journal` does. This file only opens files and prints what went wrong:
 //!
 //! 0, all replies are accepted; 1, a reply is an `error`; 2, a fault, or wrong arguments; standard error says which.
 #![tactic(auto)]
@@ -14,42 +14,95 @@ ghost use Rattle.std.specs.FinMap as finmap;
 ghost use Rattle.journal.specs.History.{initial, IsLegal};
 
 use job_core::JobCore;
+use journal_lines::{JournalFault, write_journal};
 use listing::{Counted, InputFault, read_all};
 use loading::{LoadFault, load};
 use program_front::{
     MrunArgs, NamePlace, arguments_of, mrun_args_of, path_of, print_bad_name, print_fault,
-    print_faulty_line, print_help_or_error, print_refused, print_unloaded, print_unopened,
+    print_faulty_line, print_greeting, print_help_or_error, print_mark, print_refused,
+    print_uncreated, print_unloaded, print_unopened, print_unwritten, print_wanting,
 };
 use refusal::Refusal;
-use script_run::{Fault, RefusalLog, Upkeep, run_with_core, status_of};
+use script_run::{Fault, Outcome, RunLog, Upkeep, run_with_core, status_of};
+use statistics::{Statistics, print_statistics};
 use std::alloc::AllocError;
-use std::io::Read;
+use std::io::{IsTerminal, Read, Write};
 use std::process::ExitCode;
 use std::rt::Files;
 use std::{fs, io};
 
+mod statistics;
+
 // The program's name, before what it prints on standard error.
 const PROGRAM: &str = "mrun";
 
-// Tells refused lines on standard error, where that is asked for: the line, the column, the refusal and what was
-// expected there. What can't be printed there is left out.
-struct ErrorLog<'a, P> {
-    rt: &'a P,
-    told: bool,
+// How refused lines are told on standard error.
+#[derive(Clone, Copy, Debug, PartialEq, Eq)]
+enum Telling {
+    // Not at all.
+    Nothing,
+    // By the line's number, the column, the refusal and what was expected there.
+    ByNumber,
+    // By a mark under the line, which has just been typed, and what was expected there.
+    UnderLine,
 }
 
-impl<'a, P> Drop for ErrorLog<'a, P> {
+// Tells on standard error of refused lines, and at the end of what the engine holds, and writes the journal then, where it
+// is asked for. What can't be printed there is left out; what the journal's writing came to is kept.
+struct SideLog<'a, P, F> {
+    rt: &'a P,
+    telling: Telling,
+    statistics: bool,
+    journal: Option<Counted<F>>,
+    unwritten: Option<JournalFault>,
+}
+
+impl<'a, P, F: Drop> Drop for SideLog<'a, P, F> {
     fn drop(self) {
-        let ErrorLog { rt: _, told: _ } = self;
+        let SideLog {
+            rt: _,
+            telling: _,
+            statistics: _,
+            journal,
+            unwritten: _,
+        } = self;
+        drop(journal);
     }
 }
 
-impl<'a, P: Eprint + AllocGlobal> RefusalLog for ErrorLog<'a, P> {
+impl<'a, P: Eprint + AllocGlobal, F: Write + Drop> RunLog for SideLog<'a, P, F> {
     fn refused(&mut self, number: u64, line: &[u8], refusal: Refusal) {
-        if self.told {
-            print_refused(self.rt, PROGRAM, number, line, refusal);
+        match self.telling {
+            Telling::Nothing => {}
+            Telling::ByNumber => print_refused(self.rt, PROGRAM, number, line, refusal),
+            Telling::UnderLine => print_mark(self.rt, line, refusal),
         }
     }
+
+    fn ended(&mut self, core: &JobCore) {
+        if self.statistics {
+            print_statistics(self.rt, PROGRAM, &Statistics::of(core));
+        }
+        if let Some(journal) = &mut self.journal {
+            self.unwritten = write_journal(self.rt.alloc(), core.journal(), journal).err();
+        }
+    }
+}
+
+// Prints why the journal wasn't written whole, and answers the exit status.
+fn print_journal_fault(rt: &impl Eprint, fault: JournalFault) -> u8 {
+    let why = match fault {
+        JournalFault::Write => "a write failed",
+        JournalFault::Memory => Fault::Memory.text(),
+        JournalFault::LetGo => "its beginning was dropped",
+    };
+    print_unwritten(rt, PROGRAM, why)
+}
+
+// The name that stands there.
+fn name_at(arguments: &[Vec<u8>], place: NamePlace) -> Option<&[u8]> {
+    let argument = arguments.get(place.argument)?;
+    argument.get(place.from..)
 }
 
 // Prints why a listing isn't loaded, and answers the exit status.
@@ -99,10 +152,7 @@ fn load_named(
     ensures legal { IfOk result (λ core. IsLegal core.machine.units initial) }
     ensures closed { IfOk result (λ core. core.machine.transactions ≡ finmap.empty) }
 {
-    let name = arguments
-        .get(place.argument)
-        .and_then(|argument| argument.get(place.from..));
-    let Some(path) = name.and_then(path_of) else {
+    let Some(path) = name_at(arguments, place).and_then(path_of) else {
         return Err(print_bad_name(rt, PROGRAM));
     };
     match fs::open(rt, path) {
@@ -126,20 +176,59 @@ fn first_core(
     }
 }
 
-fn run_from<R: Read + Drop>(
+// Tells of a want of memory where refused lines are told.
+fn tell_want(rt: &impl Eprint, telling: Telling, outcome: Outcome) {
+    if outcome.wanting && telling != Telling::Nothing {
+        print_wanting(rt, PROGRAM);
+    }
+}
+
+// The file that the journal is to be written to, where it is asked for; or the exit status where it can't be created.
+fn created<P: Files + Eprint>(
+    rt: &P,
+    arguments: &[Vec<u8>],
+    journal: Option<NamePlace>,
+) -> Result<Option<P::File>, u8> {
+    let Some(place) = journal else {
+        return Ok(None);
+    };
+    let Some(path) = name_at(arguments, place).and_then(path_of) else {
+        return Err(print_unwritten(rt, PROGRAM, "its name isn't UTF-8"));
+    };
+    match fs::create(rt, path) {
+        Ok(file) => Ok(Some(file)),
+        Err(why) => Err(print_uncreated(rt, PROGRAM, path, why)),
+    }
+}
+
+// Counts the failures of the journal's file.
+fn counted<F: Drop>(journal: Option<F>) -> Option<Counted<F>> {
+    match journal {
+        Some(file) => Some(Counted::new(file)),
+        None => None,
+    }
+}
+
+fn run_from<R: Read + Drop, F: Write + Drop>(
     rt: &(impl Print + Eprint + AllocGlobal),
     args: MrunArgs,
+    typed: bool,
     core: JobCore,
     input: R,
+    journal: Option<F>,
 ) -> u8
     requires legal { IsLegal core.machine.units initial }
     requires closed { core.machine.transactions ≡ finmap.empty }
 {
     let mut reader = Counted::new(input);
     let mut writer = Counted::new(io::writer(rt));
-    let mut log = ErrorLog {
+    let telling = greeted(rt, args, typed);
+    let mut log = SideLog {
         rt,
-        told: args.errors,
+        telling,
+        statistics: args.statistics,
+        journal: counted(journal),
+        unwritten: None,
     };
     let outcome = run_with_core(
         rt.alloc(),
@@ -153,10 +242,49 @@ fn run_from<R: Read + Drop>(
         &mut writer,
         &mut log,
     );
-    if let Err(fault) = outcome {
-        let _status = print_fault(rt, PROGRAM, fault.text());
+    match outcome {
+        Ok(outcome) => tell_want(rt, telling, outcome),
+        Err(fault) => {
+            let _status = print_fault(rt, PROGRAM, fault.text());
+        }
     }
-    status_of(&outcome)
+    match log.unwritten {
+        Some(fault) => print_journal_fault(rt, fault),
+        None => status_of(&outcome),
+    }
+}
+
+// How refused lines of standard input are told. Where they are typed, by a mark under each.
+fn greeted(rt: &impl Eprint, args: MrunArgs, typed: bool) -> Telling {
+    if typed {
+        print_greeting(rt, PROGRAM);
+    }
+    match (args.errors, typed) {
+        (true, _) => Telling::ByNumber,
+        (false, true) => Telling::UnderLine,
+        (false, false) => Telling::Nothing,
+    }
+}
+
+// Runs the script from its input, once the journal's file is there, if one is asked for.
+fn run_into<R: Read + Drop>(
+    rt: &(impl Files + Print + Eprint + AllocGlobal),
+    arguments: &[Vec<u8>],
+    args: MrunArgs,
+    typed: bool,
+    core: JobCore,
+    input: R,
+) -> u8
+    requires legal { IsLegal core.machine.units initial }
+    requires closed { core.machine.transactions ≡ finmap.empty }
+{
+    match created(rt, arguments, args.journal) {
+        Ok(journal) => run_from(rt, args, typed, core, input, journal),
+        Err(status) => {
+            drop(core);
+            status
+        }
+    }
 }
 
 // Runs the script from a core that is new or loaded.
@@ -164,20 +292,21 @@ fn run_on(
     rt: &(impl Files + Print + Eprint + Input + AllocGlobal),
     arguments: &[Vec<u8>],
     args: MrunArgs,
+    typed: bool,
     core: JobCore,
 ) -> u8
     requires legal { IsLegal core.machine.units initial }
     requires closed { core.machine.transactions ≡ finmap.empty }
 {
     let Some(name) = args.file.and_then(|place| arguments.get(place)) else {
-        return run_from(rt, args, core, rt.reader());
+        return run_into(rt, arguments, args, typed, core, rt.reader());
     };
     let Some(path) = path_of(name) else {
         drop(core);
         return print_bad_name(rt, PROGRAM);
     };
     match fs::open(rt, path) {
-        Ok(file) => run_from(rt, args, core, file),
+        Ok(file) => run_into(rt, arguments, args, false, core, file),
         Err(why) => {
             drop(core);
             print_unopened(rt, PROGRAM, path, why)
@@ -188,20 +317,22 @@ fn run_on(
 fn run_with_arguments(
     rt: &(impl Files + Print + Eprint + Input + AllocGlobal),
     arguments: &[Vec<u8>],
+    typed: bool,
 ) -> u8 {
     let args = match mrun_args_of(rt.alloc(), arguments) {
         Ok(args) => args,
         Err(error) => return print_help_or_error(rt, PROGRAM, error),
     };
     match first_core(rt, arguments, args.load) {
-        Ok(core) => run_on(rt, arguments, args, core),
+        Ok(core) => run_on(rt, arguments, args, typed, core),
         Err(status) => status,
     }
 }
 
 fn main(rt: HostRuntime) -> ExitCode {
+    let typed = rt.stdin().is_terminal() && rt.stderr().is_terminal();
     match arguments_of(&rt) {
-        Ok(arguments) => ExitCode::from(run_with_arguments(&rt, &arguments)),
+        Ok(arguments) => ExitCode::from(run_with_arguments(&rt, &arguments, typed)),
         Err(AllocError) => ExitCode::from(print_fault(&rt, PROGRAM, Fault::Memory.text())),
     }
 }

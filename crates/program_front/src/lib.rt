@@ -13,7 +13,8 @@
 pub use jobs_words::{MjobsArgs, mjobs_args_of};
 pub use printing::{
     FAULT_STATUS, arguments_of, path_of, print_bad_name, print_fault, print_faulty_line,
-    print_help_or_error, print_refused, print_unloaded, print_unopened,
+    print_greeting, print_help_or_error, print_mark, print_refused, print_uncreated,
+    print_unloaded, print_unopened, print_unwritten, print_wanting, room_before,
 };
 pub use run_words::{MrunArgs, mrun_args_of};
 pub use words::NamePlace;

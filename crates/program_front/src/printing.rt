@@ -4,7 +4,7 @@ ghost use Rattle.std.specs.Prelude.{◌≡◌};
 use clap::error::ErrorKind;
 use refusal::Refusal;
 use script::locate_fault;
-use std::alloc::AllocError;
+use std::alloc::{AllocError, Global};
 use std::env::FillError;
 use std::io;
 use std::rt::Env;
@@ -74,11 +74,65 @@ pub fn print_refused(
     );
 }
 
+/// What takes as much room on a terminal as the bytes of a line before a column: a tab for a tab, a blank for each other
+/// character.
+pub fn room_before(alloc: Global, line: &[u8], column: usize) -> Result<String, AllocError> {
+    let mut room = String::new(alloc);
+    for byte in line.iter().take(column.saturating_sub(1)) {
+        match *byte {
+            b'\t' => room.push('\t')?,
+            0x80..=0xbf => {}
+            _ => room.push(' ')?,
+        }
+    }
+    Ok(room)
+}
+
+/// Prints a mark under the fault of a refused line that has just been typed, and what was expected there, on standard
+/// error.
+pub fn print_mark(rt: &(impl Eprint + AllocGlobal), line: &[u8], refusal: Refusal) {
+    let found = locate_fault(rt.alloc(), line, refusal);
+    let expected = found.expected.text();
+    if let Ok(room) = room_before(rt.alloc(), line, found.column) {
+        let _ = eprintln!(rt; "{room}^ expected {expected}");
+    }
+}
+
+/// Prints how lines are typed, on standard error.
+pub fn print_greeting(rt: &impl Eprint, program: &str) {
+    let _ = eprintln!(rt;
+        "{program}: type lines such as 1 SET ^A(1)=5 and 1 $GET(^A(1)); Ctrl-D ends the input and brings the listing"
+    );
+}
+
+/// Prints that memory was refused where lines got `error 11 OutOfMemory`, so that another run may print something else.
+pub fn print_wanting(rt: &impl Eprint, program: &str) {
+    let _ = eprintln!(rt;
+        "{program}: memory was refused: with more of it, the lines that got OutOfMemory would have other replies"
+    );
+}
+
 /// Prints that a file can't be opened, and why, and answers the exit status.
 pub fn print_unopened(rt: &impl Eprint, program: &str, name: &str, why: io::Error) -> u8
     ensures { result ≡ FAULT_STATUS }
 {
     let _ = eprintln!(rt; "{program}: cannot read input: {name}: {why}");
+    FAULT_STATUS
+}
+
+/// Prints that the journal's file can't be created, and why, and answers the exit status.
+pub fn print_uncreated(rt: &impl Eprint, program: &str, name: &str, why: io::Error) -> u8
+    ensures { result ≡ FAULT_STATUS }
+{
+    let _ = eprintln!(rt; "{program}: cannot write the journal: {name}: {why}");
+    FAULT_STATUS
+}
+
+/// Prints why the journal isn't written, and answers the exit status.
+pub fn print_unwritten(rt: &impl Eprint, program: &str, why: &str) -> u8
+    ensures { result ≡ FAULT_STATUS }
+{
+    let _ = eprintln!(rt; "{program}: cannot write the journal: {why}");
     FAULT_STATUS
 }
 

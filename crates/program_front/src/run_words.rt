@@ -1,14 +1,22 @@
 //! The words of `mrun`.
 use crate::words::{
-    NamePlace, VERSION, errors_word, file_of, file_word, load_of, load_word, no_listing_word,
-    texts_of,
+    NamePlace, VERSION, errors_word, file_of, file_word, journal_of, journal_word, load_of,
+    load_word, no_listing_word, stats_word, texts_of,
 };
 use clap::builder::ValueParser;
-use clap::{Arg, ArgAction, Command, Error};
+use clap::error::ErrorKind;
+use clap::{Arg, ArgAction, ArgMatches, Command, Error};
 use std::alloc::Global;
 
 // The most printed lines from one pass of the collector, or one checkpoint, to the next that may be asked for.
 const MOST_LINES: u64 = 1000000;
+
+// What is said where a journal is asked for that would drop its beginning.
+const DROPPED: &str =
+    "'--journal <JOURNAL>' cannot be used with '--checkpoint-every <M>' other than 0, by which the journal drops its beginning";
+
+// What is said where the journal would be written to a file that is read.
+const READ: &str = "'--journal <JOURNAL>' cannot be the file that is read";
 
 // What `--help` prints under the options.
 const LINES: &str = "Each line is a job, 1 to 4096, a blank, and a command or a function:
@@ -21,14 +29,16 @@ A reply is printed for each line that isn't empty: its job, and `ok`, a value or
 At the end of input follow `--` and the listing of the database, which starts empty and is kept in memory.
 --load FILE starts from a listing instead: lines ^Fruit(\"apple\",\"price\")=1.2, as they are printed or as other M systems
 write them in ZWR form. Where a line of it can't be read nothing runs.
+--journal FILE keeps a run: after mrun --journal done.txt script.txt, mrun done.txt leaves the same listing.
 Lines can be typed: each gets its reply at once, and Ctrl-D on an empty line ends the input.
 
 --errors tells a refused line's number, the column of its fault, the refusal and what was expected there.
 --collect-every drops old versions of values that no transaction can see any more, --checkpoint-every what the journal
-keeps of the lines done before all open transactions; what is printed doesn't depend on either.
+keeps of the lines done before all open transactions; what is printed doesn't depend on either. --stats tells at the end
+what is held: nodes, and the units of the journal, what was dropped of them and the bytes that the others take.
 
-Exit status: 0, all replies are accepted; 1, a reply is an `error`; 2, input can't be read, output can't be
-written, memory ran out, a listing can't be loaded, or the words above are wrong.";
+Exit status: 0, all replies are accepted; 1, a reply is an `error`; 2, input can't be read, output or the journal
+can't be written, memory ran out, a listing can't be loaded, or the words above are wrong.";
 
 /// What the arguments of `mrun` ask for.
 #[derive(Clone, Copy, Debug, PartialEq, Eq)]
@@ -37,10 +47,14 @@ pub struct MrunArgs {
     pub file: Option<usize>,
     /// Where the name of the listing stands that is loaded first, or none.
     pub load: Option<NamePlace>,
+    /// Where the name of the file stands that the journal is written to, or none.
+    pub journal: Option<NamePlace>,
     /// Whether `--` and the listing are printed.
     pub listed: bool,
     /// Whether each refused line is told on standard error.
     pub errors: bool,
+    /// Whether what the engine holds at the end is told there.
+    pub statistics: bool,
     /// After how many printed lines the collector passes over the database, again and again; 0 for never.
     pub collect_every: u64,
     /// After how many printed lines a checkpoint is taken, again and again; 0 for never.
@@ -79,11 +93,31 @@ fn command<'a>(alloc: Global) -> Result<Command<'a>, Error> {
         .after_help(LINES)
         .arg(file_word(alloc))?
         .arg(load_word(alloc))?
+        .arg(journal_word(alloc))?
         .arg(no_listing_word(alloc))?
         .arg(errors_word(alloc))?
+        .arg(stats_word(alloc))?
         .arg(collect_every)?
         .arg(checkpoint_every)?;
     Ok(command)
+}
+
+// An error of words that don't go together.
+fn conflict(alloc: Global, why: &str) -> Result<Error, Error> {
+    let error = command(alloc)?.error(ErrorKind::ArgumentConflict, why)?;
+    Ok(error)
+}
+
+// Why the words for the journal don't go with the others, if so.
+fn journal_conflict(matches: &ArgMatches<'_>, args: MrunArgs) -> Option<&'static str> {
+    let name = matches.get_str("journal")?;
+    if args.checkpoint_every != 0 {
+        return Some(DROPPED);
+    }
+    if matches.get_str("FILE") == Some(name) || matches.get_str("load") == Some(name) {
+        return Some(READ);
+    }
+    None
 }
 
 /// What the arguments of `mrun` ask for; the first is the program's name. An error's text is for the user: help and the
@@ -91,12 +125,18 @@ fn command<'a>(alloc: Global) -> Result<Command<'a>, Error> {
 pub fn mrun_args_of(alloc: Global, arguments: &[Vec<u8>]) -> Result<MrunArgs, Error> {
     let texts = texts_of(alloc, arguments)?;
     let matches = command(alloc)?.try_get_matches_from(&texts)?;
-    Ok(MrunArgs {
+    let args = MrunArgs {
         file: file_of(&matches, &texts),
         load: load_of(&matches, &texts),
+        journal: journal_of(&matches, &texts),
         listed: !matches.get_flag("no-listing"),
         errors: matches.get_flag("errors"),
+        statistics: matches.get_flag("stats"),
         collect_every: matches.get_one("collect-every").unwrap_or(0),
         checkpoint_every: matches.get_one("checkpoint-every").unwrap_or(0),
-    })
+    };
+    match journal_conflict(&matches, args) {
+        Some(why) => Err(conflict(alloc, why)?),
+        None => Ok(args),
+    }
 }

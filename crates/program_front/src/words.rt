@@ -2,9 +2,6 @@
 use clap::{Arg, ArgAction, ArgMatches, Error};
 use std::alloc::{AllocError, Global};
 
-// What stands before a listing's name in one argument with it.
-const LOAD_FRONT: &str = "--load=";
-
 /// Where a file's name stands among the arguments.
 #[derive(Clone, Copy, Debug, PartialEq, Eq)]
 pub struct NamePlace {
@@ -33,6 +30,17 @@ pub(crate) fn load_word<'a>(alloc: Global) -> Arg<'a> {
         .help("Start from this listing, ours or in ZWR form; a line that sets nothing ends the run")
 }
 
+/// The word for the file that the journal is written to.
+pub(crate) fn journal_word<'a>(alloc: Global) -> Arg<'a> {
+    Arg::new(alloc, "journal")
+        .long("journal")
+        .action(ArgAction::Set)
+        .value_name("JOURNAL")
+        .help(
+            "Write what was done to this file at the end, as a script that leaves the same listing",
+        )
+}
+
 /// The word that leaves out the listing.
 pub(crate) fn no_listing_word<'a>(alloc: Global) -> Arg<'a> {
     Arg::new(alloc, "no-listing")
@@ -47,6 +55,16 @@ pub(crate) fn errors_word<'a>(alloc: Global) -> Arg<'a> {
         .long("errors")
         .action(ArgAction::SetTrue)
         .help("Tell each refused line's number, column and fault on standard error")
+}
+
+/// The word that asks for what the engine holds at the end, on standard error.
+pub(crate) fn stats_word<'a>(alloc: Global) -> Arg<'a> {
+    Arg::new(alloc, "stats")
+        .long("stats")
+        .action(ArgAction::SetTrue)
+        .help(
+            "Tell at the end how many nodes, units and bytes of journal there are, on standard error",
+        )
 }
 
 /// The arguments as texts, with each sequence that isn't UTF-8 replaced.
@@ -77,17 +95,28 @@ pub(crate) fn file_of(matches: &ArgMatches<'_>, arguments: &[String]) -> Option<
     }
 }
 
-/// Where the name of the listing stands that is loaded first, or none.
-pub(crate) fn load_of(matches: &ArgMatches<'_>, arguments: &[String]) -> Option<NamePlace> {
-    let name = matches.get_str("load")?;
-    if let Some(argument) = place_of(arguments, name) {
-        return Some(NamePlace { argument, from: 0 });
-    }
+// Where the value of a word stands, which has this text: in the argument behind it, or behind `=` in its own.
+fn value_place(arguments: &[String], word: &str, front: &str, text: &str) -> Option<NamePlace> {
     for argument in 1..arguments.len() {
-        if arguments[argument].as_str().strip_prefix(LOAD_FRONT) == Some(name) {
-            let from = LOAD_FRONT.len();
+        if arguments[argument].as_str().strip_prefix(front) == Some(text) {
+            let from = front.len();
             return Some(NamePlace { argument, from });
+        }
+        if arguments[argument].as_str() == text && arguments[argument - 1].as_str() == word {
+            return Some(NamePlace { argument, from: 0 });
         }
     }
     None
+}
+
+/// Where the name of the listing stands that is loaded first, or none.
+pub(crate) fn load_of(matches: &ArgMatches<'_>, arguments: &[String]) -> Option<NamePlace> {
+    let name = matches.get_str("load")?;
+    value_place(arguments, "--load", "--load=", name)
+}
+
+/// Where the name of the file stands that the journal is written to, or none.
+pub(crate) fn journal_of(matches: &ArgMatches<'_>, arguments: &[String]) -> Option<NamePlace> {
+    let name = matches.get_str("journal")?;
+    value_place(arguments, "--journal", "--journal=", name)
 }

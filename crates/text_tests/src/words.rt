@@ -1,6 +1,6 @@
 //! The words of `mrun` and `mjobs`: what their command lines ask for. Expected from README and `--help`.
 use clap::error::ErrorKind;
-use program_front::{MjobsArgs, MrunArgs, NamePlace, mjobs_args_of, mrun_args_of};
+use program_front::{MjobsArgs, MrunArgs, NamePlace, mjobs_args_of, mrun_args_of, room_before};
 use std::alloc::Global;
 use std::test::Fail;
 
@@ -26,8 +26,10 @@ fn asked(alloc: Global, words: &[&[u8]]) -> Result<Result<MrunArgs, ErrorKind>, 
 const PLAIN: MrunArgs = MrunArgs {
     file: None,
     load: None,
+    journal: None,
     listed: true,
     errors: false,
+    statistics: false,
     collect_every: 0,
     checkpoint_every: 0,
 };
@@ -86,6 +88,61 @@ fn words_ask_for_a_listing(rt: HostRuntime) -> Result<(), Fail> {
         })
     );
     assert_eq!(rt; asked(rt.alloc(), &[b"--load"])?.is_err(), true);
+    Ok(())
+}
+
+// Where the journal's name stands by these words.
+fn journal_place(alloc: Global, words: &[&[u8]]) -> Result<Option<NamePlace>, Fail> {
+    match asked(alloc, words)? {
+        Ok(args) => Ok(args.journal),
+        Err(_) => Ok(None),
+    }
+}
+
+#[test]
+fn words_ask_for_a_journal(rt: HostRuntime) -> Result<(), Fail> {
+    let apart = journal_place(rt.alloc(), &[b"--journal", b"j.txt", b"a.txt"])?;
+    let place = NamePlace {
+        argument: 2,
+        from: 0,
+    };
+    assert_eq!(rt; apart, Some(place));
+    let joined = journal_place(rt.alloc(), &[b"a.txt", b"--journal=j.txt"])?;
+    let place = NamePlace {
+        argument: 2,
+        from: 10,
+    };
+    assert_eq!(rt; joined, Some(place));
+    let beside = journal_place(rt.alloc(), &[b"--load", b"\xff", b"--journal", b"\xfe"])?;
+    let place = NamePlace {
+        argument: 4,
+        from: 0,
+    };
+    assert_eq!(rt; beside, Some(place));
+    Ok(())
+}
+
+#[test]
+fn a_journal_keeps_its_beginning(rt: HostRuntime) -> Result<(), Fail> {
+    let dropped = asked(
+        rt.alloc(),
+        &[b"--journal", b"j.txt", b"--checkpoint-every", b"5"],
+    )?;
+    assert_eq!(rt; dropped, Err(ErrorKind::ArgumentConflict));
+    let kept = asked(
+        rt.alloc(),
+        &[b"--journal", b"j.txt", b"--checkpoint-every", b"0"],
+    )?;
+    assert_eq!(rt; kept.is_ok(), true);
+    Ok(())
+}
+
+#[test]
+fn a_journal_is_no_file_that_is_read(rt: HostRuntime) -> Result<(), Fail> {
+    let script = asked(rt.alloc(), &[b"--journal", b"a.txt", b"a.txt"])?;
+    assert_eq!(rt; script, Err(ErrorKind::ArgumentConflict));
+    let listing = asked(rt.alloc(), &[b"--journal=a.txt", b"--load", b"a.txt"])?;
+    assert_eq!(rt; listing, Err(ErrorKind::ArgumentConflict));
     Ok(())
 }
 
@@ -237,5 +294,13 @@ fn words_ask_for_workers(rt: HostRuntime) -> Result<(), Fail> {
         let found = workers(rt.alloc(), word)?;
         assert_eq!(rt; found, want);
     }
+    Ok(())
+}
+
+#[test]
+fn a_mark_stands_under_its_column(rt: HostRuntime) -> Result<(), Fail> {
+    let line = b"1\tSET ^Zo\xc3\xab=x";
+    let room = room_before(rt.alloc(), line.as_slice(), 12)?;
+    assert_eq!(rt; room.as_str(), " \t        ");
     Ok(())
 }

@@ -1,0 +1,49 @@
+//! What the engine holds, in numbers.
+use globals::{Cut, OrderedView, walk_from};
+use job_core::JobCore;
+
+/// What a core holds.
+#[derive(Clone, Copy, Debug, PartialEq, Eq)]
+pub struct Statistics {
+    /// How many units the journal has had.
+    pub units: u64,
+    /// How many of them checkpoints have let go of.
+    pub dropped: u64,
+    /// How many bytes the others take.
+    pub journal_bytes: usize,
+    /// How many nodes have a value.
+    pub nodes: u64,
+}
+
+fn count_nodes<V: OrderedView>(view: &V) -> u64 {
+    let mut nodes: u64 = 0;
+    for _node in walk_from(view, Cut::Start) {
+        nodes = nodes.saturating_add(1);
+    }
+    nodes
+}
+
+impl Statistics {
+    /// Counts what the core holds. Walks over all nodes; takes no memory.
+    pub fn of(core: &JobCore) -> Statistics {
+        Statistics {
+            units: core.journal().len(),
+            dropped: core.base().number(),
+            journal_bytes: core.journal().size(),
+            nodes: count_nodes(&core.content()),
+        }
+    }
+}
+
+/// Prints it in one line on standard error. What can't be printed is left out.
+pub fn print_statistics(rt: &impl Eprint, program: &str, held: &Statistics) {
+    let Statistics {
+        units,
+        dropped,
+        journal_bytes,
+        nodes,
+    } = *held;
+    let _ = eprintln!(rt;
+        "{program}: {nodes} nodes; {units} units, {dropped} of them dropped; {journal_bytes} bytes of journal"
+    );
+}
