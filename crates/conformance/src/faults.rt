@@ -1,8 +1,9 @@
 //! A reader or a writer that fails at each call in turn, input in pieces, and what is written when.
 use crate::streams::{Heard, Pieces, Taken, Watching};
+use job_core::JobCore;
 use listing::Counted;
 use refusal::Refusal;
-use script_run::{Fault, NoLog, Outcome, RefusalLog, Upkeep, run_script, run_with};
+use script_run::{Fault, NoLog, Outcome, RunLog, Upkeep, run_script, run_with};
 use std::alloc::Global;
 use std::cell::Cell;
 use std::test::Fail;
@@ -70,9 +71,9 @@ fn run_pieces(alloc: Global, script: &str, size: usize, failing: Failing) -> Res
 
 fn is_whole(alloc: Global, row: &Row, size: usize) -> Result<bool, Fail> {
     let (script, output) = *row;
-    let went = run_pieces(alloc, script, size, NONE)?;
+    let run = run_pieces(alloc, script, size, NONE)?;
     let refused = output.contains("error");
-    Ok(went.outcome == Ok(Outcome { refused }) && went.text.as_slice() == output.as_bytes())
+    Ok(run.outcome == ample_run(refused) && run.text.as_slice() == output.as_bytes())
 }
 
 // A read that fails is the last call of the reader, is counted once, and leaves just the replies of lines that ended.
@@ -251,15 +252,16 @@ fn replies_are_written_before_the_buffer_grows(rt: HostRuntime) -> Result<(), Fa
     Ok(())
 }
 
-// What was told of refused lines.
+// What was told of refused lines, and how many units there were at the end.
 #[derive(Drop)]
 struct Told {
     lines: u64,
     bytes: usize,
     refusals: u64,
+    units: u64,
 }
 
-impl RefusalLog for Told {
+impl RunLog for Told {
     fn refused(&mut self, number: u64, line: &[u8], refusal: Refusal) {
         self.lines = number;
         self.bytes = line.len();
@@ -267,16 +269,29 @@ impl RefusalLog for Told {
             self.refusals = self.refusals.saturating_add(1);
         }
     }
+
+    fn ended(&mut self, core: &JobCore) {
+        self.units = core.journal().len();
+    }
 }
 
-// The text of a run without a listing, the last line that was told of and its length, and how many were.
-fn unlisted(alloc: Global) -> Result<(Vec<u8>, u64, usize, u64), Fail> {
+// A run without a want of memory.
+fn ample_run(refused: bool) -> Result<Outcome, Fault> {
+    Ok(Outcome {
+        refused,
+        wanting: false,
+    })
+}
+
+// The text of a run without a listing, and what was told.
+fn unlisted(alloc: Global) -> Result<(Vec<u8>, Told), Fail> {
     let mut reader = reader_of(b"1 SET ^A=1\n\n1 FOO\r\n2 $GET(^A)", 7, NONE);
     let mut writer = writer_of(alloc, 7, NONE);
     let mut told = Told {
         lines: 0,
         bytes: 0,
         refusals: 0,
+        units: 0,
     };
     let outcome = run_with(
         alloc,
@@ -286,22 +301,23 @@ fn unlisted(alloc: Global) -> Result<(Vec<u8>, u64, usize, u64), Fail> {
         &mut writer,
         &mut told,
     );
-    let text = if outcome == Ok(Outcome { refused: true }) {
+    let text = if outcome == ample_run(true) {
         Vec::from_slice(alloc, &writer.inner().text)?
     } else {
         Vec::new(alloc)
     };
-    Ok((text, told.lines, told.bytes, told.refusals))
+    Ok((text, told))
 }
 
 #[test]
 fn run_without_listing_prints_replies_alone(rt: HostRuntime) -> Result<(), Fail> {
-    let (text, line, bytes, refusals) = unlisted(rt.alloc())?;
+    let (text, told) = unlisted(rt.alloc())?;
     assert_eq!(rt;
         text.as_slice(),
         b"1 ok\n1 error 1 BadLine\n2 1\n".as_slice()
     );
-    assert_eq!(rt; (line, bytes, refusals), (3, 5, 1));
+    assert_eq!(rt; (told.lines, told.bytes, told.refusals), (3, 5, 1));
+    assert_eq!(rt; told.units, 4);
     Ok(())
 }
 
@@ -317,7 +333,7 @@ fn listed(alloc: Global) -> Result<Vec<u8>, Fail> {
         &mut writer,
         &mut NoLog,
     );
-    Ok(if outcome == Ok(Outcome { refused: false }) {
+    Ok(if outcome == ample_run(false) {
         Vec::from_slice(alloc, &writer.inner().text)?
     } else {
         Vec::new(alloc)

@@ -1,8 +1,12 @@
 //! Random lines of jobs.
 use std::alloc::{AllocError, Global};
 
-/// How many jobs there are.
-pub const JOBS: usize = 4;
+/// How many jobs there are, and how many lines each has.
+#[derive(Clone, Copy, Debug)]
+pub struct Size {
+    pub jobs: u64,
+    pub lines: u64,
+}
 
 /// Whether jobs meet.
 #[derive(Clone, Copy, PartialEq, Eq)]
@@ -65,17 +69,17 @@ fn command(alloc: Global, numbers: &mut Numbers, name: &str) -> Result<String, A
     }
 }
 
-/// A script of all jobs, with so many lines each, line by line.
+/// A script of so many jobs, with so many lines each, line by line.
 pub fn push_script(
     alloc: Global,
     seed: u64,
     names: Names,
-    lines: usize,
+    size: Size,
     out: &mut Vec<u8>,
 ) -> Result<(), AllocError> {
     let mut numbers = Numbers::new(seed);
-    for _ in 0..lines {
-        for job in 1..=JOBS as u64 {
+    for _ in 0..size.lines {
+        for job in 1..=size.jobs {
             let name = name_of(alloc, job, names)?;
             let command = command(alloc, &mut numbers, name.as_str())?;
             let line = format!(in alloc; "{job} {command}\n")?;

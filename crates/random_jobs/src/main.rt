@@ -1,28 +1,33 @@
-//! Random scripts of four jobs that run at the same time on four workers. It prints `alike` for a seed where a plain map
-//! that replays the closed journal gives every answer in it and the listing; and where jobs whose globals are their own
-//! are answered as each of them is alone.
+//! Random scripts of jobs that run at the same time, each on a worker. It prints `alike` for a seed where a plain map that
+//! replays the closed journal gives every answer in it and the listing; and where jobs whose globals are their own are
+//! answered as each of them is alone.
+//!
+//! The words are the first seed, how many there are, how many jobs from 1 to 16, and how many lines a job has: 1 8 4 150
+//! where none are said.
 #![tactic(auto)]
 
 use job_scripts::scripts_of;
 use job_server::{Served, serve};
-use lines::{JOBS, Names, push_script};
+use lines::{Names, Size, push_script};
 use listing::{Counted, ListingFault, write_listing};
 use plain::Plain;
 use script_run::{Fault, Upkeep, run_script};
 use shared_engine::Gate;
 use std::alloc::{AllocError, Global};
+use std::io::ErrorKind;
+use std::rt::Env;
 use std::sync::Wait;
 use std::thread::Threads;
-use std::{io, thread};
+use std::{env, io, thread};
 
 mod lines;
 mod plain;
 
-// How many lines a job has.
-const LINES: usize = 150;
+// What is run where no word says it: the first seed, how many, jobs, lines of each.
+const USUAL: [u64; 4] = [1, 8, 4, 150];
 
-// How many seeds are run.
-const SEEDS: u64 = 8;
+// A job has a worker, of which there are at most so many.
+const MOST_JOBS: u64 = 16;
 
 // Lets other threads go on before each line, where lines are watched, and between tries, and no time pass.
 #[derive(Clone, Copy)]
@@ -95,10 +100,12 @@ fn served<R: Threads + Wait + Sync>(
     rt: &R,
     alloc: Global,
     text: &[u8],
+    size: Size,
     watches: bool,
 ) -> Result<Served, Outcome> {
     let scripts = scripts_of(alloc, text)?;
-    match serve(rt, alloc, scripts, JOBS, &Yielding { watches }) {
+    let workers = size.jobs as usize;
+    match serve(rt, alloc, scripts, workers, &Yielding { watches }) {
         Ok(served) => Ok(served),
         Err(_) => Err(Outcome::NoMemory),
     }
@@ -143,8 +150,9 @@ fn as_alone<R: Threads + Wait + Sync>(
     rt: &R,
     alloc: Global,
     text: &[u8],
+    size: Size,
 ) -> Result<Outcome, Outcome> {
-    let served = served(rt, alloc, text, false)?;
+    let served = served(rt, alloc, text, size, false)?;
     let scripts = scripts_of(alloc, text)?;
     for (script, report) in scripts.iter().zip(served.reports.iter()) {
         let alone = answered_alone(alloc, &script.text)?;
@@ -160,21 +168,38 @@ fn outcome_of<R: Threads + Wait + Sync>(
     rt: &R,
     alloc: Global,
     seed: u64,
+    size: Size,
 ) -> Result<Outcome, Outcome> {
     let mut shared = Vec::new(alloc);
-    push_script(alloc, seed, Names::Shared, LINES, &mut shared)?;
-    let shared = replayed(alloc, &served(rt, alloc, &shared, seed % 2 == 0)?)?;
+    push_script(alloc, seed, Names::Shared, size, &mut shared)?;
+    let shared = replayed(alloc, &served(rt, alloc, &shared, size, seed % 2 == 0)?)?;
     if shared != Outcome::Alike {
         return Ok(shared);
     }
     let mut apart = Vec::new(alloc);
-    push_script(alloc, seed, Names::Own, LINES, &mut apart)?;
-    as_alone(rt, alloc, &apart)
+    push_script(alloc, seed, Names::Own, size, &mut apart)?;
+    as_alone(rt, alloc, &apart, size)
+}
+
+// The number of the word at this place, or the usual one.
+fn number_at(rt: &(impl Env + AllocGlobal), place: usize) -> io::Result<u64> {
+    match env::args(rt)?.nth(place.saturating_add(1)) {
+        Some(word) => match word.parse::<u64>() {
+            Ok(number) => Ok(number),
+            Err(_) => Err(io::Error::from(ErrorKind::InvalidInput)),
+        },
+        None => Ok(USUAL[place % 4]),
+    }
 }
 
 fn main(rt: HostRuntime) -> io::Result<()> {
-    for seed in 1..=SEEDS {
-        let outcome = match outcome_of(&rt, rt.alloc(), seed) {
+    let (first, seeds) = (number_at(&rt, 0)?, number_at(&rt, 1)?);
+    let size = Size {
+        jobs: number_at(&rt, 2)?.clamp(1, MOST_JOBS),
+        lines: number_at(&rt, 3)?,
+    };
+    for seed in first..first.saturating_add(seeds) {
+        let outcome = match outcome_of(&rt, rt.alloc(), seed, size) {
             Ok(outcome) => outcome,
             Err(outcome) => outcome,
         };
