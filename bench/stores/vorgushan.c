@@ -1,0 +1,52 @@
+/* The records as nodes ^Patient(NUMBER,FIELD), by the typed calls. */
+#include <stdio.h>
+#include <string.h>
+
+#include "store.h"
+#include "vorgushan.h"
+
+static vg_engine engine = VG_ENGINE_NONE;
+static vg_key key = VG_KEY_NONE;
+
+void open_store(void) { must(vg_new(&engine) == VG_DONE, "vg_new"); }
+
+void close_store(void) {
+    vg_key_end(&key);
+    must(vg_end(&engine) == VG_DONE, "vg_end");
+}
+
+/* Lone commands: a transaction of an M job has at most 65,535 of them. */
+void begin_work(void) {}
+void end_work(void) {}
+
+static void make_key(uint32_t number, const char *field) {
+    char digits[16];
+    int length = snprintf(digits, sizeof digits, "%u", number);
+    must(vg_key_name(&key, "Patient", 7) == VG_DONE, "vg_key_name");
+    must(vg_key_subscript(&key, digits, (size_t)length) == VG_DONE, "vg_key_subscript");
+    must(vg_key_subscript(&key, field, strlen(field)) == VG_DONE, "vg_key_subscript");
+}
+
+void put(uint32_t number, const char *field, const char *value, size_t length) {
+    make_key(number, field);
+    must(vg_set(&engine, 1, &key, value, length) == VG_DONE, "vg_set");
+}
+
+size_t get(uint32_t number, const char *field, char *value, size_t size) {
+    size_t length = 0;
+    make_key(number, field);
+    must(vg_get(&engine, 1, &key, value, size, &length) == VG_DONE, "vg_get");
+    return length;
+}
+
+uint64_t walk(void) {
+    char value[64];
+    size_t length = 0;
+    uint64_t bytes = 0;
+    must(vg_key_name(&key, "Patient", 7) == VG_DONE, "vg_key_name");
+    while (vg_query(&engine, 1, &key, VG_AT_KEY, VG_FORWARD) == VG_DONE) {
+        must(vg_get(&engine, 1, &key, value, sizeof value, &length) == VG_DONE, "vg_get");
+        bytes += length;
+    }
+    return bytes;
+}
