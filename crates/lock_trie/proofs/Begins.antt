@@ -1,11 +1,12 @@
 -- Beginnings of lists of subscripts.
-use Rattle.std.proofs.Common.{zero, suc, ◌≡◌, ◌≤◌, ◌+◌, ℕ, List, [], ◌∷◌, Bool, true, false, length, take, refl, sym, ap, subst, ◌∙◌, arith}
-use Rattle.std.specs.Prelude.{cond, ◌&&◌, ◌==◌, nat_eq, Some, None}
+use Rattle.std.proofs.Common.{zero, suc, ◌≡◌, ◌≤◌, ◌+◌, ℕ, List, [], ◌∷◌, Bool, true, false, length, take, drop, get_or, refl, sym, ap, subst, ◌∙◌, arith}
+use Rattle.std.specs.Prelude.{◌-◌, cond, ◌&&◌, ◌==◌, nat_eq, Some, None}
 use Rattle.std.specs.Cmp.{nat_eq_equiv, first_so, second_so, tied_itself}
 use Rattle.std.specs.Cmp.Lexicographic.{slice_cmp, pointwise, lists_equiv, bytes_decides}
 use Rattle.std.specs.declared.cmp.Ordering.{Ordering}
 use Rattle.std.specs.declared.cmp.Ordering.TheVariants.{Less, Equal, Greater}
 use Rattle.std.specs.Ordering.{is_gt, ordering_then, ordering_reverse}
+use Rattle.std.proofs.Math.Seq.{take-length}
 use Rattle.std.proofs.lemmas.Bool.{and_from, eqb-true, eq-eqb}
 use Rattle.refusal.specs.declared.Refusal.TheVariants.{EmptySubscript, SubscriptTooLong, TooManySubscripts}
 use Rattle.collation.specs.Database.{begins_with}
@@ -120,6 +121,38 @@ whole_begins (q ∷ ps) (y ∷ ys) b h =
     and_from _ _ (equal_texts y q (sym t)) (whole_begins ps ys (second_so (pointwise nat_eq q y) (begins_with ps ys) b) (omega arith))
 
 -- ---- in the order of lists
+
+-- equal first subscripts leave it to the others, and others decide
+pub same_first : (x y : List ℕ) (xs ys : Path) → pointwise nat_eq x y ≡ true → slice_cmp subscript_cmp xs ys ≡ slice_cmp subscript_cmp (x ∷ xs) (y ∷ ys)
+same_first x y xs ys e =
+    let t : y ≡ x = sym (same_text x y e) in
+    let tie : subscript_cmp x y ≡ Equal = ap (subscript_cmp x) t ∙ tied_itself subscript_cmp_total x in
+    rw tie refl
+
+pub other_first : (x y : List ℕ) (xs ys : Path) → pointwise nat_eq x y ≡ false → subscript_cmp x y ≡ slice_cmp subscript_cmp (x ∷ xs) (y ∷ ys)
+other_first x y xs ys e = by_order (subscript_cmp x y) refl
+  where
+    by_order : (r : Ordering) → subscript_cmp x y ≡ r → subscript_cmp x y ≡ ordering_then (subscript_cmp x y) (slice_cmp subscript_cmp xs ys)
+    by_order Less is = rw is refl
+    by_order Equal is = let t : true ≡ false = sym (equal_texts x y (subscript_cmp-IsAntisymmetric x y is)) ∙ e in absurd (cc)
+    by_order Greater is = rw is refl
+
+-- what is left behind the first
+left_of : (p : List ℕ) (ps : Path) → take (length (p ∷ ps) - 1) (drop 1 (p ∷ ps)) ≡ ps
+left_of p ps = let n : suc (length ps) - 1 ≡ length ps = omega arith in ap (λ k. take k ps) n ∙ take-length ps
+
+pub same_at : (a b : Path) (x y : List ℕ) (r : Ordering) → 1 ≤ length a → 1 ≤ length b → x ≡ get_or a 0 x → y ≡ get_or b 0 y → pointwise nat_eq x y ≡ true
+    → r ≡ slice_cmp subscript_cmp (take (length a - 1) (drop 1 a)) (take (length b - 1) (drop 1 b)) → r ≡ slice_cmp subscript_cmp a b
+same_at [] b x y r l m f g e is = absurd (omega arith)
+same_at (p ∷ ps) [] x y r l m f g e is = absurd (omega arith)
+same_at (p ∷ ps) (q ∷ qs) x y r l m f g e is =
+    is ∙ ap (λ z. slice_cmp subscript_cmp z (take (length (q ∷ qs) - 1) (drop 1 (q ∷ qs)))) (left_of p ps) ∙ ap (slice_cmp subscript_cmp ps) (left_of q qs) ∙ same_first p q ps qs (subst (λ z. pointwise nat_eq p z ≡ true) g (subst (λ z. pointwise nat_eq z y ≡ true) f e))
+
+pub other_at : (a b : Path) (x y : List ℕ) (r : Ordering) → 1 ≤ length a → 1 ≤ length b → x ≡ get_or a 0 x → y ≡ get_or b 0 y → pointwise nat_eq x y ≡ false → r ≡ subscript_cmp x y → r ≡ slice_cmp subscript_cmp a b
+other_at [] b x y r l m f g e is = absurd (omega arith)
+other_at (p ∷ ps) [] x y r l m f g e is = absurd (omega arith)
+other_at (p ∷ ps) (q ∷ qs) x y r l m f g e is =
+    is ∙ ap (λ z. subscript_cmp z y) f ∙ ap (subscript_cmp p) g ∙ other_first p q ps qs (subst (λ z. pointwise nat_eq p z ≡ false) g (subst (λ z. pointwise nat_eq z y ≡ false) f e))
 
 -- what begins with a list doesn't stand before it
 pub not_before : (ps xs : Path) → begins_with xs ps ≡ true → is_gt (slice_cmp subscript_cmp ps xs) ≡ false

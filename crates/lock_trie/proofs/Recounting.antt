@@ -106,11 +106,6 @@ entry_added old new n hs least less is entry low named are none =
     let put = put_inserted old new n hs is in
     (held_put old new n (Some hs) put (λ gs e. some_is hs gs e entry) are, short_put old new n (Some hs) least less put low (λ _. named) none)
 
--- none any more
-pub entry_gone : (old new : Held) (n : Resource) (least : ℕ) → IsEntryPut old new n None → AreHeld old → HasNoShorter old least → AreHeld new × HasNoShorter new least
-entry_gone old new n least put are none =
-    (held_put old new n None put (λ hs e. absurd (cc)) are, short_put old new n None least least put (omega arith) (λ t. absurd (cc)) none)
-
 -- ---- what the calls leave
 
 holders_are : (held : Held) (n : Resource) (o : Option Jobs) → o ≡ finmap.get held n → holders_of held n ≡ unwrap_or o []

@@ -10,7 +10,7 @@ use Rattle.std.specs.Ordering.{nat_cmp, bool_cmp, is_gt, is_lt, ordering_then, o
 use Rattle.std.specs.FinMap.{nat_cmp-IsAntisymmetric, slice_cmp-IsAntisymmetric}
 use Rattle.std.proofs.lemmas.Bool.{and_from}
 use Rattle.collation.specs.Reference.{Reference, Resource}
-use Rattle.collation.specs.Database.{is_under, begins_with}
+use Rattle.collation.specs.Database.{is_under}
 use Rattle.collation.specs.Order.{subscript_cmp, ref_cmp}
 use Rattle.collation.specs.Locks.{resource_cmp}
 use Rattle.collation.specs.laws.Counting.{resource_cmp_total}
@@ -101,9 +101,6 @@ not_under_behind r x y low no_ high = by_test (is_at_or_under r y) refl
 
 -- ---- a name and its beginnings
 
-pub at_itself : (n : Resource) → is_at_or_under n n ≡ true
-at_itself n = and_from _ _ (caret_itself n.has_caret) (and_from _ _ (text_itself n.reference.name) (subst (λ p. begins_with n.reference.subscripts p ≡ true) (whole_taken n.reference.subscripts) (take_begins (length n.reference.subscripts) n.reference.subscripts)))
-
 -- a name under its beginning
 pub under_beginning : (n : Resource) (i : ℕ) → is_at_or_under (beginning n i) n ≡ true
 under_beginning n i = and_from _ _ (caret_itself n.has_caret) (and_from _ _ (text_itself n.reference.name) (take_begins i n.reference.subscripts))
@@ -127,7 +124,8 @@ within_reach x p n b d =
     let root : have_one_root p n ≡ true = and_from _ _ (subst (λ k. beq p.has_caret k ≡ true) c (caret_itself p.has_caret)) (equal_texts p.reference.name n.reference.name a) in
     let most : length x.reference.subscripts ≤ shared p.reference.subscripts n.reference.subscripts =
     shared_most p.reference.subscripts n.reference.subscripts x.reference.subscripts (second_so (pointwise nat_eq x.reference.name p.reference.name) _ u) (second_so (pointwise nat_eq x.reference.name n.reference.name) _ v) in
-    subst (λ k. length x.reference.subscripts < cond k (1 + shared p.reference.subscripts n.reference.subscripts) 0) (sym root) (omega arith)
+    let less : length x.reference.subscripts < 1 + shared p.reference.subscripts n.reference.subscripts = omega (arith, most) in
+    subst (λ k. length x.reference.subscripts < cond k (1 + shared p.reference.subscripts n.reference.subscripts) 0) (sym root) less
 
 -- a name under another has its root, and shares all its subscripts
 under_by_shared : (r x : Resource) → is_at_or_under r x ≡ (have_one_root r x && (shared r.reference.subscripts x.reference.subscripts == length r.reference.subscripts))

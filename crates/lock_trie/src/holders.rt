@@ -1,7 +1,6 @@
 //! Who holds one name, and how many times.
-ghost use Rattle.std.specs.Prelude.{true, false, ◌≡◌, ◌<◌, ◌≤◌, ◌+◌, ◌-◌, ◌==◌, ℕ, [], length, OnOk, OnErr, IfOk, IfSome};
-ghost use Rattle.std.specs.Prelude.{None};
-ghost use Rattle.std.specs.Ordering.{nat_cmp, eq_by_cmp};
+ghost use Rattle.std.specs.Prelude.{◌≡◌, ◌<◌, ◌≤◌, ◌+◌, ◌-◌, ◌==◌, [], length, None, OnOk, OnErr, IfOk, IfSome};
+ghost use Rattle.std.specs.Ordering.{nat_cmp};
 ghost use Rattle.std.specs.FinMap.Entries.{find};
 ghost use Rattle.collation.specs.Limits.{most_locks};
 ghost use Rattle.lock_trie.specs.Holders.{counted, has_other, AreHolders, IsEntry, IsCounted, IsFirstAt};

@@ -1,9 +1,8 @@
 //! Values by lock name.
-ghost use Rattle.std.specs.Prelude.{◌≡◌, ◌<◌, true, not, filter, length, None, Some, IsSome, IfSome, IfOk, IfErr, OnErr};
+ghost use Rattle.std.specs.Prelude.{◌≡◌, not, filter, None, Some, IfOk, IfErr, OnErr};
 ghost use Rattle.std.specs.Option.{option_copied};
 ghost use Rattle.std.specs.Ordering.{is_lt};
 ghost use Rattle.std.specs.FinMap as finmap;
-ghost use Rattle.collation.specs.Reference.{Resource};
 ghost use Rattle.collation.specs.Locks.{resource_cmp};
 ghost use Rattle.lock_trie.specs.Names.{beginning, IsWithinReach};
 

@@ -17,7 +17,8 @@ pub struct Beginning<'a> {
     len: usize,
 }
 
-// Compares two lists of subscripts, a beginning first.
+// Compares two lists of subscripts, a beginning first. Names next to one another mostly share their first subscripts: that
+// these are equal is seen without reading them as numbers.
 fn cmp_subscripts(a: &[Text], b: &[Text]) -> Ordering
     requires a_form { subscripts_fault a.now ≡ None }
     requires b_form { subscripts_fault b.now ≡ None }
@@ -34,10 +35,10 @@ fn cmp_subscripts(a: &[Text], b: &[Text]) -> Ordering
         [x, xs @ ..] => match b {
             [] => Ordering::Greater,
             [y, ys @ ..] => {
-                let first = cmp_subscript(x.as_slice(), y.as_slice());
-                match first {
-                    Ordering::Equal => cmp_subscripts(xs, ys),
-                    _ => first,
+                if x == y {
+                    cmp_subscripts(xs, ys)
+                } else {
+                    cmp_subscript(x.as_slice(), y.as_slice())
                 }
             }
         },

@@ -117,7 +117,7 @@ impl LockTrie {
         }
     }
 
-    // Whether another job holds this one or a descendant: a look at the names from this one on, as long as they are under it.
+    // Whether another job holds this one or a descendant: a look at the names from this one on, while they are under it.
     fn is_blocked_below(&self, job: u16, name: &LockName) -> bool
         ensures some { result ≡ true → IsHeldWhere (is_at_or_under_spec name.now) self.now job }
         ensures none { result ≡ false → IsHeldWhere (is_at_or_under_spec name.now) self.now job → ⊥ }

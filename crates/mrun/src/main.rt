@@ -99,12 +99,6 @@ fn print_journal_fault(rt: &impl Eprint, fault: JournalFault) -> u8 {
     print_unwritten(rt, PROGRAM, why)
 }
 
-// The name that stands there.
-fn name_at(arguments: &[Vec<u8>], place: NamePlace) -> Option<&[u8]> {
-    let argument = arguments.get(place.argument)?;
-    argument.get(place.from..)
-}
-
 // Prints why a listing isn't loaded, and answers the exit status.
 fn print_load_fault(rt: &impl Eprint, name: &str, fault: LoadFault) -> u8 {
     match fault {
@@ -152,7 +146,7 @@ fn load_named(
     ensures legal { IfOk result (λ core. IsLegal core.machine.units initial) }
     ensures closed { IfOk result (λ core. core.machine.transactions ≡ finmap.empty) }
 {
-    let Some(path) = name_at(arguments, place).and_then(path_of) else {
+    let Some(path) = place.name_in(arguments).and_then(path_of) else {
         return Err(print_bad_name(rt, PROGRAM));
     };
     match fs::open(rt, path) {
@@ -192,7 +186,7 @@ fn created<P: Files + Eprint>(
     let Some(place) = journal else {
         return Ok(None);
     };
-    let Some(path) = name_at(arguments, place).and_then(path_of) else {
+    let Some(path) = place.name_in(arguments).and_then(path_of) else {
         return Err(print_unwritten(rt, PROGRAM, "its name isn't UTF-8"));
     };
     match fs::create(rt, path) {

@@ -108,13 +108,25 @@ fn conflict(alloc: Global, why: &str) -> Result<Error, Error> {
     Ok(error)
 }
 
-// Why the words for the journal don't go with the others, if so.
-fn journal_conflict(matches: &ArgMatches<'_>, args: MrunArgs) -> Option<&'static str> {
-    let name = matches.get_str("journal")?;
+// Whether the name of a file that is read, if there is one, is this.
+fn is_read(arguments: &[Vec<u8>], place: Option<NamePlace>, name: &[u8]) -> bool {
+    match place {
+        Some(place) => place.name_in(arguments) == Some(name),
+        None => false,
+    }
+}
+
+// Why the words for the journal don't go with the others, if so. Names are told apart by their bytes.
+fn journal_conflict(arguments: &[Vec<u8>], args: MrunArgs) -> Option<&'static str> {
+    let name = args.journal?.name_in(arguments)?;
     if args.checkpoint_every != 0 {
         return Some(DROPPED);
     }
-    if matches.get_str("FILE") == Some(name) || matches.get_str("load") == Some(name) {
+    let file = match args.file {
+        Some(argument) => Some(NamePlace { argument, from: 0 }),
+        None => None,
+    };
+    if is_read(arguments, file, name) || is_read(arguments, args.load, name) {
         return Some(READ);
     }
     None
@@ -135,7 +147,7 @@ pub fn mrun_args_of(alloc: Global, arguments: &[Vec<u8>]) -> Result<MrunArgs, Er
         collect_every: matches.get_one("collect-every").unwrap_or(0),
         checkpoint_every: matches.get_one("checkpoint-every").unwrap_or(0),
     };
-    match journal_conflict(&matches, args) {
+    match journal_conflict(arguments, args) {
         Some(why) => Err(conflict(alloc, why)?),
         None => Ok(args),
     }

@@ -11,6 +11,14 @@ pub struct NamePlace {
     pub from: usize,
 }
 
+impl NamePlace {
+    /// The name that stands there among these arguments, or none where they are no such.
+    pub fn name_in<'a>(&self, arguments: &'a [Vec<u8>]) -> Option<&'a [u8]> {
+        let argument = arguments.get(self.argument)?;
+        argument.get(self.from..)
+    }
+}
+
 /// The version of both programs.
 pub(crate) const VERSION: &str = "0.1.0";
 
