@@ -10,7 +10,7 @@ ghost use Rattle.job_server.specs.Telling.{Serves, Keeps, Advances, Reaches, Has
 use crate::ServerFault;
 use crate::cursor::{Cursor, Line};
 use crate::running::JobRun;
-use crate::worker::Worker;
+use crate::worker::{Worker, writes_in};
 use collation::Job;
 use command::{Command, DataCommand, Reply};
 use job_scripts::{Block, block_of, data_block, push_in_place};
@@ -19,8 +19,10 @@ use refusal::Refusal;
 use shared_engine::{Gate, Session};
 use std::sync::Wait;
 
-// How many data commands are done under one hold of the engine's lock, at most.
-const LINES_PER_HOLD: usize = 16;
+// How many data commands are done under one hold of the engine's lock, at most: alone, and shared with other readers.
+const WRITES_PER_HOLD: usize = 64;
+
+const READS_PER_HOLD: usize = 16;
 
 impl<'a, B: BoardName, R: Wait, G: Gate> Worker<'a, B, R, G> {
     // Whether a data command may be done under one hold of the engine's lock with those right behind it: no line is watched,
@@ -117,13 +119,14 @@ impl<'a, B: BoardName, R: Wait, G: Gate> Worker<'a, B, R, G> {
         places: Vec<Option<Refusal>>,
         served: Vec<Reply>,
         rest: &'b [u8],
+        writes: u64,
     ) -> Result<Cursor<'b>, ServerFault>
         ensures rest { IfOk result (λ behind. behind.lines.now ≡ rest.now) }
         ensures replies { OnOk result (replies.new.items ≡ replies.old.items ++ in_place places.items served.items) }
     {
         push_in_place(places.as_slice(), served, replies)?;
         let count = places.len() as u64;
-        self.note_lines(count);
+        self.note_writes(writes);
         Ok(Cursor {
             lines: rest,
             number: number.saturating_add(count),
@@ -147,8 +150,9 @@ impl<'a, B: BoardName, R: Wait, G: Gate> Worker<'a, B, R, G> {
             places,
             rest,
         } = block;
+        let writes = writes_in(&commands);
         match self.run_block(&mut run.sessions.open, commands) {
-            Ok(served) => self.note_block(&mut run.replies, number, places, served, rest),
+            Ok(served) => self.note_block(&mut run.replies, number, places, served, rest, writes),
             Err(fault) => Err(fault),
         }
     }
@@ -172,8 +176,9 @@ impl<'a, B: BoardName, R: Wait, G: Gate> Worker<'a, B, R, G> {
             places,
             rest,
         } = block;
+        let writes = writes_in(&commands);
         match self.read_block(&mut run.sessions.open, commands) {
-            Ok(served) => self.note_block(&mut run.replies, number, places, served, rest),
+            Ok(served) => self.note_block(&mut run.replies, number, places, served, rest, writes),
             Err(fault) => Err(fault),
         }
     }
@@ -205,13 +210,12 @@ impl<'a, B: BoardName, R: Wait, G: Gate> Worker<'a, B, R, G> {
         ensures on { IfOk result (λ behind. Advances job line.entry.text.now line.entry.next.lines.now behind.lines.now (running run.old.replies.items run.old.sessions.passes.items run.old.sessions.open) (running run.new.replies.items run.new.sessions.passes.items run.new.sessions.open)) }
         ensures keeps { OnOk result (Keeps (running run.old.replies.items run.old.sessions.passes.items run.old.sessions.open) (running run.new.replies.items run.new.sessions.passes.items run.new.sessions.open)) }
     {
-        let block = data_block(
-            self.alloc,
-            first,
-            line.next.lines,
-            LINES_PER_HOLD,
-            &mut run.drafts,
-        )?;
+        let most = if run.is_open() {
+            READS_PER_HOLD
+        } else {
+            WRITES_PER_HOLD
+        };
+        let block = data_block(self.alloc, first, line.next.lines, most, &mut run.drafts)?;
         if run.is_open() {
             self.read_at_once(run, line.number, block)
         } else {

@@ -11,7 +11,7 @@ ghost use Rattle.job_server.specs.Telling.{is_open as is_open_in, GoesOn, IsAske
 
 use crate::ServerFault;
 use crate::cursor::{Cursor, Line};
-use crate::worker::Worker;
+use crate::worker::{Worker, writes_of};
 use collation::Job;
 use command::{Command, Reply};
 use job_scripts::timeout_of;
@@ -264,11 +264,12 @@ impl<'a, B: BoardName, R: Wait, G: Gate> Worker<'a, B, R, G> {
         requires { IsAsked line.text.now asked }
         ensures { IfOk result (λ reply. GoesOn (told_by job (reading_of line.entry.text.now) reply) job sessions.old.passes.items sessions.old.open sessions.new.passes.items sessions.new.open) }
     {
+        let writes = writes_of(&asked);
         self.calls.gate.before(job, line.number);
         match self.reply_asked(sessions, job, line.text, asked) {
             Ok(reply) => {
                 self.calls.gate.after(job, line.number);
-                self.note_lines(1);
+                self.note_writes(writes);
                 Ok(reply)
             }
             Err(fault) => Err(fault),

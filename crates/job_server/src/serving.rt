@@ -176,7 +176,7 @@ fn start<'s, E, B: BoardName + Batch + Send + Sync, R: Wait + Sync, G: Gate + Sy
         let mut worker = Worker {
             alloc,
             calls,
-            lines: 0,
+            writes: 0,
         };
         worker.work(tasks, reports)
     });

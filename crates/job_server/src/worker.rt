@@ -16,7 +16,7 @@ use crate::cursor::{Cursor, Line};
 use crate::job_run::Calls;
 use crate::running::{JobRun, Sessions, read_for};
 use collation::Job;
-use command::{Command, Reply};
+use command::{Command, DataCommand, Reply};
 use crossbeam_channel::{Receiver, Sender};
 use job_scripts::{Report, Script};
 use pin_board::BoardName;
@@ -27,8 +27,8 @@ use std::alloc::{AllocError, Global};
 use std::marker::{Brand, PhantomData};
 use std::sync::Wait;
 
-// After how many lines a worker lets the collector look at some keys, and at how many.
-const LINES_PER_TURN: u64 = 16;
+// After how many lines that write a worker lets the collector look at some keys, and at how many.
+const WRITES_PER_TURN: u64 = 64;
 
 const KEYS_PER_TURN: usize = 64;
 
@@ -163,11 +163,32 @@ fn refuse_lines(
     Ok(())
 }
 
-/// A worker: the engine's calls, and how many lines it has done.
+// Whether a command writes: SET, KILL or MERGE.
+fn writes(command: &Command) -> bool {
+    matches!(
+        command,
+        Command::Access(DataCommand::Set(..) | DataCommand::Kill(_) | DataCommand::Merge(..))
+    )
+}
+
+/// How many of these commands write.
+pub(crate) fn writes_in(commands: &[Command]) -> u64 {
+    commands.iter().filter(|command| writes(command)).count() as u64
+}
+
+/// The same of what a line asks for.
+pub(crate) fn writes_of(asked: &Result<Command, Refusal>) -> u64 {
+    match asked {
+        Ok(command) => u64::from(writes(command)),
+        Err(_) => 0,
+    }
+}
+
+/// A worker: the engine's calls, and how many lines that write it has done.
 pub(crate) struct Worker<'a, B: BoardName, R, G> {
     pub(crate) alloc: Global,
     pub(crate) calls: Calls<'a, B, R, G>,
-    pub(crate) lines: u64,
+    pub(crate) writes: u64,
 }
 
 impl<'a, B: BoardName, R, G> Drop for Worker<'a, B, R, G> {
@@ -175,18 +196,18 @@ impl<'a, B: BoardName, R, G> Drop for Worker<'a, B, R, G> {
         let Worker {
             alloc: _,
             calls: _,
-            lines: _,
+            writes: _,
         } = self;
     }
 }
 
 impl<'a, B: BoardName, R: Wait, G: Gate> Worker<'a, B, R, G> {
-    /// Counts lines that were done, and lets the collector look at some keys after each so many. A turn that finds no memory
-    /// is passed over.
-    pub(crate) fn note_lines(&mut self, count: u64) {
-        let before = self.lines / LINES_PER_TURN;
-        self.lines = self.lines.wrapping_add(count);
-        if self.lines / LINES_PER_TURN != before {
+    /// Counts lines that write, once they are done, and lets the collector look at some keys after each so many. A turn that
+    /// finds no memory is passed over.
+    pub(crate) fn note_writes(&mut self, count: u64) {
+        let before = self.writes / WRITES_PER_TURN;
+        self.writes = self.writes.wrapping_add(count);
+        if self.writes / WRITES_PER_TURN != before {
             let _ = self.calls.engine.collect(self.calls.rt, KEYS_PER_TURN);
         }
     }

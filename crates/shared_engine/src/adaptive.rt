@@ -8,14 +8,19 @@ use std::hint::spin_loop;
 use std::sync::atomic::{AtomicU64, Ordering};
 use std::sync::{RwLock, RwLockReadGuard, RwLockWriteGuard, Wait};
 
-// How often a thread tries before it sleeps.
-const TURNS: u32 = 4_000;
+// How often a thread tries before it sleeps, and how often it looks at `wanted` between two tries: together some hundred
+// microseconds. A look costs next to nothing while nobody changes the word; a try takes the lock's word from whoever has it.
+const TRIES: u32 = 1_000;
+
+const LOOKS: u32 = 256;
 
 /// A lock over a value. Its guards are std's.
 #[derive(Drop)]
 pub(crate) struct AdaptiveLock<T> {
     // How many threads want the lock alone.
     wanted: AtomicU64,
+    // Keeps that word out of the cache lines of the lock, which change with each try.
+    _apart: [u64; 15],
     lock: RwLock<T>,
 }
 
@@ -24,26 +29,46 @@ impl<T> AdaptiveLock<T> {
     pub(crate) fn new(value: T) -> AdaptiveLock<T> {
         AdaptiveLock {
             wanted: AtomicU64::new(0),
+            _apart: [0; 15],
             lock: RwLock::new(value),
         }
     }
 
     /// The value, once nobody else can have the lock.
     pub(crate) fn into_inner(self) -> T {
-        let AdaptiveLock { wanted: _, lock } = self;
+        let AdaptiveLock {
+            wanted: _,
+            _apart: _,
+            lock,
+        } = self;
         lock.into_inner()
+    }
+
+    // Whether somebody wants the lock alone.
+    fn is_wanted(&self) -> bool {
+        self.wanted.load(Ordering::Relaxed) != 0
+    }
+
+    // Lets others go on for a moment.
+    fn look_away(&self) {
+        for _ in 0..LOOKS {
+            if self.wanted.load(Ordering::Relaxed) == u64::MAX {
+                return;
+            }
+            spin_loop();
+        }
     }
 
     /// The lock, shared: others may share it, and nobody has it alone.
     pub(crate) fn read<R: Wait>(&self, rt: &R) -> RwLockReadGuard<'_, T> {
-        for _ in 0..TURNS {
+        for _ in 0..TRIES {
             // Others may take or free the lock between these two: then it is tried in vain, and once more.
-            if self.wanted.load(Ordering::Relaxed) == 0 {
+            if !self.is_wanted() {
                 if let Some(guard) = self.lock.try_read() {
                     return guard;
                 }
             }
-            spin_loop();
+            self.look_away();
         }
         self.lock.read(rt)
     }
@@ -54,18 +79,18 @@ impl<T> AdaptiveLock<T> {
             return guard;
         }
         self.wanted.fetch_add(1, Ordering::SeqCst);
-        let guard = self.write_in_turns(rt);
+        let guard = self.write_in_tries(rt);
         self.wanted.fetch_sub(1, Ordering::SeqCst);
         guard
     }
 
     // Those who would share the lock hold back meanwhile.
-    fn write_in_turns<R: Wait>(&self, rt: &R) -> RwLockWriteGuard<'_, T> {
-        for _ in 0..TURNS {
+    fn write_in_tries<R: Wait>(&self, rt: &R) -> RwLockWriteGuard<'_, T> {
+        for _ in 0..TRIES {
             if let Some(guard) = self.lock.try_write() {
                 return guard;
             }
-            spin_loop();
+            self.look_away();
         }
         self.lock.write(rt)
     }

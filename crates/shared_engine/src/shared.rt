@@ -355,21 +355,16 @@ impl<B: BoardName> Shared<B> {
         locked.run_serial(rt, &self.board, alloc, session, block)
     }
 
-    // Whether the collector has nothing to do. The lock is given back before the caller goes on.
-    fn is_swept<R: Wait>(&self, rt: &R) -> bool {
-        self.lock.read(rt).is_swept()
-    }
-
-    /// A turn of the collector over so many keys, at a horizon that is above no open transaction's start. Takes the
-    /// exclusive lock; where all keys were visited since the last write, and nothing is left that could go, only the shared
-    /// one, and visits no key.
+    /// A turn of the collector over so many keys, at a horizon that is above no open transaction's start. Where all keys were
+    /// visited since the last write, and nothing is left that could go, it visits none. Takes the exclusive lock.
     ///
     /// Refusals, after which no content is gone: `OutOfMemory`.
     pub fn collect<R: Wait>(&self, rt: &R, limit: usize) -> Result<Progress, Refusal>
         ensures few { IfOk result (λ progress. progress.visited ≤ limit) }
         ensures cause { IfErr result (λ refusal. refusal ≡ Refusal.OutOfMemory) }
     {
-        if self.is_swept(rt) {
+        let mut locked = self.lock.write(rt);
+        if locked.is_swept() {
             return Ok(Progress {
                 visited: 0,
                 dropped: 0,
@@ -377,7 +372,7 @@ impl<B: BoardName> Shared<B> {
                 left: 0,
             });
         }
-        self.lock.write(rt).collect(rt, &self.board, limit)
+        locked.collect(rt, &self.board, limit)
     }
 
     /// Moves the journal's base on to a horizon that is above no open transaction's start: what the units up to it leave is
