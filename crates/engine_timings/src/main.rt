@@ -1,5 +1,5 @@
 //! Times of the shared engine's calls: transactions that begin and end without the lock, draws, lone SETs beside those of a
-//! `JobCore`, and transactions of one thread and of four. Standard output has counts alone, which don't depend on time; times
+//! `JobCore`, and transactions and lone SETs of one thread and of four. Standard output has counts alone, which don't depend on time; times
 //! go to standard error, in nanoseconds a turn.
 //!
 //! The argument is how many turns each takes.
@@ -10,7 +10,7 @@ ghost use Rattle.std.specs.Prelude.{◌≡◌, ◌≤◌};
 mod turns;
 
 use crate::turns::{
-    begin_often, collect_often, command_of, job_of, set_in_core, set_often, worker,
+    begin_often, collect_often, job_of, lone_sets, set_in_core, set_often, transactions,
 };
 use anyhow::Result;
 use job_core::JobCore;
@@ -24,29 +24,40 @@ use std::sync::Wait;
 use std::thread::{Threads, map_indices};
 use std::time::Instant;
 
-// What threads are measured at: how many data commands each transaction reads, and how it ends.
+// What threads are measured at: how many nodes each transaction reads, whether it commits, and each how many-th, 0 for none,
+// sets a node and commits.
 #[derive(Clone, Copy)]
 struct Kind {
     name: &'static str,
     reads: u64,
     commits: bool,
+    each: u64,
 }
 
-const KINDS: [Kind; 3] = [
+const KINDS: [Kind; 4] = [
     Kind {
         name: "8 reads, rolled back",
         reads: 8,
         commits: false,
+        each: 0,
     },
     Kind {
         name: "100 reads, rolled back",
         reads: 100,
         commits: false,
+        each: 0,
     },
     Kind {
         name: "8 reads, committed",
         reads: 8,
         commits: true,
+        each: 0,
+    },
+    Kind {
+        name: "8 reads, nine of ten rolled back, one with a SET committed",
+        reads: 8,
+        commits: false,
+        each: 10,
     },
 ];
 
@@ -68,7 +79,7 @@ fn alone<B: BoardName, R: Wait + Clock + Eprint>(
     let mut done = begin_often(engine, session, turns);
     tell(rt, "tstart and rollback_free", turns, begun)?;
     let begun = Instant::now(rt)?;
-    done = done.wrapping_add(set_often(rt, alloc, engine, session, turns));
+    done = done.wrapping_add(set_often(rt, alloc, engine, session, "1 SET ^A(5)=7", turns));
     tell(rt, "a lone SET", turns, begun)?;
     let begun = Instant::now(rt)?;
     done = done.wrapping_add(collect_often(rt, engine, turns));
@@ -90,7 +101,25 @@ fn beside<R: Clock + Eprint>(rt: &R, alloc: Global, turns: u64) -> Result<u64> {
     Ok(done)
 }
 
-// So many threads, each with a session of its own.
+// Tells how long a turn took of each of so many threads, and answers how many turns were done.
+fn tell_together<R: Clock + Eprint>(
+    rt: &R,
+    what: &str,
+    threads: usize,
+    turns: u64,
+    begun: Instant,
+    made: Vec<u64>,
+) -> Result<u64> {
+    let each = begun.elapsed(rt)?.as_nanos() / turns.max(1) as u128;
+    eprintln!(rt; "{what}, {threads} threads: {each} ns a turn of each")?;
+    let mut done = 0u64;
+    for count in made {
+        done = done.wrapping_add(count);
+    }
+    Ok(done)
+}
+
+// Transactions of so many threads, each with a session of its own.
 fn together<B: BoardName + Send + Sync, R: Threads + Wait + Clock + Eprint + Sync>(
     rt: &R,
     alloc: Global,
@@ -100,22 +129,32 @@ fn together<B: BoardName + Send + Sync, R: Threads + Wait + Clock + Eprint + Syn
     turns: u64,
 ) -> Result<u64> {
     let begun = Instant::now(rt)?;
-    let (reads, commits) = (kind.reads, kind.commits);
+    let (reads, commits, each) = (kind.reads, kind.commits, kind.each);
     let made = map_indices(
         rt,
         alloc,
         threads,
-        &|i| worker(rt, alloc, engine, i as u64 + 1, reads, commits, turns),
+        &|i| transactions(rt, alloc, engine, i as u64 + 1, reads, commits, each, turns),
     )?;
-    let spent = u64::try_from(begun.elapsed(rt)?.as_nanos()).unwrap_or(u64::MAX);
-    let each = spent / turns.max(1) / kind.reads.max(1);
-    let name = kind.name;
-    eprintln!(rt; "{name}, {threads} threads: {each} ns a read of each")?;
-    let mut done = 0u64;
-    for count in made {
-        done = done.wrapping_add(count);
-    }
-    Ok(done)
+    tell_together(rt, kind.name, threads, turns, begun, made)
+}
+
+// Lone SETs of so many threads.
+fn sets_together<B: BoardName + Send + Sync, R: Threads + Wait + Clock + Eprint + Sync>(
+    rt: &R,
+    alloc: Global,
+    engine: &Shared<B>,
+    threads: usize,
+    turns: u64,
+) -> Result<u64> {
+    let begun = Instant::now(rt)?;
+    let made = map_indices(
+        rt,
+        alloc,
+        threads,
+        &|i| lone_sets(rt, alloc, engine, i as u64 + 1, turns),
+    )?;
+    tell_together(rt, "lone SETs", threads, turns, begun, made)
 }
 
 fn run<B: BoardName + Send + Sync, R: Threads + Wait + Clock + Print + Eprint + Sync>(
@@ -141,6 +180,9 @@ fn run<B: BoardName + Send + Sync, R: Threads + Wait + Clock + Print + Eprint + 
         let four = together(rt, alloc, &engine, kind, 4, turns)?;
         println!(rt; "{one} {four}")?;
     }
+    let one = sets_together(rt, alloc, &engine, 1, turns)?;
+    let four = sets_together(rt, alloc, &engine, 4, turns)?;
+    println!(rt; "{one} {four}")?;
     Ok(())
 }
 

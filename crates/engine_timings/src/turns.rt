@@ -1,5 +1,8 @@
 //! What is done in each turn. Each answers how many of its turns were done.
-ghost use Rattle.std.specs.Prelude.{◌≡◌, ◌≤◌};
+ghost use Rattle.std.specs.Prelude.{◌≡◌, ◌≤◌, IfOk};
+ghost use Rattle.std.specs.List.{All};
+ghost use Rattle.command.specs.declared.access.DataCommand.{DataCommand};
+ghost use Rattle.command.specs.declared.request.Command.{Command};
 
 use collation::Job;
 use command::{Command, DataCommand};
@@ -7,11 +10,22 @@ use job_core::JobCore;
 use pin_board::BoardName;
 use script::{Drafts, read_line};
 use shared_engine::{Session, Shared};
-use std::alloc::Global;
+use std::alloc::{AllocError, Global};
 use std::sync::Wait;
 
 // How often a start is tried.
 const BEGIN_TRIES: u64 = 1_000_000;
+
+// How many reads are done under one hold of the lock, at most.
+const READS_PER_HOLD: u64 = 16;
+
+// What the jobs set: each a node of its own.
+const OWN: [&str; 4] = [
+    "1 SET ^B(1)=7",
+    "1 SET ^B(2)=7",
+    "1 SET ^B(3)=7",
+    "1 SET ^B(4)=7",
+];
 
 /// The job of this number, where there may be one.
 pub fn job_of(number: u64) -> Option<Job> {
@@ -59,8 +73,9 @@ fn set_once<B: BoardName, R: Wait>(
     alloc: Global,
     engine: &Shared<B>,
     session: &mut Session<B>,
+    line: &str,
 ) -> Option<()> {
-    let command = command_of(alloc, "1 SET ^A(5)=7")?;
+    let command = command_of(alloc, line)?;
     if session.tlevel() != 0 {
         return None;
     }
@@ -74,11 +89,12 @@ pub fn set_often<B: BoardName, R: Wait>(
     alloc: Global,
     engine: &Shared<B>,
     session: &mut Session<B>,
+    line: &str,
     turns: u64,
 ) -> u64 {
     let mut done = 0u64;
     for _ in 0..turns {
-        if set_once(rt, alloc, engine, session).is_some() {
+        if set_once(rt, alloc, engine, session, line).is_some() {
             done = done.wrapping_add(1);
         }
     }
@@ -105,21 +121,64 @@ pub fn set_in_core(alloc: Global, core: &mut JobCore, turns: u64) -> u64 {
     done
 }
 
-fn read_once<B: BoardName, R: Wait>(
+// So many reads of one node. Each is a data command.
+fn block_of_reads(alloc: Global, reads: u64) -> Result<Vec<Command>, AllocError>
+    ensures { IfOk result (λ block. All (λ (c : Command). (d : DataCommand) × (c ≡ Command.Access d)) block.items) }
+{
+    let mut block = Vec::new(alloc);
+    'reads: for _ in 0..reads {
+        let command = command_of(alloc, "1 $GET(^A(5))").ok_or(AllocError)?;
+        block.push(Command::Access(command))?;
+    }
+    Ok(block)
+}
+
+// So many reads under one hold of the lock.
+fn read_at_once<B: BoardName, R: Wait>(
     rt: &R,
     alloc: Global,
     engine: &Shared<B>,
     session: &mut Session<B>,
+    reads: u64,
 ) -> Option<()> {
-    let command = command_of(alloc, "1 $GET(^A(5))")?;
+    let block = block_of_reads(alloc, reads).ok()?;
     if session.tlevel() == 0 {
         return None;
     }
-    engine.read(rt, session, command).ok()?;
+    engine.read_all(rt, alloc, session, block).ok()?;
     Some(())
 }
 
-// Ends the transaction, by its commit or by a rollback.
+// So many reads, a few under each hold.
+fn read_often<B: BoardName, R: Wait>(
+    rt: &R,
+    alloc: Global,
+    engine: &Shared<B>,
+    session: &mut Session<B>,
+    reads: u64,
+) -> Option<()> {
+    for _ in 0..reads / READS_PER_HOLD {
+        read_at_once(rt, alloc, engine, session, READS_PER_HOLD)?;
+    }
+    read_at_once(rt, alloc, engine, session, reads % READS_PER_HOLD)
+}
+
+// Sets a node in the transaction.
+fn set_inside<B: BoardName>(alloc: Global, session: &mut Session<B>, line: &str) -> Option<()> {
+    let command = command_of(alloc, line)?;
+    if session.tlevel() == 0 {
+        return None;
+    }
+    match command {
+        DataCommand::Set(key, value) => session.set(key, value).ok(),
+        other => {
+            drop(other);
+            None
+        }
+    }
+}
+
+// Ends the transaction: by its commit, after which none is open unless it was overtaken, or by a rollback.
 fn end_it<B: BoardName, R: Wait>(
     rt: &R,
     engine: &Shared<B>,
@@ -128,10 +187,9 @@ fn end_it<B: BoardName, R: Wait>(
 ) -> Option<()> {
     if commits && session.tlevel() == 1 {
         engine.tcommit(rt, session).ok()?;
-        return Some(());
     }
     if session.tlevel() == 0 {
-        return None;
+        return Some(());
     }
     engine.trollback(rt, session).ok()
 }
@@ -156,22 +214,31 @@ fn transaction<B: BoardName, R: Wait>(
     session: &mut Session<B>,
     reads: u64,
     commits: bool,
+    sets: Option<&str>,
 ) -> Option<()> {
     begin(engine, session)?;
-    for _ in 0..reads {
-        read_once(rt, alloc, engine, session)?;
+    read_often(rt, alloc, engine, session, reads)?;
+    if let Some(line) = sets {
+        set_inside(alloc, session, line)?;
     }
-    end_it(rt, engine, session, commits)
+    end_it(rt, engine, session, commits || sets.is_some())
 }
 
-/// Transactions of a session of its own.
-pub fn worker<B: BoardName, R: Wait>(
+// What the job of this number sets.
+fn own_line(number: u64) -> &'static str {
+    OWN[number as usize % OWN.len()]
+}
+
+/// Transactions of so many reads, of a session of the job's own. All commit, or are rolled back but for each so many-th, 0
+/// for none, which also sets a node and commits.
+pub fn transactions<B: BoardName, R: Wait>(
     rt: &R,
     alloc: Global,
     engine: &Shared<B>,
     number: u64,
     reads: u64,
     commits: bool,
+    each: u64,
     turns: u64,
 ) -> u64 {
     let Some(job) = job_of(number) else {
@@ -180,12 +247,39 @@ pub fn worker<B: BoardName, R: Wait>(
     let Ok(mut session) = engine.open(rt, alloc, job) else {
         return 0;
     };
+    let line = own_line(number);
     let mut done = 0u64;
-    for _ in 0..turns {
-        if transaction(rt, alloc, engine, &mut session, reads, commits).is_some() {
+    for turn in 0..turns {
+        let sets = if each > 0 && turn % each == 0 {
+            Some(line)
+        } else {
+            None
+        };
+        if transaction(rt, alloc, engine, &mut session, reads, commits, sets).is_some() {
             done = done.wrapping_add(1);
         }
     }
+    match engine.halt(rt, session) {
+        Ok(_) => done,
+        Err(_) => 0,
+    }
+}
+
+/// Lone SETs of a session of the job's own.
+pub fn lone_sets<B: BoardName, R: Wait>(
+    rt: &R,
+    alloc: Global,
+    engine: &Shared<B>,
+    number: u64,
+    turns: u64,
+) -> u64 {
+    let Some(job) = job_of(number) else {
+        return 0;
+    };
+    let Ok(mut session) = engine.open(rt, alloc, job) else {
+        return 0;
+    };
+    let done = set_often(rt, alloc, engine, &mut session, own_line(number), turns);
     match engine.halt(rt, session) {
         Ok(_) => done,
         Err(_) => 0,

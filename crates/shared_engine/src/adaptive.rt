@@ -8,11 +8,14 @@ use std::hint::spin_loop;
 use std::sync::atomic::{AtomicU64, Ordering};
 use std::sync::{RwLock, RwLockReadGuard, RwLockWriteGuard, Wait};
 
-// How often a thread tries before it sleeps, and how often it looks at `wanted` between two tries: together some hundred
-// microseconds. A look costs next to nothing while nobody changes the word; a try takes the lock's word from whoever has it.
-const TRIES: u32 = 1_000;
+// How often a thread tries before it sleeps; how often it looks at `wanted` between its first two tries, and how often that
+// is doubled: together some hundred microseconds. A look costs next to nothing while nobody changes the word; a try takes the
+// lock's word, and what lies beside it, from whoever has it.
+const TRIES: u32 = 160;
 
 const LOOKS: u32 = 256;
+
+const MOST_DOUBLINGS: u32 = 3;
 
 /// A lock over a value. Its guards are std's.
 #[derive(Drop)]
@@ -49,9 +52,9 @@ impl<T> AdaptiveLock<T> {
         self.wanted.load(Ordering::Relaxed) != 0
     }
 
-    // Lets others go on for a moment.
-    fn look_away(&self) {
-        for _ in 0..LOOKS {
+    // Lets others go on for a moment, longer after more tries.
+    fn look_away(&self, tries: u32) {
+        for _ in 0..LOOKS << tries.min(MOST_DOUBLINGS) {
             if self.wanted.load(Ordering::Relaxed) == u64::MAX {
                 return;
             }
@@ -61,14 +64,14 @@ impl<T> AdaptiveLock<T> {
 
     /// The lock, shared: others may share it, and nobody has it alone.
     pub(crate) fn read<R: Wait>(&self, rt: &R) -> RwLockReadGuard<'_, T> {
-        for _ in 0..TRIES {
+        for tries in 0..TRIES {
             // Others may take or free the lock between these two: then it is tried in vain, and once more.
             if !self.is_wanted() {
                 if let Some(guard) = self.lock.try_read() {
                     return guard;
                 }
             }
-            self.look_away();
+            self.look_away(tries);
         }
         self.lock.read(rt)
     }
@@ -86,11 +89,11 @@ impl<T> AdaptiveLock<T> {
 
     // Those who would share the lock hold back meanwhile.
     fn write_in_tries<R: Wait>(&self, rt: &R) -> RwLockWriteGuard<'_, T> {
-        for _ in 0..TRIES {
+        for tries in 0..TRIES {
             if let Some(guard) = self.lock.try_write() {
                 return guard;
             }
-            self.look_away();
+            self.look_away(tries);
         }
         self.lock.write(rt)
     }

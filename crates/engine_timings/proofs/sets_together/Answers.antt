@@ -1,0 +1,29 @@
+use denote.Param.{param}
+use denote.Builtin.{u64}
+use denote.Param.Send.{IsSync, sendable}
+use Rattle.std.proofs.Crossing as heap
+use Rattle.shared_engine.proofs.Crossing.{shared_sync}
+use Rattle.engine_timings.proofs.sets_together.Goals as goal
+
+number : IsSync u64
+number = search sendable
+
+-- the leave to wait, the allocator, the engine and the numbers may be lent to threads
+pub map_indices-requires-sync-F : goal.map_indices-requires-sync-F
+map_indices-requires-sync-F g c κs within =
+    let s = shared_sync (param 0 g.row.B) g.B.BoardName in
+    record {
+      shared = λ x b o κ. (
+        (
+          ((λ q. tt), c.type_bounds.sync-R.shared x.0.now x.0.ref_ptr.0 x.0.ref_ptr.1 _),
+          (
+            ((λ q. tt), heap.sync.shared x.1.now x.1.ref_ptr.0 x.1.ref_ptr.1 κ),
+            (
+              ((λ q. tt), s.shared x.2.now x.2.ref_ptr.0 x.2.ref_ptr.1 _),
+              (((λ q. tt), number.shared x.3.now x.3.ref_ptr.0 x.3.ref_ptr.1 κ), tt),
+            ),
+          ),
+        ),
+        (λ q. tt),
+      );
+    }
