@@ -14,13 +14,13 @@ use collation::Job;
 use job_server::{JobsFault, run_text, status_of};
 use listing::{Counted, read_all};
 use program_front::{
-    MjobsArgs, arguments_of, mjobs_args_of, path_of, print_bad_name, print_fault,
+    MjobsArgs, Piped, arguments_of, mjobs_args_of, path_of, print_bad_name, print_fault,
     print_help_or_error, print_refused, print_unopened,
 };
 use script::{Drafts, read_line};
 use shared_engine::Gate;
 use std::alloc::AllocError;
-use std::io::{IsTerminal, Read};
+use std::io::{IsTerminal, Read, Write};
 use std::process::ExitCode;
 use std::rt::{Clock, Files};
 use std::sync::Wait;
@@ -118,39 +118,48 @@ fn print_all_refused(rt: &(impl Eprint + AllocGlobal), text: &[u8]) {
     }
 }
 
-fn run_from<P: Print + Eprint + AllocGlobal + Clock + Threads + Wait + Sync, R: Read + Drop>(
+fn run_from<
+    P: Print + Eprint + AllocGlobal + Clock + Threads + Wait + Sync,
+    R: Read + Drop,
+    W: Write,
+>(
     rt: &P,
     args: MjobsArgs,
     tells: bool,
     input: R,
+    writer: &mut Counted<W>,
 ) -> Result<bool, JobsFault> {
     let text = read_all(rt.alloc(), &mut Counted::new(input))?;
     if args.errors {
         print_all_refused(rt, &text);
     }
     let progress = if tells { Progress::new(rt) } else { None };
-    let mut writer = Counted::new(io::writer(rt));
     run_text(
         rt,
         rt.alloc(),
         args.listed,
         text,
-        &mut writer,
+        writer,
         args.workers as usize,
         &Patience { rt, progress },
     )
 }
 
-// Runs the script, prints a fault, and answers the exit status.
+// Runs the script, prints a fault, unless it is that nobody reads the output, and answers the exit status.
 fn run_and_tell<P: Print + Eprint + AllocGlobal + Clock + Threads + Wait + Sync, R: Read + Drop>(
     rt: &P,
     args: MjobsArgs,
     tells: bool,
     input: R,
 ) -> u8 {
-    let outcome = run_from(rt, args, tells, input);
-    if let Err(fault) = outcome {
-        let _status = print_fault(rt, PROGRAM, fault.text());
+    let mut writer = Counted::new(Piped::new(io::writer(rt)));
+    let outcome = run_from(rt, args, tells, input, &mut writer);
+    match outcome {
+        Err(JobsFault::Write) if writer.inner().is_closed() => {}
+        Err(fault) => {
+            let _status = print_fault(rt, PROGRAM, fault.text());
+        }
+        Ok(_) => {}
     }
     status_of(&outcome)
 }

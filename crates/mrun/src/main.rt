@@ -18,7 +18,7 @@ use journal_lines::{JournalFault, write_journal};
 use listing::{Counted, InputFault, read_all};
 use loading::{LoadFault, load};
 use program_front::{
-    MrunArgs, NamePlace, arguments_of, mrun_args_of, path_of, print_bad_name, print_fault,
+    MrunArgs, NamePlace, Piped, arguments_of, mrun_args_of, path_of, print_bad_name, print_fault,
     print_faulty_line, print_greeting, print_help_or_error, print_mark, print_refused,
     print_uncreated, print_unloaded, print_unopened, print_unwritten, print_wanting,
 };
@@ -170,10 +170,23 @@ fn first_core(
     }
 }
 
-// Tells of a want of memory where refused lines are told.
-fn tell_want(rt: &impl Eprint, telling: Telling, outcome: Outcome) {
-    if outcome.wanting && telling != Telling::Nothing {
-        print_wanting(rt, PROGRAM);
+// Tells of a want of memory where refused lines are told, and of a fault, unless it is that nobody reads the output.
+fn tell_outcome(
+    rt: &impl Eprint,
+    telling: Telling,
+    outcome: Result<Outcome, Fault>,
+    is_closed: bool,
+) {
+    match outcome {
+        Ok(outcome) => {
+            if outcome.wanting && telling != Telling::Nothing {
+                print_wanting(rt, PROGRAM);
+            }
+        }
+        Err(Fault::Write) if is_closed => {}
+        Err(fault) => {
+            let _status = print_fault(rt, PROGRAM, fault.text());
+        }
     }
 }
 
@@ -215,7 +228,7 @@ fn run_from<R: Read + Drop, F: Write + Drop>(
     requires closed { core.machine.transactions ≡ finmap.empty }
 {
     let mut reader = Counted::new(input);
-    let mut writer = Counted::new(io::writer(rt));
+    let mut writer = Counted::new(Piped::new(io::writer(rt)));
     let telling = greeted(rt, args, typed);
     let mut log = SideLog {
         rt,
@@ -236,12 +249,7 @@ fn run_from<R: Read + Drop, F: Write + Drop>(
         &mut writer,
         &mut log,
     );
-    match outcome {
-        Ok(outcome) => tell_want(rt, telling, outcome),
-        Err(fault) => {
-            let _status = print_fault(rt, PROGRAM, fault.text());
-        }
-    }
+    tell_outcome(rt, telling, outcome, writer.inner().is_closed());
     match log.unwritten {
         Some(fault) => print_journal_fault(rt, fault),
         None => status_of(&outcome),

@@ -1,16 +1,18 @@
 //! The front of the programs `mrun` and `mjobs`: what the words after a program's name ask for, and what is printed
-//! where they are wrong, a file can't be opened, a line is refused or a run ends early.
+//! where they are wrong, a file can't be opened, a line is refused or a run ends early. A writer knows whether its reader
+//! has gone, so that a closed pipe ends a run without a line.
 //!
 //! Arguments are bytes, since one may be of any bytes. The parser reads one that isn't UTF-8 with each bad sequence
 //! replaced; its answer says which argument is the file, so that its own bytes are kept and no other file is opened.
 //!
 //! No contract says what the arguments ask for: tests run the parser on them. One says that each print of what went
-//! wrong answers the exit status of a fault.
+//! wrong answers the exit status of a fault, and some say what a `Piped` holds and when it is closed.
 //!
-//! Read `run_words.rt`, `jobs_words.rt`, `words.rt`, then `printing.rt`.
+//! Read `run_words.rt`, `jobs_words.rt`, `words.rt`, then `piped.rt`, `printing.rt`.
 #![tactic(auto)]
 
 pub use jobs_words::{MjobsArgs, mjobs_args_of};
+pub use piped::Piped;
 pub use printing::{
     FAULT_STATUS, arguments_of, path_of, print_bad_name, print_fault, print_faulty_line,
     print_greeting, print_help_or_error, print_mark, print_refused, print_uncreated,
@@ -20,6 +22,7 @@ pub use run_words::{MrunArgs, mrun_args_of};
 pub use words::NamePlace;
 
 mod jobs_words;
+mod piped;
 mod printing;
 mod run_words;
 mod words;

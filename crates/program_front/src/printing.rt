@@ -171,13 +171,16 @@ pub fn print_bad_name(rt: &impl Eprint, program: &str) -> u8
     FAULT_STATUS
 }
 
-/// Prints help, the version or what is wrong with the words, and answers the exit status.
+/// Prints help, the version or what is wrong with the words, and answers the exit status. Where nobody reads it, no line
+/// says so.
 pub fn print_help_or_error(rt: &(impl Print + Eprint), program: &str, error: clap::Error) -> u8 {
     if error.kind() == ErrorKind::OutOfMemory {
         return print_fault(rt, program, "out of memory");
     }
-    if error.print(rt).is_err() {
-        return print_fault(rt, program, "cannot write output");
+    match error.print(rt) {
+        Ok(()) => {}
+        Err(why) if why.kind() == io::ErrorKind::BrokenPipe => return FAULT_STATUS,
+        Err(_) => return print_fault(rt, program, "cannot write output"),
     }
     if error.use_stderr() { FAULT_STATUS } else { 0 }
 }
