@@ -9,21 +9,25 @@ use Rattle.job_scripts.specs.Reports.{Answers, reports_text, some_refused}
 use Rattle.job_server.specs.Served.{wanted, AreBooked}
 use Rattle.listing.specs.Bytes.{WritesBeginning}
 use Rattle.job_server.specs.Output.{ending, group_of_script, IsJobsOutput, IsBegun}
+use Rattle.job_server.specs.Texts.{IsServed}
 
 same_groups : (scripts : List Script) → map group_of_script (map wanted scripts) ≡ map shown scripts
 same_groups [] = refl
 same_groups (s ∷ ss) = ap (λ (l : List Group). shown s ∷ l) (same_groups ss)
 
-pub made : (listed : Bool) (scripts : List Script) (reports : List Answers) (units : List JournalUnit) (sessions : ℕ) (text : List ℕ) (refused : Bool) → ∥ AreBooked (map wanted scripts) reports units sessions ∥₁ → map shown scripts ≡ groups_in text → IsLegal units initial
-    → refused ≡ list_any some_refused reports → IsJobsOutput listed text (reports_text reports ++ ending listed (after units initial).map) refused
-made listed scripts reports units sessions text refused booked g legal is_told = record {
-  scripts = map wanted scripts;
+pub served : (scripts : List Script) (reports : List Answers) (units : List JournalUnit) (sessions : ℕ) (text : List ℕ) → ∥ AreBooked (map wanted scripts) reports units sessions ∥₁ → map shown scripts ≡ groups_in text → IsLegal units initial → IsServed text reports units sessions
+served scripts reports units sessions text booked g legal = record { scripts = map wanted scripts; of_groups = same_groups scripts ∙ g; booked = booked; legal = legal }
+
+pub made : (listed : Bool) (reports : List Answers) (units : List JournalUnit) (sessions : ℕ) (text : List ℕ) (refused : Bool) → IsServed text reports units sessions → refused ≡ list_any some_refused reports
+    → IsJobsOutput listed text (reports_text reports ++ ending listed (after units initial).map) refused
+made listed reports units sessions text refused h is_told = record {
+  scripts = h.scripts;
   reports = reports;
   units = units;
   sessions = sessions;
-  of_groups = same_groups scripts ∙ g;
-  booked = booked;
-  legal = legal;
+  of_groups = h.of_groups;
+  booked = h.booked;
+  legal = h.legal;
   told = is_told;
   written = refl;
 }

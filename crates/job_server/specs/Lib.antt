@@ -3,4 +3,5 @@ pub mod Output
 pub mod Replying
 pub mod Served
 pub mod Telling
+pub mod Texts
 pub mod Told

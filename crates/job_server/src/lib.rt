@@ -28,7 +28,7 @@
 #![tactic(auto)]
 
 pub use fault::{JobsFault, ServerFault, status_of};
-pub use run::{run_jobs, run_text};
+pub use run::{run_jobs, run_text, serve_text, write_served};
 pub use serving::{Served, serve};
 
 mod blocks;

@@ -6,10 +6,12 @@ ghost use Rattle.listing.specs.Bytes.{WritesBeginning, IsOneMore};
 ghost use Rattle.std.specs.List.{list_any};
 ghost use Rattle.job_scripts.specs.Reports.{reports_text, some_refused};
 ghost use Rattle.job_server.specs.Output.{ending, IsJobsOutput, Wrote, IsBegun};
+ghost use Rattle.job_server.specs.Texts.{IsServed};
 
 use crate::{JobsFault, Served, serve};
 use job_core::Core;
 use job_scripts::{Report, scripts_of, write_reports};
+use journal::Journal;
 use listing::{Counted, read_all, write_listing_after};
 use shared_engine::Gate;
 use std::alloc::Global;
@@ -41,8 +43,57 @@ fn write_ending<W: Write>(
     Ok(())
 }
 
-// Writes the replies, and where it is asked for `--` and the listing.
-fn write_served<W: Write>(
+// Whether a reply in these reports is a refusal.
+fn any_refused(reports: &[Report]) -> bool
+    ensures { result ≡ list_any some_refused reports.now }
+{
+    reports.iter().any(|report| report.refused())
+}
+
+impl Served {
+    /// What was done: all units, of which a legal story is made.
+    pub fn journal(&self) -> &Journal
+        ensures units { result.now.units ≡ self.now.closed.core.units }
+        ensures base { result.now.base ≡ self.now.closed.core.base }
+        ensures legal { IsLegal self.now.closed.core.units initial }
+    {
+        self.closed.core.journal()
+    }
+
+    /// Whether a reply is a refusal.
+    pub fn refused(&self) -> bool
+        ensures { result ≡ list_any some_refused self.now.reports.items }
+    {
+        any_refused(self.reports.as_slice())
+    }
+}
+
+/// Runs the jobs of a text at the same time, and answers their reports, in order of the jobs' first lines, with the closed
+/// engine. Its journal is legal, and tells what the reports tell, as `serve` says.
+///
+/// Nothing is written, so `write_served` and whoever reads `Served::journal` see one journal. Faults: `Memory` and
+/// `Missing`, as of `serve`.
+pub fn serve_text<R: Threads + Wait + Sync, G: Gate + Sync>(
+    rt: &R,
+    alloc: Global,
+    text: Vec<u8>,
+    workers: usize,
+    gate: &G,
+) -> Result<Served, JobsFault>
+    ensures served { IfOk result (λ served. IsServed text.items served.reports.items served.closed.core.units served.closed.sessions) }
+{
+    let scripts = scripts_of(alloc, &text)?;
+    drop(text);
+    let served = serve(rt, alloc, scripts, workers, gate)?;
+    let _journal = served.journal();
+    Ok(served)
+}
+
+/// Writes the replies of jobs that were served, then, where it is asked for, `--` and the listing of what their journal
+/// leaves.
+///
+/// After a fault a beginning of that was written: `Write` only where a call of the writer failed, else `Memory`.
+pub fn write_served<W: Write>(
     alloc: Global,
     listed: bool,
     served: &Served,
@@ -51,22 +102,14 @@ fn write_served<W: Write>(
     ensures ok { OnOk result (Appends (W.contents writer.old.inner) (W.contents writer.new.inner) (reports_text served.now.reports.items ++ ending listed (after served.now.closed.core.units initial).map)) }
     ensures err { OnErr result (WritesBeginning (W.contents writer.old.inner) (W.contents writer.new.inner) (reports_text served.now.reports.items ++ ending listed (after served.now.closed.core.units initial).map)) }
     ensures counted { IsErrOf result JobsFault.Write → IsOneMore writer.old.failures writer.new.failures }
-    ensures legal { IsLegal served.now.closed.core.units initial }
 {
-    let _journal = served.closed.core.journal();
     write_reports(served.reports.as_slice(), writer)?;
     write_ending(alloc, listed, &served.closed.core, writer)
 }
 
-// Whether a reply in these reports is a refusal.
-fn any_refused(reports: &[Report]) -> bool
-    ensures { result ≡ list_any some_refused reports.now }
-{
-    reports.iter().any(|report| report.refused())
-}
-
 /// Runs the jobs of a text at the same time, and writes their replies, by job in order of the jobs' first lines, then, where
-/// it is asked for, `--` and the listing of the database that they leave. Answers whether a reply is a refusal.
+/// it is asked for, `--` and the listing of the database that they leave: `serve_text`, then `write_served`. Answers whether
+/// a reply is a refusal.
 ///
 /// A job's replies tell the units that it wrote, as `serve` says; the listing is of the map that all units leave.
 ///
@@ -85,11 +128,9 @@ pub fn run_text<R: Threads + Wait + Sync, W: Write, G: Gate + Sync>(
     ensures begun { OnErr result (IsBegun listed text.items (W.contents writer.old.inner) (W.contents writer.new.inner)) }
     ensures counted { IsErrOf result JobsFault.Write → IsOneMore writer.old.failures writer.new.failures }
 {
-    let scripts = scripts_of(alloc, &text)?;
-    drop(text);
-    let served = serve(rt, alloc, scripts, workers, gate)?;
+    let served = serve_text(rt, alloc, text, workers, gate)?;
     write_served(alloc, listed, &served, writer)?;
-    Ok(any_refused(served.reports.as_slice()))
+    Ok(served.refused())
 }
 
 /// Reads all input, and runs its jobs as `run_text` does, with the listing.

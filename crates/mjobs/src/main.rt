@@ -1,21 +1,23 @@
 //! `mjobs`: runs the jobs of a script at the same time, from a file or standard input.
 //!
 //! It reads all input, and prints the replies by job, in order of the jobs' first lines, then `--` and the listing of the
-//! database. What is printed is what `job_server::run_text` promises, the exit status is `job_server::status_of` of its
-//! outcome and the text of a fault is `job_server::JobsFault::text`; what its words ask for is
-//! `program_front::mjobs_args_of`. This file only opens the file, lets time pass for LOCKs that wait, and prints what went
-//! wrong:
+//! database. What is served is what `job_server::serve_text` promises, what is printed of it what `write_served` does, and
+//! what is written of its journal what `journal_lines::write_journal` does: so one journal is listed and written. The exit
+//! status is `job_server::status_of` of the outcome and the text of a fault is `job_server::JobsFault::text`; what its words
+//! ask for is `program_front::mjobs_args_of`. This file only opens files, lets time pass for LOCKs that wait, and prints
+//! what went wrong:
 //!
 //! 0, all replies are accepted; 1, a reply is an `error`; 2, a fault, or wrong arguments; standard error says which.
 #![tactic(auto)]
 
 use bstr::ByteSlice;
 use collation::Job;
-use job_server::{JobsFault, run_text, status_of};
+use job_server::{JobsFault, Served, serve_text, status_of, write_served};
+use journal_lines::{JournalFault, write_journal};
 use listing::{Counted, read_all};
 use program_front::{
-    MjobsArgs, Piped, arguments_of, mjobs_args_of, path_of, print_bad_name, print_fault,
-    print_help_or_error, print_refused, print_unopened,
+    MjobsArgs, Piped, arguments_of, create_named, mjobs_args_of, path_of, print_bad_name,
+    print_fault, print_help_or_error, print_refused, print_unopened, print_unwritten,
 };
 use script::{Drafts, read_line};
 use shared_engine::Gate;
@@ -118,50 +120,94 @@ fn print_all_refused(rt: &(impl Eprint + AllocGlobal), text: &[u8]) {
     }
 }
 
-fn run_from<
-    P: Print + Eprint + AllocGlobal + Clock + Threads + Wait + Sync,
-    R: Read + Drop,
-    W: Write,
->(
+// Reads all input, and serves its jobs.
+fn serve_from<P: Eprint + AllocGlobal + Clock + Threads + Wait + Sync, R: Read + Drop>(
     rt: &P,
     args: MjobsArgs,
     tells: bool,
     input: R,
-    writer: &mut Counted<W>,
-) -> Result<bool, JobsFault> {
+) -> Result<Served, JobsFault> {
     let text = read_all(rt.alloc(), &mut Counted::new(input))?;
     if args.errors {
         print_all_refused(rt, &text);
     }
     let progress = if tells { Progress::new(rt) } else { None };
-    run_text(
+    serve_text(
         rt,
         rt.alloc(),
-        args.listed,
         text,
-        writer,
         args.workers as usize,
         &Patience { rt, progress },
     )
 }
 
-// Runs the script, prints a fault, unless it is that nobody reads the output, and answers the exit status.
-fn run_and_tell<P: Print + Eprint + AllocGlobal + Clock + Threads + Wait + Sync, R: Read + Drop>(
-    rt: &P,
-    args: MjobsArgs,
-    tells: bool,
-    input: R,
-) -> u8 {
-    let mut writer = Counted::new(Piped::new(io::writer(rt)));
-    let outcome = run_from(rt, args, tells, input, &mut writer);
-    match outcome {
-        Err(JobsFault::Write) if writer.inner().is_closed() => {}
-        Err(fault) => {
+// Prints a fault, unless it is that nobody reads the output.
+fn tell_fault(rt: &impl Eprint, fault: JobsFault, is_closed: bool) {
+    match fault {
+        JobsFault::Write if is_closed => {}
+        _ => {
             let _status = print_fault(rt, PROGRAM, fault.text());
         }
-        Ok(_) => {}
     }
-    status_of(&outcome)
+}
+
+// Prints why the journal wasn't written whole, and answers the exit status.
+fn print_journal_fault(rt: &impl Eprint, fault: JournalFault) -> u8 {
+    let why = match fault {
+        JournalFault::Write => "a write failed",
+        JournalFault::Memory => JobsFault::Memory.text(),
+        JournalFault::LetGo => "its beginning was dropped",
+    };
+    print_unwritten(rt, PROGRAM, why)
+}
+
+// Writes the journal, where a file is there for it, and answers the exit status; this one, where nothing fails.
+fn write_kept<F: Write + Drop>(
+    rt: &(impl Eprint + AllocGlobal),
+    served: &Served,
+    journal: Option<F>,
+    status: u8,
+) -> u8 {
+    let Some(file) = journal else {
+        return status;
+    };
+    match write_journal(rt.alloc(), served.journal(), &mut Counted::new(file)) {
+        Ok(()) => status,
+        Err(fault) => print_journal_fault(rt, fault),
+    }
+}
+
+// Writes what was served, prints a fault, and answers the exit status.
+fn write_and_tell<P: Print + Eprint + AllocGlobal, F: Write + Drop>(
+    rt: &P,
+    args: MjobsArgs,
+    served: &Served,
+    journal: Option<F>,
+) -> u8 {
+    let mut writer = Counted::new(Piped::new(io::writer(rt)));
+    let outcome = match write_served(rt.alloc(), args.listed, served, &mut writer) {
+        Ok(()) => Ok(served.refused()),
+        Err(fault) => {
+            tell_fault(rt, fault, writer.inner().is_closed());
+            Err(fault)
+        }
+    };
+    write_kept(rt, served, journal, status_of(&outcome))
+}
+
+// Runs the script, once the journal's file is there, if one is asked for, and answers the exit status.
+fn run_and_tell<
+    P: Files + Print + Eprint + AllocGlobal + Clock + Threads + Wait + Sync,
+    R: Read + Drop,
+>(rt: &P, arguments: &[Vec<u8>], args: MjobsArgs, tells: bool, input: R) -> u8 {
+    let journal = match create_named(rt, PROGRAM, arguments, args.journal) {
+        Ok(journal) => journal,
+        Err(status) => return status,
+    };
+    match serve_from(rt, args, tells, input) {
+        Ok(served) => write_and_tell(rt, args, &served, journal),
+        Err(fault) => print_fault(rt, PROGRAM, fault.text()),
+    }
 }
 
 fn run_with_arguments<
@@ -172,13 +218,13 @@ fn run_with_arguments<
         Err(error) => return print_help_or_error(rt, PROGRAM, error),
     };
     let Some(name) = args.file.and_then(|place| arguments.get(place)) else {
-        return run_and_tell(rt, args, tells, rt.reader());
+        return run_and_tell(rt, arguments, args, tells, rt.reader());
     };
     let Some(path) = path_of(name) else {
         return print_bad_name(rt, PROGRAM);
     };
     match fs::open(rt, path) {
-        Ok(file) => run_and_tell(rt, args, tells, file),
+        Ok(file) => run_and_tell(rt, arguments, args, tells, file),
         Err(why) => print_unopened(rt, PROGRAM, path, why),
     }
 }

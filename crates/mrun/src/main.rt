@@ -18,9 +18,9 @@ use journal_lines::{JournalFault, write_journal};
 use listing::{Counted, InputFault, read_all};
 use loading::{LoadFault, load};
 use program_front::{
-    MrunArgs, NamePlace, Piped, arguments_of, mrun_args_of, path_of, print_bad_name, print_fault,
-    print_faulty_line, print_greeting, print_help_or_error, print_mark, print_refused,
-    print_uncreated, print_unloaded, print_unopened, print_unwritten, print_wanting,
+    MrunArgs, NamePlace, Piped, arguments_of, create_named, mrun_args_of, path_of, print_bad_name,
+    print_fault, print_faulty_line, print_greeting, print_help_or_error, print_mark, print_refused,
+    print_unloaded, print_unopened, print_unwritten, print_wanting,
 };
 use refusal::Refusal;
 use script_run::{Fault, Outcome, RunLog, Upkeep, run_with_core, status_of};
@@ -190,24 +190,6 @@ fn tell_outcome(
     }
 }
 
-// The file that the journal is to be written to, where it is asked for; or the exit status where it can't be created.
-fn created<P: Files + Eprint>(
-    rt: &P,
-    arguments: &[Vec<u8>],
-    journal: Option<NamePlace>,
-) -> Result<Option<P::File>, u8> {
-    let Some(place) = journal else {
-        return Ok(None);
-    };
-    let Some(path) = place.name_in(arguments).and_then(path_of) else {
-        return Err(print_unwritten(rt, PROGRAM, "its name isn't UTF-8"));
-    };
-    match fs::create(rt, path) {
-        Ok(file) => Ok(Some(file)),
-        Err(why) => Err(print_uncreated(rt, PROGRAM, path, why)),
-    }
-}
-
 // Counts the failures of the journal's file.
 fn counted<F: Drop>(journal: Option<F>) -> Option<Counted<F>> {
     match journal {
@@ -280,7 +262,7 @@ fn run_into<R: Read + Drop>(
     requires legal { IsLegal core.machine.units initial }
     requires closed { core.machine.transactions ≡ finmap.empty }
 {
-    match created(rt, arguments, args.journal) {
+    match create_named(rt, PROGRAM, arguments, args.journal) {
         Ok(journal) => run_from(rt, args, typed, core, input, journal),
         Err(status) => {
             drop(core);

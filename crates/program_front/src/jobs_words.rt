@@ -1,6 +1,10 @@
 //! The words of `mjobs`.
-use crate::words::{VERSION, errors_word, file_of, file_word, no_listing_word, texts_of};
+use crate::words::{
+    NamePlace, READ, VERSION, errors_word, file_of, file_place, file_word, is_read, journal_of,
+    journal_word, no_listing_word, texts_of,
+};
 use clap::builder::ValueParser;
+use clap::error::ErrorKind;
 use clap::{Arg, ArgAction, Command, Error};
 use std::alloc::Global;
 
@@ -27,15 +31,19 @@ What stands in it where jobs meet depends on which was first.
   generate | mjobs --no-listing
 
 --errors tells a line's number, the column of its fault, the refusal and what was expected there, where it wasn't read.
+--journal FILE keeps what was done, in the order in which it was: after mjobs --journal done.txt orders.txt,
+mrun done.txt leaves the same listing.
 
-Exit status: 0, all replies are accepted; 1, a reply is an `error`; 2, input can't be read, output can't be
-written, memory ran out, a report is missing, or the words above are wrong.";
+Exit status: 0, all replies are accepted; 1, a reply is an `error`; 2, input can't be read, output or the journal
+can't be written, memory ran out, a report is missing, or the words above are wrong.";
 
 /// What the arguments of `mjobs` ask for.
 #[derive(Clone, Copy, Debug, PartialEq, Eq)]
 pub struct MjobsArgs {
     /// Which of the arguments is the file, or none for standard input.
     pub file: Option<usize>,
+    /// Where the name of the file stands that the journal is written to, or none.
+    pub journal: Option<NamePlace>,
     /// Whether `--` and the listing are printed.
     pub listed: bool,
     /// Whether each line that can't be read is told on standard error.
@@ -59,10 +67,25 @@ fn command<'a>(alloc: Global) -> Result<Command<'a>, Error> {
         )
         .after_help(LINES)
         .arg(file_word(alloc))?
+        .arg(journal_word(alloc))?
         .arg(no_listing_word(alloc))?
         .arg(errors_word(alloc))?
         .arg(workers)?;
     Ok(command)
+}
+
+// An error of words that don't go together.
+fn conflict(alloc: Global, why: &str) -> Result<Error, Error> {
+    let error = command(alloc)?.error(ErrorKind::ArgumentConflict, why)?;
+    Ok(error)
+}
+
+// Whether the journal would be written to the file that is read.
+fn is_journal_read(arguments: &[Vec<u8>], args: MjobsArgs) -> bool {
+    match args.journal.and_then(|place| place.name_in(arguments)) {
+        Some(name) => is_read(arguments, file_place(args.file), name),
+        None => false,
+    }
 }
 
 /// What the arguments of `mjobs` ask for; the first is the program's name. An error's text is for the user: help and the
@@ -70,10 +93,15 @@ fn command<'a>(alloc: Global) -> Result<Command<'a>, Error> {
 pub fn mjobs_args_of(alloc: Global, arguments: &[Vec<u8>]) -> Result<MjobsArgs, Error> {
     let texts = texts_of(alloc, arguments)?;
     let matches = command(alloc)?.try_get_matches_from(&texts)?;
-    Ok(MjobsArgs {
+    let args = MjobsArgs {
         file: file_of(&matches, &texts),
+        journal: journal_of(&matches, &texts),
         listed: !matches.get_flag("no-listing"),
         errors: matches.get_flag("errors"),
         workers: matches.get_one("workers").unwrap_or(USUAL_WORKERS),
-    })
+    };
+    if is_journal_read(arguments, args) {
+        return Err(conflict(alloc, READ)?);
+    }
+    Ok(args)
 }

@@ -8,10 +8,11 @@
 //! No contract says what the arguments ask for: tests run the parser on them. One says that each print of what went
 //! wrong answers the exit status of a fault, and some say what a `Piped` holds and when it is closed.
 //!
-//! Read `run_words.rt`, `jobs_words.rt`, `words.rt`, then `piped.rt`, `printing.rt`.
+//! Read `run_words.rt`, `jobs_words.rt`, `words.rt`, then `piped.rt`, `printing.rt`, `journal_file.rt`.
 #![tactic(auto)]
 
 pub use jobs_words::{MjobsArgs, mjobs_args_of};
+pub use journal_file::create_named;
 pub use piped::Piped;
 pub use printing::{
     FAULT_STATUS, arguments_of, path_of, print_bad_name, print_fault, print_faulty_line,
@@ -22,6 +23,7 @@ pub use run_words::{MrunArgs, mrun_args_of};
 pub use words::NamePlace;
 
 mod jobs_words;
+mod journal_file;
 mod piped;
 mod printing;
 mod run_words;

@@ -1,7 +1,7 @@
 //! The words of `mrun`.
 use crate::words::{
-    NamePlace, VERSION, errors_word, file_of, file_word, journal_of, journal_word, load_of,
-    load_word, no_listing_word, stats_word, texts_of,
+    NamePlace, READ, VERSION, errors_word, file_of, file_place, file_word, is_read, journal_of,
+    journal_word, load_of, load_word, no_listing_word, stats_word, texts_of,
 };
 use clap::builder::ValueParser;
 use clap::error::ErrorKind;
@@ -14,9 +14,6 @@ const MOST_LINES: u64 = 1000000;
 // What is said where a journal is asked for that would drop its beginning.
 const DROPPED: &str =
     "'--journal <JOURNAL>' cannot be used with '--checkpoint-every <M>' other than 0, by which the journal drops its beginning";
-
-// What is said where the journal would be written to a file that is read.
-const READ: &str = "'--journal <JOURNAL>' cannot be the file that is read";
 
 // What `--help` prints under the options.
 const LINES: &str = "Each line is a job, 1 to 4096, a blank, and a command or a function:
@@ -108,25 +105,13 @@ fn conflict(alloc: Global, why: &str) -> Result<Error, Error> {
     Ok(error)
 }
 
-// Whether the name of a file that is read, if there is one, is this.
-fn is_read(arguments: &[Vec<u8>], place: Option<NamePlace>, name: &[u8]) -> bool {
-    match place {
-        Some(place) => place.name_in(arguments) == Some(name),
-        None => false,
-    }
-}
-
-// Why the words for the journal don't go with the others, if so. Names are told apart by their bytes.
+// Why the words for the journal don't go with the others, if so.
 fn journal_conflict(arguments: &[Vec<u8>], args: MrunArgs) -> Option<&'static str> {
     let name = args.journal?.name_in(arguments)?;
     if args.checkpoint_every != 0 {
         return Some(DROPPED);
     }
-    let file = match args.file {
-        Some(argument) => Some(NamePlace { argument, from: 0 }),
-        None => None,
-    };
-    if is_read(arguments, file, name) || is_read(arguments, args.load, name) {
+    if is_read(arguments, file_place(args.file), name) || is_read(arguments, args.load, name) {
         return Some(READ);
     }
     None

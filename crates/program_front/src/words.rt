@@ -128,3 +128,22 @@ pub(crate) fn journal_of(matches: &ArgMatches<'_>, arguments: &[String]) -> Opti
     let name = matches.get_str("journal")?;
     value_place(arguments, "--journal", "--journal=", name)
 }
+
+/// What is said where the journal would be written to a file that is read.
+pub(crate) const READ: &str = "'--journal <JOURNAL>' cannot be the file that is read";
+
+/// Where the name of the script's file stands, or none for standard input.
+pub(crate) fn file_place(file: Option<usize>) -> Option<NamePlace> {
+    match file {
+        Some(argument) => Some(NamePlace { argument, from: 0 }),
+        None => None,
+    }
+}
+
+/// Whether the name of a file that is read, if there is one, is this. Names are told apart by their bytes.
+pub(crate) fn is_read(arguments: &[Vec<u8>], place: Option<NamePlace>, name: &[u8]) -> bool {
+    match place {
+        Some(place) => place.name_in(arguments) == Some(name),
+        None => false,
+    }
+}

@@ -1,6 +1,6 @@
 //! Random scripts of jobs that run at the same time, each on a worker. It prints `alike` for a seed where a plain map that
-//! replays the closed journal gives every answer in it and the listing; and where jobs whose globals are their own are
-//! answered as each of them is alone.
+//! replays the closed journal gives every answer in it and the listing; where the journal's lines, run one after the other,
+//! leave the same listing; and where jobs whose globals are their own are answered as each of them is alone.
 //!
 //! The words are the first seed, how many there are, how many jobs from 1 to 16, and how many lines a job has: 1 8 4 150
 //! where none are said.
@@ -8,6 +8,7 @@
 
 use job_scripts::scripts_of;
 use job_server::{Served, serve};
+use journal_lines::{JournalFault, write_journal};
 use lines::{Names, Size, push_script};
 use listing::{Counted, ListingFault, write_listing};
 use plain::Plain;
@@ -62,6 +63,7 @@ enum Outcome {
     AnotherAnswer,
     AnotherListing,
     AnotherReply,
+    AnotherRun,
     NoMemory,
 }
 
@@ -72,6 +74,7 @@ impl Outcome {
             Outcome::AnotherAnswer => "an answer isn't the plain map's",
             Outcome::AnotherListing => "the listing isn't the plain map's",
             Outcome::AnotherReply => "a job is answered otherwise than alone",
+            Outcome::AnotherRun => "the journal's lines leave another listing",
             Outcome::NoMemory => "no memory",
         }
     }
@@ -85,6 +88,12 @@ impl From<AllocError> for Outcome {
 
 impl From<ListingFault> for Outcome {
     fn from(_: ListingFault) -> Outcome {
+        Outcome::NoMemory
+    }
+}
+
+impl From<JournalFault> for Outcome {
+    fn from(_: JournalFault) -> Outcome {
         Outcome::NoMemory
     }
 }
@@ -111,38 +120,57 @@ fn served<R: Threads + Wait + Sync>(
     }
 }
 
-// Whether the plain map gives every answer of the journal, and the listing.
-fn replayed(alloc: Global, served: &Served) -> Result<Outcome, Outcome> {
-    let mut plain = Plain::new(alloc);
-    if !plain.replays(alloc, served.closed.core.journal())? {
-        return Ok(Outcome::AnotherAnswer);
-    }
-    let mut writer = Counted::new(Vec::new(alloc));
-    write_listing(alloc, &served.closed.core.content(), &mut writer)?;
-    let want = plain.listing(alloc)?;
-    if writer.inner().as_slice() == want.as_slice() {
-        Ok(Outcome::Alike)
-    } else {
-        Ok(Outcome::AnotherListing)
-    }
-}
-
-// What a job's lines alone are answered, without the listing.
-fn answered_alone(alloc: Global, lines: &[u8]) -> Result<Vec<u8>, Outcome> {
-    let mut reader = Counted::new(lines);
-    let mut writer = Counted::new(Vec::new(alloc));
-    run_script(alloc, Upkeep::none(), &mut reader, &mut writer)?;
-    let text = writer.inner();
-    let end = match text
+// Where the replies end in what a script wrote.
+fn end_of_replies(text: &[u8]) -> usize {
+    match text
         .windows(4)
         .position(|bytes| bytes == b"\n--\n".as_slice())
     {
         Some(end) => end.saturating_add(1).min(text.len()),
         None => text.len(),
-    };
-    let (replies, _) = text.split_at(end);
-    let replies = Vec::from_slice(alloc, replies)?;
-    Ok(replies)
+    }
+}
+
+// What these lines are answered, and `--` with the listing.
+fn written_of(alloc: Global, lines: &[u8]) -> Result<Vec<u8>, Outcome> {
+    let mut reader = Counted::new(lines);
+    let mut writer = Counted::new(Vec::new(alloc));
+    run_script(alloc, Upkeep::none(), &mut reader, &mut writer)?;
+    Ok(Vec::from_slice(alloc, writer.inner())?)
+}
+
+// Whether the journal's lines leave this listing.
+fn runs_again(alloc: Global, served: &Served, listing: &[u8]) -> Result<bool, Outcome> {
+    let mut lines = Counted::new(Vec::new(alloc));
+    write_journal(alloc, served.journal(), &mut lines)?;
+    let written = written_of(alloc, lines.inner())?;
+    let (_, ending) = written.split_at(end_of_replies(&written));
+    Ok(ending.strip_prefix(b"--\n".as_slice()) == Some(listing))
+}
+
+// Whether the plain map gives every answer of the journal, and the listing, and the journal's lines give the listing too.
+fn replayed(alloc: Global, served: &Served) -> Result<Outcome, Outcome> {
+    let mut plain = Plain::new(alloc);
+    if !plain.replays(alloc, served.journal())? {
+        return Ok(Outcome::AnotherAnswer);
+    }
+    let mut writer = Counted::new(Vec::new(alloc));
+    write_listing(alloc, &served.closed.core.content(), &mut writer)?;
+    let want = plain.listing(alloc)?;
+    if writer.inner().as_slice() != want.as_slice() {
+        return Ok(Outcome::AnotherListing);
+    }
+    if !runs_again(alloc, served, &want)? {
+        return Ok(Outcome::AnotherRun);
+    }
+    Ok(Outcome::Alike)
+}
+
+// What a job's lines alone are answered, without the listing.
+fn answered_alone(alloc: Global, lines: &[u8]) -> Result<Vec<u8>, Outcome> {
+    let mut written = written_of(alloc, lines)?;
+    written.truncate(end_of_replies(&written));
+    Ok(written)
 }
 
 // Whether jobs are answered as each of them is alone.

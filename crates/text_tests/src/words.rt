@@ -245,6 +245,7 @@ fn asked_of_jobs(alloc: Global, words: &[&[u8]]) -> Result<Result<MjobsArgs, Err
 
 const PLAIN_JOBS: MjobsArgs = MjobsArgs {
     file: None,
+    journal: None,
     listed: true,
     errors: false,
     workers: 2,
@@ -270,6 +271,33 @@ fn words_ask_for_jobs(rt: HostRuntime) -> Result<(), Fail> {
     assert_eq!(rt; checkpoints, Err(ErrorKind::UnknownArgument));
     let help = asked_of_jobs(rt.alloc(), &[b"--help"])?;
     assert_eq!(rt; help, Err(ErrorKind::DisplayHelp));
+    Ok(())
+}
+
+#[test]
+fn words_ask_for_a_journal_of_jobs(rt: HostRuntime) -> Result<(), Fail> {
+    let asked = asked_of_jobs(rt.alloc(), &[b"--journal=\xff.txt", b"a.txt"])?;
+    let place = NamePlace {
+        argument: 1,
+        from: 10,
+    };
+    assert_eq!(rt;
+        asked,
+        Ok(MjobsArgs {
+            file: Some(2),
+            journal: Some(place),
+            ..PLAIN_JOBS
+        })
+    );
+    Ok(())
+}
+
+#[test]
+fn a_journal_of_jobs_is_no_file_that_is_read(rt: HostRuntime) -> Result<(), Fail> {
+    let script = asked_of_jobs(rt.alloc(), &[b"a.txt", b"--journal", b"a.txt"])?;
+    assert_eq!(rt; script, Err(ErrorKind::ArgumentConflict));
+    let other = asked_of_jobs(rt.alloc(), &[b"a.txt", b"--journal", b"./a.txt"])?;
+    assert_eq!(rt; other.is_ok(), true);
     Ok(())
 }
 
