@@ -10,7 +10,7 @@ use Rattle.shared_engine.specs.Sessions.{Held}
 use Rattle.shared_engine.specs.Engines.{OnOkThat}
 use Rattle.job_scripts.specs.Lines.{lines_of_script}
 use Rattle.job_server.specs.Told.{IsTold}
-use Rattle.job_server.specs.Telling.{GoesOn, Serves, running}
+use Rattle.job_server.specs.Telling.{SessionsSoFar, sessions_so_far, GoesOn, Running, not_begun, Serves}
 use Rattle.job_server.proofs.GoingOn.{halted_none, halted_some, run_told}
 
 -- a test found none
@@ -19,32 +19,30 @@ none_where None b is found = refl
 none_where (Some h) b is found = absurd (true≢false (is ∙ ap not found))
 
 -- HALT without a session
-pub none_halted : (job : ℕ) (books : List Book) (old later : Option Held) → old ≡ None → later ≡ None → GoesOn (told job Halt Finished) job books old books later
+pub none_halted : (job : ℕ) (books : List Book) (old later : Option Held) → old ≡ None → later ≡ None → GoesOn (told job Halt Finished) job (sessions_so_far books old) (sessions_so_far books later)
 none_halted job books old later was is =
-    subst (λ (o : Option Held). GoesOn (told job Halt Finished) job books o books later) (sym was)
-    (subst (λ (o : Option Held). GoesOn (told job Halt Finished) job books None books o) (sym is) (halted_none job books))
+    subst (λ (o : Option Held). GoesOn (told job Halt Finished) job (sessions_so_far books o) (sessions_so_far books later)) (sym was)
+    (subst (λ (o : Option Held). GoesOn (told job Halt Finished) job (sessions_so_far books None) (sessions_so_far books o)) (sym is) (halted_none job books))
+
+pub halted_as_none : (job : ℕ) (same now : SessionsSoFar) → same ≡ now → same.session ≡ None → GoesOn (told job Halt Finished) job now now
+halted_as_none job same now is none = subst (λ (x : SessionsSoFar). GoesOn (told job Halt Finished) job x x) is (none_halted job same.books same.session same.session none none)
 
 -- HALT of a session, which gives its book
 pub some_halted : (job : ℕ) (books more : List Book) (old later : Option Held) (h : Held) (pass : Book) → old ≡ Some h → later ≡ None → pass ≡ book h.state.work.job h.receipts → more ≡ books ++ pass ∷ []
-    → GoesOn (told job Halt Finished) job books old more later
+    → GoesOn (told job Halt Finished) job (sessions_so_far books old) (sessions_so_far more later)
 some_halted job books more old later h pass was is gives one_more =
-    subst (λ (o : Option Held). GoesOn (told job Halt Finished) job books o more later) (sym was)
-    (subst (λ (o : Option Held). GoesOn (told job Halt Finished) job books (Some h) more o) (sym is)
-    (subst (λ (bs : List Book). GoesOn (told job Halt Finished) job books (Some h) bs None) (sym (one_more ∙ ap (λ (p : Book). books ++ p ∷ []) gives)) (halted_some job books h)))
+    subst (λ (o : Option Held). GoesOn (told job Halt Finished) job (sessions_so_far books o) (sessions_so_far more later)) (sym was)
+    (subst (λ (o : Option Held). GoesOn (told job Halt Finished) job (sessions_so_far books (Some h)) (sessions_so_far more o)) (sym is)
+    (subst (λ (bs : List Book). GoesOn (told job Halt Finished) job (sessions_so_far books (Some h)) (sessions_so_far bs None)) (sym (one_more ∙ ap (λ (p : Book). books ++ p ∷ []) gives)) (halted_some job books h)))
 
 -- the same books
-pub from_books : (tell : Machine → Machine) (job : ℕ) (books other more : List Book) (session later : Option Held) → other ≡ books → GoesOn tell job other session more later → GoesOn tell job books session more later
-from_books tell job books other more session later same h = subst (λ (bs : List Book). GoesOn tell job bs session more later) same h
+pub from_books : (tell : Machine → Machine) (job : ℕ) (books other : List Book) (session : Option Held) (new : SessionsSoFar) → other ≡ books → GoesOn tell job (sessions_so_far other session) new → GoesOn tell job (sessions_so_far books session) new
+from_books tell job books other session new same h = subst (λ (bs : List Book). GoesOn tell job (sessions_so_far bs session) new) same h
 
 -- the job's lines were done, and then its last HALT
-pub run_ended : (job : ℕ) (text : List ℕ) (first replies : List Reply) (none books more : List Book) (closed session later : Option Held) (reply : Reply) → first ≡ [] → none ≡ [] → closed ≡ None
-    → Serves job (lines_of_script text) [] (running first none closed) (running replies books session) → GoesOn (told job Halt reply) job books session more later → reply ≡ Finished → later ≡ None → IsTold (Some job) text replies more
-run_ended job text first replies none books more closed session later reply no_reply no_book no_session h goes is over =
-    run_told job text replies books more session later
-    (subst (λ (rs : List Reply). Serves job (lines_of_script text) [] (running rs [] None) (running replies books session)) no_reply
-    (subst (λ (bs : List Book). Serves job (lines_of_script text) [] (running first bs None) (running replies books session)) no_book
-    (subst (λ (o : Option Held). Serves job (lines_of_script text) [] (running first none o) (running replies books session)) no_session h)))
-    (subst (λ (r : Reply). GoesOn (told job Halt r) job books session more later) is goes) over
+pub run_ended : (job : ℕ) (text : List ℕ) (old new : Running) (later : SessionsSoFar) (reply : Reply) → old ≡ not_begun → Serves job (lines_of_script text) [] old new → GoesOn (told job Halt reply) job new.sessions later → reply ≡ Finished → later.session ≡ None
+    → IsTold (Some job) text new.replies later.books
+run_ended job text old new later reply first serves goes is over = run_told job text old new later first serves (subst (λ (r : Reply). GoesOn (told job Halt r) job new.sessions later) is goes) over
 
 -- ---- answers
 

@@ -23,12 +23,15 @@ use Rattle.job_core.specs.Sessions.{Session as JobSession, idle}
 use Rattle.shared_engine.specs.Receipts.{Book, book}
 use Rattle.shared_engine.specs.Sessions.{Held, held}
 use Rattle.shared_engine.specs.Blocks.{AreDone, IsReady, moved_open}
+use Rattle.job_scripts.specs.declared.block.Block.{Block}
 use Rattle.job_scripts.specs.Blocks.{in_place, Asks, AreInFront}
 use Rattle.job_scripts.specs.Lines.{lines_of_script}
 use Rattle.job_scripts.specs.Reports.{Answers}
+use Rattle.job_server.specs.declared.cursor.Cursor.{Cursor}
+use Rattle.job_server.specs.declared.cursor.Line.{Line}
 use Rattle.job_server.specs.Told.{told_by, told_by_lines, given, IsToldIn, IsTold, units_of, units_in}
 use Rattle.job_server.specs.Served.{Wanted, IsReport, IsReportAt}
-use Rattle.job_server.specs.Telling.{Shows, Stands, AreStillTold, Follows, is_open, units_behind, AreOf, StandsIn, GoesOn, IsAsked, Running, running, Leads, Serves, Keeps, HasAnswered, Advances, Reaches, HasRun, HasReadAll, HasJustBegun, Begins, IsStillOpen, WasOvertaken, IsBack, GoesOnFrom}
+use Rattle.job_server.specs.Telling.{Shows, Stands, AreStillTold, Follows, is_open, units_behind, AreOf, StandsIn, SessionsSoFar, sessions_so_far, GoesOn, IsAsked, Running, running, not_begun, Leads, Serves, Keeps, HasAnswered, Advances, Reaches, ServesBlock, HasRun, HasReadAll, HasJustBegun, Begins, IsStillOpen, WasOvertaken, IsBack, GoesOnFrom}
 use Rattle.job_server.proofs.Units.{none_given}
 use Rattle.job_server.proofs.Standing.{shown_none}
 use Rattle.job_server.proofs.Doing.{refused_tells, HasTold, block_told, moved_stands, moved_job, reads_keep}
@@ -39,26 +42,32 @@ positive n h = omega (arith, ltb-true 0 n h)
 -- ---- steps
 
 -- nothing has changed, and nothing is told
-pub same_goes : (job : ℕ) (books more : List Book) (session later : Option Held) → more ≡ books → later ≡ session → GoesOn (λ s. s) job books session more later
+pub same_goes : (job : ℕ) (books more : List Book) (session later : Option Held) → more ≡ books → later ≡ session → GoesOn (λ s. s) job (sessions_so_far books session) (sessions_so_far more later)
 same_goes job books more session later same_books same_session = record {
   stands = λ s stands. subst (λ (bs : List Book). StandsIn job bs later s) (sym same_books) (subst (λ (h : Option Held). StandsIn job books h s) (sym same_session) stands);
   keeps = λ before after ts h. subst (λ (bs : List Book). IsToldIn ts (units_behind bs later)) (sym same_books) (subst (λ (x : Option Held). IsToldIn ts (units_behind books x)) (sym same_session) h);
 }
 
+pub none_goes : (job : ℕ) (now : SessionsSoFar) → GoesOn (λ s. s) job now now
+none_goes job now = record { stands = λ s stands. stands; keeps = λ before after ts h. h }
+
+-- from the same sessions
+pub goes_from : (tell : Machine → Machine) (job : ℕ) (same old new : SessionsSoFar) → same ≡ old → GoesOn tell job same new → GoesOn tell job old new
+goes_from tell job same old new is h = subst (λ (x : SessionsSoFar). GoesOn tell job x new) is h
+
 -- a refusal tells nothing
-pub refused_goes : (job : ℕ) (read : Result (ℕ × Command) Refusal) (refusal : Refusal) (books more : List Book) (session later : Option Held) → GoesOn (λ s. s) job books session more later → GoesOn (told_by job read (Refused refusal)) job books session more later
-refused_goes job read refusal books more session later h = record {
-  stands = λ s stands. subst (λ (m : Machine). StandsIn job more later m) (sym (refused_tells job read refusal s)) (h.stands s stands);
+pub refused_goes : (job : ℕ) (read : Result (ℕ × Command) Refusal) (refusal : Refusal) (old new : SessionsSoFar) → GoesOn (λ s. s) job old new → GoesOn (told_by job read (Refused refusal)) job old new
+refused_goes job read refusal old new h = record {
+  stands = λ s stands. subst (λ (m : Machine). StandsIn job new.books new.session m) (sym (refused_tells job read refusal s)) (h.stands s stands);
   keeps = h.keeps;
 }
 
 -- what a line tells is what its command tells
-pub asked_goes : (job : ℕ) (line : List ℕ) (command : Command) (reply : Reply) (books more : List Book) (session later : Option Held) → Asks line command → GoesOn (told job command reply) job books session more later
-    → GoesOn (told_by job (reading_of line) reply) job books session more later
-asked_goes job line command reply books more session later asks h = subst (λ (r : Result (ℕ × Command) Refusal). GoesOn (told_by job r reply) job books session more later) (sym asks.1) h
+pub asked_goes : (job : ℕ) (line : List ℕ) (command : Command) (reply : Reply) (old new : SessionsSoFar) → Asks line command → GoesOn (told job command reply) job old new → GoesOn (told_by job (reading_of line) reply) job old new
+asked_goes job line command reply old new asks h = subst (λ (r : Result (ℕ × Command) Refusal). GoesOn (told_by job r reply) job old new) (sym asks.1) h
 
 -- a session begins
-pub opened_goes : (job : ℕ) (books : List Book) → GoesOn (λ s. s) job books None books (Some (held (idle job) None []))
+pub opened_goes : (job : ℕ) (books : List Book) → GoesOn (λ s. s) job (sessions_so_far books None) (sessions_so_far books (Some (held (idle job) None [])))
 opened_goes job books = record {
   stands = λ s stands. (
     stands.0,
@@ -74,7 +83,7 @@ opened_goes job books = record {
 }
 
 -- a step of a session
-pub step_goes : (job : ℕ) (books : List Book) (command : Command) (reply : Reply) (old new : Held) → Follows command reply old new → GoesOn (told job command reply) job books (Some old) books (Some new)
+pub step_goes : (job : ℕ) (books : List Book) (command : Command) (reply : Reply) (old new : Held) → Follows command reply old new → GoesOn (told job command reply) job (sessions_so_far books (Some old)) (sessions_so_far books (Some new))
 step_goes job books command reply old new h = record {
   stands = λ s stands.
       (stands.0, (h.whose ∙ stands.1.0, subst (λ (j : ℕ). Stands (units_in books) (told j command reply s) new) stands.1.0 (h.stands (units_in books) s stands.1.1)));
@@ -82,22 +91,21 @@ step_goes job books command reply old new h = record {
 }
 
 -- one step behind another that tells nothing
-pub then_goes : (tell : Machine → Machine) (job : ℕ) (books more all : List Book) (session middle later : Option Held) → GoesOn (λ s. s) job books session more middle → (is_open session ≡ true → is_open middle ≡ true) → GoesOn tell job more middle all later
-    → GoesOn tell job books session all later
-then_goes tell job books more all session middle later first stays second = record {
+pub then_goes : (tell : Machine → Machine) (job : ℕ) (old middle new : SessionsSoFar) → GoesOn (λ s. s) job old middle → (is_open old.session ≡ true → is_open middle.session ≡ true) → GoesOn tell job middle new → GoesOn tell job old new
+then_goes tell job old middle new first stays second = record {
   stands = λ s stands. second.stands s (first.stands s stands);
   keeps = λ before after ts h. second.keeps (stays before) after ts (first.keeps before (stays before) ts h);
 }
 
 -- HALT
-pub halted_none : (job : ℕ) (books : List Book) → GoesOn (told job Halt Finished) job books None books None
+pub halted_none : (job : ℕ) (books : List Book) → GoesOn (told job Halt Finished) job (sessions_so_far books None) (sessions_so_far books None)
 halted_none job books = record {
   stands = λ s stands.
       (stands.0, (gone_here s.transactions job, subst (λ (us : List JournalUnit). IsToldIn us (units_in books)) (sym (none_given s.units (End job) refl)) stands.1.1));
   keeps = λ before after. absurd (true≢false (sym before));
 }
 
-pub halted_some : (job : ℕ) (books : List Book) (h : Held) → GoesOn (told job Halt Finished) job books (Some h) (books ++ book h.state.work.job h.receipts ∷ []) None
+pub halted_some : (job : ℕ) (books : List Book) (h : Held) → GoesOn (told job Halt Finished) job (sessions_so_far books (Some h)) (sessions_so_far (books ++ book h.state.work.job h.receipts ∷ []) None)
 halted_some job books h = record {
   stands = λ s stands. (
     All-push (λ (b : Book). b.job ≡ job) books (book h.state.work.job h.receipts) stands.0 stands.1.0,
@@ -117,16 +125,11 @@ halted_some job books h = record {
 pub asked_of : (line : List ℕ) (step : ℕ × Command) → reading_of line ≡ Ok step → Asks line step.1
 asked_of line step is = (step.0, is)
 
--- a command that is HALT
-pub halt_goes : (job : ℕ) (command : Command) (reply : Reply) (books more : List Book) (session later : Option Held) → command ≡ Halt → GoesOn (told job Halt reply) job books session more later → GoesOn (told job command reply) job books session more later
-halt_goes job command reply books more session later is h = subst (λ (c : Command). GoesOn (told job c reply) job books session more later) (sym is) h
-
 -- ---- lines
 
 -- lines lead on behind others
-leads_then : (job : ℕ) (front back : List (List ℕ)) (replies more : List Reply) (s : Machine) (middle books : List Book) (between session : Option Held) → (h : Leads job front replies s middle between) → Leads job back more h.machine books session
-    → Leads job (front ++ back) (replies ++ more) s books session
-leads_then job front back replies more s middle books between session h k = record {
+leads_then : (job : ℕ) (front back : List (List ℕ)) (replies more : List Reply) (s : Machine) (middle new : SessionsSoFar) → (h : Leads job front replies s middle) → Leads job back more h.machine new → Leads job (front ++ back) (replies ++ more) s new
+leads_then job front back replies more s middle new h k = record {
   machine = k.machine;
   led = λ left later. ap (λ (ls : List (List ℕ)). told_by_lines job ls ((replies ++ more) ++ later) s) (append_assoc front back left)
       ∙ (ap (λ (rs : List Reply). told_by_lines job (front ++ (back ++ left)) rs s) (append_assoc replies more later) ∙ (h.led (back ++ left) (more ++ later) ∙ k.led left later));
@@ -139,8 +142,8 @@ serves_then job lines middle rest old between new h k = record {
   their_replies = h.their_replies ++ k.their_replies;
   split = h.split ∙ (ap (λ (ls : List (List ℕ)). h.lines_done ++ ls) k.split ∙ sym (append_assoc h.lines_done k.lines_done rest));
   replied = k.replied ∙ (ap (λ (rs : List Reply). rs ++ k.their_replies) h.replied ∙ append_assoc old.replies h.their_replies k.their_replies);
-  leads = λ s stands. (let first : Leads job h.lines_done h.their_replies s between.books between.session = h.leads s stands in
-      leads_then job h.lines_done k.lines_done h.their_replies k.their_replies s between.books new.books between.session new.session first (k.leads first.machine first.stands));
+  leads = λ s stands. (let first : Leads job h.lines_done h.their_replies s between.sessions = h.leads s stands in
+      leads_then job h.lines_done k.lines_done h.their_replies k.their_replies s between.sessions new.sessions first (k.leads first.machine first.stands));
 }
 
 -- no line
@@ -153,60 +156,59 @@ serves_none job lines now = record {
   leads = λ s stands. record { machine = s; led = λ left later. refl; stands = stands };
 }
 
-pub reaches_none : (job : ℕ) (text left : List ℕ) (now : Running) → left ≡ text → Reaches job text left now now
-reaches_none job text left now same = subst (λ (l : List ℕ). Reaches job text l now now) (sym same) (record { fewer = omega arith; serves = serves_none job (lines_of_script text) now })
+pub reaches_none : (job : ℕ) (text : List ℕ) (place : Cursor) (now : Running) → place.lines.now ≡ text → Reaches job text place now now
+reaches_none job text place now same = subst (λ (t : List ℕ). Reaches job t place now now) same (record { fewer = omega arith; serves = serves_none job (lines_of_script place.lines.now) now })
 
 -- a line more, with perhaps some behind it
-pub reaches_on : (job : ℕ) (text place line next left : List ℕ) (old between new : Running) → Reaches job text place old between → lines_of_script place ≡ line ∷ lines_of_script next → length next < length place → Advances job line next left between new
-    → Reaches job text left old new
-reaches_on job text place line next left old between new h first shorter step = record {
+pub reaches_on : (job : ℕ) (text : List ℕ) (place : Cursor) (line : Line) (behind : Cursor) (old between new : Running) → Reaches job text place old between → lines_of_script place.lines.now ≡ line.text.now ∷ lines_of_script line.next.lines.now
+    → length line.next.lines.now < length place.lines.now → Advances job line behind between new → Reaches job text behind old new
+reaches_on job text place line behind old between new h first shorter step = record {
   fewer = omega (arith, h.fewer, shorter, step.fewer);
-  serves = serves_then job (lines_of_script text) (lines_of_script place) (lines_of_script left) old between new h.serves
-      (subst (λ (ls : List (List ℕ)). Serves job ls (lines_of_script left) between new) (sym first) step.serves);
+  serves = serves_then job (lines_of_script text) (lines_of_script place.lines.now) (lines_of_script behind.lines.now) old between new h.serves
+      (subst (λ (ls : List (List ℕ)). Serves job ls (lines_of_script behind.lines.now) between new) (sym first) step.serves);
 }
 
 -- no line is left
-pub reaches_end : (job : ℕ) (text place : List ℕ) (old new : Running) → Reaches job text place old new → lines_of_script place ≡ [] → Serves job (lines_of_script text) [] old new
+pub reaches_end : (job : ℕ) (text : List ℕ) (place : Cursor) (old new : Running) → Reaches job text place old new → lines_of_script place.lines.now ≡ [] → Serves job (lines_of_script text) [] old new
 reaches_end job text place old new h none = subst (λ (ls : List (List ℕ)). Serves job (lines_of_script text) ls old new) none h.serves
 
 -- ---- one line
 
-answered_leads : (job : ℕ) (line : List ℕ) (reply : Reply) (s : Machine) (books : List Book) (session : Option Held) → StandsIn job books session (told_by job (reading_of line) reply s) → Leads job (line ∷ []) (reply ∷ []) s books session
-answered_leads job line reply s books session stands = record { machine = told_by job (reading_of line) reply s; led = λ left later. refl; stands = stands }
+answered_leads : (job : ℕ) (line : List ℕ) (reply : Reply) (s : Machine) (new : SessionsSoFar) → StandsIn job new.books new.session (told_by job (reading_of line) reply s) → Leads job (line ∷ []) (reply ∷ []) s new
+answered_leads job line reply s new stands = record { machine = told_by job (reading_of line) reply s; led = λ left later. refl; stands = stands }
 
-pub answered_serves : (job : ℕ) (line : List ℕ) (rest : List (List ℕ)) (old new : Running) → HasAnswered job line old new → Serves job (line ∷ rest) rest old new
+pub answered_serves : (job : ℕ) (line : Line) (rest : List (List ℕ)) (old new : Running) → HasAnswered job line old new → Serves job (line.text.now ∷ rest) rest old new
 answered_serves job line rest old new h = record {
-  lines_done = line ∷ [];
+  lines_done = line.text.now ∷ [];
   their_replies = h.reply ∷ [];
   split = refl;
   replied = h.replied;
-  leads = λ s stands. answered_leads job line h.reply s new.books new.session (h.goes.stands s stands);
+  leads = λ s stands. answered_leads job line.text.now h.reply s new.sessions (h.goes.stands s stands);
 }
 
-pub answered_advances : (job : ℕ) (line next : List ℕ) (old new : Running) → HasAnswered job line old new → Advances job line next next old new
-answered_advances job line next old new h = record { fewer = omega arith; serves = answered_serves job line (lines_of_script next) old new h }
+pub answered_advances : (job : ℕ) (line : Line) (old new : Running) → HasAnswered job line old new → Advances job line line.next old new
+answered_advances job line old new h = record { fewer = omega arith; serves = answered_serves job line (lines_of_script line.next.lines.now) old new h }
 
-pub answered_keeps : (job : ℕ) (line : List ℕ) (old new : Running) → HasAnswered job line old new → Keeps old new
+pub answered_keeps : (job : ℕ) (line : Line) (old new : Running) → HasAnswered job line old new → Keeps old new
 answered_keeps job line old new h = h.goes.keeps
 
-pub has_answered : (job : ℕ) (line : List ℕ) (reply : Reply) (old new : Running) → new.replies ≡ old.replies ++ reply ∷ [] → GoesOn (told_by job (reading_of line) reply) job old.books old.session new.books new.session → HasAnswered job line old new
+pub has_answered : (job : ℕ) (line : Line) (reply : Reply) (old new : Running) → new.replies ≡ old.replies ++ reply ∷ [] → GoesOn (told_by job (reading_of line.text.now) reply) job old.sessions new.sessions → HasAnswered job line old new
 has_answered job line reply old new replied goes = record { reply = reply; replied = replied; goes = goes }
 
 -- a TCOMMIT that is no restart
-pub committed_advances : (job : ℕ) (line next : List ℕ) (reply : Reply) (old new : Running) → new.replies ≡ old.replies ++ reply ∷ [] → GoesOn (told_by job (reading_of line) reply) job old.books old.session new.books new.session → Advances job line next next old new
-committed_advances job line next reply old new replied goes = answered_advances job line next old new (has_answered job line reply old new replied goes)
+pub committed_advances : (job : ℕ) (line : Line) (reply : Reply) (old new : Running) → new.replies ≡ old.replies ++ reply ∷ [] → GoesOn (told_by job (reading_of line.text.now) reply) job old.sessions new.sessions → Advances job line line.next old new
+committed_advances job line reply old new replied goes = answered_advances job line old new (has_answered job line reply old new replied goes)
 
-pub committed_keeps : (job : ℕ) (line : List ℕ) (reply : Reply) (old new : Running) → GoesOn (told_by job (reading_of line) reply) job old.books old.session new.books new.session → Keeps old new
+pub committed_keeps : (job : ℕ) (line : List ℕ) (reply : Reply) (old new : Running) → GoesOn (told_by job (reading_of line) reply) job old.sessions new.sessions → Keeps old new
 committed_keeps job line reply old new goes = goes.keeps
 
 -- one that is
-pub was_overtaken : (job : ℕ) (line : List ℕ) (reply : Reply) (old new : Running) → Asks line Commit → GoesOn (told_by job (reading_of line) reply) job old.books old.session new.books new.session → (new.replies ≡ old.replies) × (restarts : ℕ) × (reply ≡ Restarted restarts)
+pub was_overtaken : (job : ℕ) (line : List ℕ) (reply : Reply) (old new : Running) → Asks line Commit → GoesOn (told_by job (reading_of line) reply) job old.sessions new.sessions → (new.replies ≡ old.replies) × (restarts : ℕ) × (reply ≡ Restarted restarts)
     → WasOvertaken job old new
 was_overtaken job line reply old new asks goes again = (
   again.0,
   again.1,
-  subst (λ (r : Reply). GoesOn (told job Commit r) job old.books old.session new.books new.session) again.2
-      (subst (λ (r : Result (ℕ × Command) Refusal). GoesOn (told_by job r reply) job old.books old.session new.books new.session) asks.1 goes),
+  subst (λ (r : Reply). GoesOn (told job Commit r) job old.sessions new.sessions) again.2 (subst (λ (r : Result (ℕ × Command) Refusal). GoesOn (told_by job r reply) job old.sessions new.sessions) asks.1 goes),
 )
 
 -- ---- blocks under one hold
@@ -214,7 +216,7 @@ was_overtaken job line reply old new asks goes again = (
 -- done from a session that stands so
 block_from : (job : ℕ) (before rest : List (List ℕ)) (places : List (Option Refusal)) (commands : List Command) (served replies more_replies : List Reply) (books : List Book) (units more : List JournalUnit) (old start new : Held)
     → AreInFront before rest places commands → ((s : Machine) → StandsIn job books (Some old) s → StandsIn job books (Some start) s) → AreDone commands served units more start new → more_replies ≡ replies ++ in_place places served
-    → Serves job before rest (running replies books (Some old)) (running more_replies books (Some new))
+    → Serves job before rest (running replies (sessions_so_far books (Some old))) (running more_replies (sessions_so_far books (Some new)))
 block_from job before rest places commands served replies more_replies books units more old start new in_front moves done is = record {
   lines_done = in_front.front;
   their_replies = in_place places served;
@@ -229,14 +231,14 @@ moved_on : (job : ℕ) (books : List Book) (units : List JournalUnit) (old : Hel
 moved_on job books units old s ready stands = (stands.0, (moved_job units old ∙ stands.1.0, moved_stands (units_in books) units s old ready stands.1.1))
 
 pub run_serves : (job : ℕ) (before rest : List (List ℕ)) (places : List (Option Refusal)) (commands : List Command) (served replies more_replies : List Reply) (books : List Book) (session later : Option Held) → AreInFront before rest places commands
-    → HasRun commands served session later → more_replies ≡ replies ++ in_place places served → Serves job before rest (running replies books session) (running more_replies books later)
+    → HasRun commands served session later → more_replies ≡ replies ++ in_place places served → Serves job before rest (running replies (sessions_so_far books session)) (running more_replies (sessions_so_far books later))
 run_serves job before rest places commands served replies more_replies books None later in_front run is = absurd run
 run_serves job before rest places commands served replies more_replies books (Some old) None in_front run is = absurd run
 run_serves job before rest places commands served replies more_replies books (Some old) (Some new) in_front run is =
     block_from job before rest places commands served replies more_replies books run.1 run.2 old (moved_open run.1 old) new in_front (λ s stands. moved_on job books run.1 old s run.0 stands) run.3 is
 
 pub reads_serve : (job : ℕ) (before rest : List (List ℕ)) (places : List (Option Refusal)) (commands : List Command) (served replies more_replies : List Reply) (books : List Book) (session later : Option Held) → AreInFront before rest places commands
-    → HasReadAll commands served session later → more_replies ≡ replies ++ in_place places served → Serves job before rest (running replies books session) (running more_replies books later)
+    → HasReadAll commands served session later → more_replies ≡ replies ++ in_place places served → Serves job before rest (running replies (sessions_so_far books session)) (running more_replies (sessions_so_far books later))
 reads_serve job before rest places commands served replies more_replies books None later in_front reads is = absurd reads
 reads_serve job before rest places commands served replies more_replies books (Some old) None in_front reads is = absurd reads
 reads_serve job before rest places commands served replies more_replies books (Some old) (Some new) in_front reads is =
@@ -244,44 +246,46 @@ reads_serve job before rest places commands served replies more_replies books (S
 
 -- reads of a transaction leave the receipts as they are
 pub reads_keep_all : (commands : List Command) (served replies more_replies : List Reply) (books : List Book) (session later : Option Held) → All (λ (c : Command). (d : DataCommand) × (c ≡ Access d)) commands → HasReadAll commands served session later
-    → Keeps (running replies books session) (running more_replies books later)
+    → Keeps (running replies (sessions_so_far books session)) (running more_replies (sessions_so_far books later))
 reads_keep_all commands served replies more_replies books None later all reads = absurd reads
 reads_keep_all commands served replies more_replies books (Some old) None all reads = absurd reads
 reads_keep_all commands served replies more_replies books (Some old) (Some new) all reads = λ before after ts h.
     subst (λ (cs : List Claim). IsToldIn ts (units_in books ++ units_of cs)) (sym (reads_keep commands served reads.1 reads.1 old new all reads.2 reads.0).1) h
 
 -- the lines of a block were done
-pub block_advances : (job : ℕ) (line next rest left : List ℕ) (places : List (Option Refusal)) (commands : List Command) (old new : Running) → AreInFront (line ∷ lines_of_script next) (lines_of_script rest) places commands → length rest ≤ length next → left ≡ rest
-    → ((before : List (List ℕ)) → AreInFront before (lines_of_script rest) places commands → Serves job before (lines_of_script rest) old new) → Advances job line next left old new
-block_advances job line next rest left places commands old new in_front fewer same serves =
-    subst (λ (l : List ℕ). Advances job line next l old new) (sym same) (record { fewer = fewer; serves = serves (line ∷ lines_of_script next) in_front })
+pub block_advances : (job : ℕ) (line : Line) (behind : Cursor) (block : Block) (old new : Running) → AreInFront (line.text.now ∷ lines_of_script line.next.lines.now) (lines_of_script block.rest.now) block.places.items block.commands.items → length block.rest.now ≤ length line.next.lines.now
+    → behind.lines.now ≡ block.rest.now → ServesBlock block old new → Advances job line behind old new
+block_advances job line behind block old new in_front fewer same serves = record {
+  fewer = omega (arith, fewer, ap length same);
+  serves = subst (λ (l : List ℕ). Serves job (line.text.now ∷ lines_of_script line.next.lines.now) (lines_of_script l) old new) (sym same) (serves job (line.text.now ∷ lines_of_script line.next.lines.now) in_front);
+}
 
-pub block_reaches : (job : ℕ) (text rest left : List ℕ) (places : List (Option Refusal)) (commands : List Command) (old new : Running) → AreInFront (lines_of_script text) (lines_of_script rest) places commands → length rest ≤ length text → left ≡ rest
-    → ((before : List (List ℕ)) → AreInFront before (lines_of_script rest) places commands → Serves job before (lines_of_script rest) old new) → Reaches job text left old new
-block_reaches job text rest left places commands old new in_front fewer same serves =
-    subst (λ (l : List ℕ). Reaches job text l old new) (sym same) (record { fewer = fewer; serves = serves (lines_of_script text) in_front })
+pub block_reaches : (job : ℕ) (text : List ℕ) (behind : Cursor) (block : Block) (old new : Running) → AreInFront (lines_of_script text) (lines_of_script block.rest.now) block.places.items block.commands.items → length block.rest.now ≤ length text → behind.lines.now ≡ block.rest.now
+    → ServesBlock block old new → Reaches job text behind old new
+block_reaches job text behind block old new in_front fewer same serves = record {
+  fewer = omega (arith, fewer, ap length same);
+  serves = subst (λ (l : List ℕ). Serves job (lines_of_script text) (lines_of_script l) old new) (sym same) (serves job (lines_of_script text) in_front);
+}
 
 -- no transaction was open before it
-pub closed_keeps : (old new : Running) → is_open old.session ≡ false → Keeps old new
+pub closed_keeps : (old new : Running) → is_open old.sessions.session ≡ false → Keeps old new
 closed_keeps old new closed before = absurd (true≢false (sym before ∙ closed))
 
 -- a session was begun before it
-pub opened_advances : (job : ℕ) (line next left : List ℕ) (replies : List Reply) (books : List Book) (session between : Option Held) (new : Running) → ((bs : List Book) → GoesOn (λ s. s) job bs session bs between) → Advances job line next left (running replies books between) new
-    → Advances job line next left (running replies books session) new
-opened_advances job line next left replies books session between new opened h = record {
+pub opened_advances : (job : ℕ) (line : Line) (behind : Cursor) (same old middle new : Running) → same ≡ old → middle.replies ≡ same.replies → GoesOn (λ s. s) job same.sessions middle.sessions → Advances job line behind middle new → Advances job line behind old new
+opened_advances job line behind same old middle new is replied opened h = subst (λ (x : Running). Advances job line behind x new) is (record {
   fewer = h.fewer;
   serves = record {
     lines_done = h.serves.lines_done;
     their_replies = h.serves.their_replies;
     split = h.serves.split;
-    replied = h.serves.replied;
-    leads = λ s stands. h.serves.leads s ((opened books).stands s stands);
+    replied = h.serves.replied ∙ ap (λ (rs : List Reply). rs ++ h.serves.their_replies) replied;
+    leads = λ s stands. h.serves.leads s (opened.stands s stands);
   };
-}
+})
 
-pub opened_keeps : (job : ℕ) (replies : List Reply) (books : List Book) (session between : Option Held) (new : Running) → ((bs : List Book) → GoesOn (λ s. s) job bs session bs between) → is_open between ≡ is_open session → Keeps (running replies books between) new
-    → Keeps (running replies books session) new
-opened_keeps job replies books session between new opened stays keeps before after ts h = keeps (stays ∙ before) after ts ((opened books).keeps before (stays ∙ before) ts h)
+pub opened_keeps : (job : ℕ) (same old middle new : Running) → same ≡ old → GoesOn (λ s. s) job same.sessions middle.sessions → is_open middle.sessions.session ≡ is_open same.sessions.session → Keeps middle new → Keeps old new
+opened_keeps job same old middle new is opened stays keeps = subst (λ (x : Running). Keeps x new) is (λ before after ts h. keeps (stays ∙ before) after ts (opened.keeps before (stays ∙ before) ts h))
 
 -- ---- blocks that are tried
 
@@ -313,10 +317,9 @@ begun_by job Committed s none some = absurd (some none)
 begun_by job (Restarted restarts) s none some = absurd (some none)
 begun_by job (Refused refusal) s none some = absurd (some none)
 
-pub just_begun : (job : ℕ) (reply : Reply) (books more : List Book) (session later : Option Held) (s : Machine) → StandsIn job books session s → is_open session ≡ false → GoesOn (told job Start reply) job books session more later → is_open later ≡ true
-    → HasJustBegun (transaction_of job (told job Start reply s))
-just_begun job reply books more session later s stands closed goes open_now =
-    begun_by job reply s (closed_none job books session s stands closed) (λ none. open_level job more later (told job Start reply s) (goes.stands s stands) open_now none)
+pub just_begun : (job : ℕ) (reply : Reply) (old new : SessionsSoFar) (s : Machine) → StandsIn job old.books old.session s → is_open old.session ≡ false → GoesOn (told job Start reply) job old new → is_open new.session ≡ true → HasJustBegun (transaction_of job (told job Start reply s))
+just_begun job reply old new s stands closed goes open_now =
+    begun_by job reply s (closed_none job old.books old.session s stands closed) (λ none. open_level job new.books new.session (told job Start reply s) (goes.stands s stands) open_now none)
 
 -- a TCOMMIT that has begun it anew: the session stands as behind the TSTART
 pub begun_again : (job : ℕ) (restarts : ℕ) (books : List Book) (session : Option Held) (s first : Machine) → StandsIn job books session (told job Commit (Restarted restarts) s) → HasJustBegun (transaction_of job first) → IsToldIn (given first) (units_behind books session)
@@ -368,13 +371,13 @@ open_where_begun job books session s stands just = by_case (transaction_of job s
     by_case None is begun = absurd begun
     by_case (Some t) is begun = some_open job books session s t stands is
 
-pub begins : (job : ℕ) (line : List ℕ) (old new : Running) → Asks line Start → HasAnswered job line old new → is_open old.session ≡ false → is_open new.session ≡ true → Begins job old new
+pub begins : (job : ℕ) (line : Line) (old new : Running) → Asks line.text.now Start → HasAnswered job line old new → is_open old.sessions.session ≡ false → is_open new.sessions.session ≡ true → Begins job old new
 begins job line old new asks h closed now =
-    let goes : GoesOn (told job Start h.reply) job old.books old.session new.books new.session = subst (λ (r : Result (ℕ × Command) Refusal). GoesOn (told_by job r h.reply) job old.books old.session new.books new.session) asks.1 h.goes in
+    let goes : GoesOn (told job Start h.reply) job old.sessions new.sessions = subst (λ (r : Result (ℕ × Command) Refusal). GoesOn (told_by job r h.reply) job old.sessions new.sessions) asks.1 h.goes in
     record {
       reply = h.reply;
       replied = h.replied;
-      stands = λ s stands. (goes.stands s stands, just_begun job h.reply old.books new.books old.session new.session s stands closed goes now);
+      stands = λ s stands. (goes.stands s stands, just_begun job h.reply old.sessions new.sessions s stands closed goes now);
     }
 
 begins_serves : (job : ℕ) (line : List ℕ) (rest : List (List ℕ)) (old new : Running) → Asks line Start → Begins job old new → Serves job (line ∷ rest) rest old new
@@ -383,43 +386,43 @@ begins_serves job line rest old new asks h = record {
   their_replies = h.reply ∷ [];
   split = refl;
   replied = h.replied;
-  leads = λ s stands. answered_leads job line h.reply s new.books new.session
-      (subst (λ (r : Result (ℕ × Command) Refusal). StandsIn job new.books new.session (told_by job r h.reply s)) (sym asks.1) (h.stands s stands).0);
+  leads = λ s stands. answered_leads job line h.reply s new.sessions
+      (subst (λ (r : Result (ℕ × Command) Refusal). StandsIn job new.sessions.books new.sessions.session (told_by job r h.reply s)) (sym asks.1) (h.stands s stands).0);
 }
 
 -- the same behind a try
-pub begins_again : (job : ℕ) (old middle : Running) (tried replies : List Reply) (books : List Book) (session : Option Held) → Begins job old middle → IsBack job middle (running tried books session) → replies ≡ middle.replies → Begins job old (running replies books session)
-begins_again job old middle tried replies books session h back same = record {
+pub begins_again : (job : ℕ) (old middle tried new : Running) → Begins job old middle → IsBack job middle tried → new.sessions ≡ tried.sessions → new.replies ≡ middle.replies → Begins job old new
+begins_again job old middle tried new h back kept same = record {
   reply = h.reply;
   replied = same ∙ h.replied;
-  stands = λ s stands. (back (told job Start h.reply s) (h.stands s stands).0 (h.stands s stands).1, (h.stands s stands).1);
+  stands = λ s stands. (subst (λ (x : SessionsSoFar). StandsIn job x.books x.session (told job Start h.reply s)) (sym kept) (back (told job Start h.reply s) (h.stands s stands).0 (h.stands s stands).1), (h.stands s stands).1);
 }
 
 -- the lines behind the TSTART were done
-pub begins_advances : (job : ℕ) (line next left : List ℕ) (old middle new : Running) → Asks line Start → Begins job old middle → Reaches job next left middle new → Advances job line next left old new
-begins_advances job line next left old middle new asks h reached = record {
+pub begins_advances : (job : ℕ) (line : Line) (behind : Cursor) (old middle new : Running) → Asks line.text.now Start → Begins job old middle → Reaches job line.next.lines.now behind middle new → Advances job line behind old new
+begins_advances job line behind old middle new asks h reached = record {
   fewer = reached.fewer;
-  serves = serves_then job (line ∷ lines_of_script next) (lines_of_script next) (lines_of_script left) old middle new (begins_serves job line (lines_of_script next) old middle asks h) reached.serves;
+  serves = serves_then job (line.text.now ∷ lines_of_script line.next.lines.now) (lines_of_script line.next.lines.now) (lines_of_script behind.lines.now) old middle new (begins_serves job line.text.now (lines_of_script line.next.lines.now) old middle asks h) reached.serves;
 }
 
 -- the TCOMMIT of a try found that it was overtaken
-pub is_back : (job : ℕ) (text place : List ℕ) (old middle new : Running) → Reaches job text place old middle → IsStillOpen old middle → WasOvertaken job middle new → IsBack job old new
+pub is_back : (job : ℕ) (text : List ℕ) (place : Cursor) (old middle new : Running) → Reaches job text place old middle → IsStillOpen old middle → WasOvertaken job middle new → IsBack job old new
 is_back job text place old middle new h still over first stands just =
-    let led : Leads job h.serves.lines_done h.serves.their_replies first middle.books middle.session = h.serves.leads first stands in
-    let now : is_open old.session ≡ true = open_where_begun job old.books old.session first stands just in
+    let led : Leads job h.serves.lines_done h.serves.their_replies first middle.sessions = h.serves.leads first stands in
+    let now : is_open old.sessions.session ≡ true = open_where_begun job old.sessions.books old.sessions.session first stands just in
     let s : Machine = led.machine in
-    let after : StandsIn job new.books new.session (told job Commit (Restarted over.1) s) = over.2.stands s led.stands in
+    let after : StandsIn job new.sessions.books new.sessions.session (told job Commit (Restarted over.1) s) = over.2.stands s led.stands in
     let begun : Transaction = record { level = 1; restarts = over.1; start = length (told_back job (transaction_of job s) s).units; exchanges = []; took_lock = false } in
-    let later : is_open new.session ≡ true = some_open job new.books new.session (told job Commit (Restarted over.1) s) begun after (get_here (told_back job (transaction_of job s) s).transactions job begun) in
-    begun_again job over.1 new.books new.session s first after just (over.2.keeps (still now).0 later (given first) ((still now).1 (given first) (told_in job old.books old.session first stands)))
+    let later : is_open new.sessions.session ≡ true = some_open job new.sessions.books new.sessions.session (told job Commit (Restarted over.1) s) begun after (get_here (told_back job (transaction_of job s) s).transactions job begun) in
+    begun_again job over.1 new.sessions.books new.sessions.session s first after just (over.2.keeps (still now).0 later (given first) ((still now).1 (given first) (told_in job old.sessions.books old.sessions.session first stands)))
 
-pub tried_replies : (job : ℕ) (text place : List ℕ) (old middle new : Running) → Reaches job text place old middle → WasOvertaken job middle new → GoesOnFrom old.replies new.replies
+pub tried_replies : (job : ℕ) (text : List ℕ) (place : Cursor) (old middle new : Running) → Reaches job text place old middle → WasOvertaken job middle new → GoesOnFrom old.replies new.replies
 tried_replies job text place old middle new h over = (h.serves.their_replies, over.0 ∙ h.serves.replied)
 
 pub still_none : (now : Running) → IsStillOpen now now
 still_none now before = (before, λ ts h. h)
 
-pub still_on : (old middle new : Running) → IsStillOpen old middle → Keeps middle new → is_open new.session ≡ true → IsStillOpen old new
+pub still_on : (old middle new : Running) → IsStillOpen old middle → Keeps middle new → is_open new.sessions.session ≡ true → IsStillOpen old new
 still_on old middle new h keeps now before = (now, λ ts told_before. keeps (h before).0 now ts ((h before).1 ts told_before))
 
 -- the replies of a try are cut off
@@ -434,21 +437,21 @@ cut_back old tried now kept more is cut = cut ∙ (ap (λ (k : ℕ). take k trie
     taken [] back = take_zero back
     taken (r ∷ rs) back = ap (λ (l : List Reply). r ∷ l) (taken rs back)
 
-pub reaches_replies : (job : ℕ) (text left : List ℕ) (old new : Running) → Reaches job text left old new → GoesOnFrom old.replies new.replies
-reaches_replies job text left old new h = (h.serves.their_replies, h.serves.replied)
+pub reaches_replies : (job : ℕ) (text : List ℕ) (place : Cursor) (old new : Running) → Reaches job text place old new → GoesOnFrom old.replies new.replies
+reaches_replies job text place old new h = (h.serves.their_replies, h.serves.replied)
 
 -- ---- the end
 
 -- the job's last HALT
-pub run_told : (job : ℕ) (text : List ℕ) (replies : List Reply) (books more : List Book) (session later : Option Held) → Serves job (lines_of_script text) [] (running [] [] None) (running replies books session) → GoesOn (told job Halt Finished) job books session more later
-    → later ≡ None → IsTold (Some job) text replies more
-run_told job text replies books more session later h goes over =
-    let led : Leads job h.lines_done h.their_replies nothing_done books session = h.leads nothing_done ((λ k d lt. absurd (omega (arith, lt))), (finmap.get-empty nat_cmp job, tt)) in
+pub run_told : (job : ℕ) (text : List ℕ) (old new : Running) (later : SessionsSoFar) → old ≡ not_begun → Serves job (lines_of_script text) [] old new → GoesOn (told job Halt Finished) job new.sessions later → later.session ≡ None → IsTold (Some job) text new.replies later.books
+run_told job text old new later first serves goes over =
+    let h : Serves job (lines_of_script text) [] not_begun new = subst (λ (x : Running). Serves job (lines_of_script text) [] x new) first serves in
+    let led : Leads job h.lines_done h.their_replies nothing_done new.sessions = h.leads nothing_done ((λ k d lt. absurd (omega (arith, lt))), (finmap.get-empty nat_cmp job, tt)) in
     let s : Machine = led.machine in
-    let stands : StandsIn job more None (told job Halt Finished s) = subst (λ (x : Option Held). StandsIn job more x (told job Halt Finished s)) over (goes.stands s led.stands) in
-    let machine : told_by_lines job (lines_of_script text) replies nothing_done ≡ s = ap (λ (ls : List (List ℕ)). told_by_lines job ls replies nothing_done) h.split
+    let stands : StandsIn job later.books None (told job Halt Finished s) = subst (λ (x : Option Held). StandsIn job later.books x (told job Halt Finished s)) over (goes.stands s led.stands) in
+    let machine : told_by_lines job (lines_of_script text) new.replies nothing_done ≡ s = ap (λ (ls : List (List ℕ)). told_by_lines job ls new.replies nothing_done) h.split
     ∙ (ap (λ (rs : List Reply). told_by_lines job (h.lines_done ++ []) rs nothing_done) (h.replied ∙ sym (append-nil h.their_replies)) ∙ led.led [] []) in
-    (stands.0, subst (λ (us : List JournalUnit). IsToldIn us (units_in more)) (none_given s.units (End job) refl ∙ sym (ap given machine)) stands.1.1)
+    (stands.0, subst (λ (us : List JournalUnit). IsToldIn us (units_in later.books)) (none_given s.units (End job) refl ∙ sym (ap given machine)) stands.1.1)
 
 -- what holds of an answer, where another does
 pub ok_weaker : {A E : Type 0} {P Q : A → Type 0} (r : Result A E) → IfOk r P → ((a : A) → P a → Q a) → IfOk r Q

@@ -1,3 +1,4 @@
+pub mod Codes
 pub mod Faults
 pub mod Output
 pub mod Replying

@@ -1,5 +1,5 @@
 -- How a job stands while its lines are done: what its replies told so far, its session and its books.
--- Read Stands, Follows, StandsIn, GoesOn, Serves and Begins.
+-- Read Stands, Follows, StandsIn, GoesOn, Running, Serves and Begins.
 use Rattle.std.specs.Prelude.{◌≡◌, ◌⊎◌, ⊤, ℕ, ◌≤◌, nat_lt, Bool, true, false, List, [], ◌∷◌, ◌++◌, length, Option, None, Some, Result, Ok, Err}
 use Rattle.std.specs.List.{All}
 use Rattle.refusal.specs.declared.Refusal.{Refusal}
@@ -18,8 +18,11 @@ use Rattle.shared_engine.specs.Receipts.{Book}
 use Rattle.shared_engine.specs.Sessions.{Held}
 use Rattle.shared_engine.specs.Engines.{HasItsNames, WasBlocked}
 use Rattle.shared_engine.specs.Blocks.{AreDone, IsReady, moved_open}
-use Rattle.job_scripts.specs.Blocks.{Asks}
+use Rattle.job_scripts.specs.declared.block.Block.{Block}
+use Rattle.job_scripts.specs.Blocks.{Asks, AreInFront}
 use Rattle.job_scripts.specs.Lines.{lines_of_script}
+use Rattle.job_server.specs.declared.cursor.Cursor.{Cursor}
+use Rattle.job_server.specs.declared.cursor.Line.{Line}
 use Rattle.job_server.specs.Told.{told_by, given, IsToldIn, told_by_lines, units_of, units_in}
 
 -- ---- one session
@@ -78,10 +81,18 @@ abbrev pub StandsIn : ℕ → List Book → Option Held → Machine → Type 0
 StandsIn job books None s = AreOf job books × ((transaction_of job s ≡ None) × IsToldIn (given s) (units_in books))
 StandsIn job books (Some h) s = AreOf job books × ((h.state.work.job ≡ job) × Stands (units_in books) s h)
 
+-- the sessions so far: the books of those that ended, and the one that is there
+pub record SessionsSoFar : Type 0 where
+  pub books : List Book
+  pub session : Option Held
+
+abbrev pub sessions_so_far : List Book → Option Held → SessionsSoFar
+sessions_so_far books session = record { books = books; session = session }
+
 -- the job goes on as is told
-pub record GoesOn (tell : Machine → Machine) (job : ℕ) (books : List Book) (session : Option Held) (more : List Book) (later : Option Held) : Type 0 where
-  pub stands : (s : Machine) → StandsIn job books session s → StandsIn job more later (tell s)
-  pub keeps : is_open session ≡ true → is_open later ≡ true → AreStillTold (units_behind books session) (units_behind more later)
+pub record GoesOn (tell : Machine → Machine) (job : ℕ) (old new : SessionsSoFar) : Type 0 where
+  pub stands : (s : Machine) → StandsIn job old.books old.session s → StandsIn job new.books new.session (tell s)
+  pub keeps : is_open old.session ≡ true → is_open new.session ≡ true → AreStillTold (units_behind old.books old.session) (units_behind new.books new.session)
 
 -- the line asks for what was read of it, where it could be read
 abbrev pub IsAsked : List ℕ → Result Command Refusal → Type 0
@@ -90,20 +101,23 @@ IsAsked line (Err refusal) = ⊤
 
 -- ---- lines
 
--- the replies so far, the books of the sessions that ended, and the session
+-- the replies so far, and the sessions
 pub record Running : Type 0 where
   pub replies : List Reply
-  pub books : List Book
-  pub session : Option Held
+  pub sessions : SessionsSoFar
 
-abbrev pub running : List Reply → List Book → Option Held → Running
-running replies books session = record { replies = replies; books = books; session = session }
+abbrev pub running : List Reply → SessionsSoFar → Running
+running replies sessions = record { replies = replies; sessions = sessions }
+
+-- before the first line
+abbrev pub not_begun : Running
+not_begun = running [] (sessions_so_far [] None)
 
 -- lines and their replies lead the machine on, and the job stands where they lead
-pub record Leads (job : ℕ) (lines : List (List ℕ)) (replies : List Reply) (s : Machine) (books : List Book) (session : Option Held) : Type 0 where
+pub record Leads (job : ℕ) (lines : List (List ℕ)) (replies : List Reply) (s : Machine) (sessions : SessionsSoFar) : Type 0 where
   pub machine : Machine
   pub led : (left : List (List ℕ)) (later : List Reply) → told_by_lines job (lines ++ left) (replies ++ later) s ≡ told_by_lines job left later machine
-  pub stands : StandsIn job books session machine
+  pub stands : StandsIn job sessions.books sessions.session machine
 
 -- the lines in front of the rest were done: their replies are behind those before, and lead on from wherever the job stood
 pub record Serves (job : ℕ) (lines rest : List (List ℕ)) (old new : Running) : Type 0 where
@@ -111,29 +125,33 @@ pub record Serves (job : ℕ) (lines rest : List (List ℕ)) (old new : Running)
   pub their_replies : List Reply
   pub split : lines ≡ lines_done ++ rest
   pub replied : new.replies ≡ old.replies ++ their_replies
-  pub leads : (s : Machine) → StandsIn job old.books old.session s → Leads job lines_done their_replies s new.books new.session
+  pub leads : (s : Machine) → StandsIn job old.sessions.books old.sessions.session s → Leads job lines_done their_replies s new.sessions
 
 -- while a transaction is open from here to there all that is written is LOCKs
 abbrev pub Keeps : Running → Running → Type 0
-Keeps old new = is_open old.session ≡ true → is_open new.session ≡ true → AreStillTold (units_behind old.books old.session) (units_behind new.books new.session)
+Keeps old new = is_open old.sessions.session ≡ true → is_open new.sessions.session ≡ true → AreStillTold (units_behind old.sessions.books old.sessions.session) (units_behind new.sessions.books new.sessions.session)
 
 -- a line was answered
-pub record HasAnswered (job : ℕ) (line : List ℕ) (old new : Running) : Type 0 where
+pub record HasAnswered (job : ℕ) (line : Line) (old new : Running) : Type 0 where
   pub reply : Reply
   pub replied : new.replies ≡ old.replies ++ reply ∷ []
-  pub goes : GoesOn (told_by job (reading_of line) reply) job old.books old.session new.books new.session
+  pub goes : GoesOn (told_by job (reading_of line.text.now) reply) job old.sessions new.sessions
 
--- a line was done, and perhaps some of the text behind it, of which this is left
-pub record Advances (job : ℕ) (line next left : List ℕ) (old new : Running) : Type 0 where
-  pub fewer : length left ≤ length next
-  pub serves : Serves job (line ∷ lines_of_script next) (lines_of_script left) old new
+-- a line was done, and perhaps some of those behind it, up to this place
+pub record Advances (job : ℕ) (line : Line) (behind : Cursor) (old new : Running) : Type 0 where
+  pub fewer : length behind.lines.now ≤ length line.next.lines.now
+  pub serves : Serves job (line.text.now ∷ lines_of_script line.next.lines.now) (lines_of_script behind.lines.now) old new
 
--- lines of the text were done, and this is left
-pub record Reaches (job : ℕ) (text left : List ℕ) (old new : Running) : Type 0 where
-  pub fewer : length left ≤ length text
-  pub serves : Serves job (lines_of_script text) (lines_of_script left) old new
+-- lines of the text were done, up to this place
+pub record Reaches (job : ℕ) (text : List ℕ) (behind : Cursor) (old new : Running) : Type 0 where
+  pub fewer : length behind.lines.now ≤ length text
+  pub serves : Serves job (lines_of_script text) (lines_of_script behind.lines.now) old new
 
 -- ---- blocks
+
+-- the lines of a block were done, whatever lines they stand in front of
+abbrev pub ServesBlock : Block → Running → Running → Type 0
+ServesBlock block old new = (job : ℕ) (lines : List (List ℕ)) → AreInFront lines (lines_of_script block.rest.now) block.places.items block.commands.items → Serves job lines (lines_of_script block.rest.now) old new
 
 -- the session did a block, before which its start was moved where a transaction was open
 abbrev pub HasRun : List Command → List Reply → Option Held → Option Held → Type 0
@@ -156,19 +174,19 @@ HasJustBegun (Some t) = (t.level ≡ 1) × (t.exchanges ≡ [])
 pub record Begins (job : ℕ) (old new : Running) : Type 0 where
   pub reply : Reply
   pub replied : new.replies ≡ old.replies ++ reply ∷ []
-  pub stands : (s : Machine) → StandsIn job old.books old.session s → StandsIn job new.books new.session (told job Start reply s) × HasJustBegun (transaction_of job (told job Start reply s))
+  pub stands : (s : Machine) → StandsIn job old.sessions.books old.sessions.session s → StandsIn job new.sessions.books new.sessions.session (told job Start reply s) × HasJustBegun (transaction_of job (told job Start reply s))
 
 -- the outermost TCOMMIT began the transaction anew, and no reply was kept
 abbrev pub WasOvertaken : ℕ → Running → Running → Type 0
-WasOvertaken job old new = (new.replies ≡ old.replies) × (restarts : ℕ) × GoesOn (told job Commit (Restarted restarts)) job old.books old.session new.books new.session
+WasOvertaken job old new = (new.replies ≡ old.replies) × (restarts : ℕ) × GoesOn (told job Commit (Restarted restarts)) job old.sessions new.sessions
 
 -- the transaction is still open, and what was told before is still told
 abbrev pub IsStillOpen : Running → Running → Type 0
-IsStillOpen old new = is_open old.session ≡ true → (is_open new.session ≡ true) × AreStillTold (units_behind old.books old.session) (units_behind new.books new.session)
+IsStillOpen old new = is_open old.sessions.session ≡ true → (is_open new.sessions.session ≡ true) × AreStillTold (units_behind old.sessions.books old.sessions.session) (units_behind new.sessions.books new.sessions.session)
 
 -- the job stands again as behind its TSTART
 abbrev pub IsBack : ℕ → Running → Running → Type 0
-IsBack job old new = (first : Machine) → StandsIn job old.books old.session first → HasJustBegun (transaction_of job first) → StandsIn job new.books new.session first
+IsBack job old new = (first : Machine) → StandsIn job old.sessions.books old.sessions.session first → HasJustBegun (transaction_of job first) → StandsIn job new.sessions.books new.sessions.session first
 
 -- the replies are those before and more
 abbrev pub GoesOnFrom : List Reply → List Reply → Type 0

@@ -2,7 +2,7 @@
 ghost use Rattle.std.specs.Prelude.{◌≡◌, false, IfOk, IfSome, IfNone, OnOk};
 ghost use Rattle.command.specs.declared.request.Command.{Command};
 ghost use Rattle.job_scripts.specs.Blocks.{Asks};
-ghost use Rattle.job_server.specs.Telling.{is_open as is_open_in, IsAsked, Keeps, Advances, Reaches, WasOvertaken, IsBack, GoesOnFrom, running};
+ghost use Rattle.job_server.specs.Telling.{is_open as is_open_in, IsAsked, Keeps, Advances, Reaches, WasOvertaken, IsBack, GoesOnFrom};
 
 use crate::ServerFault;
 use crate::cursor::{Cursor, Line};
@@ -29,9 +29,9 @@ impl<'a, B: BoardName, R: Wait, G: Gate> Worker<'a, B, R, G> {
         line: Line<'b>,
     ) -> Result<Option<Cursor<'b>>, ServerFault>
         requires { Asks line.text.now Command.Commit }
-        ensures on { IfOk result (λ ended. IfSome ended (λ behind. Advances job line.entry.text.now line.entry.next.lines.now behind.lines.now (running run.old.replies.items run.old.sessions.passes.items run.old.sessions.open) (running run.new.replies.items run.new.sessions.passes.items run.new.sessions.open))) }
-        ensures keeps { IfOk result (λ ended. IfSome ended (λ behind. Keeps (running run.old.replies.items run.old.sessions.passes.items run.old.sessions.open) (running run.new.replies.items run.new.sessions.passes.items run.new.sessions.open))) }
-        ensures again { IfOk result (λ ended. IfNone ended (WasOvertaken job (running run.old.replies.items run.old.sessions.passes.items run.old.sessions.open) (running run.new.replies.items run.new.sessions.passes.items run.new.sessions.open))) }
+        ensures on { IfOk result (λ ended. IfSome ended (λ behind. Advances job line.entry behind run.old run.new)) }
+        ensures keeps { IfOk result (λ ended. IfSome ended (λ behind. Keeps run.old run.new)) }
+        ensures again { IfOk result (λ ended. IfNone ended (WasOvertaken job run.old run.new)) }
     {
         let reply = self.do_line(&mut run.sessions, job, line, Ok(Command::Commit))?;
         if push_unless_restarted(&mut run.replies, reply)? {
@@ -49,9 +49,9 @@ impl<'a, B: BoardName, R: Wait, G: Gate> Worker<'a, B, R, G> {
         command: Command,
     ) -> Result<Option<Cursor<'b>>, ServerFault>
         requires { Asks line.text.now command }
-        ensures on { IfOk result (λ ended. IfSome ended (λ behind. Advances job line.entry.text.now line.entry.next.lines.now behind.lines.now (running run.old.replies.items run.old.sessions.passes.items run.old.sessions.open) (running run.new.replies.items run.new.sessions.passes.items run.new.sessions.open))) }
-        ensures keeps { IfOk result (λ ended. IfSome ended (λ behind. Keeps (running run.old.replies.items run.old.sessions.passes.items run.old.sessions.open) (running run.new.replies.items run.new.sessions.passes.items run.new.sessions.open))) }
-        ensures again { IfOk result (λ ended. IfNone ended (WasOvertaken job (running run.old.replies.items run.old.sessions.passes.items run.old.sessions.open) (running run.new.replies.items run.new.sessions.passes.items run.new.sessions.open))) }
+        ensures on { IfOk result (λ ended. IfSome ended (λ behind. Advances job line.entry behind run.old run.new)) }
+        ensures keeps { IfOk result (λ ended. IfSome ended (λ behind. Keeps run.old run.new)) }
+        ensures again { IfOk result (λ ended. IfNone ended (WasOvertaken job run.old run.new)) }
     {
         match command {
             Command::Commit => self.try_commit(run, job, line),
@@ -69,9 +69,9 @@ impl<'a, B: BoardName, R: Wait, G: Gate> Worker<'a, B, R, G> {
         asked: Result<Command, Refusal>,
     ) -> Result<Option<Cursor<'b>>, ServerFault>
         requires { IsAsked line.text.now asked }
-        ensures on { IfOk result (λ ended. IfSome ended (λ behind. Advances job line.entry.text.now line.entry.next.lines.now behind.lines.now (running run.old.replies.items run.old.sessions.passes.items run.old.sessions.open) (running run.new.replies.items run.new.sessions.passes.items run.new.sessions.open))) }
-        ensures keeps { IfOk result (λ ended. IfSome ended (λ behind. Keeps (running run.old.replies.items run.old.sessions.passes.items run.old.sessions.open) (running run.new.replies.items run.new.sessions.passes.items run.new.sessions.open))) }
-        ensures again { IfOk result (λ ended. IfNone ended (WasOvertaken job (running run.old.replies.items run.old.sessions.passes.items run.old.sessions.open) (running run.new.replies.items run.new.sessions.passes.items run.new.sessions.open))) }
+        ensures on { IfOk result (λ ended. IfSome ended (λ behind. Advances job line.entry behind run.old run.new)) }
+        ensures keeps { IfOk result (λ ended. IfSome ended (λ behind. Keeps run.old run.new)) }
+        ensures again { IfOk result (λ ended. IfNone ended (WasOvertaken job run.old run.new)) }
     {
         match asked {
             Ok(command) => self.try_command(run, job, line, command),
@@ -88,9 +88,9 @@ impl<'a, B: BoardName, R: Wait, G: Gate> Worker<'a, B, R, G> {
         job: Job,
         begin: Cursor<'b>,
     ) -> Result<Option<Cursor<'b>>, ServerFault>
-        ensures over { IfOk result (λ ended. IfSome ended (λ behind. Reaches job begin.entry.lines.now behind.lines.now (running run.old.replies.items run.old.sessions.passes.items run.old.sessions.open) (running run.new.replies.items run.new.sessions.passes.items run.new.sessions.open))) }
-        ensures again { IfOk result (λ ended. IfNone ended (IsBack job (running run.old.replies.items run.old.sessions.passes.items run.old.sessions.open) (running run.new.replies.items run.new.sessions.passes.items run.new.sessions.open))) }
-        ensures replies { IfOk result (λ ended. IfNone ended (GoesOnFrom run.old.replies.items run.new.replies.items)) }
+        ensures over { IfOk result (λ ended. IfSome ended (λ behind. Reaches job begin.entry.lines.now behind run.old run.new)) }
+        ensures again { IfOk result (λ ended. IfNone ended (IsBack job run.old run.new)) }
+        ensures replies { IfOk result (λ ended. IfNone ended (GoesOnFrom run.old.replies run.new.replies)) }
     {
         let mut place = begin;
         'lines: while let Some(line) = place.next() {
@@ -117,8 +117,8 @@ impl<'a, B: BoardName, R: Wait, G: Gate> Worker<'a, B, R, G> {
         line: Line<'b>,
     ) -> Result<Cursor<'b>, ServerFault>
         requires asks { Asks line.text.now Command.Start }
-        requires closed { is_open_in run.old.sessions.open ≡ false }
-        ensures { IfOk result (λ behind. Advances job line.entry.text.now line.entry.next.lines.now behind.lines.now (running run.old.replies.items run.old.sessions.passes.items run.old.sessions.open) (running run.new.replies.items run.new.sessions.passes.items run.new.sessions.open)) }
+        requires closed { is_open_in run.old.sessions.session ≡ false }
+        ensures { IfOk result (λ behind. Advances job line.entry behind run.old run.new) }
     {
         self.answer_line(run, job, line, Ok(Command::Start))?;
         if !run.is_open() {

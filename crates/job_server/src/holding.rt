@@ -3,9 +3,8 @@ ghost use Rattle.std.specs.Prelude.{◌≡◌, ◌≢◌, ◌++◌, ℕ, List, I
 ghost use Rattle.std.specs.List.{All};
 ghost use Rattle.command.specs.declared.access.DataCommand.{DataCommand};
 ghost use Rattle.command.specs.declared.request.Command.{Command};
-ghost use Rattle.job_scripts.specs.Blocks.{in_place, Asks, AreInFront};
-ghost use Rattle.job_scripts.specs.Lines.{lines_of_script};
-ghost use Rattle.job_server.specs.Telling.{Serves, Keeps, Advances, Reaches, HasRun, HasReadAll, running};
+ghost use Rattle.job_scripts.specs.Blocks.{in_place, Asks};
+ghost use Rattle.job_server.specs.Telling.{Keeps, Advances, Reaches, ServesBlock, HasRun, HasReadAll};
 
 use crate::ServerFault;
 use crate::cursor::{Cursor, Line};
@@ -142,8 +141,7 @@ impl<'a, B: BoardName, R: Wait, G: Gate> Worker<'a, B, R, G> {
     ) -> Result<Cursor<'b>, ServerFault>
         requires { All (λ (c : Command). c ≢ Command.Halt) block.commands.items }
         ensures rest { IfOk result (λ behind. behind.lines.now ≡ block.entry.rest.now) }
-        ensures served { OnOk result ((job : ℕ) (before : List (List ℕ)) → AreInFront before (lines_of_script block.entry.rest.now) block.entry.places.items block.entry.commands.items
-            → Serves job before (lines_of_script block.entry.rest.now) (running run.old.replies.items run.old.sessions.passes.items run.old.sessions.open) (running run.new.replies.items run.new.sessions.passes.items run.new.sessions.open)) }
+        ensures served { OnOk result (ServesBlock block.entry run.old run.new) }
     {
         let Block {
             commands,
@@ -167,9 +165,8 @@ impl<'a, B: BoardName, R: Wait, G: Gate> Worker<'a, B, R, G> {
     ) -> Result<Cursor<'b>, ServerFault>
         requires { All (λ (c : Command). (d : DataCommand) × (c ≡ Command.Access d)) block.commands.items }
         ensures rest { IfOk result (λ behind. behind.lines.now ≡ block.entry.rest.now) }
-        ensures served { OnOk result ((job : ℕ) (before : List (List ℕ)) → AreInFront before (lines_of_script block.entry.rest.now) block.entry.places.items block.entry.commands.items
-            → Serves job before (lines_of_script block.entry.rest.now) (running run.old.replies.items run.old.sessions.passes.items run.old.sessions.open) (running run.new.replies.items run.new.sessions.passes.items run.new.sessions.open)) }
-        ensures keeps { OnOk result (Keeps (running run.old.replies.items run.old.sessions.passes.items run.old.sessions.open) (running run.new.replies.items run.new.sessions.passes.items run.new.sessions.open)) }
+        ensures served { OnOk result (ServesBlock block.entry run.old run.new) }
+        ensures keeps { OnOk result (Keeps run.old run.new) }
     {
         let Block {
             commands,
@@ -191,7 +188,7 @@ impl<'a, B: BoardName, R: Wait, G: Gate> Worker<'a, B, R, G> {
         job: Job,
         begin: Cursor<'b>,
     ) -> Result<Cursor<'b>, ServerFault>
-        ensures { IfOk result (λ behind. Reaches job begin.entry.lines.now behind.lines.now (running run.old.replies.items run.old.sessions.passes.items run.old.sessions.open) (running run.new.replies.items run.new.sessions.passes.items run.new.sessions.open)) }
+        ensures { IfOk result (λ behind. Reaches job begin.entry.lines.now behind run.old run.new) }
     {
         let block = block_of(self.alloc, begin.lines, &mut run.drafts)?;
         self.serve_at_once(run, begin.number, block)
@@ -207,8 +204,8 @@ impl<'a, B: BoardName, R: Wait, G: Gate> Worker<'a, B, R, G> {
         line: Line<'b>,
     ) -> Result<Cursor<'b>, ServerFault>
         requires { Asks line.text.now (Command.Access first) }
-        ensures on { IfOk result (λ behind. Advances job line.entry.text.now line.entry.next.lines.now behind.lines.now (running run.old.replies.items run.old.sessions.passes.items run.old.sessions.open) (running run.new.replies.items run.new.sessions.passes.items run.new.sessions.open)) }
-        ensures keeps { OnOk result (Keeps (running run.old.replies.items run.old.sessions.passes.items run.old.sessions.open) (running run.new.replies.items run.new.sessions.passes.items run.new.sessions.open)) }
+        ensures on { IfOk result (λ behind. Advances job line.entry behind run.old run.new) }
+        ensures keeps { OnOk result (Keeps run.old run.new) }
     {
         let most = if run.is_open() {
             READS_PER_HOLD
@@ -232,8 +229,8 @@ impl<'a, B: BoardName, R: Wait, G: Gate> Worker<'a, B, R, G> {
         line: Line<'b>,
     ) -> Result<Cursor<'b>, ServerFault>
         requires { Asks line.text.now (Command.Access first) }
-        ensures on { IfOk result (λ behind. Advances job line.entry.text.now line.entry.next.lines.now behind.lines.now (running run.old.replies.items run.old.sessions.passes.items run.old.sessions.open) (running run.new.replies.items run.new.sessions.passes.items run.new.sessions.open)) }
-        ensures keeps { OnOk result (Keeps (running run.old.replies.items run.old.sessions.passes.items run.old.sessions.open) (running run.new.replies.items run.new.sessions.passes.items run.new.sessions.open)) }
+        ensures on { IfOk result (λ behind. Advances job line.entry behind run.old run.new) }
+        ensures keeps { OnOk result (Keeps run.old run.new) }
     {
         match self.open(job, &mut run.sessions.open) {
             Ok(()) => self.serve_run(run, job, first, line),
@@ -253,8 +250,8 @@ impl<'a, B: BoardName, R: Wait, G: Gate> Worker<'a, B, R, G> {
         line: Line<'b>,
     ) -> Result<Cursor<'b>, ServerFault>
         requires { Asks line.text.now (Command.Access first) }
-        ensures on { IfOk result (λ behind. Advances job line.entry.text.now line.entry.next.lines.now behind.lines.now (running run.old.replies.items run.old.sessions.passes.items run.old.sessions.open) (running run.new.replies.items run.new.sessions.passes.items run.new.sessions.open)) }
-        ensures keeps { OnOk result (Keeps (running run.old.replies.items run.old.sessions.passes.items run.old.sessions.open) (running run.new.replies.items run.new.sessions.passes.items run.new.sessions.open)) }
+        ensures on { IfOk result (λ behind. Advances job line.entry behind run.old run.new) }
+        ensures keeps { OnOk result (Keeps run.old run.new) }
     {
         if self.may_go_on(run, &first) {
             return self.serve_data(run, job, first, line);

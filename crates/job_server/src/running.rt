@@ -7,7 +7,7 @@ ghost use Rattle.script.specs.Line.{reading_of};
 ghost use Rattle.shared_engine.specs.Receipts.{Book};
 ghost use Rattle.shared_engine.specs.Engines.{OnOkThat, OnOkNot};
 ghost use Rattle.job_server.specs.Told.{told_by};
-ghost use Rattle.job_server.specs.Telling.{is_open as is_open_in, GoesOn, IsAsked, Keeps, HasAnswered, Advances, running};
+ghost use Rattle.job_server.specs.Telling.{is_open as is_open_in, GoesOn, IsAsked, Keeps, HasAnswered, Advances, sessions_so_far, not_begun};
 
 use crate::ServerFault;
 use crate::cursor::{Cursor, Line};
@@ -20,6 +20,7 @@ use refusal::Refusal;
 use script::{Drafts, read_line};
 use shared_engine::{Gate, Pass, Session};
 use std::alloc::{AllocError, Global};
+use std::marker::Model;
 use std::sync::Wait;
 
 /// A job's open session, and the passes of those that ended.
@@ -27,6 +28,17 @@ use std::sync::Wait;
 pub(crate) struct Sessions<B: BoardName> {
     pub(crate) open: Option<Session<B>>,
     pub(crate) passes: Vec<Pass<B>>,
+}
+
+impl<B: BoardName> Model for Sessions<B> {
+    ghost use Rattle.job_server.specs.Telling.{SessionsSoFar, sessions_so_far};
+    ghost use Rattle.job_server.specs.Codes.{sessions_code};
+
+    ghost Value = { SessionsSoFar };
+
+    ghost coded = { sessions_code };
+
+    ghost view = { λ s. sessions_so_far s.passes.items s.open };
 }
 
 /// A job as it is run: its sessions, and the replies so far.
@@ -37,10 +49,21 @@ pub(crate) struct JobRun<B: BoardName> {
     pub(crate) drafts: Drafts,
 }
 
+impl<B: BoardName> Model for JobRun<B> {
+    ghost use Rattle.job_server.specs.Telling.{Running, running};
+    ghost use Rattle.job_server.specs.Codes.{running_code};
+
+    ghost Value = { Running };
+
+    ghost coded = { running_code };
+
+    ghost view = { λ r. running r.replies.items r.sessions };
+}
+
 impl<B: BoardName> JobRun<B> {
     /// Before the first line.
     pub(crate) fn new(alloc: Global) -> JobRun<B>
-        ensures { (result.sessions.open ≡ None) × ((result.sessions.passes.items ≡ []) × (result.replies.items ≡ [])) }
+        ensures { result ≡ not_begun }
     {
         JobRun {
             sessions: Sessions {
@@ -54,7 +77,7 @@ impl<B: BoardName> JobRun<B> {
 
     /// Whether a transaction is open.
     pub(crate) fn is_open(&self) -> bool
-        ensures { result ≡ is_open_in self.now.sessions.open }
+        ensures { result ≡ is_open_in self.now.sessions.session }
     {
         match &self.sessions.open {
             Some(session) => session.tlevel() > 0,
@@ -132,7 +155,7 @@ impl<'a, B: BoardName, R: Wait, G: Gate> Worker<'a, B, R, G> {
     /// Begins a session of the job, where it has none.
     #[tactic(auto, using(crate::proofs::GoingOn::same_goes, crate::proofs::GoingOn::opened_goes))]
     pub(crate) fn open(&self, job: Job, session: &mut Option<Session<B>>) -> Result<(), ServerFault>
-        ensures told { OnOk result ((books : List Book) → GoesOn (λ s. s) job books session.old books session.new) }
+        ensures told { OnOk result ((books : List Book) → GoesOn (λ s. s) job (sessions_so_far books session.old) (sessions_so_far books session.new)) }
         ensures stays { OnOk result (is_open_in session.new ≡ is_open_in session.old) }
     {
         if session.is_some() {
@@ -149,33 +172,33 @@ impl<'a, B: BoardName, R: Wait, G: Gate> Worker<'a, B, R, G> {
 
     /// HALT. Where it is refused the session goes on.
     pub(crate) fn halt(&self, sessions: &mut Sessions<B>) -> Result<Reply, ServerFault>
-        ensures told { IfOk result (λ reply. (job : ℕ) → GoesOn (told_of job Command.Halt reply) job sessions.old.passes.items sessions.old.open sessions.new.passes.items sessions.new.open) }
-        ensures over { IfOk result (λ reply. reply ≡ Reply.Finished → sessions.new.open ≡ None) }
+        ensures told { IfOk result (λ reply. (job : ℕ) → GoesOn (told_of job Command.Halt reply) job sessions.old sessions.new) }
+        ensures over { IfOk result (λ reply. reply ≡ Reply.Finished → sessions.new.session ≡ None) }
     {
         if sessions.open.is_none() {
             return Ok(Reply::Finished);
         }
         sessions.passes.reserve(1)?;
-        Ok(self.halt_reserved(sessions))
+        Ok(self.halt_reserved(&mut sessions.open, &mut sessions.passes))
     }
 
     // The same, with room for the pass.
     #[tactic(auto, using(crate::proofs::GoingOn::same_goes))]
-    fn halt_reserved(&self, sessions: &mut Sessions<B>) -> Reply
-        requires { length sessions.old.passes.items < vec_capacity sessions.old.passes }
-        ensures told { (job : ℕ) → GoesOn (told_of job Command.Halt result) job sessions.old.passes.items sessions.old.open sessions.new.passes.items sessions.new.open }
-        ensures over { result ≡ Reply.Finished → sessions.new.open ≡ None }
+    fn halt_reserved(&self, session: &mut Option<Session<B>>, passes: &mut Vec<Pass<B>>) -> Reply
+        requires { length passes.old.items < vec_capacity passes.old }
+        ensures told { (job : ℕ) → GoesOn (told_of job Command.Halt result) job (sessions_so_far passes.old.items session.old) (sessions_so_far passes.new.items session.new) }
+        ensures over { result ≡ Reply.Finished → session.new ≡ None }
     {
-        let Some(session) = sessions.open.take() else {
+        let Some(begun) = session.take() else {
             return Reply::Finished;
         };
-        match self.calls.engine.halt(self.calls.rt, session) {
+        match self.calls.engine.halt(self.calls.rt, begun) {
             Ok(pass) => {
-                sessions.passes.push_reserved(pass);
+                passes.push_reserved(pass);
                 Reply::Finished
             }
-            Err((session, refusal)) => {
-                sessions.open = Some(session);
+            Err((begun, refusal)) => {
+                *session = Some(begun);
                 Reply::Refused(refusal)
             }
         }
@@ -189,7 +212,7 @@ impl<'a, B: BoardName, R: Wait, G: Gate> Worker<'a, B, R, G> {
         command: Command,
         line: &[u8],
     ) -> Result<Reply, ServerFault>
-        ensures { IfOk result (λ reply. (job : ℕ) (books : List Book) → GoesOn (told_of job command reply) job books session.old books session.new) }
+        ensures { IfOk result (λ reply. (job : ℕ) (books : List Book) → GoesOn (told_of job command reply) job (sessions_so_far books session.old) (sessions_so_far books session.new)) }
     {
         match session {
             Some(session) => Ok(self.calls.reply_to(session, command, timeout_of(line))),
@@ -207,7 +230,7 @@ impl<'a, B: BoardName, R: Wait, G: Gate> Worker<'a, B, R, G> {
         command: Command,
         line: &[u8],
     ) -> Result<Reply, ServerFault>
-        ensures { IfOk result (λ reply. (job : ℕ) → GoesOn (told_of job command reply) job sessions.old.passes.items sessions.old.open sessions.new.passes.items sessions.new.open) }
+        ensures { IfOk result (λ reply. (job : ℕ) → GoesOn (told_of job command reply) job sessions.old sessions.new) }
     {
         if is_halt(&command) {
             drop(command);
@@ -224,7 +247,7 @@ impl<'a, B: BoardName, R: Wait, G: Gate> Worker<'a, B, R, G> {
         command: Command,
         line: &[u8],
     ) -> Result<Reply, ServerFault>
-        ensures { IfOk result (λ reply. GoesOn (told_of job command reply) job sessions.old.passes.items sessions.old.open sessions.new.passes.items sessions.new.open) }
+        ensures { IfOk result (λ reply. GoesOn (told_of job command reply) job sessions.old sessions.new) }
     {
         match self.open(job, &mut sessions.open) {
             Ok(()) => self.reply_opened(sessions, command, line),
@@ -245,7 +268,7 @@ impl<'a, B: BoardName, R: Wait, G: Gate> Worker<'a, B, R, G> {
         asked: Result<Command, Refusal>,
     ) -> Result<Reply, ServerFault>
         requires { IsAsked line.now asked }
-        ensures { IfOk result (λ reply. GoesOn (told_by job (reading_of line.now) reply) job sessions.old.passes.items sessions.old.open sessions.new.passes.items sessions.new.open) }
+        ensures { IfOk result (λ reply. GoesOn (told_by job (reading_of line.now) reply) job sessions.old sessions.new) }
     {
         match asked {
             Ok(command) => self.reply_to(sessions, job, command, line),
@@ -262,7 +285,7 @@ impl<'a, B: BoardName, R: Wait, G: Gate> Worker<'a, B, R, G> {
         asked: Result<Command, Refusal>,
     ) -> Result<Reply, ServerFault>
         requires { IsAsked line.text.now asked }
-        ensures { IfOk result (λ reply. GoesOn (told_by job (reading_of line.entry.text.now) reply) job sessions.old.passes.items sessions.old.open sessions.new.passes.items sessions.new.open) }
+        ensures { IfOk result (λ reply. GoesOn (told_by job (reading_of line.entry.text.now) reply) job sessions.old sessions.new) }
     {
         let writes = writes_of(&asked);
         self.calls.gate.before(job, line.number);
@@ -286,7 +309,7 @@ impl<'a, B: BoardName, R: Wait, G: Gate> Worker<'a, B, R, G> {
         asked: Result<Command, Refusal>,
     ) -> Result<(), ServerFault>
         requires { IsAsked line.text.now asked }
-        ensures { OnOk result (HasAnswered job line.entry.text.now (running run.old.replies.items run.old.sessions.passes.items run.old.sessions.open) (running run.new.replies.items run.new.sessions.passes.items run.new.sessions.open)) }
+        ensures { OnOk result (HasAnswered job line.entry run.old run.new) }
     {
         let reply = self.do_line(&mut run.sessions, job, line, asked)?;
         run.replies.push(reply)?;
@@ -303,8 +326,8 @@ impl<'a, B: BoardName, R: Wait, G: Gate> Worker<'a, B, R, G> {
         asked: Result<Command, Refusal>,
     ) -> Result<Cursor<'b>, ServerFault>
         requires { IsAsked line.text.now asked }
-        ensures on { IfOk result (λ behind. Advances job line.entry.text.now line.entry.next.lines.now behind.lines.now (running run.old.replies.items run.old.sessions.passes.items run.old.sessions.open) (running run.new.replies.items run.new.sessions.passes.items run.new.sessions.open)) }
-        ensures keeps { OnOk result (Keeps (running run.old.replies.items run.old.sessions.passes.items run.old.sessions.open) (running run.new.replies.items run.new.sessions.passes.items run.new.sessions.open)) }
+        ensures on { IfOk result (λ behind. Advances job line.entry behind run.old run.new) }
+        ensures keeps { OnOk result (Keeps run.old run.new) }
     {
         self.answer_line(run, job, line, asked)?;
         Ok(line.next)

@@ -9,7 +9,7 @@ ghost use Rattle.job_scripts.specs.Reports.{is_refused};
 ghost use Rattle.std.proofs.Props.{props};
 ghost use Rattle.job_server.specs.Served.{wanted, IsReport, IsReportAt};
 ghost use Rattle.job_server.specs.Told.{IsTold};
-ghost use Rattle.job_server.specs.Telling.{Serves, Advances, running};
+ghost use Rattle.job_server.specs.Telling.{Serves, Advances, not_begun};
 
 use crate::ServerFault;
 use crate::cursor::{Cursor, Line};
@@ -100,7 +100,7 @@ fn ran_to_end<B: BoardName>(
     script: &Script,
     run: JobRun<B>,
 ) -> Result<Ran<B>, ServerFault>
-    requires { IsTold script.now.job script.now.text.items run.replies.items run.sessions.passes.items }
+    requires { IsTold script.now.job script.now.text.items run.replies run.sessions.books }
     ensures { IfOk result (λ ran. IsReport (wanted script.now) ran.report ran.passes.items) }
 {
     let JobRun {
@@ -220,7 +220,7 @@ impl<'a, B: BoardName, R: Wait, G: Gate> Worker<'a, B, R, G> {
         line: Line<'b>,
     ) -> Result<Cursor<'b>, ServerFault>
         requires { Asks line.text.now Command.Start }
-        ensures { IfOk result (λ behind. Advances job line.entry.text.now line.entry.next.lines.now behind.lines.now (running run.old.replies.items run.old.sessions.passes.items run.old.sessions.open) (running run.new.replies.items run.new.sessions.passes.items run.new.sessions.open)) }
+        ensures { IfOk result (λ behind. Advances job line.entry behind run.old run.new) }
     {
         if run.is_open() {
             return self.pass_line(run, job, line, Ok(Command::Start));
@@ -237,7 +237,7 @@ impl<'a, B: BoardName, R: Wait, G: Gate> Worker<'a, B, R, G> {
         command: Command,
     ) -> Result<Cursor<'b>, ServerFault>
         requires { Asks line.text.now command }
-        ensures { IfOk result (λ behind. Advances job line.entry.text.now line.entry.next.lines.now behind.lines.now (running run.old.replies.items run.old.sessions.passes.items run.old.sessions.open) (running run.new.replies.items run.new.sessions.passes.items run.new.sessions.open)) }
+        ensures { IfOk result (λ behind. Advances job line.entry behind run.old run.new) }
     {
         match command {
             Command::Start => self.serve_start(run, job, line),
@@ -253,7 +253,7 @@ impl<'a, B: BoardName, R: Wait, G: Gate> Worker<'a, B, R, G> {
         job: Job,
         line: Line<'b>,
     ) -> Result<Cursor<'b>, ServerFault>
-        ensures { IfOk result (λ behind. Advances job line.entry.text.now line.entry.next.lines.now behind.lines.now (running run.old.replies.items run.old.sessions.passes.items run.old.sessions.open) (running run.new.replies.items run.new.sessions.passes.items run.new.sessions.open)) }
+        ensures { IfOk result (λ behind. Advances job line.entry behind run.old run.new) }
     {
         match read_for(self.alloc, job, line.text, &mut run.drafts) {
             Ok(command) => self.serve_command(run, job, line, command),
@@ -269,7 +269,7 @@ impl<'a, B: BoardName, R: Wait, G: Gate> Worker<'a, B, R, G> {
         job: Job,
         lines: &[u8],
     ) -> Result<(), ServerFault>
-        ensures { OnOk result (Serves job (lines_of_script lines.now) [] (running run.old.replies.items run.old.sessions.passes.items run.old.sessions.open) (running run.new.replies.items run.new.sessions.passes.items run.new.sessions.open)) }
+        ensures { OnOk result (Serves job (lines_of_script lines.now) [] run.old run.new) }
     {
         let mut place = Cursor::new(lines);
         'lines: while let Some(line) = place.next() {
@@ -280,8 +280,8 @@ impl<'a, B: BoardName, R: Wait, G: Gate> Worker<'a, B, R, G> {
 
     // Does a job's lines, and ends its session.
     fn serve_all(&mut self, run: &mut JobRun<B>, job: Job, lines: &[u8]) -> Result<(), ServerFault>
-        requires { (run.old.sessions.open ≡ None) × ((run.old.sessions.passes.items ≡ []) × (run.old.replies.items ≡ [])) }
-        ensures { OnOk result (IsTold (Some job) lines.now run.new.replies.items run.new.sessions.passes.items) }
+        requires { run.old ≡ not_begun }
+        ensures { OnOk result (IsTold (Some job) lines.now run.new.replies run.new.sessions.books) }
     {
         self.serve_lines(run, job, lines)?;
         let reply = self.halt(&mut run.sessions)?;

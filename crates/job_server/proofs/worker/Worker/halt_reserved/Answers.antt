@@ -3,8 +3,8 @@ use Rattle.job_server.proofs.Ending.{none_halted, some_halted}
 use Rattle.job_server.proofs.worker.Worker.halt_reserved.Goals as goal
 
 pub returns-in_default-clause-told : goal.returns-in_default-clause-told
-returns-in_default-clause-told g c = λ job. none_halted job c.args.sessions.now.passes.items c.args.sessions.now.open c.take.new.self (cc) c.take.ensures.after
+returns-in_default-clause-told g c = λ job. none_halted job c.args.passes.now.items c.args.session.now c.take.new.self (cc) c.take.ensures.after
 
 pub returns-in-Ok-clause-told : goal.returns-in-Ok-clause-told
 returns-in-Ok-clause-told g c = λ job.
-    some_halted job c.args.sessions.now.passes.items c.push_reserved.new.self.items c.args.sessions.now.open c.take.new.self c.in-Some.session c.in-Ok.pass (sym c.take.ensures.value ∙ c.in-Some.is) c.take.ensures.after c.in-Ok.ensures.pass c.push_reserved.ensures.items
+    some_halted job c.args.passes.now.items c.push_reserved.new.self.items c.args.session.now c.take.new.self c.in-Some.begun c.in-Ok.pass (sym c.take.ensures.value ∙ c.in-Some.is) c.take.ensures.after c.in-Ok.ensures.pass c.push_reserved.ensures.items

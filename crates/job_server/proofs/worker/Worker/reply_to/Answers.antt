@@ -1,13 +1,18 @@
-use Rattle.std.proofs.Common.{◌∙◌}
+use Rattle.std.proofs.Common.{ap, ◌∙◌}
 use Rattle.std.proofs.lemmas.Result.{IfOk-weaker}
 use Rattle.journal.specs.Story.{told}
-use Rattle.job_server.proofs.GoingOn.{then_goes}
+use Rattle.job_server.specs.Telling.{SessionsSoFar, sessions_so_far, is_open}
+use Rattle.job_server.proofs.GoingOn.{goes_from, then_goes}
 use Rattle.job_server.proofs.worker.Worker.reply_to.Goals as goal
 
 pub returns-in-Ok : goal.returns-in-Ok
 returns-in-Ok g c =
+    let job = c.args.job in
     let old = c.args.sessions.now in
-    let new = c.reply_opened.new.sessions in
+    let books = c.sessions.inside.passes.items in
+    let opened = sessions_so_far books c.open.new.session in
     IfOk-weaker c.reply_opened.result _ _
-    (λ reply h. then_goes (told c.args.job c.args.command reply) c.args.job old.passes.items old.passes.items new.passes.items old.open c.open.new.session new.open (c.in-Ok.ensures.told old.passes.items) (λ e. c.in-Ok.ensures.stays ∙ e) (h c.args.job))
+    (λ reply h. then_goes (told job c.args.command reply) job old opened c.reply_opened.new.sessions
+    (goes_from (λ s. s) job (sessions_so_far books c.sessions.inside.open) old opened c.sessions.view_is (c.in-Ok.ensures.told books))
+    (λ e. c.in-Ok.ensures.stays ∙ (ap (λ (x : SessionsSoFar). is_open x.session) c.sessions.view_is ∙ e)) (h job))
     c.reply_opened.ensures

@@ -1,11 +1,10 @@
 use Rattle.std.proofs.Common.{length}
-use Rattle.job_server.specs.Telling.{Reaches, running}
+use Rattle.job_server.specs.Telling.{Reaches}
 use Rattle.job_server.proofs.worker.Worker.serve_lines.Given as goal
 
 -- the lines in front were done
 abbrev pub invariant-lines : goal.invariant-lines
-invariant-lines g l =
-    Reaches l.fn.job l.fn.lines l.place.lines.now (running l.fn.run.replies.items l.fn.run.sessions.passes.items l.fn.run.sessions.open) (running l.run.replies.items l.run.sessions.passes.items l.run.sessions.open)
+invariant-lines g l = Reaches l.fn.job l.fn.lines l.place l.fn.run l.run
 
 abbrev pub decreases-lines : goal.decreases-lines
 decreases-lines g l = length l.place.lines.now
