@@ -16,7 +16,7 @@ use Rattle.command.specs.declared.request.Reply.TheVariants.{Answered, Finished,
 use Rattle.journal.specs.declared.unit.Unit.{Unit as JournalUnit}
 use Rattle.journal.specs.declared.unit.Unit.TheVariants.{End}
 use Rattle.journal.specs.Kept.{Claim}
-use Rattle.journal.specs.Story.{Transaction, Machine, nothing_done, transaction_of, told, told_level, told_back, begin, close, add_unit}
+use Rattle.journal.specs.Story.{Transaction, Machine, nothing_done, transaction_of, told, told_level, told_back}
 use Rattle.serial.specs.laws.ByJob.{get_here, gone_here}
 use Rattle.script.specs.Line.{reading_of}
 use Rattle.job_core.specs.Sessions.{Session as JobSession, idle}
@@ -31,7 +31,7 @@ use Rattle.job_server.specs.declared.cursor.Cursor.{Cursor}
 use Rattle.job_server.specs.declared.cursor.Line.{Line}
 use Rattle.job_server.specs.Told.{told_by, told_by_lines, given, IsToldIn, IsTold, units_of, units_in}
 use Rattle.job_server.specs.Served.{Wanted, IsReport, IsReportAt}
-use Rattle.job_server.specs.Telling.{Shows, Stands, AreStillTold, Follows, is_open, units_behind, AreOf, StandsIn, SessionsSoFar, sessions_so_far, GoesOn, IsAsked, Running, running, not_begun, Leads, Serves, Keeps, HasAnswered, Advances, Reaches, ServesBlock, HasRun, HasReadAll, HasJustBegun, Begins, IsStillOpen, WasOvertaken, IsBack, GoesOnFrom}
+use Rattle.job_server.specs.Telling.{Shows, Stands, Follows, is_open, units_behind, StandsIn, SessionsSoFar, sessions_so_far, GoesOn, Running, running, not_begun, Leads, Serves, Keeps, HasAnswered, Advances, Reaches, ServesBlock, HasRun, HasReadAll, HasJustBegun, Begins, IsStillOpen, WasOvertaken, IsBack, GoesOnFrom}
 use Rattle.job_server.proofs.Units.{none_given}
 use Rattle.job_server.proofs.Standing.{shown_none}
 use Rattle.job_server.proofs.Doing.{refused_tells, HasTold, block_told, moved_stands, moved_job, reads_keep}

@@ -1,16 +1,16 @@
 -- How a job stands while its lines are done: what its replies told so far, its session and its books.
 -- Read Stands, Follows, StandsIn, GoesOn, Running, Serves and Begins.
-use Rattle.std.specs.Prelude.{◌≡◌, ◌⊎◌, ⊤, ℕ, ◌≤◌, nat_lt, Bool, true, false, List, [], ◌∷◌, ◌++◌, length, Option, None, Some, Result, Ok, Err}
+use Rattle.std.specs.Prelude.{◌≡◌, ◌≢◌, ◌⊎◌, ⊤, ℕ, ◌≤◌, nat_lt, Bool, true, false, List, [], ◌∷◌, ◌++◌, length, Option, None, Some, Result, Ok, Err}
 use Rattle.std.specs.List.{All}
 use Rattle.refusal.specs.declared.Refusal.{Refusal}
 use Rattle.collation.specs.declared.lock.LockCommand.{LockCommand}
 use Rattle.collation.specs.declared.lock.LockCommand.TheVariants.{Release, Only, More, Fewer}
+use Rattle.command.specs.declared.access.DataCommand.{DataCommand}
 use Rattle.command.specs.declared.request.Command.{Command}
-use Rattle.command.specs.declared.request.Command.TheVariants.{Start, Commit}
+use Rattle.command.specs.declared.request.Command.TheVariants.{Access, Start, Commit, Halt}
 use Rattle.command.specs.declared.request.Reply.{Reply}
 use Rattle.command.specs.declared.request.Reply.TheVariants.{Restarted}
 use Rattle.journal.specs.declared.unit.Unit.{Unit as JournalUnit}
-use Rattle.journal.specs.Kept.{Claim}
 use Rattle.journal.specs.Story.{Transaction, Machine, transaction_of, told}
 use Rattle.script.specs.Line.{reading_of}
 use Rattle.job_core.specs.Sessions.{Session as JobSession}
@@ -21,6 +21,7 @@ use Rattle.shared_engine.specs.Blocks.{AreDone, IsReady, moved_open}
 use Rattle.job_scripts.specs.declared.block.Block.{Block}
 use Rattle.job_scripts.specs.Blocks.{Asks, AreInFront}
 use Rattle.job_scripts.specs.Lines.{lines_of_script}
+use Rattle.job_scripts.specs.Reports.{is_refused}
 use Rattle.job_server.specs.declared.cursor.Cursor.{Cursor}
 use Rattle.job_server.specs.declared.cursor.Line.{Line}
 use Rattle.job_server.specs.Told.{told_by, given, IsToldIn, told_by_lines, units_of, units_in}
@@ -89,10 +90,18 @@ pub record SessionsSoFar : Type 0 where
 abbrev pub sessions_so_far : List Book → Option Held → SessionsSoFar
 sessions_so_far books session = record { books = books; session = session }
 
+-- what was told in these sessions is told in those
+abbrev pub AreToldOn : SessionsSoFar → SessionsSoFar → Type 0
+AreToldOn old new = AreStillTold (units_behind old.books old.session) (units_behind new.books new.session)
+
+-- the job has these sessions, where what was told has led
+abbrev pub StandsAt : ℕ → SessionsSoFar → Machine → Type 0
+StandsAt job now s = StandsIn job now.books now.session s
+
 -- the job goes on as is told
 pub record GoesOn (tell : Machine → Machine) (job : ℕ) (old new : SessionsSoFar) : Type 0 where
-  pub stands : (s : Machine) → StandsIn job old.books old.session s → StandsIn job new.books new.session (tell s)
-  pub keeps : is_open old.session ≡ true → is_open new.session ≡ true → AreStillTold (units_behind old.books old.session) (units_behind new.books new.session)
+  pub stands : (s : Machine) → StandsAt job old s → StandsAt job new (tell s)
+  pub keeps : is_open old.session ≡ true → is_open new.session ≡ true → AreToldOn old new
 
 -- the line asks for what was read of it, where it could be read
 abbrev pub IsAsked : List ℕ → Result Command Refusal → Type 0
@@ -100,6 +109,10 @@ IsAsked line (Ok command) = Asks line command
 IsAsked line (Err refusal) = ⊤
 
 -- ---- lines
+
+-- each reply is a refusal
+abbrev pub AreRefused : List Reply → Type 0
+AreRefused replies = All (λ (r : Reply). is_refused r ≡ true) replies
 
 -- the replies so far, and the sessions
 pub record Running : Type 0 where
@@ -117,7 +130,7 @@ not_begun = running [] (sessions_so_far [] None)
 pub record Leads (job : ℕ) (lines : List (List ℕ)) (replies : List Reply) (s : Machine) (sessions : SessionsSoFar) : Type 0 where
   pub machine : Machine
   pub led : (left : List (List ℕ)) (later : List Reply) → told_by_lines job (lines ++ left) (replies ++ later) s ≡ told_by_lines job left later machine
-  pub stands : StandsIn job sessions.books sessions.session machine
+  pub stands : StandsAt job sessions machine
 
 -- the lines in front of the rest were done: their replies are behind those before, and lead on from wherever the job stood
 pub record Serves (job : ℕ) (lines rest : List (List ℕ)) (old new : Running) : Type 0 where
@@ -125,11 +138,11 @@ pub record Serves (job : ℕ) (lines rest : List (List ℕ)) (old new : Running)
   pub their_replies : List Reply
   pub split : lines ≡ lines_done ++ rest
   pub replied : new.replies ≡ old.replies ++ their_replies
-  pub leads : (s : Machine) → StandsIn job old.sessions.books old.sessions.session s → Leads job lines_done their_replies s new.sessions
+  pub leads : (s : Machine) → StandsAt job old.sessions s → Leads job lines_done their_replies s new.sessions
 
 -- while a transaction is open from here to there all that is written is LOCKs
 abbrev pub Keeps : Running → Running → Type 0
-Keeps old new = is_open old.sessions.session ≡ true → is_open new.sessions.session ≡ true → AreStillTold (units_behind old.sessions.books old.sessions.session) (units_behind new.sessions.books new.sessions.session)
+Keeps old new = is_open old.sessions.session ≡ true → is_open new.sessions.session ≡ true → AreToldOn old.sessions new.sessions
 
 -- a line was answered
 pub record HasAnswered (job : ℕ) (line : Line) (old new : Running) : Type 0 where
@@ -148,6 +161,14 @@ pub record Reaches (job : ℕ) (text : List ℕ) (behind : Cursor) (old new : Ru
   pub serves : Serves job (lines_of_script text) (lines_of_script behind.lines.now) old new
 
 -- ---- blocks
+
+-- none of the commands is HALT
+abbrev pub HaveNoHalt : List Command → Type 0
+HaveNoHalt commands = All (λ (c : Command). c ≢ Halt) commands
+
+-- all are data commands
+abbrev pub AreDataCommands : List Command → Type 0
+AreDataCommands commands = All (λ (c : Command). (d : DataCommand) × (c ≡ Access d)) commands
 
 -- the lines of a block were done, whatever lines they stand in front of
 abbrev pub ServesBlock : Block → Running → Running → Type 0
@@ -174,19 +195,24 @@ HasJustBegun (Some t) = (t.level ≡ 1) × (t.exchanges ≡ [])
 pub record Begins (job : ℕ) (old new : Running) : Type 0 where
   pub reply : Reply
   pub replied : new.replies ≡ old.replies ++ reply ∷ []
-  pub stands : (s : Machine) → StandsIn job old.sessions.books old.sessions.session s → StandsIn job new.sessions.books new.sessions.session (told job Start reply s) × HasJustBegun (transaction_of job (told job Start reply s))
+  pub stands : (s : Machine) → StandsAt job old.sessions s → StandsAt job new.sessions (told job Start reply s) × HasJustBegun (transaction_of job (told job Start reply s))
 
 -- the outermost TCOMMIT began the transaction anew, and no reply was kept
 abbrev pub WasOvertaken : ℕ → Running → Running → Type 0
 WasOvertaken job old new = (new.replies ≡ old.replies) × (restarts : ℕ) × GoesOn (told job Commit (Restarted restarts)) job old.sessions new.sessions
 
+-- a line of a block was tried: it was done, and perhaps some of those behind it, up to this place; or it is a TCOMMIT that began the transaction anew
+abbrev pub HasTried : ℕ → Line → Option Cursor → Running → Running → Type 0
+HasTried job line None old new = WasOvertaken job old new
+HasTried job line (Some behind) old new = Advances job line behind old new × Keeps old new
+
 -- the transaction is still open, and what was told before is still told
 abbrev pub IsStillOpen : Running → Running → Type 0
-IsStillOpen old new = is_open old.sessions.session ≡ true → (is_open new.sessions.session ≡ true) × AreStillTold (units_behind old.sessions.books old.sessions.session) (units_behind new.sessions.books new.sessions.session)
+IsStillOpen old new = is_open old.sessions.session ≡ true → (is_open new.sessions.session ≡ true) × AreToldOn old.sessions new.sessions
 
 -- the job stands again as behind its TSTART
 abbrev pub IsBack : ℕ → Running → Running → Type 0
-IsBack job old new = (first : Machine) → StandsIn job old.sessions.books old.sessions.session first → HasJustBegun (transaction_of job first) → StandsIn job new.sessions.books new.sessions.session first
+IsBack job old new = (first : Machine) → StandsAt job old.sessions first → HasJustBegun (transaction_of job first) → StandsAt job new.sessions first
 
 -- the replies are those before and more
 abbrev pub GoesOnFrom : List Reply → List Reply → Type 0

@@ -2,7 +2,7 @@
 ghost use Rattle.std.specs.Prelude.{◌≡◌, false, IfOk, IfSome, IfNone, OnOk};
 ghost use Rattle.command.specs.declared.request.Command.{Command};
 ghost use Rattle.job_scripts.specs.Blocks.{Asks};
-ghost use Rattle.job_server.specs.Telling.{is_open as is_open_in, IsAsked, Keeps, Advances, Reaches, WasOvertaken, IsBack, GoesOnFrom};
+ghost use Rattle.job_server.specs.Telling.{is_open as is_open_in, IsAsked, Advances, Reaches, HasTried, IsBack, GoesOnFrom};
 
 use crate::ServerFault;
 use crate::cursor::{Cursor, Line};
@@ -29,9 +29,7 @@ impl<'a, B: BoardName, R: Wait, G: Gate> Worker<'a, B, R, G> {
         line: Line<'b>,
     ) -> Result<Option<Cursor<'b>>, ServerFault>
         requires { Asks line.text.now Command.Commit }
-        ensures on { IfOk result (λ ended. IfSome ended (λ behind. Advances job line.entry behind run.old run.new)) }
-        ensures keeps { IfOk result (λ ended. IfSome ended (λ behind. Keeps run.old run.new)) }
-        ensures again { IfOk result (λ ended. IfNone ended (WasOvertaken job run.old run.new)) }
+        ensures { IfOk result (λ ended. HasTried job line.entry ended run.old run.new) }
     {
         let reply = self.do_line(&mut run.sessions, job, line, Ok(Command::Commit))?;
         if push_unless_restarted(&mut run.replies, reply)? {
@@ -49,9 +47,7 @@ impl<'a, B: BoardName, R: Wait, G: Gate> Worker<'a, B, R, G> {
         command: Command,
     ) -> Result<Option<Cursor<'b>>, ServerFault>
         requires { Asks line.text.now command }
-        ensures on { IfOk result (λ ended. IfSome ended (λ behind. Advances job line.entry behind run.old run.new)) }
-        ensures keeps { IfOk result (λ ended. IfSome ended (λ behind. Keeps run.old run.new)) }
-        ensures again { IfOk result (λ ended. IfNone ended (WasOvertaken job run.old run.new)) }
+        ensures { IfOk result (λ ended. HasTried job line.entry ended run.old run.new) }
     {
         match command {
             Command::Commit => self.try_commit(run, job, line),
@@ -69,9 +65,7 @@ impl<'a, B: BoardName, R: Wait, G: Gate> Worker<'a, B, R, G> {
         asked: Result<Command, Refusal>,
     ) -> Result<Option<Cursor<'b>>, ServerFault>
         requires { IsAsked line.text.now asked }
-        ensures on { IfOk result (λ ended. IfSome ended (λ behind. Advances job line.entry behind run.old run.new)) }
-        ensures keeps { IfOk result (λ ended. IfSome ended (λ behind. Keeps run.old run.new)) }
-        ensures again { IfOk result (λ ended. IfNone ended (WasOvertaken job run.old run.new)) }
+        ensures { IfOk result (λ ended. HasTried job line.entry ended run.old run.new) }
     {
         match asked {
             Ok(command) => self.try_command(run, job, line, command),

@@ -1,10 +1,8 @@
 //! Lines of a job that are done under one hold of the engine's lock. The gate isn't told.
-ghost use Rattle.std.specs.Prelude.{◌≡◌, ◌≢◌, ◌++◌, ℕ, List, IfOk, OnOk};
-ghost use Rattle.std.specs.List.{All};
-ghost use Rattle.command.specs.declared.access.DataCommand.{DataCommand};
+ghost use Rattle.std.specs.Prelude.{◌≡◌, ◌++◌, IfOk, OnOk};
 ghost use Rattle.command.specs.declared.request.Command.{Command};
 ghost use Rattle.job_scripts.specs.Blocks.{in_place, Asks};
-ghost use Rattle.job_server.specs.Telling.{Keeps, Advances, Reaches, ServesBlock, HasRun, HasReadAll};
+ghost use Rattle.job_server.specs.Telling.{Keeps, Advances, Reaches, HaveNoHalt, AreDataCommands, ServesBlock, HasRun, HasReadAll};
 
 use crate::ServerFault;
 use crate::cursor::{Cursor, Line};
@@ -40,7 +38,7 @@ impl<'a, B: BoardName, R: Wait, G: Gate> Worker<'a, B, R, G> {
         session: &mut Session<B>,
         commands: Vec<Command>,
     ) -> Result<Vec<Reply>, ServerFault>
-        requires { All (λ (c : Command). c ≢ Command.Halt) commands.items }
+        requires { HaveNoHalt commands.items }
         ensures { IfOk result (λ served. HasRun commands.items served.items (Some session.old) (Some session.new)) }
     {
         if session.tlevel() > 0 && !session.is_fresh() {
@@ -60,7 +58,7 @@ impl<'a, B: BoardName, R: Wait, G: Gate> Worker<'a, B, R, G> {
         session: &mut Option<Session<B>>,
         commands: Vec<Command>,
     ) -> Result<Vec<Reply>, ServerFault>
-        requires { All (λ (c : Command). c ≢ Command.Halt) commands.items }
+        requires { HaveNoHalt commands.items }
         ensures { IfOk result (λ served. HasRun commands.items served.items session.old session.new) }
     {
         match session {
@@ -78,7 +76,7 @@ impl<'a, B: BoardName, R: Wait, G: Gate> Worker<'a, B, R, G> {
         session: &mut Session<B>,
         commands: Vec<Command>,
     ) -> Result<Vec<Reply>, ServerFault>
-        requires { All (λ (c : Command). (d : DataCommand) × (c ≡ Command.Access d)) commands.items }
+        requires { AreDataCommands commands.items }
         ensures { IfOk result (λ served. HasReadAll commands.items served.items (Some session.old) (Some session.new)) }
     {
         if session.tlevel() == 0 {
@@ -98,7 +96,7 @@ impl<'a, B: BoardName, R: Wait, G: Gate> Worker<'a, B, R, G> {
         session: &mut Option<Session<B>>,
         commands: Vec<Command>,
     ) -> Result<Vec<Reply>, ServerFault>
-        requires { All (λ (c : Command). (d : DataCommand) × (c ≡ Command.Access d)) commands.items }
+        requires { AreDataCommands commands.items }
         ensures { IfOk result (λ served. HasReadAll commands.items served.items session.old session.new) }
     {
         match session {
@@ -139,7 +137,7 @@ impl<'a, B: BoardName, R: Wait, G: Gate> Worker<'a, B, R, G> {
         number: u64,
         block: Block<'b>,
     ) -> Result<Cursor<'b>, ServerFault>
-        requires { All (λ (c : Command). c ≢ Command.Halt) block.commands.items }
+        requires { HaveNoHalt block.commands.items }
         ensures rest { IfOk result (λ behind. behind.lines.now ≡ block.entry.rest.now) }
         ensures served { OnOk result (ServesBlock block.entry run.old run.new) }
     {
@@ -163,7 +161,7 @@ impl<'a, B: BoardName, R: Wait, G: Gate> Worker<'a, B, R, G> {
         number: u64,
         block: Block<'b>,
     ) -> Result<Cursor<'b>, ServerFault>
-        requires { All (λ (c : Command). (d : DataCommand) × (c ≡ Command.Access d)) block.commands.items }
+        requires { AreDataCommands block.commands.items }
         ensures rest { IfOk result (λ behind. behind.lines.now ≡ block.entry.rest.now) }
         ensures served { OnOk result (ServesBlock block.entry run.old run.new) }
         ensures keeps { OnOk result (Keeps run.old run.new) }

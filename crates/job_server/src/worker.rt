@@ -1,15 +1,13 @@
 //! The lines of one job, and of one job after the other.
-ghost use Rattle.std.specs.Prelude.{◌≡◌, [], List, ℕ, None, Some, true, slice_get, IfOk, OnOk};
-ghost use Rattle.std.specs.List.{All};
+ghost use Rattle.std.specs.Prelude.{◌≡◌, [], None, Some, true, slice_get, IfOk, OnOk};
 ghost use Rattle.command.specs.declared.request.Command.{Command};
 ghost use Rattle.command.specs.declared.request.Reply.{Reply};
 ghost use Rattle.job_scripts.specs.Blocks.{Asks};
 ghost use Rattle.job_scripts.specs.Lines.{lines_of_script};
-ghost use Rattle.job_scripts.specs.Reports.{is_refused};
 ghost use Rattle.std.proofs.Props.{props};
 ghost use Rattle.job_server.specs.Served.{wanted, IsReport, IsReportAt};
 ghost use Rattle.job_server.specs.Told.{IsTold};
-ghost use Rattle.job_server.specs.Telling.{Serves, Advances, not_begun};
+ghost use Rattle.job_server.specs.Telling.{AreRefused, Serves, Advances, not_begun};
 
 use crate::ServerFault;
 use crate::cursor::{Cursor, Line};
@@ -139,7 +137,7 @@ fn refuse_line(
     drafts: &mut Drafts,
     replies: &mut Vec<Reply>,
 ) -> Result<(), AllocError>
-    ensures { All (λ (r : Reply). is_refused r ≡ true) replies.old.items → OnOk result (All (λ (r : Reply). is_refused r ≡ true) replies.new.items) }
+    ensures { AreRefused replies.old.items → OnOk result (AreRefused replies.new.items) }
 {
     let refusal = refusal_of(read_line(alloc, line, drafts));
     replies.push(Reply::Refused(refusal))?;
@@ -153,7 +151,7 @@ fn refuse_lines(
     drafts: &mut Drafts,
     replies: &mut Vec<Reply>,
 ) -> Result<(), AllocError>
-    ensures { All (λ (r : Reply). is_refused r ≡ true) replies.old.items → OnOk result (All (λ (r : Reply). is_refused r ≡ true) replies.new.items) }
+    ensures { AreRefused replies.old.items → OnOk result (AreRefused replies.new.items) }
 {
     let mut place = Cursor::new(lines);
     'lines: while let Some(line) = place.next() {

@@ -1,5 +1,4 @@
 use Rattle.command.specs.declared.request.Command.TheVariants.{Halt}
-use Rattle.command.specs.declared.request.Reply.TheVariants.{Finished}
 use Rattle.journal.specs.Story.{told}
 use Rattle.job_server.specs.Telling.{sessions_so_far}
 use Rattle.job_server.proofs.GoingOn.{goes_from}
