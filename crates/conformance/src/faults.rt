@@ -270,9 +270,72 @@ impl RunLog for Told {
         }
     }
 
+    fn done(&mut self, _number: u64, _line: &[u8]) -> bool {
+        false
+    }
+
+    fn shown(&mut self, _core: &JobCore) {}
+
     fn ended(&mut self, core: &JobCore) {
         self.units = core.journal().len();
     }
+}
+
+// Asks to be shown the core at an empty line. How many bytes were written then, how many units there were, and which line
+// was done last.
+#[derive(Drop)]
+struct Looking<'a> {
+    written: &'a Cell<usize>,
+    bytes: usize,
+    units: u64,
+    lines: u64,
+}
+
+impl RunLog for Looking<'_> {
+    fn refused(&mut self, _number: u64, _line: &[u8], _refusal: Refusal) {}
+
+    fn done(&mut self, number: u64, line: &[u8]) -> bool {
+        self.lines = number;
+        line.is_empty()
+    }
+
+    fn shown(&mut self, core: &JobCore) {
+        self.bytes = self.written.get();
+        self.units = core.journal().len();
+    }
+
+    fn ended(&mut self, _core: &JobCore) {}
+}
+
+// What such a log finds: lines, bytes, units.
+fn looked(alloc: Global) -> Result<(u64, usize, u64), Fail> {
+    let written = Cell::new(0);
+    let mut reader = reader_of(b"1 SET ^A=1\n1 SET ^B=1\n\n2 SET ^C=1\n", 100, NONE);
+    let mut writer = Counted::new(Heard { written: &written });
+    let mut log = Looking {
+        written: &written,
+        bytes: 0,
+        units: 0,
+        lines: 0,
+    };
+    let outcome = run_with(
+        alloc,
+        false,
+        Upkeep::none(),
+        &mut reader,
+        &mut writer,
+        &mut log,
+    );
+    if outcome != ample_run(false) {
+        return Ok((0, 0, 0));
+    }
+    Ok((log.lines, log.bytes, log.units))
+}
+
+#[test]
+fn a_log_is_shown_the_core_after_the_replies(rt: HostRuntime) -> Result<(), Fail> {
+    assert_eq!(rt; looked(rt.alloc())?, (4, 10, 2));
+    Ok(())
 }
 
 // A run without a want of memory.

@@ -12,14 +12,16 @@
 //!
 //! Read `specs/Lines.antt`, `specs/Settings.antt`, `specs/Loaded.antt`, `specs/Statements.antt`, then `lines.rt`,
 //! `settings.rt`.
-//! Not promised: that memory is there; at which byte of its line a fault is.
+//! Not promised: that memory is there; at which byte of its line a fault is; what a log is told.
 #![tactic(auto)]
 
 pub use fault::{FaultyLine, LoadFault};
 pub use laws::listings_load_back;
-pub use settings::load;
+pub use log::{LoadLog, NoLog};
+pub use settings::{load, load_with};
 
 mod fault;
 mod laws;
 mod lines;
+mod log;
 mod settings;

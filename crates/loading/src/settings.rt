@@ -10,7 +10,7 @@ ghost use Rattle.loading.specs.Loaded.{counted, with_settings, is_answered, IsFi
 ghost use Rattle.script.specs.declared.expected.Expected.{Expected as ExpectedView};
 
 use crate::lines::{are_headers, line_end, strip_return};
-use crate::{FaultyLine, LoadFault};
+use crate::{FaultyLine, LoadFault, LoadLog, NoLog};
 use collation::Job;
 use command::{Command, Reply};
 use job_core::JobCore;
@@ -159,6 +159,7 @@ fn load_lines(
     page: &mut Page,
     first: u64,
     text: &[u8],
+    log: &mut impl LoadLog,
 ) -> Result<(), LoadFault>
     requires { core.old.machine.transactions ≡ finmap.empty }
     ensures ok { OnOk result (HasSetAll (asked_from first (all_lines text.now)) core.old.machine core.new.machine) }
@@ -169,10 +170,32 @@ fn load_lines(
     'lines: while !rest.is_empty() {
         let (line, more) = split_line(rest);
         load_line(alloc, core, page, number, line)?;
+        log.loaded(number);
         number = number.saturating_add(1);
         rest = more;
     }
     Ok(())
+}
+
+/// Loads a text as `load` does, and tells the log of each line.
+pub fn load_with(alloc: Global, text: &[u8], log: &mut impl LoadLog) -> Result<JobCore, LoadFault>
+    ensures loaded { IfOk result (λ core. IsLoaded text.now core.machine) }
+    ensures legal { IfOk result (λ core. IsLegal core.machine.units initial) }
+    ensures closed { IfOk result (λ core. core.machine.transactions ≡ finmap.empty) }
+    ensures refused { IfErr result (IsFaultOf (settings_of text.now)) }
+{
+    let (number, rest) = past_headers(text);
+    let mut core = JobCore::new(alloc);
+    let mut page = Page::new(alloc);
+    let loaded = load_lines(alloc, &mut core, &mut page, number, rest, log);
+    drop(page);
+    match loaded {
+        Ok(()) => Ok(core),
+        Err(fault) => {
+            drop(core);
+            Err(fault)
+        }
+    }
 }
 
 /// A core with the database of a text: each of its lines is a SET of job 1, in order, so that of a reference's values
@@ -190,16 +213,5 @@ pub fn load(alloc: Global, text: &[u8]) -> Result<JobCore, LoadFault>
     ensures closed { IfOk result (λ core. core.machine.transactions ≡ finmap.empty) }
     ensures refused { IfErr result (IsFaultOf (settings_of text.now)) }
 {
-    let (number, rest) = past_headers(text);
-    let mut core = JobCore::new(alloc);
-    let mut page = Page::new(alloc);
-    let loaded = load_lines(alloc, &mut core, &mut page, number, rest);
-    drop(page);
-    match loaded {
-        Ok(()) => Ok(core),
-        Err(fault) => {
-            drop(core);
-            Err(fault)
-        }
-    }
+    load_with(alloc, text, &mut NoLog)
 }

@@ -16,7 +16,7 @@ use job_server::{JobsFault, Served, serve_text, status_of, write_served};
 use journal_lines::{JournalFault, write_journal};
 use listing::{Counted, read_all};
 use program_front::{
-    MjobsArgs, Piped, arguments_of, create_named, mjobs_args_of, path_of, print_bad_name,
+    MjobsArgs, Piped, Progress, arguments_of, create_named, mjobs_args_of, path_of, print_bad_name,
     print_fault, print_help_or_error, print_refused, print_unopened, print_unwritten,
 };
 use script::{Drafts, read_line};
@@ -26,45 +26,26 @@ use std::io::{IsTerminal, Read, Write};
 use std::process::ExitCode;
 use std::rt::{Clock, Files};
 use std::sync::Wait;
-use std::sync::atomic::{AtomicU64, Ordering};
 use std::thread::Threads;
-use std::time::{Duration, Instant};
+use std::time::Duration;
 use std::{fs, io, thread};
 
 // The program's name, before what it prints on standard error.
 const PROGRAM: &str = "mjobs";
 
-// When jobs were begun, and after how many seconds their progress was told last.
-#[derive(Drop)]
-struct Progress {
-    begun: Instant,
-    told: AtomicU64,
-}
-
-impl Progress {
-    // From now on.
-    fn new(rt: &impl Clock) -> Option<Progress> {
-        Some(Progress {
-            begun: Instant::now(rt).ok()?,
-            told: AtomicU64::new(0),
-        })
-    }
-
-    // Tells it on standard error, in one line that is written over: at most once a second, and at the end of what took
-    // longer.
-    fn tell(&self, rt: &(impl Clock + Eprint), done: u64, jobs: u64, lines: u64) {
-        let seconds = match self.begun.elapsed(rt) {
-            Ok(elapsed) => elapsed.as_secs(),
-            Err(_) => return,
-        };
-        let is_end = done == jobs;
-        if seconds <= self.told.load(Ordering::Relaxed) && !(is_end && seconds > 0) {
-            return;
-        }
-        self.told.store(seconds, Ordering::Relaxed);
+// Tells on standard error how many jobs are done, in one line that is written over, and clears it at the end.
+fn tell_progress(
+    rt: &(impl Clock + Eprint),
+    progress: &Progress,
+    done: u64,
+    jobs: u64,
+    lines: u64,
+) {
+    if done == jobs {
+        progress.clear(rt);
+    } else if let Some(seconds) = progress.due(rt) {
         let pace = lines.checked_div(seconds).unwrap_or(lines);
-        let end = if is_end { "\n" } else { "" };
-        let _ = eprint!(rt; "\r{PROGRAM}: {done} of {jobs} jobs, {pace} lines a second  {end}");
+        let _ = eprint!(rt; "\r{PROGRAM}: {done} of {jobs} jobs, {pace} lines a second  ");
     }
 }
 
@@ -100,7 +81,7 @@ impl<'a, P: Clock + Eprint> Gate for Patience<'a, P> {
 
     fn job_done(&self, done: u64, jobs: u64, lines: u64) {
         if let Some(progress) = &self.progress {
-            progress.tell(self.rt, done, jobs, lines);
+            tell_progress(self.rt, progress, done, jobs, lines);
         }
     }
 }

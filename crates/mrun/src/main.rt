@@ -4,7 +4,8 @@
 //! What is printed is what `script_run::run_with_core` promises, the exit status is `script_run::status_of` of its outcome
 //! and the text of a fault is `script_run::Fault::text`; what its words ask for is `program_front::mrun_args_of`, and what
 //! a listing leaves that is loaded first is what `loading::load` promises, what is written of the journal what
-//! `journal_lines::write_journal` does. This file only opens files and prints what went wrong:
+//! `journal_lines::write_journal` does. This program only opens files, tells on terminals what is done, and prints what went
+//! wrong:
 //!
 //! 0, all replies are accepted; 1, a reply is an `error`; 2, a fault, or wrong arguments; standard error says which.
 #![tactic(auto)]
@@ -14,79 +15,41 @@ ghost use Rattle.std.specs.FinMap as finmap;
 ghost use Rattle.journal.specs.History.{initial, IsLegal};
 
 use job_core::JobCore;
-use journal_lines::{JournalFault, write_journal};
+use journal_lines::JournalFault;
 use listing::{Counted, InputFault, read_all};
-use loading::{LoadFault, load};
+use loading::{LoadFault, load_with};
 use program_front::{
     MrunArgs, NamePlace, Piped, arguments_of, create_named, mrun_args_of, path_of, print_bad_name,
-    print_fault, print_faulty_line, print_greeting, print_help_or_error, print_mark, print_refused,
-    print_unloaded, print_unopened, print_unwritten, print_wanting,
+    print_fault, print_faulty_line, print_help_or_error, print_unloaded, print_unopened,
+    print_unwritten, print_wanting,
 };
-use refusal::Refusal;
-use script_run::{Fault, Outcome, RunLog, Upkeep, run_with_core, status_of};
-use statistics::{Statistics, print_statistics};
+use script_run::{Fault, Outcome, Upkeep, run_with_core, status_of};
+use side_log::{SideLog, Source, Telling};
 use std::alloc::AllocError;
 use std::io::{IsTerminal, Read, Write};
 use std::process::ExitCode;
-use std::rt::Files;
+use std::rt::{Clock, Files};
 use std::{fs, io};
+use ticker::Ticker;
 
+mod look;
+mod side_log;
 mod statistics;
+mod ticker;
 
 // The program's name, before what it prints on standard error.
 const PROGRAM: &str = "mrun";
 
-// How refused lines are told on standard error.
+// What is told on a terminal beside what is asked for: how lines are typed and what stands there, or how far a load and a
+// script from a file are. Progress isn't told where replies are seen on a terminal.
 #[derive(Clone, Copy, Debug, PartialEq, Eq)]
-enum Telling {
-    // Not at all.
-    Nothing,
-    // By the line's number, the column, the refusal and what was expected there.
-    ByNumber,
-    // By a mark under the line, which has just been typed, and what was expected there.
-    UnderLine,
-}
-
-// Tells on standard error of refused lines, and at the end of what the engine holds, and writes the journal then, where it
-// is asked for. What can't be printed there is left out; what the journal's writing came to is kept.
-struct SideLog<'a, P, F> {
-    rt: &'a P,
-    telling: Telling,
-    statistics: bool,
-    journal: Option<Counted<F>>,
-    unwritten: Option<JournalFault>,
-}
-
-impl<'a, P, F: Drop> Drop for SideLog<'a, P, F> {
-    fn drop(self) {
-        let SideLog {
-            rt: _,
-            telling: _,
-            statistics: _,
-            journal,
-            unwritten: _,
-        } = self;
-        drop(journal);
-    }
-}
-
-impl<'a, P: Eprint + AllocGlobal, F: Write + Drop> RunLog for SideLog<'a, P, F> {
-    fn refused(&mut self, number: u64, line: &[u8], refusal: Refusal) {
-        match self.telling {
-            Telling::Nothing => {}
-            Telling::ByNumber => print_refused(self.rt, PROGRAM, number, line, refusal),
-            Telling::UnderLine => print_mark(self.rt, line, refusal),
-        }
-    }
-
-    fn ended(&mut self, core: &JobCore) {
-        if self.statistics {
-            print_statistics(self.rt, PROGRAM, &Statistics::of(core));
-        }
-        if let Some(journal) = &mut self.journal {
-            self.unwritten = write_journal(self.rt.alloc(), core.journal(), journal).err();
-        }
-    }
+struct Terminals {
+    // Standard input and standard error are terminals: lines of standard input are typed.
+    typed: bool,
+    // Standard error is one.
+    loads: bool,
+    // And standard output isn't.
+    scripts: bool,
 }
 
 // Prints why the journal wasn't written whole, and answers the exit status.
@@ -117,8 +80,9 @@ fn print_load_fault(rt: &impl Eprint, name: &str, fault: LoadFault) -> u8 {
 
 // The core of a listing, or the exit status where there is none.
 fn load_from<R: Read + Drop>(
-    rt: &(impl Eprint + AllocGlobal),
+    rt: &(impl Eprint + AllocGlobal + Clock),
     name: &str,
+    tells: bool,
     input: R,
 ) -> Result<JobCore, u8>
     ensures legal { IfOk result (λ core. IsLegal core.machine.units initial) }
@@ -131,7 +95,10 @@ fn load_from<R: Read + Drop>(
             return Err(print_unloaded(rt, PROGRAM, name, Fault::Memory.text()));
         }
     };
-    match load(rt.alloc(), &text) {
+    let mut ticker = Ticker::new(rt, name, tells);
+    let loaded = load_with(rt.alloc(), &text, &mut ticker);
+    ticker.clear();
+    match loaded {
         Ok(core) => Ok(core),
         Err(fault) => Err(print_load_fault(rt, name, fault)),
     }
@@ -139,9 +106,10 @@ fn load_from<R: Read + Drop>(
 
 // The core of the listing whose name stands there.
 fn load_named(
-    rt: &(impl Files + Eprint + AllocGlobal),
+    rt: &(impl Files + Eprint + AllocGlobal + Clock),
     arguments: &[Vec<u8>],
     place: NamePlace,
+    tells: bool,
 ) -> Result<JobCore, u8>
     ensures legal { IfOk result (λ core. IsLegal core.machine.units initial) }
     ensures closed { IfOk result (λ core. core.machine.transactions ≡ finmap.empty) }
@@ -150,22 +118,23 @@ fn load_named(
         return Err(print_bad_name(rt, PROGRAM));
     };
     match fs::open(rt, path) {
-        Ok(file) => load_from(rt, path, file),
+        Ok(file) => load_from(rt, path, tells, file),
         Err(why) => Err(print_unopened(rt, PROGRAM, path, why)),
     }
 }
 
 // A new core, or that of the listing that is asked for.
 fn first_core(
-    rt: &(impl Files + Eprint + AllocGlobal),
+    rt: &(impl Files + Eprint + AllocGlobal + Clock),
     arguments: &[Vec<u8>],
     load: Option<NamePlace>,
+    tells: bool,
 ) -> Result<JobCore, u8>
     ensures legal { IfOk result (λ core. IsLegal core.machine.units initial) }
     ensures closed { IfOk result (λ core. core.machine.transactions ≡ finmap.empty) }
 {
     match load {
-        Some(place) => load_named(rt, arguments, place),
+        Some(place) => load_named(rt, arguments, place, tells),
         None => Ok(JobCore::new(rt.alloc())),
     }
 }
@@ -190,18 +159,10 @@ fn tell_outcome(
     }
 }
 
-// Counts the failures of the journal's file.
-fn counted<F: Drop>(journal: Option<F>) -> Option<Counted<F>> {
-    match journal {
-        Some(file) => Some(Counted::new(file)),
-        None => None,
-    }
-}
-
 fn run_from<R: Read + Drop, F: Write + Drop>(
-    rt: &(impl Print + Eprint + AllocGlobal),
+    rt: &(impl Print + Eprint + AllocGlobal + Clock),
     args: MrunArgs,
-    typed: bool,
+    source: Source<'_>,
     core: JobCore,
     input: R,
     journal: Option<F>,
@@ -211,14 +172,7 @@ fn run_from<R: Read + Drop, F: Write + Drop>(
 {
     let mut reader = Counted::new(input);
     let mut writer = Counted::new(Piped::new(io::writer(rt)));
-    let telling = greeted(rt, args, typed);
-    let mut log = SideLog {
-        rt,
-        telling,
-        statistics: args.statistics,
-        journal: counted(journal),
-        unwritten: None,
-    };
+    let mut log = SideLog::new(rt, args, source, journal);
     let outcome = run_with_core(
         rt.alloc(),
         core,
@@ -231,31 +185,19 @@ fn run_from<R: Read + Drop, F: Write + Drop>(
         &mut writer,
         &mut log,
     );
-    tell_outcome(rt, telling, outcome, writer.inner().is_closed());
-    match log.unwritten {
+    tell_outcome(rt, log.telling(), outcome, writer.inner().is_closed());
+    match log.unwritten() {
         Some(fault) => print_journal_fault(rt, fault),
         None => status_of(&outcome),
     }
 }
 
-// How refused lines of standard input are told. Where they are typed, by a mark under each.
-fn greeted(rt: &impl Eprint, args: MrunArgs, typed: bool) -> Telling {
-    if typed {
-        print_greeting(rt, PROGRAM);
-    }
-    match (args.errors, typed) {
-        (true, _) => Telling::ByNumber,
-        (false, true) => Telling::UnderLine,
-        (false, false) => Telling::Nothing,
-    }
-}
-
 // Runs the script from its input, once the journal's file is there, if one is asked for.
 fn run_into<R: Read + Drop>(
-    rt: &(impl Files + Print + Eprint + AllocGlobal),
+    rt: &(impl Files + Print + Eprint + AllocGlobal + Clock),
     arguments: &[Vec<u8>],
     args: MrunArgs,
-    typed: bool,
+    source: Source<'_>,
     core: JobCore,
     input: R,
 ) -> u8
@@ -263,7 +205,7 @@ fn run_into<R: Read + Drop>(
     requires closed { core.machine.transactions ≡ finmap.empty }
 {
     match create_named(rt, PROGRAM, arguments, args.journal) {
-        Ok(journal) => run_from(rt, args, typed, core, input, journal),
+        Ok(journal) => run_from(rt, args, source, core, input, journal),
         Err(status) => {
             drop(core);
             status
@@ -273,24 +215,36 @@ fn run_into<R: Read + Drop>(
 
 // Runs the script from a core that is new or loaded.
 fn run_on(
-    rt: &(impl Files + Print + Eprint + Input + AllocGlobal),
+    rt: &(impl Files + Print + Eprint + Input + AllocGlobal + Clock),
     arguments: &[Vec<u8>],
     args: MrunArgs,
-    typed: bool,
+    terminals: Terminals,
     core: JobCore,
 ) -> u8
     requires legal { IsLegal core.machine.units initial }
     requires closed { core.machine.transactions ≡ finmap.empty }
 {
     let Some(name) = args.file.and_then(|place| arguments.get(place)) else {
-        return run_into(rt, arguments, args, typed, core, rt.reader());
+        let source = Source {
+            typed: terminals.typed,
+            name: "standard input",
+            tells: false,
+        };
+        return run_into(rt, arguments, args, source, core, rt.reader());
     };
     let Some(path) = path_of(name) else {
         drop(core);
         return print_bad_name(rt, PROGRAM);
     };
     match fs::open(rt, path) {
-        Ok(file) => run_into(rt, arguments, args, false, core, file),
+        Ok(file) => {
+            let source = Source {
+                typed: false,
+                name: path,
+                tells: terminals.scripts,
+            };
+            run_into(rt, arguments, args, source, core, file)
+        }
         Err(why) => {
             drop(core);
             print_unopened(rt, PROGRAM, path, why)
@@ -299,24 +253,29 @@ fn run_on(
 }
 
 fn run_with_arguments(
-    rt: &(impl Files + Print + Eprint + Input + AllocGlobal),
+    rt: &(impl Files + Print + Eprint + Input + AllocGlobal + Clock),
     arguments: &[Vec<u8>],
-    typed: bool,
+    terminals: Terminals,
 ) -> u8 {
     let args = match mrun_args_of(rt.alloc(), arguments) {
         Ok(args) => args,
         Err(error) => return print_help_or_error(rt, PROGRAM, error),
     };
-    match first_core(rt, arguments, args.load) {
-        Ok(core) => run_on(rt, arguments, args, typed, core),
+    match first_core(rt, arguments, args.load, terminals.loads) {
+        Ok(core) => run_on(rt, arguments, args, terminals, core),
         Err(status) => status,
     }
 }
 
 fn main(rt: HostRuntime) -> ExitCode {
-    let typed = rt.stdin().is_terminal() && rt.stderr().is_terminal();
+    let told = rt.stderr().is_terminal();
+    let terminals = Terminals {
+        typed: told && rt.stdin().is_terminal(),
+        loads: told,
+        scripts: told && !rt.stdout().is_terminal(),
+    };
     match arguments_of(&rt) {
-        Ok(arguments) => ExitCode::from(run_with_arguments(&rt, &arguments, typed)),
+        Ok(arguments) => ExitCode::from(run_with_arguments(&rt, &arguments, terminals)),
         Err(AllocError) => ExitCode::from(print_fault(&rt, PROGRAM, Fault::Memory.text())),
     }
 }

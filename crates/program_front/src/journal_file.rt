@@ -6,8 +6,8 @@ use crate::words::NamePlace;
 use std::fs;
 use std::rt::Files;
 
-/// Creates the file whose name stands there among the arguments, where one is asked for. Where it can't be created a line on
-/// standard error says why, and the exit status is answered.
+/// Creates the file whose name stands there among the arguments, where one is asked for. Where it can't be created a
+/// line on standard error says why, and the exit status is answered.
 pub fn create_named<P: Files + Eprint>(
     rt: &P,
     program: &str,

@@ -8,7 +8,8 @@
 //! No contract says what the arguments ask for: tests run the parser on them. One says that each print of what went
 //! wrong answers the exit status of a fault, and some say what a `Piped` holds and when it is closed.
 //!
-//! Read `run_words.rt`, `jobs_words.rt`, `words.rt`, then `piped.rt`, `printing.rt`, `journal_file.rt`.
+//! Read `run_words.rt`, `jobs_words.rt`, `words.rt`, then `piped.rt`, `progress.rt`, `printing.rt`,
+//! `journal_file.rt`.
 #![tactic(auto)]
 
 pub use jobs_words::{MjobsArgs, mjobs_args_of};
@@ -19,6 +20,7 @@ pub use printing::{
     print_greeting, print_help_or_error, print_mark, print_refused, print_uncreated,
     print_unloaded, print_unopened, print_unwritten, print_wanting, room_before,
 };
+pub use progress::Progress;
 pub use run_words::{MrunArgs, mrun_args_of};
 pub use words::NamePlace;
 
@@ -26,5 +28,6 @@ mod jobs_words;
 mod journal_file;
 mod piped;
 mod printing;
+mod progress;
 mod run_words;
 mod words;

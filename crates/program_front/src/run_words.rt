@@ -27,7 +27,8 @@ At the end of input follow `--` and the listing of the database, which starts em
 --load FILE starts from a listing instead: lines ^Fruit(\"apple\",\"price\")=1.2, as they are printed or as other M systems
 write them in ZWR form. Where a line of it can't be read nothing runs.
 --journal FILE keeps a run: after mrun --journal done.txt script.txt, mrun done.txt leaves the same listing.
-Lines can be typed: each gets its reply at once, and Ctrl-D on an empty line ends the input.
+Lines can be typed: each gets its reply at once, Enter alone shows what is committed at and below the reference that the line
+before names, or all where it names none, and Ctrl-D on an empty line ends the input.
 
 --errors tells a refused line's number, the column of its fault, the refusal and what was expected there.
 --collect-every drops old versions of values that no transaction can see any more, --checkpoint-every what the journal

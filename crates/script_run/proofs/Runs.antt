@@ -144,6 +144,23 @@ Broke-after ls a b p q r h w = record {
   begun = Passes-begun p q r (a.out.items ++ text_of h.answers) b.out.items h.passes w;
 }
 
+-- no line came, and all that was gathered was written
+pub Ran-written : (a b : Script) (p q : Option (List ℕ)) → Appends p q a.out.items → b.core.machine ≡ a.core.machine → b.out.items ≡ [] → b.outcome ≡ a.outcome → b.jobs ≡ a.jobs → Ran [] a b p q
+Ran-written a b p q w u o r j = record {
+  answers = [];
+  of_lines = refl;
+  each = tt;
+  machine = u;
+  passes = subst (λ (ts : List ℕ). WritesFront p q ts b.out.items) (sym (append-nil a.out.items)) (Passes-all p q a.out.items b.out.items w o);
+  outcome = r ∙ sym (noted-none a.outcome);
+  jobs = j;
+  good = λ h. subst IsGood (sym u) h;
+}
+
+-- lines were answered, and then no more came
+pub Ran-and-none : (ls : List (List ℕ)) (a b c : Script) (p q r : Option (List ℕ)) → Ran ls a b p q → Ran [] b c q r → Ran ls a c p r
+Ran-and-none ls a b c p q r h k = subst (λ (l : List (List ℕ)). Ran l a c p r) (append-nil ls) (Ran-then ls [] a b c p q r h k)
+
 -- each line has the machine's reply, were there memory for all that is left
 pub exact-lines : (ls : List (List ℕ)) (s : Machine) → map (λ (x : Answer). x.0) (exact_answers ls s) ≡ ls
 exact-lines [] s = refl

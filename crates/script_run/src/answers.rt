@@ -1,7 +1,7 @@
 //! A line, its reply, and the reply's text.
 ghost use Rattle.std.specs.Prelude.{◌≡◌, ◌++◌, ◌∷◌, [], OnOk, OnErr, IsErrOf, ◌&&◌, not};
 ghost use Rattle.script.specs.Line.{job_of_line};
-ghost use Rattle.listing.specs.Bytes.{IsOneMore};
+ghost use Rattle.listing.specs.Bytes.{IsOneMore, WritesBeginning};
 ghost use Rattle.script_run.specs.Lines.{nonempty_line};
 ghost use Rattle.script_run.specs.Output.{asked_by, ends_session, is_halt as is_halt_command, IsAnswer, told_by};
 ghost use Rattle.script_run.specs.Runs.{Ran, Broke, Stopped};
@@ -13,7 +13,7 @@ use crate::{Outcome, RunLog};
 use collation::Job;
 use command::{Command, Reply};
 use job_core::JobCore;
-use listing::{Counted, ListingFault};
+use listing::{Counted, ListingFault, WriteFault};
 use script::{Drafts, read_line, write_reply};
 use std::alloc::Global;
 use std::io::Write;
@@ -101,7 +101,7 @@ fn run_line<W: Write>(
 }
 
 // A line without its end. An empty one is counted and passed over.
-pub(crate) fn run_kept<W: Write>(
+pub(crate) fn run_counted<W: Write>(
     alloc: Global,
     script: &mut Script,
     line: &[u8],
@@ -120,4 +120,59 @@ pub(crate) fn run_kept<W: Write>(
         [] => Ok(()),
         [_, ..] => run_line(alloc, script, line, writer, log),
     }
+}
+
+// All that is gathered is written, and the log is shown the core.
+fn show<W: Write>(
+    script: &mut Script,
+    writer: &mut Counted<W>,
+    log: &mut impl RunLog,
+) -> Result<(), WriteFault>
+    ensures ran { OnOk result (Ran [] script.old script.new (W.contents writer.old.inner) (W.contents writer.new.inner)) }
+    ensures err { OnErr result (WritesBeginning (W.contents writer.old.inner) (W.contents writer.new.inner) script.old.out.items) }
+    ensures kept { OnOk result (writer.new.failures ≡ writer.old.failures) }
+    ensures counted { OnErr result (IsOneMore writer.old.failures writer.new.failures) }
+{
+    writer.write_gathered(&mut script.out)?;
+    log.shown(&script.core);
+    Ok(())
+}
+
+// Tells the log that a line is done, and shows it the core where it asks for that.
+fn tell_done<W: Write>(
+    script: &mut Script,
+    line: &[u8],
+    writer: &mut Counted<W>,
+    log: &mut impl RunLog,
+) -> Result<(), WriteFault>
+    ensures ran { OnOk result (Ran [] script.old script.new (W.contents writer.old.inner) (W.contents writer.new.inner)) }
+    ensures err { OnErr result (WritesBeginning (W.contents writer.old.inner) (W.contents writer.new.inner) script.old.out.items) }
+    ensures kept { OnOk result (writer.new.failures ≡ writer.old.failures) }
+    ensures counted { OnErr result (IsOneMore writer.old.failures writer.new.failures) }
+{
+    if log.done(script.lines, line) {
+        show(script, writer, log)
+    } else {
+        Ok(())
+    }
+}
+
+// A line that has ended, without its end. The log is told that it is done.
+pub(crate) fn run_kept<W: Write>(
+    alloc: Global,
+    script: &mut Script,
+    line: &[u8],
+    writer: &mut Counted<W>,
+    log: &mut impl RunLog,
+) -> Result<(), ListingFault>
+    ensures ran { OnOk result (Ran (nonempty_line line.now) script.old script.new (W.contents writer.old.inner) (W.contents writer.new.inner)) }
+    ensures err { OnErr result (Broke (nonempty_line line.now) script.old (W.contents writer.old.inner) (W.contents writer.new.inner)) }
+    ensures counts { OnOk result (writer.new.failures ≡ writer.old.failures) }
+    ensures counted { IsErrOf result ListingFault.Write → IsOneMore writer.old.failures writer.new.failures }
+    ensures memory { IsErrOf result ListingFault.Memory → writer.new.failures ≡ writer.old.failures }
+    ensures stopped { IsErrOf result ListingFault.Memory → Stopped (nonempty_line line.now) script.old script.new (W.contents writer.old.inner) (W.contents writer.new.inner) }
+{
+    run_counted(alloc, script, line, writer, log)?;
+    tell_done(script, line, writer, log)?;
+    Ok(())
 }

@@ -7,6 +7,14 @@ pub trait RunLog {
     /// Line `number` of the input was refused. Lines are counted from 1, empty ones too.
     fn refused(&mut self, number: u64, line: &[u8], refusal: Refusal);
 
+    /// Line `number`, which has an end, is done: its reply is written or gathered, or it is empty and has none. Answers
+    /// whether the log is to be shown the core now.
+    fn done(&mut self, number: u64, line: &[u8]) -> bool;
+
+    /// What the core holds after the line that `done` was told of last, which asked for it. All replies so far are
+    /// written.
+    fn shown(&mut self, core: &JobCore);
+
     /// The run is over, well or not. This is what the core holds then; after a fault no open job was halted.
     fn ended(&mut self, core: &JobCore);
 }
@@ -17,6 +25,12 @@ pub struct NoLog;
 
 impl RunLog for NoLog {
     fn refused(&mut self, _number: u64, _line: &[u8], _refusal: Refusal) {}
+
+    fn done(&mut self, _number: u64, _line: &[u8]) -> bool {
+        false
+    }
+
+    fn shown(&mut self, _core: &JobCore) {}
 
     fn ended(&mut self, _core: &JobCore) {}
 }

@@ -10,7 +10,7 @@ ghost use Rattle.script_run.specs.Lines.{has_no_end};
 ghost use Rattle.script_run.specs.Output.{ending, outcome_of, Wrote, IsBegun, HasAnsweredLines, HasKept};
 ghost use Rattle.script_run.specs.Runs.{RanFront, BrokeFront, RanEnd, BrokeEnd, HasRead, StoppedFront, EndedFront, StoppedEnd, HasGathered};
 
-use crate::answers::{Script, run_kept};
+use crate::answers::{Script, run_counted};
 use crate::lines::run_piece;
 use crate::open_jobs::{OpenJobs, halt_open};
 use crate::upkeep::Due;
@@ -118,7 +118,7 @@ fn finish<W: Write>(
     ensures memory { IsErrOf result ListingFault.Memory → writer.new.failures ≡ writer.old.failures }
     ensures stopped { IsErrOf result ListingFault.Memory → StoppedEnd listed begun.now script.old script.new (W.contents writer.old.inner) (W.contents writer.new.inner) }
 {
-    run_kept(alloc, script, begun, writer, log)?;
+    run_counted(alloc, script, begun, writer, log)?;
     halt_open(&mut script.core, script.jobs.as_slice())?;
     write_ending(alloc, listed, script, writer)?;
     Ok(())
@@ -266,7 +266,8 @@ pub fn run_with_core<R: Read, W: Write>(
 }
 
 /// Runs a script as `run_script` does. Without `listed` neither `--` nor the listing is written. `log` is told of each
-/// refused line, and once of what the core holds when the run is over.
+/// refused line and of each line that is done, after which it may ask to be shown the core; then all replies are written
+/// first. It is told once of what the core holds when the run is over.
 ///
 /// The clauses name no `upkeep`: what is written is promised alike for each.
 pub fn run_with<R: Read, W: Write>(

@@ -1,6 +1,9 @@
-use Rattle.std.proofs.Common.{refl, arith}
-use Rattle.script_run.proofs.Runs.{Ran-empty}
+use Rattle.listing.specs.laws.Bytes.{on_err}
+use Rattle.script_run.proofs.Runs.{Ran-and-none, Broke-after}
 use Rattle.script_run.proofs.answers.run_kept.Goals as goal
 
-pub returns-in-empty-clause-ran : goal.returns-in-empty-clause-ran
-returns-in-empty-clause-ran g c = Ran-empty _ _ _ _ (omega (arith, c.in-empty.len_below)) refl refl refl refl
+pub returns-in_err-tell_done-clause-err : goal.returns-in_err-tell_done-clause-err
+returns-in_err-tell_done-clause-err g c = on_err _ _ (Broke-after _ _ _ _ _ _ c.in_ok-run_counted.ensures.ran c.in_err-tell_done.ensures.err)
+
+pub returns-clause-ran : goal.returns-clause-ran
+returns-clause-ran g c = Ran-and-none _ _ _ _ _ _ _ c.in_ok-run_counted.ensures.ran c.in_ok-tell_done.ensures.ran

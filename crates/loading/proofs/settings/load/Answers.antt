@@ -1,8 +1,0 @@
-use Rattle.loading.proofs.Sets.{from_first, loaded, legal_loaded}
-use Rattle.loading.proofs.settings.load.Goals as goal
-
-pub returns-in-Ok-clause-loaded : goal.returns-in-Ok-clause-loaded
-returns-in-Ok-clause-loaded c = loaded _ _ (from_first c.args.text.now _ _ _ c.past_headers-number.ensures c.new-core.ensures c.in-Ok.ensures.ok)
-
-pub returns-in-Ok-clause-legal : goal.returns-in-Ok-clause-legal
-returns-in-Ok-clause-legal c = legal_loaded _ _ (from_first c.args.text.now _ _ _ c.past_headers-number.ensures c.new-core.ensures c.in-Ok.ensures.ok)

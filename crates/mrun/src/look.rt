@@ -1,0 +1,96 @@
+//! A look at the database in mid-run, on standard error.
+use command::{Command, DataCommand, Look};
+use globals::{Cut, walk_from};
+use job_core::JobCore;
+use key_codec::Key;
+use m_text::{write_key, write_literal};
+use script::{Drafts, read_line};
+use std::alloc::AllocError;
+
+// At most so many nodes are shown.
+const MOST_NODES: usize = 100;
+
+// The reference that a data command names first.
+fn first_key(command: &DataCommand) -> &Key {
+    match command {
+        DataCommand::Set(key, _) => key,
+        DataCommand::Kill(key) => key,
+        DataCommand::Merge(key, _) => key,
+        DataCommand::Look(Look::Data(key)) => key,
+        DataCommand::Look(Look::Get(key, _)) => key,
+        DataCommand::Look(Look::Order(place, _)) => place.key(),
+        DataCommand::Look(Look::Query(place, _)) => place.key(),
+    }
+}
+
+// Whether a node is at or below a reference, or none is asked for.
+fn belongs(key: &Key, root: Option<&Key>) -> bool {
+    match root {
+        Some(root) => key.is_under(root),
+        None => true,
+    }
+}
+
+// A node as a line of a listing, in `line`.
+fn write_node(key: &Key, value: &[u8], line: &mut Vec<u8>) -> Result<(), AllocError> {
+    line.clear();
+    write_key(key, line)?;
+    line.push(b'=')?;
+    write_literal(value, line)
+}
+
+// Prints a node.
+fn print_node(
+    rt: &impl Eprint,
+    key: &Key,
+    value: &[u8],
+    line: &mut Vec<u8>,
+) -> Result<(), AllocError> {
+    write_node(key, value, line)?;
+    if let Ok(text) = std::str::from_utf8(line) {
+        let _ = eprintln!(rt; "  {text}");
+    }
+    Ok(())
+}
+
+// Prints the first nodes at and below a reference, or of all, and then how many they are.
+fn print_nodes(
+    rt: &(impl Eprint + AllocGlobal),
+    program: &str,
+    core: &JobCore,
+    root: Option<&Key>,
+) -> Result<(), AllocError> {
+    let content = core.content();
+    let mut line = Vec::new(rt.alloc());
+    let mut count = 0;
+    let first = match root {
+        Some(root) => Cut::Before(root),
+        None => Cut::Start,
+    };
+    for (key, value) in walk_from(&content, first) {
+        if !belongs(key, root) {
+            break;
+        }
+        if count >= MOST_NODES {
+            let _ = eprintln!(rt; "{program}: these are the first {count} nodes");
+            return Ok(());
+        }
+        count += 1;
+        print_node(rt, key, value.as_slice(), &mut line)?;
+    }
+    let nodes = if count == 1 { "node" } else { "nodes" };
+    let _ = eprintln!(rt; "{program}: {count} {nodes}");
+    Ok(())
+}
+
+/// Prints the first nodes at and below the reference that a line names first, or of the whole database where it names
+/// none or can't be read. What can't be printed is left out, and so is what finds no memory.
+pub fn print_look(rt: &(impl Eprint + AllocGlobal), program: &str, core: &JobCore, line: &[u8]) {
+    let mut drafts = Drafts::new(rt.alloc());
+    let _ = match read_line(rt.alloc(), line, &mut drafts) {
+        Ok((_, Command::Access(command))) => {
+            print_nodes(rt, program, core, Some(first_key(&command)))
+        }
+        _ => print_nodes(rt, program, core, None),
+    };
+}
