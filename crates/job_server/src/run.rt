@@ -72,7 +72,7 @@ impl Served {
 /// engine. Its journal is legal, and tells what the reports tell, as `serve` says.
 ///
 /// Nothing is written, so `write_served` and whoever reads `Served::journal` see one journal. Faults: `Memory` and
-/// `Missing`, as of `serve`.
+/// `Missing`, as of `serve`, and never `Write`.
 pub fn serve_text<R: Threads + Wait + Sync, G: Gate + Sync>(
     rt: &R,
     alloc: Global,
@@ -81,6 +81,7 @@ pub fn serve_text<R: Threads + Wait + Sync, G: Gate + Sync>(
     gate: &G,
 ) -> Result<Served, JobsFault>
     ensures served { IfOk result (λ served. IsServed text.items served.reports.items served.closed.core.units served.closed.sessions) }
+    ensures unwritten { IsErrOf result JobsFault.Write → ⊥ }
 {
     let scripts = scripts_of(alloc, &text)?;
     drop(text);
