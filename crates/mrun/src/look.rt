@@ -5,7 +5,7 @@ use job_core::JobCore;
 use key_codec::Key;
 use m_text::{write_key, write_literal};
 use script::{Drafts, read_line};
-use std::alloc::AllocError;
+use std::alloc::{AllocError, Global};
 
 // At most so many nodes are shown.
 const MOST_NODES: usize = 100;
@@ -83,14 +83,26 @@ fn print_nodes(
     Ok(())
 }
 
+// What a line asks for, if it can be read.
+fn asked_by(alloc: Global, line: &[u8]) -> Option<Command> {
+    let mut drafts = Drafts::new(alloc);
+    match read_line(alloc, line, &mut drafts) {
+        Ok((_job, command)) => Some(command),
+        Err(_) => None,
+    }
+}
+
+// The reference that a command names first, if it names one.
+fn root_of(asked: &Option<Command>) -> Option<&Key> {
+    match asked {
+        Some(Command::Access(command)) => Some(first_key(command)),
+        _ => None,
+    }
+}
+
 /// Prints the first nodes at and below the reference that a line names first, or of the whole database where it names
 /// none or can't be read. What can't be printed is left out, and so is what finds no memory.
 pub fn print_look(rt: &(impl Eprint + AllocGlobal), program: &str, core: &JobCore, line: &[u8]) {
-    let mut drafts = Drafts::new(rt.alloc());
-    let _ = match read_line(rt.alloc(), line, &mut drafts) {
-        Ok((_, Command::Access(command))) => {
-            print_nodes(rt, program, core, Some(first_key(&command)))
-        }
-        _ => print_nodes(rt, program, core, None),
-    };
+    let asked = asked_by(rt.alloc(), line);
+    let _ = print_nodes(rt, program, core, root_of(&asked));
 }
