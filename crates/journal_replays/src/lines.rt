@@ -45,8 +45,8 @@ fn subscript(n: u64) -> &'static str {
 // A sign of a LOCK.
 fn sign(n: u64) -> &'static str {
     match n {
-        0 | 1 | 2 => "+",
-        3 => "-",
+        0 | 1 => "+",
+        2 => "-",
         _ => "",
     }
 }
@@ -85,9 +85,9 @@ fn look(alloc: Global, numbers: &mut Numbers) -> Result<String, AllocError> {
     }
 }
 
-// A LOCK of one name or two, or of none.
+// A LOCK of one name or two, or of none; of so few that jobs are often in each other's way.
 fn locking(alloc: Global, numbers: &mut Numbers) -> Result<String, AllocError> {
-    let (i, k) = (subscript(numbers.below(5)), subscript(numbers.below(5)));
+    let (i, k) = (subscript(numbers.below(3)), subscript(numbers.below(2)));
     let (sign, caret) = (sign(numbers.below(5)), caret(numbers.below(3)));
     match numbers.below(8) {
         0 => format!(in alloc; "LOCK"),
@@ -112,9 +112,9 @@ fn bracket(numbers: &mut Numbers) -> &'static str {
 
 fn command(alloc: Global, numbers: &mut Numbers) -> Result<String, AllocError> {
     match numbers.below(12) {
-        0 | 1 | 2 | 3 => change(alloc, numbers),
-        4 | 5 | 6 => look(alloc, numbers),
-        7 | 8 => locking(alloc, numbers),
+        0 | 1 | 2 => change(alloc, numbers),
+        3 | 4 => look(alloc, numbers),
+        5 | 6 | 7 | 8 => locking(alloc, numbers),
         _ => {
             let word = bracket(numbers);
             format!(in alloc; "{word}")
