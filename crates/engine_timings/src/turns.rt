@@ -133,7 +133,25 @@ fn block_of_reads(alloc: Global, reads: u64) -> Result<Vec<Command>, AllocError>
     Ok(block)
 }
 
-// So many reads under one hold of the lock.
+// A block of data commands under one hold of the lock.
+fn read_block<B: BoardName, R: Wait>(
+    rt: &R,
+    alloc: Global,
+    engine: &Shared<B>,
+    session: &mut Session<B>,
+    block: Vec<Command>,
+) -> Option<()>
+    requires { All (λ (c : Command). (d : DataCommand) × (c ≡ Command.Access d)) block.items }
+{
+    if session.tlevel() == 0 {
+        drop(block);
+        return None;
+    }
+    engine.read_all(rt, alloc, session, block).ok()?;
+    Some(())
+}
+
+// So many reads under one hold.
 fn read_at_once<B: BoardName, R: Wait>(
     rt: &R,
     alloc: Global,
@@ -141,12 +159,10 @@ fn read_at_once<B: BoardName, R: Wait>(
     session: &mut Session<B>,
     reads: u64,
 ) -> Option<()> {
-    let block = block_of_reads(alloc, reads).ok()?;
-    if session.tlevel() == 0 {
-        return None;
+    match block_of_reads(alloc, reads) {
+        Ok(block) => read_block(rt, alloc, engine, session, block),
+        Err(_) => None,
     }
-    engine.read_all(rt, alloc, session, block).ok()?;
-    Some(())
 }
 
 // So many reads, a few under each hold.
