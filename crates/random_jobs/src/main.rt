@@ -144,8 +144,10 @@ fn runs_again(alloc: Global, served: &Served, listing: &[u8]) -> Result<bool, Ou
     let mut lines = Counted::new(Vec::new(alloc));
     write_journal(alloc, served.journal(), &mut lines)?;
     let written = written_of(alloc, lines.inner())?;
-    let (_, ending) = written.split_at(end_of_replies(&written));
-    Ok(ending.strip_prefix(b"--\n".as_slice()) == Some(listing))
+    match written.get(end_of_replies(&written)..) {
+        Some(ending) => Ok(ending.strip_prefix(b"--\n".as_slice()) == Some(listing)),
+        None => Ok(false),
+    }
 }
 
 // Whether the plain map gives every answer of the journal, and the listing, and the journal's lines give the listing too.
