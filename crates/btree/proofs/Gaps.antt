@@ -1,199 +1,199 @@
--- A pair put between the pairs next to its place: what the keys next to a place say of all that stands before and after it.
-use Rattle.std.proofs.Common.{◌≡◌, ℕ, zero, suc, ◌<◌, ◌≤◌, ◌-◌, Option, Some, None, Ok, Err, OnOk, IfSome, List, [], ◌∷◌, ◌++◌, length, take, drop, get_or, slice_set, refl, sym, ap, subst, ◌∙◌, arith, append_assoc, append-nil}
+-- The bounds that separators set: between those next to a kid its pairs stand, and a key that goes there goes nowhere else.
+use Rattle.std.proofs.Common.{◌≡◌, ◌⊎◌, inl, inr, ℕ, zero, suc, ◌+◌, ◌-◌, ◌<◌, ◌≤◌, Bool, true, false, Option, Some, None, Ok, Err, IfSome, IsSome, IfOk, OnErr, List, [], ◌∷◌, ◌++◌, length, take, drop, slice_set, get_or, refl, sym, ap, subst, ◌∙◌, arith, append-nil, length-append}
 use Rattle.std.specs.Prelude.{Result}
 use Rattle.std.specs.Option.{option_map, option_or}
-use Rattle.std.specs.List.{insert}
+use Rattle.std.specs.List.{slice_get}
 use Rattle.std.specs.Cmp.{IsTotalOrder}
+use Rattle.std.specs.Ordering.{ordering_reverse}
 use Rattle.std.specs.declared.cmp.Ordering.{Ordering}
 use Rattle.std.specs.declared.cmp.Ordering.TheVariants.{Less, Greater}
 use Rattle.std.specs.FinMap.Entries.{find, put}
 use Rattle.btree.specs.Order.{Each, Ascends, IsBefore, IsAfter, last_of}
 use Rattle.btree.specs.Branch.{Branch}
-use Rattle.btree.specs.Rows.{first_pairs, rest, weave, branch_of, IsKid}
-use Rattle.btree.specs.Gap.{last_key, first_key, IsMissedBetween, IsPutIn, IsPutBetween}
-use Rattle.btree.proofs.Order.{last_taken, each_map, ascends_front, ascends_back, before_down, after_up, find_between, put_between, or_else_none, or_else_assoc}
-use Rattle.btree.proofs.Places.{before, beyond, cut, within_at, kept}
-use Rattle.btree.proofs.Growth.{weave_beside}
-use Rattle.btree.proofs.Shapes.{weave_leaf, leaf_rows, kid_of}
+use Rattle.btree.specs.Parts.{IsFrom, IsWithin, Rises, flat, AreParted}
+use Rattle.btree.specs.Gap.{IsPutIn}
+use Rattle.btree.specs.Rows.{height_of, branch_of, IsKid, IsInner, IsNode}
+use Rattle.btree.proofs.Order.{each_map, each_at, each_front, each_back, last_taken}
+use Rattle.btree.proofs.Parting.{from_under, from_down, rise_down, rises_of, flat_cut, each_flat_at}
+use Rattle.btree.proofs.Shapes.{inner_kid, inner_height, kids_some}
+use Rattle.btree.proofs.Places.{all_before, all_after}
+use Rattle.btree.proofs.Growth.{grown_inner, grown_pairs}
+use Rattle.btree.proofs.Leaves.{each_at_end, if_some_on, last_kept}
+use Rattle.btree.proofs.Nodes.{inner, inner_pairs, inner_low, kid_found, kid_put, kid_put_pairs, same_here, set_same}
 
--- ---- the last and the first of lists
+pub last_separator : {A : Type 0} (i : ℕ) (xs : List A) (d : A) (o : Option A) → 0 < i → i ≤ length xs → Some (get_or xs (i - 1) d) ≡ option_or (last_of (take i xs)) o
+last_separator zero xs d o p q = absurd (omega arith)
+last_separator (suc i) xs d o p q =
+    let less : suc i - 1 ≡ i = omega arith in
+    ap (λ n. Some (get_or xs n d)) less ∙ ap (λ l. option_or l o) (sym (last_taken xs i d (omega arith)))
 
-map_or : {A B : Type 0} (f : A → B) (a b : Option A) → option_map f (option_or a b) ≡ option_or (option_map f a) (option_map f b)
-map_or f None b = refl
-map_or f (Some x) b = refl
+module _ {K : Type 0} (R : K → K → Ordering) (o : IsTotalOrder R) (key : K) where
+  last_from : (ss : List K) → Rises R ss → IfSome (last_of ss) (λ s. IsFrom R s key) → Each (λ s. IsFrom R s key) ss
+  last_from [] r h = tt
+  last_from (s ∷ []) r h = (h, tt)
+  last_from (s ∷ t ∷ ss) r h =
+      let u = last_from (t ∷ ss) r.1 (subst (λ l. IfSome l (λ s. IsFrom R s key)) (last_kept (last_of ss) t s) h) in
+      (from_down R o s t key r.0.0 u.0, u)
 
-last_of-append : {A : Type 0} (xs ys : List A) → last_of (xs ++ ys) ≡ option_or (last_of ys) (last_of xs)
-last_of-append [] ys = or_else_none (last_of ys)
-last_of-append (x ∷ xs) ys = ap (λ o. option_or o (Some x)) (last_of-append xs ys) ∙ or_else_assoc (last_of ys) (last_of xs) (Some x)
+  rises_front : (i : ℕ) (ss : List K) → Rises R ss → Rises R (take i ss)
+  rises_front zero ss r = tt
+  rises_front (suc i) [] r = tt
+  rises_front (suc i) (s ∷ ss) r = ((each_at_end (λ t. R s t ≡ Less) i ss r.0).0, rises_front i ss r.1)
 
-pub if_some_map : {A B : Type 0} (f : A → B) (P : B → Type 0) (o : Option A) → IfSome o (λ x. P (f x)) → IfSome (option_map f o) P
-if_some_map f P None h = tt
-if_some_map f P (Some x) h = h
+  either : (a b : Option K) (P : K → Type 0) → IfSome (option_or a b) P → IfSome a P
+  either None b P h = tt
+  either (Some x) b P h = h
 
-pub if_some_on : {A : Type 0} {P Q : A → Type 0} (o : Option A) → ((x : A) → P x → Q x) → IfSome o P → IfSome o Q
-if_some_on None f p = tt
-if_some_on (Some x) f p = f x p
+  -- the separators before a kid, told by the one next before it
+  pub lo_of : (i : ℕ) (ss : List K) (low : Option K) → Rises R ss → IfSome (option_or (last_of (take i ss)) low) (λ s. IsFrom R s key) → Each (λ s. IsFrom R s key) (take i ss)
+  lo_of i ss low r h = last_from (take i ss) (rises_front i ss r) (either (last_of (take i ss)) low (λ s. IsFrom R s key) h)
 
-split_at : {A : Type 0} (i : ℕ) (xs : List A) → i ≤ length xs → xs ≡ take i xs ++ drop i xs
-split_at zero xs p = refl
-split_at (suc i) [] p = absurd (omega arith)
-split_at (suc i) (x ∷ xs) p = ap (λ ys. x ∷ ys) (split_at i xs (omega arith))
+  -- and those after it
+  pub hi_of : (i : ℕ) (ss : List K) (high : Option K) → Rises R ss → IfSome (option_or (slice_get ss i) high) (λ s. R key s ≡ Less) → Each (λ s. R key s ≡ Less) (drop i ss)
+  hi_of i [] high r h = nothing i
+    where
+      nothing : (i : ℕ) → Each (λ s. R key s ≡ Less) (drop i [])
+      nothing zero = tt
+      nothing (suc i) = tt
+  hi_of zero (s ∷ ss) high r h = (h, each_map (λ t k. o.trans key s t h k) ss r.0)
+  hi_of (suc i) (s ∷ ss) high r h = hi_of i ss high r.1 h
 
-insert_split : {A : Type 0} (i : ℕ) (xs : List A) (y : A) → i ≤ length xs → insert xs i y ≡ take i xs ++ y ∷ drop i xs
-insert_split zero xs y p = refl
-insert_split (suc i) [] y p = absurd (omega arith)
-insert_split (suc i) (x ∷ xs) y p = ap (λ ys. x ∷ ys) (insert_split i xs y (omega arith))
+both_ways : {K : Type 0} (a b : Option K) (P : K → Type 0) → IfSome a P → IfSome b P → IfSome (option_or a b) P
+both_ways None b P h g = g
+both_ways (Some x) b P h g = h
 
-arranged : {A : Type 0} (us b x y bs : List A) → us ++ ((b ++ (x ++ y)) ++ bs) ≡ (us ++ b) ++ (x ++ (y ++ bs))
-arranged us b x y bs =
-    ap (λ zs. us ++ zs) (append_assoc b (x ++ y) bs)
-    ∙ ap (λ zs. us ++ (b ++ zs)) (append_assoc x y bs)
-    ∙ sym (append_assoc us b (x ++ (y ++ bs)))
+module _ {K V : Type 0} (R : K → K → Ordering) (o : IsTotalOrder R) where
+  -- a kid's pairs stand between the separators next to it
+  pub kid_from : (i : ℕ) (ss : List K) (ks : List (Branch K V)) (d : Branch K V) → i ≤ length ss → i < length ks → AreParted R ss ks → Each (λ (e : K × V). IfSome (last_of (take i ss)) (λ s. IsFrom R s e.0)) (get_or ks i d).pairs
+  kid_from zero ss ks d p q h = trivial (get_or ks 0 d).pairs
+    where
+      trivial : (xs : List (K × V)) → Each (λ (e : K × V). Unit {0}) xs
+      trivial [] = tt
+      trivial (x ∷ xs) = (tt, trivial xs)
+  kid_from (suc i) [] ks d p q h = absurd (omega arith)
+  kid_from (suc i) (s ∷ ss) [] d p q h = absurd (omega arith)
+  kid_from (suc zero) (s ∷ ss) (k ∷ ks) d p q h = each_flat_at (λ (e : K × V). IsFrom R s e.0) 0 ks d (omega arith) h.0.1
+  kid_from (suc (suc i)) (s ∷ []) (k ∷ ks) d p q h = absurd (omega arith)
+  kid_from (suc (suc i)) (s ∷ t ∷ ss) (k ∷ ks) d p q h =
+      each_map (λ e. subst (λ l. IfSome l (λ s. IsFrom R s e.0)) (sym (last_kept (last_of (take i ss)) t s))) (get_or ks (suc i) d).pairs (kid_from (suc i) (t ∷ ss) ks d (omega arith) (omega arith) h.2)
 
-module _ {K V : Type 0} where
-  last_key-append : (xs ys : List (K × V)) → last_key (xs ++ ys) ≡ option_or (last_key ys) (last_key xs)
-  last_key-append xs ys = ap (option_map (λ (e : K × V). e.0)) (last_of-append xs ys) ∙ map_or (λ (e : K × V). e.0) (last_of ys) (last_of xs)
+  pub kid_under : (i : ℕ) (ss : List K) (ks : List (Branch K V)) (d : Branch K V) → i < length ks → AreParted R ss ks → Each (λ (e : K × V). IfSome (slice_get ss i) (λ s. R e.0 s ≡ Less)) (get_or ks i d).pairs
+  kid_under i [] ks d q h = trivial (get_or ks i d).pairs
+    where
+      trivial : (xs : List (K × V)) → Each (λ (e : K × V). Unit {0}) xs
+      trivial [] = tt
+      trivial (x ∷ xs) = (tt, trivial xs)
+  kid_under i (s ∷ ss) [] d q h = absurd (omega arith)
+  kid_under zero (s ∷ ss) (k ∷ ks) d q h = h.0.0
+  kid_under (suc i) (s ∷ ss) (k ∷ ks) d q h = kid_under i ss ks d (omega arith) h.2
 
-  first_key-append : (xs ys : List (K × V)) → first_key (xs ++ ys) ≡ option_or (first_key xs) (first_key ys)
-  first_key-append [] ys = refl
-  first_key-append (x ∷ xs) ys = refl
+  pub within_down : (i : ℕ) (ss : List K) (ks : List (Branch K V)) (d : Branch K V) (low high : Option K) → i ≤ length ss → i < length ks → AreParted R ss ks → Each (λ (e : K × V). IsWithin R low high e.0) (flat ks)
+      → Each (λ (e : K × V). IsWithin R (option_or (last_of (take i ss)) low) (option_or (slice_get ss i) high) e.0) (get_or ks i d).pairs
+  within_down i ss ks d low high p q h inside =
+      join (get_or ks i d).pairs (kid_from i ss ks d p q h) (kid_under i ss ks d q h) (each_flat_at (λ (e : K × V). IsWithin R low high e.0) i ks d q inside)
+    where
+      join : (xs : List (K × V)) → Each (λ (e : K × V). IfSome (last_of (take i ss)) (λ s. IsFrom R s e.0)) xs → Each (λ (e : K × V). IfSome (slice_get ss i) (λ s. R e.0 s ≡ Less)) xs → Each (λ (e : K × V). IsWithin R low high e.0) xs
+          → Each (λ (e : K × V). IsWithin R (option_or (last_of (take i ss)) low) (option_or (slice_get ss i) high) e.0) xs
+      join [] f u w = tt
+      join (x ∷ xs) f u w = ((both_ways (last_of (take i ss)) low (λ s. IsFrom R s x.0) f.0 w.0.0, both_ways (slice_get ss i) high (λ s. R x.0 s ≡ Less) u.0 w.0.1), join xs f.1 u.1 w.1)
 
-  pub last_key-taken : (i : ℕ) (es : List (K × V)) (d : K × V) (o : Option K) → 0 < i → i ≤ length es → Some (get_or es (i - 1) d).0 ≡ option_or (last_key (take i es)) o
-  last_key-taken zero es d o p q = absurd (omega arith)
-  last_key-taken (suc i) es d o p q =
-      let less : suc i - 1 ≡ i = omega arith in
-      rw less (ap (λ l. option_or (option_map (λ (e : K × V). e.0) l) o) (sym (last_taken es i d (omega arith))))
+module _ {K V : Type 0} (R : K → K → Ordering) (o : IsTotalOrder R) (ss : List K) (ks : List (Branch K V)) (inner : IsInner R ss ks) where
+  rises : Rises R ss
+  rises = let f = inner.fits in rises_of R ss ks (omega arith) inner.parted
 
-  last_of-before : (i : ℕ) (es : List (K × V)) (ks : List (Branch K V)) → last_of (before i es ks) ≡ last_of (take i es)
-  last_of-before zero es ks = refl
-  last_of-before (suc i) [] ks = refl
-  last_of-before (suc i) (e ∷ es) ks =
-      last_of-append (first_pairs ks) (e ∷ before i es (rest ks))
-      ∙ kept (last_of (before i es (rest ks))) e (last_of (first_pairs ks))
-      ∙ ap (λ o. option_or o (Some e)) (last_of-before i es (rest ks))
+  passed_low : (low : Option K) (key : K) (xs : List (K × V)) → 0 < length xs → Each (IsBefore R key) xs → Each (λ (e : K × V). IfSome low (λ s. IsFrom R s e.0)) xs → IfSome low (λ s. IsFrom R s key)
+  passed_low None key xs p b w = tt
+  passed_low (Some s) key [] p b w = absurd (omega arith)
+  passed_low (Some s) key (x ∷ xs) p b w = inr (o.antisymm key s ∙ ap ordering_reverse (from_under R o s x.0 key w.0 (o.antisymm x.0 key ∙ ap ordering_reverse b.0)))
 
-  first_key-beyond : (i : ℕ) (es : List (K × V)) (ks : List (Branch K V)) → first_key (beyond i es ks) ≡ first_key (drop i es)
-  first_key-beyond zero [] ks = refl
-  first_key-beyond (suc i) [] ks = refl
-  first_key-beyond zero (e ∷ es) ks = refl
-  first_key-beyond (suc i) (e ∷ es) ks = first_key-beyond i es (rest ks)
+  passed_high : (high : Option K) (key : K) (xs : List (K × V)) → 0 < length xs → Each (IsAfter R key) xs → Each (λ (e : K × V). IfSome high (λ s. R e.0 s ≡ Less)) xs → IfSome high (λ s. R key s ≡ Less)
+  passed_high None key xs p b w = tt
+  passed_high (Some s) key [] p b w = absurd (omega arith)
+  passed_high (Some s) key (x ∷ xs) p b w = o.trans key x.0 s b.0 w.0
 
--- ---- what the keys next to a place say
+  some_before : (i : ℕ) (gs : List (Branch K V)) → Each (λ (k : Branch K V). 0 < length k.pairs) gs → 0 < i → i ≤ length gs → 0 < length (flat (take i gs))
+  some_before zero gs z p q = absurd (omega arith)
+  some_before (suc i) [] z p q = absurd (omega arith)
+  some_before (suc i) (g ∷ gs) z p q = let n = z.0 in omega (arith, n, length-append g.pairs (flat (take i gs)))
 
-module _ {K V : Type 0} (R : K → K → Ordering) (o : IsTotalOrder R) (key : K) where
-  each_before : (xs : List (K × V)) → Ascends R xs → IfSome (last_key xs) (λ k. R key k ≡ Greater) → Each (IsBefore R key) xs
-  each_before [] s h = tt
-  each_before (x ∷ []) s h = (h, tt)
-  each_before (x ∷ y ∷ xs) s h =
-      let t = each_before (y ∷ xs) s.1 (subst (λ l. IfSome (option_map (λ (e : K × V). e.0) l) (λ k. R key k ≡ Greater)) (kept (last_of xs) y (Some x)) h) in
-      (before_down R o key x y s.0.0 t.0, t)
+  some_after : (i : ℕ) (gs : List (Branch K V)) → Each (λ (k : Branch K V). 0 < length k.pairs) gs → i < length gs → 0 < length (flat (drop i gs))
+  some_after i [] z p = absurd (omega arith)
+  some_after zero (g ∷ gs) z p = let n = z.0 in omega (arith, n, length-append g.pairs (flat gs))
+  some_after (suc i) (g ∷ gs) z p = some_after i gs z.1 (omega arith)
 
-  each_after : (xs : List (K × V)) → Ascends R xs → IfSome (first_key xs) (λ k. R key k ≡ Less) → Each (IsAfter R key) xs
-  each_after [] s h = tt
-  each_after (x ∷ xs) s h = (h, each_map (λ y k. after_up R o key x y k h) xs s.0)
+  -- a key between the separators next to a kid stands between those next to the node
+  module _ (key : K) (i : ℕ) (low high : Option K) (p : i ≤ length ss) (sorted : Ascends R (flat ks)) (inside : Each (λ (e : K × V). IsWithin R low high e.0) (flat ks)) (within : IsWithin R (option_or (last_of (take i ss)) low) (option_or (slice_get ss i) high) key) where
+    pub lo : Each (λ s. IsFrom R s key) (take i ss)
+    lo = lo_of R o key i ss low rises within.0
 
-  -- all that stands around these pairs, cut at a place between these keys, is before the key or after it
-  around : (i : ℕ) (es us bs : List (K × V)) (low high : Option K) → i ≤ length es → IfSome (option_or (last_key (take i es)) low) (λ k. R key k ≡ Greater) → IfSome (option_or (first_key (drop i es)) high) (λ k. R key k ≡ Less)
-      → Ascends R (us ++ (es ++ bs)) → last_key us ≡ low → first_key bs ≡ high
-      → (us ++ (es ++ bs) ≡ (us ++ take i es) ++ (drop i es ++ bs)) × Each (IsBefore R key) (us ++ take i es) × Each (IsAfter R key) (drop i es ++ bs)
-  around i es us bs low high p below above s l h =
-      let old : us ++ (es ++ bs) ≡ (us ++ take i es) ++ (drop i es ++ bs) = ap (λ zs. us ++ (zs ++ bs)) (split_at i es p) ∙ arranged us (take i es) [] (drop i es) bs in
-      let sorted : Ascends R ((us ++ take i es) ++ (drop i es ++ bs)) = subst (Ascends R) old s in
-      let front = each_before (us ++ take i es) (ascends_front R (us ++ take i es) (drop i es ++ bs) sorted)
-      (subst (λ k. IfSome k (λ k. R key k ≡ Greater)) (ap (option_or (last_key (take i es))) (sym l) ∙ sym (last_key-append us (take i es))) below) in
-      let back = each_after (drop i es ++ bs) (ascends_back R (us ++ take i es) (drop i es ++ bs) sorted)
-      (subst (λ k. IfSome k (λ k. R key k ≡ Less)) (ap (option_or (first_key (drop i es))) (sym h) ∙ sym (first_key-append (drop i es) bs)) above) in
-      (old, front, back)
+    pub hi : Each (λ s. R key s ≡ Less) (drop i ss)
+    hi = hi_of R o key i ss high rises within.1
 
-  -- a key at a place between these keys isn't there
-  pub missed_at : (i : ℕ) (es : List (K × V)) (low high : Option K) → i ≤ length es → IfSome (option_or (last_key (take i es)) low) (λ k. R key k ≡ Greater) → IfSome (option_or (first_key (drop i es)) high) (λ k. R key k ≡ Less)
-      → IsMissedBetween R key low high es
-  missed_at i es low high p below above us bs s l h =
-      let a = around i es us bs low high p below above s l h in
-      ap (find R key) a.0 ∙ find_between R o key (us ++ take i es) [] (drop i es ++ bs) a.1 a.2
+    in_kids : i < length ks
+    in_kids = let f = inner.fits in omega arith
 
-  -- a pair inserted at a place between these keys
-  pub put_at : (v : V) (i : ℕ) (es fs : List (K × V)) (low high : Option K) → i ≤ length es → IfSome (option_or (last_key (take i es)) low) (λ k. R key k ≡ Greater) → IfSome (option_or (first_key (drop i es)) high) (λ k. R key k ≡ Less)
-      → fs ≡ insert es i (key, v) → IsPutBetween R key v low high es fs
-  put_at v i es fs low high p below above is us bs s l h =
-      let a = around i es us bs low high p below above s l h in
-      let new : us ++ (fs ++ bs) ≡ (us ++ take i es) ++ ((key, v) ∷ (drop i es ++ bs)) = ap (λ zs. us ++ (zs ++ bs)) (is ∙ insert_split i es (key, v) p) ∙ arranged us (take i es) ((key, v) ∷ []) (drop i es) bs in (
-        ap (find R key) a.0 ∙ find_between R o key (us ++ take i es) [] (drop i es ++ bs) a.1 a.2,
-        new ∙ sym (ap (put R key v) a.0 ∙ put_between R o key v (us ++ take i es) [] (drop i es ++ bs) a.1 a.2),
-      )
+    fronts : (d : Branch K V) → Each (λ (e : K × V). IsWithin R low high e.0) (flat (take i ks)) × Each (λ (e : K × V). IsWithin R low high e.0) (flat (drop (suc i) ks))
+    fronts d =
+        let all = subst (Each (λ (e : K × V). IsWithin R low high e.0)) (flat_cut i ks d in_kids) inside in (
+          each_front (λ (e : K × V). IsWithin R low high e.0) (flat (take i ks)) ((get_or ks i d).pairs ++ flat (drop (suc i) ks)) all,
+          each_back (λ (e : K × V). IsWithin R low high e.0) (get_or ks i d).pairs (flat (drop (suc i) ks)) (each_back (λ (e : K × V). IsWithin R low high e.0) (flat (take i ks)) ((get_or ks i d).pairs ++ flat (drop (suc i) ks)) all),
+        )
 
-module _ {K V : Type 0} (R : K → K → Ordering) (key : K) where
-  -- a key missed in the kid at a place, between the keys next to the kid
-  missed_kid : (i : ℕ) (es : List (K × V)) (ks : List (Branch K V)) (d : Branch K V) (low high below above : Option K) → i ≤ length es → i < length ks → below ≡ option_or (last_key (take i es)) low → above ≡ option_or (first_key (drop i es)) high
-      → IsMissedBetween R key below above (get_or ks i d).pairs → IsMissedBetween R key low high (weave es ks)
-  missed_kid i es ks d low high below above p q a b kid us bs s l h =
-      let old : us ++ (weave es ks ++ bs) ≡ (us ++ before i es ks) ++ ((get_or ks i d).pairs ++ (beyond i es ks ++ bs)) =
-      ap (λ zs. us ++ (zs ++ bs)) (cut i es ks p ∙ ap (λ zs. before i es ks ++ (zs ++ beyond i es ks)) (within_at i ks d q)) ∙ arranged us (before i es ks) (get_or ks i d).pairs (beyond i es ks) bs in
-      let last : last_key (us ++ before i es ks) ≡ below =
-      last_key-append us (before i es ks) ∙ ap (λ e. option_or (option_map (λ (e : K × V). e.0) e) (last_key us)) (last_of-before i es ks) ∙ ap (option_or (last_key (take i es))) l ∙ sym a in
-      let first : first_key (beyond i es ks ++ bs) ≡ above =
-      first_key-append (beyond i es ks) bs ∙ ap (λ e. option_or e (first_key bs)) (first_key-beyond i es ks) ∙ ap (option_or (first_key (drop i es))) h ∙ sym b in
-      ap (find R key) old ∙ kid (us ++ before i es ks) (beyond i es ks ++ bs) (subst (Ascends R) old s) last first
+    up_low : (d : Branch K V) → (n : ℕ) → n ≡ i → IfSome low (λ s. IsFrom R s key)
+    up_low d zero e = subst (λ m. IfSome (option_or (last_of (take m ss)) low) (λ s. IsFrom R s key)) (sym e) within.0
+    up_low d (suc n) e =
+        passed_low low key (flat (take i ks)) (some_before i ks (kids_some inner.level ks inner.kids) (omega arith) (let q = in_kids in omega arith)) (all_before R o ss ks inner key i d p in_kids lo hi)
+        (each_map (λ x w. w.0) (flat (take i ks)) (fronts d).0)
 
-  -- a node b of these rows, whose leaf or kid at a place misses it
-  pub missed_in_rows : (b : Branch K V) (es : List (K × V)) (ks : List (Branch K V)) (low high : Option K) → branch_of es ks ≡ b → ks ≡ [] → IsMissedBetween R key low high es → IsMissedBetween R key low high b.pairs
-  missed_in_rows b es ks low high is leaf missed =
-      let old : es ≡ b.pairs = sym (weave_leaf es) ∙ ap (weave es) (sym leaf) ∙ ap (λ x. x.pairs) is in
-      subst (λ zs. IsMissedBetween R key low high zs) old missed
+    up_high : (d : Branch K V) → (n : ℕ) → n + i ≡ length ss → IfSome high (λ s. R key s ≡ Less)
+    up_high d zero e = subst (λ l. IfSome (option_or l high) (λ s. R key s ≡ Less)) (past i ss (omega arith)) within.1
+      where
+        past : {A : Type 0} (i : ℕ) (xs : List A) → length xs ≤ i → slice_get xs i ≡ None
+        past i [] q = refl
+        past zero (x ∷ xs) q = absurd (omega arith)
+        past (suc i) (x ∷ xs) q = past i xs (omega arith)
+    up_high d (suc n) e =
+        passed_high high key (flat (drop (suc i) ks)) (some_after (suc i) ks (kids_some inner.level ks inner.kids) (let f = inner.fits in omega arith)) (all_after R o ss ks inner key i d p in_kids lo hi)
+        (each_map (λ x w. w.1) (flat (drop (suc i) ks)) (fronts d).1)
 
-  pub missed_below_kid : (b : Branch K V) (i : ℕ) (es : List (K × V)) (ks : List (Branch K V)) (d : Branch K V) (low high below above : Option K) → branch_of es ks ≡ b → i ≤ length es → i < length ks → below ≡ option_or (last_key (take i es)) low → above ≡ option_or (first_key (drop i es)) high
-      → d ≡ get_or ks i d → IsMissedBetween R key below above d.pairs → IsMissedBetween R key low high b.pairs
-  missed_below_kid b i es ks d low high below above is p q f g there missed =
-      subst (λ (x : Branch K V). IsMissedBetween R key low high x.pairs) is
-      (missed_kid i es ks d low high below above p q f g (subst (λ (x : Branch K V). IsMissedBetween R key below above x.pairs) there missed))
+    pub within_up : (d : Branch K V) → IsWithin R low high key
+    within_up d = (up_low d i refl, up_high d (length ss - i) (omega arith))
 
-  -- a key missed in all
-  pub missed_whole : (es : List (K × V)) → IsMissedBetween R key None None es → Ascends R es → find R key es ≡ None
-  missed_whole es all s = subst (λ zs. find R key zs ≡ None) (append-nil es) (all [] [] (subst (Ascends R) (sym (append-nil es)) s) refl refl)
+-- ---- a pair put into a kid of b, or not
 
-module _ {K V : Type 0} (R : K → K → Ordering) (key : K) (v : V) where
-  -- a pair put into the kid at a place, between the keys next to the kid
-  pub put_kid : (i : ℕ) (es : List (K × V)) (ks : List (Branch K V)) (d k : Branch K V) (low high below above : Option K) → i ≤ length es → i < length ks → below ≡ option_or (last_key (take i es)) low → above ≡ option_or (first_key (drop i es)) high
-      → IsPutBetween R key v below above (get_or ks i d).pairs k.pairs → IsPutBetween R key v low high (weave es ks) (weave es (slice_set ks i k))
-  put_kid i es ks d k low high below above p q a b kid us bs s l h =
-      let old : us ++ (weave es ks ++ bs) ≡ (us ++ before i es ks) ++ ((get_or ks i d).pairs ++ (beyond i es ks ++ bs)) =
-      ap (λ zs. us ++ (zs ++ bs)) (cut i es ks p ∙ ap (λ zs. before i es ks ++ (zs ++ beyond i es ks)) (within_at i ks d q)) ∙ arranged us (before i es ks) (get_or ks i d).pairs (beyond i es ks) bs in
-      let new : us ++ (weave es (slice_set ks i k) ++ bs) ≡ (us ++ before i es ks) ++ (k.pairs ++ (beyond i es ks ++ bs)) =
-      ap (λ zs. us ++ (zs ++ bs)) (weave_beside i es ks k None p q) ∙ arranged us (before i es ks) k.pairs (beyond i es ks) bs in
-      let last : last_key (us ++ before i es ks) ≡ below =
-      last_key-append us (before i es ks) ∙ ap (λ e. option_or (option_map (λ (e : K × V). e.0) e) (last_key us)) (last_of-before i es ks) ∙ ap (option_or (last_key (take i es))) l ∙ sym a in
-      let first : first_key (beyond i es ks ++ bs) ≡ above =
-      first_key-append (beyond i es ks) bs ∙ ap (λ e. option_or e (first_key bs)) (first_key-beyond i es ks) ∙ ap (option_or (first_key (drop i es))) h ∙ sym b in
-      let whole = kid (us ++ before i es ks) (beyond i es ks ++ bs) (subst (Ascends R) old s) last first in
-      subst (λ zs. IsPutIn R key v zs (us ++ (weave es (slice_set ks i k) ++ bs))) (sym old) (subst (IsPutIn R key v ((us ++ before i es ks) ++ ((get_or ks i d).pairs ++ (beyond i es ks ++ bs)))) (sym new) whole)
+module _ {K V : Type 0} (R : K → K → Ordering) (o : IsTotalOrder R) (b : Branch K V) (es : List (K × V)) (ss : List K) (ks : List (Branch K V)) (is : branch_of es ss ks ≡ b) (node : IsNode R es ss ks) (some : length ks ≡ 0 → ⊥) (i : ℕ) (d k : Branch K V) (low high : Option K) (p : i ≤ length ss)
+    (sorted : Ascends R b.pairs) (inside : Each (λ (e : K × V). IsWithin R low high e.0) b.pairs) where
+  flat_inside : Each (λ (e : K × V). IsWithin R low high e.0) (flat ks)
+  flat_inside = subst (Each (λ (e : K × V). IsWithin R low high e.0)) (inner_pairs R b es ss ks is node some) inside
 
-  -- a node b of these rows, whose leaf or kid at a place that is
-  pub put_in_rows : (b : Branch K V) (es fs : List (K × V)) (ks : List (Branch K V)) (low high : Option K) → branch_of es ks ≡ b → ks ≡ [] → IsPutBetween R key v low high es fs → IsPutBetween R key v low high b.pairs (weave fs ks)
-  put_in_rows b es fs ks low high is leaf put =
-      let old : es ≡ b.pairs = sym (weave_leaf es) ∙ ap (weave es) (sym leaf) ∙ ap (λ x. x.pairs) is in
-      let new : fs ≡ weave fs ks = sym (weave_leaf fs) ∙ ap (weave fs) (sym leaf) in
-      subst (λ zs. IsPutBetween R key v low high b.pairs zs) new (subst (λ zs. IsPutBetween R key v low high zs fs) old put)
+  flat_sorted : Ascends R (flat ks)
+  flat_sorted = subst (Ascends R) (inner_pairs R b es ss ks is node some) sorted
 
-  pub put_below_kid : (b : Branch K V) (i : ℕ) (es : List (K × V)) (ks : List (Branch K V)) (d k : Branch K V) (low high below above : Option K) → branch_of es ks ≡ b → i ≤ length es → i < length ks → below ≡ option_or (last_key (take i es)) low → above ≡ option_or (first_key (drop i es)) high
-      → d ≡ get_or ks i d → IsPutBetween R key v below above d.pairs k.pairs → IsPutBetween R key v low high b.pairs (weave es (slice_set ks i k))
-  put_below_kid b i es ks d k low high below above is p q f g there put =
-      subst (λ (x : Branch K V). IsPutBetween R key v low high x.pairs (weave es (slice_set ks i k))) is
-      (put_kid i es ks d k low high below above p q f g (subst (λ (x : Branch K V). IsPutBetween R key v below above x.pairs k.pairs) there put))
+  pub kid_inside : Each (λ (e : K × V). IsWithin R (option_or (last_of (take i ss)) low) (option_or (slice_get ss i) high) e.0) (get_or ks i d).pairs
+  kid_inside = let s = inner R b es ss ks is node some in within_down R o i ss ks d low high p (inner_low R b es ss ks is node some i p) s.parted flat_inside
 
-  -- a pair put into all
-  pub put_whole : (old new : List (K × V)) → IsPutBetween R key v None None old new → Ascends R old → IsPutIn R key v old new
-  put_whole old new all s =
-      subst (λ zs. IsPutIn R key v old zs) (append-nil new) (subst (λ zs. IsPutIn R key v zs (new ++ [])) (append-nil old) (all [] [] (subst (Ascends R) (sym (append-nil old)) s) refl refl))
+  module _ (key : K) (within : IsWithin R (option_or (last_of (take i ss)) low) (option_or (slice_get ss i) high) key) where
+    abbrev key_lo : Each (λ s. IsFrom R s key) (take i ss)
+    key_lo = lo R o ss ks (inner R b es ss ks is node some) key i low high p flat_sorted flat_inside within
 
--- ---- a leaf's row that has grown, if at all
+    abbrev key_hi : Each (λ s. R key s ≡ Less) (drop i ss)
+    key_hi = hi R o ss ks (inner R b es ss ks is node some) key i low high p flat_sorted flat_inside within
 
-pub leaf_kept : {K V : Type 0} (b : Branch K V) (es fs : List (K × V)) (ks : List (Branch K V)) → branch_of es ks ≡ b → ks ≡ [] → length es ≤ length fs → length fs ≤ 32 → IsKid b.count b.height (branch_of fs ks)
-leaf_kept b es fs ks is leaf p q =
-    let count = ap (λ x. x.count) is in
-    kid_of b.height fs ks b.count (leaf_rows fs ks leaf) (ap (λ x. x.height) is) (omega arith) q
+    pub key_within : IsWithin R low high key
+    key_within = within_up R o ss ks (inner R b es ss ks is node some) key i low high p flat_sorted flat_inside within d
 
--- ---- where it was done
+    pub key_missed : find R key (get_or ks i d).pairs ≡ None → find R key b.pairs ≡ None
+    key_missed e = kid_found R b es ss ks is node some o key i d p key_lo key_hi ∙ e
 
-pub on_ok : {T E P Q : Type 0} (r : Result T E) → (P → Q) → OnOk r P → OnOk r Q
-on_ok (Ok x) f p = f p
-on_ok (Err e) f p = p
+  pub put_case : (t : Bool) (pair : Option (K × V)) → (t ≡ true → IsSome pair) → (t ≡ true → IfSome pair (λ q. IsPutIn R q.0 q.1 (get_or ks i d).pairs k.pairs)) → (t ≡ true → IfSome pair (λ q. IsWithin R (option_or (last_of (take i ss)) low) (option_or (slice_get ss i) high) q.0)) → (t ≡ false → k ≡ get_or ks i d)
+      → IsKid (get_or ks i d).count (get_or ks i d).height k → b.count ≤ 32 → IsInner R ss (slice_set ks i k) × IsKid b.count b.height (branch_of es ss (slice_set ks i k))
+  put_case true None some_pair put_in within kept kid most = absurd (let clash : false ≡ true = some_pair refl in cc)
+  put_case true (Some q) some_pair put_in within kept kid most =
+      kid_put R b es ss ks is node some o q.0 q.1 i d k p (key_lo q.0 (within refl)) (key_hi q.0 (within refl)) kid (put_in refl).1 most
+  put_case false pair some_pair put_in within kept kid most =
+      let same : slice_set ks i k ≡ ks = ap (λ x. slice_set ks i x) (kept refl) ∙ set_same ks i d (inner_low R b es ss ks is node some i p) in
+      (subst (IsInner R ss) (sym same) (inner R b es ss ks is node some), subst (λ x. IsKid b.count b.height (branch_of es ss x)) (sym same) (subst (IsKid b.count b.height) (sym is) (same_here R b es ss ks is node most)))
+
+  pub put_up : (q : K × V) → IsKid (get_or ks i d).count (get_or ks i d).height k → IsPutIn R q.0 q.1 (get_or ks i d).pairs k.pairs → IsWithin R (option_or (last_of (take i ss)) low) (option_or (slice_get ss i) high) q.0 → IsPutIn R q.0 q.1 b.pairs (branch_of es ss (slice_set ks i k)).pairs
+  put_up q kid put_in within =
+      (key_missed q.0 within put_in.0, kid_put_pairs R b es ss ks is node some o q.0 q.1 i d k p (key_lo q.0 within) (key_hi q.0 within) kid put_in.1)

@@ -144,7 +144,7 @@ module _ {K V : Type 0} (R : K → K → Ordering) (o : IsTotalOrder R) where
       let h = each_map {Q = IsBefore R key} (λ x k. before_tied R o key x e k t) us (below_later R us e bs s) in
       put_behind key v us (e ∷ bs) h ∙ ap (λ r. us ++ by_order r ((key, v) ∷ e ∷ bs) ((e.0, v) ∷ bs) (e ∷ put R key v bs)) t
 
-  each_put : (Q : K → Type 0) (key : K) (v : V) (es : List (K × V)) → Each (λ (e : K × V). Q e.0) es → Q key → Each (λ (e : K × V). Q e.0) (put R key v es)
+  pub each_put : (Q : K → Type 0) (key : K) (v : V) (es : List (K × V)) → Each (λ (e : K × V). Q e.0) es → Q key → Each (λ (e : K × V). Q e.0) (put R key v es)
   each_put Q key v [] h q = (q, tt)
   each_put Q key v (e ∷ es) h q =
       elim (R key e.0) as (λ r. Each (λ (e : K × V). Q e.0) (by_order r ((key, v) ∷ e ∷ es) ((e.0, v) ∷ es) (e ∷ put R key v es))) [
@@ -189,7 +189,7 @@ module _ {K V : Type 0} (p : K → Bool) where
   last_append [] ys = or_else_none (last_before p ys)
   last_append (x ∷ xs) ys = ap (λ o. option_or o (cond (p x.0) (Option.Some x) Option.None)) (last_append xs ys) ∙ or_else_assoc (last_before p ys) (last_before p xs) (cond (p x.0) (Option.Some x) Option.None)
 
-  last_none : (xs : List (K × V)) → Each (λ (e : K × V). p e.0 ≡ false) xs → last_before p xs ≡ Option.None
+  pub last_none : (xs : List (K × V)) → Each (λ (e : K × V). p e.0 ≡ false) xs → last_before p xs ≡ Option.None
   last_none [] h = refl
   last_none (x ∷ xs) h = rw (last_none xs h.1, h.0)
 

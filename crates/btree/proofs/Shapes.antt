@@ -1,107 +1,121 @@
--- The shape of a node: leaves and inner nodes, how many pairs there are at least, and a node cut at a pair.
+-- The shape of a node: leaves and inner nodes, and how many pairs there are at least.
 use Rattle.std.proofs.Math.Nat.{pow-succ', suc-mul, mul-le-mul_right}
-use Rattle.std.proofs.lemmas.List.{length-append}
-use Rattle.std.proofs.Common.{◌≡◌, ℕ, suc, ◌+◌, ◌*◌, ◌^◌, ◌<◌, ◌≤◌, Option, List, [], ◌∷◌, ◌++◌, length, refl, sym, ap, subst, ◌∙◌, arith, append_assoc}
+use Rattle.std.proofs.Common.{◌≡◌, ◌⊎◌, inl, inr, ℕ, zero, suc, ◌+◌, ◌*◌, ◌^◌, ◌<◌, ◌≤◌, Option, Some, None, List, [], ◌∷◌, ◌++◌, length, take, drop, slice_set, get_or, refl, sym, ap, subst, ◌∙◌, arith, length-append, append-nil}
+use Rattle.std.specs.declared.cmp.Ordering.{Ordering}
 use Rattle.btree.specs.Order.{Each}
 use Rattle.btree.specs.Branch.{Branch}
-use Rattle.btree.specs.Rows.{weave, height_of, sizes_of, branch_of, IsSize, IsFull, IsKid, AreKids, IsNode, HasBecome}
-use Rattle.btree.proofs.Order.{each_append, each_front, each_back}
+use Rattle.btree.specs.Parts.{flat, AreParted}
+use Rattle.btree.specs.Rows.{height_of, sizes_of, branch_of, fewest_pairs, IsSize, IsFull, IsKid, IsInner, IsNode, HasShrunk}
+use Rattle.btree.proofs.Order.{each_append, each_map, each_at}
 
--- ---- the shape
+pub one_power : (h : ℕ) → 1 ≤ 17 ^ h
+one_power zero = omega arith
+one_power (suc h) = omega (arith, pow-succ' 17 h, one_power h)
 
 module _ {K V : Type 0} where
-  pub weave_leaf : (es : List (K × V)) → weave es [] ≡ es
-  weave_leaf [] = refl
-  weave_leaf (e ∷ es) = ap (λ xs. e ∷ xs) (weave_leaf es)
-
-  -- any pairs are a leaf
-  pub leaf_rows : (es : List (K × V)) (ks : List (Branch K V)) → ks ≡ [] → IsNode es ks
-  leaf_rows es ks leaf = rw leaf record { fits = λ q. absurd (omega arith); kids = refl }
-
-  -- a node of this height is a leaf, or has kids of the height below
-  pub kids_of : (h : ℕ) (ks : List (Branch K V)) → Each (IsKid 16 h) ks → AreKids (height_of ks) ks
-  kids_of h [] s = refl
-  kids_of h (k ∷ ks) s = subst (λ n. Each (IsKid 16 n) (k ∷ ks)) (sym s.0.level) s
+  pub no_kids : (ks : List (Branch K V)) → length ks ≡ 0 → ks ≡ []
+  no_kids [] e = refl
+  no_kids (k ∷ ks) e = absurd (omega arith)
 
   pub height_kids : (h : ℕ) (ks : List (Branch K V)) → 0 < length ks → Each (IsKid 16 h) ks → height_of ks ≡ suc h
   height_kids h [] p s = absurd (omega arith)
   height_kids h (k ∷ ks) p s = ap suc s.0.level
 
-  pub kids_in : (h : ℕ) (es : List (K × V)) (ks : List (Branch K V)) → IsNode es ks → height_of ks ≡ suc h → Each (IsKid 16 h) ks
-  kids_in h es ks s e = subst (λ n. AreKids n ks) e s.kids
+  -- ---- how many pairs there are
 
-  pub kid_long : (h : ℕ) (k : Branch K V) → IsKid 16 h k → 17 ^ suc h ≤ suc (length k.pairs)
-  kid_long h k s =
-      let full : suc k.count * 17 ^ h ≤ suc (length k.pairs) = subst (λ n. suc k.count * 17 ^ n ≤ suc (length k.pairs)) s.level s.full.0 in
-      let least : 17 * 17 ^ h ≤ suc k.count * 17 ^ h = mul-le-mul_right (17 ^ h) (let q = s.least in omega arith) in
+  pub kid_long : (h : ℕ) (k : Branch K V) → IsKid 16 h k → 16 * 17 ^ h ≤ length k.pairs
+  kid_long zero k s =
+      let full : k.count ≤ length k.pairs = subst (λ n. fewest_pairs n k.count ≤ length k.pairs) s.level s.full.0 in
+      let q = s.least in
+      omega arith
+  kid_long (suc h) k s =
+      let full : suc k.count * (16 * 17 ^ h) ≤ length k.pairs = subst (λ n. fewest_pairs n k.count ≤ length k.pairs) s.level s.full.0 in
+      let least : 17 * (16 * 17 ^ h) ≤ suc k.count * (16 * 17 ^ h) = mul-le-mul_right (16 * 17 ^ h) (let q = s.least in omega arith) in
       omega (arith, pow-succ' 17 h)
 
-  weave_long : (h : ℕ) (es : List (K × V)) (ks : List (Branch K V)) → length ks ≡ suc (length es) → Each (IsKid 16 h) ks → suc (length es) * 17 ^ suc h ≤ suc (length (weave es ks))
-  weave_long h es [] e s = absurd (omega arith)
-  weave_long h [] (k ∷ ks) e s = let p = kid_long h k s.0 in omega (arith, suc-mul 0 (17 ^ suc h))
-  weave_long h (e ∷ es) (k ∷ ks) q s =
-      let p = kid_long h k s.0 in
-      let r = weave_long h es ks (omega arith) s.1 in
-      omega (arith, suc-mul (suc (length es)) (17 ^ suc h), length-append k.pairs (e ∷ weave es ks))
+  pub kid_some : (h : ℕ) (k : Branch K V) → IsKid 16 h k → 0 < length k.pairs
+  kid_some h k s = omega (arith, kid_long h k s, one_power h)
+
+  -- a kid that isn't a leaf holds more than one node can
+  pub kid_high : (h : ℕ) (k : Branch K V) → IsKid 16 h k → 0 < k.height → 32 < length k.pairs
+  kid_high zero k s p = let e = s.level in absurd (omega (arith, e, p))
+  kid_high (suc h) k s p = omega (arith, kid_long (suc h) k s, pow-succ' 17 h, one_power h)
+
+  pub kids_some : (h : ℕ) (ks : List (Branch K V)) → Each (IsKid 16 h) ks → Each (λ (k : Branch K V). 0 < length k.pairs) ks
+  kids_some h ks s = each_map (kid_some h) ks s
+
+  pub flat_long : (h : ℕ) (ks : List (Branch K V)) → Each (IsKid 16 h) ks → length ks * (16 * 17 ^ h) ≤ length (flat ks)
+  flat_long h [] s = omega arith
+  flat_long h (k ∷ ks) s = omega (arith, kid_long h k s.0, flat_long h ks s.1, suc-mul (length ks) (16 * 17 ^ h), length-append k.pairs (flat ks))
 
   pub each_size : (h : ℕ) (ks : List (Branch K V)) → Each (IsKid 16 h) ks → Each IsSize (sizes_of ks)
   each_size h [] s = tt
   each_size h (k ∷ ks) s = ((s.0.least, s.0.most), each_append IsSize k.sizes (sizes_of ks) s.0.full.1 (each_size h ks s.1))
 
-  pub full_of : (es : List (K × V)) (ks : List (Branch K V)) → IsNode es ks → IsFull (branch_of es ks)
-  full_of es [] s = (omega (arith, ap length (weave_leaf es)), tt)
-  full_of es (k ∷ ks) s = (weave_long k.height es (k ∷ ks) (s.fits (omega arith)) s.kids, each_size k.height (k ∷ ks) s.kids)
+  -- ---- leaves
 
-  -- two nodes and the pair between them
-  pub weave_join : (xs : List (K × V)) (m : K × V) (ys : List (K × V)) (js ls : List (Branch K V)) → (0 < length js + length ls → length js ≡ suc (length xs)) → weave (xs ++ m ∷ ys) (js ++ ls) ≡ weave xs js ++ m ∷ weave ys ls
-  weave_join [] m ys [] [] p = refl
-  weave_join [] m ys [] (l ∷ ls) p = absurd (let q = p (omega arith) in omega arith)
-  weave_join [] m ys (j ∷ []) ls p = refl
-  weave_join [] m ys (j ∷ i ∷ js) ls p = absurd (let q = p (omega arith) in omega arith)
-  weave_join (x ∷ xs) m ys [] [] p = ap (λ zs. x ∷ zs) (weave_join xs m ys [] [] (λ q. absurd (omega arith)))
-  weave_join (x ∷ xs) m ys [] (l ∷ ls) p = absurd (let q = p (omega arith) in omega arith)
-  weave_join (x ∷ xs) m ys (j ∷ js) ls p =
-      let q = p (omega arith) in
-      ap (λ zs. j.pairs ++ x ∷ zs) (weave_join xs m ys js ls (λ _. omega arith)) ∙ sym (append_assoc j.pairs (x ∷ weave xs js) (m ∷ weave ys ls))
+  pub leaf_full : (es : List (K × V)) → IsFull (branch_of es [] [])
+  leaf_full es = (omega (arith, length-append es []), tt)
 
-  -- what is said of the two parts of a node's rows, cut at a pair
-  pub record IsCut (xs : List (K × V)) (m : K × V) (ys : List (K × V)) (js ls : List (Branch K V)) : Type 0 where
-    pub lower : IsNode xs js
-    pub upper : IsNode ys ls
-    pub lower_height : height_of js ≡ height_of (js ++ ls)
-    pub upper_height : height_of ls ≡ height_of (js ++ ls)
-    pub joined : weave xs js ++ m ∷ weave ys ls ≡ weave (xs ++ m ∷ ys) (js ++ ls)
+  pub leaf_kid : (fewest : ℕ) (es : List (K × V)) → fewest ≤ length es → length es ≤ 32 → IsKid fewest 0 (branch_of es [] [])
+  leaf_kid fewest es p q = record { level = refl; least = omega arith; most = omega arith; full = leaf_full es }
 
-  pub is_cut : (xs : List (K × V)) (m : K × V) (ys : List (K × V)) (js ls : List (Branch K V)) → IsNode (xs ++ m ∷ ys) (js ++ ls) → (0 < length js + length ls → length js ≡ suc (length xs)) → IsCut xs m ys js ls
-  is_cut xs m ys [] [] s p = record {
-    lower = record { fits = λ q. absurd (omega arith); kids = refl };
-    upper = record { fits = λ q. absurd (omega arith); kids = refl };
-    lower_height = refl;
-    upper_height = refl;
-    joined = sym (weave_join xs m ys [] [] p);
-  }
-  is_cut xs m ys [] (l ∷ ls) s p = absurd (let q = p (omega arith) in omega arith)
-  is_cut xs m ys (j ∷ js) [] s p =
-      let q = p (omega arith) in
-      let r = s.fits (omega arith) in
-      absurd (omega (arith, length-append xs (m ∷ ys), length-append (j ∷ js) []))
-  is_cut xs m ys (j ∷ js) (l ∷ ls) s p =
-      let q = p (omega arith) in
-      let r = s.fits (omega arith) in
-      let kids = each_back (IsKid 16 j.height) (j ∷ js) (l ∷ ls) s.kids in
-      record {
-        lower = record { fits = λ _. q; kids = each_front (IsKid 16 j.height) (j ∷ js) (l ∷ ls) s.kids };
-        upper = record { fits = λ _. omega (arith, length-append xs (m ∷ ys), length-append (j ∷ js) (l ∷ ls)); kids = kids_of j.height (l ∷ ls) kids };
-        lower_height = refl;
-        upper_height = height_kids j.height (l ∷ ls) (omega arith) kids;
-        joined = sym (weave_join xs m ys (j ∷ js) (l ∷ ls) p);
-      }
+-- ---- inner nodes
 
-  -- a node of these rows is a kid
-  pub kid_of : (h : ℕ) (es : List (K × V)) (ks : List (Branch K V)) (fewest : ℕ) → IsNode es ks → height_of ks ≡ h → fewest ≤ length es → length es ≤ 32 → IsKid fewest h (branch_of es ks)
-  kid_of h es ks fewest s e p q = record { level = e; least = p; most = q; full = full_of es ks s }
+module _ {K V : Type 0} (R : K → K → Ordering) where
+  pub inner_height : (ss : List K) (ks : List (Branch K V)) (s : IsInner R ss ks) → height_of ks ≡ suc s.level
+  inner_height ss ks s = let f = s.fits in height_kids s.level ks (omega arith) s.kids
 
-  -- two parts that are both large enough
-  pub cut_become : (h : ℕ) (xs : List (K × V)) (m : K × V) (ys : List (K × V)) (js ls : List (Branch K V)) → IsCut xs m ys js ls → height_of (js ++ ls) ≡ h → 16 ≤ length xs → length xs ≤ 32 → 16 ≤ length ys → length ys ≤ 32
-      → HasBecome 16 h (weave (xs ++ m ∷ ys) (js ++ ls)) (branch_of xs js) (Option.Some (m, branch_of ys ls))
-  cut_become h xs m ys js ls s e p q u v = (kid_of h xs js 16 s.lower (s.lower_height ∙ e) p q, kid_of h ys ls 16 s.upper (s.upper_height ∙ e) u v, s.joined)
+  pub inner_full : (ss : List K) (ks : List (Branch K V)) → IsInner R ss ks → IsFull (branch_of [] ss ks)
+  inner_full ss ks s =
+      let long : suc (length ss) * (16 * 17 ^ s.level) ≤ length (flat ks) = subst (λ n. n * (16 * 17 ^ s.level) ≤ length (flat ks)) s.fits (flat_long s.level ks s.kids) in
+      let count : length ss ≡ 0 + length ss = omega arith in
+      (subst (λ n. fewest_pairs n (0 + length ss) ≤ length (flat ks)) (sym (inner_height ss ks s)) (subst (λ n. suc n * (16 * 17 ^ s.level) ≤ length (flat ks)) count long), each_size s.level ks s.kids)
+
+  -- so do three kids
+  pub kids_many : (ss : List K) (ks : List (Branch K V)) → IsInner R ss ks → 1 < length ss → 32 < length (flat ks)
+  kids_many ss ks s p =
+      let f = s.fits in
+      let three : 3 * (16 * 17 ^ s.level) ≤ length ks * (16 * 17 ^ s.level) = mul-le-mul_right (16 * 17 ^ s.level) (omega (arith, f, p)) in
+      omega (arith, three, flat_long s.level ks s.kids, one_power s.level)
+
+  -- an inner node of these rows is a kid
+  pub inner_kid : (h fewest : ℕ) (ss : List K) (ks : List (Branch K V)) → IsInner R ss ks → height_of ks ≡ h → fewest ≤ length ss → length ss ≤ 32 → IsKid fewest h (branch_of [] ss ks)
+  inner_kid h fewest ss ks s e p q = record { level = e; least = omega arith; most = omega arith; full = inner_full ss ks s }
+
+  -- ---- which of both a node is
+
+  none_inner : (ss : List K) (ks : List (Branch K V)) → IsInner R ss ks → ks ≡ [] → ⊥
+  none_inner ss ks s e = let f = s.fits in omega (arith, f, ap length e)
+
+  pub leaf_is : (b : Branch K V) (es : List (K × V)) (ss : List K) (ks : List (Branch K V)) → branch_of es ss ks ≡ b → IsNode R es ss ks → ks ≡ [] → (ss ≡ []) × (branch_of es [] [] ≡ b)
+  leaf_is b es ss ks is (inl leaf) none = (leaf.0, sym (ap (λ x. branch_of es x ks) leaf.0 ∙ ap (λ x. branch_of es [] x) none) ∙ is)
+  leaf_is b es ss ks is (inr inner) none = absurd (none_inner ss ks inner.1 none)
+
+  pub inner_is : (b : Branch K V) (es : List (K × V)) (ss : List K) (ks : List (Branch K V)) → branch_of es ss ks ≡ b → IsNode R es ss ks → (length ks ≡ 0 → ⊥) → (es ≡ []) × (branch_of [] ss ks ≡ b) × IsInner R ss ks
+  inner_is b es ss ks is (inl leaf) some = absurd (some (ap length leaf.1))
+  inner_is b es ss ks is (inr inner) some = (inner.0, sym (ap (λ x. branch_of x ss ks) inner.0) ∙ is, inner.1)
+
+  pub node_full : (es : List (K × V)) (ss : List K) (ks : List (Branch K V)) → IsNode R es ss ks → IsFull (branch_of es ss ks)
+  node_full es ss ks (inl leaf) = subst (λ x. IsFull (branch_of es x ks)) (sym leaf.0) (subst (λ x. IsFull (branch_of es [] x)) (sym leaf.1) (leaf_full es))
+  node_full es ss ks (inr inner) = subst (λ x. IsFull (branch_of x ss ks)) (sym inner.0) (inner_full ss ks inner.1)
+
+  pub not_shrunk : (b : Branch K V) (es : List (K × V)) (ss : List K) (ks : List (Branch K V)) → branch_of es ss ks ≡ b → IsNode R es ss ks → HasShrunk b b
+  not_shrunk b es ss ks is node = record { level = refl; most = omega arith; least = omega arith; full = subst IsFull is (node_full es ss ks node) }
+
+  -- a kid of an inner node
+  pub kid_at : (i : ℕ) (ss : List K) (ks : List (Branch K V)) (d : Branch K V) → IsInner R ss ks → i < length ks → (suc (get_or ks i d).height ≡ height_of ks) × IsKid 16 (get_or ks i d).height (get_or ks i d)
+  kid_at i ss ks d s p =
+      let k = each_at (IsKid 16 s.level) ks i d p s.kids in
+      (ap suc k.level ∙ sym (inner_height ss ks s), record { level = refl; least = k.least; most = k.most; full = k.full })
+
+  -- a place among the separators is one of a kid
+  pub below_kids : (i : ℕ) (ss : List K) (ks : List (Branch K V)) → IsInner R ss ks → i ≤ length ss → i < length ks
+  below_kids i ss ks s p = let f = s.fits in omega arith
+
+-- the pairs, the height and the number of a leaf
+pub leaf_pairs : {K V : Type 0} (b : Branch K V) (es : List (K × V)) → branch_of es [] [] ≡ b → b.pairs ≡ es
+leaf_pairs b es is = sym (ap (λ x. x.pairs) is) ∙ append-nil es
+
+pub leaf_count : {K V : Type 0} (b : Branch K V) (es : List (K × V)) → branch_of es [] [] ≡ b → b.count ≡ length es
+leaf_count b es is = let n = ap (λ x. x.count) is in omega arith

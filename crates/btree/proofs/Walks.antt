@@ -1,19 +1,22 @@
--- Facts on what a walk has left.
-use Rattle.std.proofs.Common.{◌≡◌, ℕ, zero, suc, ◌+◌, ◌-◌, ◌<◌, ◌≤◌, Bool, true, false, not, List, [], ◌∷◌, ◌++◌, length, reverse, get_or, take, drop, refl, sym, ap, subst, ◌∙◌, arith, append_assoc, append-nil}
+-- What a walk passes: what is left of the nodes on its way, and the rows of leaves.
 use denote.Param.Weighed.{most}
+use Rattle.std.proofs.Common.{◌≡◌, inl, inr, ℕ, zero, suc, ◌+◌, ◌-◌, ◌<◌, ◌≤◌, Bool, true, false, not, Option, Some, None, List, [], ◌∷◌, ◌++◌, length, reverse, take, drop, get_or, refl, sym, ap, subst, ◌∙◌, arith, append_assoc, append-nil, length-append}
 use Rattle.std.specs.List.{filter}
 use Rattle.std.proofs.lemmas.List.{reverse-append, take_all, take_more}
 use Rattle.std.proofs.lemmas.List.Elements.{filter-append}
+use Rattle.std.specs.Cmp.{IsTotalOrder}
+use Rattle.std.specs.Ordering.{ordering_reverse}
 use Rattle.std.specs.declared.cmp.Ordering.{Ordering}
-use Rattle.std.specs.declared.cmp.Ordering.TheVariants.{Less}
+use Rattle.std.specs.declared.cmp.Ordering.TheVariants.{Less, Equal, Greater}
 use Rattle.btree.specs.Order.{Each, Ascends}
 use Rattle.btree.specs.Branch.{Branch}
-use Rattle.btree.specs.Rows.{first_pairs, rest, weave, height_of, branch_of, IsNode}
-use Rattle.btree.specs.Walk.{behind, ahead, left_of, left_back_of, HasRoomBelow, IsPath}
+use Rattle.btree.specs.Parts.{IsFrom, flat, AreParted}
+use Rattle.btree.specs.Rows.{height_of, branch_of, IsKid, IsInner, IsNode}
+use Rattle.btree.specs.Walk.{left_of, left_back_of, HaveRoomBelow, IsPath}
 use Rattle.btree.specs.declared.forward.Left.{Left}
 use Rattle.btree.proofs.Order.{each_map, each_at, not_before_up}
-use Rattle.btree.proofs.Shapes.{weave_leaf}
-use Rattle.btree.proofs.Places.{before, within, beyond, cut, within_none, within_at, before_each, beyond_each}
+use Rattle.btree.proofs.Parting.{flat_append, flat_cut, lower_each, upper_each}
+use Rattle.btree.proofs.Shapes.{inner_height, kid_some}
 
 whole : {A : Type 0} (n : ℕ) (xs : List A) → n ≡ length xs → take n xs ≡ xs
 whole zero [] e = refl
@@ -21,7 +24,7 @@ whole (suc n) [] e = absurd (omega arith)
 whole zero (x ∷ xs) e = absurd (omega arith)
 whole (suc n) (x ∷ xs) e = ap (λ ys. x ∷ ys) (whole n xs (omega arith))
 
-later_all : {A : Type 0} (xs : List A) → take (length xs - 1) (drop 1 xs) ≡ drop 1 xs
+pub later_all : {A : Type 0} (xs : List A) → take (length xs - 1) (drop 1 xs) ≡ drop 1 xs
 later_all [] = whole 0 [] refl
 later_all (x ∷ xs) = whole (suc (length xs) - 1) xs (omega arith)
 
@@ -29,188 +32,134 @@ pub positive : (n : ℕ) → (n ≡ 0 → ⊥) → 0 < n
 positive zero f = absurd (f refl)
 positive (suc n) f = omega arith
 
-rest_dropped : {A : Type 0} (i : ℕ) (xs : List A) → drop i (rest xs) ≡ drop (suc i) xs
-rest_dropped zero [] = refl
-rest_dropped (suc i) [] = refl
-rest_dropped i (x ∷ xs) = refl
-
-last_split : {A : Type 0} (xs : List A) (d : A) → 0 < length xs → xs ≡ take (length xs - 1) xs ++ get_or xs (length xs - 1) d ∷ []
+pub last_split : {A : Type 0} (xs : List A) (d : A) → 0 < length xs → xs ≡ take (length xs - 1) xs ++ get_or xs (length xs - 1) d ∷ []
 last_split xs d p =
     let more : length xs - 1 + 1 ≡ length xs = omega arith in
     sym (take_all (length xs) xs (omega arith)) ∙ ap (λ n. take n xs) (sym more) ∙ take_more xs (length xs - 1) d (omega arith)
 
+pub shorter : {A : Type 0} (xs ys : List A) (x : A) → xs ≡ x ∷ ys → length ys < length xs
+shorter xs ys x e = omega (arith, ap length e)
+
+pub none_left : {A : Type 0} (xs : List A) → length xs ≡ 0 → xs ≡ []
+none_left [] e = refl
+none_left (x ∷ xs) e = absurd (omega arith)
+
+-- where nothing was left, nothing is
+pub both_none : {A : Type 0} (row old result new : List A) → row ++ old ≡ [] → row ++ old ≡ result ++ new → row ++ new ≡ []
+both_none [] old [] new e f = sym f ∙ e
+both_none [] old (x ∷ result) new e f = absurd (omega (arith, ap length (sym f ∙ e)))
+both_none (x ∷ row) old result new e f = absurd (omega (arith, ap length e))
+
 module _ {K V : Type 0} where
   -- ---- the path
 
-  pub left_push : (rs : List (Left K V)) (r : Left K V) → left_of (rs ++ r ∷ []) ≡ behind r.entries.now r.kids.now ++ left_of rs
-  left_push [] r = sym (append-nil (behind r.entries.now r.kids.now))
-  left_push (x ∷ rs) r = ap (λ zs. zs ++ behind x.entries.now x.kids.now) (left_push rs r) ∙ append_assoc (behind r.entries.now r.kids.now) (left_of rs) (behind x.entries.now x.kids.now)
+  pub left_push : (rs : List (Left K V)) (r : Left K V) → left_of (rs ++ r ∷ []) ≡ flat r.kids.now ++ left_of rs
+  left_push [] r = sym (append-nil (flat r.kids.now))
+  left_push (x ∷ rs) r = ap (λ zs. zs ++ flat x.kids.now) (left_push rs r) ∙ append_assoc (flat r.kids.now) (left_of rs) (flat x.kids.now)
 
-  pub left_back_push : (rs : List (Left K V)) (r : Left K V) → left_back_of (rs ++ r ∷ []) ≡ reverse (ahead r.entries.now r.kids.now) ++ left_back_of rs
-  left_back_push [] r = sym (append-nil (reverse (ahead r.entries.now r.kids.now)))
-  left_back_push (x ∷ rs) r = ap (λ zs. zs ++ reverse (ahead x.entries.now x.kids.now)) (left_back_push rs r) ∙ append_assoc (reverse (ahead r.entries.now r.kids.now)) (left_back_of rs) (reverse (ahead x.entries.now x.kids.now))
+  pub left_back_push : (rs : List (Left K V)) (r : Left K V) → left_back_of (rs ++ r ∷ []) ≡ reverse (flat r.kids.now) ++ left_back_of rs
+  left_back_push [] r = sym (append-nil (reverse (flat r.kids.now)))
+  left_back_push (x ∷ rs) r = ap (λ zs. zs ++ reverse (flat x.kids.now)) (left_back_push rs r) ∙ append_assoc (reverse (flat r.kids.now)) (left_back_of rs) (reverse (flat x.kids.now))
 
-  pub path_push : (n : ℕ) (rs : List (Left K V)) (r : Left K V) → IsPath n rs → 0 < length r.entries.now → n + length rs < 16 → HasRoomBelow (n + length rs) r.kids.now → IsPath n (rs ++ r ∷ [])
-  path_push n [] r h p m q = ((p, omega (arith, m), subst (λ m. HasRoomBelow m r.kids.now) (omega arith) q), tt)
-  path_push n (x ∷ rs) r h p m q = (h.0, path_push (suc n) rs r h.1 p (omega (arith, m)) (subst (λ m. HasRoomBelow m r.kids.now) (omega arith) q))
+  pub path_push : (n : ℕ) (rs : List (Left K V)) (r : Left K V) → IsPath n rs → 0 < length r.kids.now → n + length rs < 16 → HaveRoomBelow (n + length rs) r.kids.now → IsPath n (rs ++ r ∷ [])
+  path_push n [] r h p m q = ((p, omega (arith, m), subst (λ m. HaveRoomBelow m r.kids.now) (omega arith) q), tt)
+  path_push n (x ∷ rs) r h p m q = (h.0, path_push (suc n) rs r h.1 p (omega (arith, m)) (subst (λ m. HaveRoomBelow m r.kids.now) (omega arith) q))
 
-  pub path_pop : (n : ℕ) (rs : List (Left K V)) (r : Left K V) → IsPath n (rs ++ r ∷ []) → IsPath n rs × (0 < length r.entries.now) × (n + length rs < 16) × HasRoomBelow (n + length rs) r.kids.now
-  path_pop n [] r h = (tt, h.0.0, omega (arith, h.0.1), subst (λ m. HasRoomBelow m r.kids.now) (omega arith) h.0.2)
+  pub path_pop : (n : ℕ) (rs : List (Left K V)) (r : Left K V) → IsPath n (rs ++ r ∷ []) → IsPath n rs × (0 < length r.kids.now) × (n + length rs < 16) × HaveRoomBelow (n + length rs) r.kids.now
+  path_pop n [] r h = (tt, h.0.0, omega (arith, h.0.1), subst (λ m. HaveRoomBelow m r.kids.now) (omega arith) h.0.2)
   path_pop n (x ∷ rs) r h =
       let t = path_pop (suc n) rs r h.1 in
-      ((h.0, t.0), t.1, omega (arith, t.2), subst (λ m. HasRoomBelow m r.kids.now) (omega arith) t.3)
+      ((h.0, t.0), t.1, omega (arith, t.2), subst (λ m. HaveRoomBelow m r.kids.now) (omega arith) t.3)
 
   -- ---- room for the nodes below
 
-  -- the kids of a node that there is room for
-  pub room_in : (rows : ℕ) (es : List (K × V)) (ks : List (Branch K V)) (b : Branch K V) → branch_of es ks ≡ b → IsNode es ks → rows + b.height < 16 → HasRoomBelow rows ks
-  room_in rows es [] b is s p = tt
-  room_in rows es (k ∷ ks) b is s p =
-      let level = ap (λ x. x.height) is in
-      each_map (λ x t. (let e = t.level in omega arith)) (k ∷ ks) s.kids
+  pub room_at : (rows : ℕ) (ks : List (Branch K V)) (i : ℕ) (d : Branch K V) → i < length ks → HaveRoomBelow rows ks → (rows + suc (get_or ks i d).height < 16) × (0 < length (get_or ks i d).pairs)
+  room_at rows ks i d p s = each_at (λ (k : Branch K V). (rows + suc k.height < 16) × (0 < length k.pairs)) ks i d p s
 
-  -- a kid is lower than the highest of the kids that it is among
-  pub height_at : (ks : List (Branch K V)) (i : ℕ) (d : Branch K V) → i < length ks → suc (get_or ks i d).height ≤ most (λ k. k.height + 1) ks
-  height_at [] i d p = absurd (omega arith)
-  height_at (k ∷ ks) zero d p = omega arith
-  height_at (k ∷ ks) (suc i) d p = omega (arith, height_at ks i d (omega arith))
-
-  pub first_room : (rows : ℕ) (ks : List (Branch K V)) (d : Branch K V) → 0 < length ks → HasRoomBelow rows ks → rows + suc (get_or ks 0 d).height < 16
-  first_room rows [] d p s = absurd (omega arith)
-  first_room rows (k ∷ ks) d p s = s.0
-
-  pub room_at : (rows : ℕ) (ks : List (Branch K V)) (i : ℕ) (d : Branch K V) → i < length ks → HasRoomBelow rows ks → rows + suc (get_or ks i d).height < 16
-  room_at rows ks i d p s = each_at (λ (k : Branch K V). rows + suc k.height < 16) ks i d p s
-
-  pub room_dropped : (rows n : ℕ) (ks : List (Branch K V)) → HasRoomBelow rows ks → HasRoomBelow rows (drop n ks)
+  pub room_dropped : (rows n : ℕ) (ks : List (Branch K V)) → HaveRoomBelow rows ks → HaveRoomBelow rows (drop n ks)
   room_dropped rows zero ks s = s
   room_dropped rows (suc n) [] s = tt
   room_dropped rows (suc n) (k ∷ ks) s = room_dropped rows n ks s.1
 
-  pub later_room : (rows : ℕ) (ks : List (Branch K V)) → HasRoomBelow rows ks → HasRoomBelow rows (drop 1 ks)
-  later_room rows [] s = tt
-  later_room rows (k ∷ ks) s = s.1
+  pub room_taken : (rows n : ℕ) (ks : List (Branch K V)) → HaveRoomBelow rows ks → HaveRoomBelow rows (take n ks)
+  room_taken rows zero ks s = tt
+  room_taken rows (suc n) [] s = tt
+  room_taken rows (suc n) (k ∷ ks) s = (s.0, room_taken rows n ks s.1)
 
-  pub height_first : (ks : List (Branch K V)) (d : Branch K V) → 0 < length ks → height_of ks ≡ suc (get_or ks 0 d).height
-  height_first [] d p = absurd (omega arith)
-  height_first (k ∷ ks) d p = refl
+  pub flat_first : (ks : List (Branch K V)) (d : Branch K V) → 0 < length ks → flat ks ≡ (get_or ks 0 d).pairs ++ flat (drop 1 ks)
+  flat_first [] d p = absurd (omega arith)
+  flat_first (k ∷ ks) d p = refl
 
-  -- ---- into a node
+  pub flat_last : (ks : List (Branch K V)) (d : Branch K V) → 0 < length ks → flat ks ≡ flat (take (length ks - 1) ks) ++ (get_or ks (length ks - 1) d).pairs
+  flat_last ks d p =
+      ap flat (last_split ks d p) ∙ flat_append (take (length ks - 1) ks) (get_or ks (length ks - 1) d ∷ []) ∙ ap (λ zs. flat (take (length ks - 1) ks) ++ zs) (append-nil (get_or ks (length ks - 1) d).pairs)
 
-  pub weave_behind : (es : List (K × V)) (ks : List (Branch K V)) → weave es ks ≡ first_pairs ks ++ behind es (rest ks)
-  weave_behind [] ks = sym (append-nil (first_pairs ks))
-  weave_behind (e ∷ es) ks = refl
+module _ {K V : Type 0} (R : K → K → Ordering) where
+  -- the kids of a node that there is room for
+  pub room_in : (rows : ℕ) (es : List (K × V)) (ss : List K) (ks : List (Branch K V)) (b : Branch K V) → branch_of es ss ks ≡ b → IsNode R es ss ks → rows + b.height < 16 → HaveRoomBelow rows ks
+  room_in rows es ss ks b is (inl leaf) p = subst (HaveRoomBelow rows) (sym leaf.1) tt
+  room_in rows es ss ks b is (inr s) p =
+      let level = ap (λ x. x.height) is in
+      let height = inner_height R ss ks s.1 in
+      each_map (λ x t. (let e = t.level in omega (arith, e, level, height, p), kid_some s.1.level x t)) ks s.1.kids
 
-  pub entered : (es : List (K × V)) (ks : List (Branch K V)) (d : Branch K V) → 0 < length ks → weave es ks ≡ (get_or ks 0 d).pairs ++ behind es (drop 1 ks)
-  entered es [] d p = absurd (omega arith)
-  entered es (k ∷ ks) d p = weave_behind es (k ∷ ks)
+-- ---- what a point parts
 
-  pub weave_ahead : (es : List (K × V)) (ks : List (Branch K V)) → weave es ks ≡ ahead es ks ++ within (length es) ks
-  weave_ahead [] ks = refl
-  weave_ahead (e ∷ es) ks = ap (λ zs. first_pairs ks ++ e ∷ zs) (weave_ahead es (rest ks)) ∙ sym (append_assoc (first_pairs ks) (e ∷ ahead es (rest ks)) (within (length es) (rest ks)))
-
-  pub behind_first : (es : List (K × V)) (ks : List (Branch K V)) (d : K × V) → 0 < length es → behind es ks ≡ get_or es 0 d ∷ weave (drop 1 es) ks
-  behind_first [] ks d p = absurd (omega arith)
-  behind_first (e ∷ es) ks d p = refl
-
-  ahead_last : (es : List (K × V)) (e : K × V) (ks : List (Branch K V)) → ahead (es ++ e ∷ []) ks ≡ weave es ks ++ e ∷ []
-  ahead_last [] e ks = refl
-  ahead_last (x ∷ es) e ks = ap (λ zs. first_pairs ks ++ x ∷ zs) (ahead_last es e (rest ks)) ∙ sym (append_assoc (first_pairs ks) (x ∷ weave es (rest ks)) (e ∷ []))
-
-  -- ---- one step
-
-  pub walk_step : (old rs new : List (Left K V)) (r : Left K V) (d : K × V) → old ≡ rs ++ r ∷ [] → 0 < length r.entries.now → left_of new ≡ weave (take (length r.entries.now - 1) (drop 1 r.entries.now)) r.kids.now ++ left_of rs → left_of old ≡ get_or r.entries.now 0 d ∷ left_of new
-  walk_step old rs new r d e p f =
-      ap left_of e ∙ left_push rs r ∙ ap (λ zs. zs ++ left_of rs) (behind_first r.entries.now r.kids.now d p) ∙ ap (λ zs. get_or r.entries.now 0 d ∷ zs) (sym (f ∙ ap (λ zs. weave zs r.kids.now ++ left_of rs) (later_all r.entries.now)))
-
-  leaf_behind : (es : List (K × V)) (ks : List (Branch K V)) → length ks ≡ 0 → behind es ks ≡ es
-  leaf_behind [] ks e = refl
-  leaf_behind (x ∷ es) [] e = ap (λ zs. x ∷ zs) (weave_leaf es)
-  leaf_behind (x ∷ es) (k ∷ ks) e = absurd (omega (arith, e))
-
-  -- a whole row, and a row of one pair
-  pub leaf_step : (old rs : List (Left K V)) (r : Left K V) → old ≡ rs ++ r ∷ [] → length r.kids.now ≡ 0 → left_of old ≡ r.entries.now ++ left_of rs
-  leaf_step old rs r e none = ap left_of e ∙ left_push rs r ∙ ap (λ zs. zs ++ left_of rs) (leaf_behind r.entries.now r.kids.now none)
-
-  behind_taken : (es : List (K × V)) (ks : List (Branch K V)) → 0 < length es → behind es ks ≡ take 1 es ++ weave (drop 1 es) ks
-  behind_taken [] ks p = absurd (omega arith)
-  behind_taken (x ∷ es) ks p = refl
-
-  pub pair_step : (old rs new : List (Left K V)) (r : Left K V) (row more : List (K × V)) → old ≡ rs ++ r ∷ [] → 0 < length r.entries.now → row ≡ take 1 r.entries.now → more ≡ drop 1 r.entries.now → left_of new ≡ weave more r.kids.now ++ left_of rs → left_of old ≡ row ++ left_of new
-  pair_step old rs new r row more e p f g h =
-      ap left_of e ∙ left_push rs r ∙ ap (λ zs. zs ++ left_of rs) (behind_taken r.entries.now r.kids.now p)
-      ∙ ap (λ zs. (zs ++ weave (drop 1 r.entries.now) r.kids.now) ++ left_of rs) (sym f) ∙ ap (λ zs. (row ++ weave zs r.kids.now) ++ left_of rs) (sym g)
-      ∙ append_assoc row (weave more r.kids.now) (left_of rs) ∙ ap (λ zs. row ++ zs) (sym h)
-
-  pub step_back : (old rs new : List (Left K V)) (r : Left K V) (d : K × V) → old ≡ rs ++ r ∷ [] → 0 < length r.entries.now → left_back_of new ≡ reverse (weave (take (length r.entries.now - 1) r.entries.now) r.kids.now) ++ left_back_of rs → left_back_of old ≡ get_or r.entries.now (length r.entries.now - 1) d ∷ left_back_of new
-  step_back old rs new r d is p f =
-      let es = r.entries.now in
-      let earlier = take (length es - 1) es in
-      let e = get_or es (length es - 1) d in
-      ap left_back_of is ∙ left_back_push rs r
-      ∙ ap (λ zs. reverse zs ++ left_back_of rs) (ap (λ zs. ahead zs r.kids.now) (last_split es d p) ∙ ahead_last earlier e r.kids.now)
-      ∙ ap (λ zs. zs ++ left_back_of rs) (reverse-append (weave earlier r.kids.now) (e ∷ []))
-      ∙ ap (λ zs. e ∷ zs) (sym f)
-
-  -- ---- what stands on either side of a place
-
-  pub beyond_behind : (i : ℕ) (es : List (K × V)) (ks : List (Branch K V)) → beyond i es ks ≡ behind (drop i es) (drop (suc i) ks)
-  beyond_behind zero [] ks = refl
-  beyond_behind (suc i) [] ks = refl
-  beyond_behind zero (e ∷ es) ks = ap (λ zs. e ∷ weave es zs) (rest_dropped zero ks)
-  beyond_behind (suc i) (e ∷ es) ks = beyond_behind i es (rest ks) ∙ ap (behind (drop i es)) (rest_dropped (suc i) ks)
-
-  pub before_ahead : (i : ℕ) (es : List (K × V)) (ks : List (Branch K V)) → before i es ks ≡ ahead (take i es) ks
-  before_ahead zero es ks = refl
-  before_ahead (suc i) [] ks = refl
-  before_ahead (suc i) (e ∷ es) ks = ap (λ zs. first_pairs ks ++ e ∷ zs) (before_ahead i es (rest ks))
-
-all_kept : {A : Type 0} (p : A → Bool) (xs : List A) → Each (λ x. p x ≡ true) xs → filter p xs ≡ xs
+pub all_kept : {A : Type 0} (p : A → Bool) (xs : List A) → Each (λ x. p x ≡ true) xs → filter p xs ≡ xs
 all_kept p [] h = refl
 all_kept p (x ∷ xs) h = rw h.0 (ap (λ zs. x ∷ zs) (all_kept p xs h.1))
 
-none_kept : {A : Type 0} (p : A → Bool) (xs : List A) → Each (λ x. p x ≡ false) xs → filter p xs ≡ []
+pub none_kept : {A : Type 0} (p : A → Bool) (xs : List A) → Each (λ x. p x ≡ false) xs → filter p xs ≡ []
 none_kept p [] h = refl
 none_kept p (x ∷ xs) h = rw h.0 (none_kept p xs h.1)
 
--- what a point p parts
-module _ {K V : Type 0} (R : K → K → Ordering) (p : K → Bool) (down : (x y : K) → R x y ≡ Less → p y ≡ true → p x ≡ true) where
-  pub kept_from : (i : ℕ) (es : List (K × V)) (ks : List (Branch K V)) → Ascends R (weave es ks) → i ≤ length es → Each (λ (e : K × V). p e.0 ≡ true) (take i es) → Each (λ (e : K × V). p e.0 ≡ false) (drop i es)
-      → filter (λ (e : K × V). not (p e.0)) (weave es ks) ≡ filter (λ (e : K × V). not (p e.0)) (within i ks) ++ behind (drop i es) (drop (suc i) ks)
-  kept_from i es ks s q h k =
-      let q_ = λ (e : K × V). not (p e.0) in
-      let front = before_each R (λ (e : K × V). p e.0 ≡ true) (λ x y. down x.0 y.0) i es ks s h in
-      let back = beyond_each R (λ (e : K × V). p e.0 ≡ false) (λ x y. not_before_up R p down x.0 y.0) i es ks s k in
-      ap (filter q_) (cut i es ks q)
-      ∙ filter-append q_ (before i es ks) (within i ks ++ beyond i es ks)
-      ∙ ap (λ zs. zs ++ filter q_ (within i ks ++ beyond i es ks)) (none_kept q_ (before i es ks) (each_map (λ x t. ap not t) (before i es ks) front))
-      ∙ filter-append q_ (within i ks) (beyond i es ks)
-      ∙ ap (λ zs. filter q_ (within i ks) ++ zs) (all_kept q_ (beyond i es ks) (each_map (λ x t. ap not t) (beyond i es ks) back) ∙ beyond_behind i es ks)
+module _ {K V : Type 0} (R : K → K → Ordering) (o : IsTotalOrder R) (p : K → Bool) (down : (x y : K) → R x y ≡ Less → p y ≡ true → p x ≡ true) (tied : (x y : K) → R x y ≡ Equal → p x ≡ p y) (ss : List K) (ks : List (Branch K V)) (inner : IsInner R ss ks)
+    (i : ℕ) (d : Branch K V) (in_range : i ≤ length ss) (low : i < length ks) (before : Each (λ s. p s ≡ true) (take i ss)) (after : Each (λ s. p s ≡ false) (drop i ss)) where
+  pub front_before : Each (λ (e : K × V). p e.0 ≡ true) (flat (take i ks))
+  front_before = lower_each R (λ (e : K × V). p e.0 ≡ true) (λ s. p s ≡ true) (λ s e t h. down e.0 s h t) i ss ks in_range inner.parted before
 
-  pub from_leaf : (i : ℕ) (es : List (K × V)) (ks : List (Branch K V)) → Ascends R (weave es ks) → i ≤ length es → Each (λ (e : K × V). p e.0 ≡ true) (take i es) → Each (λ (e : K × V). p e.0 ≡ false) (drop i es) → length ks ≡ 0
-      → filter (λ (e : K × V). not (p e.0)) (weave es ks) ≡ behind (drop i es) ks
-  from_leaf i es [] s q h k n = kept_from i es [] s q h k ∙ ap (λ zs. filter (λ (e : K × V). not (p e.0)) zs ++ behind (drop i es) []) (within_none i [] (omega arith))
-  from_leaf i es (x ∷ ks) s q h k n = absurd (omega (arith, n))
+  not_before : (s : K) (e : K × V) → p s ≡ false → IsFrom R s e.0 → p e.0 ≡ false
+  not_before s e f (inl t) = tied e.0 s t ∙ f
+  not_before s e f (inr g) = not_before_up R p down s e.0 (o.antisymm s e.0 ∙ ap ordering_reverse g) f
 
-  pub from_kid : (i : ℕ) (es : List (K × V)) (ks : List (Branch K V)) (d : Branch K V) → Ascends R (weave es ks) → i ≤ length es → Each (λ (e : K × V). p e.0 ≡ true) (take i es) → Each (λ (e : K × V). p e.0 ≡ false) (drop i es) → i < length ks
-      → filter (λ (e : K × V). not (p e.0)) (weave es ks) ≡ filter (λ (e : K × V). not (p e.0)) (get_or ks i d).pairs ++ behind (drop i es) (drop (i + 1) ks)
-  from_kid i es ks d s q h k n =
-      let more : suc i ≡ i + 1 = omega arith in
-      kept_from i es ks s q h k ∙ ap (λ zs. filter (λ (e : K × V). not (p e.0)) zs ++ behind (drop i es) (drop (suc i) ks)) (within_at i ks d n)
-      ∙ ap (λ n. filter (λ (e : K × V). not (p e.0)) (get_or ks i d).pairs ++ behind (drop i es) (drop n ks)) more
+  pub back_after : Each (λ (e : K × V). p e.0 ≡ false) (flat (drop (suc i) ks))
+  back_after = upper_each R (λ (e : K × V). p e.0 ≡ false) (λ s. p s ≡ false) not_before i ss ks inner.fits in_range inner.parted after
 
-  pub kept_before : (i : ℕ) (es : List (K × V)) (ks : List (Branch K V)) → Ascends R (weave es ks) → i ≤ length es → Each (λ (e : K × V). p e.0 ≡ true) (take i es) → Each (λ (e : K × V). p e.0 ≡ false) (drop i es)
-      → reverse (filter (λ (e : K × V). p e.0) (weave es ks)) ≡ reverse (filter (λ (e : K × V). p e.0) (within i ks)) ++ reverse (ahead (take i es) ks)
-  kept_before i es ks s q h k =
-      let q_ = λ (e : K × V). p e.0 in
-      let front = before_each R (λ (e : K × V). p e.0 ≡ true) (λ x y. down x.0 y.0) i es ks s h in
-      let back = beyond_each R (λ (e : K × V). p e.0 ≡ false) (λ x y. not_before_up R p down x.0 y.0) i es ks s k in
+  pub kept_from : filter (λ (e : K × V). not (p e.0)) (flat ks) ≡ filter (λ (e : K × V). not (p e.0)) (get_or ks i d).pairs ++ flat (drop (suc i) ks)
+  kept_from =
+      let q = λ (e : K × V). not (p e.0) in
+      ap (filter q) (flat_cut i ks d low)
+      ∙ filter-append q (flat (take i ks)) ((get_or ks i d).pairs ++ flat (drop (suc i) ks))
+      ∙ ap (λ zs. zs ++ filter q ((get_or ks i d).pairs ++ flat (drop (suc i) ks))) (none_kept q (flat (take i ks)) (each_map (λ x t. ap not t) (flat (take i ks)) front_before))
+      ∙ filter-append q (get_or ks i d).pairs (flat (drop (suc i) ks))
+      ∙ ap (λ zs. filter q (get_or ks i d).pairs ++ zs) (all_kept q (flat (drop (suc i) ks)) (each_map (λ x t. ap not t) (flat (drop (suc i) ks)) back_after))
+
+  pub kept_before : reverse (filter (λ (e : K × V). p e.0) (flat ks)) ≡ reverse (filter (λ (e : K × V). p e.0) (get_or ks i d).pairs) ++ reverse (flat (take i ks))
+  kept_before =
+      let q = λ (e : K × V). p e.0 in
       ap reverse (
-      ap (filter q_) (cut i es ks q)
-      ∙ filter-append q_ (before i es ks) (within i ks ++ beyond i es ks)
-      ∙ ap (λ zs. zs ++ filter q_ (within i ks ++ beyond i es ks)) (all_kept q_ (before i es ks) front ∙ before_ahead i es ks)
-      ∙ ap (λ zs. ahead (take i es) ks ++ zs) (filter-append q_ (within i ks) (beyond i es ks) ∙ ap (λ zs. filter q_ (within i ks) ++ zs) (none_kept q_ (beyond i es ks) back) ∙ append-nil (filter q_ (within i ks))))
-      ∙ reverse-append (ahead (take i es) ks) (filter q_ (within i ks))
+      ap (filter q) (flat_cut i ks d low)
+      ∙ filter-append q (flat (take i ks)) ((get_or ks i d).pairs ++ flat (drop (suc i) ks))
+      ∙ ap (λ zs. zs ++ filter q ((get_or ks i d).pairs ++ flat (drop (suc i) ks))) (all_kept q (flat (take i ks)) front_before)
+      ∙ ap (λ zs. flat (take i ks) ++ zs) (filter-append q (get_or ks i d).pairs (flat (drop (suc i) ks)) ∙ ap (λ zs. filter q (get_or ks i d).pairs ++ zs) (none_kept q (flat (drop (suc i) ks)) back_after) ∙ append-nil (filter q (get_or ks i d).pairs)))
+      ∙ reverse-append (flat (take i ks)) (filter q (get_or ks i d).pairs)
 
-pub shorter : {A : Type 0} (xs ys : List A) (x : A) → xs ≡ x ∷ ys → length ys < length xs
-shorter xs ys x e = omega (arith, ap length e)
+-- a leaf's pairs from a place on, and before it
+pub leaf_from : {K V : Type 0} (p : K → Bool) (i : ℕ) (es : List (K × V)) → Each (λ (e : K × V). p e.0 ≡ true) (take i es) → Each (λ (e : K × V). p e.0 ≡ false) (drop i es) → filter (λ (e : K × V). not (p e.0)) es ≡ drop i es
+leaf_from p zero es h k = all_kept (λ e. not (p e.0)) es (each_map (λ x t. ap not t) es k)
+leaf_from p (suc i) [] h k = refl
+leaf_from p (suc i) (e ∷ es) h k = rw h.0 (leaf_from p i es h.1 k)
+
+pub leaf_before : {K V : Type 0} (p : K → Bool) (i : ℕ) (es : List (K × V)) → Each (λ (e : K × V). p e.0 ≡ true) (take i es) → Each (λ (e : K × V). p e.0 ≡ false) (drop i es) → filter (λ (e : K × V). p e.0) es ≡ take i es
+leaf_before p zero es h k = none_kept (λ e. p e.0) es k
+leaf_before p (suc i) [] h k = refl
+leaf_before p (suc i) (e ∷ es) h k = rw h.0 (ap (λ zs. e ∷ zs) (leaf_before p i es h.1 k))
+
+-- ---- one step in a leaf
+
+pub first_split : {A : Type 0} (xs : List A) (d : A) → 0 < length xs → xs ≡ get_or xs 0 d ∷ take (length xs - 1) (drop 1 xs)
+first_split [] d p = absurd (omega arith)
+first_split (x ∷ xs) d p = ap (λ zs. x ∷ zs) (sym (later_all (x ∷ xs)))
+
+pub last_reversed : {A : Type 0} (xs : List A) (d : A) → 0 < length xs → reverse xs ≡ get_or xs (length xs - 1) d ∷ reverse (take (length xs - 1) xs)
+last_reversed xs d p = ap reverse (last_split xs d p) ∙ reverse-append (take (length xs - 1) xs) (get_or xs (length xs - 1) d ∷ [])

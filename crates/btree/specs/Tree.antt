@@ -1,12 +1,12 @@
 -- What a tree is seen as, and what holds of its root.
-use Rattle.std.specs.Prelude.{ℕ, suc, ◌<◌, ◌≤◌, List, refl}
+use Rattle.std.specs.Prelude.{ℕ, suc, ◌<◌, ◌≤◌, List, length, refl}
 use Rattle.std.specs.Coded.{Coded, code_by, coded×, coded_ℕ, coded_list}
 use Rattle.std.specs.declared.cmp.Ordering.{Ordering}
 use Rattle.btree.specs.Order.{Ascends}
 use Rattle.btree.specs.Branch.{Branch}
 use Rattle.btree.specs.Rows.{IsFull}
 
--- the pairs in the order of their keys, how many levels of nodes there are, and how many pairs each node but the root has
+-- the pairs in the order of their keys, how many levels of nodes there are, and how many pairs or separators each node but the root has
 pub record Content (K V : Type 0) : Type 0 where
   pub pairs : List (K × V)
   pub depth : ℕ
@@ -23,3 +23,4 @@ pub record IsRoot {K V : Type 0} (R : K → K → Ordering) (root : Branch K V) 
   pub most : root.count ≤ 32
   pub full : IsFull root
   pub inner : 0 < root.height → 0 < root.count
+  pub many : 0 < root.height → 32 < length root.pairs

@@ -1,14 +1,14 @@
-//! A walk over pairs against their order. It keeps a row for each node on its way down, and takes no memory.
-ghost use Rattle.std.specs.Prelude.{◌≡◌, ◌+◌, ◌<◌, ◌≤◌, ◌++◌, length, reverse};
+//! A walk over pairs against their order, from leaf row to leaf row. It keeps what is left of each inner node on its way down,
+//! and takes no memory.
+ghost use Rattle.std.specs.Prelude.{◌≡◌, ◌+◌, ◌<◌, ◌≤◌, ◌++◌, length, reverse, []};
 ghost use Rattle.std.specs.Iterator.{YieldsFirstBy, item_count};
 ghost use Rattle.std.specs.List.{filter};
 ghost use Rattle.btree.specs.Order.{Ascends};
-ghost use Rattle.btree.specs.Rows.{weave, height_of};
-ghost use Rattle.btree.specs.Walk.{ahead, left_back_of, HasRoomBelow, IsPath};
+ghost use Rattle.btree.specs.Walk.{left_back_of, IsPath};
 
-use crate::forward::{Left, Path};
+use crate::forward::{Path, push_left};
 use crate::node::Node;
-use crate::search::count_before;
+use crate::search::{count_before, kid_at_point};
 use crate::seek::Point;
 use arrayvec::ArrayVec;
 use std::marker::Model;
@@ -17,12 +17,13 @@ use std::marker::Model;
 ///
 /// Each node is entered once, so a walk takes time in proportion to what it passes, beside the way down to its start.
 #[derive(Drop)]
-pub struct WalkBack<'a, K, V> {
+pub struct WalkBack<'a, K: Ord, V> {
+    row: &'a [(K, V)],
     path: Path<'a, K, V>,
 }
 
-impl<'a, K, V> Model for WalkBack<'a, K, V> {
-    ghost use Rattle.std.specs.Prelude.{List};
+impl<'a, K: Ord, V> Model for WalkBack<'a, K, V> {
+    ghost use Rattle.std.specs.Prelude.{List, ◌++◌, reverse};
     ghost use Rattle.std.specs.Coded.{coded_list, coded×};
     ghost use Rattle.btree.specs.Walk.{left_back_of, IsPath};
 
@@ -30,59 +31,81 @@ impl<'a, K, V> Model for WalkBack<'a, K, V> {
 
     ghost coded = { coded_list (coded× K.code V.code) };
 
-    ghost view = { λ w. left_back_of w.path.items };
+    ghost view = { λ w. reverse w.row.now ++ left_back_of w.path.items };
 
     ghost invariant = { λ w. IsPath 0 w.path.items };
 }
 
-// Puts what is left of a node on the others.
-fn push_back<'a, K, V>(path: &mut Path<'a, K, V>, entries: &'a [(K, V)], kids: &'a [Node<K, V>])
-    requires room { length path.old.items < 16 }
+// Goes down to a node's last leaf. What is left of the nodes on the way goes on the others.
+fn enter_back<'a, K: Ord, V>(path: &mut Path<'a, K, V>, node: &'a Node<K, V>) -> &'a [(K, V)]
     requires path { IsPath 0 path.old.items }
-    requires below { HasRoomBelow (length path.old.items) kids.now }
-    ensures left { left_back_of path.new.items ≡ reverse (ahead entries.now kids.now) ++ left_back_of path.old.items }
+    requires room { length path.old.items + node.now.height < 16 }
+    ensures left { reverse result.now ++ left_back_of path.new.items ≡ reverse node.now.pairs ++ left_back_of path.old.items }
     ensures path { IsPath 0 path.new.items }
-    ensures length { length path.new.items ≤ length path.old.items + 1 }
+    ensures some { 0 < length node.now.pairs → 0 < length result.now }
 {
-    if entries.is_empty() {
-        return;
-    }
-    path.push(Left { entries, kids });
-}
-
-// Puts pairs, each with the kid before it, and the kid after the last on the others, down to the last leaf.
-fn enter_back<'a, K, V>(path: &mut Path<'a, K, V>, entries: &'a [(K, V)], kids: &'a [Node<K, V>])
-    requires room { length path.old.items < 16 }
-    requires path { IsPath 0 path.old.items }
-    requires below { HasRoomBelow (length path.old.items) kids.now }
-    ensures left { left_back_of path.new.items ≡ reverse (weave entries.now kids.now) ++ left_back_of path.old.items }
-    ensures path { IsPath 0 path.new.items }
-{
-    push_back(path, entries, kids);
-    if let Some(kid) = kids.get(entries.len()) {
-        let (entries, kids) = kid.rows();
-        enter_back(path, entries, kids);
+    let (entries, _, kids) = node.rows();
+    match kids {
+        [] => entries,
+        [earlier @ .., last] => {
+            push_left(path, earlier);
+            enter_back(path, last)
+        }
     }
 }
 
-// Puts a node's pairs before a point on the others, down to the leaf where they end.
+// Goes down to the leaf where a node's pairs before a point end.
 fn enter_before<'a, K: Ord, V, P: Point<K>>(
     path: &mut Path<'a, K, V>,
     node: &'a Node<K, V>,
     point: &P,
-)
+) -> &'a [(K, V)]
     requires sorted { Ascends K.cmp node.now.pairs }
     requires path { IsPath 0 path.old.items }
     requires room { length path.old.items + node.now.height < 16 }
-    ensures left { left_back_of path.new.items ≡ reverse (filter (λ e. P.before point.now e.0) node.now.pairs) ++ left_back_of path.old.items }
+    ensures left { reverse result.now ++ left_back_of path.new.items ≡ reverse (filter (λ e. P.before point.now e.0) node.now.pairs) ++ left_back_of path.old.items }
     ensures path { IsPath 0 path.new.items }
 {
-    let (entries, kids) = node.rows();
-    let at = count_before(entries, point);
-    push_back(path, &entries[..at], kids);
-    if let Some(kid) = kids.get(at) {
-        enter_before(path, kid, point);
+    let (entries, separators, kids) = node.rows();
+    if kids.is_empty() {
+        let at = count_before(entries, point);
+        return &entries[..at];
     }
+    let at = kid_at_point(separators, point);
+    push_left(path, &kids[..at]);
+    enter_before(path, &kids[at], point)
+}
+
+// Goes on to the leaf before. There are no pairs only where nothing is left.
+fn leaf_before<'a, K: Ord, V>(path: &mut Path<'a, K, V>) -> &'a [(K, V)]
+    requires path { IsPath 0 path.old.items }
+    ensures left { left_back_of path.old.items ≡ reverse result.now ++ left_back_of path.new.items }
+    ensures path { IsPath 0 path.new.items }
+    ensures end { result.now ≡ [] → left_back_of path.old.items ≡ [] }
+{
+    let Some(top) = path.pop() else {
+        return &[];
+    };
+    match top.kids {
+        [] => &[],
+        [earlier @ .., kid] => {
+            push_left(path, earlier);
+            enter_back(path, kid)
+        }
+    }
+}
+
+// What is left of a leaf, or the leaf before where that is nothing. There are no pairs only where nothing is left.
+fn row_or_before<'a, K: Ord, V>(row: &'a [(K, V)], path: &mut Path<'a, K, V>) -> &'a [(K, V)]
+    requires path { IsPath 0 path.old.items }
+    ensures left { reverse row.now ++ left_back_of path.old.items ≡ reverse result.now ++ left_back_of path.new.items }
+    ensures path { IsPath 0 path.new.items }
+    ensures end { result.now ≡ [] → reverse row.now ++ left_back_of path.old.items ≡ [] }
+{
+    if row.is_empty() {
+        return leaf_before(path);
+    }
+    row
 }
 
 impl<'a, K: Ord, V> WalkBack<'a, K, V> {
@@ -93,12 +116,12 @@ impl<'a, K: Ord, V> WalkBack<'a, K, V> {
         ensures { result ≡ reverse (filter (λ e. P.before point.now e.0) root.now.pairs) }
     {
         let mut path = ArrayVec::new();
-        enter_before(&mut path, root, point);
-        WalkBack { path }
+        let row = enter_before(&mut path, root, point);
+        WalkBack { row, path }
     }
 }
 
-impl<'a, K, V> Iterator for WalkBack<'a, K, V> {
+impl<'a, K: Ord, V> Iterator for WalkBack<'a, K, V> {
     type Item = (&'a K, &'a V);
 
     ghost next_gives = { YieldsFirstBy (λ e. (e.0.now, e.1.now)) (λ w. w) };
@@ -106,15 +129,12 @@ impl<'a, K, V> Iterator for WalkBack<'a, K, V> {
     ghost remaining = { item_count (λ w. w) };
 
     fn next(&mut self) -> Option<(&'a K, &'a V)> {
-        match self.path.pop() {
-            None => None,
-            Some(top) => match top.entries {
-                [] => None,
-                [earlier @ .., entry] => {
-                    enter_back(&mut self.path, earlier, top.kids);
-                    Some((&entry.0, &entry.1))
-                }
-            },
+        match row_or_before(self.row, &mut self.path) {
+            [] => None,
+            [earlier @ .., entry] => {
+                self.row = earlier;
+                Some((&entry.0, &entry.1))
+            }
         }
     }
 }

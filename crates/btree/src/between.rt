@@ -1,43 +1,66 @@
 //! A pair put between the pairs next to its place: two comparisons decide whether it goes there.
-ghost use Rattle.std.specs.Prelude.{◌≡◌, ◌<◌, ◌≤◌, true, false, length, take, drop, vec_capacity, IfSome, IsSome};
+ghost use Rattle.std.specs.Prelude.{◌≡◌, ◌<◌, ◌≤◌, true, false, length, take, drop, vec_capacity, IfSome, IsSome, None};
 ghost use Rattle.std.specs.declared.cmp.Ordering.TheVariants.{Less, Greater};
 ghost use Rattle.std.specs.Option.{option_map, option_or};
-ghost use Rattle.btree.specs.Gap.{last_key, first_key, IsMissedBetween, IsPutBetween};
+ghost use Rattle.std.specs.List.{slice_get};
+ghost use Rattle.std.specs.FinMap.Entries.{find};
+ghost use Rattle.btree.specs.Order.{Ascends, Each, last_of};
+ghost use Rattle.btree.specs.Gap.{IsPutIn, IsAbove, IsBelow};
+ghost use Rattle.btree.specs.Parts.{IsWithin};
 
 use crate::row::insert_reserved;
 use std::cmp::Ordering;
 
-/// The key next before a place of a row, which is `low` at the row's beginning.
-pub fn key_before<'a, K, V>(row: &'a [(K, V)], at: usize, low: Option<&'a K>) -> Option<&'a K>
-    requires { at ≤ length row.now }
-    ensures { option_map (λ k. k.now) result ≡ option_or (last_key (take at row.now)) (option_map (λ k. k.now) low.entry) }
+/// The separator next before a kid, which is `low` before the first.
+pub fn separator_before<'a, K>(separators: &'a [K], at: usize, low: Option<&'a K>) -> Option<&'a K>
+    requires { at ≤ length separators.now }
+    ensures { option_map (λ k. k.now) result ≡ option_or (last_of (take at separators.now)) (option_map (λ k. k.now) low.entry) }
 {
     if at == 0 {
         return low;
     }
-    Some(&row[at - 1].0)
+    Some(&separators[at - 1])
 }
 
-/// The key next after a place of a row, which is `high` at the row's end.
-pub fn key_after<'a, K, V>(row: &'a [(K, V)], at: usize, high: Option<&'a K>) -> Option<&'a K>
-    requires { at ≤ length row.now }
-    ensures { option_map (λ k. k.now) result ≡ option_or (first_key (drop at row.now)) (option_map (λ k. k.now) high.entry) }
+/// The separator next after a kid, which is `high` after the last.
+pub fn separator_after<'a, K>(separators: &'a [K], at: usize, high: Option<&'a K>) -> Option<&'a K>
+    requires { at ≤ length separators.now }
+    ensures { option_map (λ k. k.now) result ≡ option_or (slice_get separators.now at) (option_map (λ k. k.now) high.entry) }
 {
-    if at == row.len() {
+    if at == separators.len() {
         return high;
     }
-    Some(&row[at].0)
+    Some(&separators[at])
 }
 
-// Whether a key stands after one key and before another, where there are any.
-fn is_between<K: Ord>(key: &K, low: Option<&K>, high: Option<&K>) -> bool
-    ensures low { result ≡ true → IfSome low.entry (λ k. K.cmp key.now k.now ≡ Greater) }
-    ensures high { result ≡ true → IfSome high.entry (λ k. K.cmp key.now k.now ≡ Less) }
+// Whether a key stands after that of a pair.
+fn is_after<K: Ord, V>(key: &K, pair: &(K, V)) -> bool
+    ensures { result ≡ true → K.cmp key.now pair.now.0 ≡ Greater }
 {
-    if let Some(low) = low {
-        if key.cmp(low) != Ordering::Greater {
-            return false;
-        }
+    key.cmp(&pair.0) == Ordering::Greater
+}
+
+// Whether a key stands after the pair before a place of a leaf's row; at its beginning, not before the separator `low`.
+fn is_above<K: Ord, V>(row: &[(K, V)], at: usize, key: &K, low: Option<&K>) -> bool
+    requires in_range { at ≤ length row.now }
+    ensures above { result ≡ true → IsAbove K.cmp key.now (option_map (λ k. k.now) low.entry) (take at row.now) }
+{
+    if at > 0 {
+        return is_after(key, &row[at - 1]);
+    }
+    match low {
+        None => true,
+        Some(low) => key.cmp(low) != Ordering::Less,
+    }
+}
+
+// Whether a key stands before the pair at a place of a leaf's row; at its end, before the separator `high`.
+fn is_below<K: Ord, V>(row: &[(K, V)], at: usize, key: &K, high: Option<&K>) -> bool
+    requires in_range { at ≤ length row.now }
+    ensures below { result ≡ true → IsBelow K.cmp key.now (option_map (λ k. k.now) high.entry) (drop at row.now) }
+{
+    if at < row.len() {
+        return key.cmp(&row[at].0) == Ordering::Less;
     }
     match high {
         None => true,
@@ -45,8 +68,17 @@ fn is_between<K: Ord>(key: &K, low: Option<&K>, high: Option<&K>) -> bool
     }
 }
 
+// Whether a key goes to a place of a leaf's row; `low` and `high` are the separators next to the leaf.
+fn goes_to<K: Ord, V>(row: &[(K, V)], at: usize, key: &K, low: Option<&K>, high: Option<&K>) -> bool
+    requires in_range { at ≤ length row.now }
+    ensures above { result ≡ true → IsAbove K.cmp key.now (option_map (λ k. k.now) low.entry) (take at row.now) }
+    ensures below { result ≡ true → IsBelow K.cmp key.now (option_map (λ k. k.now) high.entry) (drop at row.now) }
+{
+    is_above(row, at, key, low) && is_below(row, at, key, high)
+}
+
 /// Where in a leaf's row a key goes that isn't there, told by the pair at a place and the one next to it; `low` and `high` are
-/// the keys next to the row. No answer where these two don't tell.
+/// the separators next to the leaf. No answer where these two don't tell.
 pub fn gap_beside<K: Ord, V>(
     row: &[(K, V)],
     at: usize,
@@ -54,7 +86,10 @@ pub fn gap_beside<K: Ord, V>(
     low: Option<&K>,
     high: Option<&K>,
 ) -> Option<usize>
-    ensures missed { IsSome result → IsMissedBetween K.cmp key.now (option_map (λ k. k.now) low.entry) (option_map (λ k. k.now) high.entry) row.now }
+    requires sorted { Ascends K.cmp row.now }
+    requires inside { Each (λ e. IsWithin K.cmp (option_map (λ k. k.now) low) (option_map (λ k. k.now) high) e.0) row.now }
+    ensures missed { IsSome result → find K.cmp key.now row.now ≡ None }
+    ensures within { IsSome result → IsWithin K.cmp (option_map (λ k. k.now) low.entry) (option_map (λ k. k.now) high.entry) key.now }
 {
     if at >= row.len() {
         return None;
@@ -64,7 +99,7 @@ pub fn gap_beside<K: Ord, V>(
         Ordering::Equal => return None,
         Ordering::Greater => at + 1,
     };
-    if is_between(key, key_before(row, gap, low), key_after(row, gap, high)) {
+    if goes_to(row, gap, key, low, high) {
         Some(gap)
     } else {
         None
@@ -82,8 +117,8 @@ fn has_place<K, V>(row: &Vec<(K, V)>) -> bool
     len < capacity && len <= 30 && (len <= 13 || capacity >= 33)
 }
 
-/// Inserts a pair at a place of a leaf's row that has places left, if its key stands between those next to it; `low` and
-/// `high` are the keys next to the row. Answers whether it did: then the pair is taken, else it stays where it was.
+/// Inserts a pair at a place of a leaf's row that has places left, if its key goes there; `low` and `high` are the separators
+/// next to the leaf. Answers whether it did: then the pair is taken, else it stays where it was.
 pub fn insert_between<K: Ord + Drop, V: Drop>(
     row: &mut Vec<(K, V)>,
     at: usize,
@@ -92,7 +127,11 @@ pub fn insert_between<K: Ord + Drop, V: Drop>(
     high: Option<&K>,
 ) -> bool
     requires in_range { at ≤ length row.old.items }
-    ensures put { result ≡ true → IfSome pair.old (λ p. IsPutBetween K.cmp p.0 p.1 (option_map (λ k. k.now) low.entry) (option_map (λ k. k.now) high.entry) row.old.items row.new.items) }
+    requires sorted { Ascends K.cmp row.old.items }
+    requires inside { Each (λ e. IsWithin K.cmp (option_map (λ k. k.now) low) (option_map (λ k. k.now) high) e.0) row.old.items }
+    ensures some { result ≡ true → IsSome pair.old }
+    ensures put { result ≡ true → IfSome pair.old (λ p. IsPutIn K.cmp p.0 p.1 row.old.items row.new.items) }
+    ensures within { result ≡ true → IfSome pair.old (λ p. IsWithin K.cmp (option_map (λ k. k.now) low.entry) (option_map (λ k. k.now) high.entry) p.0) }
     ensures least { length row.old.items ≤ length row.new.items }
     ensures most { length row.old.items ≤ 32 → length row.new.items ≤ 32 }
     ensures room { (14 < length row.old.items → 33 ≤ vec_capacity row.old) → 14 < length row.new.items → 33 ≤ vec_capacity row.new }
@@ -105,7 +144,7 @@ pub fn insert_between<K: Ord + Drop, V: Drop>(
     let Some((key, _)) = pair else {
         return false;
     };
-    if !is_between(key, key_before(row, at, low), key_after(row, at, high)) {
+    if !goes_to(row, at, key, low, high) {
         return false;
     }
     match pair.take() {

@@ -1,9 +1,10 @@
 //! The tree: its root, and how many pairs there are.
-ghost use Rattle.std.specs.Prelude.{◌≡◌, ◌+◌, ◌*◌, ◌-◌, ◌^◌, ◌<◌, ◌≤◌, ◌==◌, [], length, reverse, not, true, cond, is_some, None, Some, IfSome, IfOk, IfErr, OnErr};
+ghost use Rattle.std.specs.Prelude.{◌≡◌, ◌+◌, ◌*◌, ◌-◌, ◌^◌, ◌<◌, ◌≤◌, ◌==◌, [], length, reverse, not, true, cond, is_some, None, Some, IfSome, IfOk, IfErr, OnOk, OnErr, IsOk};
 ghost use Rattle.std.specs.Option.{option_map};
 ghost use Rattle.std.specs.List.{filter, find};
 ghost use Rattle.std.specs.FinMap.Entries as entries;
 ghost use Rattle.btree.specs.Order.{Ascends, Each, find_last, without};
+ghost use Rattle.btree.specs.Parts.{IsSure};
 ghost use Rattle.btree.specs.Rows.{IsSize};
 
 use crate::backward::WalkBack;
@@ -11,7 +12,7 @@ use crate::forward::Walk;
 use crate::node::Node;
 use crate::seek::Point;
 use crate::trail::Trail;
-use std::alloc::{AllocFailed, Global};
+use std::alloc::{AllocError, AllocFailed, Global};
 use std::marker::Model;
 
 /// A map whose keys are in order.
@@ -48,8 +49,8 @@ impl<K: Ord, V> Tree<K, V> {
 
     /// How many pairs there are.
     ///
-    /// Its clauses say what holds of every tree: keys rise, each node but the root has 16 to 32 pairs, and a tree of
-    /// some depth has at least so many.
+    /// Its clauses say what holds of every tree: keys rise, each node but the root has 16 to 32 pairs or separators,
+    /// and a tree of some depth has at least so many pairs.
     pub fn len(&self) -> usize
         ensures len { result ≡ length self.now.pairs }
         ensures ascends { Ascends K.cmp self.now.pairs }
@@ -98,20 +99,22 @@ impl<K: Ord, V> Tree<K, V> {
         self.root.misses_beside(key, trail)
     }
 
-    /// The first pair whose key does not stand before a point, and how many nodes were visited: one a level.
+    /// The first pair whose key does not stand before a point, and how many nodes were visited: one a level, and one more on
+    /// levels below the root where the leaf that the point leads to ends before it.
     pub fn first_from<P: Point<K>>(&self, point: &P) -> (Option<(&K, &V)>, usize)
         ensures found { option_map (λ p. (p.0.now, p.1.now)) result.0 ≡ find (λ e. not (P.before point.now e.0)) self.now.pairs }
-        ensures visited { result.1 ≡ self.now.depth }
+        ensures visited { (self.now.depth ≤ result.1) × (result.1 + 1 ≤ 2 * self.now.depth) }
     {
         let mut visits = 0;
         let found = self.root.first_from(point, &mut visits);
         (found, visits)
     }
 
-    /// The last pair whose key stands before a point, and how many nodes were visited: one a level.
+    /// The last pair whose key stands before a point, and how many nodes were visited: one a level, and one more on levels
+    /// below the root where the leaf that the point leads to begins behind it.
     pub fn last_before<P: Point<K>>(&self, point: &P) -> (Option<(&K, &V)>, usize)
         ensures found { option_map (λ p. (p.0.now, p.1.now)) result.0 ≡ find_last (λ e. P.before point.now e.0) self.now.pairs }
-        ensures visited { result.1 ≡ self.now.depth }
+        ensures visited { (self.now.depth ≤ result.1) × (result.1 + 1 ≤ 2 * self.now.depth) }
     {
         let mut visits = 0;
         let found = self.root.last_before(point, &mut visits);
@@ -134,7 +137,7 @@ impl<K: Ord, V> Tree<K, V> {
         ensures deep { result ≡ None → 1 < self.now.depth }
         ensures many { result ≡ None → 32 < length self.now.pairs }
     {
-        let (entries, kids) = self.root.rows();
+        let (entries, _, kids) = self.root.rows();
         if kids.is_empty() { Some(entries) } else { None }
     }
 
@@ -161,6 +164,31 @@ impl<K: Ord, V> Tree<K, V> {
 }
 
 impl<K: Ord + Drop, V: Drop> Tree<K, V> {
+    /// Sets the value of a key that is there, and gives the one before. It takes no memory.
+    ///
+    /// Where the key isn't there nothing has changed, and the value comes back.
+    pub fn replace(&mut self, key: &K, value: V) -> Result<V, V>
+        ensures before { IfOk result (λ before. entries.find K.cmp key.now self.old.pairs ≡ Some before) }
+        ensures put { IfOk result (λ _. self.new.pairs ≡ entries.put K.cmp key.now value self.old.pairs) }
+        ensures depth { IfOk result (λ _. self.new.depth ≡ self.old.depth) }
+        ensures handed_back { IfErr result (λ back. back ≡ value) }
+        ensures missed { OnErr result (entries.find K.cmp key.now self.old.pairs ≡ None) }
+        ensures kept { OnErr result (self.new ≡ self.old) }
+    {
+        self.root.replace(key, value)
+    }
+
+    /// Takes out all pairs. It takes no memory, and keeps a row for the root.
+    pub fn clear(&mut self)
+        ensures empty { self.new.pairs ≡ [] }
+        ensures depth { self.new.depth ≡ 1 }
+    {
+        self.root.clear();
+        self.len = 0;
+    }
+}
+
+impl<K: Ord + Clone, V: Drop> Tree<K, V> {
     /// Sets the value of a key, and gives the one before. A key that ties with a stored one leaves that one in its
     /// place.
     ///
@@ -202,7 +230,7 @@ impl<K: Ord + Drop, V: Drop> Tree<K, V> {
                 value: (key, value),
             });
         }
-        let Ok((entries, kids)) = self.root.rows_above(alloc) else {
+        let Ok((separators, kids)) = self.root.rows_above(alloc) else {
             return Err(AllocFailed {
                 value: (key, value),
             });
@@ -210,7 +238,7 @@ impl<K: Ord + Drop, V: Drop> Tree<K, V> {
         let (before, beside) = self.root.insert(alloc, key, value, trail, 0)?;
         self.len += 1 - count(&before);
         if let Some(beside) = beside {
-            self.root.rise(entries, kids, beside);
+            self.root.rise(alloc, separators, kids, beside);
         }
         Ok(before)
     }
@@ -245,39 +273,21 @@ impl<K: Ord + Drop, V: Drop> Tree<K, V> {
         }
     }
 
-    /// Sets the value of a key that is there, and gives the one before. It takes no memory.
+    /// Takes out the pair of a key, and gives its value.
     ///
-    /// Where the key isn't there nothing has changed, and the value comes back.
-    pub fn replace(&mut self, key: &K, value: V) -> Result<V, V>
-        ensures before { IfOk result (λ before. entries.find K.cmp key.now self.old.pairs ≡ Some before) }
-        ensures put { IfOk result (λ _. self.new.pairs ≡ entries.put K.cmp key.now value self.old.pairs) }
-        ensures depth { IfOk result (λ _. self.new.depth ≡ self.old.depth) }
-        ensures handed_back { IfErr result (λ back. back ≡ value) }
-        ensures missed { OnErr result (entries.find K.cmp key.now self.old.pairs ≡ None) }
-        ensures kept { OnErr result (self.new ≡ self.old) }
+    /// Memory is taken only where a leaf gets pairs from another: for a copy of a key, which parts the two from then on.
+    /// Refused where there is none for it: then nothing has changed. Where copies of the keys are sure it is never refused.
+    pub fn remove(&mut self, key: &K) -> Result<Option<V>, AllocError>
+        ensures value { IfOk result (λ value. value ≡ entries.find K.cmp key.now self.old.pairs) }
+        ensures pairs { OnOk result (self.new.pairs ≡ without K.cmp key.now self.old.pairs) }
+        ensures depth { OnOk result ((self.new.depth ≤ self.old.depth) × (self.old.depth ≤ self.new.depth + 1)) }
+        ensures refused { OnErr result (self.new ≡ self.old) }
+        ensures sure { Each (λ e. IsSure K.cmp K.is_clone K.is_infallible e.0) self.old.pairs → IsOk result }
     {
-        self.root.replace(key, value)
-    }
-
-    /// Takes out all pairs. It takes no memory, and keeps a row for the root.
-    pub fn clear(&mut self)
-        ensures empty { self.new.pairs ≡ [] }
-        ensures depth { self.new.depth ≡ 1 }
-    {
-        self.root.clear();
-        self.len = 0;
-    }
-
-    /// Takes out the pair of a key, and gives its value. It takes no memory.
-    pub fn remove(&mut self, key: &K) -> Option<V>
-        ensures value { result ≡ entries.find K.cmp key.now self.old.pairs }
-        ensures pairs { self.new.pairs ≡ without K.cmp key.now self.old.pairs }
-        ensures depth { (self.new.depth ≤ self.old.depth) × (self.old.depth ≤ self.new.depth + 1) }
-    {
-        let value = self.root.remove(key);
+        let value = self.root.remove(key)?;
         self.root.fall();
         self.len -= count(&value);
-        value
+        Ok(value)
     }
 }
 

@@ -75,16 +75,6 @@ pub fn replace_value<K, V>(row: &mut Vec<(K, V)>, at: usize, value: V) -> V
     mem::replace(&mut entry.1, value)
 }
 
-/// Sets the pair at a place, and gives the one before.
-pub fn replace_pair<T>(row: &mut Vec<T>, at: usize, pair: T) -> T
-    requires { at < length row.old.items }
-    ensures old { (d : T) → result ≡ slice_index_or row.old.items at d }
-    ensures new { row.new.items ≡ slice_set row.old.items at pair }
-    ensures capacity { vec_capacity row.new ≡ vec_capacity row.old }
-{
-    mem::replace(&mut row[at], pair)
-}
-
 /// Moves the first elements of a row after another that has room, all but so many.
 pub fn move_first<T>(from: &mut Vec<T>, to: &mut Vec<T>, left: usize)
     requires some { left ≤ length from.old.items }

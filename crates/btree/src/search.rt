@@ -1,9 +1,10 @@
-//! Searches in one node's own pairs.
+//! Searches in a leaf's pairs, and between an inner node's separators.
 ghost use Rattle.std.specs.Prelude.{◌-◌, ◌≡◌, ◌<◌, ◌≤◌, length, take, drop, true, false, IfOk, IfErr, slice_index_or};
-ghost use Rattle.std.specs.declared.cmp.Ordering.TheVariants.{Equal};
+ghost use Rattle.std.specs.declared.cmp.Ordering.TheVariants.{Less, Equal};
 ghost use Rattle.std.specs.Option.{option_map};
 ghost use Rattle.std.specs.List.{slice_get};
 ghost use Rattle.btree.specs.Order.{Ascends, Each, IsBefore, IsAfter, last_of};
+ghost use Rattle.btree.specs.Parts.{IsFrom, Rises};
 
 use crate::seek::Point;
 use std::cmp::Ordering;
@@ -62,6 +63,69 @@ pub fn place_near<K: Ord, V>(row: &[(K, V)], key: &K, near: usize) -> Result<usi
         }
     }
     Err(low)
+}
+
+/// The place of the kid that a key belongs to: how many separators the key doesn't stand before.
+pub fn kid_of<K: Ord>(separators: &[K], key: &K) -> usize
+    requires { Rises K.cmp separators.now }
+    ensures in_range { result ≤ length separators.now }
+    ensures from { Each (λ (s : K). IsFrom K.cmp s key.now) (take result separators.now) }
+    ensures under { Each (λ (s : K). K.cmp key.now s ≡ Less) (drop result separators.now) }
+{
+    let mut low = 0;
+    let mut high = separators.len();
+    while low < high {
+        let middle = low + (high - low) / 2;
+        match key.cmp(&separators[middle]) {
+            Ordering::Less => high = middle,
+            Ordering::Equal => low = middle + 1,
+            Ordering::Greater => low = middle + 1,
+        }
+    }
+    low
+}
+
+/// The place of the kid that a key belongs to. Where that is the place that is near, two comparisons tell so.
+pub fn kid_near<K: Ord>(separators: &[K], key: &K, near: usize) -> usize
+    requires { Rises K.cmp separators.now }
+    ensures in_range { result ≤ length separators.now }
+    ensures from { Each (λ (s : K). IsFrom K.cmp s key.now) (take result separators.now) }
+    ensures under { Each (λ (s : K). K.cmp key.now s ≡ Less) (drop result separators.now) }
+{
+    if near > separators.len() {
+        return kid_of(separators, key);
+    }
+    let mut low = 0;
+    let mut high = separators.len();
+    while low < high {
+        let at = probe(low, high, near);
+        match key.cmp(&separators[at]) {
+            Ordering::Less => high = at,
+            Ordering::Equal => low = at + 1,
+            Ordering::Greater => low = at + 1,
+        }
+    }
+    low
+}
+
+/// How many separators stand before a point.
+pub fn kid_at_point<K: Ord, P: Point<K>>(separators: &[K], point: &P) -> usize
+    requires { Rises K.cmp separators.now }
+    ensures in_range { result ≤ length separators.now }
+    ensures before { Each (λ (s : K). P.before point.now s ≡ true) (take result separators.now) }
+    ensures after { Each (λ (s : K). P.before point.now s ≡ false) (drop result separators.now) }
+{
+    let mut low = 0;
+    let mut high = separators.len();
+    while low < high {
+        let middle = low + (high - low) / 2;
+        if point.is_after(&separators[middle]) {
+            low = middle + 1;
+        } else {
+            high = middle;
+        }
+    }
+    low
 }
 
 /// How many keys stand before a point.

@@ -12,7 +12,7 @@ use Rattle.collation.specs.Order.{ref_cmp}
 use Rattle.collation.specs.laws.Order.{ref_cmp_total, ref_cmp-IsAntisymmetric}
 use Rattle.globals.specs.laws.Nearest.{true_of}
 use Rattle.btree.specs.Order.{without, find_last as last_pair}
-use Rattle.btree.specs.Tree.{Content}
+use Rattle.steady_map.specs.Shown.{Seen}
 use Rattle.globals.specs.Entries.{nearest_entry, find_last}
 
 module _ {X : Type 0} where
@@ -55,7 +55,7 @@ module _ {X : Type 0} where
 
   -- a value in place of another, or no change
 
-  pub sorted_replaced : {E : Type 0} (r : Result X E) (was now : Content Reference X) (k : Reference) (v : X) → is_sorted ref_cmp was.pairs ≡ true → IfOk r (λ _. now.pairs ≡ put ref_cmp k v was.pairs) → OnErr r (now ≡ was) → is_sorted ref_cmp now.pairs ≡ true
+  pub sorted_replaced : {E : Type 0} (r : Result X E) (was now : Seen Reference X) (k : Reference) (v : X) → is_sorted ref_cmp was.pairs ≡ true → IfOk r (λ _. now.pairs ≡ put ref_cmp k v was.pairs) → OnErr r (now ≡ was) → is_sorted ref_cmp now.pairs ≡ true
   sorted_replaced (Ok x) was now k v h put same = ap (is_sorted ref_cmp) put ∙ sorted_put was.pairs k v h
   sorted_replaced (Err x) was now k v h put same = ap (λ c. is_sorted ref_cmp c.pairs) same ∙ h
 

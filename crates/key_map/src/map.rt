@@ -5,18 +5,19 @@ ghost use Rattle.std.specs.FinMap as finmap;
 ghost use Rattle.globals.specs.Entries.{nearest_entry};
 ghost use Rattle.globals.specs.Cuts.{stands_before};
 ghost use Rattle.key_map.specs.Members.{members_from};
+ghost use Rattle.steady_map.specs.Shown.{shown};
 
 use crate::point::CutPoint;
-use btree::{Tree, Walk};
 use globals::Cut;
 use key_codec::Key;
 use std::alloc::{AllocError, Global};
 use std::marker::Model;
+use steady_map::{SteadyMap, Walk};
 
 /// Values by keys, in the order of the references.
 #[derive(Drop)]
 pub struct KeyMap<X> {
-    tree: Tree<Key, X>,
+    tree: SteadyMap<Key, X>,
 }
 
 impl<X> Model for KeyMap<X> {
@@ -40,7 +41,7 @@ impl<X> KeyMap<X> {
         ensures { result ≡ finmap.empty }
     {
         KeyMap {
-            tree: Tree::new(alloc),
+            tree: SteadyMap::new(alloc),
         }
     }
 
@@ -65,10 +66,10 @@ impl<X> KeyMap<X> {
         self.tree.last_before(&CutPoint { cut }).0
     }
 
-    /// The keys with their values in order, where they stand side by side in memory. Up to 32 always do.
-    pub fn as_row(&self) -> Option<&[(Key, X)]>
-        ensures row { IfSome result (λ row. row.now ≡ finmap.entries self.now) }
-        ensures many { result ≡ None → 32 < finmap.len self.now }
+    /// The keys with their values in order, where they stand side by side in memory: few mostly do. A key without a value is
+    /// hidden.
+    pub fn as_row(&self) -> Option<&[(Key, Option<X>)]>
+        ensures row { IfSome result (λ row. shown row.now ≡ finmap.entries self.now) }
     {
         self.tree.as_row()
     }

@@ -3,10 +3,10 @@ ghost use Rattle.std.specs.Prelude.{◌≤◌};
 ghost use Rattle.globals.specs.Cuts.{IsRun};
 
 use crate::map::KeyMap;
-use btree::Walk;
 use collation::Text;
 use globals::{Cut, OrderedView, Run};
 use key_codec::Key;
+use steady_map::Walk;
 
 // The first of the nodes that a walk has left, at most so many.
 fn first_nodes<'v>(walk: Walk<'v, Key, Text>, most: usize) -> Run<'v>

@@ -11,7 +11,7 @@ use Rattle.collation.specs.Locks.{resource_cmp}
 use Rattle.collation.specs.laws.Counting.{resource_cmp_total, resource_cmp-IsAntisymmetric}
 use Rattle.collation.specs.laws.Entries.{true_of}
 use Rattle.btree.specs.Order.{without}
-use Rattle.btree.specs.Tree.{Content}
+use Rattle.steady_map.specs.Shown.{Seen}
 
 module _ {X : Type 0} where
   pub map_none : from_sorted {X = X} {R = resource_cmp} [] ≡ empty
@@ -53,7 +53,7 @@ module _ {X : Type 0} where
 
   -- a value in place of another, or no change
 
-  pub sorted_replaced : {E : Type 0} (r : Result X E) (was now : Content Resource X) (k : Resource) (v : X) → is_sorted resource_cmp was.pairs ≡ true → IfOk r (λ _. now.pairs ≡ put resource_cmp k v was.pairs) → OnErr r (now ≡ was) → is_sorted resource_cmp now.pairs ≡ true
+  pub sorted_replaced : {E : Type 0} (r : Result X E) (was now : Seen Resource X) (k : Resource) (v : X) → is_sorted resource_cmp was.pairs ≡ true → IfOk r (λ _. now.pairs ≡ put resource_cmp k v was.pairs) → OnErr r (now ≡ was) → is_sorted resource_cmp now.pairs ≡ true
   sorted_replaced (Ok x) was now k v h put same = ap (is_sorted resource_cmp) put ∙ sorted_put was.pairs k v h
   sorted_replaced (Err x) was now k v h put same = ap (λ c. is_sorted resource_cmp c.pairs) same ∙ h
 

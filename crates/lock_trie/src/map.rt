@@ -7,15 +7,16 @@ ghost use Rattle.collation.specs.Locks.{resource_cmp};
 ghost use Rattle.lock_trie.specs.Names.{beginning, IsWithinReach};
 
 use crate::names::{Beginning, depth, reach};
-use btree::{Trail, Tree, Walk};
+use btree::Trail;
 use collation::LockName;
 use std::alloc::{AllocError, Global};
 use std::marker::Model;
+use steady_map::{SteadyMap, Walk};
 
 /// Values by lock name, in the order of names.
 #[derive(Drop)]
 pub struct NameMap<X> {
-    tree: Tree<LockName, X>,
+    tree: SteadyMap<LockName, X>,
 }
 
 impl<X> Model for NameMap<X> {
@@ -39,7 +40,7 @@ impl<X> NameMap<X> {
         ensures { result ≡ finmap.empty }
     {
         NameMap {
-            tree: Tree::new(alloc),
+            tree: SteadyMap::new(alloc),
         }
     }
 

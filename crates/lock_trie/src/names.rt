@@ -96,10 +96,14 @@ impl<'a> Point<LockName> for Beginning<'a> {
     ghost use Rattle.collation.specs.Locks.{resource_cmp};
     ghost use Rattle.lock_trie.specs.Names.{beginning};
     ghost use Rattle.lock_trie.specs.laws.Named.{before_earlier};
+    ghost use Rattle.std.proofs.Common.{ap};
+    ghost use Rattle.collation.specs.laws.Counting.{resource_cmp-IsAntisymmetric};
 
     ghost before = { λ p x. is_lt (resource_cmp x (beginning p.name.now p.len)) };
 
     ghost downward = { λ p x y l h. before_earlier (beginning p.name.now p.len) x y l h };
+
+    ghost tied = { λ p x y e. ap (λ z. is_lt (resource_cmp z (beginning p.name.now p.len))) (resource_cmp-IsAntisymmetric x y e) };
 
     fn is_after(&self, key: &LockName) -> bool {
         self.compare(key).is_lt()

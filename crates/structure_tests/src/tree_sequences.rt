@@ -1,6 +1,6 @@
 //! The B-tree at numbers. Expected answers are those of std's `BTreeMap` at the same steps, and numbers by hand.
 ghost use Rattle.std.specs.Prelude.{nat_lt};
-ghost use Rattle.structure_tests.specs.laws.Numbers.{below_below};
+ghost use Rattle.structure_tests.specs.laws.Numbers.{below_below, below_tied};
 
 use btree::{Point, Trail, Tree};
 use std::alloc::{AllocError, Global};
@@ -18,6 +18,8 @@ impl Point<u64> for Before {
     }
 
     ghost downward = { λ p x y h e. below_below x y p.0 h e };
+
+    ghost tied = { λ p x y e. below_tied x y p.0 e };
 }
 
 // Which key a step is about: rising, falling, or in no order with many keys twice.
@@ -46,7 +48,7 @@ fn is_step_alike(
 ) -> Result<bool, AllocError> {
     if step % 3 == 2 {
         let key = key_of(order, step / 2);
-        return Ok(tree.remove(&key) == map.remove(&key));
+        return Ok(tree.remove(&key)? == map.remove(&key));
     }
     let key = key_of(order, step);
     let before = tree.insert(alloc, key, step)?;

@@ -6,13 +6,14 @@ ghost use Rattle.version_store.specs.Versions.{Versions, content_at, versions_of
 ghost use Rattle.version_store.specs.Tied.{AreKeysOf};
 
 use crate::store::KeyedStore;
-use btree::{Trail, Walk};
+use btree::Trail;
 use collation::Text;
 use globals::Cut;
 use key_codec::Key;
 use key_map::CutPoint;
 use std::alloc::{AllocError, Global};
 use std::cmp::Ordering;
+use steady_map::Walk;
 use version_chain::ChainId;
 
 // With fewer changes a walk beside them doesn't pay.

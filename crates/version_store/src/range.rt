@@ -3,15 +3,15 @@ ghost use Rattle.std.specs.Prelude.{◌≡◌, true};
 ghost use Rattle.std.specs.FinMap.{is_sorted};
 ghost use Rattle.collation.specs.Order.{ref_cmp};
 ghost use Rattle.version_chain.specs.Versions.{newest_of};
-ghost use Rattle.version_store.specs.Versions.{newest_among, newest_between, versions_of, IsNewestIn, later as later_spec};
-ghost use Rattle.version_store.specs.Tied.{rows, newest_below, AreOpen};
+ghost use Rattle.version_store.specs.Versions.{newest_between, versions_of, IsNewestIn, later as later_spec};
+ghost use Rattle.version_store.specs.Tied.{newest_below, AreOpen};
 
 use crate::store::KeyedStore;
-use btree::Walk;
 use collation::Text;
 use globals::{Cut, stands_before};
 use key_codec::Key;
 use key_map::CutPoint;
+use steady_map::Walk;
 use version_chain::{ChainId, Chains};
 
 // The newer of two stamps, where there are any.
@@ -25,53 +25,20 @@ fn later(a: Option<u64>, b: Option<u64>) -> Option<u64>
     }
 }
 
-// The newest stamp of the references of a row.
-fn newest_of_row(row: &[(Key, ChainId)], chains: &Chains<Text>) -> Option<u64>
-    requires { AreOpen chains.now row.now }
-    ensures { result ≡ newest_among (rows chains.now row.now) }
+// The newest stamp of the references that are left and stand before a cut.
+fn newest_before(walk: Walk<'_, Key, ChainId>, high: Cut<'_>, chains: &Chains<Text>) -> Option<u64>
+    requires opened { AreOpen chains.now walk }
+    requires sorted { is_sorted ref_cmp walk ≡ true }
+    ensures { result ≡ newest_below high.entry chains.now walk.entry }
 {
     let mut newest = None;
-    for (_, id) in row {
-        newest = later(newest, chains.newest(*id));
-    }
-    newest
-}
-
-// The newest stamp of the references of a row that stand before a cut.
-fn newest_of_front(row: &[(Key, ChainId)], high: Cut<'_>, chains: &Chains<Text>) -> Option<u64>
-    requires opened { AreOpen chains.now row.now }
-    requires sorted { is_sorted ref_cmp row.now ≡ true }
-    ensures { result ≡ newest_below high.entry chains.now row.now }
-{
-    let mut newest = None;
-    for (key, id) in row {
+    for (key, id) in walk {
         if !stands_before(high, key) {
             return newest;
         }
         newest = later(newest, chains.newest(*id));
     }
     newest
-}
-
-// The newest stamp of the references that are left and stand before a cut. A row whose last key stands before it is passed
-// with that one comparison.
-fn newest_before(walk: Walk<'_, Key, ChainId>, high: Cut<'_>, chains: &Chains<Text>) -> Option<u64>
-    requires opened { AreOpen chains.now walk }
-    requires sorted { is_sorted ref_cmp walk ≡ true }
-    ensures { result ≡ newest_below high.entry chains.now walk.entry }
-{
-    let mut walk = walk;
-    let mut newest = None;
-    loop {
-        let row = walk.next_row();
-        let Some((last, _)) = row.last() else {
-            return newest;
-        };
-        if !stands_before(high, last) {
-            return later(newest, newest_of_front(row, high, chains));
-        }
-        newest = later(newest, newest_of_row(row, chains));
-    }
 }
 
 impl KeyedStore {

@@ -6,11 +6,11 @@ ghost use Rattle.version_store.specs.Versions.{content_at, seen_at, first_of};
 ghost use Rattle.version_store.specs.Tied.{rows, AreOpen};
 
 use crate::store::KeyedStore;
-use btree::{Walk, WalkBack};
 use collation::Text;
 use globals::{Cut, Run};
 use key_codec::Key;
 use key_map::CutPoint;
+use steady_map::{Walk, WalkBack};
 use version_chain::{ChainId, Chains};
 
 // The first of the references that are left whose chain has a value at the stamp, with the value.
@@ -59,22 +59,16 @@ fn gather_valued<'v>(
     requires opened { AreOpen chains.now walk }
     ensures { IsRun most result (seen_at stamp (rows chains.now walk.entry)) }
 {
-    let mut walk = walk;
     let mut run = Run::new();
-    'rows: loop {
-        let row = walk.next_row();
-        if row.is_empty() {
-            return run;
-        }
-        for (key, id) in row {
-            if let Some(text) = chains.at(*id, stamp) {
-                run.push(key, text);
-                if run.len() == most {
-                    return run;
-                }
+    for (key, id) in walk {
+        if let Some(text) = chains.at(*id, stamp) {
+            run.push(key, text);
+            if run.len() == most {
+                return run;
             }
         }
     }
+    run
 }
 
 impl KeyedStore {

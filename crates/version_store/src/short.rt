@@ -9,17 +9,18 @@ ghost use Rattle.version_store.specs.Versions.{content_at, versions_of, placed, 
 
 use crate::near::Near;
 use crate::store::KeyedStore;
-use btree::{Trail, Tree};
+use btree::Trail;
 use collation::Text;
 use key_codec::{Key, ShortKey};
 use std::alloc::{AllocError, Global};
 use std::marker::Model;
+use steady_map::SteadyMap;
 use version_chain::{ChainId, Chains};
 
 /// Versions of a database, in a tree from old keys to ids and chains by id. It is seen as a store of new keys is.
 #[derive(Drop)]
 pub(crate) struct ShortStore {
-    tree: Tree<ShortKey, ChainId>,
+    tree: SteadyMap<ShortKey, ChainId>,
     chains: Chains<Text>,
     present: u64,
     cut: u64,
@@ -42,7 +43,7 @@ impl Model for ShortStore {
 // Puts an id under the new key of a reference.
 fn put_under_new(
     alloc: Global,
-    tree: &mut Tree<Key, ChainId>,
+    tree: &mut SteadyMap<Key, ChainId>,
     key: &ShortKey,
     id: ChainId,
 ) -> Result<(), AllocError>
@@ -59,11 +60,14 @@ fn put_under_new(
 }
 
 // The same ids under new keys.
-fn under_new(alloc: Global, old: &Tree<ShortKey, ChainId>) -> Result<Tree<Key, ChainId>, AllocError>
+fn under_new(
+    alloc: Global,
+    old: &SteadyMap<ShortKey, ChainId>,
+) -> Result<SteadyMap<Key, ChainId>, AllocError>
     requires { entries.is_sorted ref_cmp old.now.pairs ≡ true }
     ensures { IfOk result (λ tree. tree.pairs ≡ old.now.pairs) }
 {
-    let mut tree = Tree::new(alloc);
+    let mut tree = SteadyMap::new(alloc);
     for (key, id) in old.iter() {
         put_under_new(alloc, &mut tree, key, *id)?;
     }
@@ -76,7 +80,7 @@ impl ShortStore {
         ensures { result ≡ record { versions = finmap.empty; present = 0; cut = 0; spare = 0; mark = None } }
     {
         ShortStore {
-            tree: Tree::new(alloc),
+            tree: SteadyMap::new(alloc),
             chains: Chains::new(alloc),
             present: 0,
             cut: 0,

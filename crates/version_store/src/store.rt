@@ -10,18 +10,19 @@ ghost use Rattle.version_store.specs.Tied.{versions_in};
 
 use crate::near::Near;
 use crate::snapshot::Snapshot;
-use btree::{Trail, Tree};
+use btree::Trail;
 use collation::Text;
 use key_codec::Key;
 use refusal::Refusal;
 use std::alloc::Global;
 use std::marker::Model;
+use steady_map::SteadyMap;
 use version_chain::{ChainId, Chains};
 
 /// Versions of a database, in a tree from keys to ids and chains by id.
 #[derive(Drop)]
 pub struct KeyedStore {
-    pub(crate) tree: Tree<Key, ChainId>,
+    pub(crate) tree: SteadyMap<Key, ChainId>,
     pub(crate) chains: Chains<Text>,
     pub(crate) present: u64,
     pub(crate) cut: u64,
@@ -49,7 +50,7 @@ impl KeyedStore {
         ensures { result ≡ record { versions = finmap.empty; present = 0; cut = 0; spare = 0; mark = None } }
     {
         KeyedStore {
-            tree: Tree::new(alloc),
+            tree: SteadyMap::new(alloc),
             chains: Chains::new(alloc),
             present: 0,
             cut: 0,
@@ -100,7 +101,7 @@ impl KeyedStore {
     }
 
     /// What the versions are read from: the tree of the placed references, and the chains under its ids.
-    pub fn tree_and_chains(&self) -> (&Tree<Key, ChainId>, &Chains<Text>)
+    pub fn tree_and_chains(&self) -> (&SteadyMap<Key, ChainId>, &Chains<Text>)
         ensures { self.now.versions ≡ versions_in result.1.now result.0.now.pairs }
     {
         (&self.tree, &self.chains)

@@ -7,11 +7,11 @@ ghost use Rattle.globals.specs.Cuts.{stands_before as stands_before_spec};
 ghost use Rattle.version_store.specs.Versions.{next_in_turn, keys_of};
 
 use crate::store::KeyedStore;
-use btree::Walk;
 use globals::{Cut, stands_before};
 use key_codec::Key;
 use key_map::CutPoint;
 use std::alloc::{AllocError, Global};
+use steady_map::Walk;
 use version_chain::ChainId;
 
 // Puts copies of the keys that are left behind the others, until there are so many.

@@ -2,6 +2,7 @@
 ghost use Rattle.std.specs.Prelude.{◌≡◌, [], ◌∷◌, ◌++◌, Some, None, OnOk, IfOk};
 ghost use Rattle.std.specs.FinMap as finmap;
 ghost use Rattle.collation.specs.Answers.{subtree_of};
+ghost use Rattle.steady_map.specs.Shown.{shown};
 ghost use Rattle.workspace.specs.Changes.{set_changes, removed, removed_by};
 
 use collation::Text;
@@ -10,12 +11,17 @@ use key_codec::Key;
 use key_map::KeyMap;
 use std::alloc::{AllocError, Global};
 
-// Each of these values, to be set.
-fn push_row(changes: &mut Vec<(Key, Option<Text>)>, row: &[(Key, Text)]) -> Result<(), AllocError>
-    ensures { OnOk result (changes.new.items ≡ changes.old.items ++ set_changes row.now) }
+// Each of these values, to be set, but for hidden keys.
+fn push_row(
+    changes: &mut Vec<(Key, Option<Text>)>,
+    row: &[(Key, Option<Text>)],
+) -> Result<(), AllocError>
+    ensures { OnOk result (changes.new.items ≡ changes.old.items ++ set_changes (shown row.now)) }
 {
     for (key, value) in row {
-        push_set(changes, key, value)?;
+        if let Some(value) = value {
+            push_set(changes, key, value)?;
+        }
     }
     Ok(())
 }

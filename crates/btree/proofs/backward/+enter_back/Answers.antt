@@ -1,36 +1,51 @@
-use Rattle.std.proofs.Common.{◌<◌, ◌≤◌, ◌+◌, ◌++◌, suc, length, reverse, ap, sym, ◌∙◌, arith, rules, append_assoc}
-use denote.Param.Weighed.{most}
-use Rattle.std.proofs.lemmas.List.{reverse-append}
-use borrow.Author.Tests.{ltb-true, ltb-false}
-use Rattle.btree.specs.laws.Falls.{most_le-height}
-use Rattle.btree.specs.Rows.{weave}
-use Rattle.btree.specs.Walk.{ahead, left_back_of, HasRoomBelow}
-use Rattle.btree.proofs.Places.{within, within_none, within_at}
-use Rattle.btree.proofs.Walks.{room_in, room_at, height_at, weave_ahead}
+use Rattle.std.proofs.Common.{◌≡◌, ◌<◌, ◌≤◌, ◌+◌, ◌-◌, ◌∙◌, ◌++◌, ◌∷◌, [], suc, not, ap, sym, subst, arith, rules, length, reverse, take, drop, get_or, append_assoc, append-nil, length-append}
+use borrow.Author.Tests.{eqb-true, eqb-false}
+use Rattle.std.specs.List.{filter}
+use Rattle.std.specs.Option.{option_to_list}
+use Rattle.std.proofs.lemmas.List.{reverse-append, take_rest}
+use Rattle.btree.specs.Order.{Ascends}
+use Rattle.btree.specs.Parts.{flat}
+use Rattle.btree.specs.Walk.{left_of, left_back_of, HaveRoomBelow, IsPath}
+use Rattle.btree.proofs.Nodes.{leaf_row, inner_pairs, inner_level}
+use Rattle.btree.proofs.Walks.{room_in, room_taken, room_at, flat_last}
 use Rattle.btree.proofs.backward.+enter_back.Goals as goal
+
+pub returns-in-empty-clause-left : goal.returns-in-empty-clause-left
+returns-in-empty-clause-left g t c =
+    let none : length c.rows.result.2.now ≡ 0 = omega (arith, c.in-empty.len_below) in
+    ap (λ zs. reverse zs ++ left_back_of c.args.path.now.items) (sym (leaf_row g.K.Ord.cmp c.args.node.now c.rows.result.0.now c.rows.result.1.now c.rows.result.2.now c.rows.ensures.same_view c.rows.ensures.sound none))
+
+pub returns-in-empty-clause-some : goal.returns-in-empty-clause-some
+returns-in-empty-clause-some g t c = λ p.
+    let none : length c.rows.result.2.now ≡ 0 = omega (arith, c.in-empty.len_below) in
+    subst (λ zs. 0 < length zs) (leaf_row g.K.Ord.cmp c.args.node.now c.rows.result.0.now c.rows.result.1.now c.rows.result.2.now c.rows.ensures.same_view c.rows.ensures.sound none) p
+
+pub push_left-requires : goal.push_left-requires
+push_left-requires g t c =
+    let some : length c.rows.result.2.now ≡ 0 → ⊥ = λ e. omega (arith, e) in
+    let level = inner_level g.K.Ord.cmp c.args.node.now c.rows.result.0.now c.rows.result.1.now c.rows.result.2.now c.rows.ensures.same_view c.rows.ensures.sound some (length c.rows.result.2.now - 1) c.last-item.result (omega arith) in
+    let below = room_taken (length c.args.path.now.items) (length c.rows.result.2.now - 1) c.rows.result.2.now (room_in g.K.Ord.cmp (length c.args.path.now.items) c.rows.result.0.now c.rows.result.1.now c.rows.result.2.now c.args.node.now c.rows.ensures.same_view c.rows.ensures.sound c.requires.room) in
+    (omega arith, (omega (arith, level, c.requires.room), (c.requires.path, below)))
 
 pub enter_back-requires : goal.enter_back-requires
 enter_back-requires g t c κs within =
-    let low : (length c.args.entries.now) < length c.args.kids.now = ltb-true _ _ (sym c.in-Some.ensures.lookup.0) in
-    let room : length c.args.path.now.items + suc c.in-Some.kid.now.height < 16 = rw c.in-Some.ensures.lookup.1 (room_at (length c.args.path.now.items) c.args.kids.now (length c.args.entries.now) c.in-Some.kid.now low c.requires.below) in
-    let fits : length c.push_back.new.path.items < 16 = omega (arith, room, c.push_back.ensures.length) in
-    let below : HasRoomBelow (length c.push_back.new.path.items) c.rows.result.1.now = room_in (length c.push_back.new.path.items) c.rows.result.0.now c.rows.result.1.now c.in-Some.kid.now c.rows.ensures.same_view c.rows.ensures.sound (omega (arith, room, c.push_back.ensures.length)) in
-    let highest : suc c.in-Some.kid.now.height ≤ most (λ k. k.height + 1) c.args.kids.now = rw c.in-Some.ensures.lookup.1 (height_at c.args.kids.now (length c.args.entries.now) c.in-Some.kid.now low) in
-    let lower : most (λ k. k.height + 1) c.rows.result.1.now < most (λ k. k.height + 1) c.args.kids.now = omega (arith, highest, most_le-height c.rows.result.1.now c.rows.ensures.sound.kids, ap (λ b. b.height) c.rows.ensures.same_view) in
-    let path = c.push_back.ensures.path in
+    let some : length c.rows.result.2.now ≡ 0 → ⊥ = λ e. omega (arith, e) in
+    let height = inner_level g.K.Ord.cmp c.args.node.now c.rows.result.0.now c.rows.result.1.now c.rows.result.2.now c.rows.ensures.same_view c.rows.ensures.sound some (length c.rows.result.2.now - 1) c.last-item.result (omega arith) in
+    let level : c.last-item.result.height + 1 ≡ c.args.node.now.height = omega (arith, height, ap (λ b. b.height) c.last-item.is) in
+    let path = c.push_left.ensures.path in
+    let room : length c.push_left.new.path.items + c.last-item.result.height < 16 = omega (arith, level, c.push_left.ensures.length, c.requires.room) in
     search rules
 
-pub returns-in-Some-clause-left : goal.returns-in-Some-clause-left
-returns-in-Some-clause-left g t c =
-    let low : (length c.args.entries.now) < length c.args.kids.now = ltb-true _ _ (sym c.in-Some.ensures.lookup.0) in
-    let here = within_at (length c.args.entries.now) c.args.kids.now c.in-Some.kid.now low ∙ ap (λ b. b.pairs) (sym c.in-Some.ensures.lookup.1) ∙ ap (λ b. b.pairs) (sym c.rows.ensures.same_view) in
-    let whole = ap reverse (weave_ahead c.args.entries.now c.args.kids.now ∙ ap (λ zs. ahead c.args.entries.now c.args.kids.now ++ zs) here) ∙ reverse-append (ahead c.args.entries.now c.args.kids.now) (weave c.rows.result.0.now c.rows.result.1.now) in
-    c.enter_back.ensures.left ∙ ap (λ zs. reverse (weave c.rows.result.0.now c.rows.result.1.now) ++ zs) c.push_back.ensures.left
-    ∙ sym (append_assoc (reverse (weave c.rows.result.0.now c.rows.result.1.now)) (reverse (ahead c.args.entries.now c.args.kids.now)) (left_back_of c.args.path.now.items))
-    ∙ ap (λ zs. zs ++ left_back_of c.args.path.now.items) (sym whole)
+pub returns-in-len1-up-clause-left : goal.returns-in-len1-up-clause-left
+returns-in-len1-up-clause-left g t c =
+    let some : length c.rows.result.2.now ≡ 0 → ⊥ = λ e. omega (arith, e) in
+    let earlier = flat (take (length c.rows.result.2.now - 1) c.rows.result.2.now) in
+    let here = inner_pairs g.K.Ord.cmp c.args.node.now c.rows.result.0.now c.rows.result.1.now c.rows.result.2.now c.rows.ensures.same_view c.rows.ensures.sound some ∙ flat_last c.rows.result.2.now c.last-item.result (omega arith) ∙ ap (λ b. earlier ++ b.pairs) (sym c.last-item.is) in
+    let back = ap reverse here ∙ reverse-append earlier c.last-item.result.pairs in
+    c.enter_back.ensures.left ∙ ap (λ zs. reverse c.last-item.result.pairs ++ zs) c.push_left.ensures.back
+    ∙ sym (append_assoc (reverse c.last-item.result.pairs) (reverse earlier) (left_back_of c.args.path.now.items)) ∙ ap (λ zs. zs ++ left_back_of c.args.path.now.items) (sym back)
 
-pub returns-in_default-clause-left : goal.returns-in_default-clause-left
-returns-in_default-clause-left g t c =
-    let high : length c.args.kids.now ≤ (length c.args.entries.now) = ltb-false _ _ (sym c.in_default.ensures.lookup.0) in
-    let whole = ap reverse (weave_ahead c.args.entries.now c.args.kids.now) ∙ reverse-append (ahead c.args.entries.now c.args.kids.now) (within (length c.args.entries.now) c.args.kids.now) ∙ ap (λ zs. reverse zs ++ reverse (ahead c.args.entries.now c.args.kids.now)) (within_none (length c.args.entries.now) c.args.kids.now high) in
-    c.push_back.ensures.left ∙ ap (λ zs. zs ++ left_back_of c.args.path.now.items) (sym whole)
+pub returns-in-len1-up-clause-some : goal.returns-in-len1-up-clause-some
+returns-in-len1-up-clause-some g t c = λ _.
+    let room = room_in g.K.Ord.cmp (length c.args.path.now.items) c.rows.result.0.now c.rows.result.1.now c.rows.result.2.now c.args.node.now c.rows.ensures.same_view c.rows.ensures.sound c.requires.room in
+    c.enter_back.ensures.some (subst (λ b. 0 < length b.pairs) (sym c.last-item.is) (room_at (length c.args.path.now.items) c.rows.result.2.now (length c.rows.result.2.now - 1) c.last-item.result (omega arith) room).1)

@@ -1,17 +1,48 @@
-use Rattle.std.proofs.Common.{◌<◌, ◌+◌, suc, length, ap, arith, rules}
-use Rattle.btree.specs.Rows.{height_of}
-use Rattle.btree.specs.Walk.{HasRoomBelow}
-use Rattle.btree.proofs.Walks.{room_in, first_room, height_first}
+use Rattle.std.proofs.Common.{◌≡◌, ◌<◌, ◌≤◌, ◌+◌, ◌-◌, ◌∙◌, ◌++◌, ◌∷◌, [], suc, not, ap, sym, subst, arith, rules, length, reverse, take, drop, get_or, append_assoc, append-nil, length-append}
+use borrow.Author.Tests.{eqb-true, eqb-false}
+use Rattle.std.specs.List.{filter}
+use Rattle.std.proofs.lemmas.List.{reverse-append, take_rest}
+use Rattle.btree.specs.Order.{Ascends}
+use Rattle.btree.specs.Parts.{flat}
+use Rattle.btree.specs.Walk.{left_of, left_back_of, HaveRoomBelow, IsPath}
+use Rattle.btree.proofs.Nodes.{leaf_row, inner_pairs, inner_level}
+use Rattle.btree.proofs.Walks.{later_all, room_in, room_dropped, room_at, flat_first}
 use Rattle.btree.proofs.forward.+enter.Goals as goal
+
+pub returns-in-empty-clause-left : goal.returns-in-empty-clause-left
+returns-in-empty-clause-left g t c =
+    let none : length c.rows.result.2.now ≡ 0 = omega (arith, c.in-empty.len_below) in
+    ap (λ zs. zs ++ left_of c.args.path.now.items) (sym (leaf_row g.K.Ord.cmp c.args.node.now c.rows.result.0.now c.rows.result.1.now c.rows.result.2.now c.rows.ensures.same_view c.rows.ensures.sound none))
+
+pub returns-in-empty-clause-some : goal.returns-in-empty-clause-some
+returns-in-empty-clause-some g t c = λ p.
+    let none : length c.rows.result.2.now ≡ 0 = omega (arith, c.in-empty.len_below) in
+    subst (λ zs. 0 < length zs) (leaf_row g.K.Ord.cmp c.args.node.now c.rows.result.0.now c.rows.result.1.now c.rows.result.2.now c.rows.ensures.same_view c.rows.ensures.sound none) p
+
+pub push_left-requires : goal.push_left-requires
+push_left-requires g t c =
+    let some : length c.rows.result.2.now ≡ 0 → ⊥ = λ e. omega (arith, e) in
+    let level = inner_level g.K.Ord.cmp c.args.node.now c.rows.result.0.now c.rows.result.1.now c.rows.result.2.now c.rows.ensures.same_view c.rows.ensures.sound some 0 c.first-item.result (omega arith) in
+    let below = room_dropped (length c.args.path.now.items) 1 c.rows.result.2.now (room_in g.K.Ord.cmp (length c.args.path.now.items) c.rows.result.0.now c.rows.result.1.now c.rows.result.2.now c.args.node.now c.rows.ensures.same_view c.rows.ensures.sound c.requires.room) in
+    (omega arith, (omega (arith, level, c.requires.room), (c.requires.path, subst (HaveRoomBelow (length c.args.path.now.items)) (sym (later_all c.rows.result.2.now)) below)))
 
 pub enter-requires : goal.enter-requires
 enter-requires g t c κs within =
-    let room = first_room (length c.args.path.now.items) c.args.kids.now c.first-item.result (omega arith) c.requires.below in
-    let first : length c.args.path.now.items + suc c.first-item.result.height < 16 = rw c.first-item.is room in
-    let fits : length c.push_left-in-len1-up.new.path.items < 16 = omega (arith, first, c.push_left-in-len1-up.ensures.length) in
-    let below : HasRoomBelow (length c.push_left-in-len1-up.new.path.items) c.rows.result.1.now =
-    room_in (length c.push_left-in-len1-up.new.path.items) c.rows.result.0.now c.rows.result.1.now c.first-item.result c.rows.ensures.same_view c.rows.ensures.sound (omega (arith, first, c.push_left-in-len1-up.ensures.length)) in
-    let lower : height_of c.rows.result.1.now < height_of c.args.kids.now =
-    omega (arith, ap (λ b. b.height) c.rows.ensures.same_view, height_first c.args.kids.now c.first-item.result (omega arith), ap (λ b. b.height) c.first-item.is) in
-    let path = c.push_left-in-len1-up.ensures.path in
+    let some : length c.rows.result.2.now ≡ 0 → ⊥ = λ e. omega (arith, e) in
+    let height = inner_level g.K.Ord.cmp c.args.node.now c.rows.result.0.now c.rows.result.1.now c.rows.result.2.now c.rows.ensures.same_view c.rows.ensures.sound some 0 c.first-item.result (omega arith) in
+    let level : c.first-item.result.height + 1 ≡ c.args.node.now.height = omega (arith, height, ap (λ b. b.height) c.first-item.is) in
+    let path = c.push_left.ensures.path in
+    let room : length c.push_left.new.path.items + c.first-item.result.height < 16 = omega (arith, level, c.push_left.ensures.length, c.requires.room) in
     search rules
+
+pub returns-in-len1-up-clause-left : goal.returns-in-len1-up-clause-left
+returns-in-len1-up-clause-left g t c =
+    let some : length c.rows.result.2.now ≡ 0 → ⊥ = λ e. omega (arith, e) in
+    let here = inner_pairs g.K.Ord.cmp c.args.node.now c.rows.result.0.now c.rows.result.1.now c.rows.result.2.now c.rows.ensures.same_view c.rows.ensures.sound some ∙ flat_first c.rows.result.2.now c.first-item.result (omega arith) ∙ ap (λ b. b.pairs ++ flat (drop 1 c.rows.result.2.now)) (sym c.first-item.is) in
+    c.enter.ensures.left ∙ ap (λ zs. c.first-item.result.pairs ++ zs) (c.push_left.ensures.items ∙ ap (λ zs. flat zs ++ left_of c.args.path.now.items) (later_all c.rows.result.2.now))
+    ∙ sym (append_assoc c.first-item.result.pairs (flat (drop 1 c.rows.result.2.now)) (left_of c.args.path.now.items)) ∙ ap (λ zs. zs ++ left_of c.args.path.now.items) (sym here)
+
+pub returns-in-len1-up-clause-some : goal.returns-in-len1-up-clause-some
+returns-in-len1-up-clause-some g t c = λ _.
+    let room = room_in g.K.Ord.cmp (length c.args.path.now.items) c.rows.result.0.now c.rows.result.1.now c.rows.result.2.now c.args.node.now c.rows.ensures.same_view c.rows.ensures.sound c.requires.room in
+    c.enter.ensures.some (subst (λ b. 0 < length b.pairs) (sym c.first-item.is) (room_at (length c.args.path.now.items) c.rows.result.2.now 0 c.first-item.result (omega arith) room).1)

@@ -1,37 +1,21 @@
-use Rattle.std.proofs.Common.{◌≡◌, ◌+◌, ◌∷◌, ◌++◌, [], length, ap, subst, sym, ◌∙◌, arith}
-use Rattle.std.specs.Option.{option_to_list}
-use Rattle.btree.specs.Walk.{left_of, HasRoomBelow, IsPath}
-use Rattle.btree.proofs.Walks.{path_pop, walk_step, shorter}
+use Rattle.std.proofs.Common.{◌≡◌, ◌+◌, ◌-◌, ◌∷◌, ◌++◌, [], length, take, drop, ap, sym, ◌∙◌, arith}
+use Rattle.btree.specs.Walk.{left_of}
+use Rattle.btree.proofs.Walks.{first_split, none_left, both_none, shorter}
 use Rattle.btree.proofs.forward.WalkIterator.next.Goals as goal
-
-pub invariant_of-self-then-top-lt1 : goal.invariant_of-self-then-top-lt1
-invariant_of-self-then-top-lt1 g c =
-    let items : c.self.inside.path.items ≡ c.pop.new.self.items ++ c.in-Some.top ∷ [] = c.pop.ensures.items ∙ ap (λ o. c.pop.new.self.items ++ option_to_list o) c.in-Some.is in
-    (path_pop 0 c.pop.new.self.items c.in-Some.top (subst (IsPath 0) items c.self.invariant)).0
-
-pub enter-requires : goal.enter-requires
-enter-requires g c =
-    let items : c.self.inside.path.items ≡ c.pop.new.self.items ++ c.in-Some.top ∷ [] = c.pop.ensures.items ∙ ap (λ o. c.pop.new.self.items ++ option_to_list o) c.in-Some.is in
-    let path = path_pop 0 c.pop.new.self.items c.in-Some.top (subst (IsPath 0) items c.self.invariant) in
-    let rows : 0 + length c.pop.new.self.items ≡ length c.pop.new.self.items = omega arith in
-    (omega arith, (omega (arith, path.2), (path.0, subst (λ n. HasRoomBelow n c.in-Some.top.kids.now) rows path.3)))
 
 pub returns-in-empty-clause-steps : goal.returns-in-empty-clause-steps
 returns-in-empty-clause-steps g c =
-    let items : c.self.inside.path.items ≡ c.pop.new.self.items ++ c.in-Some.top ∷ [] = c.pop.ensures.items ∙ ap (λ o. c.pop.new.self.items ++ option_to_list o) c.in-Some.is in
-    let path = path_pop 0 c.pop.new.self.items c.in-Some.top (subst (IsPath 0) items c.self.invariant) in
-    absurd (omega (arith, path.1, c.in-empty.len_below))
+    let none = c.row_or_next.ensures.end (none_left c.row_or_next.result.now (omega (arith, c.in-empty.len_below))) in
+    (sym c.self.view_is ∙ none, both_none c.self.inside.row.now (left_of c.self.inside.path.items) c.row_or_next.result.now (left_of c.row_or_next.new.path.items) none c.row_or_next.ensures.left)
 
 pub returns-in-len1-up-clause-steps : goal.returns-in-len1-up-clause-steps
 returns-in-len1-up-clause-steps g c =
-    let items : c.self.inside.path.items ≡ c.pop.new.self.items ++ c.in-Some.top ∷ [] = c.pop.ensures.items ∙ ap (λ o. c.pop.new.self.items ++ option_to_list o) c.in-Some.is in
-    sym c.self.view_is ∙ walk_step c.self.inside.path.items c.pop.new.self.items c.enter.new.path.items c.in-Some.top c.entry-item.result items (omega arith) c.enter.ensures.left
-    ∙ ap (λ e. e ∷ left_of c.enter.new.path.items) (sym c.entry-item.is)
+    let later = take (length c.row_or_next.result.now - 1) (drop 1 c.row_or_next.result.now) ++ left_of c.row_or_next.new.path.items in
+    sym c.self.view_is ∙ c.row_or_next.ensures.left ∙ ap (λ zs. zs ++ left_of c.row_or_next.new.path.items) (first_split c.row_or_next.result.now c.entry-item.result (omega arith)) ∙ ap (λ e. e ∷ later) (sym c.entry-item.is)
 
 pub returns-in-len1-up-clause-goes : goal.returns-in-len1-up-clause-goes
 returns-in-len1-up-clause-goes g c =
-    let items : c.self.inside.path.items ≡ c.pop.new.self.items ++ c.in-Some.top ∷ [] = c.pop.ensures.items ∙ ap (λ o. c.pop.new.self.items ++ option_to_list o) c.in-Some.is in
-    let step = sym c.self.view_is ∙ walk_step c.self.inside.path.items c.pop.new.self.items c.enter.new.path.items c.in-Some.top c.entry-item.result items (omega arith) c.enter.ensures.left
-    ∙ ap (λ e. e ∷ left_of c.enter.new.path.items) (sym c.entry-item.is) in
-    let less = shorter c.args.self.now (left_of c.enter.new.path.items) c.entry-item.result step in
+    let later = take (length c.row_or_next.result.now - 1) (drop 1 c.row_or_next.result.now) ++ left_of c.row_or_next.new.path.items in
+    let step = sym c.self.view_is ∙ c.row_or_next.ensures.left ∙ ap (λ zs. zs ++ left_of c.row_or_next.new.path.items) (first_split c.row_or_next.result.now c.entry-item.result (omega arith)) ∙ ap (λ e. e ∷ later) (sym c.entry-item.is) in
+    let less = shorter c.args.self.now later c.entry-item.result step in
     record { on = λ _. (tt, tt, less); keeps = tt; rests = λ _. tt }

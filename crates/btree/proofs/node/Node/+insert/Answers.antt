@@ -1,136 +1,186 @@
-use Rattle.std.proofs.Common.{◌≡◌, ◌≤◌, ◌<◌, length, slice_set, get_or, is_some, Option, Some, refl, ap, subst, sym, ◌∙◌, arith, rules, suc}
-use Rattle.std.proofs.lemmas.List.{length-set}
+use Rattle.std.proofs.Common.{◌≡◌, ◌<◌, ◌≤◌, ◌∙◌, ◌++◌, [], suc, Option, Some, None, IfOk, OnErr, IsSome, append-nil, ap, sym, subst, arith, rules, refl, length, slice_set, get_or}
 use Rattle.std.specs.Vec.{vec_len}
-use Rattle.std.specs.List.{insert}
+use Rattle.std.proofs.lemmas.List.{length-set}
 use borrow.Author.Tests.{eqb-true, eqb-false}
-use Rattle.btree.specs.Order.{Ascends}
-use Rattle.btree.specs.Rows.{branch_of, height_of, with_pair, with_kid, HasBecome}
-use Rattle.btree.proofs.Shapes.{kid_of}
-use Rattle.btree.specs.Branch.{Branch}
 use Rattle.std.specs.FinMap.Entries.{find, put}
-use Rattle.btree.proofs.Places.{entries_ascend, kid_at}
-use Rattle.btree.proofs.Growth.{node_fits, found_here, grown_here, missed_leaf, grown_leaf, found_below, grown_below, node_below, kid_sorted, no_kids, one_longer, below_kids, full_at, spare_for}
+use Rattle.btree.specs.Order.{Ascends}
+use Rattle.btree.specs.Parts.{flat}
+use Rattle.btree.specs.Branch.{Branch}
+use Rattle.btree.specs.Rows.{branch_of, height_of, HasBecome, IsInner, with_separator, with_kid}
+use Rattle.btree.proofs.Order.{ascends_put}
+use Rattle.btree.proofs.Growth.{become_from, longer, one_longer, full_at}
+use Rattle.btree.proofs.Leaves.{if_ok_on}
+use Rattle.btree.proofs.Nodes.{leaf_row, leaf_size, leaf_height, leaf_made, leaf_node, leaf_sorted, inner_pairs, inner_size, inner_low, inner_rises, inner_level, inner_kid_at, inner_node, kid_ascends, kid_found, beside_node, beside_pairs, same_become, split_become}
 use Rattle.btree.proofs.node.Node.+insert.Goals as goal
 
-pub place_near-requires : goal.place_near-requires
-place_near-requires g t c = rw c.deref.ensures.value (entries_ascend g.K.Ord.cmp c.self.inside.entries.items c.self.inside.kids.items (subst (λ b. Ascends g.K.Ord.cmp b.pairs) (sym c.self.view_is) c.requires.sorted))
+pub insert_leaf-requires : goal.insert_leaf-requires
+insert_leaf-requires g t c =
+    let none_len : vec_len c.self.inside.kids ≡ 0 = eqb-true (vec_len c.self.inside.kids) 0 (sym c.is_empty.ensures ∙ c.if-is_empty.true) in
+    let none : length c.self.inside.kids.items ≡ 0 = omega (arith, none_len, c.self.inside.kids.ok.0) in
+    let n = leaf_size g.K.Ord.cmp c.args.self.now c.self.inside.entries.items c.self.inside.separators.items c.self.inside.kids.items c.self.view_is c.self.invariant.0 none in
+    record { sorted = leaf_sorted g.K.Ord.cmp c.args.self.now c.self.inside.entries.items c.self.inside.separators.items c.self.inside.kids.items c.self.view_is c.self.invariant.0 none c.requires.sorted; fits = omega (arith, n, c.requires.fits); room = c.self.invariant.1 }
 
 pub invariant_of-self : goal.invariant_of-self
 invariant_of-self g t c =
-    let size = ap length (c.replace_value.ensures.new (c.args.key, c.args.value)) ∙ length-set c.self.inside.entries.items c.in-Ok.at _ in
-    (node_fits c.self.inside.entries.items c.replace_value.new.row.items c.self.inside.kids.items c.self.invariant.0 size, (λ p. let q = c.self.invariant.1.0 (omega (arith, size, p)) in omega arith, λ p. let q = c.self.invariant.1.1 p in omega arith, c.self.invariant.1.2))
-
-pub returns-in-Ok-clause-before : goal.returns-in-Ok-clause-before
-returns-in-Ok-clause-before g t c =
-    let found = rw c.deref.ensures.value at c.in-Ok.ensures.found in
-    ap Some (c.replace_value.ensures.old (c.args.key, c.args.value)) ∙ sym (found_here g.K.Ord.cmp g.met.K.Ord.total c.args.self.now c.self.inside.entries.items c.self.inside.kids.items c.self.view_is c.self.invariant.0 c.requires.sorted c.args.key c.in-Ok.at (c.args.key, c.args.value) found.0 (found.1 (c.args.key, c.args.value)))
-
-pub returns-in-Ok-clause-grown : goal.returns-in-Ok-clause-grown
-returns-in-Ok-clause-grown g t c =
-    let found = rw c.deref.ensures.value at c.in-Ok.ensures.found in
-    grown_here g.K.Ord.cmp g.met.K.Ord.total c.args.self.now c.self.inside.entries.items c.self.inside.kids.items c.self.view_is c.self.invariant.0 c.requires.sorted c.args.key c.args.value c.in-Ok.at (c.args.key, c.args.value) c.replace_value.new.row.items c.requires.fits (c.replace_value.ensures.new (c.args.key, c.args.value)) found.0 (found.1 (c.args.key, c.args.value))
+    let none_len : vec_len c.self.inside.kids ≡ 0 = eqb-true (vec_len c.self.inside.kids) 0 (sym c.is_empty.ensures ∙ c.if-is_empty.true) in
+    let none : length c.self.inside.kids.items ≡ 0 = omega (arith, none_len, c.self.inside.kids.ok.0) in
+    (leaf_node g.K.Ord.cmp c.args.self.now c.self.inside.entries.items c.self.inside.separators.items c.self.inside.kids.items c.self.view_is c.self.invariant.0 none c.insert_leaf.new.entries.items, c.insert_leaf.ensures.room, c.self.invariant.2)
 
 pub returns-then-is_empty-clause-before : goal.returns-then-is_empty-clause-before
 returns-then-is_empty-clause-before g t c =
-    let gap = rw c.deref.ensures.value at c.in-Err.ensures.gap in
-    let none : vec_len c.self.inside.kids ≡ 0 = eqb-true (vec_len c.self.inside.kids) 0 (sym c.is_empty.ensures ∙ c.if-is_empty.true) in
-    let leaf = no_kids c.self.inside.kids.items (omega (arith, none, c.self.inside.kids.ok.0)) in
-    sym (missed_leaf g.K.Ord.cmp g.met.K.Ord.total c.args.self.now c.self.inside.entries.items c.self.inside.kids.items c.self.view_is c.self.invariant.0 c.requires.sorted c.args.key c.in-Err.at leaf gap.0 gap.1 gap.2)
+    let none_len : vec_len c.self.inside.kids ≡ 0 = eqb-true (vec_len c.self.inside.kids) 0 (sym c.is_empty.ensures ∙ c.if-is_empty.true) in
+    let none : length c.self.inside.kids.items ≡ 0 = omega (arith, none_len, c.self.inside.kids.ok.0) in
+    subst (λ ps. IfOk c.insert_leaf.result (λ r. r.0 ≡ find g.K.Ord.cmp c.args.key ps)) (sym (leaf_row g.K.Ord.cmp c.args.self.now c.self.inside.entries.items c.self.inside.separators.items c.self.inside.kids.items c.self.view_is c.self.invariant.0 none)) c.insert_leaf.ensures.before
 
 pub returns-then-is_empty-clause-grown : goal.returns-then-is_empty-clause-grown
 returns-then-is_empty-clause-grown g t c =
-    let gap = rw c.deref.ensures.value at c.in-Err.ensures.gap in
-    let none : vec_len c.self.inside.kids ≡ 0 = eqb-true (vec_len c.self.inside.kids) 0 (sym c.is_empty.ensures ∙ c.if-is_empty.true) in
-    let leaf = no_kids c.self.inside.kids.items (omega (arith, none, c.self.inside.kids.ok.0)) in
-    grown_leaf g.K.Ord.cmp g.met.K.Ord.total c.args.self.now c.self.inside.entries.items c.self.inside.kids.items c.self.view_is c.self.invariant.0 c.requires.sorted c.args.key c.args.value c.in-Err.at (insert c.self.inside.entries.items c.in-Err.at (c.args.key, c.args.value)) (branch_of c.insert_leaf.new.entries.items c.insert_leaf.new.kids.items) c.in_ok-beside.beside leaf refl gap.0 gap.1 gap.2 c.in_ok-beside.ensures.grown
+    let none_len : vec_len c.self.inside.kids ≡ 0 = eqb-true (vec_len c.self.inside.kids) 0 (sym c.is_empty.ensures ∙ c.if-is_empty.true) in
+    let none : length c.self.inside.kids.items ≡ 0 = omega (arith, none_len, c.self.inside.kids.ok.0) in
+    let n = leaf_size g.K.Ord.cmp c.args.self.now c.self.inside.entries.items c.self.inside.separators.items c.self.inside.kids.items c.self.view_is c.self.invariant.0 none in
+    if_ok_on c.insert_leaf.result (λ r s. subst (λ x. HasBecome g.K.Ord.cmp c.args.self.now.count c.args.self.now.height (put g.K.Ord.cmp c.args.key c.args.value c.args.self.now.pairs) x r.1) (sym (leaf_made g.K.Ord.cmp c.args.self.now c.self.inside.entries.items c.self.inside.separators.items c.self.inside.kids.items c.self.view_is c.self.invariant.0 none c.insert_leaf.new.entries.items))
+    (become_from g.K.Ord.cmp (length c.self.inside.entries.items) c.args.self.now.count 0 c.args.self.now.height (put g.K.Ord.cmp c.args.key c.args.value c.self.inside.entries.items) (put g.K.Ord.cmp c.args.key c.args.value c.args.self.now.pairs) (branch_of c.insert_leaf.new.entries.items [] []) r.1 (omega (arith, n)) (sym (leaf_height g.K.Ord.cmp c.args.self.now c.self.inside.entries.items c.self.inside.separators.items c.self.inside.kids.items c.self.view_is c.self.invariant.0 none)) (ap (put g.K.Ord.cmp c.args.key c.args.value) (sym (leaf_row g.K.Ord.cmp c.args.self.now c.self.inside.entries.items c.self.inside.separators.items c.self.inside.kids.items c.self.view_is c.self.invariant.0 none))) s)) c.insert_leaf.ensures.grown
+
+pub kid_near-at-requires : goal.kid_near-at-requires
+kid_near-at-requires g t c =
+    let some_len : vec_len c.self.inside.kids ≡ 0 → ⊥ = eqb-false (vec_len c.self.inside.kids) 0 (sym c.is_empty.ensures ∙ c.if-is_empty.false) in
+    let some : length c.self.inside.kids.items ≡ 0 → ⊥ = λ e. some_len (c.self.inside.kids.ok.0 ∙ e) in
+    rw c.deref.ensures.value (inner_rises g.K.Ord.cmp c.args.self.now c.self.inside.entries.items c.self.inside.separators.items c.self.inside.kids.items c.self.view_is c.self.invariant.0 some)
 
 pub spare_rows-requires : goal.spare_rows-requires
 spare_rows-requires g t c =
-    let gap = rw c.deref.ensures.value at c.in-Err.ensures.gap in
-    let some : vec_len c.self.inside.kids ≡ 0 → ⊥ = eqb-false (vec_len c.self.inside.kids) 0 (sym c.is_empty.ensures ∙ c.if-is_empty.false) in
-    let low : c.in-Err.at < length c.self.inside.kids.items = below_kids c.in-Err.at c.self.inside.entries.items c.self.inside.kids.items c.self.invariant.0 (λ e. some (c.self.inside.kids.ok.0 ∙ e)) gap.0 in
+    let some_len : vec_len c.self.inside.kids ≡ 0 → ⊥ = eqb-false (vec_len c.self.inside.kids) 0 (sym c.is_empty.ensures ∙ c.if-is_empty.false) in
+    let some : length c.self.inside.kids.items ≡ 0 → ⊥ = λ e. some_len (c.self.inside.kids.ok.0 ∙ e) in
+    let at = c.kid_near-at.result in
+    let in_range = rw c.deref.ensures.value at c.kid_near-at.ensures.in_range in
+    let lo = rw c.deref.ensures.value at c.kid_near-at.ensures.from in
+    let hi = rw c.deref.ensures.value at c.kid_near-at.ensures.under in
+    let low = inner_low g.K.Ord.cmp c.args.self.now c.self.inside.entries.items c.self.inside.separators.items c.self.inside.kids.items c.self.view_is c.self.invariant.0 some at in_range in
     rw c.deref-3.ensures.value low
 
 pub insert-requires : goal.insert-requires
 insert-requires g t c κs within =
-    let gap = rw c.deref.ensures.value at c.in-Err.ensures.gap in
-    let some : vec_len c.self.inside.kids ≡ 0 → ⊥ = eqb-false (vec_len c.self.inside.kids) 0 (sym c.is_empty.ensures ∙ c.if-is_empty.false) in
-    let low : c.in-Err.at < length c.self.inside.kids.items = below_kids c.in-Err.at c.self.inside.entries.items c.self.inside.kids.items c.self.invariant.0 (λ e. some (c.self.inside.kids.ok.0 ∙ e)) gap.0 in
-    let kid = kid_at c.in-Err.at c.self.inside.entries.items c.self.inside.kids.items c.index_mut.result.now c.self.invariant.0 low in
-    let sorted : Ascends g.K.Ord.cmp c.index_mut.result.now.pairs = subst (λ b. Ascends g.K.Ord.cmp b.pairs) (sym c.index_mut.ensures.value) (kid_sorted g.K.Ord.cmp g.met.K.Ord.total c.args.self.now c.self.inside.entries.items c.self.inside.kids.items c.self.view_is c.self.invariant.0 c.requires.sorted c.in-Err.at c.index_mut.result.now gap.0 low) in
-    let most : c.index_mut.result.now.count ≤ 32 = subst (λ b. b.count ≤ 32) (sym c.index_mut.ensures.value) kid.1.most in
-    let level : suc c.index_mut.result.now.height ≡ c.args.self.now.height = ap (λ b. suc b.height) c.index_mut.ensures.value ∙ kid.0 ∙ ap (λ b. b.height) c.self.view_is in
+    let some_len : vec_len c.self.inside.kids ≡ 0 → ⊥ = eqb-false (vec_len c.self.inside.kids) 0 (sym c.is_empty.ensures ∙ c.if-is_empty.false) in
+    let some : length c.self.inside.kids.items ≡ 0 → ⊥ = λ e. some_len (c.self.inside.kids.ok.0 ∙ e) in
+    let at = c.kid_near-at.result in
+    let in_range = rw c.deref.ensures.value at c.kid_near-at.ensures.in_range in
+    let lo = rw c.deref.ensures.value at c.kid_near-at.ensures.from in
+    let hi = rw c.deref.ensures.value at c.kid_near-at.ensures.under in
+    let low = inner_low g.K.Ord.cmp c.args.self.now c.self.inside.entries.items c.self.inside.separators.items c.self.inside.kids.items c.self.view_is c.self.invariant.0 some at in_range in
+    let kid = inner_kid_at g.K.Ord.cmp c.args.self.now c.self.inside.entries.items c.self.inside.separators.items c.self.inside.kids.items c.self.view_is c.self.invariant.0 some at c.index_mut.result.now low in
+    let sorted : Ascends g.K.Ord.cmp c.index_mut.result.now.pairs = subst (λ b. Ascends g.K.Ord.cmp b.pairs) (sym c.index_mut.ensures.value) (kid_ascends g.K.Ord.cmp c.args.self.now c.self.inside.entries.items c.self.inside.separators.items c.self.inside.kids.items c.self.view_is c.self.invariant.0 some g.met.K.Ord.total at c.index_mut.result.now low c.requires.sorted) in
+    let most : c.index_mut.result.now.count ≤ 32 = subst (λ b. b.count ≤ 32) (sym c.index_mut.ensures.value) kid.most in
+    let level : suc c.index_mut.result.now.height ≡ c.args.self.now.height = ap (λ b. suc b.height) c.index_mut.ensures.value ∙ inner_level g.K.Ord.cmp c.args.self.now c.self.inside.entries.items c.self.inside.separators.items c.self.inside.kids.items c.self.view_is c.self.invariant.0 some at c.index_mut.result.now low in
     search rules
 
 pub ease-requires-clause-node : goal.ease-requires-clause-node
 ease-requires-clause-node g t c =
-    let gap = rw c.deref.ensures.value at c.in-Err.ensures.gap in
-    let some : vec_len c.self.inside.kids ≡ 0 → ⊥ = eqb-false (vec_len c.self.inside.kids) 0 (sym c.is_empty.ensures ∙ c.if-is_empty.false) in
-    let low : c.in-Err.at < length c.self.inside.kids.items = below_kids c.in-Err.at c.self.inside.entries.items c.self.inside.kids.items c.self.invariant.0 (λ e. some (c.self.inside.kids.ok.0 ∙ e)) gap.0 in
-    let grown = subst (λ (k : Branch g.row.K.Denot g.row.V.Denot). HasBecome k.count k.height (put g.K.Ord.cmp c.args.key c.args.value k.pairs) c.insert.new.self c.in_ok-before.beside) c.index_mut.ensures.value c.in_ok-before.ensures.grown in
-    let one = subst (λ o. HasBecome (get_or c.self.inside.kids.items c.in-Err.at c.index_mut.result.now).count (get_or c.self.inside.kids.items c.in-Err.at c.index_mut.result.now).height (put g.K.Ord.cmp c.args.key c.args.value (get_or c.self.inside.kids.items c.in-Err.at c.index_mut.result.now).pairs) c.insert.new.self o) c.in_default-beside.is grown in
-    node_below g.K.Ord.cmp g.met.K.Ord.total c.args.self.now c.self.inside.entries.items c.self.inside.kids.items c.self.view_is c.self.invariant.0 c.requires.sorted c.args.key c.args.value c.in-Err.at c.index_mut.result.now c.insert.new.self Option.None c.self.inside.entries.items (slice_set c.self.inside.kids.items c.in-Err.at c.insert.new.self) gap.0 low one refl refl
+    let some_len : vec_len c.self.inside.kids ≡ 0 → ⊥ = eqb-false (vec_len c.self.inside.kids) 0 (sym c.is_empty.ensures ∙ c.if-is_empty.false) in
+    let some : length c.self.inside.kids.items ≡ 0 → ⊥ = λ e. some_len (c.self.inside.kids.ok.0 ∙ e) in
+    let at = c.kid_near-at.result in
+    let in_range = rw c.deref.ensures.value at c.kid_near-at.ensures.in_range in
+    let lo = rw c.deref.ensures.value at c.kid_near-at.ensures.from in
+    let hi = rw c.deref.ensures.value at c.kid_near-at.ensures.under in
+    let low = inner_low g.K.Ord.cmp c.args.self.now c.self.inside.entries.items c.self.inside.separators.items c.self.inside.kids.items c.self.view_is c.self.invariant.0 some at in_range in
+    let grown = subst (λ (k : Branch g.row.K.Denot g.row.V.Denot). HasBecome g.K.Ord.cmp k.count k.height (put g.K.Ord.cmp c.args.key c.args.value k.pairs) c.insert.new.self c.in_ok-before.beside) c.index_mut.ensures.value c.in_ok-before.ensures.grown in
+    let one = subst (λ o. HasBecome g.K.Ord.cmp (get_or c.self.inside.kids.items at c.index_mut.result.now).count (get_or c.self.inside.kids.items at c.index_mut.result.now).height (put g.K.Ord.cmp c.args.key c.args.value (get_or c.self.inside.kids.items at c.index_mut.result.now).pairs) c.insert.new.self o) c.in_default-beside.is grown in
+    (beside_node g.K.Ord.cmp c.args.self.now c.self.inside.entries.items c.self.inside.separators.items c.self.inside.kids.items c.self.view_is c.self.invariant.0 some g.met.K.Ord.total c.args.key c.args.value at c.index_mut.result.now c.insert.new.self None in_range lo hi one).0
+
+pub ease-requires-clause-sorted : goal.ease-requires-clause-sorted
+ease-requires-clause-sorted g t c =
+    let some_len : vec_len c.self.inside.kids ≡ 0 → ⊥ = eqb-false (vec_len c.self.inside.kids) 0 (sym c.is_empty.ensures ∙ c.if-is_empty.false) in
+    let some : length c.self.inside.kids.items ≡ 0 → ⊥ = λ e. some_len (c.self.inside.kids.ok.0 ∙ e) in
+    let at = c.kid_near-at.result in
+    let in_range = rw c.deref.ensures.value at c.kid_near-at.ensures.in_range in
+    let lo = rw c.deref.ensures.value at c.kid_near-at.ensures.from in
+    let hi = rw c.deref.ensures.value at c.kid_near-at.ensures.under in
+    let low = inner_low g.K.Ord.cmp c.args.self.now c.self.inside.entries.items c.self.inside.separators.items c.self.inside.kids.items c.self.view_is c.self.invariant.0 some at in_range in
+    let grown = subst (λ (k : Branch g.row.K.Denot g.row.V.Denot). HasBecome g.K.Ord.cmp k.count k.height (put g.K.Ord.cmp c.args.key c.args.value k.pairs) c.insert.new.self c.in_ok-before.beside) c.index_mut.ensures.value c.in_ok-before.ensures.grown in
+    let one = subst (λ o. HasBecome g.K.Ord.cmp (get_or c.self.inside.kids.items at c.index_mut.result.now).count (get_or c.self.inside.kids.items at c.index_mut.result.now).height (put g.K.Ord.cmp c.args.key c.args.value (get_or c.self.inside.kids.items at c.index_mut.result.now).pairs) c.insert.new.self o) c.in_default-beside.is grown in
+    subst (Ascends g.K.Ord.cmp) (sym (beside_pairs g.K.Ord.cmp c.args.self.now c.self.inside.entries.items c.self.inside.separators.items c.self.inside.kids.items c.self.view_is c.self.invariant.0 some g.met.K.Ord.total c.args.key c.args.value at c.index_mut.result.now c.insert.new.self None in_range lo hi one)) (ascends_put g.K.Ord.cmp g.met.K.Ord.total c.args.key c.args.value c.args.self.now.pairs c.requires.sorted)
 
 pub returns-in_default-beside-clause-before : goal.returns-in_default-beside-clause-before
 returns-in_default-beside-clause-before g t c =
-    let gap = rw c.deref.ensures.value at c.in-Err.ensures.gap in
-    let some : vec_len c.self.inside.kids ≡ 0 → ⊥ = eqb-false (vec_len c.self.inside.kids) 0 (sym c.is_empty.ensures ∙ c.if-is_empty.false) in
-    let low : c.in-Err.at < length c.self.inside.kids.items = below_kids c.in-Err.at c.self.inside.entries.items c.self.inside.kids.items c.self.invariant.0 (λ e. some (c.self.inside.kids.ok.0 ∙ e)) gap.0 in
-    c.in_ok-before.ensures.before ∙ ap (λ b. find g.K.Ord.cmp c.args.key b.pairs) c.index_mut.ensures.value
-    ∙ sym (found_below g.K.Ord.cmp g.met.K.Ord.total c.args.self.now c.self.inside.entries.items c.self.inside.kids.items c.self.view_is c.self.invariant.0 c.requires.sorted c.args.key c.in-Err.at c.index_mut.result.now gap.0 low gap.1 gap.2)
+    let some_len : vec_len c.self.inside.kids ≡ 0 → ⊥ = eqb-false (vec_len c.self.inside.kids) 0 (sym c.is_empty.ensures ∙ c.if-is_empty.false) in
+    let some : length c.self.inside.kids.items ≡ 0 → ⊥ = λ e. some_len (c.self.inside.kids.ok.0 ∙ e) in
+    let at = c.kid_near-at.result in
+    let in_range = rw c.deref.ensures.value at c.kid_near-at.ensures.in_range in
+    let lo = rw c.deref.ensures.value at c.kid_near-at.ensures.from in
+    let hi = rw c.deref.ensures.value at c.kid_near-at.ensures.under in
+    let low = inner_low g.K.Ord.cmp c.args.self.now c.self.inside.entries.items c.self.inside.separators.items c.self.inside.kids.items c.self.view_is c.self.invariant.0 some at in_range in
+    c.in_ok-before.ensures.before ∙ ap (λ b. find g.K.Ord.cmp c.args.key b.pairs) c.index_mut.ensures.value ∙ sym (kid_found g.K.Ord.cmp c.args.self.now c.self.inside.entries.items c.self.inside.separators.items c.self.inside.kids.items c.self.view_is c.self.invariant.0 some g.met.K.Ord.total c.args.key at c.index_mut.result.now in_range lo hi)
 
 pub returns-in_default-beside-clause-grown : goal.returns-in_default-beside-clause-grown
 returns-in_default-beside-clause-grown g t c =
-    let gap = rw c.deref.ensures.value at c.in-Err.ensures.gap in
-    let some : vec_len c.self.inside.kids ≡ 0 → ⊥ = eqb-false (vec_len c.self.inside.kids) 0 (sym c.is_empty.ensures ∙ c.if-is_empty.false) in
-    let low : c.in-Err.at < length c.self.inside.kids.items = below_kids c.in-Err.at c.self.inside.entries.items c.self.inside.kids.items c.self.invariant.0 (λ e. some (c.self.inside.kids.ok.0 ∙ e)) gap.0 in
-    let grown = subst (λ (k : Branch g.row.K.Denot g.row.V.Denot). HasBecome k.count k.height (put g.K.Ord.cmp c.args.key c.args.value k.pairs) c.insert.new.self c.in_ok-before.beside) c.index_mut.ensures.value c.in_ok-before.ensures.grown in
-    let one = subst (λ o. HasBecome (get_or c.self.inside.kids.items c.in-Err.at c.index_mut.result.now).count (get_or c.self.inside.kids.items c.in-Err.at c.index_mut.result.now).height (put g.K.Ord.cmp c.args.key c.args.value (get_or c.self.inside.kids.items c.in-Err.at c.index_mut.result.now).pairs) c.insert.new.self o) c.in_default-beside.is grown in
-    let kid = kid_of (height_of (slice_set c.self.inside.kids.items c.in-Err.at c.insert.new.self)) c.ease.new.entries.items c.ease.new.kids.items (length c.self.inside.entries.items) c.ease.ensures.node c.ease.ensures.height (omega (arith, c.ease.ensures.kept)) (omega (arith, c.ease.ensures.kept, ap (λ b. b.count) c.self.view_is, c.requires.fits)) in
-    grown_below g.K.Ord.cmp g.met.K.Ord.total c.args.self.now c.self.inside.entries.items c.self.inside.kids.items c.self.view_is c.self.invariant.0 c.requires.sorted c.args.key c.args.value c.in-Err.at c.index_mut.result.now c.insert.new.self Option.None Option.None c.self.inside.entries.items (slice_set c.self.inside.kids.items c.in-Err.at c.insert.new.self) (branch_of c.ease.new.entries.items c.ease.new.kids.items) gap.0 low gap.1 gap.2 one refl refl (kid, c.ease.ensures.pairs)
+    let some_len : vec_len c.self.inside.kids ≡ 0 → ⊥ = eqb-false (vec_len c.self.inside.kids) 0 (sym c.is_empty.ensures ∙ c.if-is_empty.false) in
+    let some : length c.self.inside.kids.items ≡ 0 → ⊥ = λ e. some_len (c.self.inside.kids.ok.0 ∙ e) in
+    let at = c.kid_near-at.result in
+    let in_range = rw c.deref.ensures.value at c.kid_near-at.ensures.in_range in
+    let lo = rw c.deref.ensures.value at c.kid_near-at.ensures.from in
+    let hi = rw c.deref.ensures.value at c.kid_near-at.ensures.under in
+    let low = inner_low g.K.Ord.cmp c.args.self.now c.self.inside.entries.items c.self.inside.separators.items c.self.inside.kids.items c.self.view_is c.self.invariant.0 some at in_range in
+    let grown = subst (λ (k : Branch g.row.K.Denot g.row.V.Denot). HasBecome g.K.Ord.cmp k.count k.height (put g.K.Ord.cmp c.args.key c.args.value k.pairs) c.insert.new.self c.in_ok-before.beside) c.index_mut.ensures.value c.in_ok-before.ensures.grown in
+    let one = subst (λ o. HasBecome g.K.Ord.cmp (get_or c.self.inside.kids.items at c.index_mut.result.now).count (get_or c.self.inside.kids.items at c.index_mut.result.now).height (put g.K.Ord.cmp c.args.key c.args.value (get_or c.self.inside.kids.items at c.index_mut.result.now).pairs) c.insert.new.self o) c.in_default-beside.is grown in
+    same_become g.K.Ord.cmp c.args.self.now c.self.inside.entries.items c.self.inside.separators.items c.self.inside.kids.items c.self.view_is c.self.invariant.0 some (put g.K.Ord.cmp c.args.key c.args.value c.args.self.now.pairs) c.ease.new.separators.items c.ease.new.kids.items c.ease.ensures.node (c.ease.ensures.height ∙ (beside_node g.K.Ord.cmp c.args.self.now c.self.inside.entries.items c.self.inside.separators.items c.self.inside.kids.items c.self.view_is c.self.invariant.0 some g.met.K.Ord.total c.args.key c.args.value at c.index_mut.result.now c.insert.new.self None in_range lo hi one).1) c.ease.ensures.kept (c.ease.ensures.pairs ∙ beside_pairs g.K.Ord.cmp c.args.self.now c.self.inside.entries.items c.self.inside.separators.items c.self.inside.kids.items c.self.view_is c.self.invariant.0 some g.met.K.Ord.total c.args.key c.args.value at c.index_mut.result.now c.insert.new.self None in_range lo hi one) c.requires.fits
 
 pub split_long-beside-requires-clause-node : goal.split_long-beside-requires-clause-node
 split_long-beside-requires-clause-node g t c =
-    let gap = rw c.deref.ensures.value at c.in-Err.ensures.gap in
-    let some : vec_len c.self.inside.kids ≡ 0 → ⊥ = eqb-false (vec_len c.self.inside.kids) 0 (sym c.is_empty.ensures ∙ c.if-is_empty.false) in
-    let low : c.in-Err.at < length c.self.inside.kids.items = below_kids c.in-Err.at c.self.inside.entries.items c.self.inside.kids.items c.self.invariant.0 (λ e. some (c.self.inside.kids.ok.0 ∙ e)) gap.0 in
-    let grown = subst (λ (k : Branch g.row.K.Denot g.row.V.Denot). HasBecome k.count k.height (put g.K.Ord.cmp c.args.key c.args.value k.pairs) c.insert.new.self c.in_ok-before.beside) c.index_mut.ensures.value c.in_ok-before.ensures.grown in
-    let entries = c.put_beside.ensures.pairs ∙ ap (λ o. with_pair c.self.inside.entries.items c.in-Err.at o) (sym c.in-Some.is) in
-    let kids = c.put_beside.ensures.kids ∙ ap (λ o. with_kid (slice_set c.self.inside.kids.items c.in-Err.at c.insert.new.self) c.in-Err.at o) (sym c.in-Some.is) in
-    node_below g.K.Ord.cmp g.met.K.Ord.total c.args.self.now c.self.inside.entries.items c.self.inside.kids.items c.self.view_is c.self.invariant.0 c.requires.sorted c.args.key c.args.value c.in-Err.at c.index_mut.result.now c.insert.new.self c.in_ok-before.beside c.put_beside.new.entries.items c.put_beside.new.kids.items gap.0 low grown entries kids
-
-pub split_long-beside-requires-clause-spare : goal.split_long-beside-requires-clause-spare
-split_long-beside-requires-clause-spare g t c long =
-    let gap = rw c.deref.ensures.value at c.in-Err.ensures.gap in
-    let some : vec_len c.self.inside.kids ≡ 0 → ⊥ = eqb-false (vec_len c.self.inside.kids) 0 (sym c.is_empty.ensures ∙ c.if-is_empty.false) in
-    let low : c.in-Err.at < length c.self.inside.kids.items = below_kids c.in-Err.at c.self.inside.entries.items c.self.inside.kids.items c.self.invariant.0 (λ e. some (c.self.inside.kids.ok.0 ∙ e)) gap.0 in
-    let fits : length c.self.inside.entries.items ≤ 32 = omega (arith, ap (λ b. b.count) c.self.view_is, c.requires.fits) in
-    let longest = one_longer c.in-Err.at c.self.inside.entries.items (Option.Some c.in-Some.beside) gap.0 in
-    let full = c.in_ok-before.ensures.only_full (ap is_some c.in-Some.is) in
-    let kid = full_at c.in-Err.at c.self.inside.kids.items c.index_mut.result.now (subst (λ b. 32 ≤ b.count) c.index_mut.ensures.value full) in
-    let spare = rw (c.deref-2.ensures.value, c.deref-3.ensures.value) at c.in-Ok-spare_rows.ensures in
-    spare_for (length c.self.inside.entries.items) (length c.self.inside.kids.items) (length c.put_beside.new.entries.items) (length c.put_beside.new.kids.items) c.in-Ok-spare_rows.spare c.in-Ok-spare_rows.spare_kids (spare (omega (arith, longest, long, ap length c.put_beside.ensures.pairs)) kid) (omega (arith, longest, ap length c.put_beside.ensures.pairs)) (omega (arith, low)) long
+    let some_len : vec_len c.self.inside.kids ≡ 0 → ⊥ = eqb-false (vec_len c.self.inside.kids) 0 (sym c.is_empty.ensures ∙ c.if-is_empty.false) in
+    let some : length c.self.inside.kids.items ≡ 0 → ⊥ = λ e. some_len (c.self.inside.kids.ok.0 ∙ e) in
+    let at = c.kid_near-at.result in
+    let in_range = rw c.deref.ensures.value at c.kid_near-at.ensures.in_range in
+    let lo = rw c.deref.ensures.value at c.kid_near-at.ensures.from in
+    let hi = rw c.deref.ensures.value at c.kid_near-at.ensures.under in
+    let low = inner_low g.K.Ord.cmp c.args.self.now c.self.inside.entries.items c.self.inside.separators.items c.self.inside.kids.items c.self.view_is c.self.invariant.0 some at in_range in
+    let grown = subst (λ (k : Branch g.row.K.Denot g.row.V.Denot). HasBecome g.K.Ord.cmp k.count k.height (put g.K.Ord.cmp c.args.key c.args.value k.pairs) c.insert.new.self c.in_ok-before.beside) c.index_mut.ensures.value c.in_ok-before.ensures.grown in
+    let seps = c.put_beside.ensures.separators ∙ ap (λ o. with_separator c.self.inside.separators.items at o) (sym c.in-Some.is) in
+    let kids = c.put_beside.ensures.kids ∙ ap (λ o. with_kid (slice_set c.self.inside.kids.items at c.insert.new.self) at o) (sym c.in-Some.is) in
+    rw (seps, kids) (beside_node g.K.Ord.cmp c.args.self.now c.self.inside.entries.items c.self.inside.separators.items c.self.inside.kids.items c.self.view_is c.self.invariant.0 some g.met.K.Ord.total c.args.key c.args.value at c.index_mut.result.now c.insert.new.self c.in_ok-before.beside in_range lo hi grown).0
 
 pub returns-clause-before : goal.returns-clause-before
 returns-clause-before g t c =
-    let gap = rw c.deref.ensures.value at c.in-Err.ensures.gap in
-    let some : vec_len c.self.inside.kids ≡ 0 → ⊥ = eqb-false (vec_len c.self.inside.kids) 0 (sym c.is_empty.ensures ∙ c.if-is_empty.false) in
-    let low : c.in-Err.at < length c.self.inside.kids.items = below_kids c.in-Err.at c.self.inside.entries.items c.self.inside.kids.items c.self.invariant.0 (λ e. some (c.self.inside.kids.ok.0 ∙ e)) gap.0 in
-    c.in_ok-before.ensures.before ∙ ap (λ b. find g.K.Ord.cmp c.args.key b.pairs) c.index_mut.ensures.value
-    ∙ sym (found_below g.K.Ord.cmp g.met.K.Ord.total c.args.self.now c.self.inside.entries.items c.self.inside.kids.items c.self.view_is c.self.invariant.0 c.requires.sorted c.args.key c.in-Err.at c.index_mut.result.now gap.0 low gap.1 gap.2)
+    let some_len : vec_len c.self.inside.kids ≡ 0 → ⊥ = eqb-false (vec_len c.self.inside.kids) 0 (sym c.is_empty.ensures ∙ c.if-is_empty.false) in
+    let some : length c.self.inside.kids.items ≡ 0 → ⊥ = λ e. some_len (c.self.inside.kids.ok.0 ∙ e) in
+    let at = c.kid_near-at.result in
+    let in_range = rw c.deref.ensures.value at c.kid_near-at.ensures.in_range in
+    let lo = rw c.deref.ensures.value at c.kid_near-at.ensures.from in
+    let hi = rw c.deref.ensures.value at c.kid_near-at.ensures.under in
+    let low = inner_low g.K.Ord.cmp c.args.self.now c.self.inside.entries.items c.self.inside.separators.items c.self.inside.kids.items c.self.view_is c.self.invariant.0 some at in_range in
+    c.in_ok-before.ensures.before ∙ ap (λ b. find g.K.Ord.cmp c.args.key b.pairs) c.index_mut.ensures.value ∙ sym (kid_found g.K.Ord.cmp c.args.self.now c.self.inside.entries.items c.self.inside.separators.items c.self.inside.kids.items c.self.view_is c.self.invariant.0 some g.met.K.Ord.total c.args.key at c.index_mut.result.now in_range lo hi)
 
 pub returns-clause-grown : goal.returns-clause-grown
 returns-clause-grown g t c =
-    let gap = rw c.deref.ensures.value at c.in-Err.ensures.gap in
-    let some : vec_len c.self.inside.kids ≡ 0 → ⊥ = eqb-false (vec_len c.self.inside.kids) 0 (sym c.is_empty.ensures ∙ c.if-is_empty.false) in
-    let low : c.in-Err.at < length c.self.inside.kids.items = below_kids c.in-Err.at c.self.inside.entries.items c.self.inside.kids.items c.self.invariant.0 (λ e. some (c.self.inside.kids.ok.0 ∙ e)) gap.0 in
-    let grown = subst (λ (k : Branch g.row.K.Denot g.row.V.Denot). HasBecome k.count k.height (put g.K.Ord.cmp c.args.key c.args.value k.pairs) c.insert.new.self c.in_ok-before.beside) c.index_mut.ensures.value c.in_ok-before.ensures.grown in
-    let entries = c.put_beside.ensures.pairs ∙ ap (λ o. with_pair c.self.inside.entries.items c.in-Err.at o) (sym c.in-Some.is) in
-    let kids = c.put_beside.ensures.kids ∙ ap (λ o. with_kid (slice_set c.self.inside.kids.items c.in-Err.at c.insert.new.self) c.in-Err.at o) (sym c.in-Some.is) in
-    grown_below g.K.Ord.cmp g.met.K.Ord.total c.args.self.now c.self.inside.entries.items c.self.inside.kids.items c.self.view_is c.self.invariant.0 c.requires.sorted c.args.key c.args.value c.in-Err.at c.index_mut.result.now c.insert.new.self c.in_ok-before.beside c.split_long-beside.result c.put_beside.new.entries.items c.put_beside.new.kids.items (branch_of c.split_long-beside.new.entries.items c.split_long-beside.new.kids.items) gap.0 low gap.1 gap.2 grown entries kids c.split_long-beside.ensures.split
+    let some_len : vec_len c.self.inside.kids ≡ 0 → ⊥ = eqb-false (vec_len c.self.inside.kids) 0 (sym c.is_empty.ensures ∙ c.if-is_empty.false) in
+    let some : length c.self.inside.kids.items ≡ 0 → ⊥ = λ e. some_len (c.self.inside.kids.ok.0 ∙ e) in
+    let at = c.kid_near-at.result in
+    let in_range = rw c.deref.ensures.value at c.kid_near-at.ensures.in_range in
+    let lo = rw c.deref.ensures.value at c.kid_near-at.ensures.from in
+    let hi = rw c.deref.ensures.value at c.kid_near-at.ensures.under in
+    let low = inner_low g.K.Ord.cmp c.args.self.now c.self.inside.entries.items c.self.inside.separators.items c.self.inside.kids.items c.self.view_is c.self.invariant.0 some at in_range in
+    let grown = subst (λ (k : Branch g.row.K.Denot g.row.V.Denot). HasBecome g.K.Ord.cmp k.count k.height (put g.K.Ord.cmp c.args.key c.args.value k.pairs) c.insert.new.self c.in_ok-before.beside) c.index_mut.ensures.value c.in_ok-before.ensures.grown in
+    let seps = c.put_beside.ensures.separators ∙ ap (λ o. with_separator c.self.inside.separators.items at o) (sym c.in-Some.is) in
+    let kids = c.put_beside.ensures.kids ∙ ap (λ o. with_kid (slice_set c.self.inside.kids.items at c.insert.new.self) at o) (sym c.in-Some.is) in
+    let n = inner_size g.K.Ord.cmp c.args.self.now c.self.inside.entries.items c.self.inside.separators.items c.self.inside.kids.items c.self.view_is c.self.invariant.0 some in
+    let more = longer at c.self.inside.separators.items c.in_ok-before.beside in_range in
+    split_become g.K.Ord.cmp c.args.self.now c.self.inside.entries.items c.self.inside.separators.items c.self.inside.kids.items c.self.view_is c.self.invariant.0 some (put g.K.Ord.cmp c.args.key c.args.value c.args.self.now.pairs) (flat c.put_beside.new.kids.items) (length c.put_beside.new.separators.items) (height_of c.put_beside.new.kids.items) c.split_long-beside.new.separators.items c.split_long-beside.new.kids.items c.split_long-beside.result c.split_long-beside.ensures.split
+    (omega (arith, n, more, ap length seps)) (ap height_of kids ∙ (beside_node g.K.Ord.cmp c.args.self.now c.self.inside.entries.items c.self.inside.separators.items c.self.inside.kids.items c.self.view_is c.self.invariant.0 some g.met.K.Ord.total c.args.key c.args.value at c.index_mut.result.now c.insert.new.self c.in_ok-before.beside in_range lo hi grown).1) (ap flat kids ∙ beside_pairs g.K.Ord.cmp c.args.self.now c.self.inside.entries.items c.self.inside.separators.items c.self.inside.kids.items c.self.view_is c.self.invariant.0 some g.met.K.Ord.total c.args.key c.args.value at c.index_mut.result.now c.insert.new.self c.in_ok-before.beside in_range lo hi grown)
+
+pub split_long-beside-requires-clause-spare : goal.split_long-beside-requires-clause-spare
+split_long-beside-requires-clause-spare g t c = λ long.
+    let some_len : vec_len c.self.inside.kids ≡ 0 → ⊥ = eqb-false (vec_len c.self.inside.kids) 0 (sym c.is_empty.ensures ∙ c.if-is_empty.false) in
+    let some : length c.self.inside.kids.items ≡ 0 → ⊥ = λ e. some_len (c.self.inside.kids.ok.0 ∙ e) in
+    let at = c.kid_near-at.result in
+    let in_range = rw c.deref.ensures.value at c.kid_near-at.ensures.in_range in
+    let most = one_longer at c.self.inside.separators.items (Some c.in-Some.beside) in_range in
+    let whole : 32 ≤ length c.self.inside.separators.items = omega (arith, long, ap length c.put_beside.ensures.separators, most) in
+    let full : 32 ≤ c.index_mut.result.now.count = c.in_ok-before.ensures.only_full (subst IsSome (sym c.in-Some.is) refl) in
+    let full_kid = full_at at c.self.inside.kids.items c.index_mut.result.now (subst (λ b. 32 ≤ b.count) c.index_mut.ensures.value full) in
+    (rw (c.deref-2.ensures.value, c.deref-3.ensures.value) at c.in-Ok.ensures) whole full_kid
 
 pub returns-clause-only_full : goal.returns-clause-only_full
-returns-clause-only_full g t c some =
-    let gap = rw c.deref.ensures.value at c.in-Err.ensures.gap in
-    let size = one_longer c.in-Err.at c.self.inside.entries.items (Option.Some c.in-Some.beside) gap.0 in
-    omega (arith, c.split_long-beside.ensures.only_long some, size, ap length c.put_beside.ensures.pairs, ap (λ b. b.count) c.self.view_is)
+returns-clause-only_full g t c = λ two.
+    let some_len : vec_len c.self.inside.kids ≡ 0 → ⊥ = eqb-false (vec_len c.self.inside.kids) 0 (sym c.is_empty.ensures ∙ c.if-is_empty.false) in
+    let some : length c.self.inside.kids.items ≡ 0 → ⊥ = λ e. some_len (c.self.inside.kids.ok.0 ∙ e) in
+    let at = c.kid_near-at.result in
+    let in_range = rw c.deref.ensures.value at c.kid_near-at.ensures.in_range in
+    let most = one_longer at c.self.inside.separators.items (Some c.in-Some.beside) in_range in
+    omega (arith, c.split_long-beside.ensures.only_long two, ap length c.put_beside.ensures.separators, most, inner_size g.K.Ord.cmp c.args.self.now c.self.inside.entries.items c.self.inside.separators.items c.self.inside.kids.items c.self.view_is c.self.invariant.0 some)

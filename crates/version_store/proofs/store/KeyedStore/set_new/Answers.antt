@@ -2,6 +2,7 @@ use Rattle.std.proofs.Common.{◌<◌, refl, arith}
 use Rattle.std.specs.FinMap.{put}
 use Rattle.collation.specs.Order.{ref_cmp}
 use Rattle.version_store.specs.Tied.{versions_in}
+use Rattle.collation.specs.laws.Order.{ref_cmp-IsAntisymmetric}
 use Rattle.version_store.proofs.TiedLemmas.{versions_put, tied_put, tied_back, tied_later, not_in}
 use Rattle.version_store.proofs.SetLemmas.{versions_set, tied_set, pushed_fresh, found_put}
 use Rattle.version_store.proofs.CellLemmas.{cells_in, no_cells, no_cells_at}
@@ -10,7 +11,7 @@ use Rattle.version_store.proofs.store.KeyedStore.set_new.Goals as goal
 pub invariant_of-self-in-Ok-insert_by : goal.invariant_of-self-in-Ok-insert_by
 invariant_of-self-in-Ok-insert_by c =
     let s = c.self.inside in
-    let all = rw c.in-Ok-insert_by.is at c.insert_by.ensures.put in
+    let all = (rw c.in-Ok-insert_by.is at c.insert_by.ensures.put) ref_cmp-IsAntisymmetric in
     let none = not_in s.chains s.tree.pairs c.args.key c.self.invariant.0.sorted (rw (← c.self.view_is) at c.requires.none) in
     let later : s.present < c.args.stamp = rw (← c.self.view_is) at c.requires.stamp in
     let now = tied_put s.chains c.open.new.self s.tree.pairs s.present c.in-Ok.id c.args.key c.self.invariant.0 none c.in-Ok.ensures.vacant c.in-Ok.ensures.chains in
@@ -26,7 +27,7 @@ invariant_of-self-in-Err-insert_by c =
 pub returns-in-Ok-insert_by-clause-ok : goal.returns-in-Ok-insert_by-clause-ok
 returns-in-Ok-insert_by-clause-ok c =
     let s = c.self.inside in
-    let all = rw c.in-Ok-insert_by.is at c.insert_by.ensures.put in
+    let all = (rw c.in-Ok-insert_by.is at c.insert_by.ensures.put) ref_cmp-IsAntisymmetric in
     let vacant = rw (← c.self.view_is) at c.requires.none in
     let none = not_in s.chains s.tree.pairs c.args.key c.self.invariant.0.sorted vacant in
     let later : s.present < c.args.stamp = rw (← c.self.view_is) at c.requires.stamp in
@@ -42,7 +43,7 @@ returns-in-Ok-insert_by-clause-ok c =
 pub returns-in-Ok-insert_by-clause-cells : goal.returns-in-Ok-insert_by-clause-cells
 returns-in-Ok-insert_by-clause-cells c =
     let s = c.self.inside in
-    let all = rw c.in-Ok-insert_by.is at c.insert_by.ensures.put in
+    let all = (rw c.in-Ok-insert_by.is at c.insert_by.ensures.put) ref_cmp-IsAntisymmetric in
     let vacant = rw (← c.self.view_is) at c.requires.none in
     let none = not_in s.chains s.tree.pairs c.args.key c.self.invariant.0.sorted vacant in
     let now = tied_put s.chains c.open.new.self s.tree.pairs s.present c.in-Ok.id c.args.key c.self.invariant.0 none c.in-Ok.ensures.vacant c.in-Ok.ensures.chains in

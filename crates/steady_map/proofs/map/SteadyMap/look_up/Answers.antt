@@ -1,0 +1,8 @@
+use Rattle.std.proofs.Common.{◌≡◌, ◌∙◌, ap, sym}
+use Rattle.std.specs.FinMap.Entries as entries
+use Rattle.steady_map.specs.Shown.{shown, joined, Seen}
+use Rattle.steady_map.proofs.Shows.{find_shown}
+use Rattle.steady_map.proofs.map.SteadyMap.look_up.Goals as goal
+
+pub returns : goal.returns
+returns g c = record { found = c.as_shown.ensures ∙ ap joined c.look_up.ensures.found ∙ sym (ap (entries.find g.K.Ord.cmp c.args.key.now) (sym (ap (λ (m : Seen g.row.K.Denot g.row.V.Denot). m.pairs) c.self.view_is)) ∙ find_shown g.K.Ord.cmp g.met.K.Ord.total c.args.key.now c.self.inside.tree.pairs c.len-count.ensures.sorted) }

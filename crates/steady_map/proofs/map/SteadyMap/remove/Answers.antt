@@ -1,0 +1,12 @@
+use Rattle.std.proofs.Common.{◌≡◌, ◌∙◌, ◌-◌, cond, is_some, length, ap, arith}
+use Rattle.std.specs.Bool.{passes}
+use Rattle.std.specs.FinMap.Entries as entries
+use Rattle.steady_map.specs.Shown.{shown, joined, Seen}
+use Rattle.steady_map.proofs.Shows.{sorted_shown}
+use Rattle.steady_map.proofs.map.SteadyMap.remove.Goals as goal
+
+pub invariant_of-self : goal.invariant_of-self
+invariant_of-self g c =
+    let count : c.count.result ≡ cond (is_some (entries.find g.K.Ord.cmp c.args.key.now (shown c.self.inside.tree.pairs))) 1 0 = c.count.ensures ∙ ap (λ o. cond (is_some o) 1 0) c.take_or_hide-value.ensures.value in
+    let size = entries.length_without g.K.Ord.cmp g.met.K.Ord.total c.args.key.now (shown c.self.inside.tree.pairs) (passes _ (sorted_shown g.K.Ord.cmp c.self.inside.tree.pairs c.len-count.ensures.sorted)) in
+    omega (arith, c.self.invariant, count, size, ap length c.take_or_hide-value.ensures.pairs)
