@@ -1,5 +1,5 @@
 -- The pairs that a map shows.
-use Rattle.std.specs.Prelude.{◌≡◌, Option, Some, None, List, [], ◌∷◌, refl}
+use Rattle.std.specs.Prelude.{Option, Some, None, List, [], ◌∷◌, refl}
 use Rattle.std.specs.Coded.{Coded, code_by, coded×, coded_list}
 
 -- what a map is seen as: its pairs in the order of their keys

@@ -1,5 +1,5 @@
 //! Walks over the pairs that are shown. The hidden ones are passed over.
-ghost use Rattle.std.specs.Prelude.{◌≡◌, ◌++◌, true, []};
+ghost use Rattle.std.specs.Prelude.{◌≡◌, ◌≢◌, ◌++◌, true, false, []};
 ghost use Rattle.std.specs.Iterator.{YieldsFirstBy, item_count};
 ghost use Rattle.std.specs.FinMap.Entries.{is_sorted};
 ghost use Rattle.steady_map.specs.Shown.{shown};
@@ -37,14 +37,38 @@ impl<'a, K: Ord, V> Walk<'a, K, V> {
     }
 
     /// Takes the next pairs that stand side by side in memory, and the hidden ones between them: of a leaf all that is left of
-    /// it. The keys rise, those of the hidden ones too. There are none only where nothing is left.
+    /// it. The keys rise, those of the hidden ones too. A row that shows none is passed over, so there are none only where
+    /// nothing is left.
     pub fn next_row(&mut self) -> &'a [(K, Option<V>)]
         ensures row { self.old ≡ shown result.now ++ self.new }
         ensures sorted { is_sorted K.cmp result.now ≡ true }
+        ensures shows { shown result.now ≡ [] → result.now ≡ [] }
         ensures end { result.now ≡ [] → self.old ≡ [] }
     {
-        self.walk.next_row()
+        'rows: loop {
+            let row = self.walk.next_row();
+            if !hides_all(row) {
+                return row;
+            }
+        }
     }
+}
+
+// Whether a row has pairs, and hides them all.
+fn hides_all<K, V>(row: &[(K, Option<V>)]) -> bool
+    ensures hidden { result ≡ true → shown row.now ≡ [] }
+    ensures some { result ≡ true → row.now ≢ [] }
+    ensures shows { result ≡ false → shown row.now ≡ [] → row.now ≡ [] }
+{
+    if row.is_empty() {
+        return false;
+    }
+    'pairs: for (_, held) in row {
+        if held.is_some() {
+            return false;
+        }
+    }
+    true
 }
 
 impl<'a, K: Ord, V> Iterator for Walk<'a, K, V> {

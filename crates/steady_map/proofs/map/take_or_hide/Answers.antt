@@ -1,8 +1,8 @@
-use Rattle.std.proofs.Common.{◌≡◌, ◌∙◌, Option, Some, None, ap, sym}
+use Rattle.std.proofs.Common.{◌∙◌, Option, None, ap, sym}
 use Rattle.std.specs.FinMap.Entries as entries
 use Rattle.std.specs.FinMap.Entries.{put}
 use Rattle.btree.specs.Tree.{Content}
-use Rattle.steady_map.specs.Shown.{shown, joined, Seen}
+use Rattle.steady_map.specs.Shown.{shown, joined}
 use Rattle.steady_map.proofs.Shows.{find_shown, shown_without, shown_hidden, without_none}
 use Rattle.steady_map.proofs.map.take_or_hide.Goals as goal
 

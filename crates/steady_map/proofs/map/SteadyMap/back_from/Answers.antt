@@ -1,6 +1,6 @@
-use Rattle.std.proofs.Common.{◌≡◌, ◌∙◌, reverse, ap, sym}
+use Rattle.std.proofs.Common.{◌∙◌, reverse, ap}
 use Rattle.std.specs.List.{filter}
-use Rattle.steady_map.specs.Shown.{shown, joined, Seen}
+use Rattle.steady_map.specs.Shown.{shown, Seen}
 use Rattle.steady_map.proofs.Shows.{shown_reverse, shown_filter}
 use Rattle.steady_map.proofs.map.SteadyMap.back_from.Goals as goal
 

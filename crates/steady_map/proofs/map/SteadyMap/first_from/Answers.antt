@@ -1,9 +1,8 @@
-use Rattle.std.proofs.Common.{◌≡◌, ◌∙◌, Bool, Option, not, reverse, ap, sym, subst, refl}
+use Rattle.std.proofs.Common.{◌≡◌, ◌∙◌, Bool, not, ap, sym}
 use Rattle.std.specs.Prelude.{true, is_some}
 use Rattle.std.specs.Option.{option_map}
-use Rattle.std.specs.List.{filter, find}
-use Rattle.btree.specs.Order.{find_last}
-use Rattle.steady_map.specs.Shown.{shown, pair_of, Seen}
+use Rattle.std.specs.List.{find}
+use Rattle.steady_map.specs.Shown.{pair_of, Seen}
 use Rattle.steady_map.proofs.Shows.{head_of, first_kept, none_shown, seen_first, mapped_some, head_given}
 use Rattle.steady_map.proofs.map.SteadyMap.first_from.Goals as goal
 

@@ -1,7 +1,7 @@
 use Rattle.std.proofs.Common.{◌≡◌, ◌∙◌, true, not, ap, sym, subst, arith}
 use Rattle.std.specs.List.{filter}
 use Rattle.std.specs.FinMap.Entries.{is_sorted}
-use Rattle.steady_map.specs.Shown.{shown, joined, Seen}
+use Rattle.steady_map.specs.Shown.{shown, Seen}
 use Rattle.steady_map.proofs.Shows.{sorted_kept, shown_filter}
 use Rattle.steady_map.proofs.map.SteadyMap.from.Goals as goal
 

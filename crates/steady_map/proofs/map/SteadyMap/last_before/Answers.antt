@@ -1,9 +1,8 @@
-use Rattle.std.proofs.Common.{◌≡◌, ◌∙◌, Bool, Option, not, reverse, ap, sym, subst, refl}
+use Rattle.std.proofs.Common.{◌≡◌, ◌∙◌, Bool, ap, sym}
 use Rattle.std.specs.Prelude.{true, is_some}
 use Rattle.std.specs.Option.{option_map}
-use Rattle.std.specs.List.{filter, find}
 use Rattle.btree.specs.Order.{find_last}
-use Rattle.steady_map.specs.Shown.{shown, pair_of, Seen}
+use Rattle.steady_map.specs.Shown.{pair_of, Seen}
 use Rattle.steady_map.proofs.Shows.{head_of, last_kept, none_before, seen_last, mapped_some, head_given}
 use Rattle.steady_map.proofs.map.SteadyMap.last_before.Goals as goal
 

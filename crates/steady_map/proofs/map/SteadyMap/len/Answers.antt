@@ -1,6 +1,6 @@
 use Rattle.std.proofs.Common.{◌≡◌, true, ap, subst}
 use Rattle.std.specs.FinMap.Entries.{is_sorted}
-use Rattle.steady_map.specs.Shown.{shown, joined, Seen}
+use Rattle.steady_map.specs.Shown.{Seen}
 use Rattle.steady_map.proofs.Shows.{sorted_shown}
 use Rattle.steady_map.proofs.map.SteadyMap.len.Goals as goal
 

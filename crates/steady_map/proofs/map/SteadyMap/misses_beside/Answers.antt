@@ -1,6 +1,6 @@
-use Rattle.std.proofs.Common.{◌≡◌, ◌∙◌, ap, sym}
+use Rattle.std.proofs.Common.{◌∙◌, ap, sym}
 use Rattle.std.specs.FinMap.Entries as entries
-use Rattle.steady_map.specs.Shown.{shown, joined, Seen}
+use Rattle.steady_map.specs.Shown.{joined, Seen}
 use Rattle.steady_map.proofs.Shows.{find_shown}
 use Rattle.steady_map.proofs.map.SteadyMap.misses_beside.Goals as goal
 

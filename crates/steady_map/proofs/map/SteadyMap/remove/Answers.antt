@@ -1,7 +1,7 @@
-use Rattle.std.proofs.Common.{◌≡◌, ◌∙◌, ◌-◌, cond, is_some, length, ap, arith}
+use Rattle.std.proofs.Common.{◌≡◌, ◌∙◌, cond, is_some, length, ap, arith}
 use Rattle.std.specs.Bool.{passes}
 use Rattle.std.specs.FinMap.Entries as entries
-use Rattle.steady_map.specs.Shown.{shown, joined, Seen}
+use Rattle.steady_map.specs.Shown.{shown}
 use Rattle.steady_map.proofs.Shows.{sorted_shown}
 use Rattle.steady_map.proofs.map.SteadyMap.remove.Goals as goal
 
