@@ -1,6 +1,7 @@
 //! Keys of up to 38 bytes, in 40, as the keys of the product have them.
 ghost use Rattle.std.specs.Prelude.{◌≡◌};
 
+use std::alloc::AllocError;
 use std::cmp::Ordering;
 use std::marker::Model;
 
@@ -37,6 +38,21 @@ impl Key {
         ensures { result.now ≡ self.now }
     {
         &self.room[..self.len as usize]
+    }
+}
+
+impl Clone for Key {
+    ghost use Rattle.std.specs.Prelude.{◌≡◌};
+
+    ghost is_clone = { λ a b. a ≡ b };
+
+    ghost is_infallible = { λ _. Unit {0} };
+
+    fn clone(&self) -> Result<Key, AllocError> {
+        Ok(Key {
+            len: self.len,
+            room: self.room,
+        })
     }
 }
 
