@@ -4,6 +4,7 @@ pub mod DropLemmas
 pub mod NewestLemmas
 pub mod PlaceLemmas
 pub mod RangeLemmas
+pub mod RowLemmas
 pub mod SeekLemmas
 pub mod SetLemmas
 pub mod ShortLemmas

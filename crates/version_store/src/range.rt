@@ -3,8 +3,9 @@ ghost use Rattle.std.specs.Prelude.{◌≡◌, true};
 ghost use Rattle.std.specs.FinMap.{is_sorted};
 ghost use Rattle.collation.specs.Order.{ref_cmp};
 ghost use Rattle.version_chain.specs.Versions.{newest_of};
-ghost use Rattle.version_store.specs.Versions.{newest_between, versions_of, IsNewestIn, later as later_spec};
-ghost use Rattle.version_store.specs.Tied.{newest_below, AreOpen};
+ghost use Rattle.steady_map.specs.Shown.{shown};
+ghost use Rattle.version_store.specs.Versions.{newest_among, newest_between, versions_of, IsNewestIn, later as later_spec};
+ghost use Rattle.version_store.specs.Tied.{rows, newest_below, AreOpen};
 
 use crate::store::KeyedStore;
 use collation::Text;
@@ -25,8 +26,44 @@ fn later(a: Option<u64>, b: Option<u64>) -> Option<u64>
     }
 }
 
-// The newest stamp of the references that are left and stand before a cut.
-fn newest_before(walk: Walk<'_, Key, ChainId>, high: Cut<'_>, chains: &Chains<Text>) -> Option<u64>
+// The newest stamp of the references of a row that are shown.
+fn newest_of_row(row: &[(Key, Option<ChainId>)], chains: &Chains<Text>) -> Option<u64>
+    requires { AreOpen chains.now (shown row.now) }
+    ensures { result ≡ newest_among (rows chains.now (shown row.now)) }
+{
+    let mut newest = None;
+    for (_, held) in row {
+        if let Some(id) = held {
+            newest = later(newest, chains.newest(*id));
+        }
+    }
+    newest
+}
+
+// The newest stamp of the references of a row that are shown and stand before a cut.
+fn newest_of_front(
+    row: &[(Key, Option<ChainId>)],
+    high: Cut<'_>,
+    chains: &Chains<Text>,
+) -> Option<u64>
+    requires opened { AreOpen chains.now (shown row.now) }
+    requires sorted { is_sorted ref_cmp row.now ≡ true }
+    ensures { result ≡ newest_below high.entry chains.now (shown row.now) }
+{
+    let mut newest = None;
+    for (key, held) in row {
+        if !stands_before(high, key) {
+            return newest;
+        }
+        if let Some(id) = held {
+            newest = later(newest, chains.newest(*id));
+        }
+    }
+    newest
+}
+
+// The newest stamp of the references that are left and stand before a cut, one by one.
+fn newest_left(walk: Walk<'_, Key, ChainId>, high: Cut<'_>, chains: &Chains<Text>) -> Option<u64>
     requires opened { AreOpen chains.now walk }
     requires sorted { is_sorted ref_cmp walk ≡ true }
     ensures { result ≡ newest_below high.entry chains.now walk.entry }
@@ -39,6 +76,28 @@ fn newest_before(walk: Walk<'_, Key, ChainId>, high: Cut<'_>, chains: &Chains<Te
         newest = later(newest, chains.newest(*id));
     }
     newest
+}
+
+// The newest stamp of the references that are left and stand before a cut. A row whose last key stands before it is passed
+// with that one comparison.
+fn newest_before(walk: Walk<'_, Key, ChainId>, high: Cut<'_>, chains: &Chains<Text>) -> Option<u64>
+    requires opened { AreOpen chains.now walk }
+    requires sorted { is_sorted ref_cmp walk ≡ true }
+    ensures { result ≡ newest_below high.entry chains.now walk.entry }
+{
+    let mut walk = walk;
+    let mut newest = None;
+    loop {
+        let row = walk.next_row();
+        let Some((last, _)) = row.last() else {
+            return newest;
+        };
+        if !stands_before(high, last) {
+            newest = later(newest, newest_of_front(row, high, chains));
+            return later(newest, newest_left(walk, high, chains));
+        }
+        newest = later(newest, newest_of_row(row, chains));
+    }
 }
 
 impl KeyedStore {

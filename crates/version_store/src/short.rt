@@ -7,7 +7,6 @@ ghost use Rattle.collation.specs.Changes.{AreOnce};
 ghost use Rattle.version_chain.specs.Versions.{IsAbove};
 ghost use Rattle.version_store.specs.Versions.{content_at, versions_of, placed, with_version, written, changed, ArePlaced, AreBelow};
 
-use crate::near::Near;
 use crate::store::KeyedStore;
 use btree::Trail;
 use collation::Text;
@@ -126,14 +125,7 @@ impl ShortStore {
                     cut,
                 } = self;
                 drop(old);
-                Ok(KeyedStore {
-                    tree,
-                    chains,
-                    present,
-                    cut,
-                    mark: None,
-                    near: Near::new(),
-                })
+                Ok(KeyedStore::of(tree, chains, present, cut))
             }
             Err(_) => Err(self),
         }

@@ -6,7 +6,7 @@ ghost use Rattle.refusal.specs.declared.Refusal.{Refusal};
 ghost use Rattle.collation.specs.Reference.{Reference};
 ghost use Rattle.version_chain.specs.Versions.{IsAbove, IsFalling};
 ghost use Rattle.version_store.specs.Versions.{content_at, content_now, versions_of};
-ghost use Rattle.version_store.specs.Tied.{versions_in};
+ghost use Rattle.version_store.specs.Tied.{versions_in, IsTied};
 
 use crate::near::Near;
 use crate::snapshot::Snapshot;
@@ -49,11 +49,25 @@ impl KeyedStore {
     pub fn new(alloc: Global) -> KeyedStore
         ensures { result ≡ record { versions = finmap.empty; present = 0; cut = 0; spare = 0; mark = None } }
     {
+        KeyedStore::of(SteadyMap::new(alloc), Chains::new(alloc), 0, 0)
+    }
+
+    // A store of a tree and its chains, with the newest stamp and the oldest one at which content is kept.
+    pub(crate) fn of(
+        tree: SteadyMap<Key, ChainId>,
+        chains: Chains<Text>,
+        present: u64,
+        cut: u64,
+    ) -> KeyedStore
+        requires tied { IsTied tree.pairs chains present }
+        requires kept { cut ≤ present }
+        ensures { result ≡ record { versions = versions_in chains tree.pairs; present = present; cut = cut; spare = chains.spare; mark = None } }
+    {
         KeyedStore {
-            tree: SteadyMap::new(alloc),
-            chains: Chains::new(alloc),
-            present: 0,
-            cut: 0,
+            tree,
+            chains,
+            present,
+            cut,
             mark: None,
             near: Near::new(),
         }

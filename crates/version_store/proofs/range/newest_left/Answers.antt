@@ -1,6 +1,6 @@
 use Rattle.std.proofs.Common.{◌≡◌, ◌∷◌, sym, ◌∙◌, rules}
 use Rattle.version_store.proofs.RangeLemmas.{range_past}
-use Rattle.version_store.proofs.range.newest_before.Goals as goal
+use Rattle.version_store.proofs.range.newest_left.Goals as goal
 
 pub returns-then-not-stands_before : goal.returns-then-not-stands_before
 returns-then-not-stands_before c =

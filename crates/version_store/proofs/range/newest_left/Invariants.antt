@@ -3,7 +3,7 @@ use Rattle.std.specs.FinMap.{is_sorted}
 use Rattle.collation.specs.Order.{ref_cmp}
 use Rattle.version_store.specs.Versions.{later}
 use Rattle.version_store.specs.Tied.{newest_below, AreOpen}
-use Rattle.version_store.proofs.range.newest_before.Given as goal
+use Rattle.version_store.proofs.range.newest_left.Given as goal
 
 abbrev pub invariant-loop-key : goal.invariant-loop-key
 invariant-loop-key l = record {
