@@ -8,14 +8,28 @@ use std::hint::spin_loop;
 use std::sync::atomic::{AtomicU64, Ordering};
 use std::sync::{RwLock, RwLockReadGuard, RwLockWriteGuard, Wait};
 
-// How often a thread tries before it sleeps; how often it looks at `wanted` between its first two tries, and how often that
-// is doubled: together some hundred microseconds. A look costs next to nothing while nobody changes the word; a try takes the
-// lock's word, and what lies beside it, from whoever has it.
-const TRIES: u32 = 160;
+// How often a thread tries before it sleeps, and how often it looks at `wanted` between two tries: together some hundred
+// microseconds. A look costs next to nothing while nobody changes the word; a try takes the lock's word, and what lies beside
+// it, from whoever has it.
+const TRIES: u32 = 1_000;
 
 const LOOKS: u32 = 256;
 
-const MOST_DOUBLINGS: u32 = 3;
+// The same for who is patient, before it does as the others.
+const PATIENT_TRIES: u32 = 32;
+
+const PATIENT_LOOKS: u32 = 2_048;
+
+/// How a thread waits for the lock alone.
+#[derive(Clone, Copy)]
+pub(crate) enum Patience {
+    /// It tries often, and from its first try in vain on those who would share the lock hold back. For a commit, say, which
+    /// takes less time than the next reads of the others.
+    Short,
+    /// It tries seldom, and for a while nobody holds back for it. For lone commands: whoever has the lock does many of them
+    /// one after the other then, before all that they touch goes to another core.
+    Long,
+}
 
 /// A lock over a value. Its guards are std's.
 #[derive(Drop)]
@@ -52,9 +66,9 @@ impl<T> AdaptiveLock<T> {
         self.wanted.load(Ordering::Relaxed) != 0
     }
 
-    // Lets others go on for a moment, longer after more tries.
-    fn look_away(&self, tries: u32) {
-        for _ in 0..LOOKS << tries.min(MOST_DOUBLINGS) {
+    // Lets others go on for so many looks.
+    fn look_away(&self, looks: u32) {
+        for _ in 0..looks {
             if self.wanted.load(Ordering::Relaxed) == u64::MAX {
                 return;
             }
@@ -64,22 +78,27 @@ impl<T> AdaptiveLock<T> {
 
     /// The lock, shared: others may share it, and nobody has it alone.
     pub(crate) fn read<R: Wait>(&self, rt: &R) -> RwLockReadGuard<'_, T> {
-        for tries in 0..TRIES {
+        for _ in 0..TRIES {
             // Others may take or free the lock between these two: then it is tried in vain, and once more.
             if !self.is_wanted() {
                 if let Some(guard) = self.lock.try_read() {
                     return guard;
                 }
             }
-            self.look_away(tries);
+            self.look_away(LOOKS);
         }
         self.lock.read(rt)
     }
 
     /// The lock alone.
-    pub(crate) fn write<R: Wait>(&self, rt: &R) -> RwLockWriteGuard<'_, T> {
+    pub(crate) fn write<R: Wait>(&self, rt: &R, patience: Patience) -> RwLockWriteGuard<'_, T> {
         if let Some(guard) = self.lock.try_write() {
             return guard;
+        }
+        if let Patience::Long = patience {
+            if let Some(guard) = self.wait_patiently() {
+                return guard;
+            }
         }
         self.wanted.fetch_add(1, Ordering::SeqCst);
         let guard = self.write_in_tries(rt);
@@ -87,13 +106,24 @@ impl<T> AdaptiveLock<T> {
         guard
     }
 
+    // The lock alone, if it is free at one of some seldom tries. Nobody holds back meanwhile.
+    fn wait_patiently(&self) -> Option<RwLockWriteGuard<'_, T>> {
+        for _ in 0..PATIENT_TRIES {
+            self.look_away(PATIENT_LOOKS);
+            if let Some(guard) = self.lock.try_write() {
+                return Some(guard);
+            }
+        }
+        None
+    }
+
     // Those who would share the lock hold back meanwhile.
     fn write_in_tries<R: Wait>(&self, rt: &R) -> RwLockWriteGuard<'_, T> {
-        for tries in 0..TRIES {
+        for _ in 0..TRIES {
             if let Some(guard) = self.lock.try_write() {
                 return guard;
             }
-            self.look_away(tries);
+            self.look_away(LOOKS);
         }
         self.lock.write(rt)
     }

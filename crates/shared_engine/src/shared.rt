@@ -16,7 +16,7 @@ ghost use Rattle.shared_engine.specs.Sessions.{held, ended, and_receipt, begun_a
 ghost use Rattle.shared_engine.specs.Engines.{HasEnded, HasItsNames, WasBlocked, OnOkThat, OnOkNot, after_try, receipts_of};
 ghost use Rattle.shared_engine.specs.Writes.{AreWrites};
 
-use crate::adaptive::AdaptiveLock;
+use crate::adaptive::{AdaptiveLock, Patience};
 use crate::gate::Gate;
 use crate::locked::{Closed, Ended, Locked};
 use crate::session::{Pass, Session};
@@ -49,6 +49,15 @@ pub struct Pause<'a, B: BoardName> {
     _guard: RwLockWriteGuard<'a, Locked<B>>,
 }
 
+// How a block of this session waits for the lock: a run of lone commands long, a transaction that was overtaken not.
+fn patience_of<B: BoardName>(session: &Session<B>) -> Patience {
+    if session.tlevel() == 0 {
+        Patience::Long
+    } else {
+        Patience::Short
+    }
+}
+
 impl<B: BoardName> Shared<B> {
     /// No unit, and no session. The board is blank, with 4,096 seats. Takes no memory.
     pub fn new(alloc: Global, blank: Blank) -> Shared<B>
@@ -68,7 +77,9 @@ impl<B: BoardName> Shared<B> {
         ensures session { IfOk result (λ session. session ≡ held (idle job) None []) }
         ensures cause { IfErr result (λ refusal. (refusal ≡ Refusal.BadJob) ⊎ (refusal ≡ Refusal.OutOfMemory)) }
     {
-        self.lock.write(rt).open(rt, &self.board, alloc, job)
+        self.lock
+            .write(rt, Patience::Short)
+            .open(rt, &self.board, alloc, job)
     }
 
     /// A data command of a session without a transaction: a unit of its own, with a receipt. Takes the exclusive lock.
@@ -85,7 +96,9 @@ impl<B: BoardName> Shared<B> {
         ensures receipt { IfOk result (λ answer. (n : ℕ) × (session.new ≡ and_receipt n (Lone session.old.state.work.job command answer) session.old)) }
         ensures refused { OnErr result (session.new ≡ session.old) }
     {
-        self.lock.write(rt).lone(rt, &self.board, session, command)
+        self.lock
+            .write(rt, Patience::Long)
+            .lone(rt, &self.board, session, command)
     }
 
     // The first try of a LOCK. The lock is given back before the caller goes on.
@@ -98,7 +111,9 @@ impl<B: BoardName> Shared<B> {
         ensures tried { IfOk result (λ had. (n : ℕ) × (session.new ≡ after_try n command.now had session.old)) }
         ensures refused { OnErr result (session.new ≡ session.old) }
     {
-        self.lock.write(rt).lock(rt, &self.board, session, command)
+        self.lock
+            .write(rt, Patience::Short)
+            .lock(rt, &self.board, session, command)
     }
 
     // A later try of a LOCK.
@@ -113,7 +128,7 @@ impl<B: BoardName> Shared<B> {
         ensures refused { OnErr result (session.new ≡ session.old) }
     {
         self.lock
-            .write(rt)
+            .write(rt, Patience::Short)
             .lock_again(rt, &self.board, session, command)
     }
 
@@ -272,7 +287,9 @@ impl<B: BoardName> Shared<B> {
         ensures writes { AreWrites session.old.state.work.exchanges → IfOk result (λ end. end ≡ Ended.Committed) }
         ensures refused { OnErr result (session.new ≡ session.old) }
     {
-        self.lock.write(rt).tcommit(rt, &self.board, session)
+        self.lock
+            .write(rt, Patience::Short)
+            .tcommit(rt, &self.board, session)
     }
 
     /// TROLLBACK of a transaction that took no LOCK: nothing of it is left. Takes no lock and no memory, and waits for
@@ -296,7 +313,10 @@ impl<B: BoardName> Shared<B> {
         ensures cause { IfErr result (λ refusal. ((refusal ≡ Refusal.OutOfMemory) ⊎ (refusal ≡ Refusal.StampsUsedUp)) × (session.old.state.took_lock ≡ true)) }
     {
         if session.took_lock() {
-            return self.lock.write(rt).trollback(rt, &self.board, session);
+            return self
+                .lock
+                .write(rt, Patience::Short)
+                .trollback(rt, &self.board, session);
         }
         self.rollback_free(session);
         Ok(())
@@ -312,7 +332,9 @@ impl<B: BoardName> Shared<B> {
         ensures refused { OnErr result (session.new ≡ session.old) }
         ensures cause { IfErr result (λ refusal. ((refusal ≡ Refusal.OutOfMemory) ⊎ (refusal ≡ Refusal.StampsUsedUp)) × (session.old.state.took_lock ≡ true)) }
     {
-        self.lock.write(rt).trestart(rt, &self.board, session)
+        self.lock
+            .write(rt, Patience::Short)
+            .trestart(rt, &self.board, session)
     }
 
     /// HALT: the session is over, its locks are released and its transaction is gone; its job may have another. Gives
@@ -328,7 +350,9 @@ impl<B: BoardName> Shared<B> {
         ensures refused { IfErr result (λ r. r.0 ≡ session) }
         ensures cause { IfErr result (λ r. (r.1 ≡ Refusal.OutOfMemory) ⊎ (r.1 ≡ Refusal.StampsUsedUp)) }
     {
-        self.lock.write(rt).halt(rt, &self.board, session)
+        self.lock
+            .write(rt, Patience::Short)
+            .halt(rt, &self.board, session)
     }
 
     /// Does the commands of a session without a transaction, or with a fresh one, under one hold of the exclusive lock.
@@ -351,7 +375,7 @@ impl<B: BoardName> Shared<B> {
         ensures commits { IfOk result (λ replies. NoneRestarts block.items replies.items) }
         ensures refused { OnErr result (session.new ≡ session.old) }
     {
-        let mut locked = self.lock.write(rt);
+        let mut locked = self.lock.write(rt, patience_of(session));
         locked.run_serial(rt, &self.board, alloc, session, block)
     }
 
@@ -363,7 +387,7 @@ impl<B: BoardName> Shared<B> {
         ensures few { IfOk result (λ progress. progress.visited ≤ limit) }
         ensures cause { IfErr result (λ refusal. refusal ≡ Refusal.OutOfMemory) }
     {
-        let mut locked = self.lock.write(rt);
+        let mut locked = self.lock.write(rt, Patience::Short);
         if locked.is_swept() {
             return Ok(Progress {
                 visited: 0,
@@ -383,7 +407,9 @@ impl<B: BoardName> Shared<B> {
     pub fn checkpoint<R: Wait>(&self, rt: &R) -> Result<u64, Refusal>
         ensures cause { IfErr result (λ refusal. refusal ≡ Refusal.OutOfMemory) }
     {
-        self.lock.write(rt).checkpoint(rt, &self.board)
+        self.lock
+            .write(rt, Patience::Short)
+            .checkpoint(rt, &self.board)
     }
 
     /// Holds the shared lock until the share is dropped.
@@ -396,7 +422,7 @@ impl<B: BoardName> Shared<B> {
     /// Holds the exclusive lock until the pause is dropped.
     pub fn pause<R: Wait>(&self, rt: &R) -> Pause<'_, B> {
         Pause {
-            _guard: self.lock.write(rt),
+            _guard: self.lock.write(rt, Patience::Short),
         }
     }
 
