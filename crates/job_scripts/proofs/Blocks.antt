@@ -3,7 +3,7 @@ use Rattle.std.proofs.Common.{◌≡◌, ◌≢◌, ◌<◌, ℕ, Bool, true, fa
 use Rattle.std.specs.Prelude.{Option, Some, None, Ok}
 use Rattle.std.specs.List.{All}
 use Rattle.std.proofs.lemmas.List.Elements.{All-weaker}
-use Rattle.script.specs.Line.{reading_of}
+use Rattle.script.specs.Line.{reading_of, IsRefusalOf}
 use Rattle.refusal.specs.declared.Refusal.{Refusal}
 use Rattle.command.specs.declared.access.DataCommand.{DataCommand}
 use Rattle.command.specs.declared.request.Command.{Command}
@@ -49,18 +49,18 @@ asked_more [] [] [] line command h asks = (asks, tt)
 asked_more [] [] (c ∷ cs) line command h asks = absurd h
 asked_more [] (p ∷ ps) cs line command h asks = absurd h
 asked_more (l ∷ ls) [] cs line command h asks = absurd h
-asked_more (l ∷ ls) (Some refusal ∷ ps) cs line command h asks = asked_more ls ps cs line command h asks
+asked_more (l ∷ ls) (Some refusal ∷ ps) cs line command h asks = (h.0, asked_more ls ps cs line command h.1 asks)
 asked_more (l ∷ ls) (None ∷ ps) [] line command h asks = absurd h
 asked_more (l ∷ ls) (None ∷ ps) (c ∷ cs) line command h asks = (h.0, asked_more ls ps cs line command h.1 asks)
 
-refused_more : (lines : List (List ℕ)) (places : List (Option Refusal)) (commands : List Command) (line : List ℕ) (refusal : Refusal) → AreAsked lines places commands → AreAsked (lines ++ line ∷ []) (places ++ Some refusal ∷ []) commands
-refused_more [] [] [] line refusal h = tt
-refused_more [] [] (c ∷ cs) line refusal h = absurd h
-refused_more [] (p ∷ ps) cs line refusal h = absurd h
-refused_more (l ∷ ls) [] cs line refusal h = absurd h
-refused_more (l ∷ ls) (Some r ∷ ps) cs line refusal h = refused_more ls ps cs line refusal h
-refused_more (l ∷ ls) (None ∷ ps) [] line refusal h = absurd h
-refused_more (l ∷ ls) (None ∷ ps) (c ∷ cs) line refusal h = (h.0, refused_more ls ps cs line refusal h.1)
+refused_more : (lines : List (List ℕ)) (places : List (Option Refusal)) (commands : List Command) (line : List ℕ) (refusal : Refusal) → AreAsked lines places commands → IsRefusalOf line refusal → AreAsked (lines ++ line ∷ []) (places ++ Some refusal ∷ []) commands
+refused_more [] [] [] line refusal h is = (is, tt)
+refused_more [] [] (c ∷ cs) line refusal h is = absurd h
+refused_more [] (p ∷ ps) cs line refusal h is = absurd h
+refused_more (l ∷ ls) [] cs line refusal h is = absurd h
+refused_more (l ∷ ls) (Some r ∷ ps) cs line refusal h is = (h.0, refused_more ls ps cs line refusal h.1 is)
+refused_more (l ∷ ls) (None ∷ ps) [] line refusal h is = absurd h
+refused_more (l ∷ ls) (None ∷ ps) (c ∷ cs) line refusal h is = (h.0, refused_more ls ps cs line refusal h.1 is)
 
 next_split : (all front before rest : List (List ℕ)) (line : List ℕ) → all ≡ front ++ before → before ≡ line ∷ rest → all ≡ (front ++ line ∷ []) ++ rest
 next_split all front before rest line split next = split ∙ (ap (λ (ls : List (List ℕ)). front ++ ls) next ∙ sym (append_assoc front (line ∷ []) rest))
@@ -84,13 +84,13 @@ command_in_front all before rest places more_places commands more_commands line 
 }
 
 -- a line more, which is refused
-pub refusal_in_front : (all before rest : List (List ℕ)) (places more_places : List (Option Refusal)) (commands more_commands : List Command) (line : List ℕ) (refusal : Refusal) → AreInFront all before places commands → before ≡ line ∷ rest
+pub refusal_in_front : (all before rest : List (List ℕ)) (places more_places : List (Option Refusal)) (commands more_commands : List Command) (line : List ℕ) (refusal : Refusal) → AreInFront all before places commands → before ≡ line ∷ rest → IsRefusalOf line refusal
     → more_places ≡ places ++ Some refusal ∷ [] → more_commands ≡ commands → AreInFront all rest more_places more_commands
-refusal_in_front all before rest places more_places commands more_commands line refusal h next places_are commands_are = record {
+refusal_in_front all before rest places more_places commands more_commands line refusal h next is places_are commands_are = record {
   front = h.front ++ line ∷ [];
   split = next_split all h.front before rest line h.split next;
   asked = subst (λ (cs : List Command). AreAsked (h.front ++ line ∷ []) more_places cs) (sym commands_are)
-      (subst (λ (ps : List (Option Refusal)). AreAsked (h.front ++ line ∷ []) ps commands) (sym places_are) (refused_more h.front places commands line refusal h.asked));
+      (subst (λ (ps : List (Option Refusal)). AreAsked (h.front ++ line ∷ []) ps commands) (sym places_are) (refused_more h.front places commands line refusal h.asked is));
 }
 
 -- a line in front of all

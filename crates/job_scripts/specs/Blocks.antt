@@ -6,7 +6,7 @@ use Rattle.command.specs.declared.request.Command.{Command}
 use Rattle.command.specs.declared.request.Command.TheVariants.{Access, Lock, Start, Commit, Rollback, Restart, Level, Restarts, Halt}
 use Rattle.command.specs.declared.request.Reply.{Reply}
 use Rattle.command.specs.declared.request.Reply.TheVariants.{Refused}
-use Rattle.script.specs.Line.{reading_of}
+use Rattle.script.specs.Line.{reading_of, IsRefusalOf}
 
 -- the level of a transaction after a command in it, as if memory and stamps were there
 abbrev pub level_after : Command → ℕ → ℕ
@@ -42,13 +42,13 @@ in_place (None ∷ places) (reply ∷ replies) = reply ∷ in_place places repli
 abbrev pub Asks : List ℕ → Command → Type 0
 Asks line command = (job : ℕ) × (reading_of line ≡ Ok (job, command))
 
--- each line is refused, or asks for the next command
+-- each line is refused so, or asks for the next command
 abbrev pub AreAsked : List (List ℕ) → List (Option Refusal) → List Command → Type 0
 AreAsked [] [] [] = ⊤
 AreAsked [] [] (command ∷ commands) = ⊥
 AreAsked [] (place ∷ places) commands = ⊥
 AreAsked (line ∷ lines) [] commands = ⊥
-AreAsked (line ∷ lines) (Some refusal ∷ places) commands = AreAsked lines places commands
+AreAsked (line ∷ lines) (Some refusal ∷ places) commands = IsRefusalOf line refusal × AreAsked lines places commands
 AreAsked (line ∷ lines) (None ∷ places) [] = ⊥
 AreAsked (line ∷ lines) (None ∷ places) (command ∷ commands) = Asks line command × AreAsked lines places commands
 

@@ -7,6 +7,7 @@ ghost use Rattle.collation.specs.Limits.{most_levels};
 ghost use Rattle.command.specs.declared.access.DataCommand.{DataCommand};
 ghost use Rattle.command.specs.declared.request.Command.{Command};
 ghost use Rattle.command.specs.declared.request.Command.TheVariants.{Access};
+ghost use Rattle.script.specs.Line.{IsRefusalOf};
 ghost use Rattle.job_scripts.specs.Lines.{lines_of_script};
 ghost use Rattle.job_scripts.specs.Blocks.{level_after as level_left, IsOneBlock, in_place, Asks, AreInFront};
 
@@ -77,7 +78,7 @@ impl<'a> Block<'a> {
         ensures places { OnOk result (self.new.places.items ≡ self.old.places.items ++ Some refusal ∷ []) }
         ensures rest { OnOk result (self.new.rest.now ≡ rest.entry.now) }
         ensures asked { OnOk result ((all : List (List ℕ)) → AreInFront all (lines_of_script self.old.rest.now) self.old.places.items self.old.commands.items → lines_of_script self.old.rest.now ≡ line.now ∷ lines_of_script rest.entry.now
-            → AreInFront all (lines_of_script self.new.rest.now) self.new.places.items self.new.commands.items) }
+            → IsRefusalOf line.now refusal → AreInFront all (lines_of_script self.new.rest.now) self.new.places.items self.new.commands.items) }
     {
         self.places.push(Some(refusal))?;
         self.rest = rest;

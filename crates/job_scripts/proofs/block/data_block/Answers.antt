@@ -34,7 +34,7 @@ lines-preserved c =
       accesses = All-same IsData _ _ c.in_ok-refuse-in-Err.ensures.commands before.accesses;
       few = omega (arith, ap length c.in_ok-refuse-in-Err.ensures.places ∙ length-append c.lines.block.places.items (Some c.in-Err.fault.refusal ∷ []), c.lines-test.true, c.len.ensures);
       rest = search rules;
-      asked = λ line asks. c.in_ok-refuse-in-Err.ensures.asked (line ∷ lines_of_script c.args.lines.now) (before.asked line asks) c.in-Some.ensures.first;
+      asked = λ line asks. c.in_ok-refuse-in-Err.ensures.asked (line ∷ lines_of_script c.args.lines.now) (before.asked line asks) c.in-Some.ensures.first c.in-Err.ensures.reading.0;
     }
 
 pub returns-clause-goes_on : goal.returns-clause-goes_on
