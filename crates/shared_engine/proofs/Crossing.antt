@@ -26,6 +26,7 @@ use Rattle.cell_pool.proofs.cell.Cell.TheSendSync as cell
 use Rattle.version_store.proofs.near.Near.TheSendSync as near
 use Rattle.std.proofs.option.Option.TheSendSync as option
 use Rattle.version_store.specs.contracts.store.KeyedStore as KeyedStore
+use Rattle.version_store.specs.contracts.store.KeyedStore.TheInside as StoreInside
 use Rattle.job_core.specs.contracts.kernel.Core as Core
 use Rattle.job_core.specs.contracts.state.JobState as JobState
 use Rattle.shared_engine.specs.contracts.session.Session as Session
@@ -46,7 +47,15 @@ pub store_send : IsSend KeyedStore.the_row
 store_send = search (heap.crosses, nodes.crosses, versions.crosses, key.the_send, key.the_sync, text.the_send, text.the_sync, pool.the_send, pool.the_sync, cell.the_send, cell.the_sync, near.the_send, near.the_sync, sendable) depth 60 fits 20000
 
 pub store_sync : IsSync KeyedStore.the_row
-store_sync = search (heap.crosses, nodes.crosses, versions.crosses, key.the_send, key.the_sync, text.the_send, text.the_sync, pool.the_send, pool.the_sync, cell.the_send, cell.the_sync, near.the_send, near.the_sync, sendable) depth 60 fits 20000
+store_sync =
+    let c = struct_sync (shape StoreInside.the_type) (
+      search (heap.crosses, nodes.crosses, key.the_sync, sendable) depth 60 fits 20000,
+      (
+        search (heap.crosses, versions.crosses, text.the_send, text.the_sync, pool.the_sync, cell.the_sync, sendable) depth 60 fits 20000,
+        (search sendable, (search sendable, (search (heap.crosses, key.the_sync, sendable) depth 60, (search (near.the_sync, sendable) depth 60, tt)))),
+      ),
+    ) in
+    record { shared = λ d b o κ x. (c.shared (StoreInside.the_type.to x.0) b o κ, tt) }
 
 names_send : IsSend LockTrie.the_row
 names_send = search (heap.crosses, nodes.crosses, holders.the_send, holders.the_sync, lock_name.the_send, lock_name.the_sync, sendable) depth 60 fits 20000
