@@ -1,11 +1,15 @@
 -- A LOCK whose first try was in vain, and what a call answers of the moment at which it had the lock.
 use Rattle.std.proofs.Common.{◌≡◌, ℕ, Bool, true, false, List, ap, subst, ◌∙◌, inl, inr, Result, Ok, Err, IfOk, OnOk, OnErr}
-use Rattle.std.specs.Prelude.{◌⊎◌}
+use Rattle.std.specs.Prelude.{◌⊎◌, IfErr}
 use Rattle.refusal.specs.declared.Refusal.{Refusal}
+use Rattle.refusal.specs.declared.Refusal.TheVariants.{OutOfMemory, StampsUsedUp}
 use Rattle.collation.specs.declared.lock.LockCommand.{LockCommand}
 use Rattle.journal.specs.declared.unit.Unit.{Unit as JournalUnit}
+use Rattle.validate_commit.specs.Working.{Working}
+use Rattle.job_core.specs.Common.{IsCauseOfLock}
 use Rattle.shared_engine.specs.Sessions.{Held}
 use Rattle.shared_engine.specs.Engines.{after_try, OnOkThat, OnOkNot, HasItsNames, WasBlocked}
+use Rattle.shared_engine.proofs.Starting.{noted_work}
 
 -- what holds of these units holds of some
 pub at_units : (r : Result ℕ Refusal) (us : List JournalUnit) (P : List JournalUnit → ℕ → Type 0) → IfOk r (P us) → IfOk r (λ n. (vs : List JournalUnit) × P vs n)
@@ -40,3 +44,27 @@ blocked_within (Err e) command old mid new first h = tt
 pub refused_later : {A : Type 0} (r : Result A Refusal) (command : LockCommand) (old mid new : Held) → ((n : ℕ) × (mid ≡ after_try n command false old)) → OnErr r (new ≡ mid) → OnErr r ((new ≡ old) ⊎ WasBlocked command old new)
 refused_later (Ok a) command old mid new first h = tt
 refused_later (Err e) command old mid new first h = inr (first.0, h ∙ first.1)
+
+-- ---- causes
+
+-- why a LOCK of this job is refused, on some journal
+abbrev pub IsSomeCause : ℕ → LockCommand → Refusal → Type 0
+IsSomeCause job command refusal = (us : List JournalUnit) × IsCauseOfLock refusal job command us
+
+tried_job : (n : ℕ) (command : LockCommand) (had : Bool) (h : Held) → (after_try n command had h).state.work.job ≡ h.state.work.job
+tried_job n command had h = ap (λ (w : Working). w.job) (noted_work h.state)
+
+-- the cause of a later try is one of the call
+pub cause_later : {A : Type 0} (r : Result A Refusal) (command : LockCommand) (old mid : Held) → ((n : ℕ) × (mid ≡ after_try n command false old)) → IfErr r (IsSomeCause mid.state.work.job command) → IfErr r (IsSomeCause old.state.work.job command)
+cause_later (Ok a) command old mid first h = tt
+cause_later (Err e) command old mid first h =
+    (h.0, subst (λ (j : ℕ). IsCauseOfLock e j command h.0) (ap (λ (x : Held). x.state.work.job) first.1 ∙ tried_job first.0 command false old) h.1)
+
+-- a commit is refused for room alone
+pub cause_at_commit : {A : Type 0} (Q R : Refusal → Type 0) (r : Result A Refusal) → IfErr r (λ refusal. ((refusal ≡ OutOfMemory) ⊎ ((refusal ≡ StampsUsedUp) × Q refusal)) ⊎ ((refusal ≡ OutOfMemory) ⊎ ((refusal ≡ StampsUsedUp) × R refusal)))
+    → IfErr r (λ refusal. (refusal ≡ OutOfMemory) ⊎ (refusal ≡ StampsUsedUp))
+cause_at_commit Q R (Ok a) h = tt
+cause_at_commit Q R (Err e) (inl (inl memory)) = inl memory
+cause_at_commit Q R (Err e) (inl (inr full)) = inr full.0
+cause_at_commit Q R (Err e) (inr (inl memory)) = inl memory
+cause_at_commit Q R (Err e) (inr (inr full)) = inr full.0

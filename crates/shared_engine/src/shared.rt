@@ -6,6 +6,8 @@ ghost use Rattle.journal.specs.History.{initial, after};
 ghost use Rattle.journal.specs.Kept.{Claim};
 ghost use Rattle.journal.specs.declared.unit.Unit.{Unit as JournalUnit};
 ghost use Rattle.journal.specs.declared.unit.Unit.TheVariants.{Lone};
+ghost use Rattle.job_core.specs.Causes.{IsCauseOf};
+ghost use Rattle.job_core.specs.Common.{IsCauseOfLock};
 ghost use Rattle.job_core.specs.Sessions.{idle, IsAnsweredOrRefused};
 ghost use Rattle.pin_board.specs.Slips.{AreInJournal};
 ghost use Rattle.command.specs.declared.access.DataCommand.{DataCommand};
@@ -84,8 +86,8 @@ impl<B: BoardName> Shared<B> {
 
     /// A data command of a session without a transaction: a unit of its own, with a receipt. Takes the exclusive lock.
     ///
-    /// Refusals, after which nothing has changed: those of `Core::lone`; and `OutOfMemory` for the receipt, before
-    /// them.
+    /// Refusals, after which nothing has changed: those of `Core::lone`, on some journal; and `OutOfMemory` for the
+    /// receipt, before them.
     pub fn lone<R: Wait>(
         &self,
         rt: &R,
@@ -95,6 +97,7 @@ impl<B: BoardName> Shared<B> {
         requires { session.old.state.level ≡ 0 }
         ensures receipt { IfOk result (λ answer. (n : ℕ) × (session.new ≡ and_receipt n (Lone session.old.state.work.job command answer) session.old)) }
         ensures refused { OnErr result (session.new ≡ session.old) }
+        ensures cause { IfErr result (λ refusal. (units : List JournalUnit) × IsCauseOf refusal command (after units initial).map (length units)) }
     {
         self.lock
             .write(rt, Patience::Long)
@@ -110,6 +113,7 @@ impl<B: BoardName> Shared<B> {
     ) -> Result<bool, Refusal>
         ensures tried { IfOk result (λ had. (n : ℕ) × (session.new ≡ after_try n command.now had session.old)) }
         ensures refused { OnErr result (session.new ≡ session.old) }
+        ensures cause { IfErr result (λ refusal. (units : List JournalUnit) × IsCauseOfLock refusal session.old.state.work.job command.now units) }
     {
         self.lock
             .write(rt, Patience::Short)
@@ -126,6 +130,7 @@ impl<B: BoardName> Shared<B> {
         ensures had { OnOkThat result ((n : ℕ) × (session.new ≡ after_try n command.now true session.old)) }
         ensures blocked { OnOkNot result (session.new ≡ session.old) }
         ensures refused { OnErr result (session.new ≡ session.old) }
+        ensures cause { IfErr result (λ refusal. (units : List JournalUnit) × IsCauseOfLock refusal session.old.state.work.job command.now units) }
     {
         self.lock
             .write(rt, Patience::Short)
@@ -142,11 +147,14 @@ impl<B: BoardName> Shared<B> {
     ) -> Result<(), Refusal>
         ensures had { OnOk result ((n : ℕ) × (session.new ≡ after_try n command.now true session.old)) }
         ensures refused { OnErr result (session.new ≡ session.old) }
+        ensures cause { IfErr result (λ refusal. (units : List JournalUnit) × IsCauseOfLock refusal session.old.state.work.job command.now units) }
     {
         'tries: for _ in rt.forever() {
             gate.between_tries(session.job());
-            if self.lock_again(rt, session, command)? {
-                return Ok(());
+            match self.lock_again(rt, session, command) {
+                Ok(true) => return Ok(()),
+                Ok(false) => {}
+                Err(refusal) => return Err(refusal),
             }
         }
         unreachable!()
@@ -164,11 +172,14 @@ impl<B: BoardName> Shared<B> {
         ensures had { OnOkThat result ((n : ℕ) × (session.new ≡ after_try n command.now true session.old)) }
         ensures blocked { OnOkNot result (session.new ≡ session.old) }
         ensures refused { OnErr result (session.new ≡ session.old) }
+        ensures cause { IfErr result (λ refusal. (units : List JournalUnit) × IsCauseOfLock refusal session.old.state.work.job command.now units) }
     {
         'tries: for _ in 0..seconds {
             gate.second(session.job());
-            if self.lock_again(rt, session, command)? {
-                return Ok(true);
+            match self.lock_again(rt, session, command) {
+                Ok(true) => return Ok(true),
+                Ok(false) => {}
+                Err(refusal) => return Err(refusal),
             }
         }
         Ok(false)
@@ -178,8 +189,8 @@ impl<B: BoardName> Shared<B> {
     /// `Gate::between_tries`, until it has them, which is another unit. Tries between write nothing. Takes the
     /// exclusive lock for each try.
     ///
-    /// Refusals: those of `Core::lock`, and `OutOfMemory` for the receipt. Nothing has changed then, but for the unit
-    /// of a first try in vain and its receipt.
+    /// Refusals: those of `Core::lock`, on some journal, and `OutOfMemory` for the receipt. Nothing has changed then, but
+    /// for the unit of a first try in vain and its receipt.
     pub fn lock<R: Wait, G: Gate>(
         &self,
         rt: &R,
@@ -189,6 +200,7 @@ impl<B: BoardName> Shared<B> {
     ) -> Result<(), Refusal>
         ensures had { OnOk result (HasItsNames command.now session.old session.new) }
         ensures refused { OnErr result ((session.new ≡ session.old) ⊎ WasBlocked command.now session.old session.new) }
+        ensures cause { IfErr result (λ refusal. (units : List JournalUnit) × IsCauseOfLock refusal session.old.state.work.job command.now units) }
     {
         if self.lock_first(rt, session, command)? {
             return Ok(());
@@ -211,6 +223,7 @@ impl<B: BoardName> Shared<B> {
         ensures had { OnOkThat result (HasItsNames command.now session.old session.new) }
         ensures blocked { OnOkNot result (WasBlocked command.now session.old session.new) }
         ensures refused { OnErr result ((session.new ≡ session.old) ⊎ WasBlocked command.now session.old session.new) }
+        ensures cause { IfErr result (λ refusal. (units : List JournalUnit) × IsCauseOfLock refusal session.old.state.work.job command.now units) }
     {
         if self.lock_first(rt, session, command)? {
             return Ok(true);
@@ -279,13 +292,13 @@ impl<B: BoardName> Shared<B> {
     /// The outermost TCOMMIT: the transaction is a unit with a receipt, or it begins anew, exactly where another unit
     /// touched what it had read. One that did SETs and KILLs alone never does. Takes the exclusive lock.
     ///
-    /// Refusals, after which nothing has changed: those of `Core::commit`; those of TRESTART where it was overtaken;
-    /// and `OutOfMemory` for the receipt.
+    /// Refusals, after which nothing has changed: `StampsUsedUp`, `OutOfMemory`.
     pub fn tcommit<R: Wait>(&self, rt: &R, session: &mut Session<B>) -> Result<Ended, Refusal>
         requires { session.old.state.level ≡ 1 }
         ensures ended { IfOk result (λ end. (units more : List JournalUnit) × HasEnded end units more session.old session.new) }
         ensures writes { AreWrites session.old.state.work.exchanges → IfOk result (λ end. end ≡ Ended.Committed) }
         ensures refused { OnErr result (session.new ≡ session.old) }
+        ensures cause { IfErr result (λ refusal. (refusal ≡ Refusal.OutOfMemory) ⊎ (refusal ≡ Refusal.StampsUsedUp)) }
     {
         self.lock
             .write(rt, Patience::Short)

@@ -1,4 +1,4 @@
-use Rattle.shared_engine.proofs.Waiting.{first_try, had_later, refused_later}
+use Rattle.shared_engine.proofs.Waiting.{first_try, had_later, refused_later, cause_later}
 use Rattle.shared_engine.proofs.shared.Shared.lock.Goals as goal
 
 pub returns-clause-had : goal.returns-clause-had
@@ -6,3 +6,6 @@ returns-clause-had g c = had_later _ _ _ _ _ (first_try _ _ _ _ c.if-branch.fals
 
 pub returns-clause-refused : goal.returns-clause-refused
 returns-clause-refused g c = refused_later _ _ _ _ _ (first_try _ _ _ _ c.if-branch.false c.in_ok-lock_first.ensures.tried) c.lock_later.ensures.refused
+
+pub returns-clause-cause : goal.returns-clause-cause
+returns-clause-cause g c = cause_later _ _ _ _ (first_try _ _ _ _ c.if-branch.false c.in_ok-lock_first.ensures.tried) c.lock_later.ensures.cause
