@@ -1,8 +1,8 @@
 -- A session goes on as what a call of the engine answered tells.
-use Rattle.std.proofs.Common.{◌≡◌, ◌≢◌, ◌⊎◌, inl, inr, ℕ, ◌+◌, ◌-◌, ◌≤◌, ◌<◌, Bool, true, false, List, [], ◌∷◌, ◌++◌, refl, sym, ap, ◌∙◌, subst, arith, true≢false}
+use Rattle.std.proofs.Common.{◌≡◌, ◌≢◌, ◌⊎◌, inl, inr, ℕ, ◌+◌, ◌-◌, ◌≤◌, ◌<◌, Bool, true, false, List, [], ◌∷◌, ◌++◌, refl, sym, ap, ◌∙◌, subst, arith, length, true≢false}
 use Rattle.std.specs.Prelude.{Option, Some, None, Result, Ok, Err, IfSome, IsSome, IfOk, IfErr, OnOk, OnErr, is_ok}
 use Rattle.refusal.specs.declared.Refusal.{Refusal}
-use Rattle.refusal.specs.declared.Refusal.TheVariants.{LevelTooDeep}
+use Rattle.refusal.specs.declared.Refusal.TheVariants.{NoTransaction, LevelTooDeep, OutOfMemory, StampsUsedUp}
 use Rattle.collation.specs.Limits.{most_levels}
 use Rattle.collation.specs.declared.lock.LockCommand.{LockCommand}
 use Rattle.command.specs.declared.access.DataCommand.{DataCommand}
@@ -14,14 +14,17 @@ use Rattle.command.specs.declared.request.Reply.TheVariants.{Answered, Finished,
 use Rattle.journal.specs.declared.unit.Unit.{Unit as JournalUnit}
 use Rattle.journal.specs.declared.unit.Unit.TheVariants.{Lone}
 use Rattle.journal.specs.History.{initial, after}
+use Rattle.validate_commit.specs.Working.{IsCauseAlone}
+use Rattle.job_core.specs.Causes.{IsCauseOf}
 use Rattle.job_core.specs.Sessions.{at_level, IsAnsweredOrRefused, HasWritten}
 use Rattle.shared_engine.specs.Sessions.{Held, held, and_receipt, begun_anew, ended, HasBegun}
 use Rattle.shared_engine.specs.Engines.{HasEnded, HasItsNames, WasBlocked, OnOkThat, OnOkNot}
 use Rattle.shared_engine.specs.declared.locked.Ended.{Ended}
 use Rattle.shared_engine.specs.declared.locked.Ended.TheVariants.{Committed, Restarted}
 use Rattle.shared_engine.specs.Blocks.{said}
-use Rattle.job_server.specs.Telling.{Follows, names_some, HasLocked}
+use Rattle.job_server.specs.Telling.{Follows, names_some, IsLockRefusal, HasLocked}
 use Rattle.job_server.specs.Replying.{written_as, ended_as}
+use Rattle.job_server.proofs.Causes.{lone_may, written_may, deeper_may, commit_may, rollback_may, restart_may, no_commit_may, no_rollback_may, no_restart_may}
 use Rattle.job_server.proofs.Following.{refused_follows, lone_follows, read_follows, written_follows, begun_follows, deeper_follows, committed_follows, overtaken_follows, restarted_follows, rolled_back_follows}
 
 -- the same reply
@@ -29,14 +32,15 @@ pub follows_as : (command : Command) (a reply : Reply) (old new : Held) → Foll
 follows_as command a reply old new h is = subst (λ (r : Reply). Follows command r old new) (sym is) h
 
 pub lone_told : (command : DataCommand) (result : Result Answer Refusal) (old new : Held) → old.state.level ≡ 0 → IfOk result (λ answer. (n : ℕ) × (new ≡ and_receipt n (Lone old.state.work.job command answer) old)) → OnErr result (new ≡ old)
-    → Follows (Access command) (said Answered result) old new
-lone_told command (Ok answer) old new level receipt refused = lone_follows command answer receipt.0 old new level receipt.1
-lone_told command (Err refusal) old new level receipt refused = refused_follows (Access command) refusal old new refused
+    → IfErr result (λ refusal. (units : List JournalUnit) × IsCauseOf refusal command (after units initial).map (length units)) → Follows (Access command) (said Answered result) old new
+lone_told command (Ok answer) old new level receipt refused cause = lone_follows command answer receipt.0 old new level receipt.1
+lone_told command (Err refusal) old new level receipt refused cause = refused_follows (Access command) refusal old new refused (lone_may command refusal cause.0 old level cause.1)
 
 pub written_told : (command : DataCommand) (done : Result (Unit {0}) Refusal) (result : Result Answer Refusal) (old new : Held) → 1 ≤ old.state.level → OnOk done (HasWritten command old.state new.state) → new.receipts ≡ old.receipts → OnErr done (new ≡ old)
-    → result ≡ written_as done → Follows (Access command) (said Answered result) old new
-written_told command (Ok u) result old new one written receipts refused is = subst (λ (r : Result Answer Refusal). Follows (Access command) (said Answered r) old new) (sym is) (written_follows command old new one written receipts)
-written_told command (Err refusal) result old new one written receipts refused is = subst (λ (r : Result Answer Refusal). Follows (Access command) (said Answered r) old new) (sym is) (refused_follows (Access command) refusal old new refused)
+    → IfErr done (λ refusal. IsCauseAlone refusal old.state.work) → result ≡ written_as done → Follows (Access command) (said Answered result) old new
+written_told command (Ok u) result old new one written receipts refused cause is = subst (λ (r : Result Answer Refusal). Follows (Access command) (said Answered r) old new) (sym is) (written_follows command old new one written receipts)
+written_told command (Err refusal) result old new one written receipts refused cause is =
+    subst (λ (r : Result Answer Refusal). Follows (Access command) (said Answered r) old new) (sym is) (refused_follows (Access command) refusal old new refused (written_may command refusal old one cause))
 
 read_from : (start : Option (List JournalUnit)) (command : DataCommand) (result : Result Answer Refusal) (old new : Held) → 1 ≤ old.state.level → IfSome start (λ base. IsAnsweredOrRefused command result (after base initial).map old.state new.state)
     → IsSome start → new.receipts ≡ old.receipts → Follows (Access command) (said Answered result) old new
@@ -48,33 +52,44 @@ pub read_told : (command : DataCommand) (result : Result Answer Refusal) (old ne
 read_told command result old new one answered some same = read_from old.start command result old new one answered some same.1
 
 pub within_locked : (command : LockCommand) (result : Result Bool Refusal) (old new : Held) → names_some command ≡ true → OnOkThat result (HasItsNames command old new) → OnOkNot result (WasBlocked command old new)
-    → OnErr result ((new ≡ old) ⊎ WasBlocked command old new) → HasLocked command result old new
-within_locked command (Ok true) old new names had blocked refused = had
-within_locked command (Ok false) old new names had blocked refused = (names, blocked)
-within_locked command (Err refusal) old new names had blocked refused = refused
+    → OnErr result ((new ≡ old) ⊎ WasBlocked command old new) → IfErr result (λ refusal. IsLockRefusal old.state.work.job command refusal) → HasLocked command result old new
+within_locked command (Ok true) old new names had blocked refused cause = had
+within_locked command (Ok false) old new names had blocked refused cause = (names, blocked)
+within_locked command (Err refusal) old new names had blocked refused cause = (refused, cause)
 
 pub inner_told : (result : Result ℕ Refusal) (old new : Held) → 1 ≤ old.state.level → IfOk result (λ level. (level ≡ old.state.level + 1) × ((old.state.level < most_levels) × (new ≡ held (at_level level old.state) old.start old.receipts)))
     → IfErr result (λ refusal. (refusal ≡ LevelTooDeep) × ((most_levels ≤ old.state.level) × (new ≡ old))) → Follows Start (said AtLevel result) old new
 inner_told (Ok level) old new one deeper refused = deeper_follows level old new one deeper.0 deeper.1.1
-inner_told (Err refusal) old new one deeper refused = refused_follows Start refusal old new refused.1.1
+inner_told (Err refusal) old new one deeper refused = refused_follows Start refusal old new refused.1.1 (deeper_may refusal old one refused.0 refused.1.0)
 
 pub outer_told : (old new at : Held) (level : ℕ) → at ≡ old → level ≡ 1 → old.state.level ≡ 0 → (base : List JournalUnit) × HasBegun base at new → Follows Start (AtLevel level) old new
 outer_told old new at level is one none begun =
     subst (λ (l : ℕ). Follows Start (AtLevel l) old new) (sym one) (begun_follows begun.0 old new none (subst (λ (h : Held). HasBegun begun.0 h new) is begun.1))
 
-pub commit_told : (result : Result Ended Refusal) (old new : Held) → old.state.level ≡ 1 → IfOk result (λ end. (units more : List JournalUnit) × HasEnded end units more old new) → OnErr result (new ≡ old) → Follows Commit (ended_as result) old new
-commit_told (Ok Committed) old new one ended refused = committed_follows ended.0 ended.1 old new (omega (arith, one)) ended.2
-commit_told (Ok (Restarted restarts)) old new one ended refused = overtaken_follows restarts ended.0 ended.1 old new ended.2
-commit_told (Err refusal) old new one ended refused = refused_follows Commit refusal old new refused
+pub commit_told : (result : Result Ended Refusal) (old new : Held) → old.state.level ≡ 1 → IfOk result (λ end. (units more : List JournalUnit) × HasEnded end units more old new) → OnErr result (new ≡ old)
+    → IfErr result (λ refusal. (refusal ≡ OutOfMemory) ⊎ (refusal ≡ StampsUsedUp)) → Follows Commit (ended_as result) old new
+commit_told (Ok Committed) old new one ended refused cause = committed_follows ended.0 ended.1 old new (omega (arith, one)) ended.2
+commit_told (Ok (Restarted restarts)) old new one ended refused cause = overtaken_follows restarts ended.0 ended.1 old new ended.2
+commit_told (Err refusal) old new one ended refused cause = refused_follows Commit refusal old new refused (commit_may refusal old one cause)
 
-pub rollback_told : (result : Result (Unit {0}) Refusal) (old new : Held) → OnOk result (new ≡ ended old) → OnErr result (new ≡ old) → Follows Rollback (said (λ d. Finished) result) old new
-rollback_told (Ok u) old new over refused = rolled_back_follows old new over
-rollback_told (Err refusal) old new over refused = refused_follows Rollback refusal old new refused
+pub no_commit : (old new : Held) → old.state.level ≡ 0 → new ≡ old → Follows Commit (Refused NoTransaction) old new
+no_commit old new none same = refused_follows Commit NoTransaction old new same (no_commit_may old none)
 
-pub restart_told : (result : Result ℕ Refusal) (old new : Held) → IfOk result (λ restarts. (units : List JournalUnit) × ((new ≡ begun_anew units old) × (restarts ≡ new.state.restarts))) → OnErr result (new ≡ old)
-    → Follows Restart (said restarted_reply result) old new
-restart_told (Ok restarts) old new anew refused = restarted_follows restarts anew.0 old new anew.1.0
-restart_told (Err refusal) old new anew refused = refused_follows Restart refusal old new refused
+pub rollback_told : (result : Result (Unit {0}) Refusal) (old new : Held) → 1 ≤ old.state.level → OnOk result (new ≡ ended old) → OnErr result (new ≡ old)
+    → IfErr result (λ refusal. ((refusal ≡ OutOfMemory) ⊎ (refusal ≡ StampsUsedUp)) × (old.state.took_lock ≡ true)) → Follows Rollback (said (λ d. Finished) result) old new
+rollback_told (Ok u) old new one over refused cause = rolled_back_follows old new over
+rollback_told (Err refusal) old new one over refused cause = refused_follows Rollback refusal old new refused (rollback_may refusal old one cause.0)
+
+pub no_rollback : (old new : Held) → old.state.level ≡ 0 → new ≡ old → Follows Rollback (Refused NoTransaction) old new
+no_rollback old new none same = refused_follows Rollback NoTransaction old new same (no_rollback_may old none)
+
+pub restart_told : (result : Result ℕ Refusal) (old new : Held) → 1 ≤ old.state.level → IfOk result (λ restarts. (units : List JournalUnit) × ((new ≡ begun_anew units old) × (restarts ≡ new.state.restarts))) → OnErr result (new ≡ old)
+    → IfErr result (λ refusal. ((refusal ≡ OutOfMemory) ⊎ (refusal ≡ StampsUsedUp)) × (old.state.took_lock ≡ true)) → Follows Restart (said restarted_reply result) old new
+restart_told (Ok restarts) old new one anew refused cause = restarted_follows restarts anew.0 old new anew.1.0
+restart_told (Err refusal) old new one anew refused cause = refused_follows Restart refusal old new refused (restart_may refusal old one cause.0)
+
+pub no_restart : (old new : Held) → old.state.level ≡ 0 → new ≡ old → Follows Restart (Refused NoTransaction) old new
+no_restart old new none same = refused_follows Restart NoTransaction old new same (no_restart_may old none)
 
 -- what holds where the answer is Ok
 pub ok_that : {A E P : Type 0} (r : Result A E) → OnOk r P → is_ok r ≡ true → P

@@ -1,6 +1,6 @@
 -- A session goes on as its reply tells, call by call.
 use Rattle.std.proofs.Common.{◌≡◌, ◌≢◌, ◌⊎◌, inl, inr, ℕ, zero, suc, ◌+◌, ◌-◌, ◌≤◌, ◌<◌, Bool, true, false, List, [], ◌∷◌, ◌++◌, length, refl, sym, ap, ◌∙◌, subst, arith, true≢false}
-use Rattle.std.specs.Prelude.{Option, Some, None, Result, Ok, Err, IfSome, IsSome}
+use Rattle.std.specs.Prelude.{Option, Some, None, Result, Ok, Err, IfSome, IsSome, nat_lt}
 use Rattle.refusal.specs.declared.Refusal.{Refusal}
 use Rattle.collation.specs.Database.{Database}
 use Rattle.collation.specs.declared.lock.LockCommand.{LockCommand}
@@ -24,9 +24,11 @@ use Rattle.shared_engine.specs.Engines.{HasEnded, HasItsNames, WasBlocked, after
 use Rattle.shared_engine.specs.declared.locked.Ended.TheVariants.{Committed, Restarted}
 use Rattle.shared_engine.specs.Blocks.{said, IsReadAt}
 use Rattle.job_server.specs.Told.{given, IsToldIn, units_of}
-use Rattle.job_server.specs.Telling.{Shows, Stands, AreStillTold, Follows, names_some, HasLocked}
+use Rattle.job_server.specs.Causes.{IsAllowed}
+use Rattle.job_server.specs.Telling.{Shows, Stands, AreStillTold, MayReply, Follows, names_some, IsLockRefusal, HasLocked}
 use Rattle.job_server.proofs.Units.{lock_receipt_more}
-use Rattle.job_server.proofs.Standing.{shown_none, with_open, with_none, with_closed, told_lone, told_inside, tried_untold, tried_told, tried_job, tried_level, back_given, told_begun, told_at, told_whole}
+use Rattle.job_server.proofs.Causes.{inside_may, lock_may, had_may}
+use Rattle.job_server.proofs.Standing.{shown_none, still_shows, with_open, with_none, with_closed, told_lone, told_inside, tried_untold, tried_told, tried_job, tried_level, back_given, told_begun, told_at, told_whole}
 
 -- the receipts are the same
 same_told : (old new : Held) (front : List JournalUnit) → new.receipts ≡ old.receipts → AreStillTold (front ++ units_of old.receipts) (front ++ units_of new.receipts)
@@ -34,11 +36,12 @@ same_told old new front same ts h = subst (λ (cs : List Claim). IsToldIn ts (fr
 
 -- ---- nothing has changed
 
-pub refused_follows : (command : Command) (refusal : Refusal) (old new : Held) → new ≡ old → Follows command (Refused refusal) old new
-refused_follows command refusal old new same = record {
+pub refused_follows : (command : Command) (refusal : Refusal) (old new : Held) → new ≡ old → MayReply command (Refused refusal) old → Follows command (Refused refusal) old new
+refused_follows command refusal old new same may = record {
   whose = ap (λ (h : Held). h.state.work.job) same;
   stands = λ front s stands. subst (λ (h : Held). Stands front s h) (sym same) stands;
   keeps = λ before later front. same_told old new front (ap (λ (h : Held). h.receipts) same);
+  may = may;
 }
 
 pub counted_follows : (command : Command) (n : ℕ) (old new : Held) → new ≡ old → Follows command (Count n) old new
@@ -46,6 +49,7 @@ counted_follows command n old new same = record {
   whose = ap (λ (h : Held). h.state.work.job) same;
   stands = λ front s stands. subst (λ (h : Held). Stands front s h) (sym same) stands;
   keeps = λ before later front. same_told old new front (ap (λ (h : Held). h.receipts) same);
+  may = λ t shows. tt;
 }
 
 -- ---- data commands
@@ -55,6 +59,7 @@ lone_follows command answer n old new level is = record {
   whose = ap (λ (h : Held). h.state.work.job) is;
   stands = λ front s stands. subst (λ (h : Held). Stands front (told old.state.work.job (Access command) (Answered answer) s) h) (sym is) (told_lone front s old command answer n level stands);
   keeps = λ before later front. absurd (omega (arith, before, level));
+  may = λ t shows. tt;
 }
 
 pub inside_follows : (command : DataCommand) (answer : Answer) (old new : Held) → 1 ≤ old.state.level → new.state.level ≡ old.state.level → new.state.work.exchanges ≡ old.state.work.exchanges ++ record { command = command; answer = answer } ∷ []
@@ -63,23 +68,25 @@ inside_follows command answer old new one level exchanges job receipts = record 
   whose = job;
   stands = λ front s stands. told_inside front s old new command answer one stands level exchanges job receipts;
   keeps = λ before later front. same_told old new front receipts;
+  may = λ t shows. tt;
 }
 
 -- nothing of a session has changed but what isn't seen of it
-pub unchanged_follows : (command : Command) (refusal : Refusal) (old new : Held) → new.state ≡ old.state → new.receipts ≡ old.receipts → Follows command (Refused refusal) old new
-unchanged_follows command refusal old new state receipts = record {
+pub unchanged_follows : (command : Command) (refusal : Refusal) (old new : Held) → new.state ≡ old.state → new.receipts ≡ old.receipts → MayReply command (Refused refusal) old → Follows command (Refused refusal) old new
+unchanged_follows command refusal old new state receipts may = record {
   whose = ap (λ (x : JobSession). x.work.job) state;
   stands = λ front s stands. record {
     shows = subst (λ (x : JobSession). Shows x (transaction_of x.work.job s)) (sym state) stands.shows;
     is_told = subst (λ (cs : List Claim). IsToldIn (given s) (front ++ units_of cs)) (sym receipts) stands.is_told;
   };
   keeps = λ before later front. same_told old new front receipts;
+  may = may;
 }
 
 pub read_follows : (command : DataCommand) (result : Result Answer Refusal) (m : Database) (old new : Held) → 1 ≤ old.state.level → IsAnsweredOrRefused command result m old.state new.state → new.receipts ≡ old.receipts
     → Follows (Access command) (said Answered result) old new
 read_follows command (Ok answer) m old new one h receipts = inside_follows command answer old new one h.level h.exchanges h.job receipts
-read_follows command (Err refusal) m old new one h receipts = unchanged_follows (Access command) refusal old new h.same receipts
+read_follows command (Err refusal) m old new one h receipts = unchanged_follows (Access command) refusal old new h.same receipts (inside_may command refusal m old one h.cause)
 
 pub read_at_follows : (start : Option (List JournalUnit)) (command : DataCommand) (result : Result Answer Refusal) (old new : Held) → 1 ≤ old.state.level → IsReadAt start command result old.state new.state → new.receipts ≡ old.receipts
     → Follows (Access command) (said Answered result) old new
@@ -105,6 +112,7 @@ tried_follows command had n old new frees is = record {
       subst (λ (m : Machine). Stands front m new) (sym (lock_told old.state.work.job command had s frees))
       (subst (λ (h : Held). Stands front (told_lock old.state.work.job command had (transaction_of old.state.work.job s) s) h) (sym is) (tried_told front s old command had n (transaction_of old.state.work.job s) refl stands));
   keeps = λ before later front ts h. subst (λ (x : Held). IsToldIn ts (front ++ units_of x.receipts)) (sym is) (lock_receipt_more ts front old.receipts n (lock_unit old.state command had) refl h);
+  may = had_may command had old;
 }
 
 -- a first try in vain, and then another step
@@ -116,15 +124,23 @@ blocked_then command reply n old new then = record {
       (then.stands front s (tried_untold front s old command false n stands));
   keeps = λ before later front ts h.
       then.keeps (omega (arith, before, tried_level n command false old)) later front ts (lock_receipt_more ts front old.receipts n (lock_unit old.state command false) refl h);
+  may = λ t shows.
+      subst (λ (j : ℕ). IsAllowed j (lock_command command) reply t) (tried_job n command false old) (then.may t (still_shows (nat_lt 0 old.state.level) old.state t shows));
 }
+
+-- why it was refused, behind a first try
+refused_behind : (command : LockCommand) (refusal : Refusal) (n : ℕ) (old : Held) → IsLockRefusal old.state.work.job command refusal → MayReply (lock_command command) (Refused refusal) (after_try n command false old)
+refused_behind command refusal n old cause =
+    lock_may command refusal (after_try n command false old) (subst (λ (j : ℕ). IsLockRefusal j command refusal) (sym (tried_job n command false old)) cause)
 
 pub locked_follows : (command : LockCommand) (result : Result Bool Refusal) (old new : Held) → HasLocked command result old new → Follows (lock_command command) (said (told_had command) result) old new
 locked_follows command (Ok true) old new (inl h) = tried_follows command true h.0 old new (λ is. refl) h.1
 locked_follows command (Ok true) old new (inr h) = blocked_then command (told_had command true) h.0 old new (tried_follows command true h.1 (after_try h.0 command false old) new (λ is. refl) h.2)
 locked_follows command (Ok false) old new h =
     tried_follows command false h.1.0 old new (λ is. absurd (true≢false (sym h.0 ∙ ap names_some is))) h.1.1
-locked_follows command (Err refusal) old new (inl h) = refused_follows (lock_command command) refusal old new h
-locked_follows command (Err refusal) old new (inr h) = blocked_then command (Refused refusal) h.0 old new (refused_follows (lock_command command) refusal (after_try h.0 command false old) new h.1)
+locked_follows command (Err refusal) old new (inl h, cause) = refused_follows (lock_command command) refusal old new h (lock_may command refusal old cause)
+locked_follows command (Err refusal) old new (inr h, cause) =
+    blocked_then command (Refused refusal) h.0 old new (refused_follows (lock_command command) refusal (after_try h.0 command false old) new h.1 (refused_behind command refusal h.0 old cause))
 
 -- ---- transactions
 
@@ -137,6 +153,7 @@ begun_follows base old new level h = record {
       (subst (λ o. Stands front (told_level old.state.work.job 1 o s) (held (just_opened old.state.work.job (length base)) (Some base) old.receipts)) (sym none)
       (told_begun front s (held (just_opened old.state.work.job (length base)) (Some base) old.receipts) 0 refl refl stands.is_told));
   keeps = λ before later front. absurd (omega (arith, before, level));
+  may = λ t shows. tt;
 }
 
 pub level_follows : (command : Command) (level : ℕ) (old new : Held) → ((s : Machine) → told old.state.work.job command (AtLevel level) s ≡ told_level old.state.work.job level (transaction_of old.state.work.job s) s) → 1 ≤ old.state.level → 1 ≤ level
@@ -147,6 +164,7 @@ level_follows command level old new tells one some is = record {
       subst (λ (m : Machine). Stands front m new) (sym (tells s))
       (told_at front s old new level one stands some (ap (λ (x : Held). x.state.level) is) (ap (λ (x : Held). x.state.work.exchanges) is) (ap (λ (x : Held). x.state.work.job) is) (ap (λ (x : Held). x.receipts) is));
   keeps = λ before later front. same_told old new front (ap (λ (x : Held). x.receipts) is);
+  may = λ t shows. tt;
 }
 
 pub deeper_follows : (level : ℕ) (old new : Held) → 1 ≤ old.state.level → level ≡ old.state.level + 1 → new ≡ held (at_level level old.state) old.start old.receipts → Follows Start (AtLevel level) old new
@@ -162,6 +180,7 @@ committed_follows units more old new one h = record {
   stands = λ front s stands.
       told_whole front s old new (length units + 1) one stands (ap (λ (x : Held). x.state.level) h.1.1) (ap (λ (x : Held). x.state.work.job) h.1.1) (ap (λ (x : Held). x.receipts) h.1.1);
   keeps = λ before later front. absurd (omega (arith, later, ap (λ (x : Held). x.state.level) h.1.1));
+  may = λ t shows. tt;
 }
 
 -- the transaction begins anew
@@ -175,6 +194,7 @@ anew_follows command restarts units old new tells is = record {
       (told_begun front (told_back old.state.work.job (transaction_of old.state.work.job s) s) (begun_anew units old) restarts refl refl
       (subst (λ (us : List JournalUnit). IsToldIn us (front ++ units_of old.receipts)) (sym (back_given old.state.work.job (transaction_of old.state.work.job s) s)) stands.is_told)));
   keeps = λ before later front. same_told old new front (ap (λ (x : Held). x.receipts) is);
+  may = λ t shows. tt;
 }
 
 pub overtaken_follows : (restarts : ℕ) (units more : List JournalUnit) (old new : Held) → HasEnded (Restarted restarts) units more old new → Follows Commit (restarted_reply restarts) old new
@@ -191,4 +211,5 @@ rolled_back_follows old new is = record {
       (with_closed front (told_back old.state.work.job (transaction_of old.state.work.job s) s) (ended old) refl
       (subst (λ (us : List JournalUnit). IsToldIn us (front ++ units_of old.receipts)) (sym (back_given old.state.work.job (transaction_of old.state.work.job s) s)) stands.is_told));
   keeps = λ before later front. absurd (omega (arith, later, ap (λ (x : Held). x.state.level) is));
+  may = λ t shows. tt;
 }

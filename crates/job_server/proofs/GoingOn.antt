@@ -1,5 +1,5 @@
 -- A job goes on, line by line.
-use Rattle.std.proofs.Common.{◌≡◌, ◌⊎◌, inl, inr, ℕ, zero, suc, ◌≤◌, ◌<◌, nat_lt, Bool, true, false, List, [], ◌∷◌, ◌++◌, length, take, refl, sym, ap, ◌∙◌, subst, arith, true≢false, append_assoc, append-nil}
+use Rattle.std.proofs.Common.{◌≡◌, ◌≢◌, ◌⊎◌, inl, inr, ℕ, zero, suc, ◌≤◌, ◌<◌, nat_lt, Bool, true, false, List, [], ◌∷◌, ◌++◌, length, take, refl, sym, ap, ◌∙◌, subst, arith, true≢false, append_assoc, append-nil}
 use Rattle.std.specs.FinMap as finmap
 use Rattle.std.specs.Ordering.{nat_cmp}
 use Rattle.std.specs.Prelude.{Option, Some, None, Result, Ok, Err, IfOk, is_some, slice_get}
@@ -9,6 +9,7 @@ use Rattle.std.proofs.lemmas.Grind.{flat_map-append}
 use Rattle.std.proofs.lemmas.List.Elements.{All-push}
 use Rattle.refusal.specs.declared.Refusal.{Refusal}
 use Rattle.command.specs.declared.access.DataCommand.{DataCommand}
+use Rattle.refusal.specs.declared.Refusal.TheVariants.{BadJob, OutOfMemory, StampsUsedUp}
 use Rattle.command.specs.declared.request.Command.{Command}
 use Rattle.command.specs.declared.request.Command.TheVariants.{Access, Start, Commit, Halt}
 use Rattle.command.specs.declared.request.Reply.{Reply}
@@ -29,10 +30,12 @@ use Rattle.job_scripts.specs.Lines.{lines_of_script}
 use Rattle.job_scripts.specs.Reports.{Answers}
 use Rattle.job_server.specs.declared.cursor.Cursor.{Cursor}
 use Rattle.job_server.specs.declared.cursor.Line.{Line}
-use Rattle.job_server.specs.Told.{told_by, told_by_lines, given, IsToldIn, IsTold, units_of, units_in}
+use Rattle.job_server.specs.Causes.{IsAllowed, IsReplyTo}
+use Rattle.job_server.specs.Told.{told_by, told_by_lines, AreReplies, given, IsToldIn, IsTold, units_of, units_in}
 use Rattle.job_server.specs.Served.{Wanted, IsReport, IsReportAt}
-use Rattle.job_server.specs.Telling.{Shows, Stands, Follows, is_open, units_behind, StandsIn, SessionsSoFar, sessions_so_far, GoesOn, Running, running, not_begun, Leads, Serves, Keeps, HasAnswered, Advances, Reaches, ServesBlock, HasRun, HasReadAll, HasJustBegun, Begins, IsStillOpen, WasOvertaken, IsBack, GoesOnFrom}
+use Rattle.job_server.specs.Telling.{Shows, Stands, Follows, is_open, units_behind, StandsIn, SessionsSoFar, sessions_so_far, StandsAt, GoesOn, GoesOnUntold, GoesOnBy, GoesOnAt, IsFault, Running, running, not_begun, Leads, Serves, Keeps, HasAnswered, Advances, Reaches, ServesBlock, HasRun, HasReadAll, HasJustBegun, Begins, IsStillOpen, WasOvertaken, IsBack, GoesOnFrom}
 use Rattle.job_server.proofs.Units.{none_given}
+use Rattle.job_server.proofs.Causes.{asked_may}
 use Rattle.job_server.proofs.Standing.{shown_none}
 use Rattle.job_server.proofs.Doing.{refused_tells, HasTold, block_told, moved_stands, moved_job, reads_keep}
 
@@ -42,32 +45,41 @@ positive n h = omega (arith, ltb-true 0 n h)
 -- ---- steps
 
 -- nothing has changed, and nothing is told
-pub same_goes : (job : ℕ) (books more : List Book) (session later : Option Held) → more ≡ books → later ≡ session → GoesOn (λ s. s) job (sessions_so_far books session) (sessions_so_far more later)
+pub same_goes : (job : ℕ) (books more : List Book) (session later : Option Held) → more ≡ books → later ≡ session → GoesOnUntold job (sessions_so_far books session) (sessions_so_far more later)
 same_goes job books more session later same_books same_session = record {
   stands = λ s stands. subst (λ (bs : List Book). StandsIn job bs later s) (sym same_books) (subst (λ (h : Option Held). StandsIn job books h s) (sym same_session) stands);
   keeps = λ before after ts h. subst (λ (bs : List Book). IsToldIn ts (units_behind bs later)) (sym same_books) (subst (λ (x : Option Held). IsToldIn ts (units_behind books x)) (sym same_session) h);
+  allowed = λ s stands. tt;
 }
 
-pub none_goes : (job : ℕ) (now : SessionsSoFar) → GoesOn (λ s. s) job now now
-none_goes job now = record { stands = λ s stands. stands; keeps = λ before after ts h. h }
+pub none_goes : (job : ℕ) (now : SessionsSoFar) → GoesOnUntold job now now
+none_goes job now = record { stands = λ s stands. stands; keeps = λ before after ts h. h; allowed = λ s stands. tt }
 
 -- from the same sessions
-pub goes_from : (tell : Machine → Machine) (job : ℕ) (same old new : SessionsSoFar) → same ≡ old → GoesOn tell job same new → GoesOn tell job old new
-goes_from tell job same old new is h = subst (λ (x : SessionsSoFar). GoesOn tell job x new) is h
+pub goes_from : (job : ℕ) (command : Command) (reply : Reply) (same old new : SessionsSoFar) → same ≡ old → GoesOnBy job command reply same new → GoesOnBy job command reply old new
+goes_from job command reply same old new is h = subst (λ (x : SessionsSoFar). GoesOnBy job command reply x new) is h
+
+pub untold_from : (job : ℕ) (same old new : SessionsSoFar) → same ≡ old → GoesOnUntold job same new → GoesOnUntold job old new
+untold_from job same old new is h = subst (λ (x : SessionsSoFar). GoesOnUntold job x new) is h
 
 -- a refusal tells nothing
-pub refused_goes : (job : ℕ) (read : Result (ℕ × Command) Refusal) (refusal : Refusal) (old new : SessionsSoFar) → GoesOn (λ s. s) job old new → GoesOn (told_by job read (Refused refusal)) job old new
-refused_goes job read refusal old new h = record {
-  stands = λ s stands. subst (λ (m : Machine). StandsIn job new.books new.session m) (sym (refused_tells job read refusal s)) (h.stands s stands);
+pub refused_goes : (job : ℕ) (line : List ℕ) (refusal : Refusal) (old new : SessionsSoFar) → IsFault job line refusal → GoesOnUntold job old new → GoesOnAt job line (Refused refusal) old new
+refused_goes job line refusal old new fault h = record {
+  stands = λ s stands. subst (λ (m : Machine). StandsIn job new.books new.session m) (sym (refused_tells job (reading_of line) refusal s)) (h.stands s stands);
   keeps = h.keeps;
+  allowed = λ s stands. fault (transaction_of job s);
 }
 
 -- what a line tells is what its command tells
-pub asked_goes : (job : ℕ) (line : List ℕ) (command : Command) (reply : Reply) (old new : SessionsSoFar) → Asks line command → GoesOn (told job command reply) job old new → GoesOn (told_by job (reading_of line) reply) job old new
-asked_goes job line command reply old new asks h = subst (λ (r : Result (ℕ × Command) Refusal). GoesOn (told_by job r reply) job old new) (sym asks.1) h
+pub asked_goes : (job : ℕ) (line : List ℕ) (command : Command) (reply : Reply) (old new : SessionsSoFar) → Asks line command → GoesOnBy job command reply old new → GoesOnAt job line reply old new
+asked_goes job line command reply old new asks h = record {
+  stands = λ s stands. subst (λ (r : Result (ℕ × Command) Refusal). StandsIn job new.books new.session (told_by job r reply s)) (sym asks.1) (h.stands s stands);
+  keeps = h.keeps;
+  allowed = λ s stands. asked_may job line command reply (transaction_of job s) asks (h.allowed s stands);
+}
 
 -- a session begins
-pub opened_goes : (job : ℕ) (books : List Book) → GoesOn (λ s. s) job (sessions_so_far books None) (sessions_so_far books (Some (held (idle job) None [])))
+pub opened_goes : (job : ℕ) (books : List Book) → GoesOnUntold job (sessions_so_far books None) (sessions_so_far books (Some (held (idle job) None [])))
 opened_goes job books = record {
   stands = λ s stands. (
     stands.0,
@@ -80,32 +92,41 @@ opened_goes job books = record {
     ),
   );
   keeps = λ before after. absurd (true≢false (sym before));
+  allowed = λ s stands. tt;
 }
 
 -- a step of a session
-pub step_goes : (job : ℕ) (books : List Book) (command : Command) (reply : Reply) (old new : Held) → Follows command reply old new → GoesOn (told job command reply) job (sessions_so_far books (Some old)) (sessions_so_far books (Some new))
+pub step_goes : (job : ℕ) (books : List Book) (command : Command) (reply : Reply) (old new : Held) → Follows command reply old new → GoesOnBy job command reply (sessions_so_far books (Some old)) (sessions_so_far books (Some new))
 step_goes job books command reply old new h = record {
   stands = λ s stands.
       (stands.0, (h.whose ∙ stands.1.0, subst (λ (j : ℕ). Stands (units_in books) (told j command reply s) new) stands.1.0 (h.stands (units_in books) s stands.1.1)));
   keeps = λ before after. h.keeps (positive old.state.level before) (positive new.state.level after) (units_in books);
+  allowed = λ s stands. subst (λ (j : ℕ). IsAllowed j command reply (transaction_of j s)) stands.1.0 (h.may (transaction_of old.state.work.job s) stands.1.1.shows);
 }
 
 -- one step behind another that tells nothing
-pub then_goes : (tell : Machine → Machine) (job : ℕ) (old middle new : SessionsSoFar) → GoesOn (λ s. s) job old middle → (is_open old.session ≡ true → is_open middle.session ≡ true) → GoesOn tell job middle new → GoesOn tell job old new
-then_goes tell job old middle new first stays second = record {
+pub then_goes : (job : ℕ) (command : Command) (reply : Reply) (old middle new : SessionsSoFar) → GoesOnUntold job old middle → (is_open old.session ≡ true → is_open middle.session ≡ true) → GoesOnBy job command reply middle new → GoesOnBy job command reply old new
+then_goes job command reply old middle new first stays second = record {
   stands = λ s stands. second.stands s (first.stands s stands);
   keeps = λ before after ts h. second.keeps (stays before) after ts (first.keeps before (stays before) ts h);
+  allowed = λ s stands. second.allowed s (first.stands s stands);
 }
 
 -- HALT
-pub halted_none : (job : ℕ) (books : List Book) → GoesOn (told job Halt Finished) job (sessions_so_far books None) (sessions_so_far books None)
+pub halt_refused : (job : ℕ) (books more : List Book) (session later : Option Held) (refusal : Refusal) → more ≡ books → later ≡ session → (refusal ≡ OutOfMemory) ⊎ (refusal ≡ StampsUsedUp) → GoesOnBy job Halt (Refused refusal) (sessions_so_far books session) (sessions_so_far more later)
+halt_refused job books more session later refusal same_books same_session room =
+    let h : GoesOnUntold job (sessions_so_far books session) (sessions_so_far more later) = same_goes job books more session later same_books same_session in
+    record { stands = h.stands; keeps = h.keeps; allowed = λ s stands. room }
+
+pub halted_none : (job : ℕ) (books : List Book) → GoesOnBy job Halt Finished (sessions_so_far books None) (sessions_so_far books None)
 halted_none job books = record {
   stands = λ s stands.
       (stands.0, (gone_here s.transactions job, subst (λ (us : List JournalUnit). IsToldIn us (units_in books)) (sym (none_given s.units (End job) refl)) stands.1.1));
   keeps = λ before after. absurd (true≢false (sym before));
+  allowed = λ s stands. tt;
 }
 
-pub halted_some : (job : ℕ) (books : List Book) (h : Held) → GoesOn (told job Halt Finished) job (sessions_so_far books (Some h)) (sessions_so_far (books ++ book h.state.work.job h.receipts ∷ []) None)
+pub halted_some : (job : ℕ) (books : List Book) (h : Held) → GoesOnBy job Halt Finished (sessions_so_far books (Some h)) (sessions_so_far (books ++ book h.state.work.job h.receipts ∷ []) None)
 halted_some job books h = record {
   stands = λ s stands. (
     All-push (λ (b : Book). b.job ≡ job) books (book h.state.work.job h.receipts) stands.0 stands.1.0,
@@ -116,6 +137,7 @@ halted_some job books h = record {
     ),
   );
   keeps = λ before after. absurd (true≢false (sym after));
+  allowed = λ s stands. tt;
 }
   where
     all_units : units_in (books ++ book h.state.work.job h.receipts ∷ []) ≡ units_in books ++ units_of h.receipts
@@ -133,6 +155,9 @@ leads_then job front back replies more s middle new h k = record {
   machine = k.machine;
   led = λ left later. ap (λ (ls : List (List ℕ)). told_by_lines job ls ((replies ++ more) ++ later) s) (append_assoc front back left)
       ∙ (ap (λ (rs : List Reply). told_by_lines job (front ++ (back ++ left)) rs s) (append_assoc replies more later) ∙ (h.led (back ++ left) (more ++ later) ∙ k.led left later));
+  replies_are = λ left later rest.
+      subst (λ (ls : List (List ℕ)). AreReplies job ls ((replies ++ more) ++ later) s) (sym (append_assoc front back left))
+      (subst (λ (rs : List Reply). AreReplies job (front ++ (back ++ left)) rs s) (sym (append_assoc replies more later)) (h.replies_are (back ++ left) (more ++ later) (k.replies_are left later rest)));
   stands = k.stands;
 }
 
@@ -153,7 +178,7 @@ serves_none job lines now = record {
   their_replies = [];
   split = refl;
   replied = sym (append-nil now.replies);
-  leads = λ s stands. record { machine = s; led = λ left later. refl; stands = stands };
+  leads = λ s stands. record { machine = s; led = λ left later. refl; replies_are = λ left later rest. rest; stands = stands };
 }
 
 pub reaches_none : (job : ℕ) (text : List ℕ) (place : Cursor) (now : Running) → place.lines.now ≡ text → Reaches job text place now now
@@ -174,8 +199,13 @@ reaches_end job text place old new h none = subst (λ (ls : List (List ℕ)). Se
 
 -- ---- one line
 
-answered_leads : (job : ℕ) (line : List ℕ) (reply : Reply) (s : Machine) (new : SessionsSoFar) → StandsIn job new.books new.session (told_by job (reading_of line) reply s) → Leads job (line ∷ []) (reply ∷ []) s new
-answered_leads job line reply s new stands = record { machine = told_by job (reading_of line) reply s; led = λ left later. refl; stands = stands }
+answered_leads : (job : ℕ) (line : List ℕ) (reply : Reply) (s : Machine) (new : SessionsSoFar) → StandsIn job new.books new.session (told_by job (reading_of line) reply s) → IsReplyTo job (reading_of line) reply (transaction_of job s) → Leads job (line ∷ []) (reply ∷ []) s new
+answered_leads job line reply s new stands may = record {
+  machine = told_by job (reading_of line) reply s;
+  led = λ left later. refl;
+  replies_are = λ left later rest. (may, rest);
+  stands = stands;
+}
 
 pub answered_serves : (job : ℕ) (line : Line) (rest : List (List ℕ)) (old new : Running) → HasAnswered job line old new → Serves job (line.text.now ∷ rest) rest old new
 answered_serves job line rest old new h = record {
@@ -183,7 +213,7 @@ answered_serves job line rest old new h = record {
   their_replies = h.reply ∷ [];
   split = refl;
   replied = h.replied;
-  leads = λ s stands. answered_leads job line.text.now h.reply s new.sessions (h.goes.stands s stands);
+  leads = λ s stands. answered_leads job line.text.now h.reply s new.sessions (h.goes.stands s stands) (h.goes.allowed s stands);
 }
 
 pub answered_advances : (job : ℕ) (line : Line) (old new : Running) → HasAnswered job line old new → Advances job line line.next old new
@@ -192,23 +222,29 @@ answered_advances job line old new h = record { fewer = omega arith; serves = an
 pub answered_keeps : (job : ℕ) (line : Line) (old new : Running) → HasAnswered job line old new → Keeps old new
 answered_keeps job line old new h = h.goes.keeps
 
-pub has_answered : (job : ℕ) (line : Line) (reply : Reply) (old new : Running) → new.replies ≡ old.replies ++ reply ∷ [] → GoesOn (told_by job (reading_of line.text.now) reply) job old.sessions new.sessions → HasAnswered job line old new
+pub has_answered : (job : ℕ) (line : Line) (reply : Reply) (old new : Running) → new.replies ≡ old.replies ++ reply ∷ [] → GoesOnAt job line.text.now reply old.sessions new.sessions → HasAnswered job line old new
 has_answered job line reply old new replied goes = record { reply = reply; replied = replied; goes = goes }
 
 -- a TCOMMIT that is no restart
-pub committed_advances : (job : ℕ) (line : Line) (reply : Reply) (old new : Running) → new.replies ≡ old.replies ++ reply ∷ [] → GoesOn (told_by job (reading_of line.text.now) reply) job old.sessions new.sessions → Advances job line line.next old new
+pub committed_advances : (job : ℕ) (line : Line) (reply : Reply) (old new : Running) → new.replies ≡ old.replies ++ reply ∷ [] → GoesOnAt job line.text.now reply old.sessions new.sessions → Advances job line line.next old new
 committed_advances job line reply old new replied goes = answered_advances job line old new (has_answered job line reply old new replied goes)
 
-pub committed_keeps : (job : ℕ) (line : List ℕ) (reply : Reply) (old new : Running) → GoesOn (told_by job (reading_of line) reply) job old.sessions new.sessions → Keeps old new
+pub committed_keeps : (job : ℕ) (line : List ℕ) (reply : Reply) (old new : Running) → GoesOnAt job line reply old.sessions new.sessions → Keeps old new
 committed_keeps job line reply old new goes = goes.keeps
 
 -- one that is
-pub was_overtaken : (job : ℕ) (line : List ℕ) (reply : Reply) (old new : Running) → Asks line Commit → GoesOn (told_by job (reading_of line) reply) job old.sessions new.sessions → (new.replies ≡ old.replies) × (restarts : ℕ) × (reply ≡ Restarted restarts)
+pub was_overtaken : (job : ℕ) (line : List ℕ) (reply : Reply) (old new : Running) → Asks line Commit → GoesOnAt job line reply old.sessions new.sessions → (new.replies ≡ old.replies) × (restarts : ℕ) × (reply ≡ Restarted restarts)
     → WasOvertaken job old new
 was_overtaken job line reply old new asks goes again = (
   again.0,
   again.1,
-  subst (λ (r : Reply). GoesOn (told job Commit r) job old.sessions new.sessions) again.2 (subst (λ (r : Result (ℕ × Command) Refusal). GoesOn (told_by job r reply) job old.sessions new.sessions) asks.1 goes),
+  record {
+    stands = λ s stands.
+        subst (λ (r : Reply). StandsAt job new.sessions (told job Commit r s)) again.2
+        (subst (λ (r : Result (ℕ × Command) Refusal). StandsAt job new.sessions (told_by job r reply s)) asks.1 (goes.stands s stands));
+    keeps = goes.keeps;
+    allowed = λ s stands. tt;
+  },
 )
 
 -- ---- blocks under one hold
@@ -224,7 +260,7 @@ block_from job before rest places commands served replies more_replies books uni
   replied = is;
   leads = λ s stands. (let from : StandsIn job books (Some start) s = moves s stands in
       let h : HasTold job (units_in books) in_front.front (in_place places served) s new = block_told job (units_in books) in_front.front places commands served units more start new s in_front.asked done from.1.0 from.1.1 in
-      record { machine = h.machine; led = h.led; stands = (from.0, (h.whose, h.stands)) });
+      record { machine = h.machine; led = h.led; replies_are = h.replies_are; stands = (from.0, (h.whose, h.stands)) });
 }
 
 moved_on : (job : ℕ) (books : List Book) (units : List JournalUnit) (old : Held) (s : Machine) → IsReady old → StandsIn job books (Some old) s → StandsIn job books (Some (moved_open units old)) s
@@ -272,7 +308,7 @@ pub closed_keeps : (old new : Running) → is_open old.sessions.session ≡ fals
 closed_keeps old new closed before = absurd (true≢false (sym before ∙ closed))
 
 -- a session was begun before it
-pub opened_advances : (job : ℕ) (line : Line) (behind : Cursor) (same old middle new : Running) → same ≡ old → middle.replies ≡ same.replies → GoesOn (λ s. s) job same.sessions middle.sessions → Advances job line behind middle new → Advances job line behind old new
+pub opened_advances : (job : ℕ) (line : Line) (behind : Cursor) (same old middle new : Running) → same ≡ old → middle.replies ≡ same.replies → GoesOnUntold job same.sessions middle.sessions → Advances job line behind middle new → Advances job line behind old new
 opened_advances job line behind same old middle new is replied opened h = subst (λ (x : Running). Advances job line behind x new) is (record {
   fewer = h.fewer;
   serves = record {
@@ -284,7 +320,7 @@ opened_advances job line behind same old middle new is replied opened h = subst 
   };
 })
 
-pub opened_keeps : (job : ℕ) (same old middle new : Running) → same ≡ old → GoesOn (λ s. s) job same.sessions middle.sessions → is_open middle.sessions.session ≡ is_open same.sessions.session → Keeps middle new → Keeps old new
+pub opened_keeps : (job : ℕ) (same old middle new : Running) → same ≡ old → GoesOnUntold job same.sessions middle.sessions → is_open middle.sessions.session ≡ is_open same.sessions.session → Keeps middle new → Keeps old new
 opened_keeps job same old middle new is opened stays keeps = subst (λ (x : Running). Keeps x new) is (λ before after ts h. keeps (stays ∙ before) after ts (opened.keeps before (stays ∙ before) ts h))
 
 -- ---- blocks that are tried
@@ -317,9 +353,9 @@ begun_by job Committed s none some = absurd (some none)
 begun_by job (Restarted restarts) s none some = absurd (some none)
 begun_by job (Refused refusal) s none some = absurd (some none)
 
-pub just_begun : (job : ℕ) (reply : Reply) (old new : SessionsSoFar) (s : Machine) → StandsIn job old.books old.session s → is_open old.session ≡ false → GoesOn (told job Start reply) job old new → is_open new.session ≡ true → HasJustBegun (transaction_of job (told job Start reply s))
-just_begun job reply old new s stands closed goes open_now =
-    begun_by job reply s (closed_none job old.books old.session s stands closed) (λ none. open_level job new.books new.session (told job Start reply s) (goes.stands s stands) open_now none)
+pub just_begun : (job : ℕ) (reply : Reply) (old new : SessionsSoFar) (s : Machine) → StandsIn job old.books old.session s → is_open old.session ≡ false → StandsAt job new (told job Start reply s) → is_open new.session ≡ true → HasJustBegun (transaction_of job (told job Start reply s))
+just_begun job reply old new s stands closed now open_now =
+    begun_by job reply s (closed_none job old.books old.session s stands closed) (λ none. open_level job new.books new.session (told job Start reply s) now open_now none)
 
 -- a TCOMMIT that has begun it anew: the session stands as behind the TSTART
 pub begun_again : (job : ℕ) (restarts : ℕ) (books : List Book) (session : Option Held) (s first : Machine) → StandsIn job books session (told job Commit (Restarted restarts) s) → HasJustBegun (transaction_of job first) → IsToldIn (given first) (units_behind books session)
@@ -372,13 +408,23 @@ open_where_begun job books session s stands just = by_case (transaction_of job s
     by_case (Some t) is begun = some_open job books session s t stands is
 
 pub begins : (job : ℕ) (line : Line) (old new : Running) → Asks line.text.now Start → HasAnswered job line old new → is_open old.sessions.session ≡ false → is_open new.sessions.session ≡ true → Begins job old new
-begins job line old new asks h closed now =
-    let goes : GoesOn (told job Start h.reply) job old.sessions new.sessions = subst (λ (r : Result (ℕ × Command) Refusal). GoesOn (told_by job r h.reply) job old.sessions new.sessions) asks.1 h.goes in
-    record {
-      reply = h.reply;
-      replied = h.replied;
-      stands = λ s stands. (goes.stands s stands, just_begun job h.reply old.sessions new.sessions s stands closed goes now);
-    }
+begins job line old new asks h closed now = record {
+  reply = h.reply;
+  replied = h.replied;
+  stands = λ s stands. (on s stands, just_begun job h.reply old.sessions new.sessions s stands closed (on s stands) now);
+  allowed = λ s stands.
+      by_reply s stands (subst (λ (r : Result (ℕ × Command) Refusal). IsReplyTo job r h.reply (transaction_of job s)) asks.1 (h.goes.allowed s stands));
+}
+  where
+    on : (s : Machine) → StandsAt job old.sessions s → StandsAt job new.sessions (told job Start h.reply s)
+    on s stands = subst (λ (r : Result (ℕ × Command) Refusal). StandsAt job new.sessions (told_by job r h.reply s)) asks.1 (h.goes.stands s stands)
+
+    -- a line of another job begins nothing
+    by_reply : (s : Machine) → StandsAt job old.sessions s → IsAllowed job Start h.reply (transaction_of job s) ⊎ ((h.reply ≡ Refused BadJob) × (asks.0 ≢ job)) → IsAllowed job Start h.reply (transaction_of job s)
+    by_reply s stands (inl allowed) = allowed
+    by_reply s stands (inr other) =
+        absurd (subst (λ (o : Option Transaction). HasJustBegun o) (closed_none job old.sessions.books old.sessions.session s stands closed)
+        (subst (λ (r : Reply). HasJustBegun (transaction_of job (told job Start r s))) other.0 (just_begun job h.reply old.sessions new.sessions s stands closed (on s stands) now)))
 
 begins_serves : (job : ℕ) (line : List ℕ) (rest : List (List ℕ)) (old new : Running) → Asks line Start → Begins job old new → Serves job (line ∷ rest) rest old new
 begins_serves job line rest old new asks h = record {
@@ -387,7 +433,8 @@ begins_serves job line rest old new asks h = record {
   split = refl;
   replied = h.replied;
   leads = λ s stands. answered_leads job line h.reply s new.sessions
-      (subst (λ (r : Result (ℕ × Command) Refusal). StandsIn job new.sessions.books new.sessions.session (told_by job r h.reply s)) (sym asks.1) (h.stands s stands).0);
+      (subst (λ (r : Result (ℕ × Command) Refusal). StandsIn job new.sessions.books new.sessions.session (told_by job r h.reply s)) (sym asks.1) (h.stands s stands).0)
+      (asked_may job line Start h.reply (transaction_of job s) asks (h.allowed s stands));
 }
 
 -- the same behind a try
@@ -396,6 +443,7 @@ begins_again job old middle tried new h back kept same = record {
   reply = h.reply;
   replied = same ∙ h.replied;
   stands = λ s stands. (subst (λ (x : SessionsSoFar). StandsIn job x.books x.session (told job Start h.reply s)) (sym kept) (back (told job Start h.reply s) (h.stands s stands).0 (h.stands s stands).1), (h.stands s stands).1);
+  allowed = h.allowed;
 }
 
 -- the lines behind the TSTART were done
@@ -443,7 +491,7 @@ reaches_replies job text place old new h = (h.serves.their_replies, h.serves.rep
 -- ---- the end
 
 -- the job's last HALT
-pub run_told : (job : ℕ) (text : List ℕ) (old new : Running) (later : SessionsSoFar) → old ≡ not_begun → Serves job (lines_of_script text) [] old new → GoesOn (told job Halt Finished) job new.sessions later → later.session ≡ None → IsTold (Some job) text new.replies later.books
+pub run_told : (job : ℕ) (text : List ℕ) (old new : Running) (later : SessionsSoFar) → old ≡ not_begun → Serves job (lines_of_script text) [] old new → GoesOnBy job Halt Finished new.sessions later → later.session ≡ None → IsTold (Some job) text new.replies later.books
 run_told job text old new later first serves goes over =
     let h : Serves job (lines_of_script text) [] not_begun new = subst (λ (x : Running). Serves job (lines_of_script text) [] x new) first serves in
     let led : Leads job h.lines_done h.their_replies nothing_done new.sessions = h.leads nothing_done ((λ k d lt. absurd (omega (arith, lt))), (finmap.get-empty nat_cmp job, tt)) in
@@ -451,7 +499,9 @@ run_told job text old new later first serves goes over =
     let stands : StandsIn job later.books None (told job Halt Finished s) = subst (λ (x : Option Held). StandsIn job later.books x (told job Halt Finished s)) over (goes.stands s led.stands) in
     let machine : told_by_lines job (lines_of_script text) new.replies nothing_done ≡ s = ap (λ (ls : List (List ℕ)). told_by_lines job ls new.replies nothing_done) h.split
     ∙ (ap (λ (rs : List Reply). told_by_lines job (h.lines_done ++ []) rs nothing_done) (h.replied ∙ sym (append-nil h.their_replies)) ∙ led.led [] []) in
-    (stands.0, subst (λ (us : List JournalUnit). IsToldIn us (units_in later.books)) (none_given s.units (End job) refl ∙ sym (ap given machine)) stands.1.1)
+    let replies : AreReplies job (lines_of_script text) new.replies nothing_done = subst (λ (ls : List (List ℕ)). AreReplies job ls new.replies nothing_done) (sym h.split)
+    (subst (λ (rs : List Reply). AreReplies job (h.lines_done ++ []) rs nothing_done) (sym (h.replied ∙ sym (append-nil h.their_replies))) (led.replies_are [] [] tt)) in
+    (stands.0, (subst (λ (us : List JournalUnit). IsToldIn us (units_in later.books)) (none_given s.units (End job) refl ∙ sym (ap given machine)) stands.1.1, replies))
 
 -- what holds of an answer, where another does
 pub ok_weaker : {A E : Type 0} {P Q : A → Type 0} (r : Result A E) → IfOk r P → ((a : A) → P a → Q a) → IfOk r Q

@@ -1,4 +1,5 @@
 pub mod Answering
+pub mod Causes
 pub mod Doing
 pub mod Ending
 pub mod Following

@@ -97,7 +97,7 @@ pub tried_level : (n : ℕ) (command : LockCommand) (had : Bool) (h : Held) → 
 tried_level n command had h = noted_level (nat_lt 0 h.state.level) h.state
 
 -- the state shows the same
-still_shows : (b : Bool) (state : JobSession) (t : Option Transaction) → Shows state t → Shows (if b then after_lock state else state) t
+pub still_shows : (b : Bool) (state : JobSession) (t : Option Transaction) → Shows state t → Shows (if b then after_lock state else state) t
 still_shows b state None shows = noted_level b state ∙ shows
 still_shows b state (Some t) shows = (omega (arith, noted_level b state, shows.0), (noted_level b state ∙ shows.1.0, noted_exchanges b state ∙ shows.1.1))
 

@@ -1,3 +1,4 @@
+pub mod Causes
 pub mod Codes
 pub mod Faults
 pub mod Output

@@ -1,5 +1,5 @@
 -- How a job stands while its lines are done: what its replies told so far, its session and its books.
--- Read Stands, Follows, StandsIn, GoesOn, Running, Serves and Begins.
+-- Read Stands, MayReply, Follows, StandsIn, GoesOn, Running, Serves and Begins.
 use Rattle.std.specs.Prelude.{◌≡◌, ◌≢◌, ◌⊎◌, ⊤, ℕ, ◌≤◌, nat_lt, Bool, true, false, List, [], ◌∷◌, ◌++◌, length, Option, None, Some, Result, Ok, Err}
 use Rattle.std.specs.List.{All}
 use Rattle.refusal.specs.declared.Refusal.{Refusal}
@@ -9,10 +9,11 @@ use Rattle.command.specs.declared.access.DataCommand.{DataCommand}
 use Rattle.command.specs.declared.request.Command.{Command}
 use Rattle.command.specs.declared.request.Command.TheVariants.{Access, Start, Commit, Halt}
 use Rattle.command.specs.declared.request.Reply.{Reply}
-use Rattle.command.specs.declared.request.Reply.TheVariants.{Restarted}
+use Rattle.command.specs.declared.request.Reply.TheVariants.{Restarted, Refused}
 use Rattle.journal.specs.declared.unit.Unit.{Unit as JournalUnit}
 use Rattle.journal.specs.Story.{Transaction, Machine, transaction_of, told}
 use Rattle.script.specs.Line.{reading_of}
+use Rattle.job_core.specs.Common.{IsCauseOfLock}
 use Rattle.job_core.specs.Sessions.{Session as JobSession}
 use Rattle.shared_engine.specs.Receipts.{Book}
 use Rattle.shared_engine.specs.Sessions.{Held}
@@ -22,9 +23,10 @@ use Rattle.job_scripts.specs.declared.block.Block.{Block}
 use Rattle.job_scripts.specs.Blocks.{Asks, AreInFront}
 use Rattle.job_scripts.specs.Lines.{lines_of_script}
 use Rattle.job_scripts.specs.Reports.{is_refused}
+use Rattle.job_server.specs.Causes.{IsAllowed, IsReplyTo}
 use Rattle.job_server.specs.declared.cursor.Cursor.{Cursor}
 use Rattle.job_server.specs.declared.cursor.Line.{Line}
-use Rattle.job_server.specs.Told.{told_by, given, IsToldIn, told_by_lines, units_of, units_in}
+use Rattle.job_server.specs.Told.{told_by, given, IsToldIn, told_by_lines, AreReplies, units_of, units_in}
 
 -- ---- one session
 
@@ -42,11 +44,16 @@ pub record Stands (front : List JournalUnit) (s : Machine) (h : Held) : Type 0 w
 abbrev pub AreStillTold : List JournalUnit → List JournalUnit → Type 0
 AreStillTold old new = (ts : List JournalUnit) → IsToldIn ts old → IsToldIn ts new
 
--- the session goes on as the reply tells; while its transaction stays open all that it writes is LOCKs
+-- the reply is allowed, whatever transaction the session shows
+abbrev pub MayReply : Command → Reply → Held → Type 0
+MayReply command reply h = (t : Option Transaction) → Shows h.state t → IsAllowed h.state.work.job command reply t
+
+-- the session goes on as the reply tells, which is allowed; while its transaction stays open all that it writes is LOCKs
 pub record Follows (command : Command) (reply : Reply) (old new : Held) : Type 0 where
   pub whose : new.state.work.job ≡ old.state.work.job
   pub stands : (front : List JournalUnit) (s : Machine) → Stands front s old → Stands front (told old.state.work.job command reply s) new
   pub keeps : 1 ≤ old.state.level → 1 ≤ new.state.level → (front : List JournalUnit) → AreStillTold (front ++ units_of old.receipts) (front ++ units_of new.receipts)
+  pub may : MayReply command reply old
 
 -- whether a LOCK has names
 abbrev pub names_some : LockCommand → Bool
@@ -55,11 +62,15 @@ names_some (Only names) = true
 names_some (More names) = true
 names_some (Fewer names) = true
 
+-- why a LOCK of the job is refused, on some journal
+abbrev pub IsLockRefusal : ℕ → LockCommand → Refusal → Type 0
+IsLockRefusal job command refusal = (units : List JournalUnit) × IsCauseOfLock refusal job command units
+
 -- what a LOCK answered, and what it left
 abbrev pub HasLocked : LockCommand → Result Bool Refusal → Held → Held → Type 0
 HasLocked command (Ok true) old new = HasItsNames command old new
 HasLocked command (Ok false) old new = (names_some command ≡ true) × WasBlocked command old new
-HasLocked command (Err refusal) old new = (new ≡ old) ⊎ WasBlocked command old new
+HasLocked command (Err refusal) old new = ((new ≡ old) ⊎ WasBlocked command old new) × IsLockRefusal old.state.work.job command refusal
 
 -- ---- a job with its sessions
 
@@ -98,15 +109,32 @@ AreToldOn old new = AreStillTold (units_behind old.books old.session) (units_beh
 abbrev pub StandsAt : ℕ → SessionsSoFar → Machine → Type 0
 StandsAt job now s = StandsIn job now.books now.session s
 
--- the job goes on as is told
-pub record GoesOn (tell : Machine → Machine) (job : ℕ) (old new : SessionsSoFar) : Type 0 where
+-- the job goes on as is told, which is allowed
+pub record GoesOn (tell : Machine → Machine) (is_allowed : Machine → Type 0) (job : ℕ) (old new : SessionsSoFar) : Type 0 where
   pub stands : (s : Machine) → StandsAt job old s → StandsAt job new (tell s)
   pub keeps : is_open old.session ≡ true → is_open new.session ≡ true → AreToldOn old new
+  pub allowed : (s : Machine) → StandsAt job old s → is_allowed s
 
--- the line asks for what was read of it, where it could be read
-abbrev pub IsAsked : List ℕ → Result Command Refusal → Type 0
-IsAsked line (Ok command) = Asks line command
-IsAsked line (Err refusal) = ⊤
+-- nothing is told
+abbrev pub GoesOnUntold : ℕ → SessionsSoFar → SessionsSoFar → Type 0
+GoesOnUntold job old new = GoesOn (λ s. s) (λ s. ⊤) job old new
+
+-- a command is replied
+abbrev pub GoesOnBy : ℕ → Command → Reply → SessionsSoFar → SessionsSoFar → Type 0
+GoesOnBy job command reply old new = GoesOn (told job command reply) (λ s. IsAllowed job command reply (transaction_of job s)) job old new
+
+-- a line is replied
+abbrev pub GoesOnAt : ℕ → List ℕ → Reply → SessionsSoFar → SessionsSoFar → Type 0
+GoesOnAt job line reply old new = GoesOn (told_by job (reading_of line) reply) (λ s. IsReplyTo job (reading_of line) reply (transaction_of job s)) job old new
+
+-- the line may be refused so, whatever transaction the job has
+abbrev pub IsFault : ℕ → List ℕ → Refusal → Type 0
+IsFault job line refusal = (t : Option Transaction) → IsReplyTo job (reading_of line) (Refused refusal) t
+
+-- the line asks for what was read of it, or may be refused so
+abbrev pub IsAsked : ℕ → List ℕ → Result Command Refusal → Type 0
+IsAsked job line (Ok command) = Asks line command
+IsAsked job line (Err refusal) = IsFault job line refusal
 
 -- ---- lines
 
@@ -126,10 +154,11 @@ running replies sessions = record { replies = replies; sessions = sessions }
 abbrev pub not_begun : Running
 not_begun = running [] (sessions_so_far [] None)
 
--- lines and their replies lead the machine on, and the job stands where they lead
+-- lines and their replies, which are such, lead the machine on, and the job stands where they lead
 pub record Leads (job : ℕ) (lines : List (List ℕ)) (replies : List Reply) (s : Machine) (sessions : SessionsSoFar) : Type 0 where
   pub machine : Machine
   pub led : (left : List (List ℕ)) (later : List Reply) → told_by_lines job (lines ++ left) (replies ++ later) s ≡ told_by_lines job left later machine
+  pub replies_are : (left : List (List ℕ)) (later : List Reply) → AreReplies job left later machine → AreReplies job (lines ++ left) (replies ++ later) s
   pub stands : StandsAt job sessions machine
 
 -- the lines in front of the rest were done: their replies are behind those before, and lead on from wherever the job stood
@@ -148,7 +177,7 @@ Keeps old new = is_open old.sessions.session ≡ true → is_open new.sessions.s
 pub record HasAnswered (job : ℕ) (line : Line) (old new : Running) : Type 0 where
   pub reply : Reply
   pub replied : new.replies ≡ old.replies ++ reply ∷ []
-  pub goes : GoesOn (told_by job (reading_of line.text.now) reply) job old.sessions new.sessions
+  pub goes : GoesOnAt job line.text.now reply old.sessions new.sessions
 
 -- a line was done, and perhaps some of those behind it, up to this place
 pub record Advances (job : ℕ) (line : Line) (behind : Cursor) (old new : Running) : Type 0 where
@@ -196,10 +225,11 @@ pub record Begins (job : ℕ) (old new : Running) : Type 0 where
   pub reply : Reply
   pub replied : new.replies ≡ old.replies ++ reply ∷ []
   pub stands : (s : Machine) → StandsAt job old.sessions s → StandsAt job new.sessions (told job Start reply s) × HasJustBegun (transaction_of job (told job Start reply s))
+  pub allowed : (s : Machine) → StandsAt job old.sessions s → IsAllowed job Start reply (transaction_of job s)
 
 -- the outermost TCOMMIT began the transaction anew, and no reply was kept
 abbrev pub WasOvertaken : ℕ → Running → Running → Type 0
-WasOvertaken job old new = (new.replies ≡ old.replies) × (restarts : ℕ) × GoesOn (told job Commit (Restarted restarts)) job old.sessions new.sessions
+WasOvertaken job old new = (new.replies ≡ old.replies) × (restarts : ℕ) × GoesOnBy job Commit (Restarted restarts) old.sessions new.sessions
 
 -- a line of a block was tried: it was done, and perhaps some of those behind it, up to this place; or it is a TCOMMIT that began the transaction anew
 abbrev pub HasTried : ℕ → Line → Option Cursor → Running → Running → Type 0

@@ -64,7 +64,7 @@ impl<'a, B: BoardName, R: Wait, G: Gate> Worker<'a, B, R, G> {
         line: Line<'b>,
         asked: Result<Command, Refusal>,
     ) -> Result<Option<Cursor<'b>>, ServerFault>
-        requires { IsAsked line.text.now asked }
+        requires { IsAsked job line.text.now asked }
         ensures { IfOk result (λ ended. HasTried job line.entry ended run.old run.new) }
     {
         match asked {

@@ -1,5 +1,5 @@
 //! A command of a job, by the calls of its session.
-ghost use Rattle.std.specs.Prelude.{◌≡◌, ◌≤◌, true};
+ghost use Rattle.std.specs.Prelude.{◌≡◌, ◌≢◌, ◌≤◌, true};
 ghost use Rattle.command.specs.declared.request.Command.{Command};
 ghost use Rattle.command.specs.declared.request.Reply.{Reply};
 ghost use Rattle.shared_engine.specs.Blocks.{said};
@@ -31,15 +31,16 @@ impl<'a, B: BoardName, R, G> Drop for Calls<'a, B, R, G> {
 }
 
 impl<'a, B: BoardName, R: Wait, G: Gate> Calls<'a, B, R, G> {
-    /// The reply to a command of a session, but for HALT, which is refused here. `seconds` is a LOCK's timeout. The session
-    /// goes on as the reply tells.
-    #[tactic(auto, using(crate::proofs::Answering::follows_as, crate::proofs::Following::counted_follows, crate::proofs::Following::refused_follows))]
+    /// The reply to a command of a session, but for HALT. `seconds` is a LOCK's timeout. The session goes on as the reply
+    /// tells, and a refusal has its cause.
+    #[tactic(auto, using(crate::proofs::Answering::follows_as, crate::proofs::Following::counted_follows))]
     pub(crate) fn reply_to(
         &self,
         session: &mut Session<B>,
         command: Command,
         seconds: Option<u64>,
     ) -> Reply
+        requires { command ≢ Command.Halt }
         ensures { Follows command result session.old session.new }
     {
         match command {
@@ -51,7 +52,7 @@ impl<'a, B: BoardName, R: Wait, G: Gate> Calls<'a, B, R, G> {
             Command::Restart => self.restart(session),
             Command::Level => Reply::Count(session.tlevel()),
             Command::Restarts => Reply::Count(session.trestarts()),
-            Command::Halt => Reply::Refused(Refusal::BadJob),
+            Command::Halt => unreachable!(),
         }
     }
 
@@ -114,8 +115,10 @@ impl<'a, B: BoardName, R: Wait, G: Gate> Calls<'a, B, R, G> {
     fn lock_untimed(&self, session: &mut Session<B>, command: &LockCommand) -> Result<bool, Refusal>
         ensures { HasLocked command.now result session.old session.new }
     {
-        self.engine.lock(self.rt, session, command, self.gate)?;
-        Ok(true)
+        match self.engine.lock(self.rt, session, command, self.gate) {
+            Ok(()) => Ok(true),
+            Err(refusal) => Err(refusal),
+        }
     }
 
     // TSTART. The outermost one is tried again where a horizon passed its start as it was taken.
@@ -135,7 +138,7 @@ impl<'a, B: BoardName, R: Wait, G: Gate> Calls<'a, B, R, G> {
         unreachable!()
     }
 
-    #[tactic(auto, using(crate::proofs::Answering::follows_as, crate::proofs::Answering::commit_told, crate::proofs::Following::lower_follows, crate::proofs::Following::refused_follows))]
+    #[tactic(auto, using(crate::proofs::Answering::follows_as, crate::proofs::Answering::commit_told, crate::proofs::Following::lower_follows, crate::proofs::Answering::no_commit))]
     fn commit(&self, session: &mut Session<B>) -> Reply
         ensures { Follows Command.Commit result session.old session.new }
     {
@@ -146,7 +149,7 @@ impl<'a, B: BoardName, R: Wait, G: Gate> Calls<'a, B, R, G> {
         }
     }
 
-    #[tactic(auto, using(crate::proofs::Answering::follows_as, crate::proofs::Answering::rollback_told, crate::proofs::Following::refused_follows))]
+    #[tactic(auto, using(crate::proofs::Answering::follows_as, crate::proofs::Answering::rollback_told, crate::proofs::Answering::no_rollback))]
     fn rollback(&self, session: &mut Session<B>) -> Reply
         ensures { Follows Command.Rollback result session.old session.new }
     {
@@ -156,7 +159,7 @@ impl<'a, B: BoardName, R: Wait, G: Gate> Calls<'a, B, R, G> {
         finished(self.engine.trollback(self.rt, session))
     }
 
-    #[tactic(auto, using(crate::proofs::Answering::follows_as, crate::proofs::Answering::restart_told, crate::proofs::Following::refused_follows))]
+    #[tactic(auto, using(crate::proofs::Answering::follows_as, crate::proofs::Answering::restart_told, crate::proofs::Answering::no_restart))]
     fn restart(&self, session: &mut Session<B>) -> Reply
         ensures { Follows Command.Restart result session.old session.new }
     {

@@ -1,13 +1,10 @@
 //! A job as it is run, and one line of it.
-ghost use Rattle.std.specs.Prelude.{◌≡◌, ◌<◌, ◌∷◌, ◌++◌, ℕ, List, [], None, true, length, vec_capacity, IfOk, IfSome, OnOk};
+ghost use Rattle.std.specs.Prelude.{◌≡◌, ◌≢◌, ◌<◌, ◌∷◌, ◌++◌, ℕ, List, [], None, true, false, length, vec_capacity, IfOk, IfSome, OnOk};
 ghost use Rattle.command.specs.declared.request.Command.{Command};
 ghost use Rattle.command.specs.declared.request.Reply.{Reply};
-ghost use Rattle.journal.specs.Story.{told as told_of};
-ghost use Rattle.script.specs.Line.{reading_of};
 ghost use Rattle.shared_engine.specs.Receipts.{Book};
 ghost use Rattle.shared_engine.specs.Engines.{OnOkThat, OnOkNot};
-ghost use Rattle.job_server.specs.Told.{told_by};
-ghost use Rattle.job_server.specs.Telling.{is_open as is_open_in, GoesOn, IsAsked, Keeps, HasAnswered, Advances, sessions_so_far, not_begun};
+ghost use Rattle.job_server.specs.Telling.{is_open as is_open_in, GoesOnUntold, GoesOnBy, GoesOnAt, IsAsked, Keeps, HasAnswered, Advances, sessions_so_far, not_begun};
 
 use crate::ServerFault;
 use crate::cursor::{Cursor, Line};
@@ -87,14 +84,14 @@ impl<B: BoardName> JobRun<B> {
 }
 
 /// What a line asks of a job.
-#[tactic(auto, using(crate::proofs::GoingOn::asked_of))]
+#[tactic(auto, using(crate::proofs::GoingOn::asked_of, crate::proofs::Causes::other_job, crate::proofs::Causes::fault_of))]
 pub(crate) fn read_for(
     alloc: Global,
     job: Job,
     line: &[u8],
     drafts: &mut Drafts,
 ) -> Result<Command, Refusal>
-    ensures { IsAsked line.now result }
+    ensures { IsAsked job line.now result }
 {
     match read_line(alloc, line, drafts) {
         Ok((named, command)) => {
@@ -115,7 +112,7 @@ pub(crate) fn read_within(
     line: &[u8],
     drafts: &mut Drafts,
 ) -> Option<Result<Command, Refusal>>
-    ensures { IfSome result (λ asked. IsAsked line.now asked) }
+    ensures { IfSome result (λ asked. IsAsked job line.now asked) }
 {
     match read_for(alloc, job, line, drafts) {
         Ok(Command::Halt) => None,
@@ -124,7 +121,8 @@ pub(crate) fn read_within(
 }
 
 fn is_halt(command: &Command) -> bool
-    ensures { result ≡ true → command.now ≡ Command.Halt }
+    ensures halts { result ≡ true → command.now ≡ Command.Halt }
+    ensures goes_on { result ≡ false → command.now ≢ Command.Halt }
 {
     matches!(command, Command::Halt)
 }
@@ -155,7 +153,7 @@ impl<'a, B: BoardName, R: Wait, G: Gate> Worker<'a, B, R, G> {
     /// Begins a session of the job, where it has none.
     #[tactic(auto, using(crate::proofs::GoingOn::same_goes, crate::proofs::GoingOn::opened_goes))]
     pub(crate) fn open(&self, job: Job, session: &mut Option<Session<B>>) -> Result<(), ServerFault>
-        ensures told { OnOk result ((books : List Book) → GoesOn (λ s. s) job (sessions_so_far books session.old) (sessions_so_far books session.new)) }
+        ensures told { OnOk result ((books : List Book) → GoesOnUntold job (sessions_so_far books session.old) (sessions_so_far books session.new)) }
         ensures stays { OnOk result (is_open_in session.new ≡ is_open_in session.old) }
     {
         if session.is_some() {
@@ -172,7 +170,7 @@ impl<'a, B: BoardName, R: Wait, G: Gate> Worker<'a, B, R, G> {
 
     /// HALT. Where it is refused the session goes on.
     pub(crate) fn halt(&self, sessions: &mut Sessions<B>) -> Result<Reply, ServerFault>
-        ensures told { IfOk result (λ reply. (job : ℕ) → GoesOn (told_of job Command.Halt reply) job sessions.old sessions.new) }
+        ensures told { IfOk result (λ reply. (job : ℕ) → GoesOnBy job Command.Halt reply sessions.old sessions.new) }
         ensures over { IfOk result (λ reply. reply ≡ Reply.Finished → sessions.new.session ≡ None) }
     {
         if sessions.open.is_none() {
@@ -183,10 +181,10 @@ impl<'a, B: BoardName, R: Wait, G: Gate> Worker<'a, B, R, G> {
     }
 
     // The same, with room for the pass.
-    #[tactic(auto, using(crate::proofs::GoingOn::same_goes))]
+    #[tactic(auto, using(crate::proofs::GoingOn::halt_refused))]
     fn halt_reserved(&self, session: &mut Option<Session<B>>, passes: &mut Vec<Pass<B>>) -> Reply
         requires { length passes.old.items < vec_capacity passes.old }
-        ensures told { (job : ℕ) → GoesOn (told_of job Command.Halt result) job (sessions_so_far passes.old.items session.old) (sessions_so_far passes.new.items session.new) }
+        ensures told { (job : ℕ) → GoesOnBy job Command.Halt result (sessions_so_far passes.old.items session.old) (sessions_so_far passes.new.items session.new) }
         ensures over { result ≡ Reply.Finished → session.new ≡ None }
     {
         let Some(begun) = session.take() else {
@@ -212,7 +210,8 @@ impl<'a, B: BoardName, R: Wait, G: Gate> Worker<'a, B, R, G> {
         command: Command,
         line: &[u8],
     ) -> Result<Reply, ServerFault>
-        ensures { IfOk result (λ reply. (job : ℕ) (books : List Book) → GoesOn (told_of job command reply) job (sessions_so_far books session.old) (sessions_so_far books session.new)) }
+        requires { command ≢ Command.Halt }
+        ensures { IfOk result (λ reply. (job : ℕ) (books : List Book) → GoesOnBy job command reply (sessions_so_far books session.old) (sessions_so_far books session.new)) }
     {
         match session {
             Some(session) => Ok(self.calls.reply_to(session, command, timeout_of(line))),
@@ -230,7 +229,7 @@ impl<'a, B: BoardName, R: Wait, G: Gate> Worker<'a, B, R, G> {
         command: Command,
         line: &[u8],
     ) -> Result<Reply, ServerFault>
-        ensures { IfOk result (λ reply. (job : ℕ) → GoesOn (told_of job command reply) job sessions.old sessions.new) }
+        ensures { IfOk result (λ reply. (job : ℕ) → GoesOnBy job command reply sessions.old sessions.new) }
     {
         if is_halt(&command) {
             drop(command);
@@ -247,7 +246,7 @@ impl<'a, B: BoardName, R: Wait, G: Gate> Worker<'a, B, R, G> {
         command: Command,
         line: &[u8],
     ) -> Result<Reply, ServerFault>
-        ensures { IfOk result (λ reply. GoesOn (told_of job command reply) job sessions.old sessions.new) }
+        ensures { IfOk result (λ reply. GoesOnBy job command reply sessions.old sessions.new) }
     {
         match self.open(job, &mut sessions.open) {
             Ok(()) => self.reply_opened(sessions, command, line),
@@ -267,8 +266,8 @@ impl<'a, B: BoardName, R: Wait, G: Gate> Worker<'a, B, R, G> {
         line: &[u8],
         asked: Result<Command, Refusal>,
     ) -> Result<Reply, ServerFault>
-        requires { IsAsked line.now asked }
-        ensures { IfOk result (λ reply. GoesOn (told_by job (reading_of line.now) reply) job sessions.old sessions.new) }
+        requires { IsAsked job line.now asked }
+        ensures { IfOk result (λ reply. GoesOnAt job line.now reply sessions.old sessions.new) }
     {
         match asked {
             Ok(command) => self.reply_to(sessions, job, command, line),
@@ -284,8 +283,8 @@ impl<'a, B: BoardName, R: Wait, G: Gate> Worker<'a, B, R, G> {
         line: Line<'b>,
         asked: Result<Command, Refusal>,
     ) -> Result<Reply, ServerFault>
-        requires { IsAsked line.text.now asked }
-        ensures { IfOk result (λ reply. GoesOn (told_by job (reading_of line.entry.text.now) reply) job sessions.old sessions.new) }
+        requires { IsAsked job line.text.now asked }
+        ensures { IfOk result (λ reply. GoesOnAt job line.entry.text.now reply sessions.old sessions.new) }
     {
         let writes = writes_of(&asked);
         self.calls.gate.before(job, line.number);
@@ -308,7 +307,7 @@ impl<'a, B: BoardName, R: Wait, G: Gate> Worker<'a, B, R, G> {
         line: Line<'b>,
         asked: Result<Command, Refusal>,
     ) -> Result<(), ServerFault>
-        requires { IsAsked line.text.now asked }
+        requires { IsAsked job line.text.now asked }
         ensures { OnOk result (HasAnswered job line.entry run.old run.new) }
     {
         let reply = self.do_line(&mut run.sessions, job, line, asked)?;
@@ -325,7 +324,7 @@ impl<'a, B: BoardName, R: Wait, G: Gate> Worker<'a, B, R, G> {
         line: Line<'b>,
         asked: Result<Command, Refusal>,
     ) -> Result<Cursor<'b>, ServerFault>
-        requires { IsAsked line.text.now asked }
+        requires { IsAsked job line.text.now asked }
         ensures on { IfOk result (λ behind. Advances job line.entry behind run.old run.new) }
         ensures keeps { OnOk result (Keeps run.old run.new) }
     {

@@ -1,3 +1,4 @@
+use Rattle.std.proofs.Common.{rules}
 use Rattle.command.specs.declared.request.Command.TheVariants.{Restart}
 use Rattle.command.specs.declared.request.Reply.TheVariants.{Restarted as restarted_reply}
 use Rattle.shared_engine.specs.Blocks.{said}
@@ -7,4 +8,4 @@ use Rattle.job_server.proofs.job_run.Calls.restart.Goals as goal
 pub returns : goal.returns
 returns g c =
     follows_as Restart (said restarted_reply c.trestart.result) c.restarted.result c.args.session.now c.trestart.new.session
-    (restart_told c.trestart.result c.args.session.now c.trestart.new.session c.trestart.ensures.anew c.trestart.ensures.refused) c.restarted.ensures
+    (restart_told c.trestart.result c.args.session.now c.trestart.new.session (search rules) c.trestart.ensures.anew c.trestart.ensures.refused c.trestart.ensures.cause) c.restarted.ensures

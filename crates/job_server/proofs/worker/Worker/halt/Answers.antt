@@ -1,5 +1,4 @@
 use Rattle.command.specs.declared.request.Command.TheVariants.{Halt}
-use Rattle.journal.specs.Story.{told}
 use Rattle.job_server.specs.Telling.{sessions_so_far}
 use Rattle.job_server.proofs.GoingOn.{goes_from}
 use Rattle.job_server.proofs.Ending.{none_where, halted_as_none, from_books}
@@ -14,5 +13,5 @@ pub returns-clause-told : goal.returns-clause-told
 returns-clause-told g c = λ job.
     let inside = c.sessions.inside in
     let new = sessions_so_far c.halt_reserved.new.passes.items c.halt_reserved.new.session in
-    goes_from (told job Halt c.halt_reserved.result) job (sessions_so_far inside.passes.items inside.open) c.args.sessions.now new c.sessions.view_is
-    (from_books (told job Halt c.halt_reserved.result) job inside.passes.items c.reserve.new.self.items inside.open new c.reserve.ensures.items (c.halt_reserved.ensures.told job))
+    goes_from job Halt c.halt_reserved.result (sessions_so_far inside.passes.items inside.open) c.args.sessions.now new c.sessions.view_is
+    (from_books job c.halt_reserved.result inside.passes.items c.reserve.new.self.items inside.open new c.reserve.ensures.items (c.halt_reserved.ensures.told job))

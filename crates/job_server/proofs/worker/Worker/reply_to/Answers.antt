@@ -1,8 +1,7 @@
 use Rattle.std.proofs.Common.{ap, ◌∙◌}
 use Rattle.std.proofs.lemmas.Result.{IfOk-weaker}
-use Rattle.journal.specs.Story.{told}
 use Rattle.job_server.specs.Telling.{SessionsSoFar, sessions_so_far, is_open}
-use Rattle.job_server.proofs.GoingOn.{goes_from, then_goes}
+use Rattle.job_server.proofs.GoingOn.{untold_from, then_goes}
 use Rattle.job_server.proofs.worker.Worker.reply_to.Goals as goal
 
 pub returns-in-Ok : goal.returns-in-Ok
@@ -12,7 +11,7 @@ returns-in-Ok g c =
     let books = c.sessions.inside.passes.items in
     let opened = sessions_so_far books c.open.new.session in
     IfOk-weaker c.reply_opened.result _ _
-    (λ reply h. then_goes (told job c.args.command reply) job old opened c.reply_opened.new.sessions
-    (goes_from (λ s. s) job (sessions_so_far books c.sessions.inside.open) old opened c.sessions.view_is (c.in-Ok.ensures.told books))
+    (λ reply h. then_goes job c.args.command reply old opened c.reply_opened.new.sessions
+    (untold_from job (sessions_so_far books c.sessions.inside.open) old opened c.sessions.view_is (c.in-Ok.ensures.told books))
     (λ e. c.in-Ok.ensures.stays ∙ (ap (λ (x : SessionsSoFar). is_open x.session) c.sessions.view_is ∙ e)) (h job))
     c.reply_opened.ensures
