@@ -2,7 +2,7 @@
 use crate::gates::Yielding;
 use job_server::{JobsFault, run_jobs, status_of};
 use listing::Counted;
-use std::alloc::Global;
+use std::alloc::{AllocError, Global};
 use std::io;
 use std::io::{ErrorKind, Read, Write};
 use std::sync::Wait;
@@ -118,32 +118,85 @@ fn ends_at_write<R: Threads + Wait + Sync>(rt: &R, alloc: Global, call: u64) -> 
     )
 }
 
+// How many reads and writes there are where none fails; none where something else than the output is written.
+fn calls_of<R: Threads + Wait + Sync>(rt: &R, alloc: Global) -> Result<(u64, u64), Fail> {
+    let went = run(rt, alloc, 0, 0)?;
+    let is_whole = went.outcome == Ok(true) && went.text.as_slice() == OUTPUT;
+    Ok(if is_whole {
+        (went.reads, went.writes)
+    } else {
+        (0, 0)
+    })
+}
+
+// Whether a run ends at each read, and at each write, that fails.
+fn end_at_each<R: Threads + Wait + Sync>(
+    rt: &R,
+    alloc: Global,
+    reads: u64,
+    writes: u64,
+) -> Result<bool, Fail> {
+    for call in 1..=reads {
+        if !ends_at_read(rt, alloc, call)? {
+            return Ok(false);
+        }
+    }
+    for call in 1..=writes {
+        if !ends_at_write(rt, alloc, call)? {
+            return Ok(false);
+        }
+    }
+    Ok(true)
+}
+
 #[test]
 fn runs_end_at_each_failing_call(rt: HostRuntime) -> Result<(), Fail> {
-    let whole = run(&rt, rt.alloc(), 0, 0)?;
-    assert_eq!(rt; whole.outcome, Ok(true));
-    assert_eq!(rt; whole.text.as_slice(), OUTPUT);
-    assert!(rt; whole.reads > 5 && whole.writes > 5);
-    for call in 1..=whole.reads {
-        let ended = ends_at_read(&rt, rt.alloc(), call)?;
-        assert!(rt; ended, "read {call}");
-    }
-    for call in 1..=whole.writes {
-        let ended = ends_at_write(&rt, rt.alloc(), call)?;
-        assert!(rt; ended, "write {call}");
-    }
+    let (reads, writes) = calls_of(&rt, rt.alloc())?;
+    assert!(rt; reads > 5 && writes > 5);
+    assert!(rt; end_at_each(&rt, rt.alloc(), reads, writes)?);
     Ok(())
 }
 
 #[test]
-fn statuses_tell_how_a_run_went(rt: HostRuntime) -> Result<(), Fail> {
-    assert_eq!(rt; status_of(&Ok(false)), 0);
-    assert_eq!(rt; status_of(&Ok(true)), 1);
-    assert_eq!(rt; status_of(&Err(JobsFault::Missing)), 2);
-    Ok(())
+fn statuses_tell_how_a_run_went(rt: HostRuntime) {
+    let missing = Err(JobsFault::Missing);
+    let found = [
+        status_of(&Ok(false)),
+        status_of(&Ok(true)),
+        status_of(&missing),
+    ];
+    assert!(rt; found == [0, 1, 2]);
 }
 
-// How many lines a script of so many jobs with so many lines each is answered with, on so many workers.
+fn push_line(alloc: Global, script: &mut Vec<u8>, job: u64) -> Result<(), AllocError> {
+    let line = format!(in alloc; "{job} SET ^A({job})={job}\n")?;
+    script.extend_from_slice(line.as_bytes())
+}
+
+// A script of so many jobs with so many lines each.
+fn script_of(alloc: Global, jobs: u64, lines: u64) -> Result<Vec<u8>, AllocError> {
+    let mut script = Vec::new(alloc);
+    for _ in 0..lines {
+        for job in 1..=jobs {
+            push_line(alloc, &mut script, job)?;
+        }
+    }
+    Ok(script)
+}
+
+// How many lines a script is answered with, on so many workers.
+fn answered<R: Threads + Wait + Sync>(
+    rt: &R,
+    alloc: Global,
+    script: &[u8],
+    workers: usize,
+) -> Result<usize, Fail> {
+    let mut reader = Counted::new(script);
+    let mut writer = Counted::new(Vec::new(alloc));
+    run_jobs(rt, alloc, &mut reader, &mut writer, workers, &Yielding)?;
+    Ok(writer.inner().iter().filter(|byte| **byte == b'\n').count())
+}
+
 fn lines_of<R: Threads + Wait + Sync>(
     rt: &R,
     alloc: Global,
@@ -151,16 +204,8 @@ fn lines_of<R: Threads + Wait + Sync>(
     lines: u64,
     workers: usize,
 ) -> Result<usize, Fail> {
-    let mut script = Vec::new(alloc);
-    for _ in 0..lines {
-        for job in 1..=jobs {
-            script.extend_from_slice(format!(in alloc; "{job} SET ^A({job})={job}\n")?.as_bytes())?;
-        }
-    }
-    let mut reader = Counted::new(script.as_slice());
-    let mut writer = Counted::new(Vec::new(alloc));
-    run_jobs(rt, alloc, &mut reader, &mut writer, workers, &Yielding)?;
-    Ok(writer.inner().iter().filter(|byte| **byte == b'\n').count())
+    let script = script_of(alloc, jobs, lines)?;
+    answered(rt, alloc, &script, workers)
 }
 
 #[test]

@@ -6,7 +6,7 @@ use job_server::{run_jobs, serve};
 use journal::{Journal, Unit};
 use listing::Counted;
 use shared_engine::Gate;
-use std::alloc::Global;
+use std::alloc::{AllocError, Global};
 use std::rt::Clock;
 use std::sync::Wait;
 use std::test::Fail;
@@ -106,34 +106,65 @@ fn met<P: Clock + Threads + Wait + Sync>(
     Ok((text, counts.late(), counts.seconds()))
 }
 
+// Whether a script writes this, with no wait in vain.
+fn is_met<P: Clock + Threads + Wait + Sync>(
+    rt: &P,
+    alloc: Global,
+    plan: Plan,
+    input: &[u8],
+    want: &[u8],
+) -> Result<bool, Fail> {
+    let (text, late, _) = met(rt, alloc, plan, input)?;
+    Ok(late == 0 && text.as_slice() == want)
+}
+
 #[test]
 fn two_jobs_overlap(rt: HostRuntime) -> Result<(), Fail> {
-    let (text, late, _) = met(&rt, rt.alloc(), Plan::Overlap, b"1 SET ^A=1\n2 SET ^B=2\n")?;
-    assert_eq!(rt; late, 0);
-    assert_eq!(rt; text.as_slice(), b"1 ok\n2 ok\n--\n^A=1\n^B=2\n".as_slice());
+    let script = b"1 SET ^A=1\n2 SET ^B=2\n";
+    let want = b"1 ok\n2 ok\n--\n^A=1\n^B=2\n";
+    assert!(rt; is_met(&rt, rt.alloc(), Plan::Overlap, script, want)?);
     Ok(())
 }
 
 #[test]
 fn a_lock_waits_until_its_names_are_given_back(rt: HostRuntime) -> Result<(), Fail> {
     let script = b"1 LOCK +^A\n2 LOCK +^A\n1 LOCK -^A\n";
-    let (text, late, _) = met(&rt, rt.alloc(), Plan::Handover, script)?;
-    assert_eq!(rt; late, 0);
-    assert_eq!(rt; text.as_slice(), b"1 1\n1 1\n2 1\n--\n".as_slice());
+    assert!(rt;
+        is_met(
+            &rt,
+            rt.alloc(),
+            Plan::Handover,
+            script,
+            b"1 1\n1 1\n2 1\n--\n"
+        )?
+    );
     Ok(())
 }
 
-// Of each unit of a LOCK the job, and whether it gave back, had its names or was kept off, as letters.
-fn locks_told(alloc: Global, journal: &Journal) -> Result<Vec<u8>, Fail> {
-    let mut told = Vec::new(alloc);
-    for unit in journal.units() {
-        if let Unit::Lock(job, _, command, had) = unit? {
-            told.push(if job.number() == 1 { b'1' } else { b'2' })?;
-            told.push(match (&command, had) {
+// Of a LOCK the job, and whether it gave back, had its names or was kept off, as letters.
+fn letters_of(unit: &Unit) -> Option<[u8; 2]> {
+    match unit {
+        Unit::Lock(job, _, command, had) => {
+            let letter = match (command, had) {
                 (LockCommand::Fewer(_), _) => b'-',
                 (_, true) => b'+',
                 (_, false) => b'0',
-            })?;
+            };
+            Some([if job.number() == 1 { b'1' } else { b'2' }, letter])
+        }
+        _ => None,
+    }
+}
+
+// The letters of each unit of a LOCK.
+fn locks_told(alloc: Global, journal: &Journal) -> Result<Vec<u8>, AllocError> {
+    let mut told = Vec::new(alloc);
+    for unit in journal.units() {
+        let unit = unit?;
+        let letters = letters_of(&unit);
+        drop(unit);
+        if let Some(letters) = letters {
+            told.extend_from_slice(&letters)?;
         }
     }
     Ok(told)
@@ -149,7 +180,9 @@ fn handed_over<P: Clock + Threads + Wait + Sync>(rt: &P, alloc: Global) -> Resul
     };
     let scripts = scripts_of(alloc, b"1 LOCK +^A\n2 LOCK +^A\n1 LOCK -^A\n")?;
     let served = serve(rt, alloc, scripts, 2, &gate)?;
-    locks_told(alloc, served.closed.core.journal())
+    let told = locks_told(alloc, served.closed.core.journal());
+    drop(served);
+    Ok(told?)
 }
 
 #[test]
@@ -163,38 +196,43 @@ fn a_lock_that_waits_is_two_units(rt: HostRuntime) -> Result<(), Fail> {
 fn a_block_is_run_alone_after_three_restarts(rt: HostRuntime) -> Result<(), Fail> {
     let script =
         b"1 TSTART\n1 $GET(^X)\n1 SET ^Y=1\n1 TCOMMIT\n2 SET ^X=1\n2 SET ^X=2\n2 SET ^X=3\n";
-    let (text, late, _) = met(&rt, rt.alloc(), Plan::Overtaking, script)?;
-    assert_eq!(rt; late, 0);
     let want = b"1 level 1\n1 3\n1 ok\n1 committed\n2 ok\n2 ok\n2 ok\n--\n^X=3\n^Y=1\n";
-    assert_eq!(rt; text.as_slice(), want.as_slice());
+    assert!(rt; is_met(&rt, rt.alloc(), Plan::Overtaking, script, want)?);
     Ok(())
+}
+
+// Whether a script writes this within so many seconds, with no wait in vain.
+fn is_met_in<P: Clock + Threads + Wait + Sync>(
+    rt: &P,
+    alloc: Global,
+    input: &[u8],
+    want: &[u8],
+    seconds: u64,
+) -> Result<bool, Fail> {
+    let (text, late, passed) = met(rt, alloc, Plan::Timeout, input)?;
+    Ok(late == 0 && passed == seconds && text.as_slice() == want)
 }
 
 #[test]
 fn a_lock_with_a_timeout_gives_up(rt: HostRuntime) -> Result<(), Fail> {
     let script = b"1 LOCK +^A\n1 TSTART\n2 LOCK +^A:3\n2 LOCK -^A:9\n1 TROLLBACK\n";
-    let (text, late, seconds) = met(&rt, rt.alloc(), Plan::Timeout, script)?;
-    assert_eq!(rt; late, 0);
-    assert_eq!(rt; seconds, 3);
     let want = b"1 1\n1 level 1\n1 ok\n2 0\n2 1\n--\n";
-    assert_eq!(rt; text.as_slice(), want.as_slice());
+    assert!(rt; is_met_in(&rt, rt.alloc(), script, want, 3)?);
     Ok(())
 }
 
 #[test]
 fn an_open_transaction_is_rolled_back_at_the_end(rt: HostRuntime) -> Result<(), Fail> {
     let script = b"1 SET ^A=1\n1 TSTART\n1 SET ^A=2\n1 FOO\n1 $GET(^A)\n";
-    let (text, _, _) = met(&rt, rt.alloc(), Plan::Alone, script)?;
     let want = b"1 ok\n1 level 1\n1 ok\n1 error 1 BadLine\n1 2\n--\n^A=1\n";
-    assert_eq!(rt; text.as_slice(), want.as_slice());
+    assert!(rt; is_met(&rt, rt.alloc(), Plan::Alone, script, want)?);
     Ok(())
 }
 
 #[test]
 fn a_session_ends_with_halt_and_the_next_line_begins_another(rt: HostRuntime) -> Result<(), Fail> {
     let script = b"1 TSTART\n1 SET ^A=2\n1 HALT\n1 $TLEVEL\n1 SET ^B=1\n1 HALT\n";
-    let (text, _, _) = met(&rt, rt.alloc(), Plan::Alone, script)?;
     let want = b"1 level 1\n1 ok\n1 ok\n1 0\n1 ok\n1 ok\n--\n^B=1\n";
-    assert_eq!(rt; text.as_slice(), want.as_slice());
+    assert!(rt; is_met(&rt, rt.alloc(), Plan::Alone, script, want)?);
     Ok(())
 }

@@ -38,13 +38,24 @@ fn output_of_one(alloc: Global, input: &[u8]) -> Result<(Vec<u8>, bool), Fail> {
     Ok((text, outcome.refused))
 }
 
+// Whether a script writes this, and whether a reply is a refusal is as told.
+fn writes<R: Threads + Wait + Sync>(
+    rt: &R,
+    alloc: Global,
+    input: &[u8],
+    workers: usize,
+    want: &[u8],
+    refused: bool,
+) -> Result<bool, Fail> {
+    let (text, found) = output_of(rt, alloc, input, workers)?;
+    Ok(text.as_slice() == want && found == refused)
+}
+
 #[test]
 fn jobs_are_answered_by_job(rt: HostRuntime) -> Result<(), Fail> {
     let script = b"2 SET ^B=1\n1 SET ^A=1\n2 $GET(^B)\n";
-    let (text, refused) = output_of(&rt, rt.alloc(), script, 2)?;
     let want = b"2 ok\n2 1\n1 ok\n--\n^A=1\n^B=1\n";
-    assert_eq!(rt; text.as_slice(), want.as_slice());
-    assert!(rt; !refused);
+    assert!(rt; writes(&rt, rt.alloc(), script, 2, want, false)?);
     Ok(())
 }
 
@@ -53,19 +64,15 @@ fn refused_lines_keep_their_place_and_those_without_a_job_are_a_group(
     rt: HostRuntime,
 ) -> Result<(), Fail> {
     let script = b"x\n3 FOO\n3 SET ^A=1\n5000 HALT\n3 $GET(^A,)\n3 $GET(^A)\n\n";
-    let (text, refused) = output_of(&rt, rt.alloc(), script, 2)?;
     let want =
         b"0 error 1 BadLine\n0 error 12 BadJob\n3 error 1 BadLine\n3 ok\n3 error 1 BadLine\n3 1\n--\n^A=1\n";
-    assert_eq!(rt; text.as_slice(), want.as_slice());
-    assert!(rt; refused);
+    assert!(rt; writes(&rt, rt.alloc(), script, 2, want, true)?);
     Ok(())
 }
 
 #[test]
 fn nothing_is_answered_with_the_listing_alone(rt: HostRuntime) -> Result<(), Fail> {
-    let (text, refused) = output_of(&rt, rt.alloc(), b"\n\r\n", 16)?;
-    assert_eq!(rt; text.as_slice(), b"--\n".as_slice());
-    assert!(rt; !refused);
+    assert!(rt; writes(&rt, rt.alloc(), b"\n\r\n", 16, b"--\n", false)?);
     Ok(())
 }
 
@@ -81,6 +88,26 @@ fn as_one_job(alloc: Global, script: &str) -> Result<Vec<u8>, Fail> {
     Ok(text)
 }
 
+// Whether two workers write what `mrun` does.
+fn writes_alike<R: Threads + Wait + Sync>(
+    rt: &R,
+    alloc: Global,
+    script: &[u8],
+) -> Result<bool, Fail> {
+    let (want, refused) = output_of_one(alloc, script)?;
+    writes(rt, alloc, script, 2, &want, refused)
+}
+
+// The same for a script whose lines are all made job 1's.
+fn is_answered_alike<R: Threads + Wait + Sync>(
+    rt: &R,
+    alloc: Global,
+    script: &str,
+) -> Result<bool, Fail> {
+    let lines = as_one_job(alloc, script)?;
+    writes_alike(rt, alloc, &lines)
+}
+
 // The number of the first script that one job is answered otherwise than by `mrun`; or none.
 fn first_other<R: Threads + Wait + Sync>(
     rt: &R,
@@ -88,10 +115,7 @@ fn first_other<R: Threads + Wait + Sync>(
     rows: &[Row],
 ) -> Result<Option<usize>, Fail> {
     for (i, (script, _)) in rows.iter().enumerate() {
-        let script = as_one_job(alloc, script)?;
-        let found = output_of(rt, alloc, &script, 2)?;
-        let want = output_of_one(alloc, &script)?;
-        if found != want {
+        if !is_answered_alike(rt, alloc, script)? {
             return Ok(Some(i));
         }
     }
