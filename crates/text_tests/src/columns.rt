@@ -7,12 +7,18 @@ use std::test::Fail;
 // A line, its refusal, the column of its fault and what was expected there.
 type Row = (&'static str, Refusal, usize, Expected);
 
+const BAD: Refusal = Refusal::BadLine;
+
+fn is_told(alloc: Global, row: Row) -> bool {
+    let (line, refusal, column, expected) = row;
+    let found = locate_fault(alloc, line.as_bytes(), refusal);
+    found.column == column && found.expected == expected
+}
+
 // The first row whose line is told in another way.
 fn first_other(alloc: Global, rows: &[Row]) -> Option<usize> {
-    for i in 0..rows.len() {
-        let (line, refusal, column, expected) = rows[i];
-        let found = locate_fault(alloc, line.as_bytes(), refusal);
-        if found.column != column || found.expected != expected {
+    for (i, row) in rows.iter().enumerate() {
+        if !is_told(alloc, *row) {
             return Some(i);
         }
     }
@@ -21,71 +27,76 @@ fn first_other(alloc: Global, rows: &[Row]) -> Option<usize> {
 
 #[test]
 fn lines_stop_where_the_grammar_does(rt: HostRuntime) -> Result<(), Fail> {
-    let bad = Refusal::BadLine;
-    let rows = [
-        ("SET ^A=1", bad, 1, Expected::Job),
-        ("1", bad, 2, Expected::Blank),
-        ("1x SET ^A=1", bad, 2, Expected::Blank),
-        ("1 FOO", bad, 3, Expected::Command),
-        ("1 K", bad, 4, Expected::Operand),
-        ("1 S:1 ^A=1", bad, 4, Expected::Operand),
-        ("1 $FOO(^A)", bad, 4, Expected::Function),
-        ("1 SET A=1", bad, 7, Expected::Reference),
-        ("1 SET ^=1", bad, 8, Expected::Name),
-        ("1 SET ^A", bad, 9, Expected::Equals),
-        ("1 SET ^A=", bad, 10, Expected::Value),
-        ("1 SET ^A=1.", bad, 10, Expected::Value),
-        ("1 SET ^A=1x", bad, 11, Expected::End),
-        ("1 SET ^A=1 x", bad, 12, Expected::End),
-        ("1 TSTART x", bad, 10, Expected::End),
+    let rows: &[Row] = &[
+        ("SET ^A=1", BAD, 1, Expected::Job),
+        ("1", BAD, 2, Expected::Blank),
+        ("1x SET ^A=1", BAD, 2, Expected::Blank),
+        ("1 FOO", BAD, 3, Expected::Command),
+        ("1 K", BAD, 4, Expected::Operand),
+        ("1 S:1 ^A=1", BAD, 4, Expected::Operand),
+        ("1 $FOO(^A)", BAD, 4, Expected::Function),
+        ("1 SET A=1", BAD, 7, Expected::Reference),
+        ("1 SET ^=1", BAD, 8, Expected::Name),
+        ("1 SET ^A", BAD, 9, Expected::Equals),
+        ("1 SET ^A=", BAD, 10, Expected::Value),
+        ("1 SET ^A=1.", BAD, 10, Expected::Value),
+        ("1 SET ^A=1x", BAD, 11, Expected::End),
+        ("1 SET ^A=1 x", BAD, 12, Expected::End),
+        ("1 TSTART x", BAD, 10, Expected::End),
     ];
-    assert_eq!(rt; first_other(rt.alloc(), &rows), None);
+    assert_eq!(rt; first_other(rt.alloc(), rows), None);
     Ok(())
 }
 
 #[test]
 fn operands_stop_where_the_grammar_does(rt: HostRuntime) -> Result<(), Fail> {
-    let bad = Refusal::BadLine;
-    let rows = [
-        ("1 SET ^A(1=5", bad, 11, Expected::CommaOrClosing),
-        ("1 SET ^A(1,)=5", bad, 12, Expected::Subscript),
-        ("1 SET ^A(", bad, 10, Expected::Subscript),
-        ("1 $GET(^A", bad, 10, Expected::CommaOrClosing),
-        ("1 $GET(^A,1", bad, 12, Expected::Closing),
-        ("1 $GET ^A", bad, 7, Expected::Opening),
-        ("1 $DATA(^A,1)", bad, 11, Expected::Closing),
-        ("1 $ORDER(^A(1),2)", bad, 16, Expected::Direction),
-        ("1 LOCK ^A:", bad, 11, Expected::Timeout),
-        ("1 LOCK ()", bad, 9, Expected::LockName),
-        ("1 LOCK (^A,^B", bad, 14, Expected::CommaOrClosing),
-        ("1 MERGE ^A=B", bad, 12, Expected::Reference),
+    let rows: &[Row] = &[
+        ("1 SET ^A(1=5", BAD, 11, Expected::CommaOrClosing),
+        ("1 SET ^A(1,)=5", BAD, 12, Expected::Subscript),
+        ("1 SET ^A(", BAD, 10, Expected::Subscript),
+        ("1 $GET(^A", BAD, 10, Expected::CommaOrClosing),
+        ("1 $GET(^A,1", BAD, 12, Expected::Closing),
+        ("1 $GET ^A", BAD, 7, Expected::Opening),
+        ("1 $DATA(^A,1)", BAD, 11, Expected::Closing),
+        ("1 $ORDER(^A(1),2)", BAD, 16, Expected::Direction),
+        ("1 LOCK ^A:", BAD, 11, Expected::Timeout),
+        ("1 LOCK ()", BAD, 9, Expected::LockName),
+        ("1 LOCK (^A,^B", BAD, 14, Expected::CommaOrClosing),
+        ("1 MERGE ^A=B", BAD, 12, Expected::Reference),
     ];
-    assert_eq!(rt; first_other(rt.alloc(), &rows), None);
+    assert_eq!(rt; first_other(rt.alloc(), rows), None);
     Ok(())
 }
 
-// A row whose line is of the grammar.
-fn ruled(line: &'static str, refusal: Refusal, column: usize) -> Row {
-    (line, refusal, column, Expected::Rule(refusal))
+// A line of the grammar, its refusal and the column of its fault.
+type Ruled = (&'static str, Refusal, usize);
+
+fn first_other_ruled(alloc: Global, rows: &[Ruled]) -> Option<usize> {
+    for (i, (line, refusal, column)) in rows.iter().enumerate() {
+        if !is_told(alloc, (line, *refusal, *column, Expected::Rule(*refusal))) {
+            return Some(i);
+        }
+    }
+    None
 }
 
 #[test]
 fn refused_operands_are_told(rt: HostRuntime) -> Result<(), Fail> {
-    let rows = [
-        ruled("4097 SET ^A=1", Refusal::BadJob, 1),
-        ruled("1 SET ^1A=1", Refusal::BadName, 7),
-        ruled("1 MERGE ^A=^1B", Refusal::BadName, 12),
-        ruled("1 LOCK 5", Refusal::BadName, 8),
-        ruled("1 LOCK +(^A,B(1),5)", Refusal::BadName, 18),
-        ruled("1 LOCK -(A(\"\"),B)", Refusal::EmptySubscript, 10),
-        ruled("1 $DATA(^A(\"\"))", Refusal::EmptySubscript, 9),
-        ruled("1 SET ^A(1)=5", Refusal::ValueTooLong, 13),
-        ruled("1 $ORDER(^A)", Refusal::NeedSubscript, 10),
-        ruled("1 MERGE ^A=^A(1)", Refusal::MergeOverlap, 9),
-        ruled("1 TCOMMIT", Refusal::NoTransaction, 3),
-        ruled("1 SET ^A=1", Refusal::OutOfMemory, 3),
+    let rows: &[Ruled] = &[
+        ("4097 SET ^A=1", Refusal::BadJob, 1),
+        ("1 SET ^1A=1", Refusal::BadName, 7),
+        ("1 MERGE ^A=^1B", Refusal::BadName, 12),
+        ("1 LOCK 5", Refusal::BadName, 8),
+        ("1 LOCK +(^A,B(1),5)", Refusal::BadName, 18),
+        ("1 LOCK -(A(\"\"),B)", Refusal::EmptySubscript, 10),
+        ("1 $DATA(^A(\"\"))", Refusal::EmptySubscript, 9),
+        ("1 SET ^A(1)=5", Refusal::ValueTooLong, 13),
+        ("1 $ORDER(^A)", Refusal::NeedSubscript, 10),
+        ("1 MERGE ^A=^A(1)", Refusal::MergeOverlap, 9),
+        ("1 TCOMMIT", Refusal::NoTransaction, 3),
+        ("1 SET ^A=1", Refusal::OutOfMemory, 3),
     ];
-    assert_eq!(rt; first_other(rt.alloc(), &rows), None);
+    assert_eq!(rt; first_other_ruled(rt.alloc(), rows), None);
     assert_eq!(rt; Expected::Rule(Refusal::BadJob).text(), "a job, 1 to 4096");
     Ok(())
 }

@@ -44,28 +44,45 @@ fn is_kept_as(alloc: Global, of: &Ref, key: &[u8], name: &[u8]) -> Result<bool, 
     Ok(kept.as_slice() == key && kept.name() == name)
 }
 
-fn is_key_of(alloc: Global, row: &Row) -> Result<bool, Refusal> {
-    let reference = reference(alloc, row.0, row.1)?;
+fn is_key_of(alloc: Global, reference: &Ref, row: &Row) -> Result<bool, Refusal> {
     Ok(
-        is_written_as(alloc, &reference, row.2)?
-            && is_read_as(alloc, row.2, &reference)?
-            && is_kept_as(alloc, &reference, row.2, row.0)?,
+        is_written_as(alloc, reference, row.2)?
+            && is_read_as(alloc, row.2, reference)?
+            && is_kept_as(alloc, reference, row.2, row.0)?,
     )
+}
+
+fn has_its_key(alloc: Global, row: &Row) -> Result<bool, Refusal> {
+    let reference = reference(alloc, row.0, row.1)?;
+    is_key_of(alloc, &reference, row)
+}
+
+// The first row whose reference has another key.
+fn first_other(alloc: Global) -> Result<Option<usize>, Refusal> {
+    for (i, row) in TABLE.iter().enumerate() {
+        if !has_its_key(alloc, row)? {
+            return Ok(Some(i));
+        }
+    }
+    Ok(None)
 }
 
 #[test]
 fn keys_are_those_of_the_table(rt: HostRuntime) -> Result<(), Fail> {
-    for row in &TABLE {
-        assert!(rt; is_key_of(rt.alloc(), row)?, "{row:?}");
-    }
+    assert_eq!(rt; first_other(rt.alloc())?, None);
     Ok(())
 }
 
-fn push_key(alloc: Global, keys: &mut Vec<Key>, row: &Row) -> Result<(), Refusal> {
+fn key_of(alloc: Global, row: &Row) -> Result<Key, Refusal> {
     let reference = reference(alloc, row.0, row.1)?;
     let key = Key::of(alloc, &reference);
     drop(reference);
-    keys.push(key?)?;
+    Ok(key?)
+}
+
+fn push_key(alloc: Global, keys: &mut Vec<Key>, row: &Row) -> Result<(), Refusal> {
+    let key = key_of(alloc, row)?;
+    keys.push(key)?;
     Ok(())
 }
 
@@ -77,15 +94,30 @@ fn keys_of_the_table(alloc: Global) -> Result<Vec<Key>, Refusal> {
     Ok(keys)
 }
 
+// Whether the key at a place compares with each of the others as their places do.
+fn stands_at(key: &Key, place: usize, keys: &[Key]) -> bool {
+    for (i, other) in keys.iter().enumerate() {
+        if key.cmp(other) != place.cmp(&i) || (key == other) != (place == i) {
+            return false;
+        }
+    }
+    true
+}
+
+// The first key that doesn't stand in its place.
+fn first_displaced(keys: &[Key]) -> Option<usize> {
+    for (i, key) in keys.iter().enumerate() {
+        if !stands_at(key, i, keys) {
+            return Some(i);
+        }
+    }
+    None
+}
+
 #[test]
 fn keys_stand_in_the_order_of_the_table(rt: HostRuntime) -> Result<(), Fail> {
     let keys = keys_of_the_table(rt.alloc())?;
-    for (i, here) in keys.iter().enumerate() {
-        for (j, there) in keys.iter().enumerate() {
-            let found = (here.cmp(there), here == there);
-            assert_eq!(rt; found, (i.cmp(&j), i == j), "{i} and {j}");
-        }
-    }
+    assert_eq!(rt; first_displaced(&keys), None);
     Ok(())
 }
 
@@ -97,14 +129,21 @@ fn lies_under(key: &Key, keys: &[Key], row: usize) -> bool {
     }
 }
 
-// ^A(10) is row 8: under it lie itself and ^A(10,0).
+// ^A(10) is row 8: under it lie itself and ^A(10,0). The first row that lies elsewhere.
+fn first_under_another(keys: &[Key]) -> Option<usize> {
+    for (i, key) in keys.iter().enumerate() {
+        let found = (lies_under(key, keys, 8), lies_under(key, keys, 0));
+        if found != (i == 8 || i == 9, i < 14) {
+            return Some(i);
+        }
+    }
+    None
+}
+
 #[test]
 fn keys_lie_under_their_ancestors_alone(rt: HostRuntime) -> Result<(), Fail> {
     let keys = keys_of_the_table(rt.alloc())?;
-    for (i, key) in keys.iter().enumerate() {
-        assert_eq!(rt; lies_under(key, &keys, 8), i == 8 || i == 9, "{i}");
-        assert_eq!(rt; lies_under(key, &keys, 0), i < 14, "{i}");
-    }
+    assert_eq!(rt; first_under_another(&keys), None);
     Ok(())
 }
 
@@ -115,7 +154,7 @@ fn is_no_key(alloc: Global, bytes: &[u8]) -> Result<bool, Refusal> {
 
 #[test]
 fn decode_of_bytes_that_are_no_key_is_none(rt: HostRuntime) -> Result<(), Fail> {
-    let no_keys: [&[u8]; 20] = [
+    let no_keys: &[&[u8]] = &[
         // the rows of the table
         b"\x41",
         b"\x41\x00\x05\x37\x00",
@@ -160,7 +199,9 @@ fn longest_key_has_15904_bytes(rt: HostRuntime) -> Result<(), Fail> {
     let subscript = [0_u8; 255];
     let subscripts: [&[u8]; 31] = [&subscript; 31];
     let longest = reference(rt.alloc(), &name, &subscripts)?;
-    assert!(rt; has_key_of_length(rt.alloc(), &longest, 15904)?);
+    let is_longest = has_key_of_length(rt.alloc(), &longest, 15904);
+    drop(longest);
+    assert!(rt; is_longest?);
     Ok(())
 }
 
@@ -169,15 +210,24 @@ fn is(written: Result<Vec<u8>, Refusal>, expected: &[u8]) -> Result<bool, Refusa
     Ok(bytes.as_slice() == expected)
 }
 
+fn has_bounds(alloc: Global, of: &Ref, low: &[u8], high: &[u8]) -> Result<bool, Refusal> {
+    Ok(
+        is(subtree_prefix(alloc, of), low)?
+            && is(sibling_before(alloc, of), low)?
+            && is(sibling_after(alloc, of), high)?,
+    )
+}
+
+fn seven_has_bounds(alloc: Global, low: &[u8], high: &[u8]) -> Result<bool, Refusal> {
+    let seven = reference(alloc, b"A", &[b"7"])?;
+    has_bounds(alloc, &seven, low, high)
+}
+
 #[test]
 fn bounds_are_the_key_and_the_key_with_06(rt: HostRuntime) -> Result<(), Fail> {
-    let alloc = rt.alloc();
-    let seven = reference(alloc, b"A", &[b"7"])?;
     let low = b"\x41\x00\x04\x01\x01\x08\x00";
     let high = b"\x41\x00\x04\x01\x01\x08\x00\x06";
-    assert!(rt; is(subtree_prefix(alloc, &seven), low)?);
-    assert!(rt; is(sibling_before(alloc, &seven), low)?);
-    assert!(rt; is(sibling_after(alloc, &seven), high)?);
+    assert!(rt; seven_has_bounds(rt.alloc(), low, high)?);
     Ok(())
 }
 
@@ -186,24 +236,36 @@ fn range_under(alloc: Global, row: &Row) -> Result<KeyRange, Refusal> {
     KeyRange::under(alloc, &root)
 }
 
+// The first row of the table that is in the range otherwise than ^A(10) and ^A(10,0) alone would be.
+fn first_astray(range: &KeyRange) -> Option<usize> {
+    for (i, row) in TABLE.iter().enumerate() {
+        if range.contains(row.2) != (i == 8 || i == 9) {
+            return Some(i);
+        }
+    }
+    None
+}
+
 #[test]
 fn range_under_a_reference_contains_its_descendants_alone(rt: HostRuntime) -> Result<(), Fail> {
     let range = range_under(rt.alloc(), &TABLE[8])?;
-    for (i, row) in TABLE.iter().enumerate() {
-        assert_eq!(rt; range.contains(row.2), i == 8 || i == 9, "{i}");
-    }
+    assert_eq!(rt; first_astray(&range), None);
     Ok(())
+}
+
+// Whether the range goes from `B` on, without an end.
+fn is_from_b_on(range: &KeyRange) -> bool {
+    range.low() == b"B".as_slice()
+        && range.high().is_none()
+        && range.contains(b"B")
+        && range.contains(b"\xFF\xFF")
+        && !range.contains(b"A\xFF")
 }
 
 #[test]
 fn range_without_end_contains_all_from_its_least_key_on(rt: HostRuntime) -> Result<(), Fail> {
     let low = Vec::from_slice(rt.alloc(), b"B")?;
     let range = KeyRange::new(low, None);
-    assert_eq!(rt; range.low(), b"B".as_slice());
-    assert!(rt; range.high().is_none());
-    let rows: [(&[u8], bool); 3] = [(b"B", true), (b"\xFF\xFF", true), (b"A\xFF", false)];
-    for (key, inside) in rows {
-        assert_eq!(rt; range.contains(key), inside, "{key:?}");
-    }
+    assert!(rt; is_from_b_on(&range));
     Ok(())
 }

@@ -101,7 +101,7 @@ fn first_better(alloc: Global, lines: &[&str]) -> Result<Option<usize>, AllocErr
 
 #[test]
 fn words_alone_are_read_short_and_long_in_any_case(rt: HostRuntime) -> Result<(), Fail> {
-    let rows = [
+    let rows: &[Row] = &[
         ("1 TSTART", "start"),
         ("1 ts", "start"),
         ("1 TCommit", "commit"),
@@ -122,13 +122,13 @@ fn words_alone_are_read_short_and_long_in_any_case(rt: HostRuntime) -> Result<()
         ("4097 HALT", "BadJob"),
         ("99999999999999999999999 HALT", "BadJob"),
     ];
-    assert_eq!(rt; first_other(rt.alloc(), &rows)?, None);
+    assert_eq!(rt; first_other(rt.alloc(), rows)?, None);
     Ok(())
 }
 
 #[test]
 fn words_alone_have_nothing_behind_them(rt: HostRuntime) -> Result<(), Fail> {
-    let lines = [
+    let lines: &[&str] = &[
         "1 TSTART x",
         "1 TCOMMIT5",
         "1 HALT ^A",
@@ -144,13 +144,13 @@ fn words_alone_have_nothing_behind_them(rt: HostRuntime) -> Result<(), Fail> {
         "1 $LOCK(^A)",
         "1 TSTARTS",
     ];
-    assert_eq!(rt; first_better(rt.alloc(), &lines)?, None);
+    assert_eq!(rt; first_better(rt.alloc(), lines)?, None);
     Ok(())
 }
 
 #[test]
 fn locks_are_read_in_all_their_forms(rt: HostRuntime) -> Result<(), Fail> {
-    let rows = [
+    let rows: &[Row] = &[
         ("1 LOCK ", "release"),
         ("1 L \t", "release"),
         ("1 LOCK ^A", "only ^A"),
@@ -166,13 +166,13 @@ fn locks_are_read_in_all_their_forms(rt: HostRuntime) -> Result<(), Fail> {
         ("1 LOCK -A(1):5", "fewer A/1"),
         ("1 LOCK", "release"),
     ];
-    assert_eq!(rt; first_other(rt.alloc(), &rows)?, None);
+    assert_eq!(rt; first_other(rt.alloc(), rows)?, None);
     Ok(())
 }
 
 #[test]
 fn lines_that_are_no_locks_get_bad_line(rt: HostRuntime) -> Result<(), Fail> {
-    let lines = [
+    let lines: &[&str] = &[
         "1 LOCK()",
         "1 LOCK ()",
         "1 LOCK (^A,)",
@@ -200,14 +200,14 @@ fn lines_that_are_no_locks_get_bad_line(rt: HostRuntime) -> Result<(), Fail> {
         "1 LOCK ^A:5x",
         "4097 LOCK 5 x",
     ];
-    assert_eq!(rt; first_better(rt.alloc(), &lines)?, None);
+    assert_eq!(rt; first_better(rt.alloc(), lines)?, None);
     Ok(())
 }
 
 // The limits are those of references; a name taken from the line before would show after a fault.
 #[test]
 fn the_first_fault_of_lock_names_decides(rt: HostRuntime) -> Result<(), Fail> {
-    let rows = [
+    let rows: &[Row] = &[
         ("1 LOCK 5", "BadName"),
         ("1 LOCK -5", "BadName"),
         ("1 LOCK +1A", "BadName"),
@@ -233,7 +233,7 @@ fn the_first_fault_of_lock_names_decides(rt: HostRuntime) -> Result<(), Fail> {
         ),
         ("1 LOCK (B)", "only B"),
     ];
-    assert_eq!(rt; first_other(rt.alloc(), &rows)?, None);
+    assert_eq!(rt; first_other(rt.alloc(), rows)?, None);
     Ok(())
 }
 

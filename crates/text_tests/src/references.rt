@@ -1,5 +1,6 @@
 //! References for the other tests, made from their bytes, and the limits of docs/RULES.md, "Limits".
 use collation::{Job, Name, Ref, Subscripts, Text};
+use command::{Command, Reply};
 use refusal::Refusal;
 use std::alloc::Global;
 use std::hash::{BuildHasher, BuildHasherDefault, FoldHasher};
@@ -37,62 +38,70 @@ fn is_name(alloc: Global, bytes: &[u8]) -> Result<bool, Refusal> {
     }
 }
 
+const NAMES: [(&[u8], bool); 11] = [
+    (b"%", true),
+    (b"A", true),
+    (b"%1a", true),
+    (b"z9", true),
+    (&[b'n'; 31], true),
+    (b"", false),
+    (b"1A", false),
+    (b"A%", false),
+    (b"A b", false),
+    (b"\xc3\xa9", false),
+    (&[b'n'; 32], false),
+];
+
 #[test]
 fn names_within_their_limits_alone_are_kept(rt: HostRuntime) -> Result<(), Fail> {
-    let longest = [b'n'; 31];
-    let too_long = [b'n'; 32];
-    let rows: [(&[u8], bool); 11] = [
-        (b"%", true),
-        (b"A", true),
-        (b"%1a", true),
-        (b"z9", true),
-        (&longest, true),
-        (b"", false),
-        (b"1A", false),
-        (b"A%", false),
-        (b"A b", false),
-        (b"\xc3\xa9", false),
-        (&too_long, false),
-    ];
-    for (name, kept) in rows {
-        assert_eq!(rt; is_name(rt.alloc(), name)?, kept, "{name:?}");
+    for (name, kept) in &NAMES {
+        assert!(rt; is_name(rt.alloc(), name)? == *kept, "{name:?}");
     }
     Ok(())
 }
+
+const ONE: &[u8] = b"1";
+
+const LONGEST: &[u8] = &[b'9'; 255];
+
+const TOO_LONG: &[u8] = &[b'9'; 256];
 
 fn refusal_of(alloc: Global, texts: &[&[u8]]) -> Option<Refusal> {
     reference(alloc, b"A", texts).err()
 }
 
+const LIMITS: [(&[&[u8]], Option<Refusal>); 7] = [
+    (&[LONGEST], None),
+    (&[ONE; 31], None),
+    (&[ONE; 32], Some(Refusal::TooManySubscripts)),
+    (&[b""], Some(Refusal::EmptySubscript)),
+    (&[TOO_LONG], Some(Refusal::SubscriptTooLong)),
+    (&[b"", TOO_LONG], Some(Refusal::EmptySubscript)),
+    (&[TOO_LONG, b""], Some(Refusal::SubscriptTooLong)),
+];
+
 #[test]
 fn references_are_refused_past_their_limits(rt: HostRuntime) {
-    let longest: &[u8] = &[b'9'; 255];
-    let too_long: &[u8] = &[b'9'; 256];
-    let one: &[u8] = b"1";
-    let many = [one; 32];
-    let rows: [(&[&[u8]], Option<Refusal>); 7] = [
-        (&[longest], None),
-        (&many[..31], None),
-        (&many, Some(Refusal::TooManySubscripts)),
-        (&[b""], Some(Refusal::EmptySubscript)),
-        (&[too_long], Some(Refusal::SubscriptTooLong)),
-        (&[b"", too_long], Some(Refusal::EmptySubscript)),
-        (&[too_long, b""], Some(Refusal::SubscriptTooLong)),
-    ];
-    for (texts, refusal) in rows {
-        assert_eq!(rt; refusal_of(rt.alloc(), texts), refusal);
+    for (texts, refusal) in &LIMITS {
+        assert!(rt; refusal_of(rt.alloc(), texts) == *refusal);
     }
 }
 
+fn is_job(number: u64) -> bool {
+    match Job::new(number) {
+        Ok(job) => u64::from(job.number()) == number,
+        Err(_) => false,
+    }
+}
+
+fn is_no_job(number: u64) -> bool {
+    Job::new(number).err() == Some(Refusal::BadJob)
+}
+
 #[test]
-fn jobs_run_from_1_to_4096(rt: HostRuntime) -> Result<(), Fail> {
-    for number in [1, 2, 4096] {
-        assert_eq!(rt; u64::from(Job::new(number)?.number()), number);
-    }
-    for number in [0, 4097, u64::MAX] {
-        assert_eq!(rt; Job::new(number).err(), Some(Refusal::BadJob));
-    }
-    Ok(())
+fn jobs_run_from_1_to_4096(rt: HostRuntime) {
+    assert!(rt; is_job(1) && is_job(2) && is_job(4096));
+    assert!(rt; is_no_job(0) && is_no_job(4097) && is_no_job(u64::MAX));
 }
 
 fn hash_of(reference: &Ref) -> u64 {
@@ -101,10 +110,16 @@ fn hash_of(reference: &Ref) -> u64 {
 }
 
 // Whether a copy is equal, hashes alike and has the name and as many subscripts.
+fn is_copy(copy: &Ref, reference: &Ref, name: &[u8], depth: usize) -> bool {
+    reference == copy
+        && hash_of(reference) == hash_of(copy)
+        && copy.name() == name
+        && copy.subscripts().len() == depth
+}
+
 fn is_copied(reference: &Ref, name: &[u8], depth: usize) -> Result<bool, Refusal> {
     let copy = reference.clone()?;
-    let is_alike = *reference == copy && hash_of(reference) == hash_of(&copy);
-    Ok(is_alike && copy.name() == name && copy.subscripts().len() == depth)
+    Ok(is_copy(&copy, reference, name, depth))
 }
 
 // Four subscripts, so that the list doesn't lie in the value, one of them too long to lie there itself.
@@ -128,37 +143,66 @@ fn is_grown_to(alloc: Global, pieces: &[&[u8]], want: &[u8]) -> Result<bool, Ref
     Ok(text.as_slice() == want && text.len() == want.len() && text.is_empty() == want.is_empty())
 }
 
+const LONG: &[u8] = b"forty bytes, of which no two at 14 meet.";
+
+// Pieces, and the text that grows by them: past 13, 14 and 15 bytes among others.
+const GROWN: [(&[&[u8]], &[u8]); 11] = [
+    (&[], b""),
+    (&[b"ab", b"", b"c"], b"abc"),
+    (&[b"forty byte", b"s, "], b"forty bytes, "),
+    (&[b"forty bytes, ", b"of which no two at 14 meet."], LONG),
+    (
+        &[b"forty byte", b"s, ", b"of which no two at 14 meet."],
+        LONG,
+    ),
+    (&[b"forty byte", b"s, o"], b"forty bytes, o"),
+    (&[b"forty bytes, o", b"f which no two at 14 meet."], LONG),
+    (
+        &[b"forty byte", b"s, o", b"f which no two at 14 meet."],
+        LONG,
+    ),
+    (&[b"forty byte", b"s, of"], b"forty bytes, of"),
+    (&[b"forty bytes, of", b" which no two at 14 meet."], LONG),
+    (
+        &[b"forty byte", b"s, of", b" which no two at 14 meet."],
+        LONG,
+    ),
+];
+
 #[test]
 fn texts_grow_past_their_room(rt: HostRuntime) -> Result<(), Fail> {
-    let long = *b"forty bytes, of which no two at 14 meet.";
-    assert!(rt; is_grown_to(rt.alloc(), &[], b"")?);
-    assert!(rt; is_grown_to(rt.alloc(), &[b"ab", b"", b"c"], b"abc")?);
-    for at in [13, 14, 15] {
-        assert!(rt; is_grown_to(rt.alloc(), &[&long[..10], &long[10..at]], &long[..at])?);
-        assert!(rt; is_grown_to(rt.alloc(), &[&long[..at], &long[at..]], &long)?);
-        assert!(rt;
-            is_grown_to(
-                rt.alloc(),
-                &[&long[..10], &long[10..at], &long[at..]],
-                &long
-            )?
-        );
+    for (pieces, want) in &GROWN {
+        assert!(rt; is_grown_to(rt.alloc(), pieces, want)?, "{want:?}");
     }
     Ok(())
 }
 
+fn copied(alloc: Global, bytes: &[u8]) -> Result<Text, Refusal> {
+    let text = Text::from_slice(alloc, bytes)?;
+    let copy = text.clone()?;
+    drop(text);
+    Ok(copy)
+}
+
 // Whether the bytes of a list, the copy of a slice and the copy of a text are these bytes, and equal.
 fn is_made_of(alloc: Global, bytes: &[u8]) -> Result<bool, Refusal> {
+    let copy = copied(alloc, bytes)?;
     let made = Text::from_vec(Vec::from_slice(alloc, bytes)?)?;
-    let copy = Text::from_slice(alloc, bytes)?.clone()?;
     Ok(made.as_slice() == bytes && copy.as_slice() == bytes && made == copy)
 }
 
 #[test]
 fn texts_are_made_of_lists_and_slices(rt: HostRuntime) -> Result<(), Fail> {
-    let long = *b"forty bytes, of which no two at 14 meet.";
-    for at in [0, 1, 13, 14, 15, 40] {
-        assert!(rt; is_made_of(rt.alloc(), &long[..at])?, "{at}");
+    let texts: &[&[u8]] = &[
+        b"",
+        b"f",
+        b"forty bytes, ",
+        b"forty bytes, o",
+        b"forty bytes, of",
+        LONG,
+    ];
+    for text in texts {
+        assert!(rt; is_made_of(rt.alloc(), text)?, "{text:?}");
     }
     Ok(())
 }
@@ -166,10 +210,12 @@ fn texts_are_made_of_lists_and_slices(rt: HostRuntime) -> Result<(), Fail> {
 // What a value takes in each version of a chain.
 #[test]
 fn a_text_takes_16_bytes(rt: HostRuntime) {
-    assert_eq!(rt; size_of::<Text>(), 16);
-    assert_eq!(rt; (size_of::<Subscripts>(), size_of::<Ref>()), (32, 48));
-    assert_eq!(rt;
-        (size_of::<command::Command>(), size_of::<command::Reply>()),
-        (96, 56)
-    );
+    let found = [
+        size_of::<Text>(),
+        size_of::<Subscripts>(),
+        size_of::<Ref>(),
+        size_of::<Command>(),
+        size_of::<Reply>(),
+    ];
+    assert!(rt; found == [16, 32, 48, 96, 56]);
 }

@@ -7,32 +7,40 @@ use script::Drafts;
 use std::alloc::{AllocError, Global};
 use std::test::Fail;
 
-// Each script as its job's number, a colon and its text, one after the other, with how many lines there are in all.
-fn told(alloc: Global, scripts: &[Script]) -> Result<(String, usize), Fail> {
-    let mut text = String::new(alloc);
+// Writes the script's job's number, a colon and its text.
+fn push_script(alloc: Global, text: &mut Vec<u8>, script: &Script) -> Result<(), AllocError> {
+    let job = script.job.map_or(0, |job| job.number());
+    text.extend_from_slice(job.to_string(alloc)?.as_bytes())?;
+    text.push(b':')?;
+    text.extend_from_slice(&script.text)
+}
+
+// Whether the scripts, one after the other, are written so.
+fn are_written(alloc: Global, scripts: &[Script], want: &str) -> Result<bool, AllocError> {
+    let mut text = Vec::new(alloc);
+    for script in scripts {
+        push_script(alloc, &mut text, script)?;
+    }
+    Ok(text.as_slice() == want.as_bytes())
+}
+
+fn lines_of(scripts: &[Script]) -> usize {
     let mut lines = 0usize;
     for script in scripts {
-        let job = match script.job {
-            Some(job) => job.number(),
-            None => 0,
-        };
-        let of_job = String::from_utf8_lossy(alloc, &script.text)?;
-        text.push_str(format!(in alloc; "{job}:{of_job}")?.as_str())?;
         lines = lines.saturating_add(script.lines);
     }
-    Ok((text, lines))
+    lines
 }
 
 // Whether the lines of a text are these by job, so many.
-fn are_by_job(alloc: Global, text: &str, want: &str, lines: usize) -> Result<bool, Fail> {
+fn are_by_job(alloc: Global, text: &str, want: &str, lines: usize) -> Result<bool, AllocError> {
     let scripts = scripts_of(alloc, text.as_bytes())?;
-    let (found, count) = told(alloc, scripts.as_slice())?;
-    Ok(found.as_str() == want && count == lines)
+    Ok(lines_of(&scripts) == lines && are_written(alloc, &scripts, want)?)
 }
 
 #[test]
 fn lines_stand_by_job_in_order_of_first_lines(rt: HostRuntime) -> Result<(), Fail> {
-    let rows = [
+    let rows: &[(&str, &str, usize)] = &[
         ("", "", 0),
         ("\n\r\n", "", 0),
         (
@@ -51,28 +59,29 @@ fn lines_stand_by_job_in_order_of_first_lines(rt: HostRuntime) -> Result<(), Fai
         // the same job, however it is written
         ("01 HALT\n1 HALT\n", "1:01 HALT\n1 HALT\n", 2),
     ];
-    for (text, want, lines) in rows {
-        let same = are_by_job(rt.alloc(), text, want, lines)?;
-        assert!(rt; same, "{text}");
+    for &(text, want, lines) in rows {
+        assert!(rt; are_by_job(rt.alloc(), text, want, lines)?, "{text}");
     }
     Ok(())
 }
 
 // How many commands and lines the block has that begins these lines, and what follows it.
-fn block_ends<'a>(alloc: Global, lines: &'a [u8]) -> Result<(usize, usize, &'a [u8]), AllocError> {
+type Ends<'a> = (usize, usize, &'a [u8]);
+
+fn has_ends(alloc: Global, lines: &[u8], want: Ends<'_>) -> Result<bool, AllocError> {
     let mut drafts = Drafts::new(alloc);
     let block = block_of(alloc, lines, &mut drafts)?;
-    Ok((block.commands.len(), block.places.len(), block.rest))
+    Ok((block.commands.len(), block.places.len(), block.rest) == want)
 }
 
 #[test]
 fn blocks_end_where_no_transaction_is_open(rt: HostRuntime) -> Result<(), Fail> {
-    let rows = [
+    let rows: &[(&[u8], usize, usize, &[u8])] = &[
         (
-            b"1 SET ^A=1\n1 TCOMMIT\n1 SET ^B=1\n".as_slice(),
+            b"1 SET ^A=1\n1 TCOMMIT\n1 SET ^B=1\n",
             2,
             2,
-            b"1 SET ^B=1\n".as_slice(),
+            b"1 SET ^B=1\n",
         ),
         (
             b"1 TSTART\n1 TCOMMIT\n1 TCOMMIT\n1 $TLEVEL\n",
@@ -91,62 +100,80 @@ fn blocks_end_where_no_transaction_is_open(rt: HostRuntime) -> Result<(), Fail> 
         (b"1 $GET(^A)\n1 FOO\n1 $GET(^B)", 2, 3, b""),
         (b"", 0, 0, b""),
     ];
-    for (lines, commands, places, rest) in rows {
-        let found = block_ends(rt.alloc(), lines)?;
-        assert!(rt; found.0 == commands && found.1 == places && found.2 == rest);
+    for &(lines, commands, places, rest) in rows {
+        assert!(rt;
+            has_ends(rt.alloc(), lines, (commands, places, rest))?,
+            "{lines:?}"
+        );
     }
     Ok(())
 }
 
-#[test]
-fn replies_of_a_block_stand_in_their_places(rt: HostRuntime) -> Result<(), Fail> {
-    let alloc = rt.alloc();
+fn served_replies(alloc: Global) -> Result<Vec<Reply>, AllocError> {
     let mut served = Vec::new(alloc);
     served.push(Reply::AtLevel(2))?;
     served.push(Reply::Committed)?;
+    Ok(served)
+}
+
+fn replies_at(alloc: Global, places: &[Option<Refusal>]) -> Result<Vec<Reply>, AllocError> {
     let mut replies = Vec::new(alloc);
-    let places = [None, Some(Refusal::BadLine), None];
-    push_in_place(&places, served, &mut replies)?;
-    let want = [
-        Reply::AtLevel(2),
-        Reply::Refused(Refusal::BadLine),
-        Reply::Committed,
-    ];
-    assert!(rt; replies.as_slice() == want.as_slice());
+    push_in_place(places, served_replies(alloc)?, &mut replies)?;
+    Ok(replies)
+}
+
+// Whether these are a level, a refusal and a commit.
+fn are_in_place(replies: &[Reply]) -> bool {
+    matches!(
+        replies,
+        [
+            Reply::AtLevel(2),
+            Reply::Refused(Refusal::BadLine),
+            Reply::Committed
+        ]
+    )
+}
+
+#[test]
+fn replies_of_a_block_stand_in_their_places(rt: HostRuntime) -> Result<(), Fail> {
+    let replies = replies_at(rt.alloc(), &[None, Some(Refusal::BadLine), None])?;
+    assert!(rt; are_in_place(&replies));
     Ok(())
 }
 
 #[test]
 fn timeouts_are_seconds_behind_the_last_colon(rt: HostRuntime) -> Result<(), Fail> {
-    let rows = [
-        (b"1 LOCK +^A:5".as_slice(), Some(5)),
+    let rows: &[(&[u8], Option<u64>)] = &[
+        (b"1 LOCK +^A:5", Some(5)),
         (b"1 LOCK +(^A,B(\":\")):0 ", Some(0)),
         (b"1 L ^A:123456789", Some(123456789)),
         (b"1 LOCK +^A(\":5\")", None),
         (b"1 LOCK", None),
     ];
-    for (line, want) in rows {
+    for &(line, want) in rows {
         let found = timeout_of(line);
         assert_eq!(rt; found, want);
     }
     Ok(())
 }
 
-// A report of two replies.
-fn report(alloc: Global, job: u64) -> Result<Report, Fail> {
+fn two_replies(alloc: Global) -> Result<Vec<Reply>, AllocError> {
     let mut replies = Vec::new(alloc);
     replies.push(Reply::Finished)?;
     replies.push(Reply::Refused(Refusal::BadLine))?;
-    let report = Report::new(alloc, Job::new(job).ok(), replies)?;
-    Ok(report)
+    Ok(replies)
+}
+
+// Whether a report of two replies has this text, and tells that one is a refusal.
+fn is_told(alloc: Global, job: Option<Job>, text: &[u8]) -> Result<bool, AllocError> {
+    let report = Report::new(alloc, job, two_replies(alloc)?)?;
+    Ok(report.refused() && report.text() == text)
 }
 
 #[test]
 fn reports_have_a_line_for_each_reply(rt: HostRuntime) -> Result<(), Fail> {
-    let of_job = report(rt.alloc(), 7)?;
-    assert_eq!(rt; of_job.text(), b"7 ok\n7 error 1 BadLine\n".as_slice());
-    assert!(rt; of_job.refused());
-    let of_none = report(rt.alloc(), 0)?;
-    assert_eq!(rt; of_none.text(), b"0 ok\n0 error 1 BadLine\n".as_slice());
+    let job = Job::new(7).ok();
+    assert!(rt; is_told(rt.alloc(), job, b"7 ok\n7 error 1 BadLine\n")?);
+    assert!(rt; is_told(rt.alloc(), None, b"0 ok\n0 error 1 BadLine\n")?);
     Ok(())
 }

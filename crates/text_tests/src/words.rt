@@ -34,203 +34,236 @@ const PLAIN: MrunArgs = MrunArgs {
     checkpoint_every: 0,
 };
 
-#[test]
-fn words_ask_for_a_file_or_standard_input(rt: HostRuntime) -> Result<(), Fail> {
-    let none = asked(rt.alloc(), &[])?;
-    assert_eq!(rt; none, Ok(PLAIN));
-    let dash = asked(rt.alloc(), &[b"-"])?;
-    assert_eq!(rt; dash, Ok(PLAIN));
-    let file = asked(rt.alloc(), &[b"a.txt"])?;
-    assert_eq!(rt;
-        file,
+// Words, and what they ask `mrun` for.
+type Row = (&'static [&'static [u8]], Result<MrunArgs, ErrorKind>);
+
+fn asks(alloc: Global, words: &[&[u8]], want: Result<MrunArgs, ErrorKind>) -> Result<bool, Fail> {
+    let found = asked(alloc, words)?;
+    Ok(found == want)
+}
+
+// The first row whose words ask for something else.
+fn first_other(alloc: Global, rows: &[Row]) -> Result<Option<usize>, Fail> {
+    for (i, (words, want)) in rows.iter().enumerate() {
+        if !asks(alloc, words, *want)? {
+            return Ok(Some(i));
+        }
+    }
+    Ok(None)
+}
+
+const FILES: [Row; 4] = [
+    (&[], Ok(PLAIN)),
+    (&[b"-"], Ok(PLAIN)),
+    (
+        &[b"a.txt"],
         Ok(MrunArgs {
             file: Some(1),
             ..PLAIN
-        })
-    );
-    let bytes = asked(rt.alloc(), &[b"--errors", b"\xff\xfe"])?;
-    assert_eq!(rt;
-        bytes,
+        }),
+    ),
+    (
+        &[b"--errors", b"\xff\xfe"],
         Ok(MrunArgs {
             file: Some(2),
             errors: true,
             ..PLAIN
-        })
-    );
+        }),
+    ),
+];
+
+#[test]
+fn words_ask_for_a_file_or_standard_input(rt: HostRuntime) -> Result<(), Fail> {
+    assert_eq!(rt; first_other(rt.alloc(), &FILES)?, None);
     Ok(())
+}
+
+const LISTINGS: [Row; 2] = [
+    (
+        &[b"a.txt", b"--load", b"b.txt"],
+        Ok(MrunArgs {
+            file: Some(1),
+            load: Some(NamePlace {
+                argument: 3,
+                from: 0,
+            }),
+            ..PLAIN
+        }),
+    ),
+    (
+        &[b"--load=\xffb.txt"],
+        Ok(MrunArgs {
+            load: Some(NamePlace {
+                argument: 1,
+                from: 7,
+            }),
+            ..PLAIN
+        }),
+    ),
+];
+
+// Whether the words are refused, for whatever reason.
+fn is_refused(alloc: Global, words: &[&[u8]]) -> Result<bool, Fail> {
+    let found = asked(alloc, words)?;
+    Ok(found.is_err())
 }
 
 #[test]
 fn words_ask_for_a_listing(rt: HostRuntime) -> Result<(), Fail> {
-    let apart = asked(rt.alloc(), &[b"a.txt", b"--load", b"b.txt"])?;
-    let place = NamePlace {
-        argument: 3,
-        from: 0,
-    };
-    assert_eq!(rt;
-        apart,
-        Ok(MrunArgs {
-            file: Some(1),
-            load: Some(place),
-            ..PLAIN
-        })
-    );
-    let joined = asked(rt.alloc(), &[b"--load=\xffb.txt"])?;
-    let place = NamePlace {
-        argument: 1,
-        from: 7,
-    };
-    assert_eq!(rt;
-        joined,
-        Ok(MrunArgs {
-            load: Some(place),
-            ..PLAIN
-        })
-    );
-    assert_eq!(rt; asked(rt.alloc(), &[b"--load"])?.is_err(), true);
+    assert_eq!(rt; first_other(rt.alloc(), &LISTINGS)?, None);
+    assert!(rt; is_refused(rt.alloc(), &[b"--load"])?);
     Ok(())
 }
 
-// Where the journal's name stands by these words.
-fn journal_place(alloc: Global, words: &[&[u8]]) -> Result<Option<NamePlace>, Fail> {
-    match asked(alloc, words)? {
-        Ok(args) => Ok(args.journal),
-        Err(_) => Ok(None),
-    }
+// Words, and where the journal's name stands by them: which of the words, and from which byte on.
+type JournalRow = (&'static [&'static [u8]], usize, usize);
+
+fn has_journal_at(
+    alloc: Global,
+    words: &[&[u8]],
+    argument: usize,
+    from: usize,
+) -> Result<bool, Fail> {
+    Ok(match asked(alloc, words)? {
+        Ok(args) => args.journal == Some(NamePlace { argument, from }),
+        Err(_) => false,
+    })
 }
+
+// The first row whose words name another journal or none.
+fn first_other_journal(alloc: Global, rows: &[JournalRow]) -> Result<Option<usize>, Fail> {
+    for (i, (words, argument, from)) in rows.iter().enumerate() {
+        if !has_journal_at(alloc, words, *argument, *from)? {
+            return Ok(Some(i));
+        }
+    }
+    Ok(None)
+}
+
+const JOURNALS: [JournalRow; 3] = [
+    (&[b"--journal", b"j.txt", b"a.txt"], 2, 0),
+    (&[b"a.txt", b"--journal=j.txt"], 2, 10),
+    (&[b"--load", b"\xff", b"--journal", b"\xfe"], 4, 0),
+];
 
 #[test]
 fn words_ask_for_a_journal(rt: HostRuntime) -> Result<(), Fail> {
-    let apart = journal_place(rt.alloc(), &[b"--journal", b"j.txt", b"a.txt"])?;
-    let place = NamePlace {
-        argument: 2,
-        from: 0,
-    };
-    assert_eq!(rt; apart, Some(place));
-    let joined = journal_place(rt.alloc(), &[b"a.txt", b"--journal=j.txt"])?;
-    let place = NamePlace {
-        argument: 2,
-        from: 10,
-    };
-    assert_eq!(rt; joined, Some(place));
-    let beside = journal_place(rt.alloc(), &[b"--load", b"\xff", b"--journal", b"\xfe"])?;
-    let place = NamePlace {
-        argument: 4,
-        from: 0,
-    };
-    assert_eq!(rt; beside, Some(place));
+    assert_eq!(rt; first_other_journal(rt.alloc(), &JOURNALS)?, None);
     Ok(())
 }
 
 #[test]
 fn a_journal_keeps_its_beginning(rt: HostRuntime) -> Result<(), Fail> {
-    let dropped = asked(
-        rt.alloc(),
-        &[b"--journal", b"j.txt", b"--checkpoint-every", b"5"],
-    )?;
-    assert_eq!(rt; dropped, Err(ErrorKind::ArgumentConflict));
-    let kept = asked(
-        rt.alloc(),
-        &[b"--journal", b"j.txt", b"--checkpoint-every", b"0"],
-    )?;
-    assert_eq!(rt; kept.is_ok(), true);
+    let dropped: &[&[u8]] = &[b"--journal", b"j.txt", b"--checkpoint-every", b"5"];
+    assert!(rt; asks(rt.alloc(), dropped, Err(ErrorKind::ArgumentConflict))?);
+    let kept: &[&[u8]] = &[b"--journal", b"j.txt", b"--checkpoint-every", b"0"];
+    assert!(rt; !is_refused(rt.alloc(), kept)?);
     Ok(())
 }
+
+const READ_AND_WRITTEN: [Row; 2] = [
+    (
+        &[b"--journal", b"a.txt", b"a.txt"],
+        Err(ErrorKind::ArgumentConflict),
+    ),
+    (
+        &[b"--journal=a.txt", b"--load", b"a.txt"],
+        Err(ErrorKind::ArgumentConflict),
+    ),
+];
 
 #[test]
 fn a_journal_is_no_file_that_is_read(rt: HostRuntime) -> Result<(), Fail> {
-    let script = asked(rt.alloc(), &[b"--journal", b"a.txt", b"a.txt"])?;
-    assert_eq!(rt; script, Err(ErrorKind::ArgumentConflict));
-    let listing = asked(rt.alloc(), &[b"--journal=a.txt", b"--load", b"a.txt"])?;
-    assert_eq!(rt; listing, Err(ErrorKind::ArgumentConflict));
+    assert_eq!(rt; first_other(rt.alloc(), &READ_AND_WRITTEN)?, None);
     Ok(())
 }
 
-#[test]
-fn words_ask_for_options(rt: HostRuntime) -> Result<(), Fail> {
-    let both = asked(rt.alloc(), &[b"--no-listing", b"--errors"])?;
-    assert_eq!(rt;
-        both,
+const OPTIONS: [Row; 2] = [
+    (
+        &[b"--no-listing", b"--errors"],
         Ok(MrunArgs {
             listed: false,
             errors: true,
             ..PLAIN
-        })
-    );
-    let after = asked(rt.alloc(), &[b"--no-listing", b"--", b"--errors"])?;
-    assert_eq!(rt;
-        after,
+        }),
+    ),
+    (
+        &[b"--no-listing", b"--", b"--errors"],
         Ok(MrunArgs {
             file: Some(3),
             listed: false,
             ..PLAIN
-        })
-    );
+        }),
+    ),
+];
+
+#[test]
+fn words_ask_for_options(rt: HostRuntime) -> Result<(), Fail> {
+    assert_eq!(rt; first_other(rt.alloc(), &OPTIONS)?, None);
     Ok(())
 }
+
+const HELP_OR_WRONG: [Row; 4] = [
+    (&[b"--help"], Err(ErrorKind::DisplayHelp)),
+    (&[b"--version"], Err(ErrorKind::DisplayVersion)),
+    (&[b"a", b"b"], Err(ErrorKind::UnknownArgument)),
+    (&[b"--nothing"], Err(ErrorKind::UnknownArgument)),
+];
 
 #[test]
 fn words_ask_for_help_or_are_wrong(rt: HostRuntime) -> Result<(), Fail> {
-    let help = asked(rt.alloc(), &[b"--help"])?;
-    assert_eq!(rt; help, Err(ErrorKind::DisplayHelp));
-    let version = asked(rt.alloc(), &[b"--version"])?;
-    assert_eq!(rt; version, Err(ErrorKind::DisplayVersion));
-    let two = asked(rt.alloc(), &[b"a", b"b"])?;
-    assert_eq!(rt; two, Err(ErrorKind::UnknownArgument));
-    let unknown = asked(rt.alloc(), &[b"--nothing"])?;
-    assert_eq!(rt; unknown, Err(ErrorKind::UnknownArgument));
+    assert_eq!(rt; first_other(rt.alloc(), &HELP_OR_WRONG)?, None);
     Ok(())
 }
 
-// After how many printed lines the collector passes, and a checkpoint is taken, by this word for either.
-fn every(alloc: Global, word: &[u8]) -> Result<[Result<u64, ErrorKind>; 2], Fail> {
-    let passes = match asked(alloc, &[b"--collect-every", word])? {
-        Ok(args) => Ok(args.collect_every),
-        Err(kind) => Err(kind),
-    };
-    let checkpoints = match asked(alloc, &[b"--checkpoint-every", word])? {
-        Ok(args) => Ok(args.checkpoint_every),
-        Err(kind) => Err(kind),
-    };
-    Ok([passes, checkpoints])
+// Whether the word asks for a pass, and for a checkpoint, after so many printed lines, or is wrong for either.
+fn is_every(alloc: Global, word: &[u8], want: Result<u64, ErrorKind>) -> Result<bool, Fail> {
+    let passes = asked(alloc, &[b"--collect-every", word])?;
+    let checkpoints = asked(alloc, &[b"--checkpoint-every", word])?;
+    Ok(
+        passes.map(|args| args.collect_every) == want
+            && checkpoints.map(|args| args.checkpoint_every) == want,
+    )
 }
+
+// A word, and the number that it gives.
+type NumberRow = (&'static [u8], Result<u64, ErrorKind>);
+
+const EVERY: [NumberRow; 8] = [
+    (b"0", Ok(0)),
+    (b"7", Ok(7)),
+    (b"1000000", Ok(1000000)),
+    (b"1000001", Err(ErrorKind::ValueValidation)),
+    (b"x", Err(ErrorKind::ValueValidation)),
+    (b"1.5", Err(ErrorKind::ValueValidation)),
+    (b"", Err(ErrorKind::ValueValidation)),
+    (b"-1", Err(ErrorKind::UnknownArgument)),
+];
 
 #[test]
 fn words_ask_for_the_collector_and_checkpoints(rt: HostRuntime) -> Result<(), Fail> {
-    let rows = [
-        (b"0".as_slice(), Ok(0)),
-        (b"7", Ok(7)),
-        (b"1000000", Ok(1000000)),
-        (b"1000001", Err(ErrorKind::ValueValidation)),
-        (b"x", Err(ErrorKind::ValueValidation)),
-        (b"1.5", Err(ErrorKind::ValueValidation)),
-        (b"", Err(ErrorKind::ValueValidation)),
-        (b"-1", Err(ErrorKind::UnknownArgument)),
-    ];
-    for (word, want) in rows {
-        let found = every(rt.alloc(), word)?;
-        assert_eq!(rt; found, [want, want]);
+    for (word, want) in &EVERY {
+        assert!(rt; is_every(rt.alloc(), word, *want)?, "{word:?}");
     }
     Ok(())
 }
 
-#[test]
-fn words_ask_for_both_and_a_file(rt: HostRuntime) -> Result<(), Fail> {
-    let both = asked(
-        rt.alloc(),
+const BOTH: [Row; 2] = [
+    (
         &[b"--collect-every=5", b"--checkpoint-every=9", b"5"],
-    )?;
-    assert_eq!(rt;
-        both,
         Ok(MrunArgs {
             file: Some(3),
             collect_every: 5,
             checkpoint_every: 9,
             ..PLAIN
-        })
-    );
-    let none = asked(rt.alloc(), &[b"--collect-every"])?;
-    assert_eq!(rt; none, Err(ErrorKind::InvalidValue));
+        }),
+    ),
+    (&[b"--collect-every"], Err(ErrorKind::InvalidValue)),
+];
+
+#[test]
+fn words_ask_for_both_and_a_file(rt: HostRuntime) -> Result<(), Fail> {
+    assert_eq!(rt; first_other(rt.alloc(), &BOTH)?, None);
     Ok(())
 }
 
@@ -251,76 +284,105 @@ const PLAIN_JOBS: MjobsArgs = MjobsArgs {
     workers: 2,
 };
 
-#[test]
-fn words_ask_for_jobs(rt: HostRuntime) -> Result<(), Fail> {
-    let none = asked_of_jobs(rt.alloc(), &[])?;
-    assert_eq!(rt; none, Ok(PLAIN_JOBS));
-    let file = asked_of_jobs(rt.alloc(), &[b"--no-listing", b"--errors", b"a.txt"])?;
-    assert_eq!(rt;
-        file,
+// Words, and what they ask `mjobs` for.
+type JobsRow = (&'static [&'static [u8]], Result<MjobsArgs, ErrorKind>);
+
+fn asks_of_jobs(
+    alloc: Global,
+    words: &[&[u8]],
+    want: Result<MjobsArgs, ErrorKind>,
+) -> Result<bool, Fail> {
+    let found = asked_of_jobs(alloc, words)?;
+    Ok(found == want)
+}
+
+// The first row whose words ask for something else.
+fn first_other_of_jobs(alloc: Global, rows: &[JobsRow]) -> Result<Option<usize>, Fail> {
+    for (i, (words, want)) in rows.iter().enumerate() {
+        if !asks_of_jobs(alloc, words, *want)? {
+            return Ok(Some(i));
+        }
+    }
+    Ok(None)
+}
+
+const JOBS: [JobsRow; 5] = [
+    (&[], Ok(PLAIN_JOBS)),
+    (
+        &[b"--no-listing", b"--errors", b"a.txt"],
         Ok(MjobsArgs {
             file: Some(3),
             listed: false,
             errors: true,
             ..PLAIN_JOBS
-        })
-    );
-    let every = asked_of_jobs(rt.alloc(), &[b"--collect-every", b"1"])?;
-    assert_eq!(rt; every, Err(ErrorKind::UnknownArgument));
-    let checkpoints = asked_of_jobs(rt.alloc(), &[b"--checkpoint-every", b"1"])?;
-    assert_eq!(rt; checkpoints, Err(ErrorKind::UnknownArgument));
-    let help = asked_of_jobs(rt.alloc(), &[b"--help"])?;
-    assert_eq!(rt; help, Err(ErrorKind::DisplayHelp));
+        }),
+    ),
+    (&[b"--collect-every", b"1"], Err(ErrorKind::UnknownArgument)),
+    (
+        &[b"--checkpoint-every", b"1"],
+        Err(ErrorKind::UnknownArgument),
+    ),
+    (&[b"--help"], Err(ErrorKind::DisplayHelp)),
+];
+
+#[test]
+fn words_ask_for_jobs(rt: HostRuntime) -> Result<(), Fail> {
+    assert_eq!(rt; first_other_of_jobs(rt.alloc(), &JOBS)?, None);
     Ok(())
 }
 
-#[test]
-fn words_ask_for_a_journal_of_jobs(rt: HostRuntime) -> Result<(), Fail> {
-    let asked = asked_of_jobs(rt.alloc(), &[b"--journal=\xff.txt", b"a.txt"])?;
-    let place = NamePlace {
-        argument: 1,
-        from: 10,
-    };
-    assert_eq!(rt;
-        asked,
+const JOURNALS_OF_JOBS: [JobsRow; 2] = [
+    (
+        &[b"--journal=\xff.txt", b"a.txt"],
         Ok(MjobsArgs {
             file: Some(2),
-            journal: Some(place),
+            journal: Some(NamePlace {
+                argument: 1,
+                from: 10,
+            }),
             ..PLAIN_JOBS
-        })
-    );
-    Ok(())
+        }),
+    ),
+    (
+        &[b"a.txt", b"--journal", b"a.txt"],
+        Err(ErrorKind::ArgumentConflict),
+    ),
+];
+
+// Whether the words are taken, whatever they ask for.
+fn is_taken_by_jobs(alloc: Global, words: &[&[u8]]) -> Result<bool, Fail> {
+    let found = asked_of_jobs(alloc, words)?;
+    Ok(found.is_ok())
 }
 
 #[test]
-fn a_journal_of_jobs_is_no_file_that_is_read(rt: HostRuntime) -> Result<(), Fail> {
-    let script = asked_of_jobs(rt.alloc(), &[b"a.txt", b"--journal", b"a.txt"])?;
-    assert_eq!(rt; script, Err(ErrorKind::ArgumentConflict));
-    let other = asked_of_jobs(rt.alloc(), &[b"a.txt", b"--journal", b"./a.txt"])?;
-    assert_eq!(rt; other.is_ok(), true);
+fn words_ask_for_a_journal_of_jobs_that_is_no_file_that_is_read(
+    rt: HostRuntime,
+) -> Result<(), Fail> {
+    assert_eq!(rt; first_other_of_jobs(rt.alloc(), &JOURNALS_OF_JOBS)?, None);
+    let other: &[&[u8]] = &[b"a.txt", b"--journal", b"./a.txt"];
+    assert!(rt; is_taken_by_jobs(rt.alloc(), other)?);
     Ok(())
 }
 
-// How many workers, by this word.
-fn workers(alloc: Global, word: &[u8]) -> Result<Result<u64, ErrorKind>, Fail> {
-    Ok(match asked_of_jobs(alloc, &[b"--workers", word])? {
-        Ok(args) => Ok(args.workers),
-        Err(kind) => Err(kind),
-    })
+// Whether the word asks for so many workers, or is wrong.
+fn are_workers(alloc: Global, word: &[u8], want: Result<u64, ErrorKind>) -> Result<bool, Fail> {
+    let found = asked_of_jobs(alloc, &[b"--workers", word])?;
+    Ok(found.map(|args| args.workers) == want)
 }
+
+const WORKERS: [NumberRow; 5] = [
+    (b"1", Ok(1)),
+    (b"16", Ok(16)),
+    (b"0", Err(ErrorKind::ValueValidation)),
+    (b"17", Err(ErrorKind::ValueValidation)),
+    (b"x", Err(ErrorKind::ValueValidation)),
+];
 
 #[test]
 fn words_ask_for_workers(rt: HostRuntime) -> Result<(), Fail> {
-    let rows = [
-        (b"1".as_slice(), Ok(1)),
-        (b"16", Ok(16)),
-        (b"0", Err(ErrorKind::ValueValidation)),
-        (b"17", Err(ErrorKind::ValueValidation)),
-        (b"x", Err(ErrorKind::ValueValidation)),
-    ];
-    for (word, want) in rows {
-        let found = workers(rt.alloc(), word)?;
-        assert_eq!(rt; found, want);
+    for (word, want) in &WORKERS {
+        assert!(rt; are_workers(rt.alloc(), word, *want)?, "{word:?}");
     }
     Ok(())
 }
