@@ -32,11 +32,12 @@ fn told(core: &JobCore) -> Result<(u64, u64, usize, u64), Refusal> {
 }
 
 // What is told of a store of fifteen references that was taken over, and after one unit more.
-fn goes_on(alloc: Global, core: &mut JobCore) -> Result<bool, Fail> {
-    let first = told(core)? == (45, 45, 10, 0) && is_seen_at(alloc, &core.content(), 45)?;
+fn goes_on(alloc: Global, core: &mut JobCore) -> Result<bool, Refusal> {
+    let first = told(core)? == (45, 45, 10, 0);
+    let is_seen = is_seen_at(alloc, &core.content(), 45)?;
     let is_read = answers(alloc, core, b"1 $GET(^AB(1))", b"1 \"a\"")?;
     let next = told(core)? == (46, 45, 10, 0);
-    Ok(first && is_read && next)
+    Ok(first && is_seen && is_read && next)
 }
 
 fn store_of_old_keys(alloc: Global) -> Result<Store, Refusal> {
@@ -55,14 +56,14 @@ fn store_of_old_keys(alloc: Global) -> Result<Store, Refusal> {
 fn a_store_of_old_keys_is_taken_over(rt: HostRuntime) -> Result<(), Fail> {
     let store = store_of_old_keys(rt.alloc())?;
     let mut core = core_of_store(rt.alloc(), store)?;
-    let went = goes_on(rt.alloc(), &mut core)?;
+    let went = goes_on(rt.alloc(), &mut core);
     drop(core);
-    assert!(rt; went);
+    assert_eq!(rt; went, Ok(true));
     Ok(())
 }
 
 // What is told of a store without references, and after one unit more.
-fn begins(alloc: Global, core: &mut JobCore) -> Result<bool, Fail> {
+fn begins(alloc: Global, core: &mut JobCore) -> Result<bool, Refusal> {
     let first = told(core)? == (0, 0, 0, 0);
     let is_set = answers(alloc, core, b"1 SET ^A=1", b"1 ok")?;
     Ok(first && is_set && told(core)? == (1, 0, 0, 0))
@@ -71,8 +72,8 @@ fn begins(alloc: Global, core: &mut JobCore) -> Result<bool, Fail> {
 #[test]
 fn a_store_without_references_is_taken_over(rt: HostRuntime) -> Result<(), Fail> {
     let mut core = core_of_store(rt.alloc(), Store::new(rt.alloc()))?;
-    let went = begins(rt.alloc(), &mut core)?;
+    let went = begins(rt.alloc(), &mut core);
     drop(core);
-    assert!(rt; went);
+    assert_eq!(rt; went, Ok(true));
     Ok(())
 }

@@ -36,12 +36,45 @@ pub fn answers(
     Ok(out.strip_suffix(b"\n".as_slice()) == Some(want))
 }
 
+/// A line and its reply.
+pub type Row = (&'static str, &'static str);
+
+/// The number of the first row whose reply is another; or none.
+pub fn first_other(
+    alloc: Global,
+    core: &mut JobCore,
+    rows: &[Row],
+) -> Result<Option<usize>, Refusal> {
+    for (i, (line, reply)) in rows.iter().enumerate() {
+        if !answers(alloc, core, line.as_bytes(), reply.as_bytes())? {
+            return Ok(Some(i));
+        }
+    }
+    Ok(None)
+}
+
+/// Whether the lines have these replies, one after the other.
+pub fn are_answered(alloc: Global, core: &mut JobCore, rows: &[Row]) -> Result<bool, Refusal> {
+    let other = first_other(alloc, core, rows)?;
+    Ok(other.is_none())
+}
+
+fn do_all(alloc: Global, core: &mut JobCore, lines: &[&str]) -> Result<(), Refusal> {
+    let mut replies = Vec::new(alloc);
+    for line in lines {
+        answer(alloc, core, line.as_bytes(), &mut replies)?;
+    }
+    Ok(())
+}
+
 /// A core that has done these lines.
 pub fn core_of(alloc: Global, lines: &[&str]) -> Result<JobCore, Refusal> {
     let mut core = JobCore::new(alloc);
-    let mut replies = Vec::new(alloc);
-    for line in lines {
-        answer(alloc, &mut core, line.as_bytes(), &mut replies)?;
+    match do_all(alloc, &mut core, lines) {
+        Ok(()) => Ok(core),
+        Err(refusal) => {
+            drop(core);
+            Err(refusal)
+        }
     }
-    Ok(core)
 }

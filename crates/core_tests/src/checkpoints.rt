@@ -1,5 +1,5 @@
 //! What a checkpoint lets go of, and what it keeps: docs/THEOREMS.md, "Checkpoints".
-use crate::answers::{answers, core_of};
+use crate::answers::{Row, are_answered, core_of};
 use collation::Job;
 use job_core::{JobCore, Step};
 use refusal::Refusal;
@@ -27,32 +27,47 @@ fn base_is(core: &JobCore, number: u64, value: &[u8]) -> bool {
     }
 }
 
+// Whether so many units are kept of a journal of this length.
+fn keeps(core: &JobCore, kept: u64, length: u64) -> Result<bool, Refusal> {
+    Ok(units_kept(core)? == kept && core.journal().len() == length)
+}
+
+// Whether a checkpoint stops at this number.
+fn stops_at(core: &mut JobCore, number: u64) -> bool {
+    core.checkpoint() == Ok(number)
+}
+
 // A checkpoint beside the transaction of job 2, which began after the first unit of two.
-fn stops_at_the_start(alloc: Global, core: &mut JobCore) -> Result<bool, Fail> {
-    let moved = core.checkpoint() == Ok(1) && base_is(core, 1, b"1");
-    let kept = units_kept(core)? == 1 && core.journal().len() == 2;
-    let is_read = answers(alloc, core, b"2 $GET(^A)", b"2 1")?;
-    let is_over = answers(alloc, core, b"2 TROLLBACK", b"2 ok")?;
-    Ok(moved && kept && is_read && is_over)
+fn stops_at_the_start(alloc: Global, core: &mut JobCore) -> Result<bool, Refusal> {
+    let moved = stops_at(core, 1) && base_is(core, 1, b"1");
+    let kept = keeps(core, 1, 2)?;
+    let went = are_answered(
+        alloc,
+        core,
+        &[("2 $GET(^A)", "2 1"), ("2 TROLLBACK", "2 ok")],
+    )?;
+    Ok(moved && kept && went)
 }
 
 // Two more after its end; then a unit, which has the next number.
-fn goes_on_to_now(alloc: Global, core: &mut JobCore) -> Result<bool, Fail> {
-    let moved = core.checkpoint() == Ok(2) && base_is(core, 2, b"2");
-    let stays = units_kept(core)? == 0 && core.checkpoint() == Ok(2);
-    let is_set = answers(alloc, core, b"1 SET ^A=3", b"1 ok")?;
-    let kept = units_kept(core)? == 1 && core.journal().len() == 3;
-    Ok(moved && stays && is_set && kept)
+fn goes_on_to_now(alloc: Global, core: &mut JobCore) -> Result<bool, Refusal> {
+    let moved = stops_at(core, 2) && base_is(core, 2, b"2");
+    let stays = keeps(core, 0, 2)? && stops_at(core, 2);
+    let is_set = are_answered(alloc, core, &[("1 SET ^A=3", "1 ok")])?;
+    Ok(moved && stays && is_set && keeps(core, 1, 3)?)
+}
+
+fn moves_to_the_least_open_start(alloc: Global, core: &mut JobCore) -> Result<bool, Refusal> {
+    Ok(stops_at_the_start(alloc, core)? && goes_on_to_now(alloc, core)?)
 }
 
 #[test]
 fn a_checkpoint_moves_the_base_to_the_least_open_start(rt: HostRuntime) -> Result<(), Fail> {
-    let lines = ["1 SET ^A=1", "2 TSTART", "1 SET ^A=2"];
-    let mut core = core_of(rt.alloc(), &lines)?;
-    let stops = stops_at_the_start(rt.alloc(), &mut core)?;
-    let goes_on = goes_on_to_now(rt.alloc(), &mut core)?;
+    let lines: &[&str] = &["1 SET ^A=1", "2 TSTART", "1 SET ^A=2"];
+    let mut core = core_of(rt.alloc(), lines)?;
+    let moves = moves_to_the_least_open_start(rt.alloc(), &mut core);
     drop(core);
-    assert!(rt; stops && goes_on);
+    assert_eq!(rt; moves, Ok(true));
     Ok(())
 }
 
@@ -67,7 +82,7 @@ fn tallies_at(core: &mut JobCore) -> Result<(u64, u64), Refusal> {
 
 #[test]
 fn a_base_keeps_empty_values_and_tallies(rt: HostRuntime) -> Result<(), Fail> {
-    let lines = [
+    let lines: &[&str] = &[
         "1 SET ^A=\"\"",
         "1 TSTART",
         "1 LOCK +^B",
@@ -75,7 +90,7 @@ fn a_base_keeps_empty_values_and_tallies(rt: HostRuntime) -> Result<(), Fail> {
         "2 $GET(^A)",
         "1 HALT",
     ];
-    let mut core = core_of(rt.alloc(), &lines)?;
+    let mut core = core_of(rt.alloc(), lines)?;
     let tallies = tallies_at(&mut core);
     drop(core);
     assert_eq!(rt; tallies, Ok((2, 1)));
@@ -83,42 +98,52 @@ fn a_base_keeps_empty_values_and_tallies(rt: HostRuntime) -> Result<(), Fail> {
 }
 
 // Job 2 is blocked by what job 1 had before the checkpoint, and goes on as job 1 gives it back.
-fn blocks_until_given_back(alloc: Global, core: &mut JobCore) -> Result<bool, Fail> {
-    let first = core.checkpoint() == Ok(2);
-    let blocked = answers(alloc, core, b"2 LOCK +^A", b"2 0")?;
-    let less = answers(alloc, core, b"1 LOCK -^A(1)", b"1 1")?;
-    let second = core.checkpoint() == Ok(4);
-    let still = answers(alloc, core, b"2 LOCK +^A", b"2 0")?;
-    let none = answers(alloc, core, b"1 LOCK -^A(1)", b"1 1")?;
-    let had = answers(alloc, core, b"2 LOCK +^A", b"2 1")?;
-    Ok(first && blocked && less && second && still && none && had)
+fn blocks_until_given_back(alloc: Global, core: &mut JobCore) -> Result<bool, Refusal> {
+    let before: &[Row] = &[("2 LOCK +^A", "2 0"), ("1 LOCK -^A(1)", "1 1")];
+    let after: &[Row] = &[
+        ("2 LOCK +^A", "2 0"),
+        ("1 LOCK -^A(1)", "1 1"),
+        ("2 LOCK +^A", "2 1"),
+    ];
+    let first = stops_at(core, 2) && are_answered(alloc, core, before)?;
+    let second = stops_at(core, 4) && are_answered(alloc, core, after)?;
+    Ok(first && second)
 }
 
 #[test]
 fn locks_go_on_over_checkpoints(rt: HostRuntime) -> Result<(), Fail> {
     let mut core = core_of(rt.alloc(), &["1 LOCK +^A(1)", "1 LOCK +^A(1)"])?;
-    let went = blocks_until_given_back(rt.alloc(), &mut core)?;
+    let went = blocks_until_given_back(rt.alloc(), &mut core);
     drop(core);
-    assert!(rt; went);
+    assert_eq!(rt; went, Ok(true));
     Ok(())
 }
 
-fn run_checkpoints(alloc: Global, core: &mut JobCore) -> Result<usize, Refusal> {
+fn checkpoints(alloc: Global) -> Result<Vec<Step>, Refusal> {
     let mut steps = Vec::new(alloc);
     steps.push(Step::Checkpoint)?;
     steps.push(Step::Collect(1))?;
     steps.push(Step::Checkpoint)?;
+    Ok(steps)
+}
+
+// How many replies these steps have.
+fn replies_of(core: &mut JobCore, steps: Vec<Step>) -> Result<usize, Refusal> {
     let replies = core.run(steps)?;
     Ok(replies.len())
+}
+
+// Whether they have none, and the base is moved by them.
+fn moves_without_replies(alloc: Global, core: &mut JobCore) -> Result<bool, Refusal> {
+    let replies = replies_of(core, checkpoints(alloc)?)?;
+    Ok(replies == 0 && base_is(core, 1, b"1"))
 }
 
 #[test]
 fn a_checkpoint_among_steps_has_no_reply(rt: HostRuntime) -> Result<(), Fail> {
     let mut core = core_of(rt.alloc(), &["1 SET ^A=1"])?;
-    let replies = run_checkpoints(rt.alloc(), &mut core);
-    let is_moved = base_is(&core, 1, b"1");
+    let moves = moves_without_replies(rt.alloc(), &mut core);
     drop(core);
-    assert_eq!(rt; replies, Ok(0));
-    assert!(rt; is_moved);
+    assert_eq!(rt; moves, Ok(true));
     Ok(())
 }

@@ -1,47 +1,45 @@
 //! The data commands on worked databases. Expected values are those of ISO/IEC 11756:1999 ($DATA, $ORDER, $QUERY, KILL,
 //! MERGE) and, for what the standard leaves open, of docs/RULES.md, "Data commands".
-use crate::answers::{answers, core_of};
+use crate::answers::{Row, core_of, first_other};
 use refusal::Refusal;
 use std::alloc::Global;
 use std::test::Fail;
 
-// A line and its reply.
-type Row = (&'static str, &'static str);
-
 // The number of the first row whose reply is another, on a core that has done the lines before; or none.
-fn first_other(alloc: Global, before: &[&str], rows: &[Row]) -> Result<Option<usize>, Refusal> {
+fn first_other_after(
+    alloc: Global,
+    before: &[&str],
+    rows: &[Row],
+) -> Result<Option<usize>, Refusal> {
     let mut core = core_of(alloc, before)?;
-    for (i, (line, reply)) in rows.iter().enumerate() {
-        if !answers(alloc, &mut core, line.as_bytes(), reply.as_bytes())? {
-            return Ok(Some(i));
-        }
-    }
-    Ok(None)
+    let other = first_other(alloc, &mut core, rows);
+    drop(core);
+    other
 }
 
 #[test]
 fn data_tells_values_and_descendants(rt: HostRuntime) -> Result<(), Fail> {
-    let before = ["1 SET ^A(1,2)=1", "1 SET ^A(3)=1", "1 SET ^A(3,4)=1"];
-    let rows = [
+    let before: &[&str] = &["1 SET ^A(1,2)=1", "1 SET ^A(3)=1", "1 SET ^A(3,4)=1"];
+    let rows: &[Row] = &[
         ("1 $DATA(^A)", "1 10"),
         ("1 $DATA(^A(1))", "1 10"),
         ("1 $DATA(^A(1,2))", "1 1"),
         ("1 $DATA(^A(2))", "1 0"),
         ("4096 $DATA(^A(3))", "4096 11"),
     ];
-    assert_eq!(rt; first_other(rt.alloc(), &before, &rows)?, None);
+    assert_eq!(rt; first_other_after(rt.alloc(), before, rows)?, None);
     Ok(())
 }
 
 // ^A(3) has no value, only a descendant; ^A(2) is no node.
 #[test]
 fn order_goes_both_ways_from_any_start(rt: HostRuntime) -> Result<(), Fail> {
-    let before = [
+    let before: &[&str] = &[
         "1 SET ^A(1)=1",
         "1 SET ^A(3,\"x\")=1",
         "1 SET ^A(\"a\"\"b\")=1",
     ];
-    let rows = [
+    let rows: &[Row] = &[
         ("1 $ORDER(^A(\"\"))", "1 1"),
         ("1 $ORDER(^A(2))", "1 3"),
         ("1 $ORDER(^A(3),1)", "1 \"a\"\"b\""),
@@ -52,21 +50,21 @@ fn order_goes_both_ways_from_any_start(rt: HostRuntime) -> Result<(), Fail> {
         ("1 $ORDER(^A(3,\"\"))", "1 \"x\""),
         ("1 $ORDER(^A)", "1 error 7 NeedSubscript"),
     ];
-    assert_eq!(rt; first_other(rt.alloc(), &before, &rows)?, None);
+    assert_eq!(rt; first_other_after(rt.alloc(), before, rows)?, None);
     Ok(())
 }
 
 // Backward from an open place: what is under it, else the reference itself, else the one before.
 #[test]
 fn query_walks_depth_first_from_any_start(rt: HostRuntime) -> Result<(), Fail> {
-    let before = [
+    let before: &[&str] = &[
         "1 SET ^A(4)=1",
         "1 SET ^A(5)=1",
         "1 SET ^A(5,1)=1",
         "1 SET ^A(7,2)=1",
         "1 SET ^AB=1",
     ];
-    let rows = [
+    let rows: &[Row] = &[
         ("1 $QUERY(^A)", "1 ^A(4)"),
         ("1 $QUERY(^A(5))", "1 ^A(5,1)"),
         ("1 $QUERY(^A(5,1),1)", "1 ^A(7,2)"),
@@ -77,40 +75,40 @@ fn query_walks_depth_first_from_any_start(rt: HostRuntime) -> Result<(), Fail> {
         ("1 $QUERY(^A(4),-1)", "1 \"\""),
         ("1 $QUERY(^AB(\"\"))", "1 \"\""),
     ];
-    assert_eq!(rt; first_other(rt.alloc(), &before, &rows)?, None);
+    assert_eq!(rt; first_other_after(rt.alloc(), before, rows)?, None);
     Ok(())
 }
 
 #[test]
 fn kill_takes_descendants_and_no_longer_sibling(rt: HostRuntime) -> Result<(), Fail> {
-    let before = [
+    let before: &[&str] = &[
         "1 SET ^A(12)=\"kept\"",
         "1 SET ^A(1,1)=1",
         "1 SET ^A(1)=1",
         "1 KILL ^A(1)",
         "1 KILL ^Nil",
     ];
-    let rows = [
+    let rows: &[Row] = &[
         ("1 $DATA(^A(1))", "1 0"),
         ("1 $GET(^A(1,1),\"none\")", "1 \"none\""),
         ("1 $GET(^A(12))", "1 \"kept\""),
         ("1 $ORDER(^A(\"\"))", "1 12"),
     ];
-    assert_eq!(rt; first_other(rt.alloc(), &before, &rows)?, None);
+    assert_eq!(rt; first_other_after(rt.alloc(), before, rows)?, None);
     Ok(())
 }
 
 // What is copied holds each kind of subscript, and bytes that end one inside a text.
 #[test]
 fn merge_copies_the_value_and_the_descendants(rt: HostRuntime) -> Result<(), Fail> {
-    let before = [
+    let before: &[&str] = &[
         "1 SET ^A(1)=\"one\"",
         "1 SET ^A(1,$C(0,255),-1.5,0,.5)=\"deep\"",
         "1 SET ^B(9)=\"over\"",
         "1 SET ^B(9,\"own\")=\"stays\"",
         "1 MERGE ^B(9)=^A(1)",
     ];
-    let rows = [
+    let rows: &[Row] = &[
         ("1 $GET(^B(9))", "1 \"one\""),
         ("1 $GET(^B(9,$C(0,255),-1.5,0,.5))", "1 \"deep\""),
         ("1 $GET(^B(9,\"own\"))", "1 \"stays\""),
@@ -122,6 +120,6 @@ fn merge_copies_the_value_and_the_descendants(rt: HostRuntime) -> Result<(), Fai
         ("1 MERGE ^A=^A", "1 ok"),
         ("1 MERGE ^A(1)=^Nil", "1 ok"),
     ];
-    assert_eq!(rt; first_other(rt.alloc(), &before, &rows)?, None);
+    assert_eq!(rt; first_other_after(rt.alloc(), before, rows)?, None);
     Ok(())
 }

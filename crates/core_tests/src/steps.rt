@@ -1,11 +1,12 @@
 //! Lists of steps, from docs/RULES.md: their replies, the journal and the content that they leave; and long lists, which
 //! end within the runner's limit.
 use crate::answers::answers;
+use command::Reply;
 use job_core::{JobCore, Step, run_from_nothing};
 use listing::{Counted, ListingFault, write_listing};
 use refusal::Refusal;
 use script::{Drafts, read_line, write_reply};
-use std::alloc::Global;
+use std::alloc::{AllocError, Global};
 use std::test::Fail;
 
 fn push_step(alloc: Global, steps: &mut Vec<Step>, line: &str) -> Result<(), Refusal> {
@@ -38,22 +39,35 @@ const LINES: [&str; 8] = [
     "2 $ORDER(^A)",
 ];
 
-// The replies of the steps as text, all with the job 0.
-fn replies_of(alloc: Global, steps: Vec<Step>) -> Result<Vec<u8>, Refusal> {
-    let (_core, replies) = run_from_nothing(alloc, steps)?;
+// Whether the replies are this text, all with the job 0.
+fn are_written(alloc: Global, replies: &[Reply], want: &[u8]) -> Result<bool, AllocError> {
     let mut text = Vec::new(alloc);
-    for reply in &replies {
+    for reply in replies {
         write_reply(None, reply, &mut text)?;
     }
-    Ok(text)
+    Ok(text.as_slice() == want)
+}
+
+// Whether every step but the refused one is in the journal, and ^A(12) alone is left.
+fn is_left(alloc: Global, core: &JobCore) -> Result<bool, ListingFault> {
+    Ok(core.journal().len() == 7 && is_listed_as(alloc, core, b"^A(12)=\"b\"\n")?)
+}
+
+// Whether the steps have these replies, and leave what they should.
+fn are_done(alloc: Global, steps: Vec<Step>, want: &[u8]) -> Result<(bool, bool), Fail> {
+    let (core, replies) = run_from_nothing(alloc, steps)?;
+    let written = are_written(alloc, &replies, want);
+    let left = is_left(alloc, &core);
+    drop(replies);
+    drop(core);
+    Ok((written?, left?))
 }
 
 #[test]
-fn a_worked_list_has_its_replies(rt: HostRuntime) -> Result<(), Fail> {
+fn a_worked_list_has_its_replies_and_leaves_its_content(rt: HostRuntime) -> Result<(), Fail> {
     let steps = steps_of(rt.alloc(), &LINES)?;
-    let text = replies_of(rt.alloc(), steps)?;
     let want = b"0 ok\n0 ok\n0 ok\n0 ok\n0 10\n0 \"\"\n0 12\n0 error 7 NeedSubscript\n";
-    assert_eq!(rt; text.as_slice(), want.as_slice());
+    assert_eq!(rt; are_done(rt.alloc(), steps, want)?, (true, true));
     Ok(())
 }
 
@@ -61,16 +75,6 @@ fn is_listed_as(alloc: Global, core: &JobCore, want: &[u8]) -> Result<bool, List
     let mut writer = Counted::new(Vec::new(alloc));
     write_listing(alloc, &core.content(), &mut writer)?;
     Ok(writer.inner().as_slice() == want)
-}
-
-// Every step but the refused one is in the journal, and ^A(12) alone is left.
-#[test]
-fn a_worked_list_leaves_its_content(rt: HostRuntime) -> Result<(), Fail> {
-    let steps = steps_of(rt.alloc(), &LINES)?;
-    let (core, _replies) = run_from_nothing(rt.alloc(), steps)?;
-    assert!(rt; is_listed_as(rt.alloc(), &core, b"^A(12)=\"b\"\n")?);
-    assert_eq!(rt; core.journal().len(), 7);
-    Ok(())
 }
 
 fn is_answered(
@@ -86,36 +90,51 @@ fn is_answered(
     answers(alloc, core, &line, want)
 }
 
+fn is_got(alloc: Global, core: &mut JobCore, digits: &[u8]) -> Result<bool, Refusal> {
+    let mut want = Vec::from_slice(alloc, b"2 ")?;
+    want.extend_from_slice(digits)?;
+    is_answered(alloc, core, [b"2 $GET(^A(", digits, b"))", b""], &want)
+}
+
 // Sets ^A(n) = n and gets it again.
-fn is_set_and_got(alloc: Global, core: &mut JobCore, n: u32) -> Result<bool, Fail> {
+fn is_set_and_got(alloc: Global, core: &mut JobCore, n: u32) -> Result<bool, Refusal> {
     let digits = n.to_string(alloc)?;
     let n = digits.as_bytes();
     let is_set = is_answered(alloc, core, [b"1 SET ^A(", n, b")=", n], b"1 ok")?;
-    let mut want = Vec::from_slice(alloc, b"2 ")?;
-    want.extend_from_slice(n)?;
-    Ok(is_set && is_answered(alloc, core, [b"2 $GET(^A(", n, b"))", b""], &want)?)
+    Ok(is_set && is_got(alloc, core, n)?)
 }
 
 const MANY: u32 = 100_000;
 
+// The first of many subscripts that isn't set and got; or none. An odd factor, so that no number below 2^20 comes twice.
+fn first_lost(alloc: Global, core: &mut JobCore, factor: u32) -> Result<Option<u32>, Refusal> {
+    for i in 0..MANY {
+        let n = i.wrapping_mul(factor) & 0xf_ffff;
+        if !is_set_and_got(alloc, core, n)? {
+            return Ok(Some(n));
+        }
+    }
+    Ok(None)
+}
+
 #[test]
 fn many_rising_subscripts_are_set_and_got(rt: HostRuntime) -> Result<(), Fail> {
     let mut core = JobCore::new(rt.alloc());
-    for n in 0..MANY {
-        assert!(rt; is_set_and_got(rt.alloc(), &mut core, n)?, "at {n}");
-    }
-    assert_eq!(rt; core.journal().len(), 2 * u64::from(MANY));
+    let lost = first_lost(rt.alloc(), &mut core, 1);
+    let units = core.journal().len();
+    drop(core);
+    assert_eq!(rt; lost, Ok(None));
+    assert_eq!(rt; units, 2 * u64::from(MANY));
     Ok(())
 }
 
 #[test]
 fn many_shuffled_subscripts_are_set_and_got(rt: HostRuntime) -> Result<(), Fail> {
     let mut core = JobCore::new(rt.alloc());
-    for i in 0..MANY {
-        // an odd factor, so that no number below 2^20 comes twice
-        let n = i.wrapping_mul(646_957) & 0xf_ffff;
-        assert!(rt; is_set_and_got(rt.alloc(), &mut core, n)?, "at {n}");
-    }
-    assert!(rt; answers(rt.alloc(), &mut core, b"1 $DATA(^A)", b"1 10")?);
+    let lost = first_lost(rt.alloc(), &mut core, 646_957);
+    let has_descendants = answers(rt.alloc(), &mut core, b"1 $DATA(^A)", b"1 10");
+    drop(core);
+    assert_eq!(rt; lost, Ok(None));
+    assert_eq!(rt; has_descendants, Ok(true));
     Ok(())
 }

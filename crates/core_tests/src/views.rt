@@ -30,25 +30,33 @@ const LINES: [&str; 5] = [
     "1 SET ^%=0",
 ];
 
+// Whether the nodes behind and before a cut have these values.
+fn are_parted<V: OrderedView>(view: &V, cut: Cut<'_>, next: &[u8], prev: &[u8]) -> bool {
+    bytes(view.next(cut).map(|node| node.1)) == next
+        && bytes(view.prev(cut).map(|node| node.1)) == prev
+}
+
+fn are_parted_at_each_form<V: OrderedView>(view: &V, one: &Key) -> bool {
+    are_parted(view, Cut::Start, b"0", b"none")
+        && are_parted(view, Cut::Before(one), b"1", b"0")
+        && are_parted(view, Cut::After(one), b"9", b"1")
+        && are_parted(view, Cut::Past(one), b"c", b"b")
+}
+
+// The same at ^A(1).
+fn are_parted_at_one<V: OrderedView>(alloc: Global, view: &V) -> Result<bool, Refusal> {
+    let one = key_of(alloc, b"^A(1)")?;
+    let are_parted = are_parted_at_each_form(view, &one);
+    drop(one);
+    Ok(are_parted)
+}
+
 #[test]
 fn next_and_prev_part_the_nodes_at_each_form_of_cut(rt: HostRuntime) -> Result<(), Fail> {
     let core = core_of(rt.alloc(), &LINES)?;
-    let one = key_of(rt.alloc(), b"^A(1)")?;
-    let rows = [
-        (Cut::Start, "0", "none"),
-        (Cut::Before(&one), "1", "0"),
-        (Cut::After(&one), "9", "1"),
-        (Cut::Past(&one), "c", "b"),
-    ];
-    let content = core.content();
-    for (cut, next, prev) in rows {
-        let (first, last) = (content.next(cut), content.prev(cut));
-        let found = (
-            bytes(first.map(|node| node.1)),
-            bytes(last.map(|node| node.1)),
-        );
-        assert_eq!(rt; found, (next.as_bytes(), prev.as_bytes()));
-    }
+    let are_parted = are_parted_at_one(rt.alloc(), &core.content());
+    drop(core);
+    assert_eq!(rt; are_parted, Ok(true));
     Ok(())
 }
 
@@ -93,7 +101,8 @@ fn subtree_meets<V: OrderedView>(
 fn walks_meet_each_node_in_order(rt: HostRuntime) -> Result<(), Fail> {
     let core = core_of(rt.alloc(), &MORE_LINES)?;
     let all = walk_meets(rt.alloc(), &core.content(), b"0123456789");
-    assert_eq!(rt; all.unwrap_or(false), true);
+    drop(core);
+    assert!(rt; all?);
     Ok(())
 }
 
@@ -114,6 +123,7 @@ fn subtree_at_meets<V: OrderedView>(
 fn walks_meet_each_node_of_a_subtree(rt: HostRuntime) -> Result<(), Fail> {
     let core = core_of(rt.alloc(), &MORE_LINES)?;
     let below = subtree_at_meets(rt.alloc(), &core.content(), b"^B(2)", b"3456");
-    assert_eq!(rt; below.unwrap_or(false), true);
+    drop(core);
+    assert_eq!(rt; below, Ok(true));
     Ok(())
 }
