@@ -59,19 +59,20 @@ const REFUSED_TEXTS: [(&str, u64, usize, Refusal); 19] = [
     ("Globals\nzwr\n", 1, 1, Refusal::BadLine),
 ];
 
-fn listing_of(alloc: Global, core: &JobCore) -> Result<Vec<u8>, Fail> {
+// Whether this is listed of the core.
+fn lists(alloc: Global, core: &JobCore, listing: &[u8]) -> Result<bool, Fail> {
     let mut writer = Counted::new(Vec::new(alloc));
     write_listing(alloc, &core.content(), &mut writer)?;
-    Ok(Vec::from_slice(alloc, writer.inner())?)
+    Ok(writer.inner().as_slice() == listing)
 }
 
 // Whether the text is loaded, and this is listed of what it leaves.
 fn is_listed(alloc: Global, text: &[u8], listing: &[u8]) -> Result<bool, Fail> {
     match load(alloc, text) {
         Ok(core) => {
-            let lines = listing_of(alloc, &core);
+            let is_listed = lists(alloc, &core, listing);
             drop(core);
-            Ok(lines?.as_slice() == listing)
+            is_listed
         }
         Err(_) => Ok(false),
     }
@@ -133,14 +134,21 @@ fn long_line(alloc: Global, length: usize) -> Result<Vec<u8>, Fail> {
     Ok(line)
 }
 
+// Whether a value so long is loaded.
+fn is_loaded(alloc: Global, length: usize) -> Result<bool, Fail> {
+    let line = long_line(alloc, length)?;
+    is_listed(alloc, &line, &line)
+}
+
+fn is_too_long(alloc: Global, length: usize) -> Result<bool, Fail> {
+    let line = long_line(alloc, length)?;
+    Ok(is_refused(alloc, &line, 1, 4, Refusal::ValueTooLong))
+}
+
 #[test]
 fn values_are_loaded_up_to_their_limit(rt: HostRuntime) -> Result<(), Fail> {
-    let longest = long_line(rt.alloc(), 32767)?;
-    let is_loaded = is_listed(rt.alloc(), &longest, &longest)?;
-    assert!(rt; is_loaded);
-    let longer = long_line(rt.alloc(), 32768)?;
-    let too_long = is_refused(rt.alloc(), &longer, 1, 4, Refusal::ValueTooLong);
-    assert!(rt; too_long);
+    assert!(rt; is_loaded(rt.alloc(), 32767)?);
+    assert!(rt; is_too_long(rt.alloc(), 32768)?);
     Ok(())
 }
 
@@ -183,40 +191,48 @@ fn listings_load_back(rt: HostRuntime) -> Result<(), Fail> {
     Ok(())
 }
 
-// Whether a script that starts from a text writes this.
-fn writes_from(alloc: Global, text: &str, script: &str, output: &str) -> Result<bool, Fail> {
+// Whether a script that starts from a core writes this.
+fn goes_on(alloc: Global, core: JobCore, script: &str, output: &str) -> bool {
     let mut reader = Counted::new(script.as_bytes());
     let mut writer = Counted::new(Vec::new(alloc));
-    let outcome = match load(alloc, text.as_bytes()) {
-        Ok(core) => run_with_core(
-            alloc,
-            core,
-            true,
-            Upkeep::none(),
-            &mut reader,
-            &mut writer,
-            &mut NoLog,
-        ),
-        Err(_) => return Ok(false),
-    };
-    Ok(outcome.is_ok() && writer.inner().as_slice() == output.as_bytes())
+    let outcome = run_with_core(
+        alloc,
+        core,
+        true,
+        Upkeep::none(),
+        &mut reader,
+        &mut writer,
+        &mut NoLog,
+    );
+    outcome.is_ok() && writer.inner().as_slice() == output.as_bytes()
 }
 
-#[test]
-fn scripts_start_from_what_was_loaded(rt: HostRuntime) -> Result<(), Fail> {
-    let read = writes_from(
-        rt.alloc(),
+// Whether a script that starts from a text writes this.
+fn writes_from(alloc: Global, text: &str, script: &str, output: &str) -> bool {
+    match load(alloc, text.as_bytes()) {
+        Ok(core) => goes_on(alloc, core, script, output),
+        Err(_) => false,
+    }
+}
+
+// A text, a script that starts from it, and what that writes.
+const STARTS: [(&str, &str, &str); 2] = [
+    (
         "^A(1)=5\n^A(2)=6\n",
         "1 $GET(^A(1))\n1 SET ^A(2)=7\n2 $ORDER(^A(1))\n",
         "1 5\n1 ok\n2 2\n--\n^A(1)=5\n^A(2)=7\n",
-    )?;
-    assert!(rt; read);
-    let locked = writes_from(
-        rt.alloc(),
+    ),
+    (
         "^A=1\n",
         "2 TSTART\n2 LOCK ^A\n2 KILL ^A\n2 TCOMMIT\n",
         "2 level 1\n2 1\n2 ok\n2 committed\n--\n",
-    )?;
-    assert!(rt; locked);
+    ),
+];
+
+#[test]
+fn scripts_start_from_what_was_loaded(rt: HostRuntime) -> Result<(), Fail> {
+    for (text, script, output) in &STARTS {
+        assert!(rt; writes_from(rt.alloc(), text, script, output), "{text}");
+    }
     Ok(())
 }

@@ -1,7 +1,7 @@
 //! Lines that nobody would write: cut at each byte, of one byte, of all bytes, at and past each limit. From
 //! docs/FORMATS.md, "Grammar of lines", "Which refusal a line gets" and "Written literals".
-use crate::lines::{is_answered, stretched};
-use crate::scripts::output_of;
+use crate::lines::{Stretched, first_other_stretched, is_answered, stretched};
+use crate::scripts::is_output;
 use collation::Job;
 use refusal::Refusal;
 use script::{Drafts, read_line};
@@ -47,10 +47,10 @@ fn each_beginning_of_a_long_line_is_refused_unless_it_is_a_line(
     let set =
         b"1 SET ^%b(-01.50,\"a\"\"b\",$C(0,255)_\"x\")=\"value\"_$CHAR(10)_\" \"\"end\"\"\" \t";
     let lock = b"1 LOCK +(^A(01.50,\"x\"),Desk):123456789 ";
-    let set_ends = [46, 56, 60, 65, 67, 68];
-    let lock_ends = [3, 6, 7, 28, 30, 31, 32, 33, 34, 35, 36, 37, 38];
-    assert_eq!(rt; first_other_beginning(rt.alloc(), set, &set_ends), None);
-    assert_eq!(rt; first_other_beginning(rt.alloc(), lock, &lock_ends), None);
+    let set_ends: &[usize] = &[46, 56, 60, 65, 67, 68];
+    let lock_ends: &[usize] = &[3, 6, 7, 28, 30, 31, 32, 33, 34, 35, 36, 37, 38];
+    assert_eq!(rt; first_other_beginning(rt.alloc(), set, set_ends), None);
+    assert_eq!(rt; first_other_beginning(rt.alloc(), lock, lock_ends), None);
     Ok(())
 }
 
@@ -125,66 +125,62 @@ fn output_of_bytes(alloc: Global) -> Result<Vec<u8>, AllocError> {
 #[test]
 fn a_value_may_have_all_bytes_but_the_end_of_a_line(rt: HostRuntime) -> Result<(), Fail> {
     let script = script_of_bytes(rt.alloc())?;
-    let (text, _) = output_of(rt.alloc(), &script)?;
     let want = output_of_bytes(rt.alloc())?;
-    assert_eq!(rt; text.as_slice(), want.as_slice());
+    assert!(rt; is_output(rt.alloc(), &script, &want, false)?);
     Ok(())
+}
+
+fn all_bytes(alloc: Global) -> Result<Vec<u8>, AllocError> {
+    let mut script = Vec::new(alloc);
+    for byte in 0..=255u8 {
+        script.push(byte)?;
+    }
+    Ok(script)
 }
 
 // Byte 10 parts the two lines.
 #[test]
 fn all_bytes_in_a_row_are_two_bad_lines(rt: HostRuntime) -> Result<(), Fail> {
-    let mut script = Vec::new(rt.alloc());
-    for byte in 0..=255u8 {
-        script.push(byte)?;
-    }
-    let (text, _) = output_of(rt.alloc(), &script)?;
-    assert_eq!(rt;
-        text.as_slice(),
-        b"0 error 1 BadLine\n0 error 1 BadLine\n--\n".as_slice()
-    );
+    let script = all_bytes(rt.alloc())?;
+    let want = b"0 error 1 BadLine\n0 error 1 BadLine\n--\n";
+    assert!(rt; is_output(rt.alloc(), &script, want, true)?);
     Ok(())
 }
 
+const NAMES_AND_TEXTS: [Stretched; 10] = [
+    (b"1 SET ^", b'A', 31, b"=1", b"1 ok"),
+    (b"1 SET ^", b'A', 32, b"=1", b"1 error 2 BadName"),
+    (b"1 MERGE ^A=^%", b'9', 30, b"", b"1 ok"),
+    (b"1 MERGE ^A=^%", b'9', 31, b"", b"1 error 2 BadName"),
+    (b"1 $ORDER(^A(\"", b'x', 255, b"\"),-1)", b"1 \"\""),
+    (
+        b"1 $ORDER(^A(\"",
+        b'x',
+        256,
+        b"\"),-1)",
+        b"1 error 4 SubscriptTooLong",
+    ),
+    (b"1 LOCK +(A,^B(\"", b'x', 255, b"\"))", b"1 1"),
+    (
+        b"1 LOCK +(A,^B(\"",
+        b'x',
+        256,
+        b"\"))",
+        b"1 error 4 SubscriptTooLong",
+    ),
+    (b"1 KILL ^A(1", b'0', 254, b")", b"1 ok"),
+    (
+        b"1 KILL ^A(1",
+        b'0',
+        255,
+        b")",
+        b"1 error 4 SubscriptTooLong",
+    ),
+];
+
 #[test]
 fn names_and_texts_are_taken_up_to_their_limits(rt: HostRuntime) -> Result<(), Fail> {
-    let rows: [(&[u8], u8, usize, &[u8], &[u8]); 10] = [
-        (b"1 SET ^", b'A', 31, b"=1", b"1 ok"),
-        (b"1 SET ^", b'A', 32, b"=1", b"1 error 2 BadName"),
-        (b"1 MERGE ^A=^%", b'9', 30, b"", b"1 ok"),
-        (b"1 MERGE ^A=^%", b'9', 31, b"", b"1 error 2 BadName"),
-        (b"1 $ORDER(^A(\"", b'x', 255, b"\"),-1)", b"1 \"\""),
-        (
-            b"1 $ORDER(^A(\"",
-            b'x',
-            256,
-            b"\"),-1)",
-            b"1 error 4 SubscriptTooLong",
-        ),
-        (b"1 LOCK +(A,^B(\"", b'x', 255, b"\"))", b"1 1"),
-        (
-            b"1 LOCK +(A,^B(\"",
-            b'x',
-            256,
-            b"\"))",
-            b"1 error 4 SubscriptTooLong",
-        ),
-        (b"1 KILL ^A(1", b'0', 254, b")", b"1 ok"),
-        (
-            b"1 KILL ^A(1",
-            b'0',
-            255,
-            b")",
-            b"1 error 4 SubscriptTooLong",
-        ),
-    ];
-    for (front, byte, count, back, reply) in rows {
-        let line = stretched(rt.alloc(), front, byte, count, back)?;
-        assert!(rt;
-            is_answered(rt.alloc(), &line, reply)?,
-            "{front:?} and {count}"
-        );
-    }
+    assert_eq!(rt; first_other_stretched(rt.alloc(), &NAMES_AND_TEXTS)?, None);
     Ok(())
 }
 
@@ -258,17 +254,26 @@ fn set_line(alloc: Global, count: usize, size: usize) -> Result<Vec<u8>, Fail> {
     Ok(line)
 }
 
+// How many subscripts of how many bytes, and the reply to their SET.
+const SUBSCRIPTS: [(usize, usize, &[u8]); 4] = [
+    (31, 255, b"1 ok"),
+    (31, 256, b"1 error 4 SubscriptTooLong"),
+    (32, 255, b"1 error 5 TooManySubscripts"),
+    (32, 0, b"1 error 5 TooManySubscripts"),
+];
+
+fn is_set(alloc: Global, count: usize, size: usize, reply: &[u8]) -> Result<bool, Fail> {
+    let line = set_line(alloc, count, size)?;
+    is_answered(alloc, &line, reply)
+}
+
 #[test]
 fn references_have_up_to_31_subscripts_of_255_bytes(rt: HostRuntime) -> Result<(), Fail> {
-    let rows: [(usize, usize, &[u8]); 4] = [
-        (31, 255, b"1 ok"),
-        (31, 256, b"1 error 4 SubscriptTooLong"),
-        (32, 255, b"1 error 5 TooManySubscripts"),
-        (32, 0, b"1 error 5 TooManySubscripts"),
-    ];
-    for (count, size, reply) in rows {
-        let line = set_line(rt.alloc(), count, size)?;
-        assert!(rt; is_answered(rt.alloc(), &line, reply)?, "{count} of {size}");
+    for (count, size, reply) in &SUBSCRIPTS {
+        assert!(rt;
+            is_set(rt.alloc(), *count, *size, reply)?,
+            "{count} of {size}"
+        );
     }
     Ok(())
 }

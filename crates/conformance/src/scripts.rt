@@ -2,7 +2,7 @@
 use crate::lines::stretched;
 use listing::Counted;
 use script_run::{Upkeep, run_script};
-use std::alloc::Global;
+use std::alloc::{AllocError, Global};
 use std::test::Fail;
 use worked_rows::{ANSWERED, REFUSED, Row};
 
@@ -39,7 +39,7 @@ const OFTEN: [(u64, u64); 8] = [
 
 // How often they are where the script then writes something else than this; or none.
 fn first_unlike(alloc: Global, script: &str, output: &str) -> Result<Option<(u64, u64)>, Fail> {
-    for (collect_every, checkpoint_every) in OFTEN {
+    for &(collect_every, checkpoint_every) in &OFTEN {
         let upkeep = Upkeep {
             collect_every,
             checkpoint_every,
@@ -74,40 +74,61 @@ fn refused_lines_keep_their_place(rt: HostRuntime) -> Result<(), Fail> {
     Ok(())
 }
 
-// Nines, so many.
-fn push_nines(text: &mut Vec<u8>, count: usize) -> Result<(), Fail> {
+/// Whether a script writes just this, and whether it refuses a line is as told.
+pub fn is_output(alloc: Global, input: &[u8], want: &[u8], refused: bool) -> Result<bool, Fail> {
+    let (text, found) = output_of(alloc, input)?;
+    Ok(text.as_slice() == want && found == refused)
+}
+
+/// Whether what a script writes ends so.
+pub fn has_end(alloc: Global, input: &[u8], end: &[u8]) -> Result<bool, Fail> {
+    let (text, _) = output_of(alloc, input)?;
+    Ok(text.ends_with(end))
+}
+
+// Nines, so many, between a front and a back.
+fn push_nines(
+    text: &mut Vec<u8>,
+    front: &[u8],
+    count: usize,
+    back: &[u8],
+) -> Result<(), AllocError> {
+    text.extend_from_slice(front)?;
     for _ in 0..count {
         text.push(b'9')?;
     }
-    Ok(())
+    text.extend_from_slice(back)
+}
+
+fn script_of_nines(alloc: Global) -> Result<Vec<u8>, AllocError> {
+    let mut input = Vec::new(alloc);
+    for count in [127, 126, 128] {
+        push_nines(&mut input, b"1 SET ^A(", count, b")=1\n")?;
+    }
+    input.extend_from_slice(b"1 SET ^A(01.50)=-0\n")?;
+    Ok(input)
+}
+
+fn output_of_nines(alloc: Global) -> Result<Vec<u8>, AllocError> {
+    let mut output = Vec::from_slice(alloc, b"1 ok\n1 ok\n1 ok\n1 ok\n--\n^A(1.5)=0\n")?;
+    for count in [126, 127, 128] {
+        push_nines(&mut output, b"^A(", count, b")=1\n")?;
+    }
+    Ok(output)
 }
 
 #[test]
 fn numbers_past_127_bytes_stand_by_value(rt: HostRuntime) -> Result<(), Fail> {
-    let alloc = rt.alloc();
-    let mut input = Vec::new(alloc);
-    for count in [127, 126, 128] {
-        input.extend_from_slice(b"1 SET ^A(")?;
-        push_nines(&mut input, count)?;
-        input.extend_from_slice(b")=1\n")?;
-    }
-    input.extend_from_slice(b"1 SET ^A(01.50)=-0\n")?;
-    let mut output = Vec::new(alloc);
-    output.extend_from_slice(b"1 ok\n1 ok\n1 ok\n1 ok\n--\n^A(1.5)=0\n^A(")?;
-    push_nines(&mut output, 126)?;
-    output.extend_from_slice(b")=1\n^A(")?;
-    push_nines(&mut output, 127)?;
-    output.extend_from_slice(b")=1\n^A(")?;
-    push_nines(&mut output, 128)?;
-    output.extend_from_slice(b")=1\n")?;
-    let (text, refused) = output_of(alloc, &input)?;
-    assert_eq!(rt; text.as_slice(), output.as_slice());
-    assert!(rt; !refused);
+    let input = script_of_nines(rt.alloc())?;
+    let want = output_of_nines(rt.alloc())?;
+    assert!(rt; is_output(rt.alloc(), &input, &want, false)?);
     Ok(())
 }
 
+type Number = (&'static [u8], u8, usize, &'static [u8]);
+
 // A front, a digit so many times, and a back: in the order of numbers, up to 255 digits and 254 places.
-const NUMBERS: [(&[u8], u8, usize, &[u8]); 12] = [
+const NUMBERS: [Number; 12] = [
     (b"-", b'9', 254, b""),
     (b"-1", b'0', 253, b""),
     (b"-.", b'0', 252, b"1"),
@@ -122,40 +143,61 @@ const NUMBERS: [(&[u8], u8, usize, &[u8]); 12] = [
     (b"", b'9', 255, b""),
 ];
 
-#[test]
-fn numbers_stand_by_value_up_to_255_bytes(rt: HostRuntime) -> Result<(), Fail> {
-    let mut input = Vec::new(rt.alloc());
-    let mut output = Vec::new(rt.alloc());
-    for (front, digit, count, back) in NUMBERS.iter().rev() {
-        let number = stretched(rt.alloc(), front, *digit, *count, back)?;
-        input.extend_from_slice(b"1 SET ^A(")?;
-        input.extend_from_slice(&number)?;
-        input.extend_from_slice(b")=1\n")?;
-        output.extend_from_slice(b"1 ok\n")?;
-    }
-    output.extend_from_slice(b"--\n")?;
-    for (front, digit, count, back) in &NUMBERS {
-        let number = stretched(rt.alloc(), front, *digit, *count, back)?;
-        output.extend_from_slice(b"^A(")?;
-        output.extend_from_slice(&number)?;
-        output.extend_from_slice(b")=1\n")?;
-    }
-    let (text, _) = output_of(rt.alloc(), &input)?;
-    assert_eq!(rt; text.as_slice(), output.as_slice());
+// Writes the number as a subscript behind this.
+fn push_number(
+    alloc: Global,
+    text: &mut Vec<u8>,
+    front: &[u8],
+    number: &Number,
+) -> Result<(), Fail> {
+    let digits = stretched(alloc, number.0, number.1, number.2, number.3)?;
+    text.extend_from_slice(front)?;
+    text.extend_from_slice(&digits)?;
+    text.extend_from_slice(b")=1\n")?;
     Ok(())
 }
 
-#[test]
-fn a_copy_too_deep_sets_nothing(rt: HostRuntime) -> Result<(), Fail> {
-    let alloc = rt.alloc();
+fn script_of_numbers(alloc: Global) -> Result<Vec<u8>, Fail> {
     let mut input = Vec::new(alloc);
-    input.extend_from_slice(b"1 SET ^B(1)=1\n1 MERGE ^A(1")?;
+    for number in NUMBERS.iter().rev() {
+        push_number(alloc, &mut input, b"1 SET ^A(", number)?;
+    }
+    Ok(input)
+}
+
+fn output_of_numbers(alloc: Global) -> Result<Vec<u8>, Fail> {
+    let mut output = Vec::new(alloc);
+    for _ in &NUMBERS {
+        output.extend_from_slice(b"1 ok\n")?;
+    }
+    output.extend_from_slice(b"--\n")?;
+    for number in &NUMBERS {
+        push_number(alloc, &mut output, b"^A(", number)?;
+    }
+    Ok(output)
+}
+
+#[test]
+fn numbers_stand_by_value_up_to_255_bytes(rt: HostRuntime) -> Result<(), Fail> {
+    let input = script_of_numbers(rt.alloc())?;
+    let want = output_of_numbers(rt.alloc())?;
+    assert!(rt; is_output(rt.alloc(), &input, &want, false)?);
+    Ok(())
+}
+
+fn script_of_a_deep_copy(alloc: Global) -> Result<Vec<u8>, AllocError> {
+    let mut input = Vec::from_slice(alloc, b"1 SET ^B(1)=1\n1 MERGE ^A(1")?;
     for _ in 1..31 {
         input.extend_from_slice(b",1")?;
     }
     input.extend_from_slice(b")=^B\n")?;
-    let (text, _) = output_of(alloc, &input)?;
+    Ok(input)
+}
+
+#[test]
+fn a_copy_too_deep_sets_nothing(rt: HostRuntime) -> Result<(), Fail> {
+    let input = script_of_a_deep_copy(rt.alloc())?;
     let want = b"1 ok\n1 error 5 TooManySubscripts\n--\n^B(1)=1\n";
-    assert_eq!(rt; text.as_slice(), want.as_slice());
+    assert!(rt; is_output(rt.alloc(), &input, want, true)?);
     Ok(())
 }

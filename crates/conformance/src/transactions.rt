@@ -1,5 +1,5 @@
 //! Scripts of transactions: what each job is answered, and what is left. From docs/RULES.md, "Transactions" and "Jobs".
-use crate::scripts::{first_other, output_of};
+use crate::scripts::{first_other, has_end};
 use std::alloc::Global;
 use std::test::Fail;
 use worked_rows::{COMMITS, LEVELS};
@@ -29,9 +29,8 @@ fn deep_script(alloc: Global) -> Result<Vec<u8>, Fail> {
 #[test]
 fn levels_go_to_127(rt: HostRuntime) -> Result<(), Fail> {
     let script = deep_script(rt.alloc())?;
-    let (text, _) = output_of(rt.alloc(), &script)?;
     let end = b"1 level 127\n1 error 10 LevelTooDeep\n1 127\n1 level 126\n--\n";
-    assert!(rt; text.ends_with(end.as_slice()));
+    assert!(rt; has_end(rt.alloc(), &script, end)?);
     Ok(())
 }
 
@@ -50,9 +49,8 @@ fn long_script(alloc: Global) -> Result<Vec<u8>, Fail> {
 #[test]
 fn transactions_hold_65535_data_commands(rt: HostRuntime) -> Result<(), Fail> {
     let script = long_script(rt.alloc())?;
-    let (text, _) = output_of(rt.alloc(), &script)?;
     let end =
         b"1 \"\"\n1 error 13 TransactionTooLong\n1 error 13 TransactionTooLong\n1 committed\n1 \"\"\n--\n";
-    assert!(rt; text.ends_with(end.as_slice()));
+    assert!(rt; has_end(rt.alloc(), &script, end)?);
     Ok(())
 }
