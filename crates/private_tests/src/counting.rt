@@ -260,7 +260,7 @@ fn act(
 }
 
 fn act_all(alloc: Global, own: &mut Workspace, plain: &mut KeyMap<Text>) -> Result<(), Refusal> {
-    for done in DONE {
+    for done in &DONE {
         act(alloc, own, plain, done)?;
     }
     Ok(())
