@@ -191,28 +191,23 @@ fn listings_load_back(rt: HostRuntime) -> Result<(), Fail> {
     Ok(())
 }
 
-// Whether a script that starts from a core writes this.
-fn goes_on(alloc: Global, core: JobCore, script: &str, output: &str) -> bool {
-    let mut reader = Counted::new(script.as_bytes());
-    let mut writer = Counted::new(Vec::new(alloc));
-    let outcome = run_with_core(
-        alloc,
-        core,
-        true,
-        Upkeep::none(),
-        &mut reader,
-        &mut writer,
-        &mut NoLog,
-    );
-    outcome.is_ok() && writer.inner().as_slice() == output.as_bytes()
-}
-
 // Whether a script that starts from a text writes this.
 fn writes_from(alloc: Global, text: &str, script: &str, output: &str) -> bool {
-    match load(alloc, text.as_bytes()) {
-        Ok(core) => goes_on(alloc, core, script, output),
-        Err(_) => false,
-    }
+    let mut reader = Counted::new(script.as_bytes());
+    let mut writer = Counted::new(Vec::new(alloc));
+    let outcome = match load(alloc, text.as_bytes()) {
+        Ok(core) => run_with_core(
+            alloc,
+            core,
+            true,
+            Upkeep::none(),
+            &mut reader,
+            &mut writer,
+            &mut NoLog,
+        ),
+        Err(_) => return false,
+    };
+    outcome.is_ok() && writer.inner().as_slice() == output.as_bytes()
 }
 
 // A text, a script that starts from it, and what that writes.
