@@ -1,4 +1,4 @@
-//! C's allocation, counted. Before each write to standard output it tells on standard error how many bytes are allocated
+//! C's allocation, counted. Before each write to standard output it reports on standard error how many bytes are allocated
 //! apart from the largest block. To be preloaded, into a program of one thread.
 use std::ffi::c_void;
 use std::sync::atomic::{AtomicUsize, Ordering::Relaxed};
@@ -12,7 +12,7 @@ extern "C" {
     fn __write(file: i32, bytes: *const u8, count: usize) -> isize;
 }
 
-/// Only blocks of at least so many bytes may be the largest.
+/// Only blocks of at least this many bytes may be the largest.
 const LARGE: usize = 65_536;
 
 /// The bytes of all blocks, and the sizes of the large ones, 0 where a place is free.

@@ -1,4 +1,4 @@
-//! C's `malloc` and `realloc`, of which one call is refused: the one whose number stands in `REFUSED`. To be preloaded.
+//! C's `malloc` and `realloc`, of which one call is refused: the one whose number is in `REFUSED`. To be preloaded.
 use std::ffi::{c_char, c_void};
 use std::sync::atomic::{AtomicI64, Ordering};
 
