@@ -68,6 +68,6 @@ def lines_of(path):
 
 
 def restarts_of(path):
-    """How many replies tell a restart."""
+    """How many replies are a restart."""
     with open(path, "rb") as file:
         return sum(1 for line in file if line.split()[1:2] == [b"restart"])

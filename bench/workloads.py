@@ -160,14 +160,14 @@ def range_read(file, count):
 
 
 def taken_locks(file, jobs, names):
-    """Each job takes so many names of its own, at three levels."""
+    """Each job takes as many names of its own, at three levels."""
     for job in range(1, jobs + 1):
         listed = ",".join(f"^Ward({job},{name // 10},{name % 10})" for name in range(names))
         write(file, [f"{job} LOCK +({listed})"])
 
 
 def lock_tries(file, jobs, names, tries, free):
-    """Jobs ask for names of others, in vain, or for free ones beside them, which they give back."""
+    """Jobs ask for names of others, which are blocked, or for free ones next to them, which they release."""
     source = random.Random(1)
     for _ in range(tries):
         job, other = source.randint(1, jobs), source.randint(1, jobs)
@@ -180,7 +180,7 @@ def lock_tries(file, jobs, names, tries, free):
 
 
 def locks(file, count):
-    """As many names held by jobs with 100 each, at most 4,096 jobs; then half as many tries in vain as `count`, and as many for free names."""
+    """As many names held by jobs with 100 each, at most 4,096 jobs; then half as many tries that are blocked as `count`, and as many for free names."""
     jobs = max(2, min(4096, count // 100))
     taken_locks(file, jobs, 100)
     lock_tries(file, jobs, 100, count // 2, False)
