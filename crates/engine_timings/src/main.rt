@@ -92,6 +92,21 @@ fn alone<B: BoardName, R: Wait + Clock + Eprint>(
     Ok(done)
 }
 
+fn with_session<B: BoardName, R: Wait + Clock + Eprint>(
+    rt: &R,
+    alloc: Global,
+    engine: &Shared<B>,
+    turns: u64,
+) -> Result<u64> {
+    let Some(job) = job_of(4096) else {
+        return Ok(0);
+    };
+    let Ok(mut session) = engine.open(rt, alloc, job) else {
+        return Ok(0);
+    };
+    alone(rt, alloc, engine, &mut session, turns)
+}
+
 // The same SETs by a core of one thread.
 fn beside<R: Clock + Eprint>(rt: &R, alloc: Global, turns: u64) -> Result<u64> {
     let mut core = JobCore::new(alloc);
@@ -157,6 +172,47 @@ fn sets_together<B: BoardName + Send + Sync, R: Threads + Wait + Clock + Eprint 
     tell_together(rt, "lone SETs", threads, turns, begun, made)
 }
 
+// A session of one thread, and what it does beside a core of one thread.
+fn of_one_thread<B: BoardName, R: Wait + Clock + Print + Eprint>(
+    rt: &R,
+    alloc: Global,
+    engine: &Shared<B>,
+    turns: u64,
+) -> Result<()> {
+    let done = with_session(rt, alloc, engine, turns)?;
+    let by_core = beside(rt, alloc, turns)?;
+    println!(rt; "{done} {by_core}")?;
+    Ok(())
+}
+
+// One thread and four, by what threads do.
+fn of_threads<B: BoardName + Send + Sync, R: Threads + Wait + Clock + Print + Eprint + Sync>(
+    rt: &R,
+    alloc: Global,
+    engine: &Shared<B>,
+    turns: u64,
+) -> Result<()> {
+    for kind in &KINDS {
+        let one = together(rt, alloc, engine, *kind, 1, turns)?;
+        let four = together(rt, alloc, engine, *kind, 4, turns)?;
+        println!(rt; "{one} {four}")?;
+    }
+    let one = sets_together(rt, alloc, engine, 1, turns)?;
+    let four = sets_together(rt, alloc, engine, 4, turns)?;
+    println!(rt; "{one} {four}")?;
+    Ok(())
+}
+
+fn measure<B: BoardName + Send + Sync, R: Threads + Wait + Clock + Print + Eprint + Sync>(
+    rt: &R,
+    alloc: Global,
+    engine: &Shared<B>,
+    turns: u64,
+) -> Result<()> {
+    of_one_thread(rt, alloc, engine, turns)?;
+    of_threads(rt, alloc, engine, turns)
+}
+
 fn run<B: BoardName + Send + Sync, R: Threads + Wait + Clock + Print + Eprint + Sync>(
     rt: &R,
     alloc: Global,
@@ -166,24 +222,7 @@ fn run<B: BoardName + Send + Sync, R: Threads + Wait + Clock + Print + Eprint + 
     requires { (blank.seat.table_id ≡ B.table) × (blank.words.seats ≡ 4096) }
 {
     let engine = Shared::<B>::new(alloc, blank);
-    let Some(job) = job_of(4096) else {
-        return Ok(());
-    };
-    let Ok(mut session) = engine.open(rt, alloc, job) else {
-        return Ok(());
-    };
-    let done = alone(rt, alloc, &engine, &mut session, turns)?;
-    let by_core = beside(rt, alloc, turns)?;
-    println!(rt; "{done} {by_core}")?;
-    for kind in KINDS {
-        let one = together(rt, alloc, &engine, kind, 1, turns)?;
-        let four = together(rt, alloc, &engine, kind, 4, turns)?;
-        println!(rt; "{one} {four}")?;
-    }
-    let one = sets_together(rt, alloc, &engine, 1, turns)?;
-    let four = sets_together(rt, alloc, &engine, 4, turns)?;
-    println!(rt; "{one} {four}")?;
-    Ok(())
+    measure(rt, alloc, &engine, turns)
 }
 
 fn main(rt: HostRuntime) -> Result<()> {

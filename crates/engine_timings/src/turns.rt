@@ -245,6 +245,41 @@ fn own_line(number: u64) -> &'static str {
     OWN[number as usize % OWN.len()]
 }
 
+// Transactions of so many reads: all commit, or are rolled back but for each so many-th, 0 for none, which also sets what
+// the line says and commits.
+fn transactions_of<B: BoardName, R: Wait>(
+    rt: &R,
+    alloc: Global,
+    engine: &Shared<B>,
+    session: &mut Session<B>,
+    line: &str,
+    reads: u64,
+    commits: bool,
+    each: u64,
+    turns: u64,
+) -> u64 {
+    let mut done = 0u64;
+    for turn in 0..turns {
+        let sets = if each > 0 && turn % each == 0 {
+            Some(line)
+        } else {
+            None
+        };
+        if transaction(rt, alloc, engine, session, reads, commits, sets).is_some() {
+            done = done.wrapping_add(1);
+        }
+    }
+    done
+}
+
+// The session ends. Answers how many turns were done, or none where its end is refused.
+fn ended<B: BoardName, R: Wait>(rt: &R, engine: &Shared<B>, session: Session<B>, done: u64) -> u64 {
+    match engine.halt(rt, session) {
+        Ok(_) => done,
+        Err(_) => 0,
+    }
+}
+
 /// Transactions of so many reads, of a session of the job's own. All commit, or are rolled back but for each so many-th, 0
 /// for none, which also sets a node and commits.
 pub fn transactions<B: BoardName, R: Wait>(
@@ -264,21 +299,18 @@ pub fn transactions<B: BoardName, R: Wait>(
         return 0;
     };
     let line = own_line(number);
-    let mut done = 0u64;
-    for turn in 0..turns {
-        let sets = if each > 0 && turn % each == 0 {
-            Some(line)
-        } else {
-            None
-        };
-        if transaction(rt, alloc, engine, &mut session, reads, commits, sets).is_some() {
-            done = done.wrapping_add(1);
-        }
-    }
-    match engine.halt(rt, session) {
-        Ok(_) => done,
-        Err(_) => 0,
-    }
+    let done = transactions_of(
+        rt,
+        alloc,
+        engine,
+        &mut session,
+        line,
+        reads,
+        commits,
+        each,
+        turns,
+    );
+    ended(rt, engine, session, done)
 }
 
 /// Lone SETs of a session of the job's own.
@@ -296,8 +328,5 @@ pub fn lone_sets<B: BoardName, R: Wait>(
         return 0;
     };
     let done = set_often(rt, alloc, engine, &mut session, own_line(number), turns);
-    match engine.halt(rt, session) {
-        Ok(_) => done,
-        Err(_) => 0,
-    }
+    ended(rt, engine, session, done)
 }

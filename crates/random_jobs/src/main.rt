@@ -6,7 +6,7 @@
 //! where none are said.
 #![tactic(auto)]
 
-use job_scripts::scripts_of;
+use job_scripts::{Report, Script, scripts_of};
 use job_server::{Served, serve};
 use journal_lines::{JournalFault, write_journal};
 use lines::{Names, Size, push_script};
@@ -150,22 +150,40 @@ fn runs_again(alloc: Global, served: &Served, listing: &[u8]) -> Result<bool, Ou
     }
 }
 
-// Whether the plain map gives every answer of the journal, and the listing, and the journal's lines give the listing too.
-fn replayed(alloc: Global, served: &Served) -> Result<Outcome, Outcome> {
-    let mut plain = Plain::new(alloc);
-    if !plain.replays(alloc, served.journal())? {
-        return Ok(Outcome::AnotherAnswer);
-    }
+// The listing of the database that jobs left.
+fn listing_of(alloc: Global, served: &Served) -> Result<Vec<u8>, Outcome> {
     let mut writer = Counted::new(Vec::new(alloc));
     write_listing(alloc, &served.closed.core.content(), &mut writer)?;
-    let want = plain.listing(alloc)?;
-    if writer.inner().as_slice() != want.as_slice() {
+    Ok(Vec::from_slice(alloc, writer.inner())?)
+}
+
+// Whether the listing is the plain map's, which did the journal, and the journal's lines give it too.
+fn compared(alloc: Global, served: &Served, want: &[u8]) -> Result<Outcome, Outcome> {
+    if listing_of(alloc, served)?.as_slice() != want {
         return Ok(Outcome::AnotherListing);
     }
-    if !runs_again(alloc, served, &want)? {
+    if !runs_again(alloc, served, want)? {
         return Ok(Outcome::AnotherRun);
     }
     Ok(Outcome::Alike)
+}
+
+// The listing of a plain map that does the journal, if it gives every answer in it.
+fn plain_listing(alloc: Global, served: &Served) -> Result<Option<Vec<u8>>, AllocError> {
+    let mut plain = Plain::new(alloc);
+    if plain.replays(alloc, served.journal())? {
+        Ok(Some(plain.listing(alloc)?))
+    } else {
+        Ok(None)
+    }
+}
+
+// Whether the plain map gives every answer of the journal, and the listing, and the journal's lines give the listing too.
+fn replayed(alloc: Global, served: &Served) -> Result<Outcome, Outcome> {
+    match plain_listing(alloc, served)? {
+        Some(want) => compared(alloc, served, &want),
+        None => Ok(Outcome::AnotherAnswer),
+    }
 }
 
 // What a job's lines alone are answered, without the listing.
@@ -175,21 +193,54 @@ fn answered_alone(alloc: Global, lines: &[u8]) -> Result<Vec<u8>, Outcome> {
     Ok(written)
 }
 
-// Whether jobs are answered as each of them is alone.
-fn as_alone<R: Threads + Wait + Sync>(
-    rt: &R,
-    alloc: Global,
-    text: &[u8],
-    size: Size,
-) -> Result<Outcome, Outcome> {
-    let served = served(rt, alloc, text, size, false)?;
-    let scripts = scripts_of(alloc, text)?;
-    for (script, report) in scripts.iter().zip(served.reports.iter()) {
-        let alone = answered_alone(alloc, &script.text)?;
-        if alone.as_slice() != report.text() {
-            return Ok(Outcome::AnotherReply);
+// Whether a job is answered as it is alone.
+fn is_as_alone(alloc: Global, script: &Script, report: &Report) -> Result<bool, Outcome> {
+    let alone = answered_alone(alloc, &script.text)?;
+    Ok(alone.as_slice() == report.text())
+}
+
+// Whether all jobs are.
+fn are_as_alone(alloc: Global, scripts: &[Script], reports: &[Report]) -> Result<bool, Outcome> {
+    for (script, report) in scripts.iter().zip(reports.iter()) {
+        if !is_as_alone(alloc, script, report)? {
+            return Ok(false);
         }
     }
+    Ok(true)
+}
+
+// Whether jobs that were served are answered as each of them is alone, and then what a replay comes to.
+fn outcome_alone(alloc: Global, text: &[u8], served: &Served) -> Result<Outcome, Outcome> {
+    let scripts = scripts_of(alloc, text)?;
+    if !are_as_alone(alloc, &scripts, &served.reports)? {
+        return Ok(Outcome::AnotherReply);
+    }
+    replayed(alloc, served)
+}
+
+// The outcome of a seed's jobs that have globals of their own.
+fn outcome_apart<R: Threads + Wait + Sync>(
+    rt: &R,
+    alloc: Global,
+    seed: u64,
+    size: Size,
+) -> Result<Outcome, Outcome> {
+    let mut text = Vec::new(alloc);
+    push_script(alloc, seed, Names::Own, size, &mut text)?;
+    let served = served(rt, alloc, &text, size, false)?;
+    outcome_alone(alloc, &text, &served)
+}
+
+// The outcome of a seed's jobs that meet.
+fn outcome_shared<R: Threads + Wait + Sync>(
+    rt: &R,
+    alloc: Global,
+    seed: u64,
+    size: Size,
+) -> Result<Outcome, Outcome> {
+    let mut text = Vec::new(alloc);
+    push_script(alloc, seed, Names::Shared, size, &mut text)?;
+    let served = served(rt, alloc, &text, size, seed % 2 == 0)?;
     replayed(alloc, &served)
 }
 
@@ -200,15 +251,10 @@ fn outcome_of<R: Threads + Wait + Sync>(
     seed: u64,
     size: Size,
 ) -> Result<Outcome, Outcome> {
-    let mut shared = Vec::new(alloc);
-    push_script(alloc, seed, Names::Shared, size, &mut shared)?;
-    let shared = replayed(alloc, &served(rt, alloc, &shared, size, seed % 2 == 0)?)?;
-    if shared != Outcome::Alike {
-        return Ok(shared);
+    match outcome_shared(rt, alloc, seed, size)? {
+        Outcome::Alike => outcome_apart(rt, alloc, seed, size),
+        shared => Ok(shared),
     }
-    let mut apart = Vec::new(alloc);
-    push_script(alloc, seed, Names::Own, size, &mut apart)?;
-    as_alone(rt, alloc, &apart, size)
 }
 
 // The number of the word at this place, or the usual one.

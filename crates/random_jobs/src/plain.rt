@@ -125,11 +125,22 @@ impl Plain {
         }
     }
 
+    // Does a unit that is read, where it could be.
+    fn does_read(
+        &mut self,
+        alloc: Global,
+        read: Result<Unit, AllocError>,
+    ) -> Result<bool, AllocError> {
+        match read {
+            Ok(unit) => self.does_unit(alloc, &unit),
+            Err(error) => Err(error),
+        }
+    }
+
     /// Does the units of a journal. Whether each answer in it is the map's at its place.
     pub fn replays(&mut self, alloc: Global, journal: &Journal) -> Result<bool, AllocError> {
         for unit in journal.units() {
-            let unit = unit?;
-            if !self.does_unit(alloc, &unit)? {
+            if !self.does_read(alloc, unit)? {
                 return Ok(false);
             }
         }
@@ -140,13 +151,38 @@ impl Plain {
     pub fn listing(&self, alloc: Global) -> Result<Vec<u8>, AllocError> {
         let mut text = Vec::new(alloc);
         for (key, value) in &self.nodes {
-            if let Ok(Some(reference)) = decode(alloc, key) {
-                write_key(&Key::of(alloc, &reference)?, &mut text)?;
-            }
-            text.push(b'=')?;
-            write_literal(value, &mut text)?;
-            text.push(b'\n')?;
+            push_node(alloc, key, value, &mut text)?;
         }
         Ok(text)
     }
+}
+
+// The key of these bytes, if they are one's.
+fn key_of(alloc: Global, bytes: &[u8]) -> Result<Option<Key>, AllocError> {
+    match decode(alloc, bytes) {
+        Ok(Some(reference)) => Ok(Some(Key::of(alloc, &reference)?)),
+        Ok(None) => Ok(None),
+        Err(_) => Err(AllocError),
+    }
+}
+
+// Writes the reference of a key's bytes.
+fn push_key(alloc: Global, bytes: &[u8], text: &mut Vec<u8>) -> Result<(), AllocError> {
+    match key_of(alloc, bytes)? {
+        Some(key) => write_key(&key, text),
+        None => Ok(()),
+    }
+}
+
+fn push_node(
+    alloc: Global,
+    key: &[u8],
+    value: &[u8],
+    text: &mut Vec<u8>,
+) -> Result<(), AllocError> {
+    push_key(alloc, key, text)?;
+    text.push(b'=')?;
+    write_literal(value, text)?;
+    text.push(b'\n')?;
+    Ok(())
 }

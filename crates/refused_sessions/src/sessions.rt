@@ -10,7 +10,7 @@ use pin_board::{Blank, BoardName};
 use refusal::Refusal;
 use script::write_reply;
 use session_acts::{command_of, reply_to};
-use shared_engine::{Pass, Session, Shared};
+use shared_engine::{Closed, Pass, Session, Shared};
 use std::alloc::Global;
 use std::sync::Wait;
 
@@ -148,7 +148,49 @@ fn is_listed(alloc: Global, core: &Core, want: &str) -> Result<bool, Refusal> {
     }
 }
 
-// Does the lines and a turn of the collector, and ends both sessions. What differs, if anything does.
+// Ends a session, and keeps its pass.
+fn end<B: BoardName, R: Wait>(
+    rt: &R,
+    engine: &Shared<B>,
+    session: Session<B>,
+    passes: &mut Vec<Pass<B>>,
+    tried: &mut Tried,
+) -> Result<(), Refusal> {
+    let pass = halt(rt, engine, session, tried)?;
+    passes.push(pass)?;
+    Ok(())
+}
+
+// Does the lines and a turn of the collector. The first line whose reply is another than it should be.
+fn use_both<B: BoardName, R: Wait>(
+    rt: &R,
+    alloc: Global,
+    engine: &Shared<B>,
+    first: &mut Session<B>,
+    second: &mut Session<B>,
+    tried: &mut Tried,
+) -> Result<Option<&'static str>, Refusal> {
+    let other = first_other(rt, alloc, engine, first, second, tried)?;
+    collect(rt, engine, tried)?;
+    Ok(other)
+}
+
+// The same with a second session, which ends then.
+fn with_second<B: BoardName, R: Wait>(
+    rt: &R,
+    alloc: Global,
+    engine: &Shared<B>,
+    first: &mut Session<B>,
+    passes: &mut Vec<Pass<B>>,
+    tried: &mut Tried,
+) -> Result<Option<&'static str>, Refusal> {
+    let mut second = open(rt, alloc, engine, 2, tried)?;
+    let other = use_both(rt, alloc, engine, first, &mut second, tried);
+    end(rt, engine, second, passes, tried)?;
+    other
+}
+
+// The same with both sessions.
 fn use_sessions<B: BoardName, R: Wait>(
     rt: &R,
     alloc: Global,
@@ -157,18 +199,25 @@ fn use_sessions<B: BoardName, R: Wait>(
     tried: &mut Tried,
 ) -> Result<Option<&'static str>, Refusal> {
     let mut first = open(rt, alloc, engine, 1, tried)?;
-    let mut second = open(rt, alloc, engine, 2, tried)?;
-    let other = first_other(rt, alloc, engine, &mut first, &mut second, tried)?;
-    collect(rt, engine, tried)?;
-    let first = halt(rt, engine, first, tried)?;
-    let second = halt(rt, engine, second, tried)?;
-    let is_right = first.numbers() == FIRST.as_slice() && second.numbers() == SECOND.as_slice();
-    passes.push(first)?;
-    passes.push(second)?;
-    if is_right {
-        Ok(other)
+    let other = with_second(rt, alloc, engine, &mut first, passes, tried);
+    end(rt, engine, first, passes, tried)?;
+    other
+}
+
+// Whether a job's receipts have these numbers.
+fn has_numbers<B: BoardName>(passes: &[Pass<B>], job: u64, numbers: &[u64]) -> bool {
+    passes.iter().any(|pass| pass.job().number() as u64 == job && pass.numbers() == numbers)
+}
+
+// What differs in the closed engine, if anything does.
+fn closed_difference(alloc: Global, closed: &Closed) -> Result<Option<&'static str>, Refusal> {
+    if closed.core.now() != UNITS || closed.sessions != 2 {
+        return Ok(Some("units"));
+    }
+    if is_listed(alloc, &closed.core, LISTING)? {
+        Ok(None)
     } else {
-        Ok(Some("receipts"))
+        Ok(Some("the listing"))
     }
 }
 
@@ -183,16 +232,12 @@ pub fn run<B: BoardName, R: Wait>(
 {
     let engine = Shared::<B>::new(alloc, blank);
     let mut passes = Vec::new(alloc);
-    if let Some(what) = use_sessions(rt, alloc, &engine, &mut passes, tried)? {
-        return Ok(Some(what));
-    }
+    let other = use_sessions(rt, alloc, &engine, &mut passes, tried);
+    let has_receipts = has_numbers(&passes, 1, &FIRST) && has_numbers(&passes, 2, &SECOND);
     let closed = engine.finish(rt, passes);
-    if closed.core.now() != UNITS || closed.sessions != 2 {
-        return Ok(Some("units"));
-    }
-    if is_listed(alloc, &closed.core, LISTING)? {
-        Ok(None)
-    } else {
-        Ok(Some("the listing"))
+    match other {
+        Ok(None) if has_receipts => closed_difference(alloc, &closed),
+        Ok(None) => Ok(Some("receipts")),
+        other => other,
     }
 }

@@ -2,15 +2,15 @@
 use Rattle.std.proofs.Common.{◌≡◌, ℕ, ◌+◌, ◌==◌, ◌&&◌, Bool, true, false, List, [], ◌∷◌, ◌++◌, length, refl, ap, ◌∙◌, arith}
 use Rattle.std.specs.Prelude.{if◌then◌else◌}
 use Rattle.std.specs.List.{All, filter}
-use Rattle.std.proofs.lemmas.List.Elements.{All-nil, All-cons, All-head, All-tail, All-push}
+use Rattle.std.proofs.lemmas.List.Elements.{All-nil, All-cons, All-head, All-tail, All-push, All-filter}
 use Rattle.std.proofs.lemmas.List.Sums.{sum_by-append, sum_by_push, sum_by-cons}
 use mathlib.Core.Bool.{cond}
 use Rattle.journal.specs.declared.unit.Unit.{Unit as JournalUnit}
 use Rattle.journal.specs.Kept.{Claim, job_of}
 use Rattle.pin_board.specs.Tally.{Tallied, tallied}
 use Rattle.pin_board.specs.Slips.{IsInJournal, AreInJournal, weigh}
-use Rattle.shared_engine.specs.Receipts.{Book, book, has_receipt, receipted, RisesFrom, gives, receipts_in, IsBook}
-use Rattle.shared_engine.specs.Engines.{receipts_of, IsDue}
+use Rattle.shared_engine.specs.Receipts.{Book, book, has_receipt, of_receipts, IsOwn, RisesFrom, gives, receipts_in, IsBook}
+use Rattle.shared_engine.specs.Engines.{receipts_weigh, IsDue}
 use Rattle.shared_engine.proofs.Booking.{in_journal_receipts}
 
 all_left : {X : Type 0} (P : X → Type 0) (xs ys : List X) → All P (xs ++ ys) → All P xs
@@ -21,38 +21,33 @@ all_right : {X : Type 0} (P : X → Type 0) (xs ys : List X) → All P (xs ++ ys
 all_right P [] ys a = a
 all_right P (x ∷ xs) ys a = all_right P xs ys (All-tail P x (xs ++ ys) a)
 
-count_cond : (b c : Bool) (x : Claim) (xs : List Claim) (n : ℕ) → n ≡ (if c then length xs else 0) → (if b && c then 1 else 0) + n ≡ (if c then length (cond b (x ∷ xs) xs) else 0)
-count_cond true true x xs n e = omega arith
-count_cond true false x xs n e = omega arith
-count_cond false true x xs n e = omega arith
-count_cond false false x xs n e = omega arith
+weigh_cond : (weight : JournalUnit → ℕ) (b : Bool) (x : Claim) (xs : List Claim) (n : ℕ) → n ≡ weigh weight xs → (if b then weight x.unit else 0) + n ≡ weigh weight (cond b (x ∷ xs) xs)
+weigh_cond weight true x xs n e = let s = sum_by-cons (λ (c : Claim). weight c.unit) x xs in omega arith
+weigh_cond weight false x xs n e = omega arith
 
--- a job's own units that have receipts, as many as these
-own_count : (j job : ℕ) (mine : List Claim) → All (λ (c : Claim). job_of c.unit ≡ job) mine → weigh (receipted j) mine ≡ (if job == j then length (receipts_in mine) else 0)
+-- of units on a slip those that give receipts weigh what the receipts do
+receipts_weight : (weight : JournalUnit → ℕ) (mine : List Claim) → weigh (of_receipts weight) mine ≡ weigh weight (receipts_in mine)
 unfolding receipts_in
-own_count j job [] own = nothing (job == j)
-  where
-    nothing : (c : Bool) → weigh (receipted j) [] ≡ (if c then 0 else 0)
-    nothing true = refl
-    nothing false = refl
-own_count j job (x ∷ xs) own =
-    let P : Claim → Type 0 = λ c. job_of c.unit ≡ job in
-    let r = own_count j job xs (All-tail P x xs own) in
-    let here : job_of x.unit ≡ job = All-head P x xs own in
-    sum_by-cons (λ (c : Claim). receipted j c.unit) x xs
-    ∙ (ap (λ (k : ℕ). (if has_receipt x.unit && (k == j) then 1 else 0) + weigh (receipted j) xs) here ∙ count_cond (has_receipt x.unit) (job == j) x (filter gives xs) (weigh (receipted j) xs) r)
+receipts_weight weight [] = refl
+receipts_weight weight (x ∷ xs) =
+    sum_by-cons (λ (c : Claim). of_receipts weight c.unit) x xs ∙ weigh_cond weight (has_receipt x.unit) x (filter gives xs) (weigh (of_receipts weight) xs) (receipts_weight weight xs)
+
+own_receipts : (job : ℕ) (mine : List Claim) → All (λ (c : Claim). job_of c.unit ≡ job) mine → IsOwn (book job (receipts_in mine))
+unfolding receipts_in
+own_receipts job mine own = All-filter gives (λ (c : Claim). job_of c.unit ≡ job) mine own
 
 pub due_all : (all : List Book) → IsDue all all []
-due_all all = record { count = λ j. omega arith; in_journal = λ log s a. a; rising = λ a. a }
+due_all all = record { count = λ weight. omega arith; own = λ a. a; in_journal = λ log s a. a; rising = λ a. a }
 
 pub due_step : (all rest : List Book) (job : ℕ) (ns : List ℕ) (back mine : List Claim) → IsBook job ns mine → IsDue all (rest ++ book job (receipts_in mine) ∷ []) back → IsDue all rest (back ++ mine)
 due_step all rest job ns back mine k d = let b : Book = book job (receipts_in mine) in record {
-  count = λ j.
-      let f : Book → ℕ = λ p. if p.job == j then length p.receipts else 0 in
-      let one : weigh (receipted j) (back ++ mine) ≡ weigh (receipted j) back + weigh (receipted j) mine = sum_by-append (λ (c : Claim). receipted j c.unit) back mine in
-      let two : receipts_of j (rest ++ b ∷ []) ≡ receipts_of j rest + f b = sum_by_push f rest b in
-      let three : weigh (receipted j) mine ≡ f b = own_count j job mine k.own in
-      let four = d.count j in omega arith;
+  count = λ weight.
+      let f : Book → ℕ = λ p. weigh weight p.receipts in
+      let one : weigh (of_receipts weight) (back ++ mine) ≡ weigh (of_receipts weight) back + weigh (of_receipts weight) mine = sum_by-append (λ (c : Claim). of_receipts weight c.unit) back mine in
+      let two : receipts_weigh weight (rest ++ b ∷ []) ≡ receipts_weigh weight rest + f b = sum_by_push f rest b in
+      let three : weigh (of_receipts weight) mine ≡ f b = receipts_weight weight mine in
+      let four = d.count weight in omega arith;
+  own = λ a. d.own (All-push IsOwn rest b a (own_receipts job mine k.own));
   in_journal = λ log s a. d.in_journal log (record { each = all_left (IsInJournal log) back mine s.each })
       (All-push (λ (p : Book). AreInJournal log p.receipts) rest b a (in_journal_receipts log mine (record { each = all_right (IsInJournal log) back mine s.each })));
   rising = λ a. d.rising (All-push (λ (p : Book). RisesFrom 0 p.receipts) rest b a k.rising);

@@ -1,5 +1,5 @@
 -- What is seen of what lies under the lock, and what each step makes of it and of the session that does it.
-use Rattle.std.specs.Prelude.{◌≡◌, ◌≢◌, ◌⊎◌, ℕ, ◌+◌, ◌-◌, ◌^◌, ◌≤◌, ◌==◌, nat_lt, min, Bool, true, false, List, [], ◌∷◌, ◌++◌, length, Option, None, Some, Result, Ok, Err, slice_get, if◌then◌else◌}
+use Rattle.std.specs.Prelude.{◌≡◌, ◌≢◌, ◌⊎◌, ℕ, ◌+◌, ◌-◌, ◌^◌, ◌≤◌, nat_lt, min, Bool, true, false, List, [], ◌∷◌, ◌++◌, length, Option, None, Some, Result, Ok, Err, slice_get, if◌then◌else◌}
 use Rattle.std.specs.List.{All, sum_by}
 use Rattle.journal.specs.declared.unit.Unit.{Unit as JournalUnit}
 use Rattle.journal.specs.declared.unit.Unit.TheVariants.{Back, Whole, Lock}
@@ -10,7 +10,7 @@ use Rattle.job_core.specs.Sessions.{Session as JobSession}
 use Rattle.job_core.specs.Common.{Common}
 use Rattle.pin_board.specs.declared.view.DeskView.{DeskView}
 use Rattle.pin_board.specs.Slips.{AreInJournal, weigh}
-use Rattle.shared_engine.specs.Receipts.{Book, RisesFrom, receipted, claim}
+use Rattle.shared_engine.specs.Receipts.{Book, IsOwn, RisesFrom, of_receipts, claim}
 use Rattle.shared_engine.specs.Sessions.{Held, held, and_receipt, begun_anew, ended, noted_lock}
 use Rattle.shared_engine.specs.declared.locked.Ended.{Ended}
 use Rattle.shared_engine.specs.declared.locked.Ended.TheVariants.{Committed, Restarted}
@@ -112,12 +112,17 @@ WasBlocked command old new = (n : ℕ) × (new ≡ after_try n command false old
 
 -- ---- the end
 
--- how many receipts of a job these passes have
-abbrev pub receipts_of : ℕ → List Book → ℕ
-receipts_of j passes = sum_by (λ (p : Book). if p.job == j then length p.receipts else 0) passes
+-- what the units of these passes' receipts weigh
+abbrev pub receipts_weigh : (JournalUnit → ℕ) → List Book → ℕ
+receipts_weigh weight passes = sum_by (λ (p : Book). weigh weight p.receipts) passes
+
+-- the receipts of these passes are those of all units that give one, each as often as its unit was written
+abbrev pub AreAllReceipts : List JournalUnit → List Book → Type 0
+AreAllReceipts units passes = (weight : JournalUnit → ℕ) → sum_by (of_receipts weight) units ≡ receipts_weigh weight passes
 
 -- the rest of the passes is still to be taken in, and the others wrote what came back
 pub record IsDue (all rest : List Book) (back : List Claim) : Type 0 where
-  pub count : (j : ℕ) → weigh (receipted j) back + receipts_of j rest ≡ receipts_of j all
+  pub count : (weight : JournalUnit → ℕ) → weigh (of_receipts weight) back + receipts_weigh weight rest ≡ receipts_weigh weight all
+  pub own : All IsOwn rest → All IsOwn all
   pub in_journal : (log : List JournalUnit) → AreInJournal log back → All (λ (p : Book). AreInJournal log p.receipts) rest → All (λ (p : Book). AreInJournal log p.receipts) all
   pub rising : All (λ (p : Book). RisesFrom 0 p.receipts) rest → All (λ (p : Book). RisesFrom 0 p.receipts) all

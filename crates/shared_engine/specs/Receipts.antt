@@ -1,5 +1,5 @@
 -- What a job's receipts say of the units that it wrote.
-use Rattle.std.specs.Prelude.{◌≡◌, ℕ, ◌<◌, ◌==◌, ◌&&◌, Bool, true, false, List, [], ◌∷◌, map, if◌then◌else◌}
+use Rattle.std.specs.Prelude.{◌≡◌, ℕ, ◌<◌, Bool, true, false, List, [], ◌∷◌, map, if◌then◌else◌}
 use Rattle.std.specs.List.{All, filter}
 use Rattle.journal.specs.declared.unit.Unit.{Unit as JournalUnit}
 use Rattle.journal.specs.declared.unit.Unit.TheVariants.{Lone, Whole, Lock, Back, End}
@@ -17,9 +17,9 @@ has_receipt (Lock job inside command had) = true
 has_receipt (Back job) = false
 has_receipt (End job) = false
 
--- 1 for a unit of this job that gives a receipt
-abbrev pub receipted : ℕ → JournalUnit → ℕ
-receipted j u = if has_receipt u && (job_of u == j) then 1 else 0
+-- a weight of units, of those that give a receipt alone
+abbrev pub of_receipts : (JournalUnit → ℕ) → JournalUnit → ℕ
+of_receipts weight u = if has_receipt u then weight u else 0
 
 -- the numbers rise, and all are above n
 abbrev pub RisesFrom : ℕ → List Claim → Type 0
@@ -45,6 +45,10 @@ pub record Book : Type 0 where
 
 abbrev pub book : ℕ → List Claim → Book
 book job receipts = record { job = job; receipts = receipts }
+
+-- the units of its receipts are its job's
+abbrev pub IsOwn : Book → Type 0
+IsOwn b = All (λ (c : Claim). job_of c.unit ≡ b.job) b.receipts
 
 -- the numbers are those of the receipts, which rise, and all units are the job's
 pub record IsBook (job : ℕ) (numbers : List ℕ) (mine : List Claim) : Type 0 where

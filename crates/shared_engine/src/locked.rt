@@ -1,6 +1,6 @@
 //! What lies under the lock. Each step of a session is a method, whose contract says exactly what it does.
 ghost use Rattle.std.specs.Prelude.{◌≡◌, ◌⊎◌, ◌<◌, ◌≤◌, ◌+◌, ◌-◌, ◌^◌, ◌∷◌, ◌++◌, ℕ, true, false, List, [], min, max, nat_lt, length, vec_len, take, None, Some, IfOk, IfErr, IfSome, IsSome, OnOk, OnErr};
-ghost use Rattle.std.specs.List.{All, sum_by};
+ghost use Rattle.std.specs.List.{All};
 ghost use Rattle.refusal.specs.declared.Refusal.{Refusal};
 ghost use Rattle.collation.specs.Locks.{lock_refusal, lock_reply};
 ghost use Rattle.command.specs.Data.{data_refusal, data_reply};
@@ -13,9 +13,9 @@ ghost use Rattle.job_core.specs.Common.{IsCauseOfLock, HasTurned};
 ghost use Rattle.job_core.specs.Sessions.{idle, IsAnsweredOrRefused, IsOpenOn};
 ghost use Rattle.pin_board.specs.Slips.{AreInJournal};
 ghost use Rattle.pin_board.specs.Tally.{tallied};
-ghost use Rattle.shared_engine.specs.Receipts.{Book, book, receipted, RisesFrom};
+ghost use Rattle.shared_engine.specs.Receipts.{Book, book, IsOwn, RisesFrom};
 ghost use Rattle.shared_engine.specs.Sessions.{held, ended, and_receipt, begun_anew, noted_lock};
-ghost use Rattle.shared_engine.specs.Engines.{has_session, SessionIs, SameSessions, gone_back, lock_unit, after_try, HasEnded, OnOkThat, OnOkNot, receipts_of, IsDue};
+ghost use Rattle.shared_engine.specs.Engines.{has_session, SessionIs, SameSessions, gone_back, lock_unit, after_try, HasEnded, OnOkThat, OnOkNot, AreAllReceipts, IsDue};
 
 use crate::seats::Seats;
 use crate::session::{Pass, Session};
@@ -480,14 +480,15 @@ impl<B: BoardName> Locked<B> {
         self.sweep.is_done()
     }
 
-    /// The core at the end. Where all passes are in, each job has as many units in the journal, but for rollbacks and
-    /// ends, as it has receipts. Takes no memory.
+    /// The core at the end. Where all passes are in, their receipts are those of all units in the journal, but for rollbacks
+    /// and ends. Takes no memory.
     pub(crate) fn finish<R: Wait>(self, rt: &R, board: &Board<B>, passes: Vec<Pass<B>>) -> Closed
         ensures core { result.core.units ≡ self.common.units }
         ensures sessions { result.sessions ≡ min self.opened (2 ^ 64 - 1) }
         ensures in_journal { All (λ (p : Book). AreInJournal result.core.units p.receipts) passes.items }
         ensures rising { All (λ (p : Book). RisesFrom 0 p.receipts) passes.items }
-        ensures count { vec_len passes ≡ result.sessions → result.sessions < 2 ^ 64 - 1 → (j : ℕ) → sum_by (receipted j) result.core.units ≡ receipts_of j passes.items }
+        ensures own { All IsOwn passes.items }
+        ensures all { vec_len passes ≡ result.sessions → result.sessions < 2 ^ 64 - 1 → AreAllReceipts result.core.units passes.items }
     {
         let Locked {
             core,

@@ -1,6 +1,6 @@
 //! The engine as threads see it.
 ghost use Rattle.std.specs.Prelude.{◌≡◌, ◌≢◌, ◌⊎◌, ◌<◌, ◌≤◌, ◌+◌, ◌-◌, ◌^◌, ◌∷◌, ◌++◌, ℕ, List, [], true, false, length, vec_len, None, Some, IfOk, IfErr, IfSome, IsSome, OnOk, OnErr};
-ghost use Rattle.std.specs.List.{All, sum_by};
+ghost use Rattle.std.specs.List.{All};
 ghost use Rattle.refusal.specs.declared.Refusal.{Refusal};
 ghost use Rattle.journal.specs.History.{initial, after};
 ghost use Rattle.journal.specs.Kept.{Claim};
@@ -13,9 +13,9 @@ ghost use Rattle.pin_board.specs.Slips.{AreInJournal};
 ghost use Rattle.command.specs.declared.access.DataCommand.{DataCommand};
 ghost use Rattle.command.specs.declared.request.Command.{Command};
 ghost use Rattle.shared_engine.specs.Blocks.{AreDone, NoneRestarts, IsReady, moved_open};
-ghost use Rattle.shared_engine.specs.Receipts.{Book, book, receipted, RisesFrom};
+ghost use Rattle.shared_engine.specs.Receipts.{Book, book, IsOwn, RisesFrom};
 ghost use Rattle.shared_engine.specs.Sessions.{held, ended, and_receipt, begun_anew, HasBegun};
-ghost use Rattle.shared_engine.specs.Engines.{HasEnded, HasItsNames, WasBlocked, OnOkThat, OnOkNot, after_try, receipts_of};
+ghost use Rattle.shared_engine.specs.Engines.{HasEnded, HasItsNames, WasBlocked, OnOkThat, OnOkNot, after_try, AreAllReceipts};
 ghost use Rattle.shared_engine.specs.Writes.{AreWrites};
 
 use crate::adaptive::{AdaptiveLock, Patience};
@@ -439,12 +439,13 @@ impl<B: BoardName> Shared<B> {
         }
     }
 
-    /// Closes the engine. Each receipt's unit is in its journal at its number; and where as many passes are in as there
-    /// were sessions, each job has as many units, but for rollbacks and ends, as receipts. Takes no memory.
+    /// Closes the engine. Each receipt's unit is in its journal at its number, and is its job's; and where as many passes
+    /// are in as there were sessions, the receipts are those of all units, but for rollbacks and ends. Takes no memory.
     pub fn finish<R: Wait>(self, rt: &R, passes: Vec<Pass<B>>) -> Closed
         ensures in_journal { All (λ (p : Book). AreInJournal result.core.units p.receipts) passes.items }
         ensures rising { All (λ (p : Book). RisesFrom 0 p.receipts) passes.items }
-        ensures count { vec_len passes ≡ result.sessions → result.sessions < 2 ^ 64 - 1 → (j : ℕ) → sum_by (receipted j) result.core.units ≡ receipts_of j passes.items }
+        ensures own { All IsOwn passes.items }
+        ensures all { vec_len passes ≡ result.sessions → result.sessions < 2 ^ 64 - 1 → AreAllReceipts result.core.units passes.items }
     {
         let Shared { board, lock } = self;
         lock.into_inner().finish(rt, &board, passes)
