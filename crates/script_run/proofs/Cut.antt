@@ -1,11 +1,11 @@
 -- Cutting a text into lines.
-use Rattle.std.proofs.Common.{◌≡◌, ℕ, zero, suc, ◌≤◌, ◌<◌, true, false, eqb, List, [], ◌∷◌, ◌++◌, length, take, drop, get_or, refl, sym, ap, ◌∙◌, append_assoc, arith}
-use Rattle.std.proofs.lemmas.Bool.{false_from_ne_true}
+use Rattle.std.proofs.Common.{◌≡◌, ℕ, zero, suc, ◌≤◌, ◌<◌, true, false, eqb, List, [], ◌∷◌, ◌++◌, length, take, drop, get_or, inl, inr, refl, sym, ap, subst, ◌∙◌, append_assoc, arith}
+use Rattle.std.proofs.lemmas.Bool.{false_from_ne_true, eqb-true}
 use Rattle.std.proofs.lemmas.List.{append-nil}
 use Rattle.std.specs.Prelude.{Some}
 use Rattle.bstr.specs.Find.{IsFirstByte, is_byte}
 use Rattle.std.specs.Io.BufRead.{strip_last}
-use Rattle.script_run.specs.Lines.{nonempty_line, lines_from, lines_of, has_no_end}
+use Rattle.script_run.specs.Lines.{nonempty_line, lines_from, lines_of, has_no_end, EndsALine, AreLinesBefore}
 use Rattle.script_run.specs.laws.Lines.{goes_on}
 
 -- the first byte 10 stands at n
@@ -27,6 +27,40 @@ first_from line (b ∷ bs) more (suc n) h = rw h.0 (first_from (line ++ b ∷ []
 -- the first line, and the lines of what follows its end
 pub first_line : (xs more : List ℕ) (n : ℕ) → EndsAt xs n → lines_of (xs ++ more) ≡ nonempty_line (strip_last 13 (take n xs)) ++ lines_of (drop (suc n) xs ++ more)
 first_line xs more n h = first_from [] xs more n h
+
+-- the first line with its end, and what follows
+line_and_rest : (xs : List ℕ) (n : ℕ) → EndsAt xs n → xs ≡ take n xs ++ (10 ∷ drop (suc n) xs)
+line_and_rest [] n h = absurd h
+line_and_rest (b ∷ bs) zero h = ap (λ (x : ℕ). x ∷ bs) (eqb-true b 10 h)
+line_and_rest (b ∷ bs) (suc n) h = ap (λ (t : List ℕ). b ∷ t) (line_and_rest bs n h.1)
+
+-- nothing stands before the whole
+pub none_before : (text : List ℕ) → AreLinesBefore text text
+none_before text = record { front = []; ends = inl refl; is = refl }
+
+-- a line that had begun, and ends in the next piece, is whole
+pub line_before : (begun xs : List ℕ) (n : ℕ) → EndsAt xs n → AreLinesBefore (drop (suc n) xs) (begun ++ xs)
+line_before begun xs n h = record {
+  front = (begun ++ take n xs) ++ 10 ∷ [];
+  ends = inr (begun ++ take n xs, refl);
+  is = ap (λ (t : List ℕ). begun ++ t) (line_and_rest xs n h) ∙ sym (append_assoc begun (take n xs) (10 ∷ drop (suc n) xs)) ∙ sym (append_assoc (begun ++ take n xs) (10 ∷ []) (drop (suc n) xs));
+}
+
+joined_ends : (xs ys : List ℕ) → EndsALine xs → EndsALine ys → EndsALine (xs ++ ys)
+joined_ends xs ys x (inl none) = subst EndsALine (sym (ap (λ (t : List ℕ). xs ++ t) none ∙ append-nil xs)) x
+joined_ends xs ys x (inr some) = inr (xs ++ some.0, ap (λ (t : List ℕ). xs ++ t) some.1 ∙ sym (append_assoc xs some.0 (10 ∷ [])))
+
+-- whole lines before whole lines
+pub lines_before : (text rest after : List ℕ) → AreLinesBefore rest text → AreLinesBefore after rest → AreLinesBefore after text
+lines_before text rest after h k = record {
+  front = h.front ++ k.front;
+  ends = joined_ends h.front k.front h.ends k.ends;
+  is = h.is ∙ ap (λ (t : List ℕ). h.front ++ t) k.is ∙ sym (append_assoc h.front k.front after);
+}
+
+-- the same before what is left
+pub lines_before_more : (text rest more : List ℕ) → AreLinesBefore rest text → AreLinesBefore (rest ++ more) (text ++ more)
+lines_before_more text rest more h = record { front = h.front; ends = h.ends; is = ap (λ (t : List ℕ). t ++ more) h.is ∙ append_assoc h.front rest more }
 
 -- where no byte 10 stands
 pub no_end : (xs : List ℕ) → ((k : ℕ) → 0 ≤ k → k < length xs → eqb (get_or xs k 0) 10 ≡ true → ⊥) → has_no_end xs ≡ true

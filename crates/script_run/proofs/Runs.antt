@@ -20,8 +20,8 @@ use Rattle.listing.specs.Bytes.{WritesBeginning, WritesFront}
 use Rattle.listing.specs.laws.Bytes.{rest_of, Appends-nothing, WritesBeginning-all, WritesBeginning-longer, Passes-none, Passes-all, Passes-more, Passes-then, Passes-begun, Passes-Appends}
 use Rattle.std.specs.Io.KnownBytes.{Appends}
 use Rattle.bstr.specs.Find.{IsFirstByte, is_byte}
-use Rattle.script_run.specs.Lines.{nonempty_line, lines_of, has_no_end}
-use Rattle.script_run.proofs.Cut.{end_of, first_line, no_end, joined_line, has_no_end-append}
+use Rattle.script_run.specs.Lines.{nonempty_line, lines_of, has_no_end, AreLinesBefore}
+use Rattle.script_run.proofs.Cut.{end_of, first_line, no_end, joined_line, has_no_end-append, none_before, line_before, lines_before}
 use Rattle.script_run.specs.Output.{Answer, asked_by, IsAnswer, AreAnswers, told_by, left_by, exact_reply, exact_answers, ends_session, left_open, halts_of, left_at_end, text_of, with_reply, noted, ending}
 use Rattle.script_run.proofs.Outcomes.{noted-none, noted-one, noted-then}
 use Rattle.script_run.specs.Runs.{Ran, Broke, RanFront, BrokeFront, RanEnd, BrokeEnd}
@@ -214,6 +214,7 @@ RanFront-written text rest a b c p q r h w u d j o = record {
     good = λ l. subst IsGood (sym u) (h.ran.good l);
   };
   split = h.split;
+  cut = h.cut;
 }
 
 -- the rest by another name
@@ -222,14 +223,15 @@ RanFront-is text rest same a b p q e h = subst (λ (t : List ℕ). RanFront text
 
 -- nothing of the text is answered yet
 pub RanFront-none : (text : List ℕ) (a b : Script) (p : Option (List ℕ)) → b.core.machine ≡ a.core.machine → b.out.items ≡ a.out.items → b.outcome ≡ a.outcome → b.jobs ≡ a.jobs → RanFront text text a b p p
-RanFront-none text a b p u o r j = record { lines = []; ran = Ran-none a b p u o r j; split = λ more. refl }
+RanFront-none text a b p u o r j = record { lines = []; ran = Ran-none a b p u o r j; split = λ more. refl; cut = none_before text }
 
 pub RanFront-more : (text rest after : List ℕ) (ls : List (List ℕ)) (a b c : Script) (p q r : Option (List ℕ)) → RanFront text rest a b p q → Ran ls b c q r
-    → ((more : List ℕ) → lines_of (rest ++ more) ≡ ls ++ lines_of (after ++ more)) → RanFront text after a c p r
-RanFront-more text rest after ls a b c p q r h k e = record {
+    → ((more : List ℕ) → lines_of (rest ++ more) ≡ ls ++ lines_of (after ++ more)) → AreLinesBefore after rest → RanFront text after a c p r
+RanFront-more text rest after ls a b c p q r h k e before = record {
   lines = h.lines ++ ls;
   ran = Ran-then h.lines ls a b c p q r h.ran k;
   split = λ more. h.split more ∙ ap (λ (l : List (List ℕ)). h.lines ++ l) (e more) ∙ sym (append_assoc h.lines ls (lines_of (after ++ more)));
+  cut = lines_before text rest after h.cut before;
 }
 
 pub BrokeFront-more : (text rest after : List ℕ) (ls : List (List ℕ)) (a b : Script) (p q r : Option (List ℕ)) → RanFront text rest a b p q → Broke ls b q r
@@ -252,12 +254,20 @@ next-line text line at end le first e more =
     let rest-is : drop (suc end) (drop at text) ≡ drop (at + (end + 1)) text = let same : at + suc end ≡ at + (end + 1) = omega arith in drop-drop (suc end) at text ∙ ap (λ (n : ℕ). drop n text) same in
     first_line (drop at text) more end ends ∙ ap (λ (l : List ℕ). nonempty_line l ++ lines_of (drop (suc end) (drop at text) ++ more)) (sym line-is) ∙ ap (λ (r : List ℕ). nonempty_line line ++ lines_of (r ++ more)) rest-is
 
+-- that line is whole
+next-before : (text : List ℕ) (at end : ℕ) → IsFirstByte (is_byte 10) (take (length text - at) (drop at text)) (Some end) → AreLinesBefore (drop (at + (end + 1)) text) (drop at text)
+next-before text at end first =
+    let whole : take (length text - at) (drop at text) ≡ drop at text = rest_of text at in
+    let found = rw whole at first in
+    let rest-is : drop (suc end) (drop at text) ≡ drop (at + (end + 1)) text = let same : at + suc end ≡ at + (end + 1) = omega arith in drop-drop (suc end) at text ∙ ap (λ (n : ℕ). drop n text) same in
+    subst (λ (r : List ℕ). AreLinesBefore r (drop at text)) rest-is (line_before [] (drop at text) end (end_of (drop at text) end found))
+
 pub more_lines : (text line : List ℕ) (at end : ℕ) (old mid new : Script) (p q r : Option (List ℕ)) → at ≤ length text → RanFront text (drop at text) old mid p q → IsFirstByte (is_byte 10) (take (length text - at) (drop at text)) (Some end)
     → line ≡ strip_last 13 (take end (take (length text - at) (drop at text))) → Ran (nonempty_line line) mid new q r → (at + (end + 1) ≤ length text) × RanFront text (drop (at + (end + 1)) text) old new p r
 more_lines text line at end old mid new p q r le so_far first e ran =
     let whole : take (length text - at) (drop at text) ≡ drop at text = rest_of text at in
     let found = rw whole at first in
-    (omega (arith, length-drop at text, found.0.high), RanFront-more text (drop at text) (drop (at + (end + 1)) text) (nonempty_line line) old mid new p q r so_far ran (next-line text line at end le first e))
+    (omega (arith, length-drop at text, found.0.high), RanFront-more text (drop at text) (drop (at + (end + 1)) text) (nonempty_line line) old mid new p q r so_far ran (next-line text line at end le first e) (next-before text at end first))
 
 pub broke_lines : (text line : List ℕ) (at end : ℕ) (old mid : Script) (p q r : Option (List ℕ)) → at ≤ length text → RanFront text (drop at text) old mid p q → IsFirstByte (is_byte 10) (take (length text - at) (drop at text)) (Some end)
     → line ≡ strip_last 13 (take end (take (length text - at) (drop at text))) → Broke (nonempty_line line) mid q r → BrokeFront text old p r
@@ -285,13 +295,14 @@ joined_first begun piece line rest end a b p q none found line-is rest-is ran = 
   lines = nonempty_line line;
   ran = ran;
   split = joined-split begun piece line rest end none found line-is rest-is;
+  cut = subst (λ (r : List ℕ). AreLinesBefore r (begun ++ piece)) (sym rest-is) (line_before begun piece end (end_of piece end found));
 }
 
 -- and whole lines follow it
 pub joined_lines : (begun piece line rest after : List ℕ) (end : ℕ) (a b c : Script) (p q r : Option (List ℕ)) → has_no_end begun ≡ true → IsFirstByte (is_byte 10) piece (Some end) → line ≡ strip_last 13 (begun ++ take end piece)
     → rest ≡ drop (suc end) piece → Ran (nonempty_line line) a b p q → RanFront rest after b c q r → RanFront (begun ++ piece) after a c p r
 joined_lines begun piece line rest after end a b c p q r none found line-is rest-is ran front =
-    RanFront-more (begun ++ piece) rest after front.lines a b c p q r (joined_first begun piece line rest end a b p q none found line-is rest-is ran) front.ran front.split
+    RanFront-more (begun ++ piece) rest after front.lines a b c p q r (joined_first begun piece line rest end a b p q none found line-is rest-is ran) front.ran front.split front.cut
 
 -- or the run broke off in them
 pub joined_broke : (begun piece line rest : List ℕ) (end : ℕ) (a b : Script) (p q r : Option (List ℕ)) → has_no_end begun ≡ true → IsFirstByte (is_byte 10) piece (Some end) → line ≡ strip_last 13 (begun ++ take end piece)

@@ -13,7 +13,8 @@ use Rattle.serial.specs.Machine.{run_of}
 use Rattle.serial.specs.Soundness.{IsGood, IsSound}
 use Rattle.serial.specs.laws.Good.{good_run}
 use Rattle.listing.specs.Bytes.{WritesBeginning, WritesFront}
-use Rattle.script_run.specs.Lines.{nonempty_line, lines_of, has_no_end}
+use Rattle.script_run.specs.Lines.{nonempty_line, lines_of, has_no_end, AreLinesBefore}
+use Rattle.script_run.proofs.Cut.{none_before, lines_before, lines_before_more}
 use Rattle.script_run.proofs.Exact.{exact_output}
 use Rattle.script_run.proofs.Outcomes.{noted-then}
 use Rattle.script_run.specs.declared.outcome.Outcome.{Outcome}
@@ -33,6 +34,25 @@ Follows None left lines begun = ⊤
 Follows (Some all) None lines begun = ⊥
 Follows (Some all) (Some more) lines begun = lines_of all ≡ lines ++ lines_of (begun ++ more)
 
+-- known bytes are whole lines before the begun one and what is left
+abbrev pub Precedes : Option (List ℕ) → Option (List ℕ) → List ℕ → Type 0
+Precedes None left begun = ⊤
+Precedes (Some all) None begun = ⊥
+Precedes (Some all) (Some more) begun = AreLinesBefore (begun ++ more) all
+
+Precedes-start : (all : Option (List ℕ)) → Precedes all all []
+Precedes-start None = tt
+Precedes-start (Some xs) = none_before xs
+
+-- a piece was read, and the lines before its rest were answered
+Precedes-piece : (all left left' : Option (List ℕ)) (begun piece rest : List ℕ) → Precedes all left begun → Consumes left left' piece → AreLinesBefore rest (begun ++ piece) → Precedes all left' rest
+Precedes-piece None left left' begun piece rest h k b = tt
+Precedes-piece (Some all) None left' begun piece rest h k b = absurd h
+Precedes-piece (Some all) (Some more) None begun piece rest h k b = absurd k
+Precedes-piece (Some all) (Some more) (Some more') begun piece rest h k b =
+    let same : begun ++ more ≡ (begun ++ piece) ++ more' = ap (λ (m : List ℕ). begun ++ m) k ∙ sym (append_assoc begun piece more') in
+    lines_before all ((begun ++ piece) ++ more') (rest ++ more') (subst (λ (t : List ℕ). AreLinesBefore t all) same h) (lines_before_more (begun ++ piece) rest more' b)
+
 -- legal units without open transactions
 pub good_start : (s : Machine) → IsLegal s.units initial → s.transactions ≡ finmap.empty → IsGood s
 good_start s legal closed = record { legal = legal; sound = λ job t is. none_open job t (sym is ∙ ap (λ (ts : FinMap nat_cmp Transaction). finmap.get ts job) closed ∙ finmap.get-empty nat_cmp job) }
@@ -51,6 +71,7 @@ pub record Stands (start : Machine) (all left : Option (List ℕ)) (begun : List
   pub outcome : script.outcome ≡ outcome_of answers
   pub written : Appends old new (text_of answers)
   pub split : Follows all left (lines_in answers) begun
+  pub cut : Precedes all left begun
   pub whole : has_no_end begun ≡ true
 
 Follows-start : (all : Option (List ℕ)) → Follows all all [] []
@@ -68,6 +89,7 @@ stands_first start all old begun script u j o r b good = record {
   outcome = r;
   written = Appends-nothing old;
   split = subst (λ (l : List ℕ). Follows all all [] l) (sym b) (Follows-start all);
+  cut = subst (λ (l : List ℕ). Precedes all all l) (sym b) (Precedes-start all);
   whole = subst (λ (l : List ℕ). has_no_end l ≡ true) (sym b) refl;
 }
 
@@ -112,6 +134,7 @@ stands_next start all left left' old new new' begun piece rest a b h r f w o = r
   outcome = f.ran.outcome ∙ ap (noted f.ran.answers) h.outcome ∙ noted-then h.answers f.ran.answers (outcome_of []);
   written = written-next old new new' h.answers f.ran.answers a b h.written h.out f.ran.passes o;
   split = Follows-piece all left left' begun piece rest h.answers f.ran.answers f.lines h.split r.consumed f.ran.of_lines f.split;
+  cut = Precedes-piece all left left' begun piece rest h.cut r.consumed f.cut;
   whole = w;
 }
 
@@ -232,6 +255,7 @@ answered start (Some bytes) (Some more) (Some more') old new begun script h k = 
   answers = h.answers;
   begun = begun;
   each = h.each;
+  cut = subst (λ (m : List ℕ). AreLinesBefore (begun ++ m) bytes) (sym k) h.cut;
   split = h.split ∙ ap (λ (m : List ℕ). lines_in h.answers ++ lines_of (begun ++ m)) (sym k);
   whole = h.whole;
   written = h.written;

@@ -1,5 +1,5 @@
 -- The lines of a text. Source: docs/FORMATS.md, "Grammar of lines".
-use Rattle.std.specs.Prelude.{◌≡◌, ℕ, Bool, true, not, List, [], ◌∷◌, ◌++◌, ◌==◌, if◌then◌else◌}
+use Rattle.std.specs.Prelude.{◌≡◌, ◌⊎◌, ℕ, Bool, true, not, List, [], ◌∷◌, ◌++◌, ◌==◌, if◌then◌else◌}
 use Rattle.std.specs.List.{list_all, flat_map}
 use Rattle.std.specs.Io.BufRead.{strip_last}
 use Rattle.collation.specs.Bytes as byte
@@ -21,6 +21,16 @@ lines_of text = lines_from [] text
 -- no byte 10
 abbrev pub has_no_end : List ℕ → Bool
 has_no_end text = list_all (λ b. not (b == byte.line_feed)) text
+
+-- nothing, or a text that ends with a byte 10
+abbrev pub EndsALine : List ℕ → Type 0
+EndsALine text = (text ≡ []) ⊎ ((line : List ℕ) × (text ≡ line ++ byte.line_feed ∷ []))
+
+-- whole lines stand before the rest
+pub record AreLinesBefore (rest text : List ℕ) : Type 0 where
+  pub front : List ℕ
+  pub ends : EndsALine front
+  pub is : text ≡ front ++ rest
 
 -- a text of lines, each ended by a byte 10, and of what follows the last of them
 abbrev pub text_of_lines : List (List ℕ) → List ℕ → List ℕ

@@ -18,7 +18,7 @@ use Rattle.script.specs.Line.{reading_of, job_of_line}
 use Rattle.script.specs.Text.{reply_text}
 use Rattle.listing.specs.Listing.{listing_text, IsListedFront}
 use Rattle.listing.specs.Bytes.{WritesBeginning}
-use Rattle.script_run.specs.Lines.{lines_of, has_no_end}
+use Rattle.script_run.specs.Lines.{lines_of, has_no_end, AreLinesBefore}
 use Rattle.script_run.specs.OpenJobs.{open_after}
 use Rattle.script_run.specs.declared.outcome.Outcome.{Outcome}
 
@@ -168,11 +168,12 @@ pub record IsBegun (start : Machine) (listed : Bool) (bytes : List ℕ) (old new
   pub output : IsOutput start listed bytes text outcome
   pub written : WritesBeginning old new text
 
--- the lines that ended before what is left were answered, and just their replies were written
+-- the whole lines before the one that had begun, and what is left, were answered, and just their replies were written
 pub record HasAnsweredLines (start : Machine) (bytes more : List ℕ) (old new : Option (List ℕ)) : Type 0 where
   pub answers : List Answer
   pub begun : List ℕ
   pub each : AreAnswers start answers
+  pub cut : AreLinesBefore (begun ++ more) bytes
   pub split : lines_of bytes ≡ map (λ a. a.0) answers ++ lines_of (begun ++ more)
   pub whole : has_no_end begun ≡ true
   pub written : Appends old new (text_of answers)

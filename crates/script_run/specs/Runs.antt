@@ -6,7 +6,7 @@ use Rattle.journal.specs.History.{initial, after}
 use Rattle.journal.specs.Story.{Machine}
 use Rattle.serial.specs.Soundness.{IsGood}
 use Rattle.listing.specs.Bytes.{WritesBeginning, WritesFront}
-use Rattle.script_run.specs.Lines.{nonempty_line, lines_of}
+use Rattle.script_run.specs.Lines.{nonempty_line, lines_of, AreLinesBefore}
 use Rattle.script_run.specs.Output.{Answer, AreAnswers, left_by, left_open, left_at_end, text_of, noted, ending, IsEndingFront}
 use Rattle.script_run.specs.declared.answers.Script.{Script}
 
@@ -34,6 +34,7 @@ pub record RanFront (text rest : List ℕ) (old new : Script) (before now : Opti
   pub lines : List (List ℕ)
   pub ran : Ran lines old new before now
   pub split : (more : List ℕ) → lines_of (text ++ more) ≡ lines ++ lines_of (rest ++ more)
+  pub cut : AreLinesBefore rest text
 
 -- the run broke off at the front of the text
 pub record BrokeFront (text : List ℕ) (old : Script) (before now : Option (List ℕ)) : Type 0 where
