@@ -1,4 +1,5 @@
-//! Two cores that do the same lines, the second those alone that the first didn't refuse for memory.
+//! Two cores that do the same lines, the second those alone that the first didn't refuse for memory, and without the
+//! first's passes and checkpoints.
 use collation::Job;
 use command::Command;
 use job_core::JobCore;
@@ -10,11 +11,11 @@ use std::alloc::{AllocError, Global};
 // More bytes than any reply to these lines has, so that none is refused memory for its text.
 const MOST_REPLY_BYTES: usize = 4096;
 
-/// A script, and whether a checkpoint is taken after each of its lines.
+/// When the first core takes checkpoints.
 #[derive(Clone, Copy)]
-pub struct List {
-    pub script: &'static str,
-    pub has_checkpoints: bool,
+pub enum Checkpoints {
+    Never,
+    AfterEachLine,
 }
 
 /// The texts of a line's replies by the first core and by the second.
@@ -100,10 +101,12 @@ fn are_listed_alike(
     is_listed_as(alloc, second, &listing)
 }
 
-// Whether both have the same content, and the same journal byte by byte.
+// Whether both have the same content and as many units, and the second's journal ends with the first's, byte by byte.
 fn stand_alike(alloc: Global, first: &JobCore, second: &JobCore) -> Result<bool, Refusal> {
+    let (kept, all) = (first.journal(), second.journal());
+    let are_units_alike = kept.len() == all.len() && all.as_slice().ends_with(kept.as_slice());
     match are_listed_alike(alloc, first, second) {
-        Ok(is_same) => Ok(is_same && first.journal().as_slice() == second.journal().as_slice()),
+        Ok(is_same) => Ok(is_same && are_units_alike),
         Err(_) => Err(Refusal::OutOfMemory),
     }
 }
@@ -142,53 +145,74 @@ fn collects_alike(
     stand_alike(alloc, first, second)
 }
 
-// A checkpoint of both cores, where the first's isn't refused. Then whether they have the same base, else whether the
-// cores stand alike.
+// A checkpoint of the first core. Where it was refused, whether the base is where it was, and the cores stand alike.
 fn checkpoints_alike(
     alloc: Global,
     first: &mut JobCore,
-    second: &mut JobCore,
+    second: &JobCore,
     refused: &mut u64,
 ) -> Result<bool, Refusal> {
+    let before = first.base().number();
     if first.checkpoint().is_ok() {
-        let number = second.checkpoint()?;
-        let are_same = first.base().nodes() == second.base().nodes();
-        return Ok(are_same && first.base().number() == number);
+        return Ok(true);
     }
     *refused = refused.saturating_add(1);
-    stand_alike(alloc, first, second)
+    Ok(first.base().number() == before && stand_alike(alloc, first, second)?)
+}
+
+// The collector's pass after a line, and the checkpoint.
+fn tidies_alike(
+    alloc: Global,
+    cores: (&mut JobCore, &JobCore),
+    checkpoints: Checkpoints,
+    refused: &mut u64,
+) -> Result<bool, Refusal> {
+    let (first, second) = cores;
+    let is_alike = collects_alike(alloc, first, second, refused)?;
+    match checkpoints {
+        Checkpoints::Never => Ok(is_alike),
+        Checkpoints::AfterEachLine => {
+            Ok(is_alike && checkpoints_alike(alloc, first, second, refused)?)
+        }
+    }
+}
+
+// Whether the base that many checkpoints made is the one that the second core's first makes.
+fn have_bases_alike(first: &mut JobCore, second: &mut JobCore) -> Result<bool, Refusal> {
+    let (number, other) = (first.checkpoint()?, second.checkpoint()?);
+    Ok(number == other && first.base().nodes() == second.base().nodes())
 }
 
 fn run_alike(
     alloc: Global,
     cores: (&mut JobCore, &mut JobCore),
-    list: List,
+    script: &str,
+    checkpoints: Checkpoints,
     replies: &mut Replies,
     refused: &mut u64,
 ) -> Result<bool, Refusal> {
     let (first, second) = cores;
-    for line in list.script.lines() {
+    for line in script.lines() {
         if !answers_alike(alloc, (&mut *first, &mut *second), line, replies, refused)? {
             return Ok(false);
         }
-        if !collects_alike(alloc, first, second, refused)? {
-            return Ok(false);
-        }
-        if list.has_checkpoints && !checkpoints_alike(alloc, first, second, refused)? {
+        if !tidies_alike(alloc, (&mut *first, &*second), checkpoints, refused)? {
             return Ok(false);
         }
     }
-    stand_alike(alloc, first, second)
+    Ok(stand_alike(alloc, first, second)? && have_bases_alike(first, second)?)
 }
 
-/// Whether two new cores do the lines of the list alike; and how many steps more were refused.
+/// Whether two new cores do the lines of the script alike; and how many steps more were refused.
 pub fn is_alike(
     alloc: Global,
-    list: List,
+    script: &str,
+    checkpoints: Checkpoints,
     replies: &mut Replies,
     refused: &mut u64,
 ) -> Result<bool, Refusal> {
     let mut first = JobCore::new(alloc);
     let mut second = JobCore::new(alloc);
-    run_alike(alloc, (&mut first, &mut second), list, replies, refused)
+    let cores = (&mut first, &mut second);
+    run_alike(alloc, cores, script, checkpoints, replies, refused)
 }

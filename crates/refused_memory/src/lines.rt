@@ -1,14 +1,8 @@
 //! The lists that are run beside the worked rows. A text of over 14 bytes doesn't lie in its value, nor a key of over
 //! 38.
 
-/// Each is a script, and whether a checkpoint is taken after each of its lines.
-pub const LISTS: [(&str, bool); 5] = [
-    (DATA_COMMANDS, false),
-    (PLAIN, false),
-    (TRANSACTIONS, false),
-    (COMMIT, false),
-    (CHECKPOINTS, true),
-];
+/// Each is a script.
+pub const LISTS: [&str; 5] = [DATA_COMMANDS, PLAIN, TRANSACTIONS, COMMIT, CHECKPOINTS];
 
 // Units of all kinds, the base held back by job 2's transaction and let go, locks that it keeps, and nodes that come and go.
 const CHECKPOINTS: &str = concat!(
