@@ -1,8 +1,7 @@
 -- Settings that are done, one after the other.
-use Rattle.std.proofs.Common.{◌≡◌, inl, inr, ℕ, ◌+◌, ◌-◌, ◌^◌, ◌<◌, Bool, true, false, cond, List, [], ◌∷◌, ◌++◌, length, Option, None, Result, Ok, Err, OnOk, IfErr, refl, sym, ap, subst, ◌∙◌, append_assoc, arith}
+use Rattle.std.proofs.Common.{◌≡◌, inl, inr, ℕ, ◌+◌, ◌-◌, ◌^◌, ◌<◌, Bool, true, false, cond, List, [], ◌∷◌, ◌++◌, length, Option, None, Result, Ok, Err, refl, sym, ap, subst, ◌∙◌, append_assoc, arith}
 use Rattle.std.proofs.lemmas.List.{append-nil}
-use Rattle.std.specs.Prelude.{nat_lt, min}
-use Rattle.std.specs.Result.{IsErrAnd}
+use Rattle.std.specs.Prelude.{nat_lt, Some, IfSome}
 use Rattle.std.specs.Ordering.{nat_cmp}
 use Rattle.std.specs.FinMap as finmap
 use Rattle.refusal.specs.declared.Refusal.{Refusal}
@@ -23,24 +22,12 @@ use Rattle.journal.specs.Story.{Transaction, Machine, nothing_done, transaction_
 use Rattle.serial.specs.Machine.{reply_to_data, reply_with_room, IsReply}
 use Rattle.job_core.specs.Cores.{Cored, new_core}
 use Rattle.script.specs.Line.{reading_of}
-use Rattle.loading.specs.Lines.{all_lines}
-use Rattle.loading.specs.Settings.{Setting, TextFault, set_line, setting_at, joined, with_line, asked_from, before, settings_of}
-use Rattle.loading.specs.Loaded.{steps_of, replies_to, units_of, with_settings, is_answered, counted, IsFirstLine, IsStepOf, HasSet, HasSetAll, IsSoFar, IsLoaded, IsFaultOf}
+use Rattle.loading.specs.Settings.{Setting, TextFault, set_line, setting_at, with_line, before, settings_of}
+use Rattle.loading.specs.Loaded.{steps_of, replies_to, units_of, with_settings, is_answered, counted, IsStepOf, HasSetAll, IsSoFar, IsLoaded, IsFaultOf}
 use Rattle.loading.specs.declared.fault.LoadFault.{LoadFault}
-use Rattle.loading.specs.declared.fault.LoadFault.TheVariants as faults
-use Rattle.loading.proofs.Cut.{first_asks}
+use Rattle.loading.specs.laws.Before.{before_next}
 use Rattle.loading.specs.Statements.{step_for}
 use Rattle.loading.specs.laws.Reading.{asks_for_set}
-
--- settings before what the next lines ask for
-
-pub before_none : (r : Result (List Setting) TextFault) → before [] r ≡ r
-before_none (Ok ss) = refl
-before_none (Err fault) = refl
-
-pub before_more : (xs ys : List Setting) (r : Result (List Setting) TextFault) → before xs (before ys r) ≡ before (xs ++ ys) r
-before_more xs ys (Ok ss) = ap (λ (l : List Setting). Ok l) (sym (append_assoc xs ys ss))
-before_more xs ys (Err fault) = refl
 
 -- settings after others
 
@@ -100,69 +87,27 @@ set_ok job c Committed s old new e f is none machine exact = absurd cc
 set_ok job c (Restarted restarts) s old new e f is none machine exact = absurd cc
 set_ok job c (Refused refusal) s old new e f is none machine exact = absurd cc
 
--- a line's setting
-
-one_before : (number : ℕ) (line : List ℕ) (s : Setting) (rest : Result (List Setting) TextFault) → joined number line (Ok s) rest ≡ before (s ∷ []) rest
-one_before number line s (Ok ss) = refl
-one_before number line s (Err fault) = refl
-
-pub line_set : (number : ℕ) (line : List ℕ) (s : Setting) (old new : Machine) → 0 < length line → setting_at line ≡ Ok s → new ≡ with_settings (s ∷ []) old → HasSet number line old new
-line_set number [] s old new some asked machine = absurd (omega (arith, some))
-line_set number (b ∷ bs) s old new some asked machine = record {
-  settings = s ∷ [];
-  asked = λ rest. ap (λ (r : Result Setting Refusal). joined number (b ∷ bs) r rest) asked ∙ one_before number (b ∷ bs) s rest;
-  machine = machine;
-}
-
-pub line_sets : {T E : Type 0} (r : Result T E) (line : List ℕ) (job : ℕ) (c : Command) (old new : Machine) → 0 < length line → IsStepOf line job c → OnOk r ((s : Setting) → job ≡ 1 → c ≡ Access (Set s.0 s.1) → new ≡ with_settings (s ∷ []) old)
-    → OnOk r ((n : ℕ) → HasSet n line old new)
-line_sets (Ok x) line job c old new some step done = λ n. line_set n line step.setting old new some step.asked (done step.setting step.first step.sets)
-line_sets (Err e) line job c old new some step done = tt
-
--- the lines so far
+-- the fault of the next line
 
 counted_small : (n : ℕ) → n < 2 ^ 64 → counted n ≡ n
 counted_small n h = omega (arith, h)
 
-counted_next : (n number next : ℕ) → counted n ≡ number → next ≡ min (number + 1) (2 ^ 64 - 1) → counted (n + 1) ≡ next
-counted_next n number next e f = omega (arith, e, f)
+pub fault_next : (number : ℕ) (line : List ℕ) (asked rest : Result (List Setting) TextFault) (fault : LoadFault) → ((n : ℕ) (more : Result (List Setting) TextFault) → counted n ≡ number → IsFaultOf (with_line n line more) fault) → number < 2 ^ 64
+    → asked ≡ with_line number line rest → IsFaultOf asked fault
+fault_next number line asked rest fault h small is = subst (λ (r : Result (List Setting) TextFault). IsFaultOf r fault) (sym is) (h number rest (counted_small number small))
 
-pub so_far_first : (number : ℕ) (text : List ℕ) (s : Machine) → number < 2 ^ 64 → IsSoFar (asked_from number (all_lines text)) number text s s
-so_far_first number text s h = record { line = number; counts = counted_small number h; settings = []; goes_on = sym (before_none (asked_from number (all_lines text))); machine = sym (with_none s) }
+-- the settings so far
 
-pub so_far_next : (asked : Result (List Setting) TextFault) (number next : ℕ) (text line rest : List ℕ) (old middle new : Machine) → (so : IsSoFar asked number text old middle) → IsFirstLine text line rest → ((n : ℕ) → HasSet n line middle new)
-    → next ≡ min (number + 1) (2 ^ 64 - 1) → IsSoFar asked next rest old new
-so_far_next asked number next text line rest old middle new so first each is =
-    let h = each so.line in
-    record {
-      line = so.line + 1;
-      counts = counted_next so.line number next so.counts is;
-      settings = so.settings ++ h.settings;
-      goes_on = so.goes_on ∙ ap (before so.settings) (first_asks so.line text line rest first ∙ h.asked (asked_from (so.line + 1) (all_lines rest))) ∙ before_more so.settings h.settings (asked_from (so.line + 1) (all_lines rest));
-      machine = h.machine ∙ ap (with_settings h.settings) so.machine ∙ with_more so.settings h.settings old;
-    }
+so_far_more : (asked left later : Result (List Setting) TextFault) (s : Setting) (old middle new : Machine) → IsSoFar asked left old middle → left ≡ before (s ∷ []) later → new ≡ with_settings (s ∷ []) middle → IsSoFar asked later old new
+so_far_more asked left later s old middle new so next is = record {
+  settings = so.settings ++ s ∷ [];
+  goes_on = before_next so.settings s asked left later so.goes_on next;
+  machine = is ∙ ap (with_settings (s ∷ [])) so.machine ∙ with_more so.settings (s ∷ []) old;
+}
 
-pub so_far_closed : (asked : Result (List Setting) TextFault) (number : ℕ) (text : List ℕ) (old new : Machine) → IsSoFar asked number text old new → old.transactions ≡ finmap.empty → new.transactions ≡ finmap.empty
-so_far_closed asked number text old new so none = ap (λ (m : Machine). m.transactions) so.machine ∙ none
-
-pub so_far_last : (asked : Result (List Setting) TextFault) (number : ℕ) (text : List ℕ) (old new : Machine) → IsSoFar asked number text old new → length text ≡ 0 → HasSetAll asked old new
-so_far_last asked number [] old new so none = record { settings = so.settings; is = so.goes_on ∙ ap (λ (ss : List Setting). Ok ss) (append-nil so.settings); machine = so.machine }
-so_far_last asked number (b ∷ bs) old new so none = absurd (omega (arith, none))
-
-fault_behind : (settings : List Setting) (rest : Result (List Setting) TextFault) (fault : LoadFault) → IsFaultOf rest fault → IsFaultOf (before settings rest) fault
-fault_behind settings rest (faults.Line fault) h = record { first = h.first; is = ap (before settings) h.is; number = h.number; refusal = h.refusal; low = h.low; high = h.high; rule = h.rule }
-fault_behind settings rest faults.Memory h = tt
-
-pub so_far_fault : (asked : Result (List Setting) TextFault) (number : ℕ) (text line rest : List ℕ) (old new : Machine) (fault : LoadFault) → IsSoFar asked number text old new → IsFirstLine text line rest
-    → ((n : ℕ) (more : Result (List Setting) TextFault) → counted n ≡ number → IsFaultOf (with_line n line more) fault) → IsFaultOf asked fault
-so_far_fault asked number text line rest old new fault so first h =
-    subst (λ (r : Result (List Setting) TextFault). IsFaultOf r fault) (sym so.goes_on)
-    (fault_behind so.settings (asked_from so.line (all_lines text)) fault
-    (subst (λ (r : Result (List Setting) TextFault). IsFaultOf r fault) (sym (first_asks so.line text line rest first)) (h so.line (asked_from (so.line + 1) (all_lines rest)) so.counts)))
-
-pub fault_on : {T : Type 0} (r : Result T LoadFault) (fault : LoadFault) (asked : Result (List Setting) TextFault) → IsErrAnd r (λ f. f ≡ fault) → IsFaultOf asked fault → IfErr r (IsFaultOf asked)
-fault_on (Ok x) fault asked is h = tt
-fault_on (Err f) fault asked is h = subst (IsFaultOf asked) (sym is) h
+pub so_far_next : (asked left later : Result (List Setting) TextFault) (next : Option Setting) (s : Setting) (old middle new : Machine) → IsSoFar asked left old middle → IfSome next (λ t. left ≡ before (t ∷ []) later) → next ≡ Some s → new ≡ with_settings (s ∷ []) middle
+    → IsSoFar asked later old new
+so_far_next asked left later next s old middle new so step there is = so_far_more asked left later s old middle new so (subst (λ o. IfSome o (λ t. left ≡ before (t ∷ []) later)) there step) is
 
 -- the story of settings
 
@@ -187,9 +132,6 @@ from_first text asked core s is new h = subst (λ (r : Result (List Setting) Tex
 
 pub legal_loaded : (asked : Result (List Setting) TextFault) (s : Machine) → HasSetAll asked nothing_done s → IsLegal s.units initial
 legal_loaded asked s h = subst (λ (us : List JournalUnit). IsLegal us initial) (sym (ap (λ (m : Machine). m.units) h.machine)) (legal h.settings initial)
-
-pub closed_loaded : (asked : Result (List Setting) TextFault) (s : Machine) → HasSetAll asked nothing_done s → s.transactions ≡ finmap.empty
-closed_loaded asked s h = ap (λ (m : Machine). m.transactions) h.machine
 
 pub loaded : (text : List ℕ) (s : Machine) → HasSetAll (settings_of text) nothing_done s → IsLoaded text s
 loaded text s h =

@@ -17,7 +17,7 @@ use Rattle.journal.specs.Story.{Machine, nothing_done, story_of}
 use Rattle.m_text.specs.Reading.{IsDue}
 use Rattle.script.specs.declared.expected.Expected.TheVariants.{Rule}
 use Rattle.loading.specs.Lines.{all_lines}
-use Rattle.loading.specs.Settings.{Setting, TextFault, setting_at, with_line, asked_from, before, settings_of, database_of}
+use Rattle.loading.specs.Settings.{Setting, TextFault, setting_at, before, settings_of, database_of}
 use Rattle.loading.specs.declared.fault.FaultyLine.{FaultyLine}
 use Rattle.loading.specs.declared.fault.LoadFault.{LoadFault}
 use Rattle.loading.specs.declared.fault.LoadFault.TheVariants as faults
@@ -95,22 +95,14 @@ abbrev pub IsStepRead : List ℕ → Result (ℕ × Command) Refusal → Type 0
 IsStepRead line (Ok step) = IsStepOf line step.0 step.1
 IsStepRead line (Err refusal) = IsDue refusal (setting_at line)
 
--- the settings of a line were done
-pub record HasSet (number : ℕ) (line : List ℕ) (old new : Machine) : Type 0 where
-  pub settings : List Setting
-  pub asked : (rest : Result (List Setting) TextFault) → with_line number line rest ≡ before settings rest
-  pub machine : new ≡ with_settings settings old
-
 -- the settings of a text were done
 pub record HasSetAll (asked : Result (List Setting) TextFault) (old new : Machine) : Type 0 where
   pub settings : List Setting
   pub is : asked ≡ Ok settings
   pub machine : new ≡ with_settings settings old
 
--- the settings of the lines before what is left were done
-pub record IsSoFar (asked : Result (List Setting) TextFault) (number : ℕ) (rest : List ℕ) (old new : Machine) : Type 0 where
-  pub line : ℕ
-  pub counts : counted line ≡ number
+-- the settings before what is left were done
+pub record IsSoFar (asked left : Result (List Setting) TextFault) (old new : Machine) : Type 0 where
   pub settings : List Setting
-  pub goes_on : asked ≡ before settings (asked_from line (all_lines rest))
+  pub goes_on : asked ≡ before settings left
   pub machine : new ≡ with_settings settings old

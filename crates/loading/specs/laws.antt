@@ -1,3 +1,4 @@
+pub mod Before
 pub mod Plain
 pub mod Lines
 pub mod Nodes

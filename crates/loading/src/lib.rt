@@ -10,18 +10,22 @@
 //!
 //! The text `^A(1)=5` and `^A(1)="x"` leaves a database of one node, and a journal of two units.
 //!
+//! Whoever does the SETs on another machine reads them one by one with a `SettingReader`.
+//!
 //! Read `specs/Lines.antt`, `specs/Settings.antt`, `specs/Loaded.antt`, `specs/Statements.antt`, then `lines.rt`,
-//! `settings.rt`.
+//! `reader.rt`, `settings.rt`.
 //! Not promised: that memory is there; at which byte of its line a fault is; what a log is told.
 #![tactic(auto)]
 
 pub use fault::{FaultyLine, LoadFault};
 pub use laws::listings_load_back;
 pub use log::{LoadLog, NoLog};
-pub use settings::{load, load_with};
+pub use reader::SettingReader;
+pub use settings::{load, load_with, loading_job};
 
 mod fault;
 mod laws;
 mod lines;
 mod log;
+mod reader;
 mod settings;

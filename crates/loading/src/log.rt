@@ -2,7 +2,7 @@
 
 /// Told of a text while it is loaded. What it does with that is no part of any promise.
 pub trait LoadLog {
-    /// The line of this number is loaded. Lines are counted from 1, headers and empty ones too.
+    /// The line of this number is loaded: it sets something. Lines are counted from 1, headers and empty ones too.
     fn loaded(&mut self, number: u64);
 }
 

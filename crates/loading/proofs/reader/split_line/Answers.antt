@@ -2,7 +2,7 @@ use Rattle.std.proofs.Common.{List, ℕ, ap, ◌∙◌, ◌+◌}
 use Rattle.std.specs.Io.BufRead.{strip_last}
 use Rattle.listing.specs.laws.Bytes.{rest_of}
 use Rattle.loading.proofs.Cut.{first_ended, first_unended, none_left}
-use Rattle.loading.proofs.settings.split_line.Goals as goal
+use Rattle.loading.proofs.reader.split_line.Goals as goal
 
 pub returns-in-Some-clause-first : goal.returns-in-Some-clause-first
 returns-in-Some-clause-first c =
