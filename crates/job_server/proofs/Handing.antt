@@ -10,7 +10,9 @@ use Rattle.shared_engine.specs.Receipts.{Book, receipted}
 use Rattle.shared_engine.specs.Engines.{receipts_of}
 use Rattle.job_scripts.specs.Reports.{Answers}
 use Rattle.job_scripts.specs.declared.lines.Script.{Script}
-use Rattle.job_server.specs.Served.{Wanted, wanted, IsReport, IsReportAt, AreReports, AreHanded, AreBooked, all_of}
+use Rattle.loading.specs.Settings.{Setting}
+use Rattle.job_server.specs.Loads.{load_books, BeginsWith, IsLoaded}
+use Rattle.job_server.specs.Served.{Wanted, wanted, IsReport, IsReportAt, AreReports, AreHanded, with_load, AreBooked, AreServed, all_of}
 
 report_more : (ws : List Wanted) (reports : List Answers) (owns : List (List Book)) (w : Wanted) (report : Answers) (own : List Book) → AreReports ws reports owns → IsReport w report own → AreReports (ws ++ w ∷ []) (reports ++ report ∷ []) (owns ++ own ∷ [])
 report_more [] [] [] w report own h is = (is, tt)
@@ -47,16 +49,18 @@ pub one_more : (scripts : List Wanted) (place : ℕ) (reports more_reports : Lis
 one_more scripts place reports more_reports books more_books own report h at reports_are books_are =
     ∥∥₁_map₂ h at (λ (x : AreHanded (take place scripts) reports books) (y : IsReportAt scripts place report own). one_more_of scripts place y.script reports more_reports books more_books own report x y.at y.is_report reports_are books_are)
 
--- all are handed over
-booked_of : (scripts : List Wanted) (n : ℕ) (reports : List Answers) (passes : List Book) (units : List JournalUnit) (sessions : ℕ) → AreHanded (take n scripts) reports passes → n ≡ length scripts → length passes ≡ sessions
-    → All (λ (b : Book). AreInJournal units b.receipts) passes → ((j : ℕ) → sum_by (receipted j) units ≡ receipts_of j passes) → AreBooked scripts reports units sessions
-booked_of scripts n reports passes units sessions h all each written count = record {
-  books = h.books;
-  are_told = subst (λ (ws : List Wanted). AreReports ws reports h.books) (ap (λ k. take k scripts) all ∙ take-all scripts) h.are_told;
-  each = sym (ap length h.all_is) ∙ each;
-  written = subst (λ (bs : List Book). All (λ (b : Book). AreInJournal units b.receipts) bs) h.all_is written;
-  all = λ j. count j ∙ ap (receipts_of j) h.all_is;
-}
+-- all are handed over, behind what was loaded
+booked_of : (settings : List Setting) (scripts : List Wanted) (n : ℕ) (reports : List Answers) (passes all_passes : List Book) (units : List JournalUnit) (sessions : ℕ) → AreHanded (take n scripts) reports passes → n ≡ length scripts
+    → all_passes ≡ load_books settings ++ passes → length all_passes ≡ sessions → All (λ (b : Book). AreInJournal units b.receipts) all_passes → ((j : ℕ) → sum_by (receipted j) units ≡ receipts_of j all_passes) → AreBooked settings scripts reports units sessions
+booked_of settings scripts n reports passes all_passes units sessions h all joined each written count =
+    let are : all_passes ≡ with_load settings h.books = joined ∙ ap (λ (bs : List Book). load_books settings ++ bs) h.all_is in
+    record {
+      books = h.books;
+      are_told = subst (λ (ws : List Wanted). AreReports ws reports h.books) (ap (λ k. take k scripts) all ∙ take-all scripts) h.are_told;
+      each = sym (ap length are) ∙ each;
+      written = subst (λ (bs : List Book). All (λ (b : Book). AreInJournal units b.receipts) bs) are written;
+      all = λ j. count j ∙ ap (receipts_of j) are;
+    }
   where
     take-all : (ws : List Wanted) → take (length ws) ws ≡ ws
     take-all [] = refl
@@ -66,12 +70,23 @@ same_length : (scripts : List Script) → length (map wanted scripts) ≡ length
 same_length [] = refl
 same_length (s ∷ ss) = ap (λ (n : ℕ). suc n) (same_length ss)
 
-pub booked : (scripts : List Script) (batch : List Wanted) (n : ℕ) (reports : List Answers) (passes : List Book) (units : List JournalUnit) (sessions : ℕ) → map wanted scripts ≡ batch → ∥ AreHanded (take n batch) reports passes ∥₁ → n ≡ length scripts
-    → length passes ≡ sessions → All (λ (b : Book). AreInJournal units b.receipts) passes → ((j : ℕ) → sum_by (receipted j) units ≡ receipts_of j passes) → ∥ AreBooked (map wanted scripts) reports units sessions ∥₁
-booked scripts batch n reports passes units sessions same h all each written count =
+pub booked : (settings : List Setting) (scripts : List Script) (batch : List Wanted) (n : ℕ) (reports : List Answers) (loaded passes all_passes : List Book) (units : List JournalUnit) (sessions : ℕ) → map wanted scripts ≡ batch
+    → ∥ AreHanded (take n batch) reports passes ∥₁ → n ≡ length scripts → loaded ≡ load_books settings → all_passes ≡ loaded ++ passes → length all_passes ≡ sessions → All (λ (b : Book). AreInJournal units b.receipts) all_passes
+    → ((j : ℕ) → sum_by (receipted j) units ≡ receipts_of j all_passes) → ∥ AreBooked settings (map wanted scripts) reports units sessions ∥₁
+booked settings scripts batch n reports loaded passes all_passes units sessions same h all is joined each written count =
     ∥∥₁_map h
-    (λ (x : AreHanded (take n batch) reports passes). booked_of (map wanted scripts) n reports passes units sessions
-    (subst (λ (ws : List Wanted). AreHanded (take n ws) reports passes) (sym same) x) (all ∙ sym (same_length scripts)) each written count)
+    (λ (x : AreHanded (take n batch) reports passes). booked_of settings (map wanted scripts) n reports passes all_passes units sessions
+    (subst (λ (ws : List Wanted). AreHanded (take n ws) reports passes) (sym same) x) (all ∙ sym (same_length scripts)) (joined ∙ ap (λ (bs : List Book). bs ++ passes) is) each written count)
+
+-- what was loaded, and what was served behind it
+pub served_of : (listing : List ℕ) (scripts : List Wanted) (reports : List Answers) (units : List JournalUnit) (sessions : ℕ) (loaded : List Book) → IsLoaded listing loaded → ((settings : List Setting) → loaded ≡ load_books settings → BeginsWith settings units)
+    → ((settings : List Setting) → loaded ≡ load_books settings → ∥ AreBooked settings scripts reports units sessions ∥₁) → AreServed listing scripts reports units sessions
+served_of listing scripts reports units sessions loaded h begins booked = record {
+  settings = h.settings;
+  asked = h.asked;
+  begins = begins h.settings h.books_are;
+  booked = booked h.settings h.books_are;
+}
 
 -- nothing is handed over yet
 pub none_handed : ∥ AreHanded [] [] [] ∥₁

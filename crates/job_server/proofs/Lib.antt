@@ -2,9 +2,11 @@ pub mod Answering
 pub mod Causes
 pub mod Doing
 pub mod Ending
+pub mod Faulting
 pub mod Following
 pub mod GoingOn
 pub mod Handing
+pub mod Loads
 pub mod Outputs
 pub mod Reading
 pub mod Standing

@@ -12,7 +12,7 @@ pub begun_then : {T E : Type 0} (r : Result T E) (a b c : Option (List ℕ)) (x 
 begun_then (Ok v) a b c x w y e h k = tt
 begun_then (Err v) a b c x w y e h k = subst (λ (t : List ℕ). WritesBeginning a c (t ++ y)) e (WritesBeginning-then a b c x y h k)
 
-error_is : {T E : Type 0} (f m : E) → IsErrOf {T = T} (Err f) m → f ≡ m
+pub error_is : {T E : Type 0} (f m : E) → IsErrOf {T = T} (Err f) m → f ≡ m
 error_is f m k = cc
 
 is_error : {T E : Type 0} (f m : E) → f ≡ m → IsErrOf {T = T} (Err f) m

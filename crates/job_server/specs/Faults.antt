@@ -1,12 +1,17 @@
 -- Which fault of a run a fault of its parts is. Source: docs/FORMATS.md, "Faults of a run".
+use Rattle.std.specs.Prelude.{⊤, ℕ, List}
 use Rattle.listing.specs.declared.nodes.ListingFault.{ListingFault}
 use Rattle.listing.specs.declared.nodes.ListingFault.TheVariants.{Write as ListingWrite, Memory as ListingMemory}
 use Rattle.listing.specs.declared.whole.InputFault.{InputFault}
 use Rattle.listing.specs.declared.whole.InputFault.TheVariants.{Read as InputRead, Memory as InputMemory}
 use Rattle.job_server.specs.declared.fault.ServerFault.{ServerFault}
 use Rattle.job_server.specs.declared.fault.ServerFault.TheVariants.{Memory as ServerMemory, Missing as ServerMissing}
+use Rattle.job_server.specs.declared.fault.Unserved.{Unserved}
+use Rattle.job_server.specs.declared.fault.Unserved.TheVariants.{Load as UnservedLoad, Jobs as UnservedJobs}
 use Rattle.job_server.specs.declared.fault.JobsFault.{JobsFault}
-use Rattle.job_server.specs.declared.fault.JobsFault.TheVariants.{Read, Write, Memory, Missing}
+use Rattle.job_server.specs.declared.fault.JobsFault.TheVariants.{Read, Write, Memory, Missing, Load}
+use Rattle.loading.specs.Settings.{settings_of}
+use Rattle.loading.specs.Loaded.{IsFaultOf}
 
 abbrev pub fault_of : ListingFault → JobsFault
 fault_of ListingWrite = Write
@@ -19,3 +24,31 @@ fault_of_input InputMemory = Memory
 abbrev pub fault_of_server : ServerFault → JobsFault
 fault_of_server ServerMemory = Memory
 fault_of_server ServerMissing = Missing
+
+abbrev pub fault_of_unserved : Unserved → JobsFault
+fault_of_unserved (UnservedLoad fault) = Load fault
+fault_of_unserved (UnservedJobs fault) = fault_of_server fault
+
+-- where the listing isn't loaded, that is for its first line that sets nothing, or memory ran out
+abbrev pub IsJobsFault : List ℕ → JobsFault → Type 0
+IsJobsFault listing Read = ⊤
+IsJobsFault listing Write = ⊤
+IsJobsFault listing Memory = ⊤
+IsJobsFault listing Missing = ⊤
+IsJobsFault listing (Load fault) = IsFaultOf (settings_of listing) fault
+
+-- the listing isn't loaded
+abbrev pub IsOfLoad : JobsFault → Type 0
+IsOfLoad Read = ⊥
+IsOfLoad Write = ⊥
+IsOfLoad Memory = ⊥
+IsOfLoad Missing = ⊥
+IsOfLoad (Load fault) = ⊤
+
+-- the writer's fault, or that of memory
+abbrev pub IsOfWriting : JobsFault → Type 0
+IsOfWriting Read = ⊥
+IsOfWriting Write = ⊤
+IsOfWriting Memory = ⊤
+IsOfWriting Missing = ⊥
+IsOfWriting (Load fault) = ⊥

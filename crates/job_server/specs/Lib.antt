@@ -1,6 +1,7 @@
 pub mod Causes
 pub mod Codes
 pub mod Faults
+pub mod Loads
 pub mod Output
 pub mod Replying
 pub mod Served

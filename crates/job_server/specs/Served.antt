@@ -1,6 +1,6 @@
 -- What is known of jobs that were served.
--- Read IsReport, AreReports and AreBooked; the contract of serve cites these.
-use Rattle.std.specs.Prelude.{◌≡◌, ⊤, ℕ, List, [], ◌∷◌, length, map, slice_get, Option, Some}
+-- Read IsReport, AreReports, AreBooked and AreServed; the contract of serve cites these.
+use Rattle.std.specs.Prelude.{◌≡◌, ⊤, ℕ, List, [], ◌∷◌, ◌++◌, length, map, slice_get, Option, Some, Ok}
 use Rattle.std.specs.List.{All, flat_map, sum_by}
 use Rattle.journal.specs.declared.unit.Unit.{Unit as JournalUnit}
 use Rattle.pin_board.specs.Slips.{AreInJournal}
@@ -8,6 +8,8 @@ use Rattle.shared_engine.specs.Receipts.{Book, receipted}
 use Rattle.shared_engine.specs.Engines.{receipts_of}
 use Rattle.job_scripts.specs.declared.lines.Script.{Script}
 use Rattle.job_scripts.specs.Reports.{Answers}
+use Rattle.loading.specs.Settings.{Setting, settings_of}
+use Rattle.job_server.specs.Loads.{load_books, BeginsWith}
 use Rattle.job_server.specs.Told.{IsTold}
 
 -- a script's job, its text, and how many lines it has
@@ -50,11 +52,22 @@ pub record AreHanded (scripts : List Wanted) (reports : List Answers) (all : Lis
   pub are_told : AreReports scripts reports books
   pub all_is : all ≡ all_of books
 
+-- that of the settings that were loaded, and those of the reports
+abbrev pub with_load : List Setting → List (List Book) → List Book
+with_load settings books = load_books settings ++ all_of books
+
 -- each session has a book, whose units are in the journal at their numbers, and each unit of a job but for rollbacks and ends is in a book of its;
--- and what the reports tell are the units of the books of their jobs
-pub record AreBooked (scripts : List Wanted) (reports : List Answers) (units : List JournalUnit) (sessions : ℕ) : Type 0 where
+-- and what the reports tell are the units of the books of their jobs, but for the one of the settings that were loaded
+pub record AreBooked (settings : List Setting) (scripts : List Wanted) (reports : List Answers) (units : List JournalUnit) (sessions : ℕ) : Type 0 where
   pub books : List (List Book)
   pub are_told : AreReports scripts reports books
-  pub each : length (all_of books) ≡ sessions
-  pub written : All (λ (b : Book). AreInJournal units b.receipts) (all_of books)
-  pub all : (job : ℕ) → sum_by (receipted job) units ≡ receipts_of job (all_of books)
+  pub each : length (with_load settings books) ≡ sessions
+  pub written : All (λ (b : Book). AreInJournal units b.receipts) (with_load settings books)
+  pub all : (job : ℕ) → sum_by (receipted job) units ≡ receipts_of job (with_load settings books)
+
+-- the settings of a listing were done, and are the journal's first units; then the scripts were served
+pub record AreServed (listing : List ℕ) (scripts : List Wanted) (reports : List Answers) (units : List JournalUnit) (sessions : ℕ) : Type 0 where
+  pub settings : List Setting
+  pub asked : settings_of listing ≡ Ok settings
+  pub begins : BeginsWith settings units
+  pub booked : ∥ AreBooked settings scripts reports units sessions ∥₁

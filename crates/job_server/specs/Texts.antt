@@ -6,11 +6,12 @@ use Rattle.journal.specs.History.{initial, IsLegal}
 use Rattle.job_scripts.specs.Groups.{groups_in}
 use Rattle.job_scripts.specs.Reports.{Answers}
 use Rattle.job_server.specs.Output.{group_of_script}
-use Rattle.job_server.specs.Served.{Wanted, AreBooked}
+use Rattle.job_server.specs.Served.{Wanted, AreServed}
 
--- a report for each of the text's groups, in order, with a reply for each line; the units are a legal journal, in which are those that the replies tell
-pub record IsServed (text : List ℕ) (reports : List Answers) (units : List JournalUnit) (sessions : ℕ) : Type 0 where
+-- a report for each of the text's groups, in order, with a reply for each line; the units are a legal journal, first those of the listing's settings,
+-- in which are those that the replies tell
+pub record IsServed (listing text : List ℕ) (reports : List Answers) (units : List JournalUnit) (sessions : ℕ) : Type 0 where
   pub scripts : List Wanted
   pub of_groups : map group_of_script scripts ≡ groups_in text
-  pub booked : ∥ AreBooked scripts reports units sessions ∥₁
+  pub served : AreServed listing scripts reports units sessions
   pub legal : IsLegal units initial

@@ -2,6 +2,7 @@
 ghost use Rattle.std.specs.Prelude.{◌≡◌, true, false, IfOk, OnErr};
 
 use listing::{InputFault, ListingFault, WriteFault};
+use loading::LoadFault;
 use std::alloc::{AllocError, AllocFailed};
 use std::error::Error;
 use std::fmt;
@@ -38,6 +39,50 @@ impl<T: Drop> From<AllocFailed<T>> for ServerFault {
     }
 }
 
+/// Why scripts weren't served. No report is handed out then.
+#[derive(Clone, Copy, Debug, PartialEq, Eq)]
+pub enum Unserved {
+    /// The listing isn't loaded. No job was begun.
+    Load(LoadFault),
+    /// Jobs weren't served to their end.
+    Jobs(ServerFault),
+}
+
+impl From<ServerFault> for Unserved {
+    ghost use Rattle.std.specs.Prelude.{◌≡◌};
+    ghost use Rattle.job_server.specs.declared.fault.Unserved.{Unserved};
+
+    ghost from_gives = { λ jobs fault. fault ≡ Unserved.Jobs jobs };
+
+    fn from(fault: ServerFault) -> Unserved {
+        Unserved::Jobs(fault)
+    }
+}
+
+impl From<AllocError> for Unserved {
+    ghost use Rattle.std.specs.Prelude.{◌≡◌};
+    ghost use Rattle.job_server.specs.declared.fault.ServerFault.{ServerFault};
+    ghost use Rattle.job_server.specs.declared.fault.Unserved.{Unserved};
+
+    ghost from_gives = { λ _ fault. fault ≡ Unserved.Jobs ServerFault.Memory };
+
+    fn from(_: AllocError) -> Unserved {
+        Unserved::Jobs(ServerFault::Memory)
+    }
+}
+
+impl<T: Drop> From<AllocFailed<T>> for Unserved {
+    ghost use Rattle.std.specs.Prelude.{◌≡◌};
+    ghost use Rattle.job_server.specs.declared.fault.ServerFault.{ServerFault};
+    ghost use Rattle.job_server.specs.declared.fault.Unserved.{Unserved};
+
+    ghost from_gives = { λ _ fault. fault ≡ Unserved.Jobs ServerFault.Memory };
+
+    fn from(_: AllocFailed<T>) -> Unserved {
+        Unserved::Jobs(ServerFault::Memory)
+    }
+}
+
 /// Why a run of many jobs ended early. What was written is a beginning of a whole output.
 #[derive(Clone, Copy, Debug, PartialEq, Eq)]
 pub enum JobsFault {
@@ -49,6 +94,8 @@ pub enum JobsFault {
     Memory,
     /// A job's report didn't come.
     Missing,
+    /// The listing isn't loaded. Nothing was done or written.
+    Load(LoadFault),
 }
 
 impl JobsFault {
@@ -57,8 +104,9 @@ impl JobsFault {
         match self {
             JobsFault::Read => "cannot read input",
             JobsFault::Write => "cannot write output",
-            JobsFault::Memory => "out of memory",
+            JobsFault::Memory | JobsFault::Load(LoadFault::Memory) => "out of memory",
             JobsFault::Missing => "report missing",
+            JobsFault::Load(LoadFault::Line(_)) => "cannot load the listing",
         }
     }
 }
@@ -85,16 +133,17 @@ pub fn status_of(outcome: &Result<bool, JobsFault>) -> u8
     }
 }
 
-impl From<ServerFault> for JobsFault {
+impl From<Unserved> for JobsFault {
     ghost use Rattle.std.specs.Prelude.{◌≡◌};
-    ghost use Rattle.job_server.specs.Faults.{fault_of_server};
+    ghost use Rattle.job_server.specs.Faults.{fault_of_unserved};
 
-    ghost from_gives = { λ served fault. fault ≡ fault_of_server served };
+    ghost from_gives = { λ unserved fault. fault ≡ fault_of_unserved unserved };
 
-    fn from(fault: ServerFault) -> JobsFault {
+    fn from(fault: Unserved) -> JobsFault {
         match fault {
-            ServerFault::Memory => JobsFault::Memory,
-            ServerFault::Missing => JobsFault::Missing,
+            Unserved::Load(fault) => JobsFault::Load(fault),
+            Unserved::Jobs(ServerFault::Memory) => JobsFault::Memory,
+            Unserved::Jobs(ServerFault::Missing) => JobsFault::Missing,
         }
     }
 }

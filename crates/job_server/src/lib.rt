@@ -21,13 +21,14 @@
 //! | `holding.rt` | lines that are done under one hold of the engine's lock |
 //! | `blocks.rt` | blocks, as often as they are overtaken |
 //! | `worker.rt` | the lines of one job, and of one job after the other |
+//! | `load.rt` | the listing that is loaded before the first job |
 //! | `serving.rt` | the workers, the channels, the reports in order |
 //! | `run.rt` | bytes in, bytes out |
 //!
 //! Not promised: that jobs overlap, that a LOCK has its names at last, how often a block is done again.
 #![tactic(auto)]
 
-pub use fault::{JobsFault, ServerFault, status_of};
+pub use fault::{JobsFault, ServerFault, Unserved, status_of};
 pub use run::{run_jobs, run_text, serve_text, write_served};
 pub use serving::{Served, serve};
 
@@ -36,6 +37,7 @@ mod cursor;
 mod fault;
 mod holding;
 mod job_run;
+mod load;
 mod replies;
 mod run;
 mod running;

@@ -1,10 +1,11 @@
 //! Bytes in, bytes out.
-ghost use Rattle.std.specs.Prelude.{◌≡◌, ◌++◌, [], true, ℕ, List, IfOk, IfSome, OnOk, OnErr, IsErrOf};
+ghost use Rattle.std.specs.Prelude.{◌≡◌, ◌++◌, [], true, ℕ, List, IfOk, IfErr, IfSome, OnOk, OnErr, IsErrOf};
 ghost use Rattle.std.specs.Io.KnownBytes.{Appends, IsAtEnd, Keeps, Consumes};
 ghost use Rattle.journal.specs.History.{initial, after, IsLegal};
 ghost use Rattle.listing.specs.Bytes.{WritesBeginning, IsOneMore};
 ghost use Rattle.std.specs.List.{list_any};
 ghost use Rattle.job_scripts.specs.Reports.{reports_text, some_refused};
+ghost use Rattle.job_server.specs.Faults.{IsJobsFault, IsOfLoad, IsOfWriting};
 ghost use Rattle.job_server.specs.Output.{ending, IsJobsOutput, Wrote, IsBegun};
 ghost use Rattle.job_server.specs.Texts.{IsServed};
 
@@ -13,6 +14,7 @@ use job_core::Core;
 use job_scripts::{Report, scripts_of, write_reports};
 use journal::Journal;
 use listing::{Counted, read_all, write_listing_after};
+use loading::{LoadLog, NoLog};
 use shared_engine::Gate;
 use std::alloc::Global;
 use std::io::{Read, Write};
@@ -32,6 +34,7 @@ fn write_ending<W: Write>(
     ensures ok { OnOk result (Appends (W.contents writer.old.inner) (W.contents writer.new.inner) (ending listed (after core.now.units initial).map)) }
     ensures err { OnErr result (WritesBeginning (W.contents writer.old.inner) (W.contents writer.new.inner) (ending listed (after core.now.units initial).map)) }
     ensures counted { IsErrOf result JobsFault.Write → IsOneMore writer.old.failures writer.new.failures }
+    ensures kind { IfErr result IsOfWriting }
 {
     if !listed {
         return Ok(());
@@ -68,24 +71,28 @@ impl Served {
     }
 }
 
-/// Runs the jobs of a text at the same time, and answers their reports, in order of the jobs' first lines, with the closed
-/// engine. Its journal is legal, and tells what the reports tell, as `serve` says.
+/// Loads a listing, runs the jobs of a text at the same time, and answers their reports, in order of the jobs' first lines,
+/// with the closed engine. Its journal is legal, begins with the SETs of the listing, and tells what the reports tell, as
+/// `serve` says. An empty listing sets nothing.
 ///
-/// Nothing is written, so `write_served` and whoever reads `Served::journal` see one journal. Faults: `Memory` and
+/// Nothing is written, so `write_served` and whoever reads `Served::journal` see one journal. Faults: `Load`, `Memory` and
 /// `Missing`, as of `serve`, and never `Write`.
-pub fn serve_text<R: Threads + Wait + Sync, G: Gate + Sync>(
+pub fn serve_text<R: Threads + Wait + Sync, L: LoadLog, G: Gate + Sync>(
     rt: &R,
     alloc: Global,
+    listing: &[u8],
+    log: &mut L,
     text: Vec<u8>,
     workers: usize,
     gate: &G,
 ) -> Result<Served, JobsFault>
-    ensures served { IfOk result (λ served. IsServed text.items served.reports.items served.closed.core.units served.closed.sessions) }
+    ensures served { IfOk result (λ served. IsServed listing.now text.items served.reports.items served.closed.core.units served.closed.sessions) }
     ensures unwritten { IsErrOf result JobsFault.Write → ⊥ }
+    ensures unloaded { IfErr result (IsJobsFault listing.now) }
 {
     let scripts = scripts_of(alloc, &text)?;
     drop(text);
-    let served = serve(rt, alloc, scripts, workers, gate)?;
+    let served = serve(rt, alloc, listing, log, scripts, workers, gate)?;
     let _journal = served.journal();
     Ok(served)
 }
@@ -103,33 +110,37 @@ pub fn write_served<W: Write>(
     ensures ok { OnOk result (Appends (W.contents writer.old.inner) (W.contents writer.new.inner) (reports_text served.now.reports.items ++ ending listed (after served.now.closed.core.units initial).map)) }
     ensures err { OnErr result (WritesBeginning (W.contents writer.old.inner) (W.contents writer.new.inner) (reports_text served.now.reports.items ++ ending listed (after served.now.closed.core.units initial).map)) }
     ensures counted { IsErrOf result JobsFault.Write → IsOneMore writer.old.failures writer.new.failures }
+    ensures kind { IfErr result IsOfWriting }
 {
     write_reports(served.reports.as_slice(), writer)?;
     write_ending(alloc, listed, &served.closed.core, writer)
 }
 
-/// Runs the jobs of a text at the same time, and writes their replies, by job in order of the jobs' first lines, then, where
-/// it is asked for, `--` and the listing of the database that they leave: `serve_text`, then `write_served`. Answers whether
-/// a reply is a refusal.
+/// Loads a listing, runs the jobs of a text at the same time, and writes their replies, by job in order of the jobs' first
+/// lines, then, where it is asked for, `--` and the listing of the database that they leave: `serve_text`, then
+/// `write_served`. Answers whether a reply is a refusal.
 ///
 /// A job's replies tell the units that it wrote, as `serve` says; the listing is of the map that all units leave.
 ///
-/// After a fault a beginning of that was written: nothing where jobs weren't served to their end; `Write` only where a call
-/// of the writer failed.
+/// After a fault a beginning of that was written: nothing where the listing isn't loaded or jobs weren't served to their
+/// end; `Write` only where a call of the writer failed.
 pub fn run_text<R: Threads + Wait + Sync, W: Write, G: Gate + Sync>(
     rt: &R,
     alloc: Global,
+    listing: &[u8],
     listed: bool,
     text: Vec<u8>,
     writer: &mut Counted<W>,
     workers: usize,
     gate: &G,
 ) -> Result<bool, JobsFault>
-    ensures output { IfOk result (λ refused. Wrote listed text.items refused (W.contents writer.old.inner) (W.contents writer.new.inner)) }
-    ensures begun { OnErr result (IsBegun listed text.items (W.contents writer.old.inner) (W.contents writer.new.inner)) }
+    ensures output { IfOk result (λ refused. Wrote listing.now listed text.items refused (W.contents writer.old.inner) (W.contents writer.new.inner)) }
+    ensures begun { OnErr result (IsBegun listing.now listed text.items (W.contents writer.old.inner) (W.contents writer.new.inner)) }
+    ensures unloaded { IfErr result (IsJobsFault listing.now) }
+    ensures nothing { IfErr result (λ fault. IsOfLoad fault → W.contents writer.old.inner ≡ W.contents writer.new.inner) }
     ensures counted { IsErrOf result JobsFault.Write → IsOneMore writer.old.failures writer.new.failures }
 {
-    let served = serve_text(rt, alloc, text, workers, gate)?;
+    let served = serve_text(rt, alloc, listing, &mut NoLog, text, workers, gate)?;
     write_served(alloc, listed, &served, writer)?;
     Ok(served.refused())
 }
@@ -140,17 +151,20 @@ pub fn run_text<R: Threads + Wait + Sync, W: Write, G: Gate + Sync>(
 pub fn run_jobs<R: Threads + Wait + Sync, I: Read, W: Write, G: Gate + Sync>(
     rt: &R,
     alloc: Global,
+    listing: &[u8],
     reader: &mut Counted<I>,
     writer: &mut Counted<W>,
     workers: usize,
     gate: &G,
 ) -> Result<bool, JobsFault>
     ensures output { IfOk result (λ refused. IfSome (I.remaining reader.old.inner)
-        (λ bytes. Wrote true bytes refused (W.contents writer.old.inner) (W.contents writer.new.inner))) }
+        (λ bytes. Wrote listing.now true bytes refused (W.contents writer.old.inner) (W.contents writer.new.inner))) }
     ensures at_end { OnOk result (IsAtEnd (I.remaining reader.new.inner)) }
     ensures begun { OnErr result (IfSome (I.remaining reader.old.inner)
-        (λ bytes. IsBegun true bytes (W.contents writer.old.inner) (W.contents writer.new.inner))) }
+        (λ bytes. IsBegun listing.now true bytes (W.contents writer.old.inner) (W.contents writer.new.inner))) }
+    ensures unloaded { IfErr result (IsJobsFault listing.now) }
+    ensures nothing { IfErr result (λ fault. IsOfLoad fault → W.contents writer.old.inner ≡ W.contents writer.new.inner) }
 {
     let text = read_all(alloc, reader)?;
-    run_text(rt, alloc, true, text, writer, workers, gate)
+    run_text(rt, alloc, listing, true, text, writer, workers, gate)
 }

@@ -1,12 +1,16 @@
 //! The workers, the channels, the reports in order.
-ghost use Rattle.std.specs.Prelude.{◌≡◌, ◌+◌, ℕ, IfOk, OnOk, map, take, length};
-ghost use Rattle.job_server.specs.Served.{Wanted, wanted, AreHanded, AreBooked};
+ghost use Rattle.std.specs.Prelude.{◌≡◌, ◌+◌, ℕ, List, IfOk, IfErr, OnOk, map, take, length};
+ghost use Rattle.loading.specs.Settings.{Setting};
+ghost use Rattle.job_server.specs.Loads.{load_books, BeginsWith, IsUnservedBy};
+ghost use Rattle.job_server.specs.Served.{Wanted, wanted, AreHanded, AreBooked, AreServed};
 
-use crate::ServerFault;
 use crate::job_run::Calls;
+use crate::load::load_listing;
 use crate::worker::{Batch, Done, Task, Worker};
+use crate::{ServerFault, Unserved};
 use crossbeam_channel::{Receiver, Sender, unbounded};
 use job_scripts::{Report, Script};
+use loading::LoadLog;
 use pin_board::{Blank, BoardName, SEATS};
 use shared_engine::{Closed, Gate, Pass, Shared};
 use std::alloc::Global;
@@ -225,20 +229,20 @@ fn share_out<B: BoardName + Batch + Send + Sync, R: Threads + Wait + Sync, G: Ga
     )
 }
 
-// Serves these scripts on a board that is this one.
+// Serves these scripts on an engine in which sessions with these passes were.
 fn serve_on<B: BoardName + Batch + Send + Sync, R: Threads + Wait + Sync, G: Gate + Sync>(
     rt: &R,
     alloc: Global,
-    blank: Blank,
+    engine: Shared<B>,
+    loaded: Vec<Pass<B>>,
     scripts: Vec<Script>,
     workers: usize,
     gate: &G,
 ) -> Result<Served, ServerFault>
-    requires board { (blank.seat.table_id ≡ B.table) × (blank.words.seats ≡ 4096) }
-    requires scripts { map wanted scripts.items ≡ B.scripts }
-    ensures booked { IfOk result (λ served. ∥ AreBooked (map wanted scripts.items) served.reports.items served.closed.core.units served.closed.sessions ∥₁) }
+    requires { map wanted scripts.items ≡ B.scripts }
+    ensures begins { IfOk result (λ served. (settings : List Setting) → loaded.items ≡ load_books settings → BeginsWith settings served.closed.core.units) }
+    ensures booked { IfOk result (λ served. (settings : List Setting) → loaded.items ≡ load_books settings → ∥ AreBooked settings (map wanted scripts.items) served.reports.items served.closed.core.units served.closed.sessions ∥₁) }
 {
-    let engine = Shared::<B>::new(alloc, blank);
     let count = scripts.len();
     let gathered = share_out(rt, alloc, &engine, scripts, workers, gate)?;
     if let Some(fault) = gathered.fault {
@@ -247,9 +251,11 @@ fn serve_on<B: BoardName + Batch + Send + Sync, R: Threads + Wait + Sync, G: Gat
     if gathered.slots.len() != count {
         return Err(ServerFault::Missing);
     }
-    let handed = reports_of(alloc, gathered.slots)?;
-    let passes = handed.passes.len() as u64;
-    let closed = engine.finish(rt, handed.passes);
+    let mut handed = reports_of(alloc, gathered.slots)?;
+    let mut all = loaded;
+    all.append(&mut handed.passes)?;
+    let passes = all.len() as u64;
+    let closed = engine.finish(rt, all);
     if closed.sessions != passes {
         return Err(ServerFault::Missing);
     }
@@ -259,8 +265,49 @@ fn serve_on<B: BoardName + Batch + Send + Sync, R: Threads + Wait + Sync, G: Gat
     })
 }
 
-/// Runs the scripts of jobs at the same time, on so many workers and an engine that is new, and answers a report for each
-/// and the closed engine. Jobs are taken in order of the scripts. At the end of its lines a job is halted.
+// Loads a listing and serves these scripts, on a board that is this one.
+#[tactic(auto, using(crate::proofs::Handing::served_of))]
+fn load_and_serve<
+    B: BoardName + Batch + Send + Sync,
+    R: Threads + Wait + Sync,
+    L: LoadLog,
+    G: Gate + Sync,
+>(
+    rt: &R,
+    alloc: Global,
+    blank: Blank,
+    listing: &[u8],
+    log: &mut L,
+    scripts: Vec<Script>,
+    workers: usize,
+    gate: &G,
+) -> Result<Served, Unserved>
+    requires board { (blank.seat.table_id ≡ B.table) × (blank.words.seats ≡ 4096) }
+    requires scripts { map wanted scripts.items ≡ B.scripts }
+    ensures served { IfOk result (λ served. AreServed listing.now (map wanted scripts.items) served.reports.items served.closed.core.units served.closed.sessions) }
+    ensures fault { IfErr result (IsUnservedBy listing.now) }
+{
+    let engine = Shared::<B>::new(alloc, blank);
+    let loaded = match load_listing(rt, alloc, &engine, listing, log) {
+        Ok(loaded) => loaded,
+        Err(fault) => {
+            drop(scripts);
+            drop(engine);
+            return Err(fault);
+        }
+    };
+    match serve_on(rt, alloc, engine, loaded, scripts, workers, gate) {
+        Ok(served) => Ok(served),
+        Err(fault) => Err(Unserved::Jobs(fault)),
+    }
+}
+
+/// Loads a listing, where it has a line that sets something, and runs the scripts of jobs at the same time, on so many
+/// workers and an engine that is new, and answers a report for each and the closed engine. Jobs are taken in order of the
+/// scripts. At the end of its lines a job is halted.
+///
+/// Each line of the listing is a SET of job 1, as of `loading::load`, and they are the first units of the journal; the log
+/// is told of each. An empty listing sets nothing.
 ///
 /// A script is one job's alone, and its lines are as many as it says. With no worker nothing is done, and each report is
 /// missing.
@@ -268,18 +315,29 @@ fn serve_on<B: BoardName + Batch + Send + Sync, R: Threads + Wait + Sync, G: Gat
 /// A report's replies tell the units of its job's books, which are in the closed journal; a LOCK that no reply tells may stand
 /// among them: a first try of one that waited, or one of a try of a block that was overtaken.
 ///
-/// After a fault no report is handed out: `Memory` where memory was refused and no reply could say so, also where a worker
-/// couldn't be started, a session begun or its last HALT done; `Missing` where a report didn't come, or isn't one reply for
-/// each line of its script, or where a session's pass didn't come.
-pub fn serve<R: Threads + Wait + Sync, G: Gate + Sync>(
+/// After a fault no report is handed out: `Load` where the listing isn't loaded, as of `loading::load`, and no job was begun;
+/// `Memory` where memory was refused and no reply could say so, also where a worker couldn't be started, a session begun or
+/// its last HALT done; `Missing` where a report didn't come, or isn't one reply for each line of its script, or where a
+/// session's pass didn't come.
+pub fn serve<R: Threads + Wait + Sync, L: LoadLog, G: Gate + Sync>(
     rt: &R,
     alloc: Global,
+    listing: &[u8],
+    log: &mut L,
     scripts: Vec<Script>,
     workers: usize,
     gate: &G,
-) -> Result<Served, ServerFault>
-    ensures booked { IfOk result (λ served. ∥ AreBooked (map wanted scripts.items) served.reports.items served.closed.core.units served.closed.sessions ∥₁) }
+) -> Result<Served, Unserved>
+    ensures served { IfOk result (λ served. AreServed listing.now (map wanted scripts.items) served.reports.items served.closed.core.units served.closed.sessions) }
+    ensures fault { IfErr result (IsUnservedBy listing.now) }
 {
-    let blank = Blank::new(alloc, SEATS)?;
-    serve_on::<Brand, _, _>(rt, alloc, blank, scripts, workers, gate)
+    match Blank::new(alloc, SEATS) {
+        Ok(blank) => load_and_serve::<Brand, _, _, _>(
+            rt, alloc, blank, listing, log, scripts, workers, gate,
+        ),
+        Err(_) => {
+            drop(scripts);
+            Err(Unserved::Jobs(ServerFault::Memory))
+        }
+    }
 }

@@ -1,15 +1,21 @@
 use Rattle.std.proofs.Common.{length, arith}
 use Rattle.job_server.proofs.Handing.{booked}
+use Rattle.job_server.proofs.Loads.{begins}
 use Rattle.job_server.proofs.serving.serve_on.Goals as goal
 
 pub returns : goal.returns
 returns g c =
     let same = c.if-closed-passes.false in
     let count = c.len-passes.ensures in
-    let passes = c.in_ok-handed.handed.passes in
+    let handed = c.in_ok-handed.handed.passes in
+    let all = c.append.new.self in
+    let joined = c.in_ok-append.ensures.items in
     let slots = c.in_ok-gathered.gathered.slots in
     let scripts = c.args.scripts in
+    let there = c.finish-closed.ensures.in_journal in
     record {
-      booked = booked scripts.items g.B.Batch.scripts (length slots.items) _ passes.items _ _ c.requires.scripts c.in_ok-handed.ensures (omega (arith, c.len.ensures, c.if-len-count.false, c.len-count.ensures, slots.ok.0, scripts.ok.0)) (omega (arith, same, count, passes.ok.0)) c.finish-closed.ensures.in_journal
-          (c.finish-closed.ensures.count (omega (arith, same, count)) (omega (arith, same, count, passes.ok, passes.small)));
+      begins = λ settings is. begins settings _ c.args.loaded.items handed.items all.items is joined there;
+      booked = λ settings is. booked settings scripts.items g.B.Batch.scripts (length slots.items) _ c.args.loaded.items handed.items all.items _ _ c.requires c.in_ok-handed.ensures (omega (arith, c.len.ensures, c.if-len-count.false, c.len-count.ensures, slots.ok.0, scripts.ok.0)) is joined
+          (omega (arith, same, count, all.ok.0)) there
+          (c.finish-closed.ensures.count (omega (arith, same, count)) (omega (arith, same, count, all.ok, all.small)));
     }

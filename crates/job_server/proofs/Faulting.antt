@@ -1,0 +1,63 @@
+-- Faults of a run, by the faults of its parts.
+use Rattle.std.proofs.Common.{◌≡◌, List, ℕ, Result, Ok, Err, IfErr, sym, subst, ◌∙◌}
+use Rattle.std.specs.Prelude.{IsErrOf}
+use Rattle.std.specs.Result.{IsErrAnd}
+use Rattle.listing.specs.declared.nodes.ListingFault.{ListingFault}
+use Rattle.listing.specs.declared.nodes.ListingFault.TheVariants.{Write as ListingWrite, Memory as ListingMemory}
+use Rattle.listing.specs.declared.whole.InputFault.{InputFault}
+use Rattle.listing.specs.declared.whole.InputFault.TheVariants.{Read as InputRead, Memory as InputMemory}
+use Rattle.job_server.specs.declared.fault.ServerFault.TheVariants.{Memory as ServerMemory, Missing as ServerMissing}
+use Rattle.job_server.specs.declared.fault.Unserved.{Unserved}
+use Rattle.job_server.specs.declared.fault.Unserved.TheVariants.{Load as UnservedLoad, Jobs as UnservedJobs}
+use Rattle.job_server.specs.declared.fault.JobsFault.{JobsFault}
+use Rattle.job_server.specs.declared.fault.JobsFault.TheVariants.{Read, Write, Memory, Missing, Load}
+use Rattle.job_server.specs.Faults.{fault_of, fault_of_input, fault_of_unserved, IsJobsFault, IsOfLoad, IsOfWriting}
+use Rattle.job_server.specs.Loads.{IsUnservedBy}
+use Rattle.job_server.proofs.Reading.{error_is}
+
+-- what holds of a fault, where it is passed on
+pub on_fault : {T : Type 0} (r : Result T JobsFault) (fault : JobsFault) (P : JobsFault → Type 0) → IsErrAnd r (λ f. f ≡ fault) → P fault → IfErr r P
+on_fault (Ok x) fault P is h = tt
+on_fault (Err f) fault P is h = subst P (sym is) h
+
+pub listing_writes : (f : ListingFault) → IsOfWriting (fault_of f)
+listing_writes ListingWrite = tt
+listing_writes ListingMemory = tt
+
+pub input_is : (listing : List ℕ) (f : InputFault) → IsJobsFault listing (fault_of_input f)
+input_is listing InputRead = tt
+input_is listing InputMemory = tt
+
+pub input_no_load : (f : InputFault) → IsOfLoad (fault_of_input f) → ⊥
+input_no_load InputRead h = h
+input_no_load InputMemory h = h
+
+pub unserved_is : (listing : List ℕ) (f : Unserved) → IsUnservedBy listing f → IsJobsFault listing (fault_of_unserved f)
+unserved_is listing (UnservedLoad fault) h = h
+unserved_is listing (UnservedJobs ServerMemory) h = tt
+unserved_is listing (UnservedJobs ServerMissing) h = tt
+
+unserved_writes : (f : Unserved) → fault_of_unserved f ≡ Write → ⊥
+unserved_writes (UnservedLoad fault) e = cc
+unserved_writes (UnservedJobs ServerMemory) e = cc
+unserved_writes (UnservedJobs ServerMissing) e = cc
+
+-- no fault of the server is the writer's
+pub unserved_unwritten : {T : Type 0} (r : Result T JobsFault) (f : Unserved) → IsErrAnd r (λ g. g ≡ fault_of_unserved f) → IsErrOf r Write → ⊥
+unserved_unwritten (Ok x) f is w = absurd is
+unserved_unwritten {T = T} (Err g) f is w = unserved_writes f (sym is ∙ error_is {T = T} g Write w)
+
+pub writing_is : (listing : List ℕ) (f : JobsFault) → IsOfWriting f → IsJobsFault listing f
+writing_is listing Read h = absurd h
+writing_is listing Write h = tt
+writing_is listing Memory h = tt
+writing_is listing Missing h = absurd h
+writing_is listing (Load fault) h = absurd h
+
+-- no fault of the writer is the listing's
+pub writing_no_load : (f : JobsFault) → IsOfWriting f → IsOfLoad f → ⊥
+writing_no_load Read h k = h
+writing_no_load Write h k = k
+writing_no_load Memory h k = k
+writing_no_load Missing h k = h
+writing_no_load (Load fault) h k = h
