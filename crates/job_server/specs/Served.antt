@@ -1,11 +1,11 @@
 -- What is known of jobs that were served.
 -- Read IsReport, AreReports, AreBooked and AreServed; the contract of serve cites these.
 use Rattle.std.specs.Prelude.{◌≡◌, ⊤, ℕ, List, [], ◌∷◌, ◌++◌, length, map, slice_get, Option, Some, Ok}
-use Rattle.std.specs.List.{All, flat_map, sum_by}
+use Rattle.std.specs.List.{All, flat_map}
 use Rattle.journal.specs.declared.unit.Unit.{Unit as JournalUnit}
 use Rattle.pin_board.specs.Slips.{AreInJournal}
-use Rattle.shared_engine.specs.Receipts.{Book, receipted}
-use Rattle.shared_engine.specs.Engines.{receipts_of}
+use Rattle.shared_engine.specs.Receipts.{Book, IsOwn, RisesFrom}
+use Rattle.shared_engine.specs.Engines.{AreAllReceipts}
 use Rattle.job_scripts.specs.declared.lines.Script.{Script}
 use Rattle.job_scripts.specs.Reports.{Answers}
 use Rattle.loading.specs.Settings.{Setting, settings_of}
@@ -56,14 +56,16 @@ pub record AreHanded (scripts : List Wanted) (reports : List Answers) (all : Lis
 abbrev pub with_load : List Setting → List (List Book) → List Book
 with_load settings books = load_books settings ++ all_of books
 
--- each session has a book, whose units are in the journal at their numbers, and each unit of a job but for rollbacks and ends is in a book of its;
--- and what the reports tell are the units of the books of their jobs, but for the one of the settings that were loaded
+-- each session has a book, whose units are its job's, in the journal, at numbers that rise; the units of all books are those of the journal, each as
+-- often as it was written, but for rollbacks and ends; and what the reports tell are the units of the books of their jobs, but for the loaded settings'
 pub record AreBooked (settings : List Setting) (scripts : List Wanted) (reports : List Answers) (units : List JournalUnit) (sessions : ℕ) : Type 0 where
   pub books : List (List Book)
   pub are_told : AreReports scripts reports books
   pub each : length (with_load settings books) ≡ sessions
   pub written : All (λ (b : Book). AreInJournal units b.receipts) (with_load settings books)
-  pub all : (job : ℕ) → sum_by (receipted job) units ≡ receipts_of job (with_load settings books)
+  pub rising : All (λ (b : Book). RisesFrom 0 b.receipts) (with_load settings books)
+  pub own : All IsOwn (with_load settings books)
+  pub all : AreAllReceipts units (with_load settings books)
 
 -- the settings of a listing were done, and are the journal's first units; then the scripts were served
 pub record AreServed (listing : List ℕ) (scripts : List Wanted) (reports : List Answers) (units : List JournalUnit) (sessions : ℕ) : Type 0 where
