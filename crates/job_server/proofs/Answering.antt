@@ -1,5 +1,5 @@
 -- A session goes on as what a call of the engine answered tells.
-use Rattle.std.proofs.Common.{◌≡◌, ◌≢◌, ◌⊎◌, inl, inr, ℕ, ◌+◌, ◌-◌, ◌≤◌, ◌<◌, Bool, true, false, List, [], ◌∷◌, ◌++◌, refl, sym, ap, ◌∙◌, subst, arith, length, true≢false}
+use Rattle.std.proofs.Common.{◌≡◌, ◌≢◌, ◌⊎◌, inl, inr, ℕ, ◌+◌, ◌-◌, ◌≤◌, ◌<◌, Bool, true, false, List, [], ◌∷◌, ◌++◌, refl, sym, ap, ◌∙◌, subst, length, true≢false}
 use Rattle.std.specs.Prelude.{Option, Some, None, Result, Ok, Err, IfSome, IsSome, IfOk, IfErr, OnOk, OnErr, is_ok}
 use Rattle.refusal.specs.declared.Refusal.{Refusal}
 use Rattle.refusal.specs.declared.Refusal.TheVariants.{NoTransaction, LevelTooDeep, OutOfMemory, StampsUsedUp}
@@ -36,20 +36,20 @@ pub lone_told : (command : DataCommand) (result : Result Answer Refusal) (old ne
 lone_told command (Ok answer) old new level receipt refused cause = lone_follows command answer receipt.0 old new level receipt.1
 lone_told command (Err refusal) old new level receipt refused cause = refused_follows (Access command) refusal old new refused (lone_may command refusal cause.0 old level cause.1)
 
-pub written_told : (command : DataCommand) (done : Result (Unit {0}) Refusal) (result : Result Answer Refusal) (old new : Held) → 1 ≤ old.state.level → OnOk done (HasWritten command old.state new.state) → new.receipts ≡ old.receipts → OnErr done (new ≡ old)
+pub written_told : (command : DataCommand) (done : Result (Unit {0}) Refusal) (result : Result Answer Refusal) (old new : Held) → 1 ≤ old.state.level → OnOk done (HasWritten command old.state new.state) → (new.start ≡ old.start) × (new.receipts ≡ old.receipts) → OnErr done (new ≡ old)
     → IfErr done (λ refusal. IsCauseAlone refusal old.state.work) → result ≡ written_as done → Follows (Access command) (said Answered result) old new
-written_told command (Ok u) result old new one written receipts refused cause is = subst (λ (r : Result Answer Refusal). Follows (Access command) (said Answered r) old new) (sym is) (written_follows command old new one written receipts)
-written_told command (Err refusal) result old new one written receipts refused cause is =
+written_told command (Ok u) result old new one written same refused cause is = subst (λ (r : Result Answer Refusal). Follows (Access command) (said Answered r) old new) (sym is) (written_follows command old new one written same.0 same.1)
+written_told command (Err refusal) result old new one written same refused cause is =
     subst (λ (r : Result Answer Refusal). Follows (Access command) (said Answered r) old new) (sym is) (refused_follows (Access command) refusal old new refused (written_may command refusal old one cause))
 
-read_from : (start : Option (List JournalUnit)) (command : DataCommand) (result : Result Answer Refusal) (old new : Held) → 1 ≤ old.state.level → IfSome start (λ base. IsAnsweredOrRefused command result (after base initial).map old.state new.state)
-    → IsSome start → new.receipts ≡ old.receipts → Follows (Access command) (said Answered result) old new
-read_from None command result old new one answered some receipts = absurd (true≢false (sym some))
-read_from (Some base) command result old new one answered some receipts = read_follows command result (after base initial).map old new one answered receipts
+read_from : (start : Option (List JournalUnit)) (command : DataCommand) (result : Result Answer Refusal) (old new : Held) → old.start ≡ start → 1 ≤ old.state.level → IfSome start (λ base. IsAnsweredOrRefused command result (after base initial).map old.state new.state)
+    → IsSome start → (new.start ≡ old.start) × (new.receipts ≡ old.receipts) → Follows (Access command) (said Answered result) old new
+read_from None command result old new is one answered some same = absurd (true≢false (sym some))
+read_from (Some base) command result old new is one answered some same = read_follows base command result old new is one answered same.0 same.1
 
 pub read_told : (command : DataCommand) (result : Result Answer Refusal) (old new : Held) → 1 ≤ old.state.level → IfSome old.start (λ base. IsAnsweredOrRefused command result (after base initial).map old.state new.state)
     → IsSome old.start → (new.start ≡ old.start) × (new.receipts ≡ old.receipts) → Follows (Access command) (said Answered result) old new
-read_told command result old new one answered some same = read_from old.start command result old new one answered some same.1
+read_told command result old new one answered some same = read_from old.start command result old new refl one answered some same
 
 pub within_locked : (command : LockCommand) (result : Result Bool Refusal) (old new : Held) → names_some command ≡ true → OnOkThat result (HasItsNames command old new) → OnOkNot result (WasBlocked command old new)
     → OnErr result ((new ≡ old) ⊎ WasBlocked command old new) → IfErr result (λ refusal. IsLockRefusal old.state.work.job command refusal) → HasLocked command result old new
@@ -68,8 +68,8 @@ outer_told old new at level is one none begun =
 
 pub commit_told : (result : Result Ended Refusal) (old new : Held) → old.state.level ≡ 1 → IfOk result (λ end. (units more : List JournalUnit) × HasEnded end units more old new) → OnErr result (new ≡ old)
     → IfErr result (λ refusal. (refusal ≡ OutOfMemory) ⊎ (refusal ≡ StampsUsedUp)) → Follows Commit (ended_as result) old new
-commit_told (Ok Committed) old new one ended refused cause = committed_follows ended.0 ended.1 old new (omega (arith, one)) ended.2
-commit_told (Ok (Restarted restarts)) old new one ended refused cause = overtaken_follows restarts ended.0 ended.1 old new ended.2
+commit_told (Ok Committed) old new one ended refused cause = committed_follows ended.0 ended.1 old new one ended.2
+commit_told (Ok (Restarted restarts)) old new one ended refused cause = overtaken_follows restarts ended.0 ended.1 old new one ended.2
 commit_told (Err refusal) old new one ended refused cause = refused_follows Commit refusal old new refused (commit_may refusal old one cause)
 
 pub no_commit : (old new : Held) → old.state.level ≡ 0 → new ≡ old → Follows Commit (Refused NoTransaction) old new
@@ -77,7 +77,7 @@ no_commit old new none same = refused_follows Commit NoTransaction old new same 
 
 pub rollback_told : (result : Result (Unit {0}) Refusal) (old new : Held) → 1 ≤ old.state.level → OnOk result (new ≡ ended old) → OnErr result (new ≡ old)
     → IfErr result (λ refusal. ((refusal ≡ OutOfMemory) ⊎ (refusal ≡ StampsUsedUp)) × (old.state.took_lock ≡ true)) → Follows Rollback (said (λ d. Finished) result) old new
-rollback_told (Ok u) old new one over refused cause = rolled_back_follows old new over
+rollback_told (Ok u) old new one over refused cause = rolled_back_follows old new one over
 rollback_told (Err refusal) old new one over refused cause = refused_follows Rollback refusal old new refused (rollback_may refusal old one cause.0)
 
 pub no_rollback : (old new : Held) → old.state.level ≡ 0 → new ≡ old → Follows Rollback (Refused NoTransaction) old new
@@ -85,7 +85,7 @@ no_rollback old new none same = refused_follows Rollback NoTransaction old new s
 
 pub restart_told : (result : Result ℕ Refusal) (old new : Held) → 1 ≤ old.state.level → IfOk result (λ restarts. (units : List JournalUnit) × ((new ≡ begun_anew units old) × (restarts ≡ new.state.restarts))) → OnErr result (new ≡ old)
     → IfErr result (λ refusal. ((refusal ≡ OutOfMemory) ⊎ (refusal ≡ StampsUsedUp)) × (old.state.took_lock ≡ true)) → Follows Restart (said restarted_reply result) old new
-restart_told (Ok restarts) old new one anew refused cause = restarted_follows restarts anew.0 old new anew.1.0
+restart_told (Ok restarts) old new one anew refused cause = restarted_follows restarts anew.0 old new one anew.1.0 anew.1.1
 restart_told (Err refusal) old new one anew refused cause = refused_follows Restart refusal old new refused (restart_may refusal old one cause.0)
 
 pub no_restart : (old new : Held) → old.state.level ≡ 0 → new ≡ old → Follows Restart (Refused NoTransaction) old new

@@ -4,7 +4,7 @@ use Rattle.std.specs.Prelude.{Option, Some, None, Result, Ok, Err, if◌then◌e
 use Rattle.std.specs.List.{All}
 use Rattle.std.proofs.lemmas.List.Elements.{All-rest}
 use Rattle.refusal.specs.declared.Refusal.{Refusal}
-use Rattle.refusal.specs.declared.Refusal.TheVariants.{NoTransaction}
+use Rattle.refusal.specs.declared.Refusal.TheVariants.{NoTransaction, Again}
 use Rattle.collation.specs.Locks.{lock_reply}
 use Rattle.collation.specs.declared.lock.LockCommand.{LockCommand}
 use Rattle.collation.specs.declared.lock.LockCommand.TheVariants.{Release}
@@ -20,14 +20,15 @@ use Rattle.journal.specs.Story.{Transaction, Machine, transaction_of, told}
 use Rattle.script.specs.Line.{reading_of}
 use Rattle.serial.specs.Machine.{told_had}
 use Rattle.job_core.specs.Sessions.{Session as JobSession, IsAnsweredOrRefused}
-use Rattle.shared_engine.specs.Sessions.{Held, held}
+use Rattle.validate_commit.specs.laws.Working.{work_nothing}
+use Rattle.shared_engine.specs.Sessions.{Held, held, IsBegun}
 use Rattle.shared_engine.specs.Blocks.{said, IsLone, IsReadAt, IsInside, IsTried, IsOpened, IsDeeper, IsNone, IsCommitted, IsLower, IsRolledBack, IsRestarted, HasDone, AreDone, IsReady, moved, moved_open}
 use Rattle.job_scripts.specs.Blocks.{in_place, AreAsked}
 use Rattle.job_server.specs.Causes.{IsAllowed, IsReplyTo}
-use Rattle.job_server.specs.Told.{told_by, told_by_lines, AreReplies, units_of, IsToldIn, given}
-use Rattle.job_server.specs.Telling.{Shows, Stands, MayReply, Follows}
-use Rattle.job_server.proofs.Causes.{lone_may, lock_may, deeper_may, again_may, commit_may, rollback_may, restart_may, no_commit_may, no_rollback_may, no_restart_may, room_of, room_at_commit, fault_of, asked_may}
-use Rattle.job_server.proofs.Following.{refused_follows, counted_follows, lone_follows, read_at_follows, tried_follows, begun_follows, deeper_follows, lower_follows, committed_follows, restarted_follows, rolled_back_follows}
+use Rattle.job_server.specs.Told.{told_by, told_by_lines, AreRepliesTo, units_of, IsToldIn, given}
+use Rattle.job_server.specs.Telling.{Shows, Stands, MayReply, Follows, NoneAgain}
+use Rattle.job_server.proofs.Causes.{lone_may, lock_may, deeper_may, commit_may, rollback_may, restart_may, no_commit_may, no_rollback_may, no_restart_may, room_of, room_at_commit, fault_of, asked_may}
+use Rattle.job_server.proofs.Following.{refused_follows, level_counted, restarts_counted, lone_follows, read_at_follows, tried_follows, begun_follows, deeper_follows, lower_follows, committed_follows, restarted_follows, rolled_back_follows}
 use Rattle.job_server.proofs.Answering.{follows_as}
 
 -- ---- one command
@@ -41,9 +42,9 @@ tried_done command (Ok had) units more old new h =
     tried_follows command had (length units + 1) old new (λ is. h.0.0 ∙ ap (λ (c : LockCommand). lock_reply old.state.work.job c (after units initial).locks) is) h.1.1
 tried_done command (Err refusal) units more old new h = refused_follows (lock_command command) refusal old new h.1.1 (lock_may command refusal old (units, h.0))
 
-opened_done : (result : Result ℕ Refusal) (units more : List JournalUnit) (old new : Held) → old.state.level ≡ 0 → IsOpened result units more old new → Follows Start (said AtLevel result) old new
-opened_done (Ok level) units more old new none h = subst (λ (l : ℕ). Follows Start (AtLevel l) old new) (sym h.0) (begun_follows units old new none h.1.1)
-opened_done (Err refusal) units more old new none h = refused_follows Start refusal old new h.1.1 (again_may refusal old none h.0)
+opened_done : (result : Result ℕ Refusal) (units more : List JournalUnit) (old new : Held) → old.state.level ≡ 0 → said AtLevel result ≢ Refused Again → IsOpened result units more old new → Follows Start (said AtLevel result) old new
+opened_done (Ok level) units more old new none never h = subst (λ (l : ℕ). Follows Start (AtLevel l) old new) (sym h.0) (begun_follows units old new none h.1.1)
+opened_done (Err refusal) units more old new none never h = absurd (never (ap Refused h.0))
 
 deeper_done : (result : Result ℕ Refusal) (units more : List JournalUnit) (old new : Held) → 1 ≤ old.state.level → IsDeeper result units more old new → Follows Start (said AtLevel result) old new
 deeper_done (Ok level) units more old new one h = deeper_follows level old new one h.0 h.1.1
@@ -53,7 +54,7 @@ none_done : {A : Type 0} (command : Command) (reply : A → Reply) (result : Res
 none_done {A} command reply result units more old new may h = subst (λ (r : Result A Refusal). Follows command (said reply r) old new) (sym h.0) (refused_follows command NoTransaction old new h.1.1 may)
 
 committed_done : (result : Result Reply Refusal) (units more : List JournalUnit) (old new : Held) → old.state.level ≡ 1 → IsCommitted result units more old new → Follows Commit (said (λ r. r) result) old new
-committed_done (Ok reply) units more old new one h = follows_as Commit committed_reply reply old new (committed_follows units more old new (omega (arith, one)) h.1) h.0
+committed_done (Ok reply) units more old new one h = follows_as Commit committed_reply reply old new (committed_follows units more old new one h.1) h.0
 committed_done (Err refusal) units more old new one h = refused_follows Commit refusal old new h.1.1 (commit_may refusal old one (room_at_commit refusal old units h.0))
 
 lower_done : (result : Result Reply Refusal) (units more : List JournalUnit) (old new : Held) → 1 < old.state.level → IsLower result units more old new → Follows Commit (said (λ r. r) result) old new
@@ -61,11 +62,11 @@ lower_done result units more old new deep h =
     subst (λ (r : Result Reply Refusal). Follows Commit (said (λ x. x) r) old new) (sym h.0) (lower_follows (old.state.level - 1) old new deep refl h.1.1)
 
 rolled_back_done : (result : Result (Unit {0}) Refusal) (units more : List JournalUnit) (old new : Held) → 1 ≤ old.state.level → IsRolledBack result units more old new → Follows Rollback (said (λ d. Finished) result) old new
-rolled_back_done (Ok d) units more old new one h = rolled_back_follows old new h.1
+rolled_back_done (Ok d) units more old new one h = rolled_back_follows old new one h.1
 rolled_back_done (Err refusal) units more old new one h = refused_follows Rollback refusal old new h.1.1 (rollback_may refusal old one (room_of refusal 1 (length units) h.0.0))
 
 restarted_done : (result : Result ℕ Refusal) (units more : List JournalUnit) (old new : Held) → 1 ≤ old.state.level → IsRestarted result units more old new → Follows Restart (said restarted_reply result) old new
-restarted_done (Ok restarts) units more old new one h = restarted_follows restarts more old new h.1.1
+restarted_done (Ok restarts) units more old new one h = restarted_follows restarts more old new one h.1.1 h.0
 restarted_done (Err refusal) units more old new one h = refused_follows Restart refusal old new h.1.1 (restart_may refusal old one (room_of refusal 1 (length units) h.0.0))
 
 -- the level is 0, 1 or more
@@ -75,30 +76,30 @@ by_level (suc zero) none one deep = one refl
 by_level (suc (suc n)) none one deep = deep (omega arith)
 
 -- outside a transaction or inside
-in_or_out : {P : Type 0} (level : ℕ) → (level ≡ 0 → P) → (1 ≤ level → P) → P
+pub in_or_out : {P : Type 0} (level : ℕ) → (level ≡ 0 → P) → (1 ≤ level → P) → P
 in_or_out zero none one = none refl
 in_or_out (suc n) none one = one (omega arith)
 
-pub done_follows : (command : Command) (reply : Reply) (units more : List JournalUnit) (old new : Held) → HasDone command reply units more old new → Follows command reply old new
-done_follows (Access command) reply units more old new h =
+pub done_follows : (command : Command) (reply : Reply) (units more : List JournalUnit) (old new : Held) → (command ≡ Start → reply ≢ Refused Again) → HasDone command reply units more old new → Follows command reply old new
+done_follows (Access command) reply units more old new never h =
     follows_as (Access command) (said Answered h.0) reply old new
-    (in_or_out old.state.level (λ none. lone_done command h.0 units more old new none (h.2 none)) (λ one. read_at_follows old.start command h.0 old new one (h.3 one).0 (h.3 one).1.1.1)) h.1
-done_follows (lock_command command) reply units more old new h = follows_as (lock_command command) (said (told_had command) h.0) reply old new (tried_done command h.0 units more old new h.2) h.1
-done_follows Start reply units more old new h =
+    (in_or_out old.state.level (λ none. lone_done command h.0 units more old new none (h.2 none)) (λ one. read_at_follows old.start command h.0 old new refl one (h.3 one).0 (h.3 one).1.1.0 (h.3 one).1.1.1)) h.1
+done_follows (lock_command command) reply units more old new never h = follows_as (lock_command command) (said (told_had command) h.0) reply old new (tried_done command h.0 units more old new h.2) h.1
+done_follows Start reply units more old new never h =
     follows_as Start (said AtLevel h.0) reply old new
-    (in_or_out old.state.level (λ none. opened_done h.0 units more old new none (h.2 none)) (λ one. deeper_done h.0 units more old new one (h.3 one))) h.1
-done_follows Commit reply units more old new h =
+    (in_or_out old.state.level (λ none. opened_done h.0 units more old new none (λ again. never refl (h.1 ∙ again)) (h.2 none)) (λ one. deeper_done h.0 units more old new one (h.3 one))) h.1
+done_follows Commit reply units more old new never h =
     follows_as Commit (said (λ r. r) h.0) reply old new
     (by_level old.state.level (λ none. none_done Commit (λ r. r) h.0 units more old new (no_commit_may old none) (h.2 none)) (λ one. committed_done h.0 units more old new one (h.3 one)) (λ deep. lower_done h.0 units more old new deep (h.4 deep))) h.1
-done_follows Rollback reply units more old new h =
+done_follows Rollback reply units more old new never h =
     follows_as Rollback (said (λ d. Finished) h.0) reply old new
     (in_or_out old.state.level (λ none. none_done Rollback (λ d. Finished) h.0 units more old new (no_rollback_may old none) (h.2 none)) (λ one. rolled_back_done h.0 units more old new one (h.3 one))) h.1
-done_follows Restart reply units more old new h =
+done_follows Restart reply units more old new never h =
     follows_as Restart (said restarted_reply h.0) reply old new
     (in_or_out old.state.level (λ none. none_done Restart restarted_reply h.0 units more old new (no_restart_may old none) (h.2 none)) (λ one. restarted_done h.0 units more old new one (h.3 one))) h.1
-done_follows Level reply units more old new h = follows_as Level (Count old.state.level) reply old new (counted_follows Level old.state.level old new h.1.1) h.0
-done_follows Restarts reply units more old new h = follows_as Restarts (Count old.state.restarts) reply old new (counted_follows Restarts old.state.restarts old new h.1.1) h.0
-done_follows Halt reply units more old new h = absurd h
+done_follows Level reply units more old new never h = follows_as Level (Count old.state.level) reply old new (level_counted old.state.level old new refl h.1.1) h.0
+done_follows Restarts reply units more old new never h = follows_as Restarts (Count old.state.restarts) reply old new (restarts_counted old.state.restarts old new refl h.1.1) h.0
+done_follows Halt reply units more old new never h = absurd h
 
 -- ---- lines
 
@@ -111,7 +112,7 @@ refused_tells job (Err fault) refusal s = refl
 pub record HasTold (job : ℕ) (front : List JournalUnit) (lines : List (List ℕ)) (replies : List Reply) (s : Machine) (new : Held) : Type 0 where
   pub machine : Machine
   pub led : (left : List (List ℕ)) (later : List Reply) → told_by_lines job (lines ++ left) (replies ++ later) s ≡ told_by_lines job left later machine
-  pub replies_are : (left : List (List ℕ)) (later : List Reply) → AreReplies job left later machine → AreReplies job (lines ++ left) (replies ++ later) s
+  pub replies_are : (left : List (List ℕ)) (later : List Reply) → AreRepliesTo job left later machine → AreRepliesTo job (lines ++ left) (replies ++ later) s
   pub whose : new.state.work.job ≡ job
   pub stands : Stands front machine new
 
@@ -121,36 +122,36 @@ line_before : (job : ℕ) (front : List JournalUnit) (line : List ℕ) (lines : 
 line_before job front line lines reply replies s middle new may is h = record {
   machine = h.machine;
   led = λ left later. ap (λ (m : Machine). told_by_lines job (lines ++ left) (replies ++ later) m) is ∙ h.led left later;
-  replies_are = λ left later rest. (may, subst (λ (m : Machine). AreReplies job (lines ++ left) (replies ++ later) m) (sym is) (h.replies_are left later rest));
+  replies_are = λ left later rest. (may, subst (λ (m : Machine). AreRepliesTo job (lines ++ left) (replies ++ later) m) (sym is) (h.replies_are left later rest));
   whose = h.whose;
   stands = h.stands;
 }
 
 pub block_told : (job : ℕ) (front : List JournalUnit) (lines : List (List ℕ)) (places : List (Option Refusal)) (commands : List Command) (replies : List Reply) (units more : List JournalUnit) (old new : Held) (s : Machine)
-    → AreAsked lines places commands → AreDone commands replies units more old new → old.state.work.job ≡ job → Stands front s old → HasTold job front lines (in_place places replies) s new
-block_told job front [] [] [] [] units more old new s asked done whose stands = record {
+    → AreAsked lines places commands → AreDone commands replies units more old new → NoneAgain commands replies → old.state.work.job ≡ job → Stands front s old → HasTold job front lines (in_place places replies) s new
+block_told job front [] [] [] [] units more old new s asked done never whose stands = record {
   machine = s;
   led = λ left later. refl;
   replies_are = λ left later rest. rest;
   whose = ap (λ (h : Held). h.state.work.job) done.1 ∙ whose;
   stands = subst (λ (h : Held). Stands front s h) (sym done.1) stands;
 }
-block_told job front [] [] [] (reply ∷ replies) units more old new s asked done whose stands = absurd done
-block_told job front [] [] (command ∷ commands) replies units more old new s asked done whose stands = absurd asked
-block_told job front [] (place ∷ places) commands replies units more old new s asked done whose stands = absurd asked
-block_told job front (line ∷ lines) [] commands replies units more old new s asked done whose stands = absurd asked
-block_told job front (line ∷ lines) (Some refusal ∷ places) commands replies units more old new s asked done whose stands =
+block_told job front [] [] [] (reply ∷ replies) units more old new s asked done never whose stands = absurd done
+block_told job front [] [] (command ∷ commands) replies units more old new s asked done never whose stands = absurd asked
+block_told job front [] (place ∷ places) commands replies units more old new s asked done never whose stands = absurd asked
+block_told job front (line ∷ lines) [] commands replies units more old new s asked done never whose stands = absurd asked
+block_told job front (line ∷ lines) (Some refusal ∷ places) commands replies units more old new s asked done never whose stands =
     line_before job front line lines (Refused refusal) (in_place places replies) s s new (fault_of job line refusal asked.0 (transaction_of job s)) (refused_tells job (reading_of line) refusal s)
-    (block_told job front lines places commands replies units more old new s asked.1 done whose stands)
-block_told job front (line ∷ lines) (None ∷ places) [] replies units more old new s asked done whose stands = absurd asked
-block_told job front (line ∷ lines) (None ∷ places) (command ∷ commands) [] units more old new s asked done whose stands = absurd done
-block_told job front (line ∷ lines) (None ∷ places) (command ∷ commands) (reply ∷ replies) units more old new s asked done whose stands =
-    let follows : Follows command reply old done.1 = done_follows command reply units done.0 old done.1 done.2 in
+    (block_told job front lines places commands replies units more old new s asked.1 done never whose stands)
+block_told job front (line ∷ lines) (None ∷ places) [] replies units more old new s asked done never whose stands = absurd asked
+block_told job front (line ∷ lines) (None ∷ places) (command ∷ commands) [] units more old new s asked done never whose stands = absurd done
+block_told job front (line ∷ lines) (None ∷ places) (command ∷ commands) (reply ∷ replies) units more old new s asked done never whose stands =
+    let follows : Follows command reply old done.1 = done_follows command reply units done.0 old done.1 never.0 done.2 in
     line_before job front line lines reply (in_place places replies) s (told job command reply s) new
     (asked_may job line command reply (transaction_of job s) asked.0
-    (subst (λ (j : ℕ). IsAllowed j command reply (transaction_of j s)) whose (follows.may (transaction_of old.state.work.job s) stands.shows)))
+    (subst (λ (j : ℕ). IsAllowed j command reply (transaction_of j s)) whose (follows.may (transaction_of old.state.work.job s) stands.shows stands.begun)))
     (ap (λ (r : Result (ℕ × Command) Refusal). told_by job r reply s) asked.0.1)
-    (block_told job front lines places commands replies done.0 more done.1 new (told job command reply s) asked.1 done.3 (follows.whose ∙ whose)
+    (block_told job front lines places commands replies done.0 more done.1 new (told job command reply s) asked.1 done.3 never.1 (follows.whose ∙ whose)
     (subst (λ (j : ℕ). Stands front (told j command reply s) done.1) whose (follows.stands front s stands)))
 
 -- ---- before a block
@@ -160,11 +161,14 @@ pub moved_stands : (front : List JournalUnit) (units : List JournalUnit) (s : Ma
 moved_stands front units s h (inl none) stands = subst (λ (x : Held). Stands front s x) (sym (ap (λ (b : Bool). if b then moved units h else h) (ap (λ (n : ℕ). nat_lt 0 n) none))) stands
 moved_stands front units s h (inr fresh) stands =
     subst (λ (x : Held). Stands front s x) (sym (ap (λ (b : Bool). if b then moved units h else h) (ap (λ (n : ℕ). nat_lt 0 n) fresh.0)))
-    (record { shows = still (transaction_of h.state.work.job s) stands.shows; is_told = stands.is_told })
+    (record { shows = still (transaction_of h.state.work.job s) stands.shows; begun = moved_at; is_told = stands.is_told })
   where
+    moved_at : IsBegun units (moved units h).state
+    moved_at = record { level = omega (arith, fresh.0); start = refl; work = work_nothing h.state.work.job (length units) (after units initial).map }
+
     still : (t : Option Transaction) → Shows h.state t → Shows (moved units h).state t
     still None shows = shows
-    still (Some t) shows = (shows.0, (shows.1.0, sym fresh.1.0 ∙ shows.1.1))
+    still (Some t) shows = (shows.0, (shows.1.0, (sym fresh.1.0 ∙ shows.1.1.0, shows.1.1.1)))
 
 pub moved_job : (units : List JournalUnit) (h : Held) → (moved_open units h).state.work.job ≡ h.state.work.job
 moved_job units h = by_test (nat_lt 0 h.state.level)
@@ -178,7 +182,7 @@ moved_job units h = by_test (nat_lt 0 h.state.level)
 abbrev IsAccess : Command → Type 0
 IsAccess command = (d : DataCommand) × (command ≡ Access d)
 
-same_level : (start : Option (List JournalUnit)) (command : DataCommand) (result : Result Answer Refusal) (old new : JobSession) → IsReadAt start command result old new → new.level ≡ old.level
+pub same_level : (start : Option (List JournalUnit)) (command : DataCommand) (result : Result Answer Refusal) (old new : JobSession) → IsReadAt start command result old new → new.level ≡ old.level
 same_level None command result old new h = absurd h
 same_level (Some base) command (Ok answer) old new h = h.level
 same_level (Some base) command (Err refusal) old new h = ap (λ (x : JobSession). x.level) h.same

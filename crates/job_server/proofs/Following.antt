@@ -1,8 +1,7 @@
 -- A session goes on as its reply tells, call by call.
 use Rattle.std.proofs.Common.{◌≡◌, ◌≢◌, ◌⊎◌, inl, inr, ℕ, zero, suc, ◌+◌, ◌-◌, ◌≤◌, ◌<◌, Bool, true, false, List, [], ◌∷◌, ◌++◌, length, refl, sym, ap, ◌∙◌, subst, arith, true≢false}
-use Rattle.std.specs.Prelude.{Option, Some, None, Result, Ok, Err, IfSome, IsSome, nat_lt}
+use Rattle.std.specs.Prelude.{Option, Some, None, Result, Ok, Err, IfSome, IsSome, nat_lt, ◌^◌, min}
 use Rattle.refusal.specs.declared.Refusal.{Refusal}
-use Rattle.collation.specs.Database.{Database}
 use Rattle.collation.specs.declared.lock.LockCommand.{LockCommand}
 use Rattle.collation.specs.declared.lock.LockCommand.TheVariants.{Release, Only, More, Fewer}
 use Rattle.command.specs.declared.access.DataCommand.{DataCommand}
@@ -18,8 +17,9 @@ use Rattle.journal.specs.Kept.{Claim}
 use Rattle.journal.specs.History.{initial, after}
 use Rattle.journal.specs.Story.{Machine, transaction_of, told, told_lock, told_back, told_level, told_commit, begin, close}
 use Rattle.serial.specs.Machine.{told_had}
-use Rattle.job_core.specs.Sessions.{Session as JobSession, at_level, just_opened, IsAnswered, IsRefused, IsAnsweredOrRefused, HasWritten}
-use Rattle.shared_engine.specs.Sessions.{Held, held, and_receipt, begun_anew, ended, HasBegun}
+use Rattle.validate_commit.specs.laws.Working.{work_nothing}
+use Rattle.job_core.specs.Sessions.{Session as JobSession, at_level, just_opened, anew, IsAnswered, IsRefused, IsAnsweredOrRefused, HasWritten}
+use Rattle.shared_engine.specs.Sessions.{Held, held, IsAt, IsBegun, and_receipt, begun_anew, ended, HasBegun}
 use Rattle.shared_engine.specs.Engines.{HasEnded, HasItsNames, WasBlocked, after_try, lock_unit, whole_of}
 use Rattle.shared_engine.specs.declared.locked.Ended.TheVariants.{Committed, Restarted}
 use Rattle.shared_engine.specs.Blocks.{said, IsReadAt}
@@ -27,8 +27,8 @@ use Rattle.job_server.specs.Told.{given, IsToldIn, units_of}
 use Rattle.job_server.specs.Causes.{IsAllowed}
 use Rattle.job_server.specs.Telling.{Shows, Stands, AreStillTold, MayReply, Follows, names_some, IsLockRefusal, HasLocked}
 use Rattle.job_server.proofs.Units.{lock_receipt_more}
-use Rattle.job_server.proofs.Causes.{inside_may, lock_may, had_may}
-use Rattle.job_server.proofs.Standing.{shown_none, still_shows, with_open, with_none, with_closed, told_lone, told_inside, tried_untold, tried_told, tried_job, tried_level, back_given, told_begun, told_at, told_whole}
+use Rattle.job_server.proofs.Causes.{inside_may, alone_may, answered_may, done_may, lock_may, had_may, begun_may, inner_may, lower_may, committed_may, overtaken_may, anew_may, rolled_back_may, level_may, restarts_may}
+use Rattle.job_server.proofs.Standing.{shown_none, still_shows, noted_at, with_open, with_none, with_closed, told_lone, told_inside, tried_untold, tried_told, tried_job, tried_level, back_given, told_begun, told_at, told_whole}
 
 -- the receipts are the same
 same_told : (old new : Held) (front : List JournalUnit) → new.receipts ≡ old.receipts → AreStillTold (front ++ units_of old.receipts) (front ++ units_of new.receipts)
@@ -44,13 +44,19 @@ refused_follows command refusal old new same may = record {
   may = may;
 }
 
-pub counted_follows : (command : Command) (n : ℕ) (old new : Held) → new ≡ old → Follows command (Count n) old new
-counted_follows command n old new same = record {
+counted_follows : (command : Command) (n : ℕ) (old new : Held) → new ≡ old → MayReply command (Count n) old → Follows command (Count n) old new
+counted_follows command n old new same may = record {
   whose = ap (λ (h : Held). h.state.work.job) same;
   stands = λ front s stands. subst (λ (h : Held). Stands front s h) (sym same) stands;
   keeps = λ before later front. same_told old new front (ap (λ (h : Held). h.receipts) same);
-  may = λ t shows. tt;
+  may = may;
 }
+
+pub level_counted : (n : ℕ) (old new : Held) → n ≡ old.state.level → new ≡ old → Follows Level (Count n) old new
+level_counted n old new is same = counted_follows Level n old new same (level_may n old is)
+
+pub restarts_counted : (n : ℕ) (old new : Held) → n ≡ old.state.restarts → new ≡ old → Follows Restarts (Count n) old new
+restarts_counted n old new is same = counted_follows Restarts n old new same (restarts_may n old is)
 
 -- ---- data commands
 
@@ -59,42 +65,61 @@ lone_follows command answer n old new level is = record {
   whose = ap (λ (h : Held). h.state.work.job) is;
   stands = λ front s stands. subst (λ (h : Held). Stands front (told old.state.work.job (Access command) (Answered answer) s) h) (sym is) (told_lone front s old command answer n level stands);
   keeps = λ before later front. absurd (omega (arith, before, level));
-  may = λ t shows. tt;
+  may = alone_may command answer old level;
 }
 
 pub inside_follows : (command : DataCommand) (answer : Answer) (old new : Held) → 1 ≤ old.state.level → new.state.level ≡ old.state.level → new.state.work.exchanges ≡ old.state.work.exchanges ++ record { command = command; answer = answer } ∷ []
-    → new.state.work.job ≡ old.state.work.job → new.receipts ≡ old.receipts → Follows (Access command) (Answered answer) old new
-inside_follows command answer old new one level exchanges job receipts = record {
+    → new.state.work.job ≡ old.state.work.job → new.state.restarts ≡ old.state.restarts → (IsAt old.start old.state → IsAt new.start new.state) → new.receipts ≡ old.receipts → MayReply (Access command) (Answered answer) old → Follows (Access command) (Answered answer) old new
+inside_follows command answer old new one level exchanges job restarts at receipts may = record {
   whose = job;
-  stands = λ front s stands. told_inside front s old new command answer one stands level exchanges job receipts;
+  stands = λ front s stands. told_inside front s old new command answer one stands level exchanges job restarts (at stands.begun) receipts;
   keeps = λ before later front. same_told old new front receipts;
-  may = λ t shows. tt;
+  may = may;
 }
 
 -- nothing of a session has changed but what isn't seen of it
-pub unchanged_follows : (command : Command) (refusal : Refusal) (old new : Held) → new.state ≡ old.state → new.receipts ≡ old.receipts → MayReply command (Refused refusal) old → Follows command (Refused refusal) old new
-unchanged_follows command refusal old new state receipts may = record {
+pub unchanged_follows : (command : Command) (refusal : Refusal) (old new : Held) → new.state ≡ old.state → new.start ≡ old.start → new.receipts ≡ old.receipts → MayReply command (Refused refusal) old → Follows command (Refused refusal) old new
+unchanged_follows command refusal old new state start receipts may = record {
   whose = ap (λ (x : JobSession). x.work.job) state;
   stands = λ front s stands. record {
     shows = subst (λ (x : JobSession). Shows x (transaction_of x.work.job s)) (sym state) stands.shows;
+    begun = subst (λ (x : JobSession). IsAt new.start x) (sym state) (subst (λ (o : Option (List JournalUnit)). IsAt o old.state) (sym start) stands.begun);
     is_told = subst (λ (cs : List Claim). IsToldIn (given s) (front ++ units_of cs)) (sym receipts) stands.is_told;
   };
   keeps = λ before later front. same_told old new front receipts;
   may = may;
 }
 
-pub read_follows : (command : DataCommand) (result : Result Answer Refusal) (m : Database) (old new : Held) → 1 ≤ old.state.level → IsAnsweredOrRefused command result m old.state new.state → new.receipts ≡ old.receipts
-    → Follows (Access command) (said Answered result) old new
-read_follows command (Ok answer) m old new one h receipts = inside_follows command answer old new one h.level h.exchanges h.job receipts
-read_follows command (Err refusal) m old new one h receipts = unchanged_follows (Access command) refusal old new h.same receipts (inside_may command refusal m old one h.cause)
+pub read_follows : (base : List JournalUnit) (command : DataCommand) (result : Result Answer Refusal) (old new : Held) → old.start ≡ Some base → 1 ≤ old.state.level → IsAnsweredOrRefused command result (after base initial).map old.state new.state → new.start ≡ old.start
+    → new.receipts ≡ old.receipts → Follows (Access command) (said Answered result) old new
+read_follows base command (Ok answer) old new start one h same receipts =
+    inside_follows command answer old new one h.level h.exchanges h.job h.restarts
+    (λ at. subst (λ (o : Option (List JournalUnit)). IsAt o new.state) (sym (same ∙ start)) (record {
+      level = omega (arith, one, h.level);
+      start = h.start ∙ (subst (λ (o : Option (List JournalUnit)). IsAt o old.state) start at).start;
+      work = h.work;
+    }))
+    receipts (answered_may command answer (after base initial).map old new.state.work one h.short h.exchanges h.work.right)
+read_follows base command (Err refusal) old new start one h same receipts = unchanged_follows (Access command) refusal old new h.same same receipts (inside_may command refusal base old start one h.cause)
 
-pub read_at_follows : (start : Option (List JournalUnit)) (command : DataCommand) (result : Result Answer Refusal) (old new : Held) → 1 ≤ old.state.level → IsReadAt start command result old.state new.state → new.receipts ≡ old.receipts
+pub read_at_follows : (start : Option (List JournalUnit)) (command : DataCommand) (result : Result Answer Refusal) (old new : Held) → old.start ≡ start → 1 ≤ old.state.level → IsReadAt start command result old.state new.state → new.start ≡ old.start → new.receipts ≡ old.receipts
     → Follows (Access command) (said Answered result) old new
-read_at_follows None command result old new one h receipts = absurd h
-read_at_follows (Some base) command result old new one h receipts = read_follows command result (after base initial).map old new one h receipts
+read_at_follows None command result old new is one h same receipts = absurd h
+read_at_follows (Some base) command result old new is one h same receipts = read_follows base command result old new is one h same receipts
 
-pub written_follows : (command : DataCommand) (old new : Held) → 1 ≤ old.state.level → HasWritten command old.state new.state → new.receipts ≡ old.receipts → Follows (Access command) (Answered Done) old new
-written_follows command old new one h receipts = inside_follows command Done old new one h.level h.kept.exchanges h.kept.job receipts
+-- it is right where it began
+written_at : (command : DataCommand) (start : Option (List JournalUnit)) (old new : JobSession) → 1 ≤ old.level → HasWritten command old new → IsAt start old → IsAt start new
+written_at command None old new one h at = absurd (omega (arith, one, ap (λ (x : JobSession). x.level) at))
+written_at command (Some base) old new one h at = record {
+  level = omega (arith, one, h.level);
+  start = h.kept.start ∙ at.start;
+  work = h.kept.work (after base initial).map at.work;
+}
+
+pub written_follows : (command : DataCommand) (old new : Held) → 1 ≤ old.state.level → HasWritten command old.state new.state → new.start ≡ old.start → new.receipts ≡ old.receipts → Follows (Access command) (Answered Done) old new
+written_follows command old new one h same receipts =
+    inside_follows command Done old new one h.level h.kept.exchanges h.kept.job h.restarts (λ at. subst (λ (o : Option (List JournalUnit)). IsAt o new.state) (sym same) (written_at command old.start old.state new.state one h at))
+    receipts (done_may command old new.state.work one h.kept)
 
 -- ---- LOCK
 
@@ -124,8 +149,8 @@ blocked_then command reply n old new then = record {
       (then.stands front s (tried_untold front s old command false n stands));
   keeps = λ before later front ts h.
       then.keeps (omega (arith, before, tried_level n command false old)) later front ts (lock_receipt_more ts front old.receipts n (lock_unit old.state command false) refl h);
-  may = λ t shows.
-      subst (λ (j : ℕ). IsAllowed j (lock_command command) reply t) (tried_job n command false old) (then.may t (still_shows (nat_lt 0 old.state.level) old.state t shows));
+  may = λ t shows at.
+      subst (λ (j : ℕ). IsAllowed j (lock_command command) reply t) (tried_job n command false old) (then.may t (still_shows (nat_lt 0 old.state.level) old.state t shows) (noted_at old.start old.state at));
 }
 
 -- why it was refused, behind a first try
@@ -144,6 +169,14 @@ locked_follows command (Err refusal) old new (inr h, cause) =
 
 -- ---- transactions
 
+just_begun_at : (base : List JournalUnit) (job : ℕ) → IsBegun base (just_opened job (length base))
+just_begun_at base job = record { level = omega arith; start = refl; work = work_nothing job (length base) (after base initial).map }
+
+-- at another level
+level_at : (level : ℕ) (start : Option (List JournalUnit)) (state : JobSession) → 1 ≤ state.level → 1 ≤ level → IsAt start state → IsAt start (at_level level state)
+level_at level None state one some at = absurd (omega (arith, one, ap (λ (x : JobSession). x.level) at))
+level_at level (Some base) state one some at = record { level = omega (arith, some); start = at.start; work = at.work }
+
 pub begun_follows : (base : List JournalUnit) (old new : Held) → old.state.level ≡ 0 → HasBegun base old new → Follows Start (AtLevel 1) old new
 begun_follows base old new level h = record {
   whose = ap (λ (x : Held). x.state.work.job) h.is;
@@ -151,65 +184,73 @@ begun_follows base old new level h = record {
       let none : transaction_of old.state.work.job s ≡ None = shown_none old.state (transaction_of old.state.work.job s) stands.shows level in
       subst (λ (x : Held). Stands front (told old.state.work.job Start (AtLevel 1) s) x) (sym h.is)
       (subst (λ o. Stands front (told_level old.state.work.job 1 o s) (held (just_opened old.state.work.job (length base)) (Some base) old.receipts)) (sym none)
-      (told_begun front s (held (just_opened old.state.work.job (length base)) (Some base) old.receipts) 0 refl refl stands.is_told));
+      (told_begun front s (held (just_opened old.state.work.job (length base)) (Some base) old.receipts) 0 refl refl (omega arith) (just_begun_at base old.state.work.job) stands.is_told));
   keeps = λ before later front. absurd (omega (arith, before, level));
-  may = λ t shows. tt;
+  may = begun_may old level;
 }
 
 pub level_follows : (command : Command) (level : ℕ) (old new : Held) → ((s : Machine) → told old.state.work.job command (AtLevel level) s ≡ told_level old.state.work.job level (transaction_of old.state.work.job s) s) → 1 ≤ old.state.level → 1 ≤ level
-    → new ≡ held (at_level level old.state) old.start old.receipts → Follows command (AtLevel level) old new
-level_follows command level old new tells one some is = record {
+    → new ≡ held (at_level level old.state) old.start old.receipts → MayReply command (AtLevel level) old → Follows command (AtLevel level) old new
+level_follows command level old new tells one some is may = record {
   whose = ap (λ (x : Held). x.state.work.job) is;
   stands = λ front s stands.
       subst (λ (m : Machine). Stands front m new) (sym (tells s))
-      (told_at front s old new level one stands some (ap (λ (x : Held). x.state.level) is) (ap (λ (x : Held). x.state.work.exchanges) is) (ap (λ (x : Held). x.state.work.job) is) (ap (λ (x : Held). x.receipts) is));
+      (told_at front s old new level one stands some (ap (λ (x : Held). x.state.level) is) (ap (λ (x : Held). x.state.work.exchanges) is) (ap (λ (x : Held). x.state.work.job) is) (ap (λ (x : Held). x.state.restarts) is) (subst (λ (x : Held). IsAt x.start x.state) (sym is) (level_at level old.start old.state one some stands.begun)) (ap (λ (x : Held). x.receipts) is));
   keeps = λ before later front. same_told old new front (ap (λ (x : Held). x.receipts) is);
-  may = λ t shows. tt;
+  may = may;
 }
 
 pub deeper_follows : (level : ℕ) (old new : Held) → 1 ≤ old.state.level → level ≡ old.state.level + 1 → new ≡ held (at_level level old.state) old.start old.receipts → Follows Start (AtLevel level) old new
-deeper_follows level old new one is h = level_follows Start level old new (λ s. refl) one (omega (arith, one, is)) h
+deeper_follows level old new one is h = level_follows Start level old new (λ s. refl) one (omega (arith, one, is)) h (inner_may level old one is)
 
 pub lower_follows : (level : ℕ) (old new : Held) → 1 < old.state.level → level ≡ old.state.level - 1 → new ≡ held (at_level (old.state.level - 1) old.state) old.start old.receipts → Follows Commit (AtLevel level) old new
 lower_follows level old new deep is h =
-    level_follows Commit level old new (λ s. refl) (omega (arith, deep)) (omega (arith, deep, is)) (h ∙ ap (λ (n : ℕ). held (at_level n old.state) old.start old.receipts) (sym is))
+    level_follows Commit level old new (λ s. refl) (omega (arith, deep)) (omega (arith, deep, is)) (h ∙ ap (λ (n : ℕ). held (at_level n old.state) old.start old.receipts) (sym is)) (lower_may level old deep is)
 
-pub committed_follows : (units more : List JournalUnit) (old new : Held) → 1 ≤ old.state.level → HasEnded Committed units more old new → Follows Commit committed_reply old new
+pub committed_follows : (units more : List JournalUnit) (old new : Held) → old.state.level ≡ 1 → HasEnded Committed units more old new → Follows Commit committed_reply old new
 committed_follows units more old new one h = record {
   whose = ap (λ (x : Held). x.state.work.job) h.1.1;
   stands = λ front s stands.
-      told_whole front s old new (length units + 1) one stands (ap (λ (x : Held). x.state.level) h.1.1) (ap (λ (x : Held). x.state.work.job) h.1.1) (ap (λ (x : Held). x.receipts) h.1.1);
+      told_whole front s old new (length units + 1) (omega (arith, one)) stands (ap (λ (x : Held). x.state.level) h.1.1) (ap (λ (x : Held). x.state.restarts) h.1.1) (subst (λ (x : Held). IsAt x.start x.state) (sym h.1.1) refl) (ap (λ (x : Held). x.state.work.job) h.1.1) (ap (λ (x : Held). x.receipts) h.1.1);
   keeps = λ before later front. absurd (omega (arith, later, ap (λ (x : Held). x.state.level) h.1.1));
-  may = λ t shows. tt;
+  may = committed_may old one;
 }
+
+-- how often it has begun anew
+anew_count : (restarts : ℕ) (units : List JournalUnit) (old new : Held) → new ≡ begun_anew units old → restarts ≡ new.state.restarts → restarts ≡ min (old.state.restarts + 1) (2 ^ 64 - 1)
+anew_count restarts units old new is counted = counted ∙ ap (λ (x : Held). x.state.restarts) is
+
+anew_at : (units : List JournalUnit) (state : JobSession) → IsBegun units (anew (length units) state)
+anew_at units state = record { level = omega arith; start = refl; work = work_nothing state.work.job (length units) (after units initial).map }
 
 -- the transaction begins anew
 pub anew_follows : (command : Command) (restarts : ℕ) (units : List JournalUnit) (old new : Held) → ((s : Machine) → told old.state.work.job command (restarted_reply restarts) s ≡ begin old.state.work.job restarts (told_back old.state.work.job (transaction_of old.state.work.job s) s))
-    → new ≡ begun_anew units old → Follows command (restarted_reply restarts) old new
-anew_follows command restarts units old new tells is = record {
+    → new ≡ begun_anew units old → restarts ≡ new.state.restarts → MayReply command (restarted_reply restarts) old → Follows command (restarted_reply restarts) old new
+anew_follows command restarts units old new tells is counted may = record {
   whose = ap (λ (x : Held). x.state.work.job) is;
   stands = λ front s stands.
       subst (λ (m : Machine). Stands front m new) (sym (tells s))
       (subst (λ (x : Held). Stands front (begin old.state.work.job restarts (told_back old.state.work.job (transaction_of old.state.work.job s) s)) x) (sym is)
-      (told_begun front (told_back old.state.work.job (transaction_of old.state.work.job s) s) (begun_anew units old) restarts refl refl
+      (told_begun front (told_back old.state.work.job (transaction_of old.state.work.job s) s) (begun_anew units old) restarts refl refl (omega (arith, anew_count restarts units old new is counted)) (anew_at units old.state)
       (subst (λ (us : List JournalUnit). IsToldIn us (front ++ units_of old.receipts)) (sym (back_given old.state.work.job (transaction_of old.state.work.job s) s)) stands.is_told)));
   keeps = λ before later front. same_told old new front (ap (λ (x : Held). x.receipts) is);
-  may = λ t shows. tt;
+  may = may;
 }
 
-pub overtaken_follows : (restarts : ℕ) (units more : List JournalUnit) (old new : Held) → HasEnded (Restarted restarts) units more old new → Follows Commit (restarted_reply restarts) old new
-overtaken_follows restarts units more old new h = anew_follows Commit restarts more old new (λ s. refl) h.1.1.0
+pub overtaken_follows : (restarts : ℕ) (units more : List JournalUnit) (old new : Held) → old.state.level ≡ 1 → HasEnded (Restarted restarts) units more old new → Follows Commit (restarted_reply restarts) old new
+overtaken_follows restarts units more old new one h =
+    anew_follows Commit restarts more old new (λ s. refl) h.1.1.0 h.1.1.1 (overtaken_may restarts old one (anew_count restarts more old new h.1.1.0 h.1.1.1))
 
-pub restarted_follows : (restarts : ℕ) (units : List JournalUnit) (old new : Held) → new ≡ begun_anew units old → Follows Restart (restarted_reply restarts) old new
-restarted_follows restarts units old new is = anew_follows Restart restarts units old new (λ s. refl) is
+pub restarted_follows : (restarts : ℕ) (units : List JournalUnit) (old new : Held) → 1 ≤ old.state.level → new ≡ begun_anew units old → restarts ≡ new.state.restarts → Follows Restart (restarted_reply restarts) old new
+restarted_follows restarts units old new one is counted = anew_follows Restart restarts units old new (λ s. refl) is counted (anew_may restarts old one (anew_count restarts units old new is counted))
 
-pub rolled_back_follows : (old new : Held) → new ≡ ended old → Follows Rollback Finished old new
-rolled_back_follows old new is = record {
+pub rolled_back_follows : (old new : Held) → 1 ≤ old.state.level → new ≡ ended old → Follows Rollback Finished old new
+rolled_back_follows old new one is = record {
   whose = ap (λ (x : Held). x.state.work.job) is;
   stands = λ front s stands.
       subst (λ (x : Held). Stands front (close old.state.work.job (told_back old.state.work.job (transaction_of old.state.work.job s) s)) x) (sym is)
-      (with_closed front (told_back old.state.work.job (transaction_of old.state.work.job s) s) (ended old) refl
+      (with_closed front (told_back old.state.work.job (transaction_of old.state.work.job s) s) (ended old) refl refl refl
       (subst (λ (us : List JournalUnit). IsToldIn us (front ++ units_of old.receipts)) (sym (back_given old.state.work.job (transaction_of old.state.work.job s) s)) stands.is_told));
   keeps = λ before later front. absurd (omega (arith, later, ap (λ (x : Held). x.state.level) is));
-  may = λ t shows. tt;
+  may = rolled_back_may old one;
 }

@@ -27,15 +27,16 @@ use Rattle.shared_engine.specs.Blocks.{AreDone, IsReady, moved_open}
 use Rattle.job_scripts.specs.declared.block.Block.{Block}
 use Rattle.job_scripts.specs.Blocks.{in_place, Asks, AreInFront}
 use Rattle.job_scripts.specs.Lines.{lines_of_script}
-use Rattle.job_scripts.specs.Reports.{Answers}
+use Rattle.job_scripts.specs.Reports.{Answers, is_refused}
 use Rattle.job_server.specs.declared.cursor.Cursor.{Cursor}
 use Rattle.job_server.specs.declared.cursor.Line.{Line}
 use Rattle.job_server.specs.Causes.{IsAllowed, IsReplyTo}
-use Rattle.job_server.specs.Told.{told_by, told_by_lines, AreReplies, given, IsToldIn, IsTold, units_of, units_in}
+use Rattle.job_server.specs.Told.{told_by, told_by_lines, AreRepliesTo, given, IsToldIn, IsTold, units_of, units_in}
 use Rattle.job_server.specs.Served.{Wanted, IsReport, IsReportAt}
-use Rattle.job_server.specs.Telling.{Shows, Stands, Follows, is_open, units_behind, StandsIn, SessionsSoFar, sessions_so_far, StandsAt, GoesOn, GoesOnUntold, GoesOnBy, GoesOnAt, IsFault, Running, running, not_begun, Leads, Serves, Keeps, HasAnswered, Advances, Reaches, ServesBlock, HasRun, HasReadAll, HasJustBegun, Begins, IsStillOpen, WasOvertaken, IsBack, GoesOnFrom}
+use Rattle.job_server.specs.Telling.{Shows, Stands, Follows, is_open, units_behind, StandsIn, SessionsSoFar, sessions_so_far, StandsAt, GoesOn, GoesOnUntold, GoesOnBy, GoesOnAt, IsFault, Running, running, not_begun, Leads, Serves, Keeps, HasAnswered, Advances, Reaches, ServesBlock, HasRun, HasReadAll, AreDataCommands, NoneAgain, HasJustBegun, Begins, IsStillOpen, WasOvertaken, IsBack, GoesOnFrom}
 use Rattle.job_server.proofs.Units.{none_given}
 use Rattle.job_server.proofs.Causes.{asked_may}
+use Rattle.job_server.proofs.Levels.{none_again, none_again_of_data}
 use Rattle.job_server.proofs.Standing.{shown_none}
 use Rattle.job_server.proofs.Doing.{refused_tells, HasTold, block_told, moved_stands, moved_job, reads_keep}
 
@@ -86,7 +87,8 @@ opened_goes job books = record {
     (
       refl,
       record {
-        shows = subst (λ (o : Option Transaction). Shows (idle job) o) (sym stands.1.0) refl;
+        shows = subst (λ (o : Option Transaction). Shows (idle job) o) (sym stands.1.0) (refl, refl);
+        begun = refl;
         is_told = subst (λ (us : List JournalUnit). IsToldIn (given s) us) (sym (append-nil (units_in books))) stands.1.1;
       },
     ),
@@ -101,7 +103,7 @@ step_goes job books command reply old new h = record {
   stands = λ s stands.
       (stands.0, (h.whose ∙ stands.1.0, subst (λ (j : ℕ). Stands (units_in books) (told j command reply s) new) stands.1.0 (h.stands (units_in books) s stands.1.1)));
   keeps = λ before after. h.keeps (positive old.state.level before) (positive new.state.level after) (units_in books);
-  allowed = λ s stands. subst (λ (j : ℕ). IsAllowed j command reply (transaction_of j s)) stands.1.0 (h.may (transaction_of old.state.work.job s) stands.1.1.shows);
+  allowed = λ s stands. subst (λ (j : ℕ). IsAllowed j command reply (transaction_of j s)) stands.1.0 (h.may (transaction_of old.state.work.job s) stands.1.1.shows stands.1.1.begun);
 }
 
 -- one step behind another that tells nothing
@@ -123,7 +125,7 @@ halted_none job books = record {
   stands = λ s stands.
       (stands.0, (gone_here s.transactions job, subst (λ (us : List JournalUnit). IsToldIn us (units_in books)) (sym (none_given s.units (End job) refl)) stands.1.1));
   keeps = λ before after. absurd (true≢false (sym before));
-  allowed = λ s stands. tt;
+  allowed = λ s stands. refl;
 }
 
 pub halted_some : (job : ℕ) (books : List Book) (h : Held) → GoesOnBy job Halt Finished (sessions_so_far books (Some h)) (sessions_so_far (books ++ book h.state.work.job h.receipts ∷ []) None)
@@ -137,7 +139,7 @@ halted_some job books h = record {
     ),
   );
   keeps = λ before after. absurd (true≢false (sym after));
-  allowed = λ s stands. tt;
+  allowed = λ s stands. refl;
 }
   where
     all_units : units_in (books ++ book h.state.work.job h.receipts ∷ []) ≡ units_in books ++ units_of h.receipts
@@ -156,8 +158,8 @@ leads_then job front back replies more s middle new h k = record {
   led = λ left later. ap (λ (ls : List (List ℕ)). told_by_lines job ls ((replies ++ more) ++ later) s) (append_assoc front back left)
       ∙ (ap (λ (rs : List Reply). told_by_lines job (front ++ (back ++ left)) rs s) (append_assoc replies more later) ∙ (h.led (back ++ left) (more ++ later) ∙ k.led left later));
   replies_are = λ left later rest.
-      subst (λ (ls : List (List ℕ)). AreReplies job ls ((replies ++ more) ++ later) s) (sym (append_assoc front back left))
-      (subst (λ (rs : List Reply). AreReplies job (front ++ (back ++ left)) rs s) (sym (append_assoc replies more later)) (h.replies_are (back ++ left) (more ++ later) (k.replies_are left later rest)));
+      subst (λ (ls : List (List ℕ)). AreRepliesTo job ls ((replies ++ more) ++ later) s) (sym (append_assoc front back left))
+      (subst (λ (rs : List Reply). AreRepliesTo job (front ++ (back ++ left)) rs s) (sym (append_assoc replies more later)) (h.replies_are (back ++ left) (more ++ later) (k.replies_are left later rest)));
   stands = k.stands;
 }
 
@@ -243,23 +245,28 @@ was_overtaken job line reply old new asks goes again = (
         subst (λ (r : Reply). StandsAt job new.sessions (told job Commit r s)) again.2
         (subst (λ (r : Result (ℕ × Command) Refusal). StandsAt job new.sessions (told_by job r reply s)) asks.1 (goes.stands s stands));
     keeps = goes.keeps;
-    allowed = λ s stands. tt;
+    allowed = λ s stands. by_reply s (subst (λ (r : Result (ℕ × Command) Refusal). IsReplyTo job r reply (transaction_of job s)) asks.1 (goes.allowed s stands));
   },
 )
+  where
+    -- a line of another job is refused
+    by_reply : (s : Machine) → IsAllowed job Commit reply (transaction_of job s) ⊎ ((reply ≡ Refused BadJob) × (asks.0 ≢ job)) → IsAllowed job Commit (Restarted again.1) (transaction_of job s)
+    by_reply s (inl allowed) = subst (λ (r : Reply). IsAllowed job Commit r (transaction_of job s)) again.2 allowed
+    by_reply s (inr other) = absurd (true≢false (ap is_refused (sym other.0 ∙ again.2)))
 
 -- ---- blocks under one hold
 
 -- done from a session that stands so
 block_from : (job : ℕ) (before rest : List (List ℕ)) (places : List (Option Refusal)) (commands : List Command) (served replies more_replies : List Reply) (books : List Book) (units more : List JournalUnit) (old start new : Held)
-    → AreInFront before rest places commands → ((s : Machine) → StandsIn job books (Some old) s → StandsIn job books (Some start) s) → AreDone commands served units more start new → more_replies ≡ replies ++ in_place places served
+    → AreInFront before rest places commands → ((s : Machine) → StandsIn job books (Some old) s → StandsIn job books (Some start) s) → AreDone commands served units more start new → NoneAgain commands served → more_replies ≡ replies ++ in_place places served
     → Serves job before rest (running replies (sessions_so_far books (Some old))) (running more_replies (sessions_so_far books (Some new)))
-block_from job before rest places commands served replies more_replies books units more old start new in_front moves done is = record {
+block_from job before rest places commands served replies more_replies books units more old start new in_front moves done never is = record {
   lines_done = in_front.front;
   their_replies = in_place places served;
   split = in_front.split;
   replied = is;
   leads = λ s stands. (let from : StandsIn job books (Some start) s = moves s stands in
-      let h : HasTold job (units_in books) in_front.front (in_place places served) s new = block_told job (units_in books) in_front.front places commands served units more start new s in_front.asked done from.1.0 from.1.1 in
+      let h : HasTold job (units_in books) in_front.front (in_place places served) s new = block_told job (units_in books) in_front.front places commands served units more start new s in_front.asked done never from.1.0 from.1.1 in
       record { machine = h.machine; led = h.led; replies_are = h.replies_are; stands = (from.0, (h.whose, h.stands)) });
 }
 
@@ -271,14 +278,14 @@ pub run_serves : (job : ℕ) (before rest : List (List ℕ)) (places : List (Opt
 run_serves job before rest places commands served replies more_replies books None later in_front run is = absurd run
 run_serves job before rest places commands served replies more_replies books (Some old) None in_front run is = absurd run
 run_serves job before rest places commands served replies more_replies books (Some old) (Some new) in_front run is =
-    block_from job before rest places commands served replies more_replies books run.1 run.2 old (moved_open run.1 old) new in_front (λ s stands. moved_on job books run.1 old s run.0 stands) run.3 is
+    block_from job before rest places commands served replies more_replies books run.2 run.3 old (moved_open run.2 old) new in_front (λ s stands. moved_on job books run.2 old s run.0 stands) run.4 (none_again commands served run.2 run.3 old new run.1 run.4) is
 
-pub reads_serve : (job : ℕ) (before rest : List (List ℕ)) (places : List (Option Refusal)) (commands : List Command) (served replies more_replies : List Reply) (books : List Book) (session later : Option Held) → AreInFront before rest places commands
+pub reads_serve : (job : ℕ) (before rest : List (List ℕ)) (places : List (Option Refusal)) (commands : List Command) (served replies more_replies : List Reply) (books : List Book) (session later : Option Held) → AreDataCommands commands → AreInFront before rest places commands
     → HasReadAll commands served session later → more_replies ≡ replies ++ in_place places served → Serves job before rest (running replies (sessions_so_far books session)) (running more_replies (sessions_so_far books later))
-reads_serve job before rest places commands served replies more_replies books None later in_front reads is = absurd reads
-reads_serve job before rest places commands served replies more_replies books (Some old) None in_front reads is = absurd reads
-reads_serve job before rest places commands served replies more_replies books (Some old) (Some new) in_front reads is =
-    block_from job before rest places commands served replies more_replies books reads.1 reads.1 old old new in_front (λ s stands. stands) reads.2 is
+reads_serve job before rest places commands served replies more_replies books None later all in_front reads is = absurd reads
+reads_serve job before rest places commands served replies more_replies books (Some old) None all in_front reads is = absurd reads
+reads_serve job before rest places commands served replies more_replies books (Some old) (Some new) all in_front reads is =
+    block_from job before rest places commands served replies more_replies books reads.1 reads.1 old old new in_front (λ s stands. stands) reads.2 (none_again_of_data commands served all) is
 
 -- reads of a transaction leave the receipts as they are
 pub reads_keep_all : (commands : List Command) (served replies more_replies : List Reply) (books : List Book) (session later : Option Held) → All (λ (c : Command). (d : DataCommand) × (c ≡ Access d)) commands → HasReadAll commands served session later
@@ -329,7 +336,7 @@ opened_keeps job same old middle new is opened stays keeps = subst (λ (x : Runn
 open_level : (job : ℕ) (books : List Book) (session : Option Held) (s : Machine) → StandsIn job books session s → is_open session ≡ true → transaction_of job s ≡ None → ⊥
 open_level job books None s stands open_now none = true≢false (sym open_now)
 open_level job books (Some h) s stands open_now none =
-    let level : h.state.level ≡ 0 = subst (λ (o : Option Transaction). Shows h.state o) (ap (λ (j : ℕ). transaction_of j s) stands.1.0 ∙ none) stands.1.1.shows in
+    let level : h.state.level ≡ 0 = (subst (λ (o : Option Transaction). Shows h.state o) (ap (λ (j : ℕ). transaction_of j s) stands.1.0 ∙ none) stands.1.1.shows).0 in
     true≢false (sym open_now ∙ ap (λ (n : ℕ). nat_lt 0 n) level)
 
 closed_none : (job : ℕ) (books : List Book) (session : Option Held) (s : Machine) → StandsIn job books session s → is_open session ≡ false → transaction_of job s ≡ None
@@ -348,7 +355,7 @@ begun_by job (Had had) s none some = absurd (some none)
 begun_by job (Count n) s none some = absurd (some none)
 begun_by job (AtLevel level) s none some =
     subst (λ (o : Option Transaction). HasJustBegun (transaction_of job (told_level job level o s))) (sym none)
-    (subst (λ (o : Option Transaction). HasJustBegun o) (sym (get_here s.transactions job (record { level = 1; restarts = 0; start = length s.units; exchanges = []; took_lock = false }))) (refl, refl))
+    (subst (λ (o : Option Transaction). HasJustBegun o) (sym (get_here s.transactions job (record { level = 1; restarts = 0; start = length s.units; exchanges = []; took_lock = false }))) (refl, (refl, refl)))
 begun_by job Committed s none some = absurd (some none)
 begun_by job (Restarted restarts) s none some = absurd (some none)
 begun_by job (Refused refusal) s none some = absurd (some none)
@@ -373,6 +380,7 @@ begun_again job restarts books (Some h) s first stands begun is_told = (
     stands.1.0,
     record {
       shows = subst (λ (j : ℕ). Shows h.state (transaction_of j first)) (sym stands.1.0) (shows_begun (transaction_of job first) begun);
+      begun = stands.1.1.begun;
       is_told = is_told;
     },
   ),
@@ -387,7 +395,7 @@ begun_again job restarts books (Some h) s first stands begun is_told = (
 
     shows_begun : (o : Option Transaction) → HasJustBegun o → Shows h.state o
     shows_begun None b = absurd b
-    shows_begun (Some x) b = (now.0, (now.1.0 ∙ sym b.0, now.1.1 ∙ sym b.1))
+    shows_begun (Some x) b = (now.0, (now.1.0 ∙ sym b.0, (now.1.1.0 ∙ sym b.1.0, omega (arith, b.1.1))))
 
 -- what is told where the job stands
 told_in : (job : ℕ) (books : List Book) (session : Option Held) (s : Machine) → StandsIn job books session s → IsToldIn (given s) (units_behind books session)
@@ -499,8 +507,8 @@ run_told job text old new later first serves goes over =
     let stands : StandsIn job later.books None (told job Halt Finished s) = subst (λ (x : Option Held). StandsIn job later.books x (told job Halt Finished s)) over (goes.stands s led.stands) in
     let machine : told_by_lines job (lines_of_script text) new.replies nothing_done ≡ s = ap (λ (ls : List (List ℕ)). told_by_lines job ls new.replies nothing_done) h.split
     ∙ (ap (λ (rs : List Reply). told_by_lines job (h.lines_done ++ []) rs nothing_done) (h.replied ∙ sym (append-nil h.their_replies)) ∙ led.led [] []) in
-    let replies : AreReplies job (lines_of_script text) new.replies nothing_done = subst (λ (ls : List (List ℕ)). AreReplies job ls new.replies nothing_done) (sym h.split)
-    (subst (λ (rs : List Reply). AreReplies job (h.lines_done ++ []) rs nothing_done) (sym (h.replied ∙ sym (append-nil h.their_replies))) (led.replies_are [] [] tt)) in
+    let replies : AreRepliesTo job (lines_of_script text) new.replies nothing_done = subst (λ (ls : List (List ℕ)). AreRepliesTo job ls new.replies nothing_done) (sym h.split)
+    (subst (λ (rs : List Reply). AreRepliesTo job (h.lines_done ++ []) rs nothing_done) (sym (h.replied ∙ sym (append-nil h.their_replies))) (led.replies_are [] [] tt)) in
     (stands.0, (subst (λ (us : List JournalUnit). IsToldIn us (units_in later.books)) (none_given s.units (End job) refl ∙ sym (ap given machine)) stands.1.1, replies))
 
 -- what holds of an answer, where another does

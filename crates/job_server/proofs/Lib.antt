@@ -6,8 +6,10 @@ pub mod Faulting
 pub mod Following
 pub mod GoingOn
 pub mod Handing
+pub mod Levels
 pub mod Loads
 pub mod Outputs
 pub mod Reading
+pub mod Refusing
 pub mod Standing
 pub mod Units

@@ -1,44 +1,88 @@
--- Why a line of a job is refused. Source: docs/RULES.md, "Refusals".
--- Read IsCauseFor, IsAllowed, IsReplyTo.
-use Rattle.std.specs.Prelude.{◌≡◌, ◌≢◌, ◌⊎◌, ⊤, ℕ, ◌≤◌, ◌<◌, length, Option, None, Some, Result, Ok, Err}
+-- What a line of a job may be replied, in the transaction that the replies so far tell. Source: docs/RULES.md, docs/FORMATS.md, "Replies".
+-- Read IsAccepted, IsCauseFor, IsAllowed, IsReplyTo.
+use Rattle.std.specs.Prelude.{◌≡◌, ◌≢◌, ◌⊎◌, ⊤, ℕ, ◌+◌, ◌-◌, ◌≤◌, ◌<◌, Bool, [], ◌∷◌, ◌++◌, length, Option, None, Some, Result, Ok, Err}
 use Rattle.refusal.specs.declared.Refusal.{Refusal}
-use Rattle.refusal.specs.declared.Refusal.TheVariants.{BadJob, NoTransaction, LevelTooDeep, TransactionTooLong, OutOfMemory, StampsUsedUp, Again}
+use Rattle.refusal.specs.declared.Refusal.TheVariants.{BadJob, NoTransaction, LevelTooDeep, TransactionTooLong, OutOfMemory, StampsUsedUp}
 use Rattle.collation.specs.Limits.{most_commands, most_levels}
 use Rattle.collation.specs.Database.{Database}
 use Rattle.collation.specs.declared.lock.LockCommand.{LockCommand}
 use Rattle.collation.specs.Locks.{LockState, lock_refusal}
 use Rattle.command.specs.declared.access.DataCommand.{DataCommand}
+use Rattle.command.specs.declared.access.Answer.{Answer}
 use Rattle.command.specs.declared.request.Command.{Command}
 use Rattle.command.specs.declared.request.Command.TheVariants.{Access, Lock as lock_command, Start, Commit, Rollback, Restart, Level, Restarts, Halt}
 use Rattle.command.specs.declared.request.Reply.{Reply}
-use Rattle.command.specs.declared.request.Reply.TheVariants.{Answered, Finished, Had, Count, AtLevel, Committed, Restarted, Refused}
+use Rattle.command.specs.declared.request.Reply.TheVariants.{Answered, Finished, Count, AtLevel, Committed, Refused}
 use Rattle.command.specs.Data.{data_refusal}
-use Rattle.journal.specs.History.{all_after}
+use Rattle.journal.specs.History.{AreRight, all_after}
 use Rattle.journal.specs.Story.{Transaction}
+use Rattle.serial.specs.Machine.{told_had, level_of, restarted}
 
--- a data command: the journal is full, or its own rule refuses it on some database; in a transaction it holds the most of them, or the rule does so on some
--- database followed by the transaction's own commands
+-- ---- accepted
+
+-- a data command's answer: in a transaction, which holds fewer than the most of them, there is a database where it is right with all that the transaction was
+-- answered before, each in its turn; outside one it is in a unit of its own, and right there, since the journal is legal
+abbrev pub IsAnswer : DataCommand → Answer → Option Transaction → Type 0
+IsAnswer command answer None = ⊤
+IsAnswer command answer (Some t) = (length t.exchanges < most_commands) × (m : Database) × AreRight (t.exchanges ++ record { command = command; answer = answer } ∷ []) m
+
+-- the transaction begins anew, one time more: it has done so at least as often as was told, since no reply tells of the tries of a block that were overtaken
+abbrev pub IsAnew : Reply → Option Transaction → Type 0
+IsAnew reply None = ⊥
+IsAnew reply (Some t) = (restarts : ℕ) × (t.restarts ≤ restarts) × (reply ≡ restarted (record t { restarts = restarts }))
+
+-- TCOMMIT: one level lower, or at level 1 committed or begun anew
+abbrev pub IsCommitted : Reply → Option Transaction → Type 0
+IsCommitted reply None = ⊥
+IsCommitted reply (Some t) = ((1 < t.level) × (reply ≡ AtLevel (t.level - 1))) ⊎ ((t.level ≡ 1) × ((reply ≡ Committed) ⊎ IsAnew reply (Some t)))
+
+-- TROLLBACK: done, where there is a transaction
+abbrev pub IsRolledBack : Reply → Option Transaction → Type 0
+IsRolledBack reply None = ⊥
+IsRolledBack reply (Some t) = reply ≡ Finished
+
+-- $TRESTART: at least as often as was told
+abbrev pub IsRestartCount : Reply → Option Transaction → Type 0
+IsRestartCount reply None = reply ≡ Count 0
+IsRestartCount reply (Some t) = (restarts : ℕ) × (t.restarts ≤ restarts) × (reply ≡ Count restarts)
+
+-- what a command is replied that isn't refused
+abbrev pub IsAccepted : Command → Reply → Option Transaction → Type 0
+IsAccepted (Access command) reply t = (answer : Answer) × (reply ≡ Answered answer) × IsAnswer command answer t
+IsAccepted (lock_command command) reply t = (had : Bool) × (reply ≡ told_had command had)
+IsAccepted Start reply t = reply ≡ AtLevel (level_of t + 1)
+IsAccepted Commit reply t = IsCommitted reply t
+IsAccepted Rollback reply t = IsRolledBack reply t
+IsAccepted Restart reply t = IsAnew reply t
+IsAccepted Level reply t = reply ≡ Count (level_of t)
+IsAccepted Restarts reply t = IsRestartCount reply t
+IsAccepted Halt reply t = reply ≡ Finished
+
+-- ---- refused; for stamps wherever a unit may be written: nothing here asks that they are used up
+
+-- a data command: its own rule refuses it on some database; in a transaction on one where all that it was answered is right, followed by its own commands, or it
+-- holds the most of them
 abbrev pub IsDataCause : DataCommand → Refusal → Option Transaction → Type 0
 IsDataCause command refusal None = (refusal ≡ StampsUsedUp) ⊎ ((m : Database) × (data_refusal command m ≡ Some refusal))
 IsDataCause command refusal (Some t) =
     ((refusal ≡ TransactionTooLong) × (most_commands ≤ length t.exchanges))
-    ⊎ ((m : Database) × (length t.exchanges < most_commands) × (data_refusal command (all_after t.exchanges m) ≡ Some refusal))
+    ⊎ ((m : Database) × AreRight t.exchanges m × (length t.exchanges < most_commands) × (data_refusal command (all_after t.exchanges m) ≡ Some refusal))
 
--- a LOCK: the journal is full, or its own rule refuses it, whatever locks others have
+-- a LOCK: its own rule refuses it, where jobs have some locks
 abbrev pub IsLockCause : ℕ → LockCommand → Refusal → Type 0
 IsLockCause job command refusal = (refusal ≡ StampsUsedUp) ⊎ ((s : LockState) × (lock_refusal job command s ≡ Some refusal))
 
--- TSTART: a horizon passed the start as it was taken, or there are the most levels
+-- TSTART: there are the most levels
 abbrev pub IsStartCause : Refusal → Option Transaction → Type 0
-IsStartCause refusal None = refusal ≡ Again
+IsStartCause refusal None = ⊥
 IsStartCause refusal (Some t) = (refusal ≡ LevelTooDeep) × (most_levels ≤ t.level)
 
--- TCOMMIT: there is no transaction; or it is the outermost, and the journal is full
+-- TCOMMIT: there is no transaction; the outermost is a unit
 abbrev pub IsCommitCause : Refusal → Option Transaction → Type 0
 IsCommitCause refusal None = refusal ≡ NoTransaction
 IsCommitCause refusal (Some t) = (refusal ≡ StampsUsedUp) × (t.level ≡ 1)
 
--- TROLLBACK, TRESTART: there is no transaction, or the journal is full
+-- TROLLBACK, TRESTART: there is no transaction; one that took a LOCK goes back by a unit
 abbrev pub IsBackCause : Refusal → Option Transaction → Type 0
 IsBackCause refusal None = refusal ≡ NoTransaction
 IsBackCause refusal (Some t) = refusal ≡ StampsUsedUp
@@ -55,18 +99,23 @@ IsCauseFor job Level refusal t = ⊥
 IsCauseFor job Restarts refusal t = ⊥
 IsCauseFor job Halt refusal t = refusal ≡ StampsUsedUp
 
--- a refusal has its cause, or is that of memory
-abbrev pub IsAllowed : ℕ → Command → Reply → Option Transaction → Type 0
-IsAllowed job command (Answered answer) t = ⊤
-IsAllowed job command Finished t = ⊤
-IsAllowed job command (Had had) t = ⊤
-IsAllowed job command (Count n) t = ⊤
-IsAllowed job command (AtLevel level) t = ⊤
-IsAllowed job command Committed t = ⊤
-IsAllowed job command (Restarted restarts) t = ⊤
-IsAllowed job command (Refused refusal) t = (refusal ≡ OutOfMemory) ⊎ IsCauseFor job command refusal t
+-- ---- replies
 
--- the reply to a line, by what is read of it: one that can't be read gets its refusal, or that of memory; one of another job may be refused for that
+-- a refusal has its cause, or is that of memory; any other reply is the command's
+abbrev pub IsAllowed : ℕ → Command → Reply → Option Transaction → Type 0
+IsAllowed job command (Refused refusal) t = (refusal ≡ OutOfMemory) ⊎ IsCauseFor job command refusal t
+IsAllowed job command reply t = IsAccepted command reply t
+
+-- a line is refused for its own fault, or for memory
+abbrev pub IsRefusedFor : Refusal → Reply → Type 0
+IsRefusedFor fault reply = (reply ≡ Refused fault) ⊎ (reply ≡ Refused OutOfMemory)
+
+-- the reply to a line, by what is read of it; one of another job may be refused for that
 abbrev pub IsReplyTo : ℕ → Result (ℕ × Command) Refusal → Reply → Option Transaction → Type 0
 IsReplyTo job (Ok step) reply t = IsAllowed job step.1 reply t ⊎ ((reply ≡ Refused BadJob) × (step.0 ≢ job))
-IsReplyTo job (Err fault) reply t = (reply ≡ Refused fault) ⊎ (reply ≡ Refused OutOfMemory)
+IsReplyTo job (Err fault) reply t = IsRefusedFor fault reply
+
+-- the reply to a line under which there is no job; one that can be read has another
+abbrev pub IsReplyToNone : Result (ℕ × Command) Refusal → Reply → Type 0
+IsReplyToNone (Ok step) reply = IsRefusedFor BadJob reply
+IsReplyToNone (Err fault) reply = IsRefusedFor fault reply

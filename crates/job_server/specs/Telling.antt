@@ -3,6 +3,7 @@
 use Rattle.std.specs.Prelude.{◌≡◌, ◌≢◌, ◌⊎◌, ⊤, ℕ, ◌≤◌, nat_lt, Bool, true, false, List, [], ◌∷◌, ◌++◌, length, Option, None, Some, Result, Ok, Err}
 use Rattle.std.specs.List.{All}
 use Rattle.refusal.specs.declared.Refusal.{Refusal}
+use Rattle.refusal.specs.declared.Refusal.TheVariants.{Again}
 use Rattle.collation.specs.declared.lock.LockCommand.{LockCommand}
 use Rattle.collation.specs.declared.lock.LockCommand.TheVariants.{Release, Only, More, Fewer}
 use Rattle.command.specs.declared.access.DataCommand.{DataCommand}
@@ -16,28 +17,28 @@ use Rattle.script.specs.Line.{reading_of}
 use Rattle.job_core.specs.Common.{IsCauseOfLock}
 use Rattle.job_core.specs.Sessions.{Session as JobSession}
 use Rattle.shared_engine.specs.Receipts.{Book}
-use Rattle.shared_engine.specs.Sessions.{Held}
+use Rattle.shared_engine.specs.Sessions.{Held, IsAt}
 use Rattle.shared_engine.specs.Engines.{HasItsNames, WasBlocked}
 use Rattle.shared_engine.specs.Blocks.{AreDone, IsReady, moved_open}
 use Rattle.job_scripts.specs.declared.block.Block.{Block}
-use Rattle.job_scripts.specs.Blocks.{Asks, AreInFront}
+use Rattle.job_scripts.specs.Blocks.{Asks, AreInFront, IsOneBlock}
 use Rattle.job_scripts.specs.Lines.{lines_of_script}
-use Rattle.job_scripts.specs.Reports.{is_refused}
-use Rattle.job_server.specs.Causes.{IsAllowed, IsReplyTo}
+use Rattle.job_server.specs.Causes.{IsAllowed, IsReplyTo, IsReplyToNone}
 use Rattle.job_server.specs.declared.cursor.Cursor.{Cursor}
 use Rattle.job_server.specs.declared.cursor.Line.{Line}
-use Rattle.job_server.specs.Told.{told_by, given, IsToldIn, told_by_lines, AreReplies, units_of, units_in}
+use Rattle.job_server.specs.Told.{told_by, given, IsToldIn, told_by_lines, AreRepliesTo, AreRepliesToNone, units_of, units_in}
 
 -- ---- one session
 
--- the session has the machine's transaction, as far as replies tell it
+-- the session has the machine's transaction, as far as replies tell it; it was begun anew at least as often
 abbrev pub Shows : JobSession → Option Transaction → Type 0
-Shows state None = state.level ≡ 0
-Shows state (Some t) = (1 ≤ state.level) × ((state.level ≡ t.level) × (state.work.exchanges ≡ t.exchanges))
+Shows state None = (state.level ≡ 0) × (state.restarts ≡ 0)
+Shows state (Some t) = (1 ≤ state.level) × ((state.level ≡ t.level) × ((state.work.exchanges ≡ t.exchanges) × (t.restarts ≤ state.restarts)))
 
--- behind these units of earlier sessions the session has the machine's transaction, and what was told are the units so far
+-- behind these units of earlier sessions the session has the machine's transaction, which is right where it began, and what was told are the units so far
 pub record Stands (front : List JournalUnit) (s : Machine) (h : Held) : Type 0 where
   pub shows : Shows h.state (transaction_of h.state.work.job s)
+  pub begun : IsAt h.start h.state
   pub is_told : IsToldIn (given s) (front ++ units_of h.receipts)
 
 -- what was told in the first units is told in the others
@@ -46,7 +47,7 @@ AreStillTold old new = (ts : List JournalUnit) → IsToldIn ts old → IsToldIn 
 
 -- the reply is allowed, whatever transaction the session shows
 abbrev pub MayReply : Command → Reply → Held → Type 0
-MayReply command reply h = (t : Option Transaction) → Shows h.state t → IsAllowed h.state.work.job command reply t
+MayReply command reply h = (t : Option Transaction) → Shows h.state t → IsAt h.start h.state → IsAllowed h.state.work.job command reply t
 
 -- the session goes on as the reply tells, which is allowed; while its transaction stays open all that it writes is LOCKs
 pub record Follows (command : Command) (reply : Reply) (old new : Held) : Type 0 where
@@ -138,9 +139,15 @@ IsAsked job line (Err refusal) = IsFault job line refusal
 
 -- ---- lines
 
--- each reply is a refusal
-abbrev pub AreRefused : List Reply → Type 0
-AreRefused replies = All (λ (r : Reply). is_refused r ≡ true) replies
+-- lines without a job, in front of the rest, were refused
+pub record Refuses (lines rest : List (List ℕ)) (old new : List Reply) : Type 0 where
+  pub their_replies : List Reply
+  pub replied : new ≡ old ++ their_replies
+  pub replies_are : (later : List Reply) → AreRepliesToNone rest later → AreRepliesToNone lines (their_replies ++ later)
+
+-- the line is refused so, where it has no job
+abbrev pub IsFaultOfNone : List ℕ → Refusal → Type 0
+IsFaultOfNone line refusal = IsReplyToNone (reading_of line) (Refused refusal)
 
 -- the replies so far, and the sessions
 pub record Running : Type 0 where
@@ -158,7 +165,7 @@ not_begun = running [] (sessions_so_far [] None)
 pub record Leads (job : ℕ) (lines : List (List ℕ)) (replies : List Reply) (s : Machine) (sessions : SessionsSoFar) : Type 0 where
   pub machine : Machine
   pub led : (left : List (List ℕ)) (later : List Reply) → told_by_lines job (lines ++ left) (replies ++ later) s ≡ told_by_lines job left later machine
-  pub replies_are : (left : List (List ℕ)) (later : List Reply) → AreReplies job left later machine → AreReplies job (lines ++ left) (replies ++ later) s
+  pub replies_are : (left : List (List ℕ)) (later : List Reply) → AreRepliesTo job left later machine → AreRepliesTo job (lines ++ left) (replies ++ later) s
   pub stands : StandsAt job sessions machine
 
 -- the lines in front of the rest were done: their replies are behind those before, and lead on from wherever the job stood
@@ -199,6 +206,16 @@ HaveNoHalt commands = All (λ (c : Command). c ≢ Halt) commands
 abbrev pub AreDataCommands : List Command → Type 0
 AreDataCommands commands = All (λ (c : Command). (d : DataCommand) × (c ≡ Access d)) commands
 
+-- no transaction begins in a block: they are data commands, or one is open before each of them
+abbrev pub BeginNone : List Command → Option Held → Type 0
+BeginNone commands session = AreDataCommands commands ⊎ ((is_open session ≡ true) × IsOneBlock 1 commands)
+
+-- no TSTART is refused since a horizon passed its start
+abbrev pub NoneAgain : List Command → List Reply → Type 0
+NoneAgain [] replies = ⊤
+NoneAgain (command ∷ commands) [] = ⊤
+NoneAgain (command ∷ commands) (reply ∷ replies) = (command ≡ Start → reply ≢ Refused Again) × NoneAgain commands replies
+
 -- the lines of a block were done, whatever lines they stand in front of
 abbrev pub ServesBlock : Block → Running → Running → Type 0
 ServesBlock block old new = (job : ℕ) (lines : List (List ℕ)) → AreInFront lines (lines_of_script block.rest.now) block.places.items block.commands.items → Serves job lines (lines_of_script block.rest.now) old new
@@ -207,7 +224,7 @@ ServesBlock block old new = (job : ℕ) (lines : List (List ℕ)) → AreInFront
 abbrev pub HasRun : List Command → List Reply → Option Held → Option Held → Type 0
 HasRun commands replies None later = ⊥
 HasRun commands replies (Some old) None = ⊥
-HasRun commands replies (Some old) (Some new) = IsReady old × (units more : List JournalUnit) × AreDone commands replies units more (moved_open units old) new
+HasRun commands replies (Some old) (Some new) = IsReady old × BeginNone commands (Some old) × (units more : List JournalUnit) × AreDone commands replies units more (moved_open units old) new
 
 -- the session did commands in its transaction, and nothing was written
 abbrev pub HasReadAll : List Command → List Reply → Option Held → Option Held → Type 0
@@ -218,7 +235,7 @@ HasReadAll commands replies (Some old) (Some new) = (1 ≤ old.state.level) × (
 -- a transaction has just begun
 abbrev pub HasJustBegun : Option Transaction → Type 0
 HasJustBegun None = ⊥
-HasJustBegun (Some t) = (t.level ≡ 1) × (t.exchanges ≡ [])
+HasJustBegun (Some t) = (t.level ≡ 1) × ((t.exchanges ≡ []) × (t.restarts ≡ 0))
 
 -- a TSTART was answered, and its transaction has just begun
 pub record Begins (job : ℕ) (old new : Running) : Type 0 where

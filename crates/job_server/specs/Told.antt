@@ -1,5 +1,5 @@
--- What a job's replies tell of the units that the job wrote, and which may be refusals. Source: docs/THEOREMS.md, "Many jobs".
--- Read told_by_lines, units_told, IsToldIn, AreReplies, then IsTold.
+-- What a job's replies tell of the units that the job wrote, and what lines may be replied. Source: docs/THEOREMS.md, "Many jobs".
+-- Read told_by_lines, units_told, IsToldIn, AreRepliesTo, AreRepliesToNone, then IsTold.
 use Rattle.std.specs.Prelude.{◌≡◌, ◌⊎◌, ⊤, ℕ, Bool, true, false, List, [], ◌∷◌, ◌++◌, map, Option, None, Some, Result, Ok, Err}
 use Rattle.std.specs.List.{All, filter, flat_map}
 use Rattle.refusal.specs.declared.Refusal.{Refusal}
@@ -12,8 +12,7 @@ use Rattle.journal.specs.Story.{Machine, nothing_done, transaction_of, told}
 use Rattle.script.specs.Line.{reading_of}
 use Rattle.shared_engine.specs.Receipts.{Book, has_receipt}
 use Rattle.job_scripts.specs.Lines.{lines_of_script}
-use Rattle.job_scripts.specs.Reports.{is_refused}
-use Rattle.job_server.specs.Causes.{IsReplyTo}
+use Rattle.job_server.specs.Causes.{IsReplyTo, IsReplyToNone}
 
 -- what a line and its reply change: a line that can't be read tells nothing
 abbrev pub told_by : ℕ → Result (ℕ × Command) Refusal → Reply → Machine → Machine
@@ -57,13 +56,19 @@ abbrev pub units_in : List Book → List JournalUnit
 units_in books = flat_map (λ (b : Book). units_of b.receipts) books
 
 -- each reply is one to its line, in the transaction that the replies so far tell
-abbrev pub AreReplies : ℕ → List (List ℕ) → List Reply → Machine → Type 0
-AreReplies job [] replies s = ⊤
-AreReplies job (line ∷ lines) [] s = ⊤
-AreReplies job (line ∷ lines) (reply ∷ replies) s = IsReplyTo job (reading_of line) reply (transaction_of job s) × AreReplies job lines replies (told_by job (reading_of line) reply s)
+abbrev pub AreRepliesTo : ℕ → List (List ℕ) → List Reply → Machine → Type 0
+AreRepliesTo job [] replies s = ⊤
+AreRepliesTo job (line ∷ lines) [] s = ⊤
+AreRepliesTo job (line ∷ lines) (reply ∷ replies) s = IsReplyTo job (reading_of line) reply (transaction_of job s) × AreRepliesTo job lines replies (told_by job (reading_of line) reply s)
 
--- the replies to a job's lines are such, and tell the units of its books; without a job there is no book, and each reply is a refusal
+-- the same of lines without a job
+abbrev pub AreRepliesToNone : List (List ℕ) → List Reply → Type 0
+AreRepliesToNone [] replies = ⊤
+AreRepliesToNone (line ∷ lines) [] = ⊤
+AreRepliesToNone (line ∷ lines) (reply ∷ replies) = IsReplyToNone (reading_of line) reply × AreRepliesToNone lines replies
+
+-- the replies to a job's lines are such, and tell the units of its books; without a job there is no book
 abbrev pub IsTold : Option ℕ → List ℕ → List Reply → List Book → Type 0
-IsTold None text replies books = (books ≡ []) × All (λ (r : Reply). is_refused r ≡ true) replies
+IsTold None text replies books = (books ≡ []) × AreRepliesToNone (lines_of_script text) replies
 IsTold (Some job) text replies books =
-    All (λ (b : Book). b.job ≡ job) books × (IsToldIn (units_told job text replies) (units_in books) × AreReplies job (lines_of_script text) replies nothing_done)
+    All (λ (b : Book). b.job ≡ job) books × (IsToldIn (units_told job text replies) (units_in books) × AreRepliesTo job (lines_of_script text) replies nothing_done)

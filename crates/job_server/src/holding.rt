@@ -2,7 +2,7 @@
 ghost use Rattle.std.specs.Prelude.{◌≡◌, ◌++◌, IfOk, OnOk};
 ghost use Rattle.command.specs.declared.request.Command.{Command};
 ghost use Rattle.job_scripts.specs.Blocks.{in_place, Asks};
-ghost use Rattle.job_server.specs.Telling.{Keeps, Advances, Reaches, HaveNoHalt, AreDataCommands, ServesBlock, HasRun, HasReadAll};
+ghost use Rattle.job_server.specs.Telling.{Keeps, Advances, Reaches, HaveNoHalt, AreDataCommands, BeginNone, ServesBlock, HasRun, HasReadAll};
 
 use crate::ServerFault;
 use crate::cursor::{Cursor, Line};
@@ -38,7 +38,8 @@ impl<'a, B: BoardName, R: Wait, G: Gate> Worker<'a, B, R, G> {
         session: &mut Session<B>,
         commands: Vec<Command>,
     ) -> Result<Vec<Reply>, ServerFault>
-        requires { HaveNoHalt commands.items }
+        requires goes_on { HaveNoHalt commands.items }
+        requires begins { BeginNone commands.items (Some session.old) }
         ensures { IfOk result (λ served. HasRun commands.items served.items (Some session.old) (Some session.new)) }
     {
         if session.tlevel() > 0 && !session.is_fresh() {
@@ -58,7 +59,8 @@ impl<'a, B: BoardName, R: Wait, G: Gate> Worker<'a, B, R, G> {
         session: &mut Option<Session<B>>,
         commands: Vec<Command>,
     ) -> Result<Vec<Reply>, ServerFault>
-        requires { HaveNoHalt commands.items }
+        requires goes_on { HaveNoHalt commands.items }
+        requires begins { BeginNone commands.items session.old }
         ensures { IfOk result (λ served. HasRun commands.items served.items session.old session.new) }
     {
         match session {
@@ -137,7 +139,8 @@ impl<'a, B: BoardName, R: Wait, G: Gate> Worker<'a, B, R, G> {
         number: u64,
         block: Block<'b>,
     ) -> Result<Cursor<'b>, ServerFault>
-        requires { HaveNoHalt block.commands.items }
+        requires goes_on { HaveNoHalt block.commands.items }
+        requires begins { BeginNone block.commands.items run.old.sessions.session }
         ensures rest { IfOk result (λ behind. behind.lines.now ≡ block.entry.rest.now) }
         ensures served { OnOk result (ServesBlock block.entry run.old run.new) }
     {
@@ -178,7 +181,7 @@ impl<'a, B: BoardName, R: Wait, G: Gate> Worker<'a, B, R, G> {
         }
     }
 
-    /// Does the lines of a block behind its TSTART, so that nobody can overtake it.
+    /// Does the lines of a block behind its TSTART, so that nobody can overtake it. The transaction is open.
     #[tactic(auto, using(crate::proofs::GoingOn::block_reaches))]
     pub(crate) fn serve_serially<'b>(
         &mut self,
@@ -188,6 +191,9 @@ impl<'a, B: BoardName, R: Wait, G: Gate> Worker<'a, B, R, G> {
     ) -> Result<Cursor<'b>, ServerFault>
         ensures { IfOk result (λ behind. Reaches job begin.entry.lines.now behind run.old run.new) }
     {
+        if !run.is_open() {
+            return Err(ServerFault::Missing);
+        }
         let block = block_of(self.alloc, begin.lines, &mut run.drafts)?;
         self.serve_at_once(run, begin.number, block)
     }

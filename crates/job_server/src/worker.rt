@@ -1,5 +1,5 @@
 //! The lines of one job, and of one job after the other.
-ghost use Rattle.std.specs.Prelude.{◌≡◌, [], None, Some, true, slice_get, IfOk, OnOk};
+ghost use Rattle.std.specs.Prelude.{◌≡◌, ◌∷◌, ℕ, List, [], None, Some, true, slice_get, IfOk, OnOk};
 ghost use Rattle.command.specs.declared.request.Command.{Command};
 ghost use Rattle.command.specs.declared.request.Reply.{Reply};
 ghost use Rattle.job_scripts.specs.Blocks.{Asks};
@@ -7,7 +7,8 @@ ghost use Rattle.job_scripts.specs.Lines.{lines_of_script};
 ghost use Rattle.std.proofs.Props.{props};
 ghost use Rattle.job_server.specs.Served.{wanted, IsReport, IsReportAt};
 ghost use Rattle.job_server.specs.Told.{IsTold};
-ghost use Rattle.job_server.specs.Telling.{AreRefused, Serves, Advances, not_begun};
+ghost use Rattle.script.specs.Line.{IsReading};
+ghost use Rattle.job_server.specs.Telling.{Refuses, IsFaultOfNone, Serves, Advances, not_begun};
 
 use crate::ServerFault;
 use crate::cursor::{Cursor, Line};
@@ -119,8 +120,11 @@ fn finished(reply: Reply) -> bool
     matches!(reply, Reply::Finished)
 }
 
-// The refusal of a line in a script without a job.
-fn refusal_of(read: Result<(Job, Command), LineFault>) -> Refusal {
+// The refusal of a line in a script without a job: its own, or `BadJob` where it can be read.
+#[tactic(auto, using(crate::proofs::Refusing::none_read, crate::proofs::Refusing::none_fault))]
+fn refusal_of(read: Result<(Job, Command), LineFault>) -> Refusal
+    ensures { (line : List ℕ) → IsReading line read → IsFaultOfNone line result }
+{
     match read {
         Ok((_, command)) => {
             drop(command);
@@ -131,13 +135,14 @@ fn refusal_of(read: Result<(Job, Command), LineFault>) -> Refusal {
 }
 
 // Refuses a line.
+#[tactic(auto, using(crate::proofs::Refusing::refuses_line))]
 fn refuse_line(
     alloc: Global,
     line: &[u8],
     drafts: &mut Drafts,
     replies: &mut Vec<Reply>,
 ) -> Result<(), AllocError>
-    ensures { AreRefused replies.old.items → OnOk result (AreRefused replies.new.items) }
+    ensures { OnOk result ((rest : List (List ℕ)) → Refuses (line.now ∷ rest) rest replies.old.items replies.new.items) }
 {
     let refusal = refusal_of(read_line(alloc, line, drafts));
     replies.push(Reply::Refused(refusal))?;
@@ -145,13 +150,14 @@ fn refuse_line(
 }
 
 // Refuses each line.
+#[tactic(auto, using(crate::proofs::Refusing::refuses_none, crate::proofs::Refusing::refuses_then))]
 fn refuse_lines(
     alloc: Global,
     lines: &[u8],
     drafts: &mut Drafts,
     replies: &mut Vec<Reply>,
 ) -> Result<(), AllocError>
-    ensures { AreRefused replies.old.items → OnOk result (AreRefused replies.new.items) }
+    ensures { OnOk result (Refuses (lines_of_script lines.now) [] replies.old.items replies.new.items) }
 {
     let mut place = Cursor::new(lines);
     'lines: while let Some(line) = place.next() {
@@ -305,6 +311,7 @@ impl<'a, B: BoardName, R: Wait, G: Gate> Worker<'a, B, R, G> {
     }
 
     // The lines without a job: each is refused.
+    #[tactic(auto, using(crate::proofs::Refusing::none_told))]
     fn run_none(&self, script: &Script) -> Result<Ran<B>, ServerFault>
         requires { script.now.job ≡ None }
         ensures { IfOk result (λ ran. IsReport (wanted script.now) ran.report ran.passes.items) }

@@ -1,12 +1,11 @@
-use Rattle.std.proofs.Common.{◌≡◌, true, length}
-use Rattle.std.specs.List.{All}
-use Rattle.command.specs.declared.request.Reply.{Reply}
-use Rattle.job_scripts.specs.Reports.{is_refused}
+use Rattle.std.proofs.Common.{length}
+use Rattle.job_scripts.specs.Lines.{lines_of_script}
+use Rattle.job_server.specs.Telling.{Refuses}
 use Rattle.job_server.proofs.worker.refuse_lines.Given as goal
 
--- each reply is a refusal, where each was
+-- the lines in front were refused
 abbrev pub invariant-lines : goal.invariant-lines
-invariant-lines l = All (λ (r : Reply). is_refused r ≡ true) l.fn.replies.items → All (λ (r : Reply). is_refused r ≡ true) l.replies.items
+invariant-lines l = Refuses (lines_of_script l.fn.lines) (lines_of_script l.place.lines.now) l.fn.replies.items l.replies.items
 
 abbrev pub decreases-lines : goal.decreases-lines
 decreases-lines l = length l.place.lines.now

@@ -1,12 +1,22 @@
 use Rattle.std.proofs.Common.{sym, subst}
 use Rattle.command.specs.declared.access.DataCommand.{DataCommand}
-use Rattle.command.specs.declared.access.DataCommand.TheVariants.{Merge, Look}
+use Rattle.command.specs.declared.access.DataCommand.TheVariants.{Set, Kill, Merge, Look}
 use Rattle.command.specs.declared.request.Command.TheVariants.{Access}
 use Rattle.command.specs.declared.request.Reply.TheVariants.{Answered}
 use Rattle.shared_engine.specs.Blocks.{said}
 use Rattle.job_server.specs.Telling.{Follows}
-use Rattle.job_server.proofs.Answering.{read_told}
+use Rattle.job_server.proofs.Answering.{written_told, read_told}
 use Rattle.job_server.proofs.job_run.Calls.access_inside.Goals as goal
+
+pub returns-in-Set : goal.returns-in-Set
+returns-in-Set g c =
+    subst (λ (d : DataCommand). Follows (Access d) (said Answered c.written.result) c.args.session.now c.set.new.self) (sym c.in-Set.is)
+    (written_told (Set c.in-Set.key c.in-Set.value) c.set.result c.written.result c.args.session.now c.set.new.self c.requires c.set.ensures.written c.set.ensures.same c.set.ensures.refused c.set.ensures.cause c.written.ensures)
+
+pub returns-in-Kill : goal.returns-in-Kill
+returns-in-Kill g c =
+    subst (λ (d : DataCommand). Follows (Access d) (said Answered c.written-in-Kill.result) c.args.session.now c.kill.new.self) (sym c.in-Kill.is)
+    (written_told (Kill c.in-Kill.key) c.kill.result c.written-in-Kill.result c.args.session.now c.kill.new.self c.requires c.kill.ensures.written c.kill.ensures.same c.kill.ensures.refused c.kill.ensures.cause c.written-in-Kill.ensures)
 
 pub returns-in-Merge : goal.returns-in-Merge
 returns-in-Merge g c =
