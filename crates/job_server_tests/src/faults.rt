@@ -85,7 +85,7 @@ fn run<R: Threads + Wait + Sync>(
         fails_at: write,
         calls: 0,
     });
-    let outcome = run_jobs(rt, alloc, &mut reader, &mut writer, 2, &Yielding);
+    let outcome = run_jobs(rt, alloc, b"", &mut reader, &mut writer, 2, &Yielding);
     Ok(Went {
         outcome,
         text: Vec::from_slice(alloc, &writer.inner().text)?,
@@ -193,7 +193,7 @@ fn answered<R: Threads + Wait + Sync>(
 ) -> Result<usize, Fail> {
     let mut reader = Counted::new(script);
     let mut writer = Counted::new(Vec::new(alloc));
-    run_jobs(rt, alloc, &mut reader, &mut writer, workers, &Yielding)?;
+    run_jobs(rt, alloc, b"", &mut reader, &mut writer, workers, &Yielding)?;
     Ok(writer.inner().iter().filter(|byte| **byte == b'\n').count())
 }
 

@@ -8,6 +8,7 @@ use job_server::{Served, serve};
 use journal::{Exchange, Journal, Unit};
 use key_codec::Key;
 use listing::{Counted, ListingFault, write_listing};
+use loading::NoLog;
 use std::alloc::{AllocError, Global};
 use std::collections::BTreeMap;
 use std::sync::Wait;
@@ -135,7 +136,8 @@ fn held_by(alloc: Global, journal: &Journal, map: &mut Plain) -> Result<Held, Al
 
 fn served<R: Threads + Wait + Sync>(rt: &R, alloc: Global) -> Result<Served, Fail> {
     let scripts = scripts_of(alloc, &script(alloc)?)?;
-    let served = serve(rt, alloc, scripts, JOBS as usize, &Yielding)?;
+    let workers = JOBS as usize;
+    let served = serve(rt, alloc, b"", &mut NoLog, scripts, workers, &Yielding)?;
     Ok(served)
 }
 

@@ -5,6 +5,7 @@ use job_scripts::scripts_of;
 use job_server::{run_jobs, serve};
 use journal::{Journal, Unit};
 use listing::Counted;
+use loading::NoLog;
 use shared_engine::Gate;
 use std::alloc::{AllocError, Global};
 use std::rt::Clock;
@@ -101,7 +102,7 @@ fn met<P: Clock + Threads + Wait + Sync>(
     };
     let mut reader = Counted::new(input);
     let mut writer = Counted::new(Vec::new(alloc));
-    run_jobs(rt, alloc, &mut reader, &mut writer, 2, &gate)?;
+    run_jobs(rt, alloc, b"", &mut reader, &mut writer, 2, &gate)?;
     let text = Vec::from_slice(alloc, writer.inner())?;
     Ok((text, counts.late(), counts.seconds()))
 }
@@ -179,7 +180,7 @@ fn handed_over<P: Clock + Threads + Wait + Sync>(rt: &P, alloc: Global) -> Resul
         plan: Plan::Handover,
     };
     let scripts = scripts_of(alloc, b"1 LOCK +^A\n2 LOCK +^A\n1 LOCK -^A\n")?;
-    let served = serve(rt, alloc, scripts, 2, &gate)?;
+    let served = serve(rt, alloc, b"", &mut NoLog, scripts, 2, &gate)?;
     let told = locks_told(alloc, served.closed.core.journal());
     drop(served);
     Ok(told?)

@@ -24,7 +24,7 @@ fn output_of<R: Threads + Wait + Sync>(
 ) -> Result<(Vec<u8>, bool), Fail> {
     let mut reader = Counted::new(input);
     let mut writer = Counted::new(Vec::new(alloc));
-    let refused = run_jobs(rt, alloc, &mut reader, &mut writer, workers, &Yielding)?;
+    let refused = run_jobs(rt, alloc, b"", &mut reader, &mut writer, workers, &Yielding)?;
     let text = Vec::from_slice(alloc, writer.inner())?;
     Ok((text, refused))
 }

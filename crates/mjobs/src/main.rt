@@ -1,7 +1,7 @@
 //! `mjobs`: runs the jobs of a script at the same time, from a file or standard input.
 //!
-//! It reads all input, and prints the replies by job, in order of the jobs' first lines, then `--` and the listing of the
-//! database. What is served is what `job_server::serve_text` promises, what is printed of it what `write_served` does, and
+//! It reads a listing, where one is asked for, and all input, and prints the replies by job, in order of the jobs' first
+//! lines, then `--` and the listing of the database. What is served is what `job_server::serve_text` promises, what is printed of it what `write_served` does, and
 //! what is written of its journal what `journal_lines::write_journal` does: so one journal is listed and written. The exit
 //! status is `job_server::status_of` of the outcome and the text of a fault is `job_server::JobsFault::text`; what its words
 //! ask for is `program_front::mjobs_args_of`. This file only opens files, lets time pass for LOCKs that wait, and prints
@@ -13,11 +13,12 @@
 use bstr::ByteSlice;
 use collation::Job;
 use job_server::{JobsFault, Served, serve_text, status_of, write_served};
-use journal_lines::{JournalFault, write_journal};
+use journal_lines::write_journal;
 use listing::{Counted, read_all};
 use program_front::{
-    MjobsArgs, Piped, Progress, arguments_of, create_named, mjobs_args_of, path_of, print_bad_name,
-    print_fault, print_help_or_error, print_refused, print_unopened, print_unwritten,
+    ListingFile, MjobsArgs, Piped, Progress, Ticker, arguments_of, create_named, mjobs_args_of,
+    path_of, print_bad_name, print_fault, print_help_or_error, print_journal_fault,
+    print_load_fault, print_refused, print_unopened, read_listing,
 };
 use script::{Drafts, read_line};
 use shared_engine::Gate;
@@ -45,7 +46,7 @@ fn tell_progress(
         progress.clear(rt);
     } else if let Some(seconds) = progress.due(rt) {
         let pace = lines.checked_div(seconds).unwrap_or(lines);
-        let _ = eprint!(rt; "\r{PROGRAM}: {done} of {jobs} jobs, {pace} lines a second  ");
+        let _ = eprint!(rt; "\r\x1b[K{PROGRAM}: {done} of {jobs} jobs, {pace} lines a second");
     }
 }
 
@@ -101,10 +102,11 @@ fn print_all_refused(rt: &(impl Eprint + AllocGlobal), text: &[u8]) {
     }
 }
 
-// Reads all input, and serves its jobs.
+// Reads all input, and serves its jobs on the listing.
 fn serve_from<P: Eprint + AllocGlobal + Clock + Threads + Wait + Sync, R: Read + Drop>(
     rt: &P,
     args: MjobsArgs,
+    file: &ListingFile<'_>,
     tells: bool,
     input: R,
 ) -> Result<Served, JobsFault> {
@@ -112,14 +114,27 @@ fn serve_from<P: Eprint + AllocGlobal + Clock + Threads + Wait + Sync, R: Read +
     if args.errors {
         print_all_refused(rt, &text);
     }
+    let mut ticker = Ticker::new(rt, PROGRAM, file.name, tells);
     let progress = if tells { Progress::new(rt) } else { None };
-    serve_text(
+    let served = serve_text(
         rt,
         rt.alloc(),
+        &file.text,
+        &mut ticker,
         text,
         args.workers as usize,
         &Patience { rt, progress },
-    )
+    );
+    ticker.clear();
+    served
+}
+
+// Prints why jobs weren't served, and answers the exit status.
+fn print_unserved(rt: &impl Eprint, name: &str, fault: JobsFault) -> u8 {
+    match fault {
+        JobsFault::Load(fault) => print_load_fault(rt, PROGRAM, name, fault),
+        _ => print_fault(rt, PROGRAM, fault.text()),
+    }
 }
 
 // Prints a fault, unless it is that nobody reads the output.
@@ -130,16 +145,6 @@ fn tell_fault(rt: &impl Eprint, fault: JobsFault, is_closed: bool) {
             let _status = print_fault(rt, PROGRAM, fault.text());
         }
     }
-}
-
-// Prints why the journal wasn't written whole, and answers the exit status.
-fn print_journal_fault(rt: &impl Eprint, fault: JournalFault) -> u8 {
-    let why = match fault {
-        JournalFault::Write => "a write failed",
-        JournalFault::Memory => JobsFault::Memory.text(),
-        JournalFault::LetGo => "its beginning was dropped",
-    };
-    print_unwritten(rt, PROGRAM, why)
 }
 
 // Writes the journal, where a file is there for it, and answers the exit status; this one, where nothing fails.
@@ -154,7 +159,7 @@ fn write_kept<F: Write + Drop>(
     };
     match write_journal(rt.alloc(), served.journal(), &mut Counted::new(file)) {
         Ok(()) => status,
-        Err(fault) => print_journal_fault(rt, fault),
+        Err(fault) => print_journal_fault(rt, PROGRAM, fault),
     }
 }
 
@@ -180,14 +185,41 @@ fn write_and_tell<P: Print + Eprint + AllocGlobal, F: Write + Drop>(
 fn run_and_tell<
     P: Files + Print + Eprint + AllocGlobal + Clock + Threads + Wait + Sync,
     R: Read + Drop,
->(rt: &P, arguments: &[Vec<u8>], args: MjobsArgs, tells: bool, input: R) -> u8 {
+>(
+    rt: &P,
+    arguments: &[Vec<u8>],
+    args: MjobsArgs,
+    file: &ListingFile<'_>,
+    tells: bool,
+    input: R,
+) -> u8 {
     let journal = match create_named(rt, PROGRAM, arguments, args.journal) {
         Ok(journal) => journal,
         Err(status) => return status,
     };
-    match serve_from(rt, args, tells, input) {
+    match serve_from(rt, args, file, tells, input) {
         Ok(served) => write_and_tell(rt, args, &served, journal),
-        Err(fault) => print_fault(rt, PROGRAM, fault.text()),
+        Err(fault) => print_unserved(rt, file.name, fault),
+    }
+}
+
+// Runs the script on the listing.
+fn run_on<P: Files + Print + Eprint + Input + AllocGlobal + Clock + Threads + Wait + Sync>(
+    rt: &P,
+    arguments: &[Vec<u8>],
+    args: MjobsArgs,
+    file: &ListingFile<'_>,
+    tells: bool,
+) -> u8 {
+    let Some(name) = args.file.and_then(|place| arguments.get(place)) else {
+        return run_and_tell(rt, arguments, args, file, tells, rt.reader());
+    };
+    let Some(path) = path_of(name) else {
+        return print_bad_name(rt, PROGRAM);
+    };
+    match fs::open(rt, path) {
+        Ok(script) => run_and_tell(rt, arguments, args, file, tells, script),
+        Err(why) => print_unopened(rt, PROGRAM, path, why),
     }
 }
 
@@ -198,15 +230,9 @@ fn run_with_arguments<
         Ok(args) => args,
         Err(error) => return print_help_or_error(rt, PROGRAM, error),
     };
-    let Some(name) = args.file.and_then(|place| arguments.get(place)) else {
-        return run_and_tell(rt, arguments, args, tells, rt.reader());
-    };
-    let Some(path) = path_of(name) else {
-        return print_bad_name(rt, PROGRAM);
-    };
-    match fs::open(rt, path) {
-        Ok(file) => run_and_tell(rt, arguments, args, tells, file),
-        Err(why) => print_unopened(rt, PROGRAM, path, why),
+    match read_listing(rt, PROGRAM, arguments, args.load) {
+        Ok(file) => run_on(rt, arguments, args, &file, tells),
+        Err(status) => status,
     }
 }
 

@@ -15,13 +15,12 @@ ghost use Rattle.std.specs.FinMap as finmap;
 ghost use Rattle.journal.specs.History.{initial, IsLegal};
 
 use job_core::JobCore;
-use journal_lines::JournalFault;
-use listing::{Counted, InputFault, read_all};
-use loading::{LoadFault, load_with};
+use listing::Counted;
+use loading::load_with;
 use program_front::{
-    MrunArgs, NamePlace, Piped, arguments_of, create_named, mrun_args_of, path_of, print_bad_name,
-    print_fault, print_faulty_line, print_help_or_error, print_unloaded, print_unopened,
-    print_unwritten, print_wanting,
+    ListingFile, MrunArgs, NamePlace, Piped, Ticker, arguments_of, create_named, mrun_args_of,
+    path_of, print_bad_name, print_fault, print_help_or_error, print_journal_fault,
+    print_load_fault, print_unopened, print_wanting, read_listing,
 };
 use script_run::{Fault, Outcome, Upkeep, run_with_core, status_of};
 use side_log::{SideLog, Source, Telling};
@@ -30,12 +29,10 @@ use std::io::{IsTerminal, Read, Write};
 use std::process::ExitCode;
 use std::rt::{Clock, Files};
 use std::{fs, io};
-use ticker::Ticker;
 
 mod look;
 mod side_log;
 mod statistics;
-mod ticker;
 
 // The program's name, before what it prints on standard error.
 const PROGRAM: &str = "mrun";
@@ -52,78 +49,25 @@ struct Terminals {
     scripts: bool,
 }
 
-// Prints why the journal wasn't written whole, and answers the exit status.
-fn print_journal_fault(rt: &impl Eprint, fault: JournalFault) -> u8 {
-    let why = match fault {
-        JournalFault::Write => "a write failed",
-        JournalFault::Memory => Fault::Memory.text(),
-        JournalFault::LetGo => "its beginning was dropped",
-    };
-    print_unwritten(rt, PROGRAM, why)
-}
-
-// Prints why a listing isn't loaded, and answers the exit status.
-fn print_load_fault(rt: &impl Eprint, name: &str, fault: LoadFault) -> u8 {
-    match fault {
-        LoadFault::Line(line) => print_faulty_line(
-            rt,
-            PROGRAM,
-            name,
-            line.number,
-            line.column,
-            line.refusal,
-            line.expected.text(),
-        ),
-        LoadFault::Memory => print_unloaded(rt, PROGRAM, name, Fault::Memory.text()),
-    }
-}
-
 // The core of a listing, or the exit status where there is none.
-fn load_from<R: Read + Drop>(
+fn load_from(
     rt: &(impl Eprint + AllocGlobal + Clock),
-    name: &str,
+    file: &ListingFile<'_>,
     tells: bool,
-    input: R,
 ) -> Result<JobCore, u8>
     ensures legal { IfOk result (λ core. IsLegal core.machine.units initial) }
     ensures closed { IfOk result (λ core. core.machine.transactions ≡ finmap.empty) }
 {
-    let text = match read_all(rt.alloc(), &mut Counted::new(input)) {
-        Ok(text) => text,
-        Err(InputFault::Read) => return Err(print_unloaded(rt, PROGRAM, name, Fault::Read.text())),
-        Err(InputFault::Memory) => {
-            return Err(print_unloaded(rt, PROGRAM, name, Fault::Memory.text()));
-        }
-    };
-    let mut ticker = Ticker::new(rt, name, tells);
-    let loaded = load_with(rt.alloc(), &text, &mut ticker);
+    let mut ticker = Ticker::new(rt, PROGRAM, file.name, tells);
+    let loaded = load_with(rt.alloc(), &file.text, &mut ticker);
     ticker.clear();
     match loaded {
         Ok(core) => Ok(core),
-        Err(fault) => Err(print_load_fault(rt, name, fault)),
+        Err(fault) => Err(print_load_fault(rt, PROGRAM, file.name, fault)),
     }
 }
 
-// The core of the listing whose name stands there.
-fn load_named(
-    rt: &(impl Files + Eprint + AllocGlobal + Clock),
-    arguments: &[Vec<u8>],
-    place: NamePlace,
-    tells: bool,
-) -> Result<JobCore, u8>
-    ensures legal { IfOk result (λ core. IsLegal core.machine.units initial) }
-    ensures closed { IfOk result (λ core. core.machine.transactions ≡ finmap.empty) }
-{
-    let Some(path) = place.name_in(arguments).and_then(path_of) else {
-        return Err(print_bad_name(rt, PROGRAM));
-    };
-    match fs::open(rt, path) {
-        Ok(file) => load_from(rt, path, tells, file),
-        Err(why) => Err(print_unopened(rt, PROGRAM, path, why)),
-    }
-}
-
-// A new core, or that of the listing that is asked for.
+// The core of the listing that is asked for; a new one where none is.
 fn first_core(
     rt: &(impl Files + Eprint + AllocGlobal + Clock),
     arguments: &[Vec<u8>],
@@ -133,9 +77,9 @@ fn first_core(
     ensures legal { IfOk result (λ core. IsLegal core.machine.units initial) }
     ensures closed { IfOk result (λ core. core.machine.transactions ≡ finmap.empty) }
 {
-    match load {
-        Some(place) => load_named(rt, arguments, place, tells),
-        None => Ok(JobCore::new(rt.alloc())),
+    match read_listing(rt, PROGRAM, arguments, load) {
+        Ok(file) => load_from(rt, &file, tells),
+        Err(status) => Err(status),
     }
 }
 
@@ -187,7 +131,7 @@ fn run_from<R: Read + Drop, F: Write + Drop>(
     );
     tell_outcome(rt, log.telling(), outcome, writer.inner().is_closed());
     match log.unwritten() {
-        Some(fault) => print_journal_fault(rt, fault),
+        Some(fault) => print_journal_fault(rt, PROGRAM, fault),
         None => status_of(&outcome),
     }
 }

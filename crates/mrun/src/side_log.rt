@@ -2,11 +2,10 @@
 use crate::PROGRAM;
 use crate::look::print_look;
 use crate::statistics::{Statistics, print_statistics};
-use crate::ticker::Ticker;
 use job_core::JobCore;
 use journal_lines::{JournalFault, write_journal};
 use listing::Counted;
-use program_front::{MrunArgs, print_greeting, print_mark, print_refused};
+use program_front::{MrunArgs, Ticker, print_greeting, print_mark, print_refused};
 use refusal::Refusal;
 use script_run::RunLog;
 use std::io::Write;
@@ -81,7 +80,7 @@ impl<'a, P: Eprint + AllocGlobal + Clock, F: Write + Drop> SideLog<'a, P, F> {
             telling: greeted(rt, args, source.typed),
             typed: source.typed,
             last: Vec::new(rt.alloc()),
-            ticker: Ticker::new(rt, source.name, source.tells),
+            ticker: Ticker::new(rt, PROGRAM, source.name, source.tells),
             statistics: args.statistics,
             journal: counted(journal),
             unwritten: None,

@@ -1,7 +1,7 @@
 //! The words of `mjobs`.
 use crate::words::{
     NamePlace, READ, VERSION, errors_word, file_of, file_place, file_word, is_read, journal_of,
-    journal_word, no_listing_word, texts_of,
+    journal_word, load_of, load_word, no_listing_word, texts_of,
 };
 use clap::builder::ValueParser;
 use clap::error::ErrorKind;
@@ -28,20 +28,25 @@ Printed are the replies by job, in order of the jobs' first lines, then `--` and
 What stands in it where jobs meet depends on which was first.
 
   mjobs --workers 4 orders.txt
+  mjobs --load stock.txt orders.txt
   generate | mjobs --no-listing
 
+--load FILE starts from a listing instead of an empty database: lines ^Stock(\"apples\")=3, as they are printed or as other
+M systems write them in ZWR form. They are read before the first job; where one can't be read nothing runs.
 --errors tells a line's number, the column of its fault, the refusal and what was expected there, where it wasn't read.
 --journal FILE keeps what was done, in the order in which it was: after mjobs --journal done.txt orders.txt,
 mrun done.txt leaves the same listing.
 
 Exit status: 0, all replies are accepted; 1, a reply is an `error`; 2, input can't be read, output or the journal
-can't be written, memory ran out, a report is missing, or the words above are wrong.";
+can't be written, memory ran out, a listing can't be loaded, a report is missing, or the words above are wrong.";
 
 /// What the arguments of `mjobs` ask for.
 #[derive(Clone, Copy, Debug, PartialEq, Eq)]
 pub struct MjobsArgs {
     /// Which of the arguments is the file, or none for standard input.
     pub file: Option<usize>,
+    /// Where the name of the listing stands that is loaded first, or none.
+    pub load: Option<NamePlace>,
     /// Where the name of the file stands that the journal is written to, or none.
     pub journal: Option<NamePlace>,
     /// Whether `--` and the listing are printed.
@@ -67,6 +72,7 @@ fn command<'a>(alloc: Global) -> Result<Command<'a>, Error> {
         )
         .after_help(LINES)
         .arg(file_word(alloc))?
+        .arg(load_word(alloc))?
         .arg(journal_word(alloc))?
         .arg(no_listing_word(alloc))?
         .arg(errors_word(alloc))?
@@ -80,10 +86,12 @@ fn conflict(alloc: Global, why: &str) -> Result<Error, Error> {
     Ok(error)
 }
 
-// Whether the journal would be written to the file that is read.
+// Whether the journal would be written to a file that is read.
 fn is_journal_read(arguments: &[Vec<u8>], args: MjobsArgs) -> bool {
     match args.journal.and_then(|place| place.name_in(arguments)) {
-        Some(name) => is_read(arguments, file_place(args.file), name),
+        Some(name) => {
+            is_read(arguments, file_place(args.file), name) || is_read(arguments, args.load, name)
+        }
         None => false,
     }
 }
@@ -95,6 +103,7 @@ pub fn mjobs_args_of(alloc: Global, arguments: &[Vec<u8>]) -> Result<MjobsArgs, 
     let matches = command(alloc)?.try_get_matches_from(&texts)?;
     let args = MjobsArgs {
         file: file_of(&matches, &texts),
+        load: load_of(&matches, &texts),
         journal: journal_of(&matches, &texts),
         listed: !matches.get_flag("no-listing"),
         errors: matches.get_flag("errors"),

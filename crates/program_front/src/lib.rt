@@ -8,26 +8,30 @@
 //! No contract says what the arguments ask for: tests run the parser on them. One says that each print of what went
 //! wrong answers the exit status of a fault, and some say what a `Piped` holds and when it is closed.
 //!
-//! Read `run_words.rt`, `jobs_words.rt`, `words.rt`, then `piped.rt`, `progress.rt`, `printing.rt`,
-//! `journal_file.rt`.
+//! Read `run_words.rt`, `jobs_words.rt`, `words.rt`, then `piped.rt`, `progress.rt`, `ticker.rt`, `printing.rt`,
+//! `listing_file.rt`, `journal_file.rt`.
 #![tactic(auto)]
 
 pub use jobs_words::{MjobsArgs, mjobs_args_of};
 pub use journal_file::create_named;
+pub use listing_file::{ListingFile, read_listing};
 pub use piped::Piped;
 pub use printing::{
-    FAULT_STATUS, arguments_of, path_of, print_bad_name, print_fault, print_faulty_line,
-    print_greeting, print_help_or_error, print_mark, print_refused, print_uncreated,
-    print_unloaded, print_unopened, print_unwritten, print_wanting, room_before,
+    FAULT_STATUS, arguments_of, path_of, print_bad_name, print_fault, print_greeting,
+    print_help_or_error, print_journal_fault, print_load_fault, print_mark, print_refused,
+    print_uncreated, print_unloaded, print_unopened, print_unwritten, print_wanting, room_before,
 };
 pub use progress::Progress;
 pub use run_words::{MrunArgs, mrun_args_of};
+pub use ticker::Ticker;
 pub use words::NamePlace;
 
 mod jobs_words;
 mod journal_file;
+mod listing_file;
 mod piped;
 mod printing;
 mod progress;
 mod run_words;
+mod ticker;
 mod words;

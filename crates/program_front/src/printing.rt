@@ -2,6 +2,8 @@
 ghost use Rattle.std.specs.Prelude.{◌≡◌};
 
 use clap::error::ErrorKind;
+use journal_lines::JournalFault;
+use loading::{FaultyLine, LoadFault};
 use refusal::Refusal;
 use script::locate_fault;
 use std::alloc::{AllocError, Global};
@@ -11,6 +13,9 @@ use std::rt::Env;
 
 /// The exit status after a fault, or where the words are wrong.
 pub const FAULT_STATUS: u8 = 2;
+
+/// What is printed where memory ran out.
+pub(crate) const NO_MEMORY: &str = "out of memory";
 
 // Argument `i` of the command line, or none after the last.
 fn argument_at(rt: &(impl Env + AllocGlobal), i: usize) -> Result<Option<Vec<u8>>, AllocError> {
@@ -136,7 +141,19 @@ pub fn print_unwritten(rt: &impl Eprint, program: &str, why: &str) -> u8
     FAULT_STATUS
 }
 
-/// Prints why a listing isn't loaded, and answers the exit status.
+/// Prints why the journal wasn't written whole, and answers the exit status.
+pub fn print_journal_fault(rt: &impl Eprint, program: &str, fault: JournalFault) -> u8
+    ensures { result ≡ FAULT_STATUS }
+{
+    let why = match fault {
+        JournalFault::Write => "a write failed",
+        JournalFault::Memory => NO_MEMORY,
+        JournalFault::LetGo => "its beginning was dropped",
+    };
+    print_unwritten(rt, program, why)
+}
+
+/// Prints why a listing can't be read, and answers the exit status.
 pub fn print_unloaded(rt: &impl Eprint, program: &str, name: &str, fault: &str) -> u8
     ensures { result ≡ FAULT_STATUS }
 {
@@ -144,23 +161,32 @@ pub fn print_unloaded(rt: &impl Eprint, program: &str, name: &str, fault: &str) 
     FAULT_STATUS
 }
 
-/// Prints the number of a listing's line that sets nothing, the column of its fault, the refusal and what was expected
-/// there, and answers the exit status.
-pub fn print_faulty_line(
-    rt: &impl Eprint,
-    program: &str,
-    name: &str,
-    number: u64,
-    column: usize,
-    refusal: Refusal,
-    expected: &str,
-) -> u8
+// Prints the number of a listing's line that sets nothing, the column of its fault, the refusal and what was expected
+// there, and answers the exit status.
+fn print_faulty_line(rt: &impl Eprint, program: &str, name: &str, line: FaultyLine) -> u8
     ensures { result ≡ FAULT_STATUS }
 {
+    let FaultyLine {
+        number,
+        column,
+        refusal,
+        expected,
+    } = line;
+    let expected = expected.text();
     let _ = eprintln!(rt;
         "{program}: {name}: line {number}, column {column}: error {refusal}: expected {expected}"
     );
     FAULT_STATUS
+}
+
+/// Prints why a listing isn't loaded, and answers the exit status.
+pub fn print_load_fault(rt: &impl Eprint, program: &str, name: &str, fault: LoadFault) -> u8
+    ensures { result ≡ FAULT_STATUS }
+{
+    match fault {
+        LoadFault::Line(line) => print_faulty_line(rt, program, name, line),
+        LoadFault::Memory => print_unloaded(rt, program, name, NO_MEMORY),
+    }
 }
 
 /// Prints that a file's name isn't UTF-8, which std's paths are, and answers the exit status.
@@ -175,7 +201,7 @@ pub fn print_bad_name(rt: &impl Eprint, program: &str) -> u8
 /// says so.
 pub fn print_help_or_error(rt: &(impl Print + Eprint), program: &str, error: clap::Error) -> u8 {
     if error.kind() == ErrorKind::OutOfMemory {
-        return print_fault(rt, program, "out of memory");
+        return print_fault(rt, program, NO_MEMORY);
     }
     match error.print(rt) {
         Ok(()) => {}

@@ -11,6 +11,7 @@ use job_server::{Served, serve};
 use journal_lines::{JournalFault, write_journal};
 use lines::{Names, Size, push_script};
 use listing::{Counted, ListingFault, write_listing};
+use loading::NoLog;
 use plain::Plain;
 use script_run::{Fault, Upkeep, run_script};
 use shared_engine::Gate;
@@ -114,7 +115,8 @@ fn served<R: Threads + Wait + Sync>(
 ) -> Result<Served, Outcome> {
     let scripts = scripts_of(alloc, text)?;
     let workers = size.jobs as usize;
-    match serve(rt, alloc, scripts, workers, &Yielding { watches }) {
+    let gate = Yielding { watches };
+    match serve(rt, alloc, b"", &mut NoLog, scripts, workers, &gate) {
         Ok(served) => Ok(served),
         Err(_) => Err(Outcome::NoMemory),
     }

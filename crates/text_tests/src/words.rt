@@ -278,6 +278,7 @@ fn asked_of_jobs(alloc: Global, words: &[&[u8]]) -> Result<Result<MjobsArgs, Err
 
 const PLAIN_JOBS: MjobsArgs = MjobsArgs {
     file: None,
+    load: None,
     journal: None,
     listed: true,
     errors: false,
@@ -328,6 +329,31 @@ const JOBS: [JobsRow; 5] = [
 #[test]
 fn words_ask_for_jobs(rt: HostRuntime) -> Result<(), Fail> {
     assert_eq!(rt; first_other_of_jobs(rt.alloc(), &JOBS)?, None);
+    Ok(())
+}
+
+const LISTINGS_OF_JOBS: [JobsRow; 3] = [
+    (
+        &[b"--load=\xffb.txt", b"a.txt"],
+        Ok(MjobsArgs {
+            file: Some(2),
+            load: Some(NamePlace {
+                argument: 1,
+                from: 7,
+            }),
+            ..PLAIN_JOBS
+        }),
+    ),
+    (
+        &[b"--journal=a.txt", b"--load", b"a.txt"],
+        Err(ErrorKind::ArgumentConflict),
+    ),
+    (&[b"--stats"], Err(ErrorKind::UnknownArgument)),
+];
+
+#[test]
+fn words_ask_for_a_listing_of_jobs(rt: HostRuntime) -> Result<(), Fail> {
+    assert_eq!(rt; first_other_of_jobs(rt.alloc(), &LISTINGS_OF_JOBS)?, None);
     Ok(())
 }
 

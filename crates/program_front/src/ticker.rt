@@ -1,7 +1,6 @@
-//! How far a load or a script is.
-use crate::PROGRAM;
+//! How far a load or a script is, told line by line.
+use crate::Progress;
 use loading::LoadLog;
-use program_front::Progress;
 use std::rt::Clock;
 
 // How many lines are done between two looks at the clock.
@@ -10,6 +9,7 @@ const LINES_A_LOOK: u64 = 1024;
 /// Tells how far something is, where that is to be told.
 pub struct Ticker<'a, P> {
     rt: &'a P,
+    program: &'a str,
     name: &'a str,
     progress: Option<Progress>,
 }
@@ -18,6 +18,7 @@ impl<'a, P> Drop for Ticker<'a, P> {
     fn drop(self) {
         let Ticker {
             rt: _,
+            program: _,
             name: _,
             progress: _,
         } = self;
@@ -26,16 +27,21 @@ impl<'a, P> Drop for Ticker<'a, P> {
 
 impl<'a, P: Clock + Eprint> Ticker<'a, P> {
     /// From now on.
-    pub fn new(rt: &'a P, name: &'a str, tells: bool) -> Ticker<'a, P> {
+    pub fn new(rt: &'a P, program: &'a str, name: &'a str, tells: bool) -> Ticker<'a, P> {
         let progress = if tells { Progress::new(rt) } else { None };
-        Ticker { rt, name, progress }
+        Ticker {
+            rt,
+            program,
+            name,
+            progress,
+        }
     }
 
     /// After this line.
     pub fn tick(&self, number: u64) {
         if let Some(progress) = &self.progress {
             if number % LINES_A_LOOK == 0 {
-                progress.tell_lines(self.rt, PROGRAM, self.name, number);
+                progress.tell_lines(self.rt, self.program, self.name, number);
             }
         }
     }
