@@ -1,11 +1,11 @@
 //! `mjobs`: runs the jobs of a script at the same time, from a file or standard input.
 //!
 //! It reads a listing, where one is asked for, and all input, and prints the replies by job, in order of the jobs' first
-//! lines, then `--` and the listing of the database. What is served is what `job_server::serve_text` promises, what is printed of it what `write_served` does, and
-//! what is written of its journal what `journal_lines::write_journal` does: so one journal is listed and written. The exit
-//! status is `job_server::status_of` of the outcome and the text of a fault is `job_server::JobsFault::text`; what its words
-//! ask for is `program_front::mjobs_args_of`. This file only opens files, lets time pass for LOCKs that wait, and prints
-//! what went wrong:
+//! lines, then `--` and the listing of the database. What is served is what `job_server::serve_text` promises, what is
+//! printed of it what `write_served` does, and what is written of its journal what `journal_lines::write_journal` does: so
+//! one journal is listed and written. The exit status is `job_server::status_of` of the outcome and the text of a fault is
+//! `job_server::JobsFault::text`; what its words ask for is `program_front::mjobs_args_of`. This file only opens files, looks
+//! for a listing's fault before a journal is written over, lets time pass for LOCKs that wait, and prints what went wrong:
 //!
 //! 0, all replies are accepted; 1, a reply is an `error`; 2, a fault, or wrong arguments; standard error says which.
 #![tactic(auto)]
@@ -15,6 +15,7 @@ use collation::Job;
 use job_server::{JobsFault, Served, serve_text, status_of, write_served};
 use journal_lines::write_journal;
 use listing::{Counted, read_all};
+use loading::{LoadFault, SettingReader};
 use program_front::{
     ListingFile, MjobsArgs, Piped, Progress, Ticker, arguments_of, create_named, mjobs_args_of,
     path_of, print_bad_name, print_fault, print_help_or_error, print_journal_fault,
@@ -22,7 +23,7 @@ use program_front::{
 };
 use script::{Drafts, read_line};
 use shared_engine::Gate;
-use std::alloc::AllocError;
+use std::alloc::{AllocError, Global};
 use std::io::{IsTerminal, Read, Write};
 use std::process::ExitCode;
 use std::rt::{Clock, Files};
@@ -181,7 +182,32 @@ fn write_and_tell<P: Print + Eprint + AllocGlobal, F: Write + Drop>(
     write_kept(rt, served, journal, status_of(&outcome))
 }
 
-// Runs the script, once the journal's file is there, if one is asked for, and answers the exit status.
+// Whether there is a setting more.
+fn has_setting(settings: &mut SettingReader<'_>) -> Result<bool, LoadFault> {
+    match settings.next() {
+        Ok(Some((key, value))) => {
+            drop(key);
+            drop(value);
+            Ok(true)
+        }
+        Ok(None) => Ok(false),
+        Err(fault) => Err(fault),
+    }
+}
+
+// Looks for a fault of a listing. It has no more settings than bytes.
+fn check_listing(alloc: Global, listing: &[u8]) -> Result<(), LoadFault> {
+    let mut settings = SettingReader::new(alloc, listing);
+    for _ in 0..listing.len() {
+        if !has_setting(&mut settings)? {
+            return Ok(());
+        }
+    }
+    Ok(())
+}
+
+// Runs the script, once the journal's file is there, if one is asked for, and answers the exit status. That file isn't
+// written over where the listing has a fault.
 fn run_and_tell<
     P: Files + Print + Eprint + AllocGlobal + Clock + Threads + Wait + Sync,
     R: Read + Drop,
@@ -193,6 +219,11 @@ fn run_and_tell<
     tells: bool,
     input: R,
 ) -> u8 {
+    if args.journal.is_some() {
+        if let Err(fault) = check_listing(rt.alloc(), &file.text) {
+            return print_load_fault(rt, PROGRAM, file.name, fault);
+        }
+    }
     let journal = match create_named(rt, PROGRAM, arguments, args.journal) {
         Ok(journal) => journal,
         Err(status) => return status,
