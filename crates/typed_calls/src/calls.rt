@@ -113,7 +113,7 @@ pub fn get(
 /// and tells how many they are. `start` need not be there; an empty one asks for the first, backward for the last.
 ///
 /// Outcomes: those of `run_command` and `copy_value`; before the step `TooManySubscripts` below a key with 31,
-/// `SubscriptTooLong` where `start` has over 127 bytes, and `OutOfMemory`. After `BufferTooShort` the subscript is
+/// `SubscriptTooLong` where `start` has over 255 bytes, and `OutOfMemory`. After `BufferTooShort` the subscript is
 /// kept, and `copy_value` copies it.
 pub fn order(
     engine: &mut Embedded,

@@ -80,7 +80,7 @@ fn open_below(key: &Key) -> Result<Place, Refusal>
 
 // The place one level below a key, at this subscript; it is open where that is empty.
 //
-// Refusals, in this order: `TooManySubscripts` over 31, an empty one among them; `SubscriptTooLong` over 127 bytes;
+// Refusals, in this order: `TooManySubscripts` over 31, an empty one among them; `SubscriptTooLong` over 255 bytes;
 // `OutOfMemory`.
 #[tactic(auto, using(crate::proofs::Below::open_place, crate::proofs::Below::closed_place, crate::proofs::Below::closed_due))]
 pub(crate) fn place_below(alloc: Global, key: &Key, subscript: &[u8]) -> Result<Place, Refusal>
