@@ -1,5 +1,5 @@
 //! Look-ups by a point, and the ends of a node: each reads a node a level, or two where the first leaf has no answer.
-ghost use Rattle.std.specs.Prelude.{◌≡◌, ◌+◌, ◌*◌, ◌^◌, ◌<◌, ◌≤◌, None};
+ghost use Rattle.std.specs.Prelude.{◌≡◌, ◌+◌, ◌*◌, ◌^◌, ◌<◌, ◌≤◌, None, IfSome};
 ghost use Rattle.std.specs.Option.{option_map};
 ghost use Rattle.std.specs.List.{slice_get};
 ghost use Rattle.btree.specs.Order.{Ascends, first_from, last_before, last_of};
@@ -32,6 +32,18 @@ impl<K: Ord, V> Node<K, V> {
         match kids.get(separators.len()) {
             None => entry_before(entries, entries.len()),
             Some(kid) => kid.last(visits),
+        }
+    }
+
+    /// Whether the last pair stands before a point; `true` also where there are no pairs.
+    pub fn ends_before<P: Point<K>>(&self, point: &P) -> bool
+        requires low { self.now.height < 2 ^ 63 }
+        ensures last { IfSome (last_of self.now.pairs) (λ e. P.before point.now e.0 ≡ result) }
+    {
+        let mut visits = 0;
+        match self.last(&mut visits) {
+            None => true,
+            Some((key, _)) => point.is_after(key),
         }
     }
 

@@ -28,6 +28,9 @@
 //! after it (`ease.rt`), and the last or first kid as much as the other can hold (`share.rt`), so that keys in order leave
 //! nodes of 32 pairs. A kid with a pair or separator too few gets some likewise, or two kids become one.
 //!
+//! A run of pairs goes out leaf by leaf: a leaf loses all its pairs of the run at once, and is mended once (`stretch.rt`). Or
+//! its values go alone, where they have a value that stands for none (`vacant.rt`, `node/values.rt`): that takes no memory.
+//!
 //! Where two leaves share their pairs anew, the separator between them is a new copy of a key (`separator.rt`). For short keys
 //! that takes no memory. Where it is refused, an easing is left out, and a removal changes nothing.
 //!
@@ -35,7 +38,7 @@
 //! deep: what recurs, dropping a tree too, recurs at most so often, and a walk keeps its way down in itself.
 //!
 //! Read `specs/Order.antt`, `specs/Tree.antt` and `root.rt`; for the nodes `specs/Parts.antt`, `specs/Rows.antt`, `node.rt`,
-//! `ends.rt`, `leaf.rt`, `between.rt`, `split.rt`, `ease.rt`, `mend.rt`; for the way of a look-up `trail.rt`.
+//! `ends.rt`, `leaf.rt`, `between.rt`, `split.rt`, `ease.rt`, `mend.rt`, `stretch.rt`; for the way of a look-up `trail.rt`.
 //! Not promised: which leaf holds a pair; any time.
 #![tactic(auto)]
 
@@ -54,10 +57,13 @@ mod seek;
 mod separator;
 mod share;
 mod split;
+mod stretch;
 mod trail;
+mod vacant;
 
 pub use backward::WalkBack;
 pub use forward::Walk;
 pub use root::Tree;
 pub use seek::Point;
 pub use trail::Trail;
+pub use vacant::Vacant;

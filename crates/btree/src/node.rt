@@ -22,6 +22,9 @@ use std::alloc::{AllocError, AllocFailed, Global};
 use std::marker::Model;
 use std::mem;
 
+pub mod places;
+pub mod values;
+
 #[derive(Drop)]
 pub struct Node<K: Ord, V> {
     entries: Vec<(K, V)>,

@@ -1,17 +1,21 @@
 //! The tree: its root, and how many pairs there are.
-ghost use Rattle.std.specs.Prelude.{◌≡◌, ◌+◌, ◌*◌, ◌-◌, ◌^◌, ◌<◌, ◌≤◌, ◌==◌, [], length, reverse, not, true, cond, is_some, None, Some, IfSome, IfOk, IfErr, OnOk, OnErr, IsOk};
+ghost use Rattle.std.specs.Prelude.{◌≡◌, ◌+◌, ◌*◌, ◌-◌, ◌^◌, ◌<◌, ◌≤◌, ◌==◌, [], length, map, reverse, not, true, cond, is_some, None, Some, IfSome, IfOk, IfErr, OnOk, OnErr, IsOk};
 ghost use Rattle.std.specs.Option.{option_map};
 ghost use Rattle.std.specs.List.{filter, find};
 ghost use Rattle.std.specs.FinMap.Entries as entries;
 ghost use Rattle.btree.specs.Order.{Ascends, Each, find_last, without};
 ghost use Rattle.btree.specs.Parts.{IsSure};
 ghost use Rattle.btree.specs.Rows.{IsSize};
+ghost use Rattle.btree.specs.Stretch.{IsStretch};
+ghost use Rattle.btree.specs.Values.{emptied};
 
 use crate::backward::WalkBack;
 use crate::forward::Walk;
 use crate::node::Node;
+use crate::node::values::empty_node;
 use crate::seek::Point;
 use crate::trail::Trail;
+use crate::vacant::Vacant;
 use std::alloc::{AllocError, AllocFailed, Global};
 use std::marker::Model;
 
@@ -288,6 +292,38 @@ impl<K: Ord + Clone, V: Drop> Tree<K, V> {
         self.root.fall();
         self.len -= count(&value);
         Ok(value)
+    }
+
+    /// Takes out a stretch of the pairs that are not before one point and are before another: those of one leaf, up to 32. Tells
+    /// how many: none only where there are none.
+    ///
+    /// Memory is taken only where a leaf gets pairs from another: for a copy of a key, which parts the two from then on.
+    /// Refused where there is none for it: then nothing has changed. Where copies of the keys are sure it is never refused.
+    pub fn take_stretch<P: Point<K>, Q: Point<K>>(
+        &mut self,
+        from: &P,
+        to: &Q,
+    ) -> Result<usize, AllocError>
+        ensures stretch { IfOk result (λ count. IsStretch (P.before from.now) (Q.before to.now) self.old.pairs count self.new.pairs) }
+        ensures depth { OnOk result ((self.new.depth ≤ self.old.depth) × (self.old.depth ≤ self.new.depth + 1)) }
+        ensures refused { OnErr result (self.new ≡ self.old) }
+        ensures sure { Each (λ e. IsSure K.cmp K.is_clone K.is_infallible e.0) self.old.pairs → IsOk result }
+    {
+        let count = self.root.take_stretch(from, to)?;
+        self.root.fall();
+        self.len -= count;
+        Ok(count)
+    }
+}
+
+impl<K: Ord + Drop, V: Vacant + Drop> Tree<K, V> {
+    /// Takes the values of the pairs that are not before one point and are before another: the keys stay, and each has the value
+    /// that stands for none. It takes no memory.
+    pub fn empty_between<P: Point<K>, Q: Point<K>>(&mut self, from: &P, to: &Q)
+        ensures pairs { self.new.pairs ≡ map (emptied V.none (P.before from.now) (Q.before to.now)) self.old.pairs }
+        ensures depth { self.new.depth ≡ self.old.depth }
+    {
+        empty_node(&mut self.root, from, to);
     }
 }
 

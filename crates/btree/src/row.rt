@@ -1,6 +1,6 @@
 //! Edits of rows that have room.
 ghost use Rattle.std.specs.Prelude.{◌≡◌, ◌+◌, ◌-◌, ◌<◌, ◌≤◌, ◌++◌, length, vec_capacity, OnOk, slice_index_or, slice_set, [], List};
-ghost use Rattle.std.specs.List.{insert};
+ghost use Rattle.std.specs.List.{insert, remove_range};
 
 use std::alloc::AllocError;
 use std::mem;
@@ -122,5 +122,29 @@ pub fn cut_anew<T>(lower: &mut Vec<T>, upper: &mut Vec<T>, at: usize)
         move_first(upper, lower, left);
     } else {
         move_last(lower, upper, at);
+    }
+}
+
+/// Takes out the elements between two places.
+pub fn remove_between<T: Drop>(row: &mut Vec<T>, first: usize, end: usize)
+    requires order { first ≤ end }
+    requires in_range { end ≤ length row.old.items }
+    ensures rest { row.new.items ≡ remove_range row.old.items first end }
+    ensures capacity { vec_capacity row.new ≡ vec_capacity row.old }
+{
+    drop(row.drain(first..end));
+}
+
+/// The element at a place of a row without those between two places.
+pub fn kept_at<T>(row: &[T], first: usize, end: usize, at: usize) -> &T
+    requires order { first ≤ end }
+    requires in_range { end ≤ length row.now }
+    requires there { at + (end - first) < length row.now }
+    ensures { (d : T) → result.now ≡ slice_index_or (remove_range row.now first end) at d }
+{
+    if at < first {
+        &row[at]
+    } else {
+        &row[at + (end - first)]
     }
 }

@@ -1,4 +1,4 @@
-//! Times of the B-tree: inserts of rising and of shuffled keys, look-ups and walks. Standard output has checksums
+//! Times of the B+tree: inserts of rising and of shuffled keys, look-ups and walks. Standard output has checksums
 //! alone, which another program with the same keys must print too; times go to standard error.
 //!
 //! The argument is how many keys there are. A key has 12 to 38 bytes: a number in ten digits, and as many bytes more as
