@@ -16,7 +16,7 @@ use crate::bytes::KeyBytes;
 use crate::count::count_subscripts;
 use crate::read::{read_reference, split_at_end};
 use crate::shown::{KeySubscripts, first_child, subscripts_of};
-use crate::write::{push_subscript, write_key};
+use crate::write::{most_subscript_bytes, push_subscript, roomy_copy, write_key};
 use collation::{MOST_SUBSCRIPTS, Ref, Text};
 use refusal::Refusal;
 use std::alloc::{AllocError, Global};
@@ -78,8 +78,11 @@ impl Key {
         requires { IsFaultless (record { name = self.now.name; subscripts = self.now.subscripts ++ subscript.now ∷ [] }) }
         ensures { IfOk result (λ key. key ≡ record { name = self.now.name; subscripts = self.now.subscripts ++ subscript.now ∷ [] }) }
     {
-        let mut bytes = Vec::new(alloc);
-        bytes.extend_from_slice(self.as_slice())?;
+        let mut bytes = roomy_copy(
+            alloc,
+            self.as_slice(),
+            most_subscript_bytes(subscript.as_slice()),
+        )?;
         push_subscript(&mut bytes, subscript.as_slice())?;
         Ok(Key {
             bytes: KeyBytes::from_vec(bytes),

@@ -67,9 +67,18 @@ fn most_key_bytes(name: &[u8], subscripts: &[Text]) -> usize {
 }
 
 // A tag, a place of two bytes and an end beside the text's bytes, of which 0 and 1 count twice.
-fn most_subscript_bytes(subscript: &[u8]) -> usize {
+pub(crate) fn most_subscript_bytes(subscript: &[u8]) -> usize {
     let escaped = subscript.iter().filter(|byte| **byte <= 1).count();
     subscript.len().saturating_add(escaped).saturating_add(4)
+}
+
+// A copy of these bytes, with room for as many more.
+pub(crate) fn roomy_copy(alloc: Global, bytes: &[u8], more: usize) -> Result<Vec<u8>, AllocError>
+    ensures { IfOk result (λ copy. copy.items ≡ bytes.now) }
+{
+    let mut copy = Vec::with_capacity(alloc, bytes.len().saturating_add(more))?;
+    copy.extend_from_slice(bytes)?;
+    Ok(copy)
 }
 
 fn push_subscripts(key: &mut Vec<u8>, subscripts: &[Text]) -> Result<(), AllocError>
