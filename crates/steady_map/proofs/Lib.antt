@@ -1,1 +1,3 @@
+mod HiddenKeys
+mod RunsTaken
 mod Shows

@@ -14,7 +14,7 @@ use Rattle.std.specs.FinMap.Entries.{below_all, is_sorted, put, by_order}
 use Rattle.btree.specs.Order.{without, find_last}
 use Rattle.steady_map.specs.Shown.{shown, with_value, joined, pair_of}
 
-less_of : (r : Ordering) → is_lt r ≡ true → r ≡ Less
+pub less_of : (r : Ordering) → is_lt r ≡ true → r ≡ Less
 less_of Less e = refl
 less_of Equal e = absurd (cc)
 less_of Greater e = absurd (cc)
@@ -132,19 +132,19 @@ module _ {K X : Type 0} (R : K → K → Ordering) (o : IsTotalOrder R) where
   put_first k v [] h = refl
   put_first k v (e ∷ es) h = rw (less_of (R k e.0) (first_so (is_lt (R k e.0)) (below_all R k es) h)) refl
 
-  below_down : (x y : K) (es : List (K × X)) → R x y ≡ Less → below_all R y es ≡ true → below_all R x es ≡ true
+  pub below_down : (x y : K) (es : List (K × X)) → R x y ≡ Less → below_all R y es ≡ true → below_all R x es ≡ true
   below_down x y [] l h = refl
   below_down x y (e ∷ es) l h =
       let less = less_of (R y e.0) (first_so (is_lt (R y e.0)) (below_all R y es) h) in
       rw (o.trans x y e.0 l less, below_down x y es l (second_so (is_lt (R y e.0)) (below_all R y es) h)) refl
 
-  below_tied : (x y : K) (es : List (K × X)) → R x y ≡ Equal → below_all R y es ≡ true → below_all R x es ≡ true
+  pub below_tied : (x y : K) (es : List (K × X)) → R x y ≡ Equal → below_all R y es ≡ true → below_all R x es ≡ true
   below_tied x y [] l h = refl
   below_tied x y (e ∷ es) l h =
       let less = less_of (R y e.0) (first_so (is_lt (R y e.0)) (below_all R y es) h) in
       rw (o.congr x y e.0 l ∙ less, below_tied x y es l (second_so (is_lt (R y e.0)) (below_all R y es) h)) refl
 
-eq_true : (r : Ordering) → is_eq r ≡ true → r ≡ Equal
+pub eq_true : (r : Ordering) → is_eq r ≡ true → r ≡ Equal
 eq_true Less e = absurd (cc)
 eq_true Equal e = refl
 eq_true Greater e = absurd (cc)

@@ -2,11 +2,12 @@
 //!
 //! A removal of the tree may want memory for a copy of a long key. Where that is refused, the pair stays in the tree without
 //! its value, out of sight: callers see the pairs that have a value alone (`shown` in `specs/Shown.antt`), and the calls
-//! promise of these what a map does. A hidden pair goes with a later removal of its key; an insertion gives it a value again.
+//! promise of these what a map does. Contracts name the hidden keys too: a hidden pair goes with a later removal of its key; an
+//! insertion gives it a value again; and where copies of all keys are sure, no removal hides one.
 //!
 //! Invariant: `len` counts the pairs that are shown.
 //!
-//! Read `specs/Shown.antt`, then `map.rt`, `walk.rt`. Not promised: any time; how many pairs are hidden.
+//! Read `specs/Shown.antt`, then `map.rt`, `walk.rt`. Not promised: any time.
 #![tactic(auto)]
 
 mod map;

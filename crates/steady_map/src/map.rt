@@ -1,11 +1,12 @@
 //! The map, its look-ups and its changes.
-ghost use Rattle.std.specs.Prelude.{◌≡◌, ◌+◌, ◌-◌, [], length, reverse, not, true, cond, is_some, None, Some, IfSome, IfOk, IfErr, OnErr};
+ghost use Rattle.std.specs.Prelude.{◌≡◌, ◌+◌, ◌-◌, ◌<◌, ◌^◌, [], length, reverse, not, true, cond, is_some, None, Some, IfSome, IfOk, IfErr, OnOk, OnErr};
 ghost use Rattle.std.specs.Option.{option_map};
 ghost use Rattle.std.specs.List.{filter, find};
 ghost use Rattle.std.specs.FinMap.{IsAntisymmetric};
 ghost use Rattle.std.specs.FinMap.Entries as entries;
-ghost use Rattle.btree.specs.Order.{find_last, without};
-ghost use Rattle.steady_map.specs.Shown.{shown, joined as joined_spec, pair_of};
+ghost use Rattle.btree.specs.Order.{Each, find_last, without};
+ghost use Rattle.btree.specs.Parts.{IsSure};
+ghost use Rattle.steady_map.specs.Shown.{shown, joined as joined_spec, pair_of, others, is_between, HaveAll};
 
 use crate::walk::{Walk, WalkBack};
 use btree::{Point, Trail, Tree};
@@ -21,13 +22,13 @@ pub struct SteadyMap<K: Ord, V> {
 
 impl<K: Ord, V> Model for SteadyMap<K, V> {
     ghost use Rattle.std.specs.Prelude.{◌≡◌, length};
-    ghost use Rattle.steady_map.specs.Shown.{Seen, seen_code, shown};
+    ghost use Rattle.steady_map.specs.Shown.{Seen, seen_code, shown, hidden_keys};
 
     ghost Value = { Seen K V };
 
     ghost coded = { seen_code K.code V.code };
 
-    ghost view = { λ m. record { pairs = shown m.tree.pairs } };
+    ghost view = { λ m. record { pairs = shown m.tree.pairs; hidden = hidden_keys m.tree.pairs } };
 
     ghost invariant = { λ m. m.len ≡ length (shown m.tree.pairs) };
 }
@@ -36,6 +37,7 @@ impl<K: Ord, V> SteadyMap<K, V> {
     /// A map without pairs. Takes no memory.
     pub fn new(alloc: Global) -> SteadyMap<K, V>
         ensures empty { result.pairs ≡ [] }
+        ensures hidden { result.hidden ≡ [] }
     {
         SteadyMap {
             tree: Tree::new(alloc),
@@ -146,6 +148,7 @@ impl<K: Ord + Drop, V: Drop> SteadyMap<K, V> {
     pub fn replace(&mut self, key: &K, value: V) -> Result<V, V>
         ensures before { IfOk result (λ before. entries.find K.cmp key.now self.old.pairs ≡ Some before) }
         ensures put { IfOk result (λ _. self.new.pairs ≡ entries.put K.cmp key.now value self.old.pairs) }
+        ensures hidden { self.new.hidden ≡ self.old.hidden }
         ensures handed_back { IfErr result (λ back. back ≡ value) }
         ensures missed { OnErr result (entries.find K.cmp key.now self.old.pairs ≡ None) }
         ensures kept { OnErr result (self.new ≡ self.old) }
@@ -161,9 +164,10 @@ impl<K: Ord + Drop, V: Drop> SteadyMap<K, V> {
         }
     }
 
-    /// Takes out all pairs. It takes no memory.
+    /// Takes out all pairs, and the hidden ones. It takes no memory.
     pub fn clear(&mut self)
         ensures empty { self.new.pairs ≡ [] }
+        ensures hidden { self.new.hidden ≡ [] }
     {
         self.tree.clear();
         self.len = 0;
@@ -174,7 +178,7 @@ impl<K: Ord + Clone, V: Drop> SteadyMap<K, V> {
     /// Sets the value of a key, and gives the one before. What the pairs are then is told of keys of which those that tie are
     /// one key: else a hidden key may stay in the place of one that ties with it.
     ///
-    /// Refused where there is no memory: then nothing has changed, and both come back.
+    /// The key isn't hidden after it. Refused where there is no memory: then nothing has changed, and both come back.
     pub fn insert(
         &mut self,
         alloc: Global,
@@ -183,6 +187,7 @@ impl<K: Ord + Clone, V: Drop> SteadyMap<K, V> {
     ) -> Result<Option<V>, AllocFailed<(K, V)>>
         ensures before { IfOk result (λ before. before ≡ entries.find K.cmp key self.old.pairs) }
         ensures put { IfOk result (λ _. IsAntisymmetric K.cmp → self.new.pairs ≡ entries.put K.cmp key value self.old.pairs) }
+        ensures hidden { OnOk result (self.new.hidden ≡ others K.cmp key self.old.hidden) }
         ensures handed_back { IfErr result (λ refused. refused.value ≡ (key, value)) }
         ensures refused { OnErr result (self.new ≡ self.old) }
     {
@@ -200,6 +205,7 @@ impl<K: Ord + Clone, V: Drop> SteadyMap<K, V> {
     ) -> Result<Option<V>, AllocFailed<(K, V)>>
         ensures before { IfOk result (λ before. before ≡ entries.find K.cmp key self.old.pairs) }
         ensures put { IfOk result (λ _. IsAntisymmetric K.cmp → self.new.pairs ≡ entries.put K.cmp key value self.old.pairs) }
+        ensures hidden { OnOk result (self.new.hidden ≡ others K.cmp key self.old.hidden) }
         ensures handed_back { IfErr result (λ refused. refused.value ≡ (key, value)) }
         ensures refused { OnErr result (self.new ≡ self.old) }
     {
@@ -223,15 +229,70 @@ impl<K: Ord + Clone, V: Drop> SteadyMap<K, V> {
         }
     }
 
-    /// Takes out the pair of a key, and gives its value. It is never refused.
+    /// Takes out the pair of a key, also where it is hidden, and gives its value. It is never refused. Where copies of all keys are
+    /// sure it hides none.
     pub fn remove(&mut self, key: &K) -> Option<V>
         ensures value { result ≡ entries.find K.cmp key.now self.old.pairs }
         ensures pairs { self.new.pairs ≡ without K.cmp key.now self.old.pairs }
+        ensures sure { HaveAll (IsSure K.cmp K.is_clone K.is_infallible) self.old → self.new.hidden ≡ others K.cmp key.now self.old.hidden }
     {
         let _count = self.tree.len();
         let value = take_or_hide(&mut self.tree, key);
         self.len -= count(&value);
         value
+    }
+
+    /// Takes out the pairs that do not stand before one point and stand before another, also the hidden ones, a leaf's at once. It
+    /// takes no memory but for copies of keys, and is never refused. Where copies of all keys are sure it hides none.
+    pub fn remove_between<P: Point<K>, Q: Point<K>>(&mut self, from: &P, to: &Q)
+        ensures pairs { self.new.pairs ≡ filter (λ e. not (is_between (P.before from.now) (Q.before to.now) e.0)) self.old.pairs }
+        ensures sure { HaveAll (IsSure K.cmp K.is_clone K.is_infallible) self.old → self.new.hidden ≡ filter (λ k. not (is_between (P.before from.now) (Q.before to.now) k)) self.old.hidden }
+    {
+        let _count = self.tree.len();
+        let gone = count_before(self.from(from), to);
+        take_or_hide_between(&mut self.tree, from, to);
+        self.len -= gone;
+    }
+}
+
+// How many of the pairs that are left stand before a point.
+fn count_before<K: Ord, V, Q: Point<K>>(walk: Walk<'_, K, V>, to: &Q) -> usize
+    requires sorted { entries.is_sorted K.cmp walk ≡ true }
+    requires few { length walk < 2 ^ 64 }
+    ensures { result ≡ length (filter (λ e. Q.before to.now e.0) walk.entry) }
+{
+    let mut count = 0;
+    for (key, _) in walk {
+        if !to.is_after(key) {
+            return count;
+        }
+        count += 1;
+    }
+    count
+}
+
+// Takes out the pairs that do not stand before one point and stand before another, a leaf's at once. Where that is refused
+// memory, those that are left are hidden.
+fn take_or_hide_between<K: Ord + Clone, V: Drop, P: Point<K>, Q: Point<K>>(
+    tree: &mut Tree<K, Option<V>>,
+    from: &P,
+    to: &Q,
+)
+    ensures pairs { shown tree.new.pairs ≡ filter (λ e. not (is_between (P.before from.now) (Q.before to.now) e.0)) (shown tree.old.pairs) }
+    ensures sure { Each (λ e. IsSure K.cmp K.is_clone K.is_infallible e.0) tree.old.pairs → tree.new.pairs ≡ filter (λ e. not (is_between (P.before from.now) (Q.before to.now) e.0)) tree.old.pairs }
+{
+    'run: loop {
+        match tree.take_stretch(from, to) {
+            Ok(count) => {
+                if count == 0 {
+                    return;
+                }
+            }
+            Err(_) => {
+                tree.empty_between(from, to);
+                return;
+            }
+        }
     }
 }
 
@@ -240,6 +301,7 @@ fn take_or_hide<K: Ord + Clone, V: Drop>(tree: &mut Tree<K, Option<V>>, key: &K)
     requires sorted { entries.is_sorted K.cmp tree.old.pairs ≡ true }
     ensures value { result ≡ entries.find K.cmp key.now (shown tree.old.pairs) }
     ensures pairs { shown tree.new.pairs ≡ without K.cmp key.now (shown tree.old.pairs) }
+    ensures sure { Each (λ e. IsSure K.cmp K.is_clone K.is_infallible e.0) tree.old.pairs → tree.new.pairs ≡ without K.cmp key.now tree.old.pairs }
 {
     match tree.remove(key) {
         Ok(value) => joined(value),

@@ -1,10 +1,11 @@
-//! The B-tree at numbers. Expected answers are those of std's `BTreeMap` at the same steps, and numbers by hand.
+//! The B+tree at numbers. Expected answers are those of std's `BTreeMap` at the same steps, and numbers by hand.
 ghost use Rattle.std.specs.Prelude.{nat_lt};
 ghost use Rattle.structure_tests.specs.laws.Numbers.{below_below, below_tied};
 
 use btree::{Point, Trail, Tree};
 use std::alloc::{AllocError, Global};
 use std::collections::BTreeMap;
+use steady_map::SteadyMap;
 
 // The point before a number.
 #[derive(Drop)]
@@ -273,6 +274,114 @@ fn are_walks_of_threes_whole(alloc: Global) -> Result<[bool; 3], AllocError> {
         are_walks_whole(&tree, 0, 0, 1_000),
         are_walks_whole(&tree, 3_000, 3_000, 1_000),
     ])
+}
+
+// Takes the numbers from one up to another out of both maps, in the tree a stretch at a time. Whether the tree takes as many.
+fn are_stretches_alike(
+    tree: &mut Tree<u64, u64>,
+    map: &mut BTreeMap<u64, u64>,
+    from: u64,
+    to: u64,
+) -> Result<bool, AllocError> {
+    let mut taken = 0_usize;
+    for number in from..to {
+        if map.remove(&number).is_none() {
+            continue;
+        }
+        if taken == 0 {
+            taken = tree.take_stretch(&Before(from), &Before(to))?;
+        }
+        if taken == 0 {
+            return Ok(false);
+        }
+        taken -= 1;
+    }
+    Ok(taken == 0 && tree.take_stretch(&Before(from), &Before(to))? == 0)
+}
+
+// Fills both maps with every so manieth number below 3,000, and takes a run out of them. Whether they are alike then.
+fn is_run_alike(
+    alloc: Global,
+    tree: &mut Tree<u64, u64>,
+    map: &mut BTreeMap<u64, u64>,
+    from: u64,
+    to: u64,
+) -> Result<bool, AllocError> {
+    for number in 0_u64..3_000 {
+        if number % 3 != from % 3 {
+            tree.insert(alloc, number, from)?;
+            map.insert(number, from)?;
+        }
+    }
+    let alike = are_stretches_alike(tree, map, from, to)?;
+    let none = match tree.first_from(&Before(from)).0 {
+        None => true,
+        Some((number, _)) => *number >= to,
+    };
+    Ok(alike && none && are_pairs_alike(tree, map))
+}
+
+fn are_runs_alike(alloc: Global) -> Result<bool, AllocError> {
+    let mut tree = Tree::new(alloc);
+    let mut map = BTreeMap::new(alloc);
+    for round in 0_u64..120 {
+        let from = round * 677 % 3_000;
+        let to = from + round * 31 % 1_400;
+        if !is_run_alike(alloc, &mut tree, &mut map, from, to)? {
+            return Ok(false);
+        }
+    }
+    let alike = is_run_alike(alloc, &mut tree, &mut map, 0, 3_000)?;
+    Ok(alike && tree.is_empty() && tree.depth() == 1)
+}
+
+#[test]
+fn runs_taken_out_leave_what_std_map_has(rt: HostRuntime) -> Result<(), AllocError> {
+    assert!(rt; are_runs_alike(rt.alloc())?);
+    Ok(())
+}
+
+// Whether just the numbers from 500 up to 1,500 lose their values.
+fn are_values_emptied(alloc: Global) -> Result<bool, AllocError> {
+    let mut tree: Tree<u64, Option<u64>> = Tree::new(alloc);
+    for number in 0_u64..2_000 {
+        tree.insert(alloc, number, Some(number))?;
+    }
+    tree.empty_between(&Before(500), &Before(1_500));
+    for (number, value) in tree.iter() {
+        let outside = *number < 500 || *number >= 1_500;
+        if value.is_some() != outside {
+            return Ok(false);
+        }
+    }
+    Ok(tree.len() == 2_000)
+}
+
+// Whether a run of a steady map goes, and no pair beside it.
+fn is_run_gone(alloc: Global) -> Result<bool, AllocError> {
+    let mut map: SteadyMap<u64, u64> = SteadyMap::new(alloc);
+    for number in 0_u64..3_000 {
+        map.insert(alloc, number, number)?;
+    }
+    map.remove_between(&Before(500), &Before(2_500));
+    for (number, _) in map.iter() {
+        if *number >= 500 && *number < 2_500 {
+            return Ok(false);
+        }
+    }
+    Ok(map.len() == 1_000 && map.get(&499).0.is_some() && map.get(&2_500).0.is_some())
+}
+
+#[test]
+fn run_of_a_steady_map_goes_whole(rt: HostRuntime) -> Result<(), AllocError> {
+    assert!(rt; is_run_gone(rt.alloc())?);
+    Ok(())
+}
+
+#[test]
+fn emptied_run_keeps_its_keys(rt: HostRuntime) -> Result<(), AllocError> {
+    assert!(rt; are_values_emptied(rt.alloc())?);
+    Ok(())
 }
 
 #[test]

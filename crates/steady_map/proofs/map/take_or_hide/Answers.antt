@@ -1,4 +1,4 @@
-use Rattle.std.proofs.Common.{◌∙◌, Option, None, ap, sym}
+use Rattle.std.proofs.Common.{◌≡◌, ◌∙◌, true, false, Option, None, ap, sym}
 use Rattle.std.specs.FinMap.Entries as entries
 use Rattle.std.specs.FinMap.Entries.{put}
 use Rattle.btree.specs.Tree.{Content}
@@ -31,3 +31,12 @@ pub returns-clause-pairs : goal.returns-clause-pairs
 returns-clause-pairs g c =
     let missed = ap (λ (t : Content g.row.K.Denot (Option g.row.V.Denot)). entries.find g.K.Ord.cmp c.args.key.now t.pairs) (sym c.in-Err.ensures.refused) ∙ c.in-Err-replace.ensures.missed in
     ap (λ (t : Content g.row.K.Denot (Option g.row.V.Denot)). shown t.pairs) (c.in-Err-replace.ensures.kept ∙ c.in-Err.ensures.refused) ∙ sym (sym (shown_without g.K.Ord.cmp g.met.K.Ord.total c.args.key.now c.args.tree.now.pairs) ∙ ap shown (without_none g.K.Ord.cmp c.args.key.now c.args.tree.now.pairs missed))
+
+pub returns-in-Ok-replace-clause-sure : goal.returns-in-Ok-replace-clause-sure
+returns-in-Ok-replace-clause-sure g c = λ sure. let clash : false ≡ true = c.in-Err.ensures.sure sure in absurd (cc)
+
+pub returns-clause-sure : goal.returns-clause-sure
+returns-clause-sure g c = λ sure. let clash : false ≡ true = c.in-Err.ensures.sure sure in absurd (cc)
+
+pub returns-in-Ok-clause-sure : goal.returns-in-Ok-clause-sure
+returns-in-Ok-clause-sure g c = λ sure. c.in-Ok.ensures.pairs

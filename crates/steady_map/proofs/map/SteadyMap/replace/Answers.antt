@@ -1,8 +1,9 @@
 use Rattle.std.proofs.Common.{◌≡◌, ℕ, ◌∙◌, cond, is_some, length, Some, ap, sym, arith}
 use Rattle.std.specs.FinMap.Entries as entries
 use Rattle.std.specs.FinMap.Entries.{put}
-use Rattle.steady_map.specs.Shown.{shown, joined, Seen}
+use Rattle.steady_map.specs.Shown.{shown, joined, Seen, hidden_keys}
 use Rattle.steady_map.proofs.Shows.{find_shown, shown_set, shown_more, some_mapped}
+use Rattle.steady_map.proofs.HiddenKeys.{hidden_set}
 use Rattle.steady_map.proofs.map.SteadyMap.replace.Goals as goal
 
 pub unreachable-requires : goal.unreachable-requires
@@ -31,3 +32,8 @@ pub returns-clause-put : goal.returns-clause-put
 returns-clause-put g c =
     let found = c.in-Ok-Some.ensures.before ∙ ap Some c.in-Ok-Some.field-0-is in
     ap shown c.in-Ok-Some.ensures.put ∙ shown_set g.K.Ord.cmp g.met.K.Ord.total c.args.key.now c.args.value c.in-Ok-Some.before c.self.inside.tree.pairs c.len-count.ensures.sorted found ∙ ap (put g.K.Ord.cmp c.args.key.now c.args.value) (ap (λ (m : Seen g.row.K.Denot g.row.V.Denot). m.pairs) c.self.view_is)
+
+pub returns-clause-hidden : goal.returns-clause-hidden
+returns-clause-hidden g c =
+    let found = c.in-Ok-Some.ensures.before ∙ ap Some c.in-Ok-Some.field-0-is in
+    ap hidden_keys c.in-Ok-Some.ensures.put ∙ hidden_set g.K.Ord.cmp g.met.K.Ord.total c.args.key.now c.args.value c.in-Ok-Some.before c.self.inside.tree.pairs c.len-count.ensures.sorted found ∙ ap (λ (m : Seen g.row.K.Denot g.row.V.Denot). m.hidden) c.self.view_is
