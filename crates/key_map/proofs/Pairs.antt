@@ -4,9 +4,10 @@ use Rattle.std.specs.Prelude.{not, cond, Result, Some, None}
 use Rattle.std.specs.Bool.{passes}
 use Rattle.std.specs.Option.{option_or}
 use Rattle.std.specs.Ordering.{eq_by_cmp}
+use Rattle.std.specs.declared.cmp.Ordering.TheVariants.{Equal}
 use Rattle.std.specs.Cmp.{eq_by_cmp_equiv}
-use Rattle.std.specs.FinMap.{is_sorted, find, get, insert, remove, empty, entries, from_sorted, same_map, same_entries_map, entries-from_sorted, entries-insert, get-from_sorted, get-remove, empty_of_len, len-entries}
-use Rattle.std.specs.FinMap.Entries.{put, is_sorted-put, find-where_key, is_sorted-where_key}
+use Rattle.std.specs.FinMap.{is_sorted, find, get, insert, remove, empty, entries, from_sorted, same_map, same_entries_map, entries-from_sorted, entries-insert, get-from_sorted, get-remove, retain_keys, get-retain_keys, empty_of_len, len-entries}
+use Rattle.std.specs.FinMap.Entries.{put, where_key, is_sorted-put, find-where_key, is_sorted-where_key}
 use Rattle.collation.specs.Reference.{Reference}
 use Rattle.collation.specs.Order.{ref_cmp}
 use Rattle.collation.specs.laws.Order.{ref_cmp_total, ref_cmp-IsAntisymmetric}
@@ -52,6 +53,17 @@ module _ {X : Type 0} where
   map_without es k h = same_map ref_cmp_total ref_cmp-IsAntisymmetric _ _ (λ q.
       map_get (without ref_cmp k es) q (sorted_without es k h) ∙ find_without es k q
       ∙ ap (cond (eq_by_cmp ref_cmp q k) None) (sym (map_get es q h)) ∙ sym (get-remove ref_cmp_total (from_sorted es) k q))
+
+  -- the keys that pass a test
+
+  pub sorted_where : (p : Reference → Bool) (es : List (Reference × X)) → is_sorted ref_cmp es ≡ true → is_sorted ref_cmp (where_key ref_cmp p es) ≡ true
+  sorted_where p es h = true_of _ (is_sorted-where_key ref_cmp p es (passes _ h))
+
+  pub map_where : (p : Reference → Bool) (es : List (Reference × X)) → is_sorted ref_cmp es ≡ true → from_sorted {R = ref_cmp} (where_key ref_cmp p es) ≡ retain_keys (from_sorted es) p
+  map_where p es h =
+      let alike : (q x : Reference) → ref_cmp q x ≡ Equal → p x ≡ p q = λ q x e. ap p (sym (ref_cmp-IsAntisymmetric q x e)) in
+      same_map ref_cmp_total ref_cmp-IsAntisymmetric _ _ (λ q.
+      map_get (where_key ref_cmp p es) q (sorted_where p es h) ∙ find-where_key ref_cmp p q (alike q) es ∙ ap (λ o. cond (p q) o None) (sym (map_get es q h)) ∙ sym (get-retain_keys (from_sorted es) p q (alike q)))
 
   -- a value in place of another, or no change
 

@@ -1,6 +1,6 @@
 //! An ordered map from keys: what a transaction keeps its writes in.
 //!
-//! Callers see a finite map from references, in their order. It is kept in a tree (`btree`), so a look-up, a change and
+//! Callers see a finite map from references, in their order. It is kept in a B+tree (`btree`), so a look-up, a change and
 //! the step to the next key each take the logarithm of its size.
 //! (1) The tree's keys rise.
 //!

@@ -17,7 +17,7 @@ use steady_map::{SteadyMap, Walk};
 /// Values by keys, in the order of the references.
 #[derive(Drop)]
 pub struct KeyMap<X> {
-    tree: SteadyMap<Key, X>,
+    pub(crate) tree: SteadyMap<Key, X>,
 }
 
 impl<X> Model for KeyMap<X> {
@@ -115,7 +115,7 @@ impl<X: Drop> KeyMap<X> {
         self.tree.replace(key, value)
     }
 
-    /// Takes out a key, and gives its value. Takes no memory.
+    /// Takes out a key, and gives its value. It is never refused.
     pub fn remove(&mut self, key: &Key) -> Option<X>
         ensures value { result ≡ finmap.get self.old key.now }
         ensures map { self.new ≡ finmap.remove self.old key.now }

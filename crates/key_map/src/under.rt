@@ -1,8 +1,11 @@
 //! What stands at and under a key.
-ghost use Rattle.std.specs.Prelude.{◌≡◌, ◌++◌, ◌∷◌, [], IfOk, OnOk};
+ghost use Rattle.std.specs.Prelude.{◌≡◌, ◌++◌, ◌∷◌, [], not, IfOk, OnOk};
+ghost use Rattle.std.specs.FinMap as finmap;
+ghost use Rattle.collation.specs.Database.{is_under};
 ghost use Rattle.key_map.specs.Members.{keys_under, removed_all};
 
 use crate::map::KeyMap;
+use crate::point::CutPoint;
 use globals::Cut;
 use key_codec::Key;
 use std::alloc::{AllocError, Global};
@@ -34,12 +37,25 @@ fn push_copy(keys: &mut Vec<Key>, key: &Key) -> Result<(), AllocError>
 }
 
 impl<X: Drop> KeyMap<X> {
-    /// Takes out these keys, where they are there. Takes no memory.
+    /// Takes out these keys, where they are there. It is never refused.
     pub fn remove_all(&mut self, keys: &[Key])
         ensures { self.new ≡ removed_all keys.now self.old }
     {
         for key in keys {
             drop(self.remove(key));
         }
+    }
+
+    /// Takes out the keys at and under this one, some at once. It is never refused.
+    pub fn remove_under(&mut self, root: &Key)
+        ensures { self.new ≡ finmap.retain_keys self.old (λ x. not (is_under root.now x)) }
+    {
+        let from = CutPoint {
+            cut: Cut::Before(root),
+        };
+        let to = CutPoint {
+            cut: Cut::Past(root),
+        };
+        self.tree.remove_between(&from, &to);
     }
 }

@@ -5,11 +5,13 @@ use Rattle.std.specs.List.{list_any}
 use Rattle.std.specs.FinMap as finmap
 use Rattle.std.specs.FinMap.{FinMap}
 use Rattle.std.specs.FinMap.Entries.{find-where_key}
-use Rattle.std.specs.Ordering.{eq_by_cmp}
+use Rattle.std.specs.Ordering.{eq_by_cmp, is_lt}
 use Rattle.collation.specs.Reference.{Reference}
 use Rattle.collation.specs.Order.{ref_cmp, ref_eq}
 use Rattle.collation.specs.laws.Order.{ref_cmp_total, ref_cmp-IsAntisymmetric, ref_ties}
 use Rattle.collation.specs.Database.{is_under}
+use Rattle.collation.specs.Levels.{is_before}
+use Rattle.globals.specs.laws.Cuts.{under_between}
 use Rattle.key_map.specs.Members.{keys_under, removed_all}
 
 module _ {X : Type 0} where
@@ -60,3 +62,11 @@ module _ {X : Type 0} where
       turned : (b : Bool) (o : Option X) → cond (not b) o None ≡ cond b None o
       turned true o = refl
       turned false o = refl
+
+-- what stands from r on and before the end of all under r is under r
+pub between_under : (r x : Reference) → cond (is_lt (ref_cmp x r)) false (is_before true r x) ≡ is_under r x
+between_under r x = by_test (is_lt (ref_cmp x r)) (is_before true r x) ∙ sym (under_between r x)
+  where
+    by_test : (l b : Bool) → cond l false b ≡ (not l && b)
+    by_test true b = refl
+    by_test false b = refl
