@@ -190,3 +190,25 @@ fn key_that_is_absent_at_the_horizon_goes_with_its_versions(rt: HostRuntime) -> 
     assert_eq!(rt; first_at(&store, 3), Ok(None));
     Ok(())
 }
+
+// Kills a key with all under it, where the stamp is after now.
+fn kill(alloc: Global, store: &mut KeyedStore, name: &[u8], stamp: u64) -> Result<bool, Refusal> {
+    let key = key_of(alloc, name)?;
+    let is_later = store.now() < stamp;
+    if is_later {
+        store.kill(stamp, &key);
+    }
+    drop(key);
+    Ok(is_later)
+}
+
+#[test]
+fn killed_key_goes_with_its_versions_and_no_other(rt: HostRuntime) -> Result<(), Fail> {
+    let mut store = KeyedStore::new(rt.alloc());
+    assert!(rt; worked(rt.alloc(), &mut store)?);
+    assert!(rt; kill(rt.alloc(), &mut store, b"A", 5)?);
+    assert_eq!(rt; store.placed_count(), 1);
+    assert_eq!(rt; first_at(&store, 4), Err(Refusal::Gone));
+    assert_eq!(rt; first_at(&store, 5), Ok(Some(b'B')));
+    Ok(())
+}

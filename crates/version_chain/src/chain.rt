@@ -1,5 +1,5 @@
 //! One chain: its newest version, and the cells of those before it.
-ghost use Rattle.std.specs.Prelude.{◌≡◌, ◌+◌, ◌^◌, ◌<◌, [], ◌∷◌, length, option_copied};
+ghost use Rattle.std.specs.Prelude.{◌≡◌, ◌+◌, ◌-◌, ◌^◌, ◌<◌, [], ◌∷◌, length, min, option_copied};
 ghost use Rattle.version_chain.specs.Slots.{lent};
 ghost use Rattle.version_chain.specs.Links.{from_version, versions, pages, line_versions, line_pages, AllOf};
 ghost use Rattle.version_chain.specs.Versions.{newest_of, at_of, cells_of};
@@ -52,6 +52,35 @@ fn at_version<V>(newest: &Version<V>, stamp: u64) -> Option<&V>
         match older {
             Some(cell) => here = cell.get(),
             None => return None,
+        }
+    }
+}
+
+/// How many versions there are, up to 2^64 - 1.
+pub(crate) fn count<V>(line: LentLine<'_, V>) -> u64
+    ensures { result ≡ min (length (line_versions (lent line.entry))) (2 ^ 64 - 1) }
+{
+    let Some(newest) = line else {
+        return 0;
+    };
+    match lent_parts(newest).2 {
+        None => 1,
+        Some(cell) => count_from(cell.get()).saturating_add(1),
+    }
+}
+
+// As `count`, from a version on.
+fn count_from<V>(newest: &Version<V>) -> u64
+    ensures { result ≡ min (length (from_version newest.now)) (2 ^ 64 - 1) }
+{
+    let mut count: u64 = 0;
+    let mut here = newest;
+    loop {
+        count = count.saturating_add(1);
+        let (_, _, older) = here.as_parts();
+        match older {
+            Some(cell) => here = cell.get(),
+            None => return count,
         }
     }
 }

@@ -1,10 +1,10 @@
 //! Chains by id, in one pool.
-ghost use Rattle.std.specs.Prelude.{◌≡◌, ℕ, ◌+◌, ◌<◌, ◌≤◌, [], ◌∷◌, Some, None, IsTrue, ◌↔◌, max, length, option_copied, slice_set, IfOk, OnErr};
+ghost use Rattle.std.specs.Prelude.{◌≡◌, ℕ, ◌+◌, ◌-◌, ◌^◌, ◌<◌, ◌≤◌, [], ◌∷◌, Some, None, IsTrue, ◌↔◌, max, min, length, option_copied, slice_set, IfOk, OnErr};
 ghost use Rattle.version_chain.specs.Slots.{slot_at, lent};
 ghost use Rattle.version_chain.specs.Links.{line_versions};
 ghost use Rattle.version_chain.specs.Tidy.{since_at as since_at_spec};
 
-use crate::chain::{LentLine, Line, at, end, newest, push};
+use crate::chain::{LentLine, Line, at, count, end, newest, push};
 use crate::cut::{cut, push_and_cut};
 use crate::slots::Slots;
 use crate::version::Version;
@@ -155,6 +155,14 @@ impl<V: Drop> Chains<V> {
         ensures falls { IsFalling (versions_at self.now id) }
     {
         newest(self.line(id))
+    }
+
+    /// How many versions an open chain has, up to 2^64 - 1. Goes through all of them.
+    pub fn count(&self, id: ChainId) -> u64
+        requires { IsOpen self.now id }
+        ensures { result ≡ min (length (versions_at self.now id)) (2 ^ 64 - 1) }
+    {
+        count(self.line(id))
     }
 
     /// The value of the newest version that isn't after the stamp; none where there is no such version, or it is an absence.

@@ -1,6 +1,7 @@
 pub mod CellLemmas
 pub mod CutLemmas
 pub mod DropLemmas
+pub mod KillLemmas
 pub mod NewestLemmas
 pub mod PlaceLemmas
 pub mod RangeLemmas

@@ -358,6 +358,19 @@ versions_without c d ps now id k tied at updates =
     by_tie q false t None e = refl
     by_tie q false t (Some i) e = ap (λ x. Some (listed x)) (updates.others i (not_taken c ps now k q id i tied (sym at) t e))
 
+-- the rows of the others are as before
+pub rows_without : (c d : State) (ps : Pairs) (now id : ℕ) (k : Reference) → IsTied ps c now → Some id ≡ find ref_cmp k ps → Updates c d id None → rows d (without ref_cmp k ps) ≡ rows c (without ref_cmp k ps)
+rows_without c d ps now id k tied at updates =
+    let sorted = (tied_without c d ps now id k tied at updates).sorted in
+    let left = without ref_cmp k ps in
+    sym (entries_in d left sorted)
+    ∙ ap finmap.entries (same_get (versions_in d left) (versions_in c left) (λ q. get_in d left q sorted ∙ by_found q (find ref_cmp q left) refl ∙ sym (get_in c left q sorted)))
+    ∙ entries_in c left sorted
+  where
+    by_found : (q : Reference) (o : Option ℕ) → find ref_cmp q (without ref_cmp k ps) ≡ o → option_map (versions_at d) o ≡ option_map (versions_at c) o
+    by_found q None e = refl
+    by_found q (Some i) e = let w = without_cases k ps q i e in ap (λ x. Some (listed x)) (updates.others i (not_taken c ps now k q id i tied (sym at) w.0 w.1))
+
 -- ---- a chain that is cut
 
 pub cut_row : (c d : State) (ps : Pairs) (now id horizon : ℕ) (k : Reference) → IsTied ps c now → Some id ≡ find ref_cmp k ps → Updates c d id (Some (left_after horizon (versions_at c id))) → versions_in d ps ≡ finmap.insert (versions_in c ps) k (left_after horizon (versions_of (versions_in c ps) k))

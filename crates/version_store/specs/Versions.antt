@@ -1,6 +1,6 @@
 -- What a store is seen as: for each placed reference its versions, newest first.
 -- Read Versions, content_at, written and changed (of `collation`); specs/laws/Content.antt has their laws.
-use Rattle.std.specs.Prelude.{◌≡◌, ◌+◌, ◌≤◌, ℕ, Bool, true, false, not, ◌&&◌, cond, max, List, [], ◌∷◌, ◌++◌, Option, Some, None, filter, map, take, refl}
+use Rattle.std.specs.Prelude.{◌≡◌, ◌+◌, ◌≤◌, ℕ, Bool, true, false, not, ◌&&◌, cond, max, List, [], ◌∷◌, ◌++◌, length, Option, Some, None, filter, map, take, refl}
 use Rattle.std.specs.Coded.{Coded, code_by, coded×, coded_ℕ, coded_list, coded_option}
 use Rattle.std.specs.FinMap as finmap
 use Rattle.std.specs.FinMap.{FinMap, code}
@@ -69,6 +69,20 @@ cells_under m r = cells_of (versions_of m r)
 -- the cells that its versions no longer take are spare, and no others
 abbrev pub KeepsCells : Reference → Stored → Stored → Type 0
 KeepsCells r old new = new.spare + cells_under new.versions r ≡ old.spare + cells_under old.versions r
+
+-- how many versions these references have
+abbrev pub count_in : List (Reference × Row) → ℕ
+count_in [] = 0
+count_in (e ∷ es) = length e.1 + count_in es
+
+-- how many cells the versions of these references take
+abbrev pub cells_in : List (Reference × Row) → ℕ
+cells_in [] = 0
+cells_in (e ∷ es) = cells_of e.1 + cells_in es
+
+-- how many versions there are
+abbrev pub version_count : Versions → ℕ
+version_count m = count_in (finmap.entries m)
 
 -- the first of a list
 abbrev pub first_of : {A : Type 0} → List A → Option A

@@ -1,12 +1,12 @@
 //! The store: what it holds, its stamps, and its content at a stamp.
-ghost use Rattle.std.specs.Prelude.{◌≡◌, ℕ, ◌<◌, ◌≤◌, suc, Some, None, IfOk, IfErr, OnOk, ◌⊎◌};
+ghost use Rattle.std.specs.Prelude.{◌≡◌, ℕ, ◌-◌, ◌^◌, ◌<◌, ◌≤◌, suc, min, Some, None, IfOk, IfErr, OnOk, ◌⊎◌};
 ghost use Rattle.std.specs.Option.{option_copied};
 ghost use Rattle.std.specs.FinMap as finmap;
 ghost use Rattle.refusal.specs.declared.Refusal.{Refusal};
 ghost use Rattle.collation.specs.Reference.{Reference};
 ghost use Rattle.version_chain.specs.Versions.{IsAbove, IsFalling};
-ghost use Rattle.version_store.specs.Versions.{content_at, content_now, versions_of};
-ghost use Rattle.version_store.specs.Tied.{versions_in, IsTied};
+ghost use Rattle.version_store.specs.Versions.{content_at, content_now, versions_of, count_in, version_count};
+ghost use Rattle.version_store.specs.Tied.{versions_in, rows, AreOpen, IsTied};
 
 use crate::near::Near;
 use crate::snapshot::Snapshot;
@@ -16,7 +16,7 @@ use key_codec::Key;
 use refusal::Refusal;
 use std::alloc::Global;
 use std::marker::Model;
-use steady_map::SteadyMap;
+use steady_map::{SteadyMap, Walk};
 use version_chain::{ChainId, Chains};
 
 /// Versions of a database, in a tree from keys to ids and chains by id.
@@ -42,6 +42,18 @@ impl Model for KeyedStore {
     ghost view = { λ s. record { versions = versions_in s.chains s.tree.pairs; present = s.present; cut = s.cut; spare = s.chains.spare; mark = s.mark } };
 
     ghost invariant = { λ s. IsTied s.tree.pairs s.chains s.present × (s.cut ≤ s.present) };
+}
+
+// How many versions the references of a walk have.
+fn count_versions(walk: Walk<'_, Key, ChainId>, chains: &Chains<Text>) -> u64
+    requires { AreOpen chains.now walk }
+    ensures { result ≡ min (count_in (rows chains.now walk.entry)) (2 ^ 64 - 1) }
+{
+    let mut count: u64 = 0;
+    for (_, id) in walk {
+        count = count.saturating_add(chains.count(*id));
+    }
+    count
 }
 
 impl KeyedStore {
@@ -90,6 +102,13 @@ impl KeyedStore {
         ensures { result ≡ self.now.cut }
     {
         self.cut
+    }
+
+    /// How many versions there are, up to 2^64 - 1. Goes through all of them; takes no memory.
+    pub fn versions(&self) -> u64
+        ensures { result ≡ min (version_count self.now.versions) (2 ^ 64 - 1) }
+    {
+        count_versions(self.tree.iter(), &self.chains)
     }
 
     /// For how many versions cells are reserved.
