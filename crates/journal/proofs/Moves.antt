@@ -4,7 +4,7 @@ use Rattle.std.specs.Prelude.{cond, filter, ◌==◌, Some, unwrap_or}
 use Rattle.std.specs.Ordering.{nat_cmp, eq_by_cmp, is_eq}
 use Rattle.std.specs.Cmp.{nat_cmp_total, tied_itself}
 use Rattle.std.specs.FinMap as finmap
-use Rattle.std.specs.FinMap.{nat_cmp-IsAntisymmetric}
+use Rattle.std.specs.FinMap.{nat_cmp-IsAntisymmetric, is_sorted}
 use Rattle.std.proofs.lemmas.List.{take-append-drop, length-take-le, length-drop}
 use Rattle.std.proofs.lemmas.List.Elements.{filter-append}
 use Rattle.std.proofs.lemmas.Bool.Decides.{eqb_tells}
@@ -13,15 +13,20 @@ use Rattle.collation.specs.Reference.{Reference}
 use Rattle.collation.specs.Locks.{LockState}
 use Rattle.collation.specs.Order.{ref_cmp}
 use Rattle.collation.specs.laws.Order.{is_equal}
+use Rattle.collation.specs.laws.Entries.{true_of}
+use Rattle.collation.specs.Changes.{Change, changed}
+use Rattle.collation.specs.Database.{Database}
+use Rattle.journal.specs.Merging.{put_all}
+use Rattle.journal.proofs.Rising.{put_all_entries}
 use Rattle.journal.specs.declared.unit.Unit.{Unit as JournalUnit}
 use Rattle.journal.specs.declared.unit.Unit.TheVariants.{Lone, Whole, Lock, Back, End}
 use Rattle.journal.specs.History.{State, initial, after, after_unit}
 use Rattle.journal.specs.laws.History.{after-append}
-use Rattle.journal.specs.laws.Adopted.{of_entries, adopted_number, adopted_state, adopted_tally}
+use Rattle.journal.specs.laws.Adopted.{of_entries, sorted_entries, adopted_number, adopted_state, adopted_tally}
 use Rattle.journal.specs.Adopted.{adopted_units}
 use Rattle.journal.specs.Counting.{is_counted, tally_of, Tallies, tally_in, AreTallies, one_more, counted_unit, counted_on}
-use Rattle.journal.specs.Based.{Based, IsBaseOf, database_of, locks_in, locks_of_unit, locks_on, HasPassed}
-use Rattle.journal.specs.Log.{KeepsBase, Stands}
+use Rattle.journal.specs.Based.{Based, IsBaseOf, database_of, map_in, locks_in, locks_of_unit, locks_on, HasPassed}
+use Rattle.journal.specs.Log.{KeepsBase, Stands, Recorded}
 
 -- ---- locks
 
@@ -146,9 +151,30 @@ no_base b n s t us e = record {
   tallies = subst (AreTallies b.tallies) (sym e) (λ job some. ap (λ ts. tally_in ts job) t ∙ ap (λ o. unwrap_or o 0) (finmap.get-empty nat_cmp job));
 }
 
-pub record IsMoved (old new : Based) (count : ℕ) (nodes : List (Reference × List ℕ)) (units : List JournalUnit) : Type 0 where
+-- changes in a list of nodes are those in its database
+pub merged_nodes : (nodes new : List (Reference × List ℕ)) (cs : List Change) → nodes ≡ finmap.entries (database_of nodes) → new ≡ put_all cs nodes → (new ≡ finmap.entries (database_of new)) × (database_of new ≡ changed cs (database_of nodes))
+merged_nodes nodes new cs are is =
+    let there : new ≡ finmap.entries (changed cs (database_of nodes)) = is ∙ ap (put_all cs) are ∙ put_all_entries cs (database_of nodes) in
+    (sorted_entries new (changed cs (database_of nodes)) there, ap database_of there ∙ of_entries (changed cs (database_of nodes)))
+
+pub nodes_rise : (nodes : List (Reference × List ℕ)) → nodes ≡ finmap.entries (database_of nodes) → is_sorted ref_cmp nodes ≡ true
+nodes_rise nodes are = ap (is_sorted ref_cmp) are ∙ true_of _ (finmap.entries_sorted (database_of nodes))
+
+-- the base's database with changes that lead on from where the units up to it lead
+pub changed_base : (old : Based) (cs : List Change) (m : Database) (past units : List JournalUnit) → KeepsBase old past units → changed cs (after (take old.number (past ++ units)) initial).map ≡ m → changed cs (map_in old) ≡ m
+changed_base old cs m past units keeps are =
+    let p : old.number ≡ length past = keeps.base.number in
+    let front : take old.number (past ++ units) ≡ past = ap (λ k. take k (past ++ units)) (omega arith) ∙ take-append-add past units 0 ∙ append-nil past in
+    ap (λ (s : State). changed cs s.map) keeps.base.state ∙ ap (λ us. changed cs (after us initial).map) (sym front) ∙ are
+
+pub leads_on : (old : Based) (cs : List Change) (n : ℕ) (now : Recorded) (past units : List JournalUnit) → KeepsBase old past units → old.number ≡ now.base → past ++ units ≡ now.units →
+    changed cs (after (take now.base now.units) initial).map ≡ (after (take n now.units) initial).map → changed cs (map_in old) ≡ (after (take n now.units) initial).map
+leads_on old cs n now past units keeps number all are =
+    changed_base old cs (after (take n now.units) initial).map past units keeps (ap (λ k. changed cs (after (take k (past ++ units)) initial).map) number ∙ ap (λ us. changed cs (after (take now.base us) initial).map) all ∙ are)
+
+pub record IsMoved (old new : Based) (count : ℕ) (map : Database) (units : List JournalUnit) : Type 0 where
   pub number : new.number ≡ old.number + count
-  pub state : new.state ≡ record { map = database_of nodes; locks = locks_on (take count units) (locks_in old) }
+  pub state : new.state ≡ record { map = map; locks = locks_on (take count units) (locks_in old) }
   pub tallies : new.tallies ≡ counted_on (take count units) old.tallies
 
 -- the base is moved on to a number of all units
@@ -157,9 +183,9 @@ pub record Moved (new : Based) (n : ℕ) (past units : List JournalUnit) (count 
   pub all : (past ++ take count units) ++ drop count units ≡ past ++ units
   pub number : new.number ≡ n
 
-pub moved : (old new : Based) (n count : ℕ) (past units : List JournalUnit) (nodes : List (Reference × List ℕ)) → KeepsBase old past units → count ≡ n - old.number → old.number ≤ n → n ≤ length (past ++ units) →
-    nodes ≡ finmap.entries (after (take n (past ++ units)) initial).map → IsMoved old new count nodes units → Moved new n past units count
-moved old new n count past units nodes keeps c from to are m =
+pub moved : (old new : Based) (n count : ℕ) (past units : List JournalUnit) (m : Database) → KeepsBase old past units → count ≡ n - old.number → old.number ≤ n → n ≤ length (past ++ units) →
+    m ≡ (after (take n (past ++ units)) initial).map → IsMoved old new count m units → Moved new n past units count
+moved old new n count past units map keeps c from to are m =
     let base = keeps.base in
     let p : old.number ≡ length past = base.number in
     let l : length (past ++ units) ≡ length past + length units = length-append past units in
@@ -169,14 +195,14 @@ moved old new n count past units nodes keeps c from to are m =
     let fl : length first ≡ count = length-take-le count units within in
     let rl : length (drop count units) ≡ length units - count = length-drop count units in
     let here : take n (past ++ units) ≡ past ++ first = ap (λ k. take k (past ++ units)) (omega arith) ∙ take-append-add past units count in
-    let map : database_of nodes ≡ (after (past ++ first) initial).map = ap database_of are ∙ of_entries (after (take n (past ++ units)) initial).map ∙ ap (λ us. (after us initial).map) here in
+    let there : map ≡ (after (past ++ first) initial).map = are ∙ ap (λ us. (after us initial).map) here in
     let locks : locks_on first (locks_in old) ≡ (after (past ++ first) initial).locks = ap (λ (s : State). locks_on first s.locks) base.state ∙ sym (all_locks first (after past initial)) ∙ ap (λ (s : State). s.locks) (sym (after-append past first initial)) in
     let nl : new.number ≡ old.number + count = m.number in
     record {
       keeps = record {
         base = record {
           number = m.number ∙ omega (arith, p, fl, length-append past first);
-          state = m.state ∙ ap (λ d. record { map = d; locks = locks_on first (locks_in old) }) map ∙ ap (λ d. record { map = (after (past ++ first) initial).map; locks = d }) locks;
+          state = m.state ∙ ap (λ d. record { map = d; locks = locks_on first (locks_in old) }) there ∙ ap (λ d. record { map = (after (past ++ first) initial).map; locks = d }) locks;
           tallies = subst (λ ts. AreTallies ts (past ++ first)) (sym m.tallies) (all_counted first old.tallies past base.tallies (omega arith));
         };
         counted = omega arith;
@@ -194,11 +220,11 @@ pub record Checked (new : Based) (n : ℕ) (past rest all : List JournalUnit) : 
   pub whole : past ++ rest ≡ all
   pub number : new.number ≡ n
 
-checked_at : (old new : Based) (n count left : ℕ) (past new_past units rest all : List JournalUnit) (nodes : List (Reference × List ℕ)) (bytes : List ℕ) → KeepsBase old past units → count ≡ n - old.number → old.number ≤ n → n ≤ length (past ++ units) → past ++ units ≡ all →
-    nodes ≡ finmap.entries (after (take n (past ++ units)) initial).map → IsMoved old new count nodes units → new_past ≡ past ++ take count units → Stands bytes left (drop count units) → rest ≡ drop (length units - left) units → Checked new n new_past rest all
-checked_at old new n count left past new_past units rest all nodes bytes keeps c from to joined are m p stands r =
+checked_at : (old new : Based) (n count left : ℕ) (past new_past units rest all : List JournalUnit) (m : Database) (bytes : List ℕ) → KeepsBase old past units → count ≡ n - old.number → old.number ≤ n → n ≤ length (past ++ units) → past ++ units ≡ all →
+    m ≡ (after (take n (past ++ units)) initial).map → IsMoved old new count m units → new_past ≡ past ++ take count units → Stands bytes left (drop count units) → rest ≡ drop (length units - left) units → Checked new n new_past rest all
+checked_at old new n count left past new_past units rest all map bytes keeps c from to joined are m p stands r =
     let base = keeps.base in
-    let h = moved old new n count past units nodes keeps c from to are m in
+    let h = moved old new n count past units map keeps c from to are m in
     let pl : old.number ≡ length past = base.number in
     let l : length (past ++ units) ≡ length past + length units = length-append past units in
     let rl : length (drop count units) ≡ length units - count = length-drop count units in
@@ -211,11 +237,11 @@ checked_at old new n count left past new_past units rest all nodes bytes keeps c
       number = h.number;
     }
 
-pub checked : (old new : Based) (n count left : ℕ) (past new_past units mid rest all : List JournalUnit) (nodes : List (Reference × List ℕ)) (bytes : List ℕ) → KeepsBase old past units → count ≡ n - old.number → old.number ≤ n → n ≤ length all → past ++ units ≡ all →
-    nodes ≡ finmap.entries (after (take n all) initial).map → mid ≡ units → IsMoved old new count nodes mid → new_past ≡ past ++ take count mid → Stands bytes left (drop count mid) → rest ≡ drop (length mid - left) mid → Checked new n new_past rest all
-checked old new n count left past new_past units mid rest all nodes bytes keeps c from to joined are same =
-    subst (λ us. IsMoved old new count nodes us → new_past ≡ past ++ take count us → Stands bytes left (drop count us) → rest ≡ drop (length us - left) us → Checked new n new_past rest all) (sym same)
-    (checked_at old new n count left past new_past units rest all nodes bytes keeps c from (subst (λ us. n ≤ length us) (sym joined) to) joined (subst (λ us. nodes ≡ finmap.entries (after (take n us) initial).map) (sym joined) are))
+pub checked : (old new : Based) (n count left : ℕ) (past new_past units mid rest all : List JournalUnit) (m : Database) (bytes : List ℕ) → KeepsBase old past units → count ≡ n - old.number → old.number ≤ n → n ≤ length all → past ++ units ≡ all →
+    m ≡ (after (take n all) initial).map → mid ≡ units → IsMoved old new count m mid → new_past ≡ past ++ take count mid → Stands bytes left (drop count mid) → rest ≡ drop (length mid - left) mid → Checked new n new_past rest all
+checked old new n count left past new_past units mid rest all m bytes keeps c from to joined are same =
+    subst (λ us. IsMoved old new count m us → new_past ≡ past ++ take count us → Stands bytes left (drop count us) → rest ≡ drop (length us - left) us → Checked new n new_past rest all) (sym same)
+    (checked_at old new n count left past new_past units rest all m bytes keeps c from (subst (λ us. n ≤ length us) (sym joined) to) joined (subst (λ us. m ≡ (after (take n us) initial).map) (sym joined) are))
 
 -- ---- a database that was taken over
 

@@ -9,6 +9,7 @@ pub mod History
 pub mod Kept
 pub mod laws
 pub mod Log
+pub mod Merging
 pub mod Reading
 pub mod Statements
 pub mod Stored

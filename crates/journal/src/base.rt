@@ -1,12 +1,16 @@
 //! What the units leave that are dropped, and how it is moved on.
-ghost use Rattle.std.specs.Prelude.{◌≡◌, ◌≤◌, ◌<◌, ◌^◌, ◌+◌, OnOk, IfOk, take, drop, length};
+ghost use Rattle.std.specs.Prelude.{◌≡◌, ◌≤◌, ◌<◌, ◌^◌, ◌+◌, true, OnOk, OnErr, IfOk, take, drop, length};
 ghost use Rattle.std.specs.FinMap as finmap;
+ghost use Rattle.std.specs.FinMap.{is_sorted};
+ghost use Rattle.collation.specs.Changes.{changed};
+ghost use Rattle.collation.specs.Order.{ref_cmp};
 ghost use Rattle.journal.specs.Based.{database_of, locks_of_unit, locks_on, map_in, locks_in, HasPassed};
 ghost use Rattle.journal.specs.Counting.{tally_in, counted_unit, counted_on};
 ghost use Rattle.journal.specs.History.{initial};
 ghost use Rattle.journal.specs.Log.{Stands};
 
 use crate::log::Log;
+use crate::merging::{make_room, merged};
 use crate::tallies::Tallies;
 use crate::{Unit, Units};
 use collation::{Job, Text};
@@ -14,6 +18,7 @@ use key_codec::Key;
 use lock_table::LockTable;
 use std::alloc::{AllocError, Global};
 use std::marker::Model;
+use std::mem;
 
 /// What the units up to a number leave: each reference with a value, in their order, and the locks; and how many of
 /// these units each job has, rollbacks, restarts and ends of sessions aside.
@@ -109,6 +114,52 @@ impl Base {
             Err(_) => Err(AllocError),
         }
     }
+
+    // Locks and tallies moved on by so many units of the log, and what is left of it.
+    fn passed(&self, alloc: Global, log: &Log, count: u64) -> Result<Passed, AllocError>
+        requires { count ≤ length log.now.units }
+        ensures locks { IfOk result (λ p. p.moving.locks ≡ locks_on (take count log.now.units) (locks_in self.now)) }
+        ensures tallies { IfOk result (λ p. p.moving.tallies ≡ counted_on (take count log.now.units) self.now.tallies) }
+        ensures rest { IfOk result (λ p. Stands p.rest.bytes.items p.rest.left (drop count log.now.units)) }
+    {
+        let mut moving = self.as_moving()?;
+        let mut units = log.units();
+        moving.pass_over(&mut units, count)?;
+        let (bytes, left) = units.rest();
+        let bytes = bytes.to_vec(alloc)?;
+        let rest = Rest { bytes, left };
+        Ok(Passed { moving, rest })
+    }
+
+    /// The base is moved on by so many units of the log, which leave the database with these changes. Answers what
+    /// is left of the log. All memory is taken first; where it is refused nothing has changed.
+    pub(crate) fn move_on(
+        &mut self,
+        alloc: Global,
+        log: &Log,
+        count: u64,
+        changes: Vec<(Key, Option<Text>)>,
+    ) -> Result<Rest, AllocError>
+        requires count { count ≤ length log.now.units }
+        requires number { self.old.number + count < 2 ^ 64 }
+        requires rising { is_sorted ref_cmp changes.items ≡ true }
+        ensures number { OnOk result (self.new.number ≡ self.old.number + count) }
+        ensures state { OnOk result (self.new.state ≡ (record { map = changed changes.items (map_in self.old); locks = locks_on (take count log.now.units) (locks_in self.old) })) }
+        ensures tallies { OnOk result (self.new.tallies ≡ counted_on (take count log.now.units) self.old.tallies) }
+        ensures rest { IfOk result (λ r. Stands r.bytes.items r.left (drop count log.now.units)) }
+        ensures refused { OnErr result (self.new ≡ self.old) }
+    {
+        let passed = self.passed(alloc, log, count)?;
+        let waiting = make_room(&mut self.nodes, changes.len())?;
+        let nodes = mem::replace(&mut self.nodes, Vec::new(alloc));
+        *self = Base {
+            number: self.number + count,
+            nodes: merged(nodes, waiting, changes),
+            locks: passed.moving.locks,
+            tallies: passed.moving.tallies,
+        };
+        Ok(passed.rest)
+    }
 }
 
 // Locks and tallies on their way from one base to the next.
@@ -177,43 +228,16 @@ impl Moving {
     }
 }
 
-/// The next base, and the bytes of the units after it.
+/// The bytes of the units that are left of a log, and how many these are.
 #[derive(Drop)]
-pub(crate) struct Moved {
-    pub(crate) base: Base,
-    pub(crate) rest: Vec<u8>,
+pub(crate) struct Rest {
+    pub(crate) bytes: Vec<u8>,
     pub(crate) left: u64,
 }
 
-/// The base moved on by so many units of the log, with these nodes. Nothing is changed: what takes memory is all done here.
-pub(crate) fn moved_on(
-    alloc: Global,
-    base: &Base,
-    log: &Log,
-    count: u64,
-    nodes: Vec<(Key, Text)>,
-) -> Result<Moved, AllocError>
-    requires count { count ≤ length log.now.units }
-    requires number { base.now.number + count < 2 ^ 64 }
-    requires sorted { nodes.items ≡ finmap.entries (database_of nodes.items) }
-    ensures number { IfOk result (λ m. m.base.number ≡ base.now.number + count) }
-    ensures state { IfOk result (λ m. m.base.state ≡ (record { map = database_of nodes.items; locks = locks_on (take count log.now.units) (locks_in base.now) })) }
-    ensures tallies { IfOk result (λ m. m.base.tallies ≡ counted_on (take count log.now.units) base.now.tallies) }
-    ensures rest { IfOk result (λ m. Stands m.rest.items m.left (drop count log.now.units)) }
-{
-    let mut moving = base.as_moving()?;
-    let mut units = log.units();
-    moving.pass_over(&mut units, count)?;
-    let (bytes, left) = units.rest();
-    let rest = bytes.to_vec(alloc)?;
-    Ok(Moved {
-        base: Base {
-            number: base.number + count,
-            nodes,
-            locks: moving.locks,
-            tallies: moving.tallies,
-        },
-        rest,
-        left,
-    })
+// Locks and tallies after some units, and what is left after these.
+#[derive(Drop)]
+struct Passed {
+    moving: Moving,
+    rest: Rest,
 }

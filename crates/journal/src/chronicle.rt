@@ -1,10 +1,13 @@
 //! The log and the units that it has dropped, as one list.
-ghost use Rattle.std.specs.Prelude.{◌≡◌, ◌≤◌, ◌-◌, ◌+◌, ◌<◌, ◌^◌, ◌++◌, [], ◌∷◌, List, ℕ, take, drop, length, IfSome, IfOk, IfErr, OnOk, OnErr, MatchOption};
+ghost use Rattle.std.specs.Prelude.{◌≡◌, ◌≤◌, ◌-◌, ◌+◌, ◌<◌, ◌^◌, ◌++◌, [], ◌∷◌, List, ℕ, take, drop, length, IfSome, IfOk, IfErr, OnOk, OnErr, MatchOption, true};
 ghost use Rattle.std.specs.List.{flat_map};
 ghost use Rattle.refusal.specs.declared.Refusal.TheVariants.{StampsUsedUp};
 ghost use Rattle.journal.specs.declared.unit.Unit.{Unit as JournalUnit};
 ghost use Rattle.journal.specs.declared.unit.Unit.TheVariants.{Lone, Whole, Lock, Back, End};
 ghost use Rattle.std.specs.FinMap as finmap;
+ghost use Rattle.std.specs.FinMap.{is_sorted};
+ghost use Rattle.collation.specs.Changes.{changed};
+ghost use Rattle.collation.specs.Order.{ref_cmp};
 ghost use Rattle.journal.specs.Adopted.{adopted_units};
 ghost use Rattle.journal.specs.Based.{IsBaseOf, database_of};
 ghost use Rattle.journal.specs.Format.{unit_bytes};
@@ -12,7 +15,7 @@ ghost use Rattle.journal.specs.History.{initial, after};
 ghost use Rattle.journal.specs.Log.{unit_in, IsUnitOf};
 ghost use Rattle.journal.specs.Stored.{Each, FitsUnit};
 
-use crate::base::{Base, moved_on};
+use crate::base::Base;
 use crate::exchanges::ExchangeLog;
 use crate::log::Log;
 use crate::past::Past;
@@ -204,16 +207,18 @@ impl Chronicle {
         &self.base
     }
 
-    /// The base is moved on to this number, where these are the nodes, and the units up to it are dropped. Refused for want
-    /// of memory, which is all taken first: then the units and the base are as they were.
+    /// The base is moved on to this number, to which these changes lead from its database, and whose references rise; the
+    /// units up to it are dropped. Refused for want of memory, which is all taken first: then the units and the base are as
+    /// they were.
     pub(crate) fn checkpoint(
         &mut self,
         number: u64,
-        nodes: Vec<(Key, Text)>,
+        changes: Vec<(Key, Option<Text>)>,
     ) -> Result<(), AllocError>
         requires from { self.old.base ≤ number }
         requires to { number ≤ length self.old.units }
-        requires nodes { nodes.items ≡ finmap.entries (after (take number self.old.units) initial).map }
+        requires rising { is_sorted ref_cmp changes.items ≡ true }
+        requires changes { changed changes.items (after (take self.old.base self.old.units) initial).map ≡ (after (take number self.old.units) initial).map }
         ensures units { self.new.units ≡ self.old.units }
         ensures base { OnOk result (self.new.base ≡ number) }
         ensures refused { OnErr result (self.new.base ≡ self.old.base) }
@@ -221,11 +226,11 @@ impl Chronicle {
     {
         self.log.begin();
         let count = number - self.base.number();
-        let moved = moved_on(self.log.allocator(), &self.base, &self.log, count, nodes)?;
+        let alloc = self.log.allocator();
+        let rest = self.base.move_on(alloc, &self.log, count, changes)?;
         let past = self.past.with(&self.log, count);
-        self.log.keep_rest(moved.rest, moved.left);
+        self.log.keep_rest(rest.bytes, rest.left);
         self.past = past;
-        self.base = moved.base;
         Ok(())
     }
 }

@@ -18,7 +18,7 @@
 //! SET ^A(12345)=12345 of job 1 has 20 bytes: 01 00, 0B 41 00 04 01 05 02 03 04 05 06 00, 05 31 32 33 34 35.
 //!
 //! Read `specs/History.antt`, `specs/Touching.antt`, `specs/Story.antt`; then `specs/Format.antt` and
-//! `specs/Reading.antt`; then `list.rt`, `log.rt`, `write.rt`.
+//! `specs/Reading.antt`; then `list.rt`, `log.rt`, `write.rt`; of the base `specs/Based.antt`, `base.rt`, `merging.rt`.
 //! Not promised: the time of a unit's reading back.
 #![tactic(auto)]
 
@@ -40,6 +40,7 @@ mod exchanges;
 mod laws;
 mod list;
 mod log;
+mod merging;
 mod past;
 mod read;
 mod tallies;

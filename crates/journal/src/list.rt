@@ -1,9 +1,12 @@
 //! The journal, and the receipts for its units.
-ghost use Rattle.std.specs.Prelude.{◌≡◌, List, ◌+◌, ◌<◌, ◌≤◌, ◌^◌, ◌-◌, [], ◌∷◌, ◌++◌, take, length, None, Some, IsSome, IfSome, OnOk, OnErr, IfOk, IfErr, IsErrOf, MatchOption};
+ghost use Rattle.std.specs.Prelude.{◌≡◌, List, ◌+◌, ◌<◌, ◌≤◌, ◌^◌, ◌-◌, [], ◌∷◌, ◌++◌, take, length, None, Some, IsSome, IfSome, OnOk, OnErr, IfOk, IfErr, IsErrOf, MatchOption, true};
 ghost use Rattle.std.specs.List.{flat_map};
 ghost use Rattle.journal.specs.declared.unit.Unit.{Unit as JournalUnit};
 ghost use Rattle.journal.specs.declared.unit.Unit.TheVariants.{Lone, Whole, Lock, Back, End};
 ghost use Rattle.std.specs.FinMap as finmap;
+ghost use Rattle.std.specs.FinMap.{is_sorted};
+ghost use Rattle.collation.specs.Changes.{changed};
+ghost use Rattle.collation.specs.Order.{ref_cmp};
 ghost use Rattle.journal.specs.Adopted.{adopted_units};
 ghost use Rattle.journal.specs.Based.{IsBaseOf, database_of};
 ghost use Rattle.journal.specs.Format.{unit_bytes};
@@ -263,14 +266,20 @@ impl Journal {
         self.log.base()
     }
 
-    /// Moves the base on to this number, at which these are the references with a value: what the units up to it leave is
-    /// kept in their place, and their bytes are given back. Units keep their numbers.
+    /// Moves the base on to this number, to which these changes lead from the base's database; their references rise. It
+    /// takes memory for the changes and not for all references: they are merged into the base's list where it stands,
+    /// before the first of them nothing moves, and after it each node at most once.
     ///
     /// Refusals: `OutOfMemory`, after which units and base are as they were. A unit that was prepared is gone.
-    pub fn checkpoint(&mut self, number: u64, nodes: Vec<(Key, Text)>) -> Result<(), Refusal>
+    pub fn checkpoint(
+        &mut self,
+        number: u64,
+        changes: Vec<(Key, Option<Text>)>,
+    ) -> Result<(), Refusal>
         requires from { self.old.base ≤ number }
         requires to { number ≤ length self.old.units }
-        requires nodes { nodes.items ≡ finmap.entries (after (take number self.old.units) initial).map }
+        requires rising { is_sorted ref_cmp changes.items ≡ true }
+        requires changes { changed changes.items (after (take self.old.base self.old.units) initial).map ≡ (after (take number self.old.units) initial).map }
         ensures units { self.new.units ≡ self.old.units }
         ensures base { OnOk result (self.new.base ≡ number) }
         ensures refused { OnErr result (self.new.base ≡ self.old.base) }
@@ -278,7 +287,7 @@ impl Journal {
         ensures cause { IfErr result (λ refusal. refusal ≡ Refusal.OutOfMemory) }
     {
         self.prepared = None;
-        match self.log.checkpoint(number, nodes) {
+        match self.log.checkpoint(number, changes) {
             Ok(()) => Ok(()),
             Err(_) => Err(Refusal::OutOfMemory),
         }
