@@ -29,10 +29,6 @@ from_start (e ∷ es) = ap (λ (l : List (Reference × List ℕ)). e ∷ l) (fro
 
 -- ---- the base of a core
 
--- the content at a stamp that is kept is what so many units leave
-pub content_there : (n : ℕ) (store : Stored) (units : List JournalUnit) → Agreement store units → store.cut ≤ n → n ≤ length units → (nodes : List (Reference × List ℕ)) → nodes ≡ finmap.entries (content_at store.versions n) → nodes ≡ finmap.entries (after (take n units) initial).map
-content_there n store units agreed kept to nodes is = is ∙ ap finmap.entries (agreed.content n kept to)
-
 -- the stamp that is asked for, or now, is kept
 pub record IsKept (n : ℕ) (store : Stored) (units : List JournalUnit) : Type 0 where
   pub from : store.cut ≤ n

@@ -2,7 +2,14 @@
 //! 38.
 
 /// Each is a script.
-pub const LISTS: [&str; 5] = [DATA_COMMANDS, PLAIN, TRANSACTIONS, COMMIT, CHECKPOINTS];
+pub const LISTS: [&str; 6] = [
+    DATA_COMMANDS,
+    PLAIN,
+    TRANSACTIONS,
+    COMMIT,
+    CHECKPOINTS,
+    KILLS,
+];
 
 // Units of all kinds, the base held back by job 2's transaction and let go, locks that it keeps, and nodes that come and go.
 const CHECKPOINTS: &str = concat!(
@@ -133,4 +140,66 @@ const COMMIT: &str = concat!(
     "1 TCOMMIT\n",
     "2 $GET(^B(1))\n",
     "2 LOCK +^A(1)\n",
+);
+
+// Nodes in more than one leaf of the tree, and KILLs of some of them, alone and beside a transaction.
+const KILLS: &str = concat!(
+    "1 SET ^A(\"a text that is too long to lie inline\",1)=1\n",
+    "1 SET ^A(\"a text that is too long to lie inline\",2)=2\n",
+    "1 SET ^A(\"a text that is too long to lie inline\",3)=3\n",
+    "1 SET ^A(\"a text that is too long to lie inline\",4)=4\n",
+    "1 SET ^A(\"a text that is too long to lie inline\",5)=5\n",
+    "1 SET ^A(\"a text that is too long to lie inline\",6)=6\n",
+    "1 SET ^A(\"a text that is too long to lie inline\",7)=7\n",
+    "1 SET ^A(\"a text that is too long to lie inline\",8)=8\n",
+    "1 SET ^A(\"a text that is too long to lie inline\",9)=9\n",
+    "1 SET ^A(\"a text that is too long to lie inline\",10)=10\n",
+    "1 SET ^A(\"a text that is too long to lie inline\",11)=11\n",
+    "1 SET ^A(\"a text that is too long to lie inline\",12)=12\n",
+    "1 SET ^A(\"a text that is too long to lie inline\",13)=13\n",
+    "1 SET ^A(\"a text that is too long to lie inline\",14)=14\n",
+    "1 SET ^A(\"a text that is too long to lie inline\",15)=15\n",
+    "1 SET ^A(\"a text that is too long to lie inline\",16)=16\n",
+    "1 SET ^A(\"a text that is too long to lie inline\",17)=17\n",
+    "1 SET ^A(\"a text that is too long to lie inline\",18)=18\n",
+    "1 SET ^A(\"a text that is too long to lie inline\",19)=19\n",
+    "1 SET ^A(\"a text that is too long to lie inline\",20)=20\n",
+    "1 SET ^A(\"a text that is too long to lie inline\",21)=21\n",
+    "1 SET ^A(\"a text that is too long to lie inline\",22)=22\n",
+    "1 SET ^A(\"a text that is too long to lie inline\",23)=23\n",
+    "1 SET ^A(\"a text that is too long to lie inline\",24)=24\n",
+    "1 SET ^B(\"a text that is too long to lie inline\",1)=1\n",
+    "1 SET ^B(\"a text that is too long to lie inline\",2)=2\n",
+    "1 SET ^B(\"a text that is too long to lie inline\",3)=3\n",
+    "1 SET ^B(\"a text that is too long to lie inline\",4)=4\n",
+    "1 SET ^B(\"a text that is too long to lie inline\",5)=5\n",
+    "1 SET ^B(\"a text that is too long to lie inline\",6)=6\n",
+    "1 SET ^B(\"a text that is too long to lie inline\",7)=7\n",
+    "1 SET ^B(\"a text that is too long to lie inline\",8)=8\n",
+    "1 SET ^B(\"a text that is too long to lie inline\",9)=9\n",
+    "1 SET ^B(\"a text that is too long to lie inline\",10)=10\n",
+    "1 SET ^B(\"a text that is too long to lie inline\",11)=11\n",
+    "1 SET ^B(\"a text that is too long to lie inline\",12)=12\n",
+    "1 SET ^B(\"a text that is too long to lie inline\",13)=13\n",
+    "1 SET ^B(\"a text that is too long to lie inline\",14)=14\n",
+    "1 SET ^B(\"a text that is too long to lie inline\",15)=15\n",
+    "1 SET ^B(\"a text that is too long to lie inline\",16)=16\n",
+    "1 SET ^B(\"a text that is too long to lie inline\",17)=17\n",
+    "1 SET ^B(\"a text that is too long to lie inline\",18)=18\n",
+    "1 SET ^B(\"a text that is too long to lie inline\",19)=19\n",
+    "1 SET ^B(\"a text that is too long to lie inline\",20)=20\n",
+    "1 SET ^B(\"a text that is too long to lie inline\",21)=21\n",
+    "1 SET ^B(\"a text that is too long to lie inline\",22)=22\n",
+    "1 SET ^B(\"a text that is too long to lie inline\",23)=23\n",
+    "1 SET ^B(\"a text that is too long to lie inline\",24)=24\n",
+    "1 KILL ^A(\"a text that is too long to lie inline\",7)\n",
+    "1 KILL ^A(\"a text that is too long to lie inline\")\n",
+    "1 $QUERY(^A(\"\"))\n",
+    "1 SET ^A(1)=1\n",
+    "2 TSTART\n",
+    "1 KILL ^A\n",
+    "2 TROLLBACK\n",
+    "1 KILL ^A\n",
+    "1 KILL ^B\n",
+    "1 $QUERY(^A)\n",
 );
