@@ -153,5 +153,8 @@ has_all (x ∷ xs) (suc by) v at all empty h =
     let w : weight h x ≡ 0 = ap (weigh h) e in
     let r = has_all xs by v at (omega arith) (λ j u at'. empty (suc j) u at') h in omega arith
 
+pub slips_few : (log : List JournalUnit) (given : ℕ) (views : List SeatView) (id : ℕ) (v : SeatView) → SlipsAddUp log given views → get_elem? views id ≡ some v → slips_in v ≤ given
+slips_few log given views id v k at = let most = no_more slips_in views id v at in omega (arith, most, k.slips)
+
 pub slips_all : (log : List JournalUnit) (given : ℕ) (views : List SeatView) (id : ℕ) (v : SeatView) → SlipsAddUp log given views → get_elem? views id ≡ some v → slips_in v ≡ given → AreAll log (units_in v)
 slips_all log given views id v k at all h = sym (has_all views id v at (k.slips ∙ sym all) (λ j u e. (k.writes j u e).empty) h) ∙ k.units h

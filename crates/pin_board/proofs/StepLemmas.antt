@@ -18,7 +18,7 @@ use Rattle.pin_board.specs.declared.view.DeskView.{DeskView}
 use Rattle.pin_board.specs.declared.view.PinView.{PinView}
 use Rattle.pin_board.specs.declared.view.SeatView.{SeatView}
 use Rattle.pin_board.specs.Slips.{AreInJournal, IsNext, SlipFacts, SlipsAddUp}
-use Rattle.pin_board.proofs.SlipLemmas.{slips_same, slips_given, slips_written, slips_beside, slips_off, slips_joined, slips_all, writes_nothing}
+use Rattle.pin_board.proofs.SlipLemmas.{slips_same, slips_given, slips_written, slips_beside, slips_off, slips_joined, slips_all, slips_few, writes_nothing}
 use Rattle.pin_board.specs.Views.{idle, least, new_desk, new_pin, desk_only, pin_only, pin_with_desk, slip_only, tally_only, nobody, starting, desk_or, pin_or, clocked, stored, checked, rested, began, lifted, passed, drew, dealt_one, logged, wrote, rebased, gave, with_slip, without_slip}
 use Rattle.pin_board.specs.Rule.{slot_word, DeskFacts, IsSettled, PinFacts, SeatFacts, BoardRule}
 use Rattle.pin_board.specs.Steps.{clocks, stores, checks, rests, begins, lifts, passes, draws, writes, rebases, meets, gives_slip, learns}
@@ -505,7 +505,7 @@ module _ (seats slots id : ℕ) (d : DeskView) (p : PinView) where
             (record { placed = own.placed; alone = own.alone; held = own.held; before = le_refl (length d.log); base = sym (take_all (length d.log) d.log (le_refl (length d.log))); settled = λ e. let z = own.settled e in let y = z.within in record { within = omega arith; high = z.high; passed = z.passed } })
             (λ j q o. o)
             (slips_same d.log d.given s.views id (pin_with_desk d p) (both_slips seats slots id d p s r at) at (pin_with_desk d (rebased d p)) refl refl)),
-        (refl, k.clock_is, both_in_journal seats slots id d p s r at),
+        (refl, k.clock_is, record { below = λ e. let z = own.settled e in le_trans z.high z.within; slot = λ e. let z = own.settled e in (z.high, z.within); before = own.before; base = own.base; mine = both_in_journal seats slots id d p s r at; high = k.high_now }),
       )
 
   pub meets_kept : Allows (BoardRule seats) slots id (pin_with_desk d p, []) 0 (λ n. n) (meets (step slots 0 0 0 none) (pin_with_desk d p, []))
@@ -607,7 +607,7 @@ learns_kept seats slots id d n back s r deep at small =
       keeps,
       tt,
       subst (λ (x : List ℕ × List SeatView). BoardRule seats record { words = x.0; homes = s.homes; views = x.1 }) (λ i. (sym (set-get_or s.words 0 0) i, sym (set_again s.views id (tally_only d n back) at) i)) r,
-      (refl, ((k.writes id (tally_only d n back) at).in_journal, λ all. slips_all d.log d.given s.views id (tally_only d n back) k at all)),
+      (refl, ((k.writes id (tally_only d n back) at).in_journal, (λ all. slips_all d.log d.given s.views id (tally_only d n back) k at all, slips_few d.log d.given s.views id (tally_only d n back) k at))),
     )
 
 single : (v u : SeatView) (j : ℕ) → get_elem? (v ∷ []) j ≡ some u → (j ≡ 0) × (v ≡ u)

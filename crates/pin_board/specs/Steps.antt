@@ -47,9 +47,9 @@ Writes (some c) m m' = (m' ≡ (pin_with_desk (logged (desk_in m.0) c) (wrote (p
 abbrev pub writes : Step Claim → SeatState → ℕ → SeatState → Type 0
 writes st m n m' = Writes st.said m m'
 
--- it moves its start to now
+-- it moves its start to now, and learns what the rule says of it and the desk
 abbrev pub rebases : Step Claim → SeatState → ℕ → SeatState → Type 0
-rebases st m n m' = (m' ≡ (pin_with_desk (desk_in m.0) (rebased (desk_in m.0) (pin_in m.0)), [])) × (n ≡ length (desk_in m.0).log) × AreInJournal (desk_in m.0).log (pin_in m.0).mine
+rebases st m n m' = (m' ≡ (pin_with_desk (desk_in m.0) (rebased (desk_in m.0) (pin_in m.0)), [])) × (n ≡ length (desk_in m.0).log) × Met (desk_in m.0) (pin_in m.0)
 
 -- it learns what the rule says of it and the desk
 abbrev pub meets : Step Claim → SeatState → ℕ → SeatState → Type 0

@@ -90,9 +90,9 @@ pub record Met (d : DeskView) (p : PinView) : Type 0 where
   pub mine : AreInJournal d.log p.mine
   pub high : d.high ≤ length d.log
 
--- the units on the slips that came back are in the journal, and where all came back they are all of it
+-- the units on the slips that came back are in the journal, and where all came back they are all of it; no more came back than were given
 abbrev pub Learned : DeskView → ℕ → List Claim → Type 0
-Learned d n back = AreInJournal d.log back × (n ≡ d.given → AreAll d.log back)
+Learned d n back = AreInJournal d.log back × ((n ≡ d.given → AreAll d.log back) × (n ≤ d.given))
 
 -- which seat it is
 abbrev pub desk_only : DeskView → SeatView

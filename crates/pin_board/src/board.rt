@@ -399,22 +399,23 @@ impl<B: BoardName> Board<B> {
     }
 
     /// Shows that the units on the slips that came back are in the journal, each at its number, and where all slips
-    /// came back that they are all of it. It changes nothing. Takes no memory.
+    /// came back that they are all of it; no more came back than were given. It changes nothing. Takes no memory.
     pub fn audit(&self, tally: &mut Tally<B>)
         ensures same { tally.new ≡ tally.old }
         ensures in_journal { AreInJournal tally.old.units tally.old.back }
         ensures all { tally.old.returned ≡ tally.old.given → AreAll tally.old.units tally.old.back }
+        ensures few { tally.old.returned ≤ tally.old.given }
     {
         self.words.learn(&mut tally.seat);
     }
 
-    /// Moves the session's start to now, and answers it. The slot keeps its stamp, which isn't after it. Takes no
-    /// memory.
+    /// Moves the session's start to now, and answers it; shows what `meet` does of the session before. The slot keeps its
+    /// stamp, which isn't after it. Takes no memory.
     pub fn restart<R: Wait>(&self, rt: &R, desk: &Desk<B>, pin: &mut Pin<B>) -> u64
         requires { pin.old.settled ≡ true }
         ensures pin { pin.new ≡ rebased desk.now pin.old }
         ensures start { result ≡ length desk.now.log }
-        ensures in_journal { AreInJournal desk.now.log pin.old.mine }
+        ensures met { Met desk.now pin.old }
     {
         let seat = lift(rt, &desk.perch);
         self.words.lend(&mut pin.seat, seat);

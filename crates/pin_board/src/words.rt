@@ -263,7 +263,7 @@ impl Words {
         ensures same { (seat.new.table_id ≡ seat.old.table_id) × (seat.new.id ≡ seat.old.id) }
         ensures view { seat.new.me ≡ (pin_with_desk (desk_in seat.old.me.0) (rebased (desk_in seat.old.me.0) (pin_in seat.old.me.0)), []) }
         ensures now { result ≡ length (desk_in seat.old.me.0).log }
-        ensures in_journal { AreInJournal (desk_in seat.old.me.0).log (pin_in seat.old.me.0).mine }
+        ensures met { Met (desk_in seat.old.me.0) (pin_in seat.old.me.0) }
     {
         // Only who has the desk stores the clock, and that is this seat.
         self.table.shared.load::<Rebase>(seat, CLOCK)
