@@ -1,17 +1,18 @@
 -- A transaction that begins.
-use Rattle.std.proofs.Common.{◌≡◌, ℕ, ◌+◌, ◌<◌, List, length, true, Some, sym, ap, ◌∙◌, subst}
+use Rattle.std.proofs.Common.{◌≡◌, ℕ, ◌+◌, ◌<◌, Bool, List, length, take, true, false, Some, None, sym, ap, ◌∙◌, subst}
+use Rattle.std.specs.Prelude.{cond, IfSome}
 use Rattle.journal.specs.declared.unit.Unit.{Unit as JournalUnit}
 use Rattle.journal.specs.Kept.{Claim}
-use Rattle.journal.specs.History.{initial, after}
+use Rattle.journal.specs.History.{initial, after, IsLegal}
 use Rattle.validate_commit.specs.Working.{Working, IsWorkOn, just_begun}
 use Rattle.validate_commit.specs.laws.Working.{work_nothing}
 use Rattle.job_core.specs.Sessions.{Session as JobSession, just_opened}
 use Rattle.pin_board.specs.declared.view.DeskView.{DeskView}
 use Rattle.pin_board.specs.declared.view.PinView.{PinView}
-use Rattle.pin_board.specs.Views.{rebased}
+use Rattle.pin_board.specs.Views.{rebased, Met}
 use Rattle.pin_board.specs.Slips.{AreInJournal}
 use Rattle.shared_engine.specs.Receipts.{receipts_in, IsBook}
-use Rattle.shared_engine.specs.Sessions.{held, start_in, IsSession, HasBegun}
+use Rattle.shared_engine.specs.Sessions.{held, start_in, IsSession, HasBegun, IsJournalOf}
 use Rattle.shared_engine.proofs.Booking.{in_journal_receipts}
 use Rattle.shared_engine.proofs.Starting.{start_settled, at_settled}
 
@@ -25,6 +26,18 @@ has_begun base p r s t start mine settled here long begun own =
       is = λ i. held (state i) (at i) (receipts i);
       receipts = in_journal_receipts base p.mine own;
     }
+
+-- what the board shows under the lock is the session's journal
+pub met_journal : (units : List JournalUnit) (desk : DeskView) (pin : PinView) (s : JobSession) → IsLegal units initial → desk.log ≡ units → Met desk pin → IsJournalOf units (held s (start_in pin) (receipts_in pin.mine))
+met_journal units desk pin s legal log met = record {
+  legal = legal;
+  start = by_settled pin.settled;
+  receipts = in_journal_receipts units pin.mine (subst (λ (us : List JournalUnit). AreInJournal us pin.mine) log met.mine);
+}
+  where
+    by_settled : (b : Bool) → IfSome (cond b (Some pin.base) None) (λ base. base ≡ take (length base) units)
+    by_settled true = met.base ∙ ap (take (length pin.base)) log
+    by_settled false = tt
 
 -- the session whose transaction has just begun on these units
 pub session_begun : (s t : JobSession) (pin later : PinView) (ns : List ℕ) (base : List JournalUnit) (start : ℕ) → IsSession s pin ns → later.place ≡ pin.place → later.slips ≡ pin.slips → later.mine ≡ pin.mine → later.settled ≡ true → later.base ≡ base → start ≡ length base

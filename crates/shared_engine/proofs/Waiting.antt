@@ -12,9 +12,13 @@ use Rattle.shared_engine.specs.Engines.{after_try, OnOkThat, OnOkNot, HasItsName
 use Rattle.shared_engine.proofs.Starting.{noted_work}
 
 -- what holds of these units holds of some
-pub at_units : (r : Result ℕ Refusal) (us : List JournalUnit) (P : List JournalUnit → ℕ → Type 0) → IfOk r (P us) → IfOk r (λ n. (vs : List JournalUnit) × P vs n)
-at_units (Ok n) us P h = (us, h)
-at_units (Err e) us P h = tt
+pub known_at : {A E : Type 0} (r : Result A E) (us : List JournalUnit) (Q : List JournalUnit → Type 0) (P : List JournalUnit → A → Type 0) → OnOk r (Q us) → IfOk r (P us) → IfOk r (λ a. (vs : List JournalUnit) × Q vs × P vs a)
+known_at (Ok a) us Q P q h = (us, q, h)
+known_at (Err e) us Q P q h = tt
+
+pub known_between : {A E : Type 0} (r : Result A E) (us more : List JournalUnit) (Q : List JournalUnit → Type 0) (P : List JournalUnit → List JournalUnit → A → Type 0) → OnOk r (Q us) → IfOk r (P us more) → IfOk r (λ a. (vs ws : List JournalUnit) × Q vs × P vs ws a)
+known_between (Ok a) us more Q P q h = (us, more, q, h)
+known_between (Err e) us more Q P q h = tt
 
 -- what holds of this number holds of some
 pub at_number : (r : Result Bool Refusal) (n : ℕ) (P : ℕ → Type 0) → OnOkThat r (P n) → OnOkThat r ((m : ℕ) × P m)

@@ -67,7 +67,7 @@ IsOpened (Err refusal) units more old new = (refusal ≡ Again) × AreSame units
 
 -- a TSTART within a transaction
 abbrev pub IsDeeper : Result ℕ Refusal → List JournalUnit → List JournalUnit → Held → Held → Type 0
-IsDeeper (Ok level) units more old new = (level ≡ old.state.level + 1) × ((more ≡ units) × (new ≡ held (at_level level old.state) old.start old.receipts))
+IsDeeper (Ok level) units more old new = ((level ≡ old.state.level + 1) × (old.state.level < most_levels)) × ((more ≡ units) × (new ≡ held (at_level level old.state) old.start old.receipts))
 IsDeeper (Err refusal) units more old new = ((refusal ≡ LevelTooDeep) × (most_levels ≤ old.state.level)) × AreSame units more old new
 
 -- TCOMMIT, TROLLBACK or TRESTART without a transaction

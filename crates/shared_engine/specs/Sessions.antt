@@ -1,8 +1,8 @@
 -- What is seen of a session.
-use Rattle.std.specs.Prelude.{◌≡◌, ℕ, ◌+◌, ◌<◌, nat_lt, cond, List, [], ◌∷◌, ◌++◌, length, Option, None, Some, if◌then◌else◌}
+use Rattle.std.specs.Prelude.{◌≡◌, ℕ, ◌+◌, ◌<◌, nat_lt, cond, List, [], ◌∷◌, ◌++◌, length, take, Option, None, Some, IfSome, if◌then◌else◌}
 use Rattle.journal.specs.declared.unit.Unit.{Unit as JournalUnit}
 use Rattle.journal.specs.Kept.{Claim}
-use Rattle.journal.specs.History.{initial, after}
+use Rattle.journal.specs.History.{initial, after, IsLegal}
 use Rattle.validate_commit.specs.Working.{IsWorkOn}
 use Rattle.job_core.specs.Sessions.{Session as JobSession, idle, just_opened, after_lock, anew}
 use Rattle.pin_board.specs.declared.view.PinView.{PinView}
@@ -54,6 +54,12 @@ pub record HasBegun (base : List JournalUnit) (old new : Held) : Type 0 where
 -- the transaction begins anew behind these units
 abbrev pub begun_anew : List JournalUnit → Held → Held
 begun_anew units s = held (anew (length units) s.state) (Some units) s.receipts
+
+-- the journal is legal and goes on from the start of the session's transaction, and the units of its receipts are in it
+pub record IsJournalOf (units : List JournalUnit) (s : Held) : Type 0 where
+  pub legal : IsLegal units initial
+  pub start : IfSome s.start (λ base. base ≡ take (length base) units)
+  pub receipts : AreInJournal units s.receipts
 
 -- no transaction is open any more
 abbrev pub ended : Held → Held

@@ -14,7 +14,7 @@ ghost use Rattle.job_core.specs.Sessions.{idle, IsAnsweredOrRefused, IsOpenOn};
 ghost use Rattle.pin_board.specs.Slips.{AreInJournal};
 ghost use Rattle.pin_board.specs.Tally.{tallied};
 ghost use Rattle.shared_engine.specs.Receipts.{Book, book, IsOwn, RisesFrom};
-ghost use Rattle.shared_engine.specs.Sessions.{held, ended, and_receipt, begun_anew, noted_lock};
+ghost use Rattle.shared_engine.specs.Sessions.{held, ended, and_receipt, begun_anew, noted_lock, IsJournalOf};
 ghost use Rattle.shared_engine.specs.Engines.{has_session, SessionIs, SameSessions, gone_back, lock_unit, after_try, HasEnded, OnOkThat, OnOkNot, AreAllReceipts, IsDue};
 
 use crate::seats::Seats;
@@ -58,7 +58,7 @@ pub(crate) struct Locked<B: BoardName> {
     horizon: u64,
     opened: u64,
     sweep: Sweep,
-    core: Core,
+    pub(crate) core: Core,
     pub(crate) desk: Desk<B>,
 }
 
@@ -279,8 +279,11 @@ impl<B: BoardName> Locked<B> {
         ensures same { session.new ≡ session.old }
         ensures start { IfSome session.old.start (λ base. base ≡ take (length base) self.now.common.units) }
         ensures kept { IsOpenOn self.now.common session.old.state }
+        ensures journal { IsJournalOf self.now.common.units session.old }
     {
         board.meet(rt, &self.desk, &mut session.pin);
+        // The core shows that its journal is legal.
+        let _ = self.core.journal();
     }
 
     /// A data command of an open transaction whose start's content is there.
@@ -343,6 +346,7 @@ impl<B: BoardName> Locked<B> {
         requires { 1 ≤ session.old.state.level }
         ensures units { OnOk result (self.new.common.units ≡ gone_back session.old.state self.old.common.units) }
         ensures session { IfOk result (λ restarts. (session.new ≡ begun_anew self.new.common.units session.old) × (restarts ≡ session.new.state.restarts)) }
+        ensures journal { OnOk result (IsJournalOf self.new.common.units session.old) }
         ensures refused { OnErr result ((self.new ≡ self.old) × (session.new ≡ session.old)) }
         ensures cause { IfErr result (λ refusal. HasNoRoom refusal 1 (length self.old.common.units) × (session.old.state.took_lock ≡ true)) }
         ensures others { (self.new.opened ≡ self.old.opened) × (self.new.seats ≡ self.old.seats) }
@@ -356,6 +360,8 @@ impl<B: BoardName> Locked<B> {
             self.horizon,
         )?;
         let now = board.restart(rt, &self.desk, &mut session.pin);
+        // The core shows that its journal is legal.
+        let _ = self.core.journal();
         session.state.begin_anew(now);
         Ok(session.state.restarts())
     }
@@ -373,12 +379,15 @@ impl<B: BoardName> Locked<B> {
     ) -> Result<Ended, Refusal>
         requires { session.old.state.level ≡ 1 }
         ensures ended { IfOk result (λ end. HasEnded end self.old.common.units self.new.common.units session.old session.new) }
+        ensures journal { OnOk result (IsJournalOf self.old.common.units session.old) }
         ensures refused { OnErr result ((self.new.common.units ≡ self.old.common.units) × (session.new ≡ session.old)) }
         ensures cause { IfErr result (λ refusal. IsCauseAtCommit refusal session.old.state.work self.old.common.units ⊎ HasNoRoom refusal 1 (length self.old.common.units)) }
         ensures others { (self.new.opened ≡ self.old.opened) × (self.new.seats ≡ self.old.seats) }
     {
         session.numbers.reserve(1)?;
         board.meet(rt, &self.desk, &mut session.pin);
+        // The core shows that its journal is legal.
+        let _ = self.core.journal();
         match self.core.commit(&session.state, Some(self.horizon))? {
             Verdict::Committed(receipt) => {
                 board.write(rt, &mut self.desk, &mut session.pin, &receipt);
@@ -489,6 +498,7 @@ impl<B: BoardName> Locked<B> {
         ensures rising { All (λ (p : Book). RisesFrom 0 p.receipts) passes.items }
         ensures own { All IsOwn passes.items }
         ensures all { vec_len passes ≡ result.sessions → result.sessions < 2 ^ 64 - 1 → AreAllReceipts result.core.units passes.items }
+        ensures few { vec_len passes ≤ result.sessions }
     {
         let Locked {
             core,

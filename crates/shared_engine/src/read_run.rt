@@ -1,10 +1,11 @@
 //! Data commands of a transaction under one hold of the shared lock.
-ghost use Rattle.std.specs.Prelude.{◌≡◌, ◌≤◌, IfOk, IfSome, OnErr, vec_len, take, length};
+ghost use Rattle.std.specs.Prelude.{◌≡◌, ◌≤◌, IfOk, IfSome, OnOk, OnErr, vec_len, take, length};
 ghost use Rattle.std.specs.List.{All};
 ghost use Rattle.command.specs.declared.access.DataCommand.{DataCommand};
 ghost use Rattle.command.specs.declared.request.Command.{Command};
 ghost use Rattle.job_core.specs.Sessions.{IsOpenOn};
 ghost use Rattle.shared_engine.specs.Blocks.{HasDone, AreDone};
+ghost use Rattle.shared_engine.specs.Sessions.{IsJournalOf};
 
 use crate::locked::Locked;
 use crate::serial_run::answered;
@@ -30,6 +31,7 @@ impl<B: BoardName> Locked<B> {
         requires level { 1 ≤ session.old.state.level }
         requires accesses { All (λ (c : Command). (d : DataCommand) × (c ≡ Command.Access d)) block.items }
         ensures done { IfOk result (λ replies. AreDone block.items replies.items self.now.common.units self.now.common.units session.old session.new) }
+        ensures journal { OnOk result (IsJournalOf self.now.common.units session.old) }
         ensures each { IfOk result (λ replies. vec_len replies ≡ vec_len block) }
         ensures refused { OnErr result (session.new ≡ session.old) }
     {

@@ -1,13 +1,13 @@
 //! A block of commands under one hold of the lock.
-ghost use Rattle.std.specs.Prelude.{◌≡◌, ◌≢◌, ◌⊎◌, ℕ, ◌+◌, ◌-◌, ◌≤◌, ◌<◌, List, [], true, length, Some, vec_len, IfOk, OnErr};
+ghost use Rattle.std.specs.Prelude.{◌≡◌, ◌≢◌, ◌⊎◌, ℕ, ◌+◌, ◌-◌, ◌≤◌, ◌<◌, List, [], true, length, Some, vec_len, IfOk, OnOk, OnErr};
 ghost use Rattle.std.specs.List.{All};
 ghost use Rattle.refusal.specs.declared.Refusal.{Refusal};
 ghost use Rattle.command.specs.declared.request.Command.{Command};
 ghost use Rattle.command.specs.declared.request.Reply.TheVariants.{Answered, Finished, AtLevel, Restarted};
 ghost use Rattle.journal.specs.declared.unit.Unit.{Unit as JournalUnit};
-ghost use Rattle.pin_board.specs.Slips.{AreInJournal};
 ghost use Rattle.serial.specs.Machine.{told_had};
 ghost use Rattle.shared_engine.specs.Blocks.{said, IsLone, IsInside, IsTried, IsOpened, IsDeeper, IsNone, IsCommitted, IsLower, IsRolledBack, IsRestarted, HasDone, AreDone, NoneRestarts, IsFresh, IsReady, moved, moved_open};
+ghost use Rattle.shared_engine.specs.Sessions.{IsJournalOf};
 ghost use Rattle.shared_engine.specs.Writes.{IsAlone};
 
 use crate::locked::{Ended, Locked};
@@ -101,6 +101,7 @@ impl<B: BoardName> Locked<B> {
         requires ready { IsReady session.old }
         requires goes_on { All (λ (c : Command). c ≢ Command.Halt) block.items }
         ensures done { IfOk result (λ replies. AreDone block.items replies.items self.old.common.units self.new.common.units (moved_open self.old.common.units session.old) session.new) }
+        ensures journal { OnOk result (IsJournalOf self.old.common.units session.old) }
         ensures each { IfOk result (λ replies. vec_len replies ≡ vec_len block) }
         ensures commits { IfOk result (λ replies. NoneRestarts block.items replies.items) }
         ensures refused { OnErr result ((self.new.common ≡ self.old.common) × (session.new ≡ session.old)) }
@@ -119,19 +120,34 @@ impl<B: BoardName> Locked<B> {
         requires { IsReady session.old }
         ensures moved { session.new ≡ moved_open self.now.common.units session.old }
         ensures alone { IsAlone session.new self.now.common.units }
+        ensures journal { IsJournalOf self.now.common.units session.old }
     {
         if session.tlevel() > 0 {
             self.move_start(rt, board, session);
+        } else {
+            self.find_journal(rt, board, session);
         }
+    }
+
+    // Shows that the journal has the units of the session's receipts. It changes nothing.
+    fn find_journal<R: Wait>(&self, rt: &R, board: &Board<B>, session: &mut Session<B>)
+        ensures same { session.new ≡ session.old }
+        ensures journal { IsJournalOf self.now.common.units session.old }
+    {
+        board.meet(rt, &self.desk, &mut session.pin);
+        // The core shows that its journal is legal.
+        let _ = self.core.journal();
     }
 
     // Moves the start of a transaction that has done nothing to now.
     fn move_start<R: Wait>(&self, rt: &R, board: &Board<B>, session: &mut Session<B>)
         requires { IsFresh session.old }
         ensures moved { session.new ≡ moved self.now.common.units session.old }
-        ensures in_journal { AreInJournal self.now.common.units session.old.receipts }
+        ensures journal { IsJournalOf self.now.common.units session.old }
     {
         let now = board.restart(rt, &self.desk, &mut session.pin);
+        // The core shows that its journal is legal.
+        let _ = self.core.journal();
         session.state.move_start(now);
     }
 

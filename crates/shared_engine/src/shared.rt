@@ -14,7 +14,7 @@ ghost use Rattle.command.specs.declared.access.DataCommand.{DataCommand};
 ghost use Rattle.command.specs.declared.request.Command.{Command};
 ghost use Rattle.shared_engine.specs.Blocks.{AreDone, NoneRestarts, IsReady, moved_open};
 ghost use Rattle.shared_engine.specs.Receipts.{Book, book, IsOwn, RisesFrom};
-ghost use Rattle.shared_engine.specs.Sessions.{held, ended, and_receipt, begun_anew, HasBegun};
+ghost use Rattle.shared_engine.specs.Sessions.{held, ended, and_receipt, begun_anew, HasBegun, IsJournalOf};
 ghost use Rattle.shared_engine.specs.Engines.{HasEnded, HasItsNames, WasBlocked, OnOkThat, OnOkNot, after_try, AreAllReceipts};
 ghost use Rattle.shared_engine.specs.Writes.{AreWrites};
 
@@ -281,7 +281,7 @@ impl<B: BoardName> Shared<B> {
     ) -> Result<Vec<Reply>, AllocError>
         requires level { 1 ≤ session.old.state.level }
         requires accesses { All (λ (c : Command). (d : DataCommand) × (c ≡ Command.Access d)) block.items }
-        ensures done { IfOk result (λ replies. (units : List JournalUnit) × AreDone block.items replies.items units units session.old session.new) }
+        ensures done { IfOk result (λ replies. (units : List JournalUnit) × IsJournalOf units session.old × AreDone block.items replies.items units units session.old session.new) }
         ensures each { IfOk result (λ replies. vec_len replies ≡ vec_len block) }
         ensures refused { OnErr result (session.new ≡ session.old) }
     {
@@ -290,12 +290,13 @@ impl<B: BoardName> Shared<B> {
     }
 
     /// The outermost TCOMMIT: the transaction is a unit with a receipt, or it begins anew, exactly where another unit
-    /// touched what it had read. One that did SETs and KILLs alone never does. Takes the exclusive lock.
+    /// touched what it had read. One that did SETs and KILLs alone never does. The journal that it is judged on goes on
+    /// from its start and has the units of the session's receipts. Takes the exclusive lock.
     ///
     /// Refusals, after which nothing has changed: `StampsUsedUp`, `OutOfMemory`.
     pub fn tcommit<R: Wait>(&self, rt: &R, session: &mut Session<B>) -> Result<Ended, Refusal>
         requires { session.old.state.level ≡ 1 }
-        ensures ended { IfOk result (λ end. (units more : List JournalUnit) × HasEnded end units more session.old session.new) }
+        ensures ended { IfOk result (λ end. (units more : List JournalUnit) × IsJournalOf units session.old × HasEnded end units more session.old session.new) }
         ensures writes { AreWrites session.old.state.work.exchanges → IfOk result (λ end. end ≡ Ended.Committed) }
         ensures refused { OnErr result (session.new ≡ session.old) }
         ensures cause { IfErr result (λ refusal. (refusal ≡ Refusal.OutOfMemory) ⊎ (refusal ≡ Refusal.StampsUsedUp)) }
@@ -335,13 +336,14 @@ impl<B: BoardName> Shared<B> {
         Ok(())
     }
 
-    /// TRESTART: nothing of the transaction is left, and it begins anew at level 1, at the present moment. Answers how
+    /// TRESTART: nothing of the transaction is left but its LOCKs' units, and it begins anew at level 1, at the present
+    /// moment, on a journal that goes on from its start before and has the units of the session's receipts. Answers how
     /// often it has. Takes the exclusive lock.
     ///
     /// Refusals, after which nothing has changed, and only where it took a LOCK: `StampsUsedUp`, `OutOfMemory`.
     pub fn trestart<R: Wait>(&self, rt: &R, session: &mut Session<B>) -> Result<u64, Refusal>
         requires { 1 ≤ session.old.state.level }
-        ensures anew { IfOk result (λ restarts. (units : List JournalUnit) × ((session.new ≡ begun_anew units session.old) × (restarts ≡ session.new.state.restarts))) }
+        ensures anew { IfOk result (λ restarts. (units : List JournalUnit) × IsJournalOf units session.old × ((session.new ≡ begun_anew units session.old) × (restarts ≡ session.new.state.restarts))) }
         ensures refused { OnErr result (session.new ≡ session.old) }
         ensures cause { IfErr result (λ refusal. ((refusal ≡ Refusal.OutOfMemory) ⊎ (refusal ≡ Refusal.StampsUsedUp)) × (session.old.state.took_lock ≡ true)) }
     {
@@ -383,7 +385,7 @@ impl<B: BoardName> Shared<B> {
     ) -> Result<Vec<Reply>, AllocError>
         requires ready { IsReady session.old }
         requires goes_on { All (λ (c : Command). c ≢ Command.Halt) block.items }
-        ensures done { IfOk result (λ replies. (units more : List JournalUnit) × AreDone block.items replies.items units more (moved_open units session.old) session.new) }
+        ensures done { IfOk result (λ replies. (units more : List JournalUnit) × IsJournalOf units session.old × AreDone block.items replies.items units more (moved_open units session.old) session.new) }
         ensures each { IfOk result (λ replies. vec_len replies ≡ vec_len block) }
         ensures commits { IfOk result (λ replies. NoneRestarts block.items replies.items) }
         ensures refused { OnErr result (session.new ≡ session.old) }
@@ -414,7 +416,8 @@ impl<B: BoardName> Shared<B> {
 
     /// Moves the journal's base on to a horizon that is above no open transaction's start: what the units up to it leave is
     /// kept in their place, and their bytes are given back. Answers where the base is then, which is where it was if no
-    /// horizon after it can be had. Takes the exclusive lock, for as long as a copy of the database takes.
+    /// horizon after it can be had. Takes the exclusive lock, for as long as it takes to read these units back and to merge
+    /// what they changed.
     ///
     /// Refusals, after which the base is where it was: `OutOfMemory`.
     pub fn checkpoint<R: Wait>(&self, rt: &R) -> Result<u64, Refusal>
@@ -440,12 +443,14 @@ impl<B: BoardName> Shared<B> {
     }
 
     /// Closes the engine. Each receipt's unit is in its journal at its number, and is its job's; and where as many passes
-    /// are in as there were sessions, the receipts are those of all units, but for rollbacks and ends. Takes no memory.
+    /// are in as there were sessions, the receipts are those of all units, but for rollbacks and ends; more can't be in.
+    /// Takes no memory.
     pub fn finish<R: Wait>(self, rt: &R, passes: Vec<Pass<B>>) -> Closed
         ensures in_journal { All (λ (p : Book). AreInJournal result.core.units p.receipts) passes.items }
         ensures rising { All (λ (p : Book). RisesFrom 0 p.receipts) passes.items }
         ensures own { All IsOwn passes.items }
         ensures all { vec_len passes ≡ result.sessions → result.sessions < 2 ^ 64 - 1 → AreAllReceipts result.core.units passes.items }
+        ensures few { vec_len passes ≤ result.sessions }
     {
         let Shared { board, lock } = self;
         lock.into_inner().finish(rt, &board, passes)

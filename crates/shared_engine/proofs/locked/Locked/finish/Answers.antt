@@ -1,4 +1,4 @@
-use Rattle.std.proofs.Common.{subst}
+use Rattle.std.proofs.Common.{ap, subst, arith}
 use Rattle.std.proofs.lemmas.List.Elements.{All-nil}
 use Rattle.pin_board.specs.Slips.{AreInJournal}
 use Rattle.shared_engine.specs.Receipts.{Book}
@@ -10,3 +10,9 @@ returns-clause-in_journal g c =
     let log = c.self.inside.core.units in
     let units = units_told _ _ _ _ _ _ c.gather.ensures.tally c.into_tally-tally.ensures c.self.invariant.log in
     c.gather.ensures.due.in_journal log (subst (λ l. AreInJournal l c.gather.new.tally.back) units c.audit.ensures.in_journal) (All-nil (λ (p : Book). AreInJournal log p.receipts))
+
+pub returns-clause-few : goal.returns-clause-few
+returns-clause-few g c =
+    let returned = ap (λ t. t.returned) c.gather.ensures.tally in
+    let given = ap (λ t. t.given) c.gather.ensures.tally in
+    let opened = ap (λ t. t.given) c.into_tally-tally.ensures in omega (arith, returned, given, opened, c.audit.ensures.few, c.self.invariant.opened_is, c.args.passes.ok.0)

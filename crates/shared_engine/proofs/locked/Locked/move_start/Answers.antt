@@ -1,11 +1,10 @@
 use Rattle.std.proofs.Common.{ap, arith}
-use Rattle.shared_engine.proofs.Booking.{in_journal_receipts}
 use Rattle.shared_engine.proofs.Starting.{settled_open}
-use Rattle.shared_engine.proofs.Beginning.{session_rebegun}
+use Rattle.shared_engine.proofs.Beginning.{session_rebegun, met_journal}
 use Rattle.shared_engine.proofs.locked.Locked.move_start.Goals as goal
 
-pub returns-clause-in_journal : goal.returns-clause-in_journal
-returns-clause-in_journal g c = rw (← c.self.view_is, ← c.session.view_is, ← c.self.invariant.log) (in_journal_receipts _ _ c.restart-now.ensures.in_journal)
+pub returns-clause-journal : goal.returns-clause-journal
+returns-clause-journal g c = rw (← c.self.view_is, ← c.session.view_is) (met_journal _ _ _ _ c.journal.ensures.legal c.self.invariant.log c.restart-now.ensures.met)
 
 pub invariant_of-session : goal.invariant_of-session
 invariant_of-session g c =

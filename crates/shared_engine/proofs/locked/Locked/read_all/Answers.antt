@@ -46,3 +46,6 @@ returns-clause-each g c =
     let done = so_far_all _ _ _ _ _ _ _ (none_left _ (omega (arith, c.in-None.ensures.steps.0, c.block.command-iterator.rest.ok.0))) c.block.invariant.so_far in
     let each = done_each _ _ _ _ _ _ done in
     omega (arith, each, c.block.replies.ok.0, c.args.block.ok.0)
+
+pub returns-clause-journal : goal.returns-clause-journal
+returns-clause-journal g c = c.meet.ensures.journal

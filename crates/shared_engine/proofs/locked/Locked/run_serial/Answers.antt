@@ -27,3 +27,6 @@ returns-clause-each g c =
 pub returns-clause-commits : goal.returns-clause-commits
 returns-clause-commits g c =
     none_restarts _ _ _ _ _ _ (so_far_all _ _ _ _ _ _ _ (none_left _ (omega (arith, c.in-None.ensures.steps.0, c.block.command-iterator.rest.ok.0))) c.block.invariant.so_far)
+
+pub returns-clause-journal : goal.returns-clause-journal
+returns-clause-journal g c = c.begin_block.ensures.journal

@@ -17,7 +17,7 @@ returns-clause-outside g c =
             (ap (λ (p : PinView). p.base) moved)
             c.restart-now.ensures.start
             c.begin.ensures
-            (rw same.2 at c.restart-now.ensures.in_journal)),
+            (rw same.2 at c.restart-now.ensures.met.mine)),
       ),
     )
 

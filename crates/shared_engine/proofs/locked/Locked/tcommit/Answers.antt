@@ -3,6 +3,7 @@ use Rattle.validate_commit.specs.Verdicts.{has_been_overtaken}
 use Rattle.shared_engine.specs.Receipts.{receipts_in}
 use Rattle.shared_engine.specs.Sessions.{held, start_in, and_receipt, ended}
 use Rattle.shared_engine.specs.Engines.{whole_of}
+use Rattle.shared_engine.proofs.Beginning.{met_journal}
 use Rattle.shared_engine.proofs.Booking.{received}
 use Rattle.shared_engine.proofs.Keeping.{committed_added, committed_stands}
 use Rattle.shared_engine.proofs.Writing.{numbers_next, session_next, session_met, session_left}
@@ -30,3 +31,9 @@ returns-in-Committed-clause-ended g c =
         (λ i. held (c.end.ensures i) (start i) (receipts i)) ∙ (λ i. ended (and_receipt (length (units i) + 1) (whole_of (s i).state) (s i))),
       ),
     )
+
+pub returns-in-Committed-clause-journal : goal.returns-in-Committed-clause-journal
+returns-in-Committed-clause-journal g c = rw (← c.self.view_is, ← c.session.view_is) (met_journal _ _ _ _ c.journal.ensures.legal c.self.invariant.log c.meet.ensures.met)
+
+pub returns-in_ok-restarts-in-Restart-clause-journal : goal.returns-in_ok-restarts-in-Restart-clause-journal
+returns-in_ok-restarts-in-Restart-clause-journal g c = rw (← c.self.view_is, ← c.session.view_is) (met_journal _ _ _ _ c.journal.ensures.legal c.self.invariant.log c.meet.ensures.met)

@@ -1,6 +1,7 @@
-use Rattle.std.proofs.Common.{ap, ◌∙◌, arith}
+use Rattle.std.proofs.Common.{ap, subst, ◌∙◌, arith}
+use Rattle.shared_engine.specs.Sessions.{IsJournalOf}
 use Rattle.shared_engine.proofs.Starting.{settled_open}
-use Rattle.shared_engine.proofs.Beginning.{session_rebegun}
+use Rattle.shared_engine.proofs.Beginning.{session_rebegun, met_journal}
 use Rattle.shared_engine.proofs.locked.Locked.trestart.Goals as goal
 
 pub invariant_of-session : goal.invariant_of-session
@@ -9,3 +10,7 @@ invariant_of-session g c =
     let settled = settled_open c.session.inside.pin c.session.inside.state c.session.invariant.at (omega (arith, level, c.requires)) in
     let t = c.begin_anew.ensures in
     session_rebegun _ _ c.go_back.new.desk _ _ _ _ c.session.invariant settled c.restart-now.ensures.pin c.restart-now.ensures.start (omega (arith, ap (λ s. s.level) t)) (ap (λ s. s.work) t)
+
+pub returns-clause-journal : goal.returns-clause-journal
+returns-clause-journal g c =
+    subst (IsJournalOf _) (c.session.view_is ∙ c.in_ok-go_back.ensures.session) (met_journal _ _ _ c.session.inside.state c.journal.ensures.legal (ap (λ d. d.log) c.in_ok-go_back.ensures.desk) c.restart-now.ensures.met)
