@@ -27,6 +27,7 @@ use Rattle.validate_commit.specs.Verdicts.{IsCauseAtCommit}
 use Rattle.job_core.specs.Causes.{IsCauseOf}
 use Rattle.job_core.specs.Sessions.{Session as JobSession}
 use Rattle.shared_engine.specs.Sessions.{Held, IsAt, IsBegun}
+use Rattle.shared_engine.specs.Writes.{AreWrites}
 use Rattle.job_scripts.specs.Blocks.{Asks}
 use Rattle.job_server.specs.Causes.{IsAnswer, IsAllowed, IsReplyTo}
 use Rattle.job_server.specs.Telling.{Shows, MayReply, IsLockRefusal, IsFault, IsAsked}
@@ -126,11 +127,11 @@ had_may (Fewer names) had h t shows at = (had, refl)
 
 -- one begins
 pub begun_may : (h : Held) → h.state.level ≡ 0 → MayReply Start (AtLevel 1) h
-begun_may h none = outside Start (AtLevel 1) h none refl
+begun_may h none = outside Start (AtLevel 1) h none (omega arith, refl)
 
 -- a level deeper
-pub inner_may : (level : ℕ) (h : Held) → 1 ≤ h.state.level → level ≡ h.state.level + 1 → MayReply Start (AtLevel level) h
-inner_may level h one is = inside Start (AtLevel level) h one (λ t shows. ap AtLevel (is ∙ ap (λ (n : ℕ). n + 1) shows.1.0))
+pub inner_may : (level : ℕ) (h : Held) → 1 ≤ h.state.level → h.state.level < most_levels → level ≡ h.state.level + 1 → MayReply Start (AtLevel level) h
+inner_may level h one deep is = inside Start (AtLevel level) h one (λ t shows. (omega (arith, deep, shows.1.0), ap AtLevel (is ∙ ap (λ (n : ℕ). n + 1) shows.1.0)))
 
 -- a level less deep
 pub lower_may : (level : ℕ) (h : Held) → 1 < h.state.level → level ≡ h.state.level - 1 → MayReply Commit (AtLevel level) h
@@ -140,8 +141,9 @@ pub committed_may : (h : Held) → h.state.level ≡ 1 → MayReply Commit Commi
 committed_may h one = inside Commit Committed h (omega (arith, one)) (λ t shows. inr (sym shows.1.0 ∙ one, inl refl))
 
 -- it is begun anew
-pub overtaken_may : (restarts : ℕ) (h : Held) → h.state.level ≡ 1 → restarts ≡ min (h.state.restarts + 1) (2 ^ 64 - 1) → MayReply Commit (Restarted restarts) h
-overtaken_may restarts h one is = inside Commit (Restarted restarts) h (omega (arith, one)) (λ t shows. inr (sym shows.1.0 ∙ one, inr (h.state.restarts, shows.1.1.1, ap Restarted is)))
+pub overtaken_may : (restarts : ℕ) (h : Held) → h.state.level ≡ 1 → (AreWrites h.state.work.exchanges → ⊥) → restarts ≡ min (h.state.restarts + 1) (2 ^ 64 - 1) → MayReply Commit (Restarted restarts) h
+overtaken_may restarts h one reads is =
+    inside Commit (Restarted restarts) h (omega (arith, one)) (λ t shows. inr (sym shows.1.0 ∙ one, inr ((h.state.restarts, shows.1.1.1, ap Restarted is), λ w. reads (subst AreWrites (sym shows.1.1.0) w))))
 
 pub anew_may : (restarts : ℕ) (h : Held) → 1 ≤ h.state.level → restarts ≡ min (h.state.restarts + 1) (2 ^ 64 - 1) → MayReply Restart (Restarted restarts) h
 anew_may restarts h one is = inside Restart (Restarted restarts) h one (λ t shows. (h.state.restarts, shows.1.1.1, ap Restarted is))

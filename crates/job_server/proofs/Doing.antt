@@ -47,7 +47,7 @@ opened_done (Ok level) units more old new none never h = subst (λ (l : ℕ). Fo
 opened_done (Err refusal) units more old new none never h = absurd (never (ap Refused h.0))
 
 deeper_done : (result : Result ℕ Refusal) (units more : List JournalUnit) (old new : Held) → 1 ≤ old.state.level → IsDeeper result units more old new → Follows Start (said AtLevel result) old new
-deeper_done (Ok level) units more old new one h = deeper_follows level old new one h.0 h.1.1
+deeper_done (Ok level) units more old new one h = deeper_follows level old new one h.0.1 h.0.0 h.1.1
 deeper_done (Err refusal) units more old new one h = refused_follows Start refusal old new h.1.1 (deeper_may refusal old one h.0.0 h.0.1)
 
 none_done : {A : Type 0} (command : Command) (reply : A → Reply) (result : Result A Refusal) (units more : List JournalUnit) (old new : Held) → MayReply command (Refused NoTransaction) old → IsNone result units more old new → Follows command (said reply result) old new

@@ -11,7 +11,7 @@ use Rattle.job_server.specs.declared.fault.Unserved.{Unserved}
 use Rattle.job_server.specs.declared.fault.Unserved.TheVariants.{Load as UnservedLoad, Jobs as UnservedJobs}
 use Rattle.job_server.specs.declared.fault.JobsFault.{JobsFault}
 use Rattle.job_server.specs.declared.fault.JobsFault.TheVariants.{Read, Write, Memory, Missing, Load}
-use Rattle.job_server.specs.Faults.{fault_of, fault_of_input, fault_of_unserved, IsJobsFault, IsOfLoad, IsOfWriting}
+use Rattle.job_server.specs.Faults.{fault_of, fault_of_input, fault_of_unserved, IsJobsFault, IsOfWriting}
 use Rattle.job_server.specs.Loads.{IsUnservedBy}
 use Rattle.job_server.proofs.Reading.{error_is}
 
@@ -27,10 +27,6 @@ listing_writes ListingMemory = tt
 pub input_is : (listing : List ℕ) (f : InputFault) → IsJobsFault listing (fault_of_input f)
 input_is listing InputRead = tt
 input_is listing InputMemory = tt
-
-pub input_no_load : (f : InputFault) → IsOfLoad (fault_of_input f) → ⊥
-input_no_load InputRead h = h
-input_no_load InputMemory h = h
 
 pub unserved_is : (listing : List ℕ) (f : Unserved) → IsUnservedBy listing f → IsJobsFault listing (fault_of_unserved f)
 unserved_is listing (UnservedLoad fault) h = h
@@ -53,11 +49,3 @@ writing_is listing Write h = tt
 writing_is listing Memory h = tt
 writing_is listing Missing h = absurd h
 writing_is listing (Load fault) h = absurd h
-
--- no fault of the writer is the listing's
-pub writing_no_load : (f : JobsFault) → IsOfWriting f → IsOfLoad f → ⊥
-writing_no_load Read h k = h
-writing_no_load Write h k = k
-writing_no_load Memory h k = k
-writing_no_load Missing h k = h
-writing_no_load (Load fault) h k = h

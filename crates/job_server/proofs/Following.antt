@@ -2,6 +2,7 @@
 use Rattle.std.proofs.Common.{◌≡◌, ◌≢◌, ◌⊎◌, inl, inr, ℕ, zero, suc, ◌+◌, ◌-◌, ◌≤◌, ◌<◌, Bool, true, false, List, [], ◌∷◌, ◌++◌, length, refl, sym, ap, ◌∙◌, subst, arith, true≢false}
 use Rattle.std.specs.Prelude.{Option, Some, None, Result, Ok, Err, IfSome, IsSome, nat_lt, ◌^◌, min}
 use Rattle.refusal.specs.declared.Refusal.{Refusal}
+use Rattle.collation.specs.Limits.{most_levels}
 use Rattle.collation.specs.declared.lock.LockCommand.{LockCommand}
 use Rattle.collation.specs.declared.lock.LockCommand.TheVariants.{Release, Only, More, Fewer}
 use Rattle.command.specs.declared.access.DataCommand.{DataCommand}
@@ -23,12 +24,13 @@ use Rattle.shared_engine.specs.Sessions.{Held, held, IsAt, IsBegun, and_receipt,
 use Rattle.shared_engine.specs.Engines.{HasEnded, HasItsNames, WasBlocked, after_try, lock_unit, whole_of}
 use Rattle.shared_engine.specs.declared.locked.Ended.TheVariants.{Committed, Restarted}
 use Rattle.shared_engine.specs.Blocks.{said, IsReadAt}
+use Rattle.shared_engine.specs.Writes.{AreWrites}
 use Rattle.job_server.specs.Told.{given, IsToldIn, units_of}
 use Rattle.job_server.specs.Causes.{IsAllowed}
 use Rattle.job_server.specs.Telling.{Shows, Stands, AreStillTold, MayReply, Follows, names_some, IsLockRefusal, HasLocked}
 use Rattle.job_server.proofs.Units.{lock_receipt_more}
 use Rattle.job_server.proofs.Causes.{inside_may, alone_may, answered_may, done_may, lock_may, had_may, begun_may, inner_may, lower_may, committed_may, overtaken_may, anew_may, rolled_back_may, level_may, restarts_may}
-use Rattle.job_server.proofs.Standing.{shown_none, still_shows, noted_at, with_open, with_none, with_closed, told_lone, told_inside, tried_untold, tried_told, tried_job, tried_level, back_given, told_begun, told_at, told_whole}
+use Rattle.job_server.proofs.Standing.{shown_none, still_shows, noted_at, with_open, with_none, with_closed, told_lone, told_inside, tried_untold, blocked_untold, inside_untold, tried_told, tried_job, tried_level, back_given, told_begun, told_at, told_whole}
 
 -- the receipts are the same
 same_told : (old new : Held) (front : List JournalUnit) → new.receipts ≡ old.receipts → AreStillTold (front ++ units_of old.receipts) (front ++ units_of new.receipts)
@@ -136,7 +138,7 @@ tried_follows command had n old new frees is = record {
   stands = λ front s stands.
       subst (λ (m : Machine). Stands front m new) (sym (lock_told old.state.work.job command had s frees))
       (subst (λ (h : Held). Stands front (told_lock old.state.work.job command had (transaction_of old.state.work.job s) s) h) (sym is) (tried_told front s old command had n (transaction_of old.state.work.job s) refl stands));
-  keeps = λ before later front ts h. subst (λ (x : Held). IsToldIn ts (front ++ units_of x.receipts)) (sym is) (lock_receipt_more ts front old.receipts n (lock_unit old.state command had) refl h);
+  keeps = λ before later front ts h. subst (λ (x : Held). IsToldIn ts (front ++ units_of x.receipts)) (sym is) (lock_receipt_more ts front old.receipts n (lock_unit old.state command had) (inside_untold old command had before) h);
   may = had_may command had old;
 }
 
@@ -146,9 +148,9 @@ blocked_then command reply n old new then = record {
   whose = then.whose ∙ tried_job n command false old;
   stands = λ front s stands.
       subst (λ (j : ℕ). Stands front (told j (lock_command command) reply s) new) (tried_job n command false old)
-      (then.stands front s (tried_untold front s old command false n stands));
+      (then.stands front s (tried_untold front s old command n stands));
   keeps = λ before later front ts h.
-      then.keeps (omega (arith, before, tried_level n command false old)) later front ts (lock_receipt_more ts front old.receipts n (lock_unit old.state command false) refl h);
+      then.keeps (omega (arith, before, tried_level n command false old)) later front ts (lock_receipt_more ts front old.receipts n (lock_unit old.state command false) (blocked_untold old command) h);
   may = λ t shows at.
       subst (λ (j : ℕ). IsAllowed j (lock_command command) reply t) (tried_job n command false old) (then.may t (still_shows (nat_lt 0 old.state.level) old.state t shows) (noted_at old.start old.state at));
 }
@@ -200,8 +202,8 @@ level_follows command level old new tells one some is may = record {
   may = may;
 }
 
-pub deeper_follows : (level : ℕ) (old new : Held) → 1 ≤ old.state.level → level ≡ old.state.level + 1 → new ≡ held (at_level level old.state) old.start old.receipts → Follows Start (AtLevel level) old new
-deeper_follows level old new one is h = level_follows Start level old new (λ s. refl) one (omega (arith, one, is)) h (inner_may level old one is)
+pub deeper_follows : (level : ℕ) (old new : Held) → 1 ≤ old.state.level → old.state.level < most_levels → level ≡ old.state.level + 1 → new ≡ held (at_level level old.state) old.start old.receipts → Follows Start (AtLevel level) old new
+deeper_follows level old new one deep is h = level_follows Start level old new (λ s. refl) one (omega (arith, one, is)) h (inner_may level old one deep is)
 
 pub lower_follows : (level : ℕ) (old new : Held) → 1 < old.state.level → level ≡ old.state.level - 1 → new ≡ held (at_level (old.state.level - 1) old.state) old.start old.receipts → Follows Commit (AtLevel level) old new
 lower_follows level old new deep is h =
@@ -237,9 +239,9 @@ anew_follows command restarts units old new tells is counted may = record {
   may = may;
 }
 
-pub overtaken_follows : (restarts : ℕ) (units more : List JournalUnit) (old new : Held) → old.state.level ≡ 1 → HasEnded (Restarted restarts) units more old new → Follows Commit (restarted_reply restarts) old new
-overtaken_follows restarts units more old new one h =
-    anew_follows Commit restarts more old new (λ s. refl) h.1.1.0 h.1.1.1 (overtaken_may restarts old one (anew_count restarts more old new h.1.1.0 h.1.1.1))
+pub overtaken_follows : (restarts : ℕ) (units more : List JournalUnit) (old new : Held) → old.state.level ≡ 1 → (AreWrites old.state.work.exchanges → ⊥) → HasEnded (Restarted restarts) units more old new → Follows Commit (restarted_reply restarts) old new
+overtaken_follows restarts units more old new one reads h =
+    anew_follows Commit restarts more old new (λ s. refl) h.1.1.0 h.1.1.1 (overtaken_may restarts old one reads (anew_count restarts more old new h.1.1.0 h.1.1.1))
 
 pub restarted_follows : (restarts : ℕ) (units : List JournalUnit) (old new : Held) → 1 ≤ old.state.level → new ≡ begun_anew units old → restarts ≡ new.state.restarts → Follows Restart (restarted_reply restarts) old new
 restarted_follows restarts units old new one is counted = anew_follows Restart restarts units old new (λ s. refl) is counted (anew_may restarts old one (anew_count restarts units old new is counted))

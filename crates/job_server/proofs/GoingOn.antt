@@ -278,14 +278,14 @@ pub run_serves : (job : ℕ) (before rest : List (List ℕ)) (places : List (Opt
 run_serves job before rest places commands served replies more_replies books None later in_front run is = absurd run
 run_serves job before rest places commands served replies more_replies books (Some old) None in_front run is = absurd run
 run_serves job before rest places commands served replies more_replies books (Some old) (Some new) in_front run is =
-    block_from job before rest places commands served replies more_replies books run.2 run.3 old (moved_open run.2 old) new in_front (λ s stands. moved_on job books run.2 old s run.0 stands) run.4 (none_again commands served run.2 run.3 old new run.1 run.4) is
+    block_from job before rest places commands served replies more_replies books run.2 run.3 old (moved_open run.2 old) new in_front (λ s stands. moved_on job books run.2 old s run.0 stands) run.5 (none_again commands served run.2 run.3 old new run.1 run.5) is
 
 pub reads_serve : (job : ℕ) (before rest : List (List ℕ)) (places : List (Option Refusal)) (commands : List Command) (served replies more_replies : List Reply) (books : List Book) (session later : Option Held) → AreDataCommands commands → AreInFront before rest places commands
     → HasReadAll commands served session later → more_replies ≡ replies ++ in_place places served → Serves job before rest (running replies (sessions_so_far books session)) (running more_replies (sessions_so_far books later))
 reads_serve job before rest places commands served replies more_replies books None later all in_front reads is = absurd reads
 reads_serve job before rest places commands served replies more_replies books (Some old) None all in_front reads is = absurd reads
 reads_serve job before rest places commands served replies more_replies books (Some old) (Some new) all in_front reads is =
-    block_from job before rest places commands served replies more_replies books reads.1 reads.1 old old new in_front (λ s stands. stands) reads.2 (none_again_of_data commands served all) is
+    block_from job before rest places commands served replies more_replies books reads.1 reads.1 old old new in_front (λ s stands. stands) reads.3 (none_again_of_data commands served all) is
 
 -- reads of a transaction leave the receipts as they are
 pub reads_keep_all : (commands : List Command) (served replies more_replies : List Reply) (books : List Book) (session later : Option Held) → All (λ (c : Command). (d : DataCommand) × (c ≡ Access d)) commands → HasReadAll commands served session later
@@ -293,7 +293,7 @@ pub reads_keep_all : (commands : List Command) (served replies more_replies : Li
 reads_keep_all commands served replies more_replies books None later all reads = absurd reads
 reads_keep_all commands served replies more_replies books (Some old) None all reads = absurd reads
 reads_keep_all commands served replies more_replies books (Some old) (Some new) all reads = λ before after ts h.
-    subst (λ (cs : List Claim). IsToldIn ts (units_in books ++ units_of cs)) (sym (reads_keep commands served reads.1 reads.1 old new all reads.2 reads.0).1) h
+    subst (λ (cs : List Claim). IsToldIn ts (units_in books ++ units_of cs)) (sym (reads_keep commands served reads.1 reads.1 old new all reads.3 reads.0).1) h
 
 -- the lines of a block were done
 pub block_advances : (job : ℕ) (line : Line) (behind : Cursor) (block : Block) (old new : Running) → AreInFront (line.text.now ∷ lines_of_script line.next.lines.now) (lines_of_script block.rest.now) block.places.items block.commands.items → length block.rest.now ≤ length line.next.lines.now

@@ -34,7 +34,7 @@ tried_at command (Ok had) units more old new h = level_of_held _ new h.1.1 ∙ t
 tried_at command (Err refusal) units more old new h = level_of_held old new h.1.1
 
 deeper_at : (result : Result ℕ Refusal) (units more : List JournalUnit) (old new : Held) (n : ℕ) → n ≤ old.state.level → IsDeeper result units more old new → min (n + 1) most_levels ≤ new.state.level
-deeper_at (Ok level) units more old new n below h = min_below (n + 1) most_levels new.state.level (inl (omega (arith, below, h.0, level_of_held _ new h.1.1)))
+deeper_at (Ok level) units more old new n below h = min_below (n + 1) most_levels new.state.level (inl (omega (arith, below, h.0.0, level_of_held _ new h.1.1)))
 deeper_at (Err refusal) units more old new n below h = min_below (n + 1) most_levels new.state.level (inr (omega (arith, h.0.1, level_of_held old new h.1.1)))
 
 restarted_at : (result : Result ℕ Refusal) (units more : List JournalUnit) (old new : Held) → 1 ≤ old.state.level → IsRestarted result units more old new → 1 ≤ new.state.level

@@ -12,4 +12,5 @@ pub mod Outputs
 pub mod Reading
 pub mod Refusing
 pub mod Standing
+pub mod Turning
 pub mod Units

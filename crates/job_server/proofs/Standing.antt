@@ -1,6 +1,6 @@
 -- Where a session stands as a step is told.
 use Rattle.std.proofs.Common.{◌≡◌, ◌⊎◌, inl, inr, ℕ, zero, suc, ◌+◌, ◌-◌, ◌≤◌, ◌<◌, nat_lt, Bool, true, false, List, [], ◌∷◌, ◌++◌, length, refl, sym, ap, ◌∙◌, subst, arith}
-use Rattle.std.specs.Prelude.{Option, Some, None, if◌then◌else◌}
+use Rattle.std.specs.Prelude.{Option, Some, None, not, ◌||◌, if◌then◌else◌}
 use Rattle.std.specs.List.{filter}
 use Rattle.std.proofs.lemmas.Bool.{lt-ltb}
 use Rattle.command.specs.declared.access.DataCommand.{DataCommand}
@@ -16,7 +16,7 @@ use Rattle.job_core.specs.Sessions.{Session as JobSession, idle, after_lock}
 use Rattle.shared_engine.specs.Receipts.{has_receipt, claim}
 use Rattle.shared_engine.specs.Sessions.{Held, held, IsAt, IsBegun, and_receipt, noted_lock}
 use Rattle.shared_engine.specs.Engines.{lock_unit, after_try, whole_of}
-use Rattle.job_server.specs.Told.{given, is_lock, IsToldIn, units_of}
+use Rattle.job_server.specs.Told.{given, may_be_untold, IsToldIn, units_of}
 use Rattle.job_server.specs.Telling.{Shows, Stands}
 use Rattle.job_server.proofs.Units.{told_more, lock_receipt_more, none_given}
 
@@ -122,19 +122,30 @@ noted_at (Some base) state at = by_test (nat_lt 0 state.level)
     by_test true = record { level = at.level; start = at.start; work = at.work }
     by_test false = at
 
--- a try that no reply tells
-pub tried_untold : (front : List JournalUnit) (s : Machine) (h : Held) (command : LockCommand) (had : Bool) (n : ℕ) → Stands front s h → Stands front s (after_try n command had h)
-tried_untold front s h command had n stands = record {
-  shows = subst (λ (j : ℕ). Shows (noted_lock h.state) (transaction_of j s)) (sym (tried_job n command had h)) (still_shows (nat_lt 0 h.state.level) h.state (transaction_of h.state.work.job s) stands.shows);
-  begun = noted_at h.start h.state stands.begun;
-  is_told = lock_receipt_more (given s) front h.receipts n (lock_unit h.state command had) refl stands.is_told;
-}
-
 outside : (level : ℕ) → level ≡ 0 → nat_lt 0 level ≡ false
 outside level none = ap (λ (n : ℕ). nat_lt 0 n) none
 
 inside : (level : ℕ) → 1 ≤ level → nat_lt 0 level ≡ true
 inside level one = lt-ltb 0 level (omega (arith, one))
+
+or_true : (b : Bool) → (b || true) ≡ true
+or_true true = refl
+or_true false = refl
+
+-- a LOCK that was blocked, or one in a transaction
+pub blocked_untold : (h : Held) (command : LockCommand) → may_be_untold (lock_unit h.state command false) ≡ true
+blocked_untold h command = or_true (nat_lt 0 h.state.level)
+
+pub inside_untold : (h : Held) (command : LockCommand) (had : Bool) → 1 ≤ h.state.level → may_be_untold (lock_unit h.state command had) ≡ true
+inside_untold h command had one = ap (λ (b : Bool). b || not had) (inside h.state.level one)
+
+-- a try that was blocked, which no reply tells
+pub tried_untold : (front : List JournalUnit) (s : Machine) (h : Held) (command : LockCommand) (n : ℕ) → Stands front s h → Stands front s (after_try n command false h)
+tried_untold front s h command n stands = record {
+  shows = subst (λ (j : ℕ). Shows (noted_lock h.state) (transaction_of j s)) (sym (tried_job n command false h)) (still_shows (nat_lt 0 h.state.level) h.state (transaction_of h.state.work.job s) stands.shows);
+  begun = noted_at h.start h.state stands.begun;
+  is_told = lock_receipt_more (given s) front h.receipts n (lock_unit h.state command false) (blocked_untold h command) stands.is_told;
+}
 
 -- a try that a reply tells
 pub tried_told : (front : List JournalUnit) (s : Machine) (h : Held) (command : LockCommand) (had : Bool) (n : ℕ) (t : Option Transaction) → transaction_of h.state.work.job s ≡ t → Stands front s h

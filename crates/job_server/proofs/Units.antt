@@ -6,7 +6,7 @@ use Rattle.std.proofs.lemmas.List.Elements.{filter-append}
 use Rattle.journal.specs.declared.unit.Unit.{Unit as JournalUnit}
 use Rattle.journal.specs.Kept.{Claim}
 use Rattle.shared_engine.specs.Receipts.{has_receipt, claim}
-use Rattle.job_server.specs.Told.{is_lock, IsToldIn, units_of}
+use Rattle.job_server.specs.Told.{may_be_untold, IsToldIn, units_of}
 
 -- one unit more on both sides
 pub both_more : (ts units : List JournalUnit) (u : JournalUnit) → IsToldIn ts units → IsToldIn (ts ++ u ∷ []) (units ++ u ∷ [])
@@ -17,7 +17,7 @@ both_more (t ∷ ts) (x ∷ units) u (inl h) = inl (h.0, both_more ts units u h.
 both_more (t ∷ ts) (x ∷ units) u (inr h) = inr (h.0, both_more (t ∷ ts) units u h.1)
 
 -- a LOCK more that no reply tells
-pub lock_more : (ts units : List JournalUnit) (u : JournalUnit) → is_lock u ≡ true → IsToldIn ts units → IsToldIn ts (units ++ u ∷ [])
+pub lock_more : (ts units : List JournalUnit) (u : JournalUnit) → may_be_untold u ≡ true → IsToldIn ts units → IsToldIn ts (units ++ u ∷ [])
 lock_more [] [] u l h = (l, tt)
 lock_more [] (x ∷ units) u l h = (h.0, lock_more [] units u l h.1)
 lock_more (t ∷ ts) [] u l h = absurd h
@@ -38,7 +38,7 @@ told_more units u front receipts n one h =
     (subst (λ (r : List JournalUnit). IsToldIn (filter has_receipt units ++ u ∷ []) r) (sym (units_more front receipts n u)) (both_more (filter has_receipt units) (front ++ units_of receipts) u h))
 
 -- a receipt of a LOCK that no reply tells
-pub lock_receipt_more : (ts front : List JournalUnit) (receipts : List Claim) (n : ℕ) (u : JournalUnit) → is_lock u ≡ true → IsToldIn ts (front ++ units_of receipts) → IsToldIn ts (front ++ units_of (receipts ++ claim n u ∷ []))
+pub lock_receipt_more : (ts front : List JournalUnit) (receipts : List Claim) (n : ℕ) (u : JournalUnit) → may_be_untold u ≡ true → IsToldIn ts (front ++ units_of receipts) → IsToldIn ts (front ++ units_of (receipts ++ claim n u ∷ []))
 lock_receipt_more ts front receipts n u l h = subst (λ (r : List JournalUnit). IsToldIn ts r) (sym (units_more front receipts n u)) (lock_more ts (front ++ units_of receipts) u l h)
 
 -- a unit that gives no receipt

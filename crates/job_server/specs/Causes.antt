@@ -17,6 +17,7 @@ use Rattle.command.specs.Data.{data_refusal}
 use Rattle.journal.specs.History.{AreRight, all_after}
 use Rattle.journal.specs.Story.{Transaction}
 use Rattle.serial.specs.Machine.{told_had, level_of, restarted}
+use Rattle.shared_engine.specs.Writes.{AreWrites}
 
 -- ---- accepted
 
@@ -31,10 +32,10 @@ abbrev pub IsAnew : Reply → Option Transaction → Type 0
 IsAnew reply None = ⊥
 IsAnew reply (Some t) = (restarts : ℕ) × (t.restarts ≤ restarts) × (reply ≡ restarted (record t { restarts = restarts }))
 
--- TCOMMIT: one level lower, or at level 1 committed or begun anew
+-- TCOMMIT: one level lower, or at level 1 committed, or begun anew, which one that did SETs and KILLs alone never is
 abbrev pub IsCommitted : Reply → Option Transaction → Type 0
 IsCommitted reply None = ⊥
-IsCommitted reply (Some t) = ((1 < t.level) × (reply ≡ AtLevel (t.level - 1))) ⊎ ((t.level ≡ 1) × ((reply ≡ Committed) ⊎ IsAnew reply (Some t)))
+IsCommitted reply (Some t) = ((1 < t.level) × (reply ≡ AtLevel (t.level - 1))) ⊎ ((t.level ≡ 1) × ((reply ≡ Committed) ⊎ (IsAnew reply (Some t) × (AreWrites t.exchanges → ⊥))))
 
 -- TROLLBACK: done, where there is a transaction
 abbrev pub IsRolledBack : Reply → Option Transaction → Type 0
@@ -50,7 +51,7 @@ IsRestartCount reply (Some t) = (restarts : ℕ) × (t.restarts ≤ restarts) ×
 abbrev pub IsAccepted : Command → Reply → Option Transaction → Type 0
 IsAccepted (Access command) reply t = (answer : Answer) × (reply ≡ Answered answer) × IsAnswer command answer t
 IsAccepted (lock_command command) reply t = (had : Bool) × (reply ≡ told_had command had)
-IsAccepted Start reply t = reply ≡ AtLevel (level_of t + 1)
+IsAccepted Start reply t = (level_of t < most_levels) × (reply ≡ AtLevel (level_of t + 1))
 IsAccepted Commit reply t = IsCommitted reply t
 IsAccepted Rollback reply t = IsRolledBack reply t
 IsAccepted Restart reply t = IsAnew reply t

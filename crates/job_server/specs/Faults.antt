@@ -37,14 +37,6 @@ IsJobsFault listing Memory = ⊤
 IsJobsFault listing Missing = ⊤
 IsJobsFault listing (Load fault) = IsFaultOf (settings_of listing) fault
 
--- the listing isn't loaded
-abbrev pub IsOfLoad : JobsFault → Type 0
-IsOfLoad Read = ⊥
-IsOfLoad Write = ⊥
-IsOfLoad Memory = ⊥
-IsOfLoad Missing = ⊥
-IsOfLoad (Load fault) = ⊤
-
 -- the writer's fault, or that of memory
 abbrev pub IsOfWriting : JobsFault → Type 0
 IsOfWriting Read = ⊥

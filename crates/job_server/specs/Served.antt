@@ -1,8 +1,9 @@
 -- What is known of jobs that were served.
 -- Read IsReport, AreReports, AreBooked and AreServed; the contract of serve cites these.
-use Rattle.std.specs.Prelude.{◌≡◌, ⊤, ℕ, List, [], ◌∷◌, ◌++◌, length, map, slice_get, Option, Some, Ok}
+use Rattle.std.specs.Prelude.{◌≡◌, ⊤, ℕ, ◌<◌, List, [], ◌∷◌, ◌++◌, length, map, slice_get, Option, Some, Ok}
 use Rattle.std.specs.List.{All, flat_map}
 use Rattle.journal.specs.declared.unit.Unit.{Unit as JournalUnit}
+use Rattle.journal.specs.Kept.{Claim}
 use Rattle.pin_board.specs.Slips.{AreInJournal}
 use Rattle.shared_engine.specs.Receipts.{Book, IsOwn, RisesFrom}
 use Rattle.shared_engine.specs.Engines.{AreAllReceipts}
@@ -21,11 +22,22 @@ pub record Wanted : Type 0 where
 abbrev pub wanted : Script → Wanted
 wanted s = record { job = s.job; text = s.text.items; lines = s.lines }
 
--- the report is of the script's job, with as many replies as there are lines, which tell the units of these books
+-- the receipts of books, one behind the other
+abbrev pub claims_in : List Book → List Claim
+claims_in [] = []
+claims_in (b ∷ bs) = b.receipts ++ claims_in bs
+
+-- numbers rise above one, up to another, which is the last of them
+abbrev pub RisesTo : ℕ → List ℕ → ℕ → Type 0
+RisesTo before [] last = last ≡ before
+RisesTo before (n ∷ ns) last = (before < n) × RisesTo n ns last
+
+-- the report is of the script's job, with as many replies as there are lines, which tell the units of these books; their numbers rise from book to book
 pub record IsReport (w : Wanted) (report : Answers) (books : List Book) : Type 0 where
   pub whose : report.job ≡ w.job
   pub each : length report.replies ≡ w.lines
   pub is_told : IsTold w.job w.text report.replies books
+  pub in_turn : RisesFrom 0 (claims_in books)
 
 -- the same of the script at this place
 pub record IsReportAt (scripts : List Wanted) (place : ℕ) (report : Answers) (books : List Book) : Type 0 where

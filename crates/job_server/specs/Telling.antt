@@ -17,7 +17,7 @@ use Rattle.script.specs.Line.{reading_of}
 use Rattle.job_core.specs.Common.{IsCauseOfLock}
 use Rattle.job_core.specs.Sessions.{Session as JobSession}
 use Rattle.shared_engine.specs.Receipts.{Book}
-use Rattle.shared_engine.specs.Sessions.{Held, IsAt}
+use Rattle.shared_engine.specs.Sessions.{Held, IsAt, IsJournalOf}
 use Rattle.shared_engine.specs.Engines.{HasItsNames, WasBlocked}
 use Rattle.shared_engine.specs.Blocks.{AreDone, IsReady, moved_open}
 use Rattle.job_scripts.specs.declared.block.Block.{Block}
@@ -224,13 +224,13 @@ ServesBlock block old new = (job : ℕ) (lines : List (List ℕ)) → AreInFront
 abbrev pub HasRun : List Command → List Reply → Option Held → Option Held → Type 0
 HasRun commands replies None later = ⊥
 HasRun commands replies (Some old) None = ⊥
-HasRun commands replies (Some old) (Some new) = IsReady old × BeginNone commands (Some old) × (units more : List JournalUnit) × AreDone commands replies units more (moved_open units old) new
+HasRun commands replies (Some old) (Some new) = IsReady old × BeginNone commands (Some old) × (units more : List JournalUnit) × IsJournalOf units old × AreDone commands replies units more (moved_open units old) new
 
 -- the session did commands in its transaction, and nothing was written
 abbrev pub HasReadAll : List Command → List Reply → Option Held → Option Held → Type 0
 HasReadAll commands replies None later = ⊥
 HasReadAll commands replies (Some old) None = ⊥
-HasReadAll commands replies (Some old) (Some new) = (1 ≤ old.state.level) × (units : List JournalUnit) × AreDone commands replies units units old new
+HasReadAll commands replies (Some old) (Some new) = (1 ≤ old.state.level) × (units : List JournalUnit) × IsJournalOf units old × AreDone commands replies units units old new
 
 -- a transaction has just begun
 abbrev pub HasJustBegun : Option Transaction → Type 0

@@ -1,6 +1,6 @@
--- What a job's replies tell of the units that the job wrote, and what lines may be replied. Source: docs/THEOREMS.md, "Many jobs".
+-- What a job's replies tell of the units that the job wrote, and what lines may be replied. Source: docs/THEOREMS.md, "Many jobs at the same time".
 -- Read told_by_lines, units_told, IsToldIn, AreRepliesTo, AreRepliesToNone, then IsTold.
-use Rattle.std.specs.Prelude.{◌≡◌, ◌⊎◌, ⊤, ℕ, Bool, true, false, List, [], ◌∷◌, ◌++◌, map, Option, None, Some, Result, Ok, Err}
+use Rattle.std.specs.Prelude.{◌≡◌, ◌⊎◌, ⊤, ℕ, Bool, true, false, not, ◌||◌, List, [], ◌∷◌, ◌++◌, map, Option, None, Some, Result, Ok, Err}
 use Rattle.std.specs.List.{All, filter, flat_map}
 use Rattle.refusal.specs.declared.Refusal.{Refusal}
 use Rattle.command.specs.declared.request.Command.{Command}
@@ -33,19 +33,20 @@ given s = filter has_receipt s.units
 abbrev pub units_told : ℕ → List ℕ → List Reply → List JournalUnit
 units_told job text replies = given (told_by_lines job (lines_of_script text) replies nothing_done)
 
-abbrev pub is_lock : JournalUnit → Bool
-is_lock (Lone job command answer) = false
-is_lock (Whole job exchanges) = false
-is_lock (Lock job inside command had) = true
-is_lock (Back job) = false
-is_lock (End job) = false
+-- whether no reply need tell of a unit: a LOCK that was blocked, or one in a transaction, of a try that was overtaken
+abbrev pub may_be_untold : JournalUnit → Bool
+may_be_untold (Lone job command answer) = false
+may_be_untold (Whole job exchanges) = false
+may_be_untold (Lock job inside command had) = inside || not had
+may_be_untold (Back job) = false
+may_be_untold (End job) = false
 
--- what is told are these units, in order, but for LOCKs that no reply tells
+-- what is told are these units, in order, but for such LOCKs
 abbrev pub IsToldIn : List JournalUnit → List JournalUnit → Type 0
 IsToldIn [] [] = ⊤
-IsToldIn [] (u ∷ units) = (is_lock u ≡ true) × IsToldIn [] units
+IsToldIn [] (u ∷ units) = (may_be_untold u ≡ true) × IsToldIn [] units
 IsToldIn (t ∷ ts) [] = ⊥
-IsToldIn (t ∷ ts) (u ∷ units) = ((t ≡ u) × IsToldIn ts units) ⊎ ((is_lock u ≡ true) × IsToldIn (t ∷ ts) units)
+IsToldIn (t ∷ ts) (u ∷ units) = ((t ≡ u) × IsToldIn ts units) ⊎ ((may_be_untold u ≡ true) × IsToldIn (t ∷ ts) units)
 
 -- the units of receipts
 abbrev pub units_of : List Claim → List JournalUnit

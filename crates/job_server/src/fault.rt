@@ -13,7 +13,7 @@ pub enum ServerFault {
     /// Memory was refused where no reply could say so: for a worker, a session, a job's replies or its report, a serial
     /// run, or the HALT after a job's last line.
     Memory,
-    /// A job's report didn't come, or wasn't whole.
+    /// A job's report didn't come, or wasn't whole, or the numbers of its receipts didn't rise.
     Missing,
 }
 

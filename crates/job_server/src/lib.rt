@@ -36,6 +36,7 @@ mod blocks;
 mod cursor;
 mod fault;
 mod holding;
+mod in_turn;
 mod job_run;
 mod load;
 mod replies;

@@ -1,11 +1,11 @@
 //! Bytes in, bytes out.
-ghost use Rattle.std.specs.Prelude.{◌≡◌, ◌++◌, [], true, ℕ, List, IfOk, IfErr, IfSome, OnOk, OnErr, IsErrOf};
+ghost use Rattle.std.specs.Prelude.{◌≡◌, ◌⊎◌, ◌++◌, [], true, ℕ, List, IfOk, IfErr, IfSome, OnOk, OnErr, IsErrOf};
 ghost use Rattle.std.specs.Io.KnownBytes.{Appends, IsAtEnd, Keeps, Consumes};
 ghost use Rattle.journal.specs.History.{initial, after, IsLegal};
 ghost use Rattle.listing.specs.Bytes.{WritesBeginning, IsOneMore};
 ghost use Rattle.std.specs.List.{list_any};
 ghost use Rattle.job_scripts.specs.Reports.{reports_text, some_refused};
-ghost use Rattle.job_server.specs.Faults.{IsJobsFault, IsOfLoad, IsOfWriting};
+ghost use Rattle.job_server.specs.Faults.{IsJobsFault, IsOfWriting};
 ghost use Rattle.job_server.specs.Output.{ending, IsJobsOutput, Wrote, IsBegun};
 ghost use Rattle.job_server.specs.Texts.{IsServed};
 
@@ -122,8 +122,8 @@ pub fn write_served<W: Write>(
 ///
 /// A job's replies tell the units that it wrote, as `serve` says; the listing is of the map that all units leave.
 ///
-/// After a fault a beginning of that was written: nothing where the listing isn't loaded or jobs weren't served to their
-/// end; `Write` only where a call of the writer failed.
+/// After a fault a beginning of that was written: nothing but after `Write` and `Memory`, so nothing where the listing isn't
+/// loaded or jobs weren't served to their end; `Write` only where a call of the writer failed.
 pub fn run_text<R: Threads + Wait + Sync, W: Write, G: Gate + Sync>(
     rt: &R,
     alloc: Global,
@@ -137,7 +137,7 @@ pub fn run_text<R: Threads + Wait + Sync, W: Write, G: Gate + Sync>(
     ensures output { IfOk result (λ refused. Wrote listing.now listed text.items refused (W.contents writer.old.inner) (W.contents writer.new.inner)) }
     ensures begun { OnErr result (IsBegun listing.now listed text.items (W.contents writer.old.inner) (W.contents writer.new.inner)) }
     ensures unloaded { IfErr result (IsJobsFault listing.now) }
-    ensures nothing { IfErr result (λ fault. IsOfLoad fault → W.contents writer.old.inner ≡ W.contents writer.new.inner) }
+    ensures nothing { IfErr result (λ fault. IsOfWriting fault ⊎ (W.contents writer.old.inner ≡ W.contents writer.new.inner)) }
     ensures counted { IsErrOf result JobsFault.Write → IsOneMore writer.old.failures writer.new.failures }
 {
     let served = serve_text(rt, alloc, listing, &mut NoLog, text, workers, gate)?;
@@ -163,7 +163,7 @@ pub fn run_jobs<R: Threads + Wait + Sync, I: Read, W: Write, G: Gate + Sync>(
     ensures begun { OnErr result (IfSome (I.remaining reader.old.inner)
         (λ bytes. IsBegun listing.now true bytes (W.contents writer.old.inner) (W.contents writer.new.inner))) }
     ensures unloaded { IfErr result (IsJobsFault listing.now) }
-    ensures nothing { IfErr result (λ fault. IsOfLoad fault → W.contents writer.old.inner ≡ W.contents writer.new.inner) }
+    ensures nothing { IfErr result (λ fault. IsOfWriting fault ⊎ (W.contents writer.old.inner ≡ W.contents writer.new.inner)) }
 {
     let text = read_all(alloc, reader)?;
     run_text(rt, alloc, listing, true, text, writer, workers, gate)

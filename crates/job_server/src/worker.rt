@@ -12,6 +12,7 @@ ghost use Rattle.job_server.specs.Telling.{Refuses, IsFaultOfNone, Serves, Advan
 
 use crate::ServerFault;
 use crate::cursor::{Cursor, Line};
+use crate::in_turn::are_in_turn;
 use crate::job_run::Calls;
 use crate::running::{JobRun, Sessions, read_for};
 use collation::Job;
@@ -69,7 +70,14 @@ pub(crate) struct Done<B: BoardName + Batch> {
     pub(crate) ghost told: { IfOk outcome (λ ran. ∥ IsReportAt B.scripts place ran.report ran.passes.items ∥₁) } by { Prim.hlevel props },
 }
 
-// What a script's replies and passes make, where there is a reply for each line.
+// The fault of a report that isn't whole.
+fn missing<B: BoardName>(replies: Vec<Reply>, passes: Vec<Pass<B>>) -> ServerFault {
+    drop(replies);
+    drop(passes);
+    ServerFault::Missing
+}
+
+// What a script's replies and passes make, where there is a reply for each line, and the sessions followed one another.
 fn ran_of<B: BoardName>(
     alloc: Global,
     script: &Script,
@@ -80,9 +88,10 @@ fn ran_of<B: BoardName>(
     ensures { IfOk result (λ ran. IsReport (wanted script.now) ran.report ran.passes.items) }
 {
     if replies.len() != script.lines {
-        drop(replies);
-        drop(passes);
-        return Err(ServerFault::Missing);
+        return Err(missing(replies, passes));
+    }
+    if !are_in_turn(passes.as_slice()) {
+        return Err(missing(replies, passes));
     }
     match Report::new(alloc, script.job, replies) {
         Ok(report) => Ok(Ran { report, passes }),

@@ -1,6 +1,6 @@
-use Rattle.std.proofs.Common.{refl}
+use Rattle.std.proofs.Common.{refl, inl, inr}
 use Rattle.listing.specs.laws.Bytes.{on_err}
-use Rattle.job_server.proofs.Faulting.{on_fault, writing_is, writing_no_load}
+use Rattle.job_server.proofs.Faulting.{on_fault, writing_is}
 use Rattle.job_server.proofs.Outputs.{made, begun}
 use Rattle.job_server.proofs.Reading.{passed_on}
 use Rattle.job_server.proofs.run.run_text.Goals as goal
@@ -22,10 +22,10 @@ pub returns-in_err-served-clause-unloaded : goal.returns-in_err-served-clause-un
 returns-in_err-served-clause-unloaded g c = on_fault _ _ _ c.from_residual.ensures.1 c.in_err-served.ensures.unloaded
 
 pub returns-in_err-served-clause-nothing : goal.returns-in_err-served-clause-nothing
-returns-in_err-served-clause-nothing g c = on_fault _ _ _ c.from_residual.ensures.1 (λ is. refl)
+returns-in_err-served-clause-nothing g c = on_fault _ _ _ c.from_residual.ensures.1 (inr refl)
 
 pub returns-in_err-write_served-clause-unloaded : goal.returns-in_err-write_served-clause-unloaded
 returns-in_err-write_served-clause-unloaded g c = on_fault _ _ _ c.from_residual-in_err-write_served.ensures.1 (writing_is c.args.listing.now c.in_err-write_served.field-0.0 c.in_err-write_served.ensures.kind)
 
 pub returns-in_err-write_served-clause-nothing : goal.returns-in_err-write_served-clause-nothing
-returns-in_err-write_served-clause-nothing g c = on_fault _ _ _ c.from_residual-in_err-write_served.ensures.1 (λ is. absurd (writing_no_load c.in_err-write_served.field-0.0 c.in_err-write_served.ensures.kind is))
+returns-in_err-write_served-clause-nothing g c = on_fault _ _ _ c.from_residual-in_err-write_served.ensures.1 (inl c.in_err-write_served.ensures.kind)
