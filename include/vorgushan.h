@@ -1,15 +1,16 @@
-/* Vorgushan for C: an M global database in memory. docs/LIBRARY.md is its page.
+/* Vorgushan for C: a database of M globals (trees of nodes) in memory. docs/LIBRARY.md is its page; the commands and
+ * the words of M are in docs/RULES.md.
  *
- * An engine does the commands of up to 4,096 jobs, one call at a time. Callers on several threads keep a mutex of
+ * An engine does the commands of up to 4,096 jobs, one call at a time. Callers on several threads hold a mutex of
  * their own round each call; two engines have nothing in common.
  *
- * Every call answers an outcome: VG_DONE, a refusal (1 to 18), or one of the library's own (from 32). After a
- * refusal the database is as it was. A call of a job, whose number is 1 to 4,096, may answer VG_BAD_JOB,
+ * Every call returns an outcome: VG_DONE, a refusal (1 to 18), or one of the library's own (from 32). After a
+ * refusal the database is as it was. A call of a job, whose number is 1 to 4,096, may return VG_BAD_JOB,
  * VG_OUT_OF_MEMORY and any refusal of its command, also where none is named below.
  *
  * Texts go by pointer and length, and may hold bytes 0; a text that is put into a buffer has no byte 0 at its end.
- * NULL may stand for an engine, which is told as VG_NO_ENGINE, for a text or buffer of length 0, and for the place of
- * a length or number that the caller doesn't want. */
+ * NULL may be given for an engine (VG_NO_ENGINE is returned), for a text or buffer of length 0, and for a length or
+ * number that the caller doesn't need. */
 #ifndef VORGUSHAN_H
 #define VORGUSHAN_H
 
@@ -21,7 +22,7 @@
 extern "C" {
 #endif
 
-/* What a call answers. The refusals are those of docs/RULES.md. */
+/* What a call returns. The refusals are those of docs/RULES.md. */
 typedef uint32_t vg_outcome;
 
 enum {
@@ -46,13 +47,14 @@ enum {
     VG_AHEAD = 18,
     VG_NO_ENGINE = 32,        /* none was made, or it was ended */
     VG_ENGINE_THERE = 33,     /* one is there already */
-    VG_BUFFER_TOO_SHORT = 34, /* the length that is wanted is told; what the buffer was to hold is kept */
-    VG_REPLY_KEPT = 35,       /* the line or step is done; no memory for its reply's text or key: vg_reply tells it */
+    VG_BUFFER_TOO_SHORT = 34, /* the length that is needed is given; what the buffer was to hold is kept */
+    VG_REPLY_KEPT = 35,       /* the line or step is done; no memory for its reply's text or key: vg_reply copies it */
     VG_NO_REPLY = 36,         /* no line was run yet */
-    VG_AT_END = 37,           /* no node is left, to list or for vg_query */
+    VG_AT_END = 37,           /* no node is left, to list, for vg_query or for vg_walk */
     VG_UNKNOWN_NUMBER = 38,   /* no outcome has that number */
     VG_NO_KEY = 39,           /* none was made, or it was ended */
-    VG_RESTARTED = 40         /* the transaction begins anew: what it had done is dropped */
+    VG_RESTARTED = 40,        /* the transaction restarts: what it did is dropped */
+    VG_NO_VALUE = 41          /* the reference has no value */
 };
 
 /* The ways in which vg_order and vg_query go. */
@@ -80,7 +82,7 @@ typedef struct vg_key {
 /* What an engine holds. */
 typedef struct vg_statistics {
     uint64_t units;         /* units of the journal */
-    uint64_t journal_bytes; /* bytes that they take */
+    uint64_t journal_bytes; /* bytes of those that no checkpoint dropped */
     uint64_t nodes;         /* nodes with a value */
 } vg_statistics;
 
@@ -94,6 +96,7 @@ vg_outcome vorgushan_reply(vg_engine *engine, char *reply, size_t reply_size, si
 vg_outcome vorgushan_list_from_start(vg_engine *engine);
 vg_outcome vorgushan_list_next(vg_engine *engine, char *node, size_t node_size, size_t *node_length);
 vg_outcome vorgushan_collect(vg_engine *engine, size_t nodes);
+vg_outcome vorgushan_checkpoint(vg_engine *engine);
 vg_outcome vorgushan_statistics(vg_engine *engine, vg_statistics *statistics);
 vg_outcome vorgushan_key_name(vg_key *key, const char *name, size_t name_length);
 vg_outcome vorgushan_key_subscript(vg_key *key, const char *subscript, size_t subscript_length);
@@ -107,6 +110,9 @@ vg_outcome vorgushan_data(vg_engine *engine, uint64_t job, vg_key *key, uint64_t
 vg_outcome vorgushan_order(vg_engine *engine, uint64_t job, vg_key *key, const char *start, size_t start_length,
                            uint32_t backward, char *subscript, size_t subscript_size, size_t *subscript_length);
 vg_outcome vorgushan_query(vg_engine *engine, uint64_t job, vg_key *key, uint32_t is_open, uint32_t backward);
+vg_outcome vorgushan_look(vg_engine *engine, vg_key *key, char *value, size_t value_size, size_t *value_length);
+vg_outcome vorgushan_walk(vg_engine *engine, vg_key *root, vg_key *place, char *nodes, size_t nodes_size,
+                          size_t *nodes_length);
 vg_outcome vorgushan_lock(vg_engine *engine, uint64_t job, vg_key *key, uint64_t *had);
 vg_outcome vorgushan_lock_more(vg_engine *engine, uint64_t job, vg_key *key, uint64_t *had);
 vg_outcome vorgushan_lock_fewer(vg_engine *engine, uint64_t job, vg_key *key, uint64_t *had);
@@ -123,7 +129,7 @@ static inline vg_outcome vg_new(vg_engine *engine) {
     return engine ? vorgushan_new(engine) : (vg_outcome)VG_NO_ENGINE;
 }
 
-/* Ends an engine and gives its memory back; from then on it is told as VG_NO_ENGINE. */
+/* Ends an engine and gives its memory back; from then on calls on it return VG_NO_ENGINE. */
 static inline vg_outcome vg_end(vg_engine *engine) {
     return engine ? vorgushan_end(engine) : (vg_outcome)VG_NO_ENGINE;
 }
@@ -131,8 +137,8 @@ static inline vg_outcome vg_end(vg_engine *engine) {
 /* Runs a line, which comes without its end, as "1 SET ^A(1)=5", and copies its reply with a byte 10 at its end, as
  * "1 ok\n".
  *
- * The outcome is the reply's: VG_DONE, VG_RESTARTED, or its refusal. Where the reply is longer than the buffer the
- * answer is VG_BUFFER_TOO_SHORT: the line is done, nothing is copied, reply_length is what is wanted, and vg_reply
+ * The outcome is the reply's: VG_DONE, VG_RESTARTED, or its refusal. Where the reply is longer than the buffer it is
+ * VG_BUFFER_TOO_SHORT: the line is done, nothing is copied, reply_length is the length that is needed, and vg_reply
  * copies the reply. */
 static inline vg_outcome vg_line(vg_engine *engine, const char *line, size_t line_length, char *reply,
                                  size_t reply_size, size_t *reply_length) {
@@ -164,8 +170,8 @@ static inline vg_outcome vg_list_from_start(vg_engine *engine) {
     return engine ? vorgushan_list_from_start(engine) : (vg_outcome)VG_NO_ENGINE;
 }
 
-/* Copies the line of the node behind the one that was listed last, in the database as it is now, with a byte 10 at
- * its end. VG_AT_END behind the last. After VG_BUFFER_TOO_SHORT or VG_OUT_OF_MEMORY the node is still the next. */
+/* Copies the line of the node after the one that was listed last, in the database as it is now, with a byte 10 at
+ * its end. VG_AT_END after the last. After VG_BUFFER_TOO_SHORT or VG_OUT_OF_MEMORY the node is still the next. */
 static inline vg_outcome vg_list_next(vg_engine *engine, char *node, size_t node_size, size_t *node_length) {
     char nothing = 0;
     size_t length = 0;
@@ -182,20 +188,27 @@ static inline vg_outcome vg_collect(vg_engine *engine, size_t nodes) {
     return engine ? vorgushan_collect(engine, nodes) : (vg_outcome)VG_NO_ENGINE;
 }
 
+/* Lets the journal drop what it has of commands before the start of the first transaction that is open, or of all where
+ * none is open: what they leave is kept in their place. No reply and no listing depends on it. VG_OUT_OF_MEMORY, and then
+ * nothing has changed. */
+static inline vg_outcome vg_checkpoint(vg_engine *engine) {
+    return engine ? vorgushan_checkpoint(engine) : (vg_outcome)VG_NO_ENGINE;
+}
+
 /* What the engine holds. Walks over all nodes. */
 static inline vg_outcome vg_count(vg_engine *engine, vg_statistics *statistics) {
     vg_statistics unwanted = {0, 0, 0};
     return engine ? vorgushan_statistics(engine, statistics ? statistics : &unwanted) : (vg_outcome)VG_NO_ENGINE;
 }
 
-/* Makes the key of a name without subscripts and without its caret, as "Account", in the place of what was there.
+/* Makes the key of a name without subscripts and without its caret, as "Account", in place of what was there.
  * VG_BAD_NAME, VG_OUT_OF_MEMORY. */
 static inline vg_outcome vg_key_name(vg_key *key, const char *name, size_t name_length) {
     char nothing = 0;
     return key ? vorgushan_key_name(key, name ? name : &nothing, name ? name_length : 0) : (vg_outcome)VG_NO_KEY;
 }
 
-/* Puts one subscript more behind those of a key: its bytes, a number in canonic form. VG_TOO_MANY_SUBSCRIPTS over 31,
+/* Adds one subscript at the end of a key: its bytes, a number in canonic form. VG_TOO_MANY_SUBSCRIPTS over 31,
  * VG_EMPTY_SUBSCRIPT, VG_SUBSCRIPT_TOO_LONG over 255 bytes, VG_OUT_OF_MEMORY: then the key is as it was. */
 static inline vg_outcome vg_key_subscript(vg_key *key, const char *subscript, size_t subscript_length) {
     char nothing = 0;
@@ -226,7 +239,7 @@ static inline vg_outcome vg_kill(vg_engine *engine, uint64_t job, vg_key *key) {
 }
 
 /* $GET of a key's reference: the value's own bytes, none where it has none. After VG_BUFFER_TOO_SHORT vg_reply
- * tells the value as a line does. */
+ * copies it as the reply of a line. */
 static inline vg_outcome vg_get(vg_engine *engine, uint64_t job, vg_key *key, char *value, size_t value_size,
                                 size_t *value_length) {
     char nothing = 0;
@@ -250,7 +263,7 @@ static inline vg_outcome vg_merge(vg_engine *engine, uint64_t job, vg_key *to, v
     return to == from ? (vg_outcome)VG_MERGE_OVERLAP : vorgushan_merge(engine, job, to, from);
 }
 
-/* $DATA: tells 1 where a key's reference has a value, and 10 more where a descendant has one. */
+/* $DATA: number is 1 where a key's reference has a value, and 10 more where a descendant has one. */
 static inline vg_outcome vg_data(vg_engine *engine, uint64_t job, vg_key *key, uint64_t *number) {
     uint64_t told = 0;
     vg_outcome outcome = VG_NO_ENGINE;
@@ -262,7 +275,7 @@ static inline vg_outcome vg_data(vg_engine *engine, uint64_t job, vg_key *key, u
 }
 
 /* $ORDER one level below a key: copies the subscript that comes next to `start`, which need not be there; the length
- * is 0 behind the last. An empty start asks for the first, backward for the last. `start` and `subscript` may be the
+ * is 0 after the last. An empty start asks for the first, backward for the last. `start` and `subscript` may be the
  * same bytes. VG_SUBSCRIPT_TOO_LONG over 255 bytes, VG_TOO_MANY_SUBSCRIPTS below a key with 31. */
 static inline vg_outcome vg_order(vg_engine *engine, uint64_t job, vg_key *key, const char *start, size_t start_length,
                                   uint32_t direction, char *subscript, size_t subscript_size,
@@ -287,16 +300,123 @@ static inline vg_outcome vg_order(vg_engine *engine, uint64_t job, vg_key *key, 
 }
 
 /* $QUERY: moves a key to the nearest node with a value in its name, from VG_AT_KEY, or from VG_BELOW_KEY, which
- * backward is behind all under the key. VG_AT_END where no node is left, VG_REPLY_KEPT where memory is refused for a
- * long key: then, and after a refusal, the key is as it was. vg_reply tells the reference as a line does. */
+ * backward is after all under the key. VG_AT_END where no node is left, VG_REPLY_KEPT where memory is refused for a
+ * long key: then, and after a refusal, the key is as it was. vg_reply copies the reference as the reply of a line. */
 static inline vg_outcome vg_query(vg_engine *engine, uint64_t job, vg_key *key, uint32_t from, uint32_t direction) {
     if (!engine)
         return VG_NO_ENGINE;
     return key ? vorgushan_query(engine, job, key, from, direction) : (vg_outcome)VG_NO_KEY;
 }
 
-/* LOCK of a key's name, with its caret: the job's names are released, and then this one is asked for. Tells 1 where it
- * was had, and 0 where another job is in the way. Nobody waits. */
+/* Copies the value that a key's reference has in the database as it is now, without a command of a job: the journal
+ * gets no unit, vg_reply copies what it did before, and what a transaction does shows once it is committed.
+ * VG_NO_VALUE. */
+static inline vg_outcome vg_look(vg_engine *engine, vg_key *key, char *value, size_t value_size, size_t *value_length) {
+    char nothing = 0;
+    size_t length = 0;
+    vg_outcome outcome = VG_NO_ENGINE;
+    if (engine)
+        outcome = key ? vorgushan_look(engine, key, value ? value : &nothing, value ? value_size : 0, &length)
+                      : (vg_outcome)VG_NO_KEY;
+    if (value_length)
+        *value_length = length;
+    return outcome;
+}
+
+/* Copies as many nodes as the buffer has room for, in order, without a command of a job, as vg_look: those at and under
+ * `root`, or all of the database where it is NULL or VG_KEY_NONE. They are the first ones where `place` is VG_KEY_NONE,
+ * else those after it; `place` then becomes the key of the last of them. vg_node_next reads them.
+ *
+ * VG_AT_END where no node is left. VG_BUFFER_TOO_SHORT where the next alone is longer than the buffer: nodes_length is
+ * the length that is needed. VG_OUT_OF_MEMORY. Then nothing is copied, and `place` is as it was. VG_NO_KEY where it is
+ * NULL or the same as `root`. */
+static inline vg_outcome vg_walk(vg_engine *engine, vg_key *root, vg_key *place, char *nodes, size_t nodes_size,
+                                 size_t *nodes_length) {
+    char nothing = 0;
+    size_t length = 0;
+    vg_key all = VG_KEY_NONE;
+    vg_outcome outcome = VG_NO_ENGINE;
+    if (engine)
+        outcome = place && place != root ? vorgushan_walk(engine, root ? root : &all, place, nodes ? nodes : &nothing,
+                                                          nodes ? nodes_size : 0, &length)
+                                         : (vg_outcome)VG_NO_KEY;
+    if (nodes_length)
+        *nodes_length = length;
+    return outcome;
+}
+
+/* A node that vg_walk copied: its key's bytes, which sort as references do, and its value, both in the buffer. */
+typedef struct vg_node {
+    const char *key;
+    size_t key_length;
+    const char *value;
+    size_t value_length;
+} vg_node;
+
+/* A length in eight bytes, the lowest first. */
+static inline size_t vg_length_at(const char *at) {
+    uint64_t length = 0;
+    int i;
+    for (i = 7; i >= 0; i--)
+        length = length << 8 | (unsigned char)at[i];
+    return (size_t)length;
+}
+
+/* Reads the node at *at, which is the start of the buffer first, and moves *at after it. Returns 0 where *at is `end`,
+ * the start and nodes_length bytes, else 1. */
+static inline int vg_node_next(const char **at, const char *end, vg_node *node) {
+    if (*at >= end)
+        return 0;
+    node->key = *at + 16;
+    node->key_length = vg_length_at(*at);
+    node->value = node->key + node->key_length;
+    node->value_length = vg_length_at(*at + 8);
+    *at = node->value + node->value_length;
+    return 1;
+}
+
+/* Reads a part of a node's key at *at, which is node->key first: the name, then subscript after subscript; and moves
+ * *at after it. Writes the part's own bytes to `part`, which has room for 255, and returns their number: 0 after the
+ * last. */
+static inline size_t vg_part_next(const vg_node *node, const char **at, char *part) {
+    const unsigned char *from = (const unsigned char *)*at;
+    size_t length = 0;
+    int tag = 5, place, digits;
+    if (*at == node->key + node->key_length)
+        return 0;
+    if (*at != node->key)
+        tag = *from++;
+    if (tag == 3) {
+        part[length++] = '0';
+    } else if (tag == 5) {
+        for (; *from; from++)
+            part[length++] = (char)(*from == 1 ? *++from - 1 : *from);
+        from++;
+    } else { /* a number: 0.d1 d2 .. times 10^place, below zero where the tag is 2 */
+        place = from[0] * 256 + from[1];
+        place = tag == 4 ? place - 256 : 255 - place;
+        if (tag == 2)
+            part[length++] = '-';
+        if (place <= 0)
+            part[length++] = '.';
+        for (digits = place; digits < 0; digits++)
+            part[length++] = '0';
+        digits = 0;
+        for (from += 2; *from != (tag == 4 ? 0 : 255); from++) {
+            if (place > 0 && digits == place)
+                part[length++] = '.';
+            part[length++] = (char)(tag == 4 ? '0' + *from - 1 : '0' + 10 - *from);
+            digits++;
+        }
+        for (from++; digits < place; digits++)
+            part[length++] = '0';
+    }
+    *at = (const char *)from;
+    return length;
+}
+
+/* LOCK of a key's name, with its caret: the job's names are released, and then this one is asked for. had is 1 where it
+ * was granted, and 0 where another job is in the way. Nobody waits. */
 static inline vg_outcome vg_lock(vg_engine *engine, uint64_t job, vg_key *key, uint64_t *had) {
     uint64_t told = 0;
     vg_outcome outcome = VG_NO_ENGINE;
@@ -307,7 +427,7 @@ static inline vg_outcome vg_lock(vg_engine *engine, uint64_t job, vg_key *key, u
     return outcome;
 }
 
-/* LOCK with +: the name is asked for beside those that the job has. VG_LOCK_COUNT_FULL. */
+/* LOCK with +: the name is asked for in addition to those that the job has. VG_LOCK_COUNT_FULL. */
 static inline vg_outcome vg_lock_more(vg_engine *engine, uint64_t job, vg_key *key, uint64_t *had) {
     uint64_t told = 0;
     vg_outcome outcome = VG_NO_ENGINE;
@@ -318,7 +438,7 @@ static inline vg_outcome vg_lock_more(vg_engine *engine, uint64_t job, vg_key *k
     return outcome;
 }
 
-/* LOCK with -: one count of the name is given back. */
+/* LOCK with -: one count of the name is released. */
 static inline vg_outcome vg_lock_fewer(vg_engine *engine, uint64_t job, vg_key *key) {
     uint64_t told = 0;
     if (!engine)
@@ -332,7 +452,7 @@ static inline vg_outcome vg_unlock(vg_engine *engine, uint64_t job) {
     return engine ? vorgushan_unlock(engine, job, &told) : (vg_outcome)VG_NO_ENGINE;
 }
 
-/* TSTART: opens a transaction of the job, or raises its level, and tells the level. VG_LEVEL_TOO_DEEP. */
+/* TSTART: opens a transaction of the job, or raises its level, and gives the level. VG_LEVEL_TOO_DEEP. */
 static inline vg_outcome vg_tstart(vg_engine *engine, uint64_t job, uint64_t *level) {
     uint64_t told = 0;
     vg_outcome outcome = engine ? vorgushan_tstart(engine, job, &told) : (vg_outcome)VG_NO_ENGINE;
@@ -341,9 +461,9 @@ static inline vg_outcome vg_tstart(vg_engine *engine, uint64_t job, uint64_t *le
     return outcome;
 }
 
-/* TCOMMIT: VG_DONE where all that the transaction did is done, and tells 0; above level 1 it lowers the level, and
- * tells that. VG_RESTARTED where another job was quicker: nothing of it is done, it begins anew, the job does its
- * calls again, and told is how often that was. VG_NO_TRANSACTION. */
+/* TCOMMIT: VG_DONE where all that the transaction did is done, and number is 0; above level 1 it lowers the level, and
+ * number is that. VG_RESTARTED where another job was quicker: nothing of it is done, it restarts, the job does its
+ * calls again, and number is how often it has restarted. VG_NO_TRANSACTION. */
 static inline vg_outcome vg_tcommit(vg_engine *engine, uint64_t job, uint64_t *number) {
     uint64_t told = 0;
     vg_outcome outcome = engine ? vorgushan_tcommit(engine, job, &told) : (vg_outcome)VG_NO_ENGINE;
@@ -358,7 +478,7 @@ static inline vg_outcome vg_trollback(vg_engine *engine, uint64_t job) {
     return engine ? vorgushan_trollback(engine, job, &told) : (vg_outcome)VG_NO_ENGINE;
 }
 
-/* TRESTART: drops what was done since the start, and begins anew: VG_RESTARTED. VG_NO_TRANSACTION. */
+/* TRESTART: drops what was done since the start, and restarts: VG_RESTARTED. VG_NO_TRANSACTION. */
 static inline vg_outcome vg_trestart(vg_engine *engine, uint64_t job, uint64_t *restarts) {
     uint64_t told = 0;
     vg_outcome outcome = engine ? vorgushan_trestart(engine, job, &told) : (vg_outcome)VG_NO_ENGINE;

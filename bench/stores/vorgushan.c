@@ -1,4 +1,5 @@
-/* The records as nodes ^Patient(NUMBER,FIELD), by the typed calls. */
+/* The records as nodes ^Patient(NUMBER,FIELD), by the typed calls; read by vg_look and vg_walk, or, with COMMANDS, by the
+ * commands of a job. */
 #include <stdio.h>
 #include <string.h>
 
@@ -32,6 +33,7 @@ void put(uint32_t number, const char *field, const char *value, size_t length) {
     must(vg_set(&engine, 1, &key, value, length) == VG_DONE, "vg_set");
 }
 
+#ifdef COMMANDS
 size_t get(uint32_t number, const char *field, char *value, size_t size) {
     size_t length = 0;
     make_key(number, field);
@@ -50,3 +52,31 @@ uint64_t walk(void) {
     }
     return bytes;
 }
+#else
+size_t get(uint32_t number, const char *field, char *value, size_t size) {
+    size_t length = 0;
+    make_key(number, field);
+    must(vg_look(&engine, &key, value, size, &length) == VG_DONE, "vg_look");
+    return length;
+}
+
+uint64_t walk(void) {
+    static char nodes[32768];
+    char value[64];
+    size_t length = 0;
+    uint64_t bytes = 0;
+    vg_key place = VG_KEY_NONE;
+    must(vg_key_name(&key, "Patient", 7) == VG_DONE, "vg_key_name");
+    while (vg_walk(&engine, &key, &place, nodes, sizeof nodes, &length) == VG_DONE) {
+        const char *at = nodes;
+        vg_node node;
+        while (vg_node_next(&at, nodes + length, &node)) {
+            must(node.value_length <= sizeof value, "vg_node_next");
+            memcpy(value, node.value, node.value_length);
+            bytes += node.value_length;
+        }
+    }
+    vg_key_end(&place);
+    return bytes;
+}
+#endif

@@ -1,2 +1,3 @@
 mod Nodes
 mod Starts
+mod Walked

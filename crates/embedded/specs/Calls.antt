@@ -13,6 +13,7 @@ use Rattle.collation.specs.Database.{Database}
 use Rattle.command.specs.declared.request.Command.{Command}
 use Rattle.command.specs.declared.request.Reply.{Reply}
 use Rattle.command.specs.declared.request.Reply.TheVariants.{Refused}
+use Rattle.journal.specs.Checkpoints.{IsCheckpoint}
 use Rattle.journal.specs.Format.{unit_bytes}
 use Rattle.journal.specs.History.{initial, after as left_by}
 use Rattle.journal.specs.Story.{Machine, told}
@@ -154,6 +155,13 @@ pub record IsCount (e : Embedded) (units bytes nodes : ℕ) : Type 0 where
   pub of_units : units ≡ length e.core.machine.units
   pub of_bytes : bytes ≡ length (flat_map unit_bytes (drop e.core.base e.core.machine.units))
   pub of_nodes : nodes ≡ count_of (database e)
+
+-- the journal's base moved on as far as open transactions let it; or memory was refused, and it stays. All else is as it was
+pub record IsCheckpointCall (before after : Embedded) (outcome : Outcome) : Type 0 where
+  pub machine : after.core.machine ≡ before.core.machine
+  pub moved : ((outcome ≡ Done) × IsCheckpoint after.core.base before.core.machine) ⊎ ((outcome ≡ RefusedCall OutOfMemory) × (after.core ≡ before.core))
+  pub last : after.last ≡ before.last
+  pub listed : after.listed ≡ before.listed
 
 -- ---- the name of a number
 

@@ -1,3 +1,5 @@
 pub mod Calls
+pub mod Gathered
+pub mod Looks
 pub mod Outcomes
 pub mod laws

@@ -23,7 +23,7 @@ pub enum Outcome {
     ReplyKept,
     /// No line was run yet. Number 36.
     NoReply,
-    /// No node is left, to list or for $QUERY. Number 37.
+    /// No node is left, to list, for $QUERY or for a walk. Number 37.
     AtEnd,
     /// No outcome has that number. Number 38.
     UnknownNumber,
@@ -31,6 +31,8 @@ pub enum Outcome {
     NoKey,
     /// The transaction begins anew: what it had done is dropped. Number 40.
     Restarted,
+    /// The reference has no value. Number 41.
+    NoValue,
 }
 
 impl Outcome {
@@ -50,6 +52,7 @@ impl Outcome {
             Outcome::UnknownNumber => 38,
             Outcome::NoKey => 39,
             Outcome::Restarted => 40,
+            Outcome::NoValue => 41,
         }
     }
 
@@ -69,6 +72,7 @@ impl Outcome {
             Outcome::UnknownNumber => "UnknownNumber",
             Outcome::NoKey => "NoKey",
             Outcome::Restarted => "Restarted",
+            Outcome::NoValue => "NoValue",
         }
     }
 
@@ -98,6 +102,7 @@ impl Outcome {
             38 => Some(Outcome::UnknownNumber),
             39 => Some(Outcome::NoKey),
             40 => Some(Outcome::Restarted),
+            41 => Some(Outcome::NoValue),
             _ => match refusal_of(number) {
                 Some(refusal) => Some(Outcome::Refused(refusal)),
                 None => None,

@@ -1,6 +1,6 @@
 //! What an engine holds, in numbers.
 ghost use Rattle.std.specs.Prelude.{◌≡◌};
-ghost use Rattle.embedded.specs.Calls.{count_of, IsCount, IsKept};
+ghost use Rattle.embedded.specs.Calls.{count_of, IsCheckpointCall, IsCount, IsKept};
 
 use crate::{Embedded, Outcome};
 use globals::{Cut, OrderedView, walk_from};
@@ -48,6 +48,19 @@ impl Embedded {
         ensures { IsKept self.old self.new }
     {
         match self.core.collect(limit) {
+            Ok(_) => Outcome::Done,
+            Err(refusal) => Outcome::Refused(refusal),
+        }
+    }
+
+    /// Lets the journal drop its units up to the least start of an open transaction, or all where none is open: what they
+    /// leave is kept in their place. No reply and no listing depends on it.
+    ///
+    /// `OutOfMemory`, after which nothing has changed.
+    pub fn checkpoint(&mut self) -> Outcome
+        ensures { IsCheckpointCall self.old self.new result }
+    {
+        match self.core.checkpoint() {
             Ok(_) => Outcome::Done,
             Err(refusal) => Outcome::Refused(refusal),
         }

@@ -1,7 +1,9 @@
 -- What a call on an engine that is there did.
-use Rattle.std.proofs.Common.{◌≡◌, ℕ, inl, sym, subst}
+use Rattle.std.proofs.Common.{◌≡◌, ◌∙◌, ℕ, List, inl, sym, subst}
+use Rattle.std.specs.Option.{MatchOption, option_map}
 use Rattle.std.specs.Prelude.{Option, None, Some}
 use Rattle.collation.specs.Reference.{Reference}
+use Rattle.embedded.specs.Looks.{IsWalkCall}
 use Rattle.embedded.specs.Outcomes.{outcome_number}
 use Rattle.embedded.specs.declared.engine.Embedded.{Embedded}
 use Rattle.embedded.specs.declared.outcome.Outcome.{Outcome}
@@ -35,3 +37,23 @@ pub made_new : (old now : Option Embedded) (number : ℕ) (made : Embedded) → 
     → number ≡ outcome_number Done → IsMade old now number
 made_new old now number made was is core last listed told =
     subst (λ (o : Option Embedded). IsMade o now number) (sym was) (inl (record { made = made; there = is; core = core; last = last; listed = listed; told = told }))
+
+-- what was taken is what was there
+pub held_is : {X : Type 0} (value : X → Reference) (o : Option X) (inside : Option Reference) → MatchOption o (inside ≡ None) (λ x. inside ≡ Some (value x)) → option_map value o ≡ inside
+held_is value None inside is = sym is
+held_is value (Some x) inside is = sym is
+
+-- what is put back where none is, is there
+pub put_is : {X : Type 0} (value : X → Reference) (o : Option X) (old new : Option Reference) → MatchOption o (new ≡ old) (λ x. new ≡ Some (value x)) → old ≡ None → option_map value o ≡ new
+put_is value None old new is none = sym (is ∙ none)
+put_is value (Some x) old new is none = sym is
+
+-- what was taken and is put back is there again
+pub back_is : {X : Type 0} (value : X → Reference) (o : Option X) (inside old new : Option Reference) → MatchOption o (inside ≡ None) (λ x. inside ≡ Some (value x)) → MatchOption o (new ≡ old) (λ x. new ≡ Some (value x)) → old ≡ None → new ≡ inside
+back_is value o inside old new was is none = sym (put_is value o old new is none) ∙ held_is value o inside was
+
+-- a walk within a root, from a place to another, by what these are
+pub same_walk : (root place now root' place' now' : Option Reference) (before after : Embedded) (outcome : Outcome) (old new : List ℕ) (wanted : ℕ) → root' ≡ root → place' ≡ place → now' ≡ now → IsWalkCall root' place' now' before after outcome old new wanted
+    → IsWalkCall root place now before after outcome old new wanted
+same_walk root place now root' place' now' before after outcome old new wanted a b c h =
+    subst (λ r. IsWalkCall r place now before after outcome old new wanted) a (subst (λ p. IsWalkCall root' p now before after outcome old new wanted) b (subst (λ n. IsWalkCall root' place' n before after outcome old new wanted) c h))

@@ -1,7 +1,7 @@
 //! What C calls. Each of them is declared in `include/vorgushan.h`, with its meaning for a C programmer.
 ghost use Rattle.std.specs.Prelude.{◌≡◌, ⊤, None};
 ghost use Rattle.std.specs.Option.{MatchOption};
-ghost use Rattle.embedded.specs.Calls.{IsLineCall, IsReplyCall, IsRestart, IsListCall, IsKept};
+ghost use Rattle.embedded.specs.Calls.{IsCheckpointCall, IsKept, IsLineCall, IsListCall, IsReplyCall, IsRestart};
 ghost use Rattle.embedded.specs.Outcomes.{outcome_number};
 ghost use Rattle.vorgushan_c.specs.Exports.{IsMade, IsCalled, IsCounted, IsNamedBy};
 
@@ -16,7 +16,7 @@ use std::alloc::Global;
 pub struct VgStatistics {
     /// How many units the journal has.
     pub units: u64,
-    /// How many bytes they take.
+    /// How many bytes those of them take that no checkpoint dropped.
     pub journal_bytes: u64,
     /// How many nodes have a value.
     pub nodes: u64,
@@ -148,6 +148,22 @@ pub extern "C" fn vorgushan_collect(alloc: Global, engine: &mut VgEngine, limit:
         return Outcome::NoEngine.number();
     };
     let outcome = there.collect(limit);
+    engine.put(there);
+    outcome.number()
+}
+
+/// Lets the journal drop its units up to the least start of an open transaction, or all where none is open. No reply and
+/// no listing depends on it.
+///
+/// Outcomes: as of `Embedded::checkpoint`; `NoEngine`.
+#[unsafe(no_mangle)]
+pub extern "C" fn vorgushan_checkpoint(alloc: Global, engine: &mut VgEngine) -> u32
+    ensures { IsCalled engine.old.inside engine.new.inside result ⊤ (λ before after outcome. IsCheckpointCall before after outcome) }
+{
+    let Some(mut there) = engine.take(alloc) else {
+        return Outcome::NoEngine.number();
+    };
+    let outcome = there.checkpoint();
     engine.put(there);
     outcome.number()
 }

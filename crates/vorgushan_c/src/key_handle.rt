@@ -82,4 +82,13 @@ impl VgKey {
     {
         *self = VgKey::of(Loose::of(key));
     }
+
+    // Puts a key, where there is one.
+    pub(crate) fn put_back(&mut self, key: Option<Box<Key>>)
+        ensures { MatchOption key (self.new.inside ≡ self.old.inside) (λ b. self.new.inside ≡ Some b.value) }
+    {
+        if let Some(there) = key {
+            self.put(there);
+        }
+    }
 }

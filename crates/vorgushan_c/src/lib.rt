@@ -8,13 +8,15 @@
 //! Numbers, lengths and bytes cross; a slice is a pointer and a length. That C declares the calls as they are, that
 //! its pointers and lengths say what is there, and that it makes one call at a time, only C's word stands for.
 //!
-//! Read `specs/Exports.antt`, `exports.rt`, `specs/Keys.antt`, `typed.rt`, `steps.rt`, `handle.rt`, then `loose.rt`.
+//! Read `specs/Exports.antt`, `exports.rt`, `specs/Keys.antt`, `typed.rt`, `looks.rt`, `steps.rt`, `handle.rt`, then
+//! `loose.rt`.
 #![tactic(auto)]
 
 mod exports;
 mod handle;
 mod key_handle;
 mod keys;
+mod looks;
 mod loose;
 mod steps;
 mod typed;

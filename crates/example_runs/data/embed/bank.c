@@ -117,6 +117,27 @@ static void list(vg_engine *engine) {
         printf("%.*s", (int)length, node);
 }
 
+/* The same without commands: a value, and all accounts, as many in a call as the buffer has room for. */
+static void look(vg_engine *engine) {
+    char value[8], nodes[256], part[255];
+    size_t length = 0, part_length;
+    vg_key accounts = VG_KEY_NONE, place = VG_KEY_NONE;
+    vg_node node;
+    vg_key_name(&accounts, "Account", 7);
+    name(vg_look(engine, &accounts, value, sizeof value, &length));
+    while (vg_walk(engine, &accounts, &place, nodes, sizeof nodes, &length) == VG_DONE) {
+        const char *at = nodes;
+        while (vg_node_next(&at, nodes + length, &node)) {
+            const char *from = node.key;
+            while ((part_length = vg_part_next(&node, &from, part)))
+                printf("%.*s ", (int)part_length, part);
+            printf("has %.*s\n", (int)node.value_length, node.value);
+        }
+    }
+    vg_key_end(&place);
+    vg_key_end(&accounts);
+}
+
 int main(void) {
     const char *question = "1 $GET(^Account(\"bo\"))";
     vg_engine engine = VG_ENGINE_NONE;
@@ -136,9 +157,12 @@ int main(void) {
     walk(&engine);
     add(&engine);
     list(&engine);
+    look(&engine);
     vg_collect(&engine, 100);
+    vg_checkpoint(&engine);
     vg_count(&engine, &statistics);
-    printf("%" PRIu64 " units, %" PRIu64 " nodes\n", statistics.units, statistics.nodes);
+    printf("%" PRIu64 " units in %" PRIu64 " bytes, %" PRIu64 " nodes\n", statistics.units, statistics.journal_bytes,
+           statistics.nodes);
     vg_end(&engine);
     name(vg_line(&engine, "1 HALT", 6, reply, sizeof reply, &wanted));
     name(vg_new(NULL));

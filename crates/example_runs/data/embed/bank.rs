@@ -27,7 +27,9 @@ unsafe extern "C" {
 }
 
 const DONE: u32 = 0;
+const LAST_REFUSAL: u32 = 18;
 const BUFFER_TOO_SHORT: u32 = 34;
+const RESTARTED: u32 = 40;
 
 /// An engine, which is ended when it is dropped. It isn't `Send`: it stays on its thread.
 struct Engine {
@@ -54,7 +56,7 @@ impl Engine {
             self.reply.resize(length, 0);
             outcome = unsafe { vorgushan_reply(raw, self.reply.as_mut_ptr(), self.reply.len(), &mut length) };
         }
-        assert!(outcome <= 18, "outcome {outcome}");
+        assert!(outcome <= LAST_REFUSAL || outcome == RESTARTED, "outcome {outcome}");
         String::from_utf8_lossy(&self.reply[..length]).trim_end().to_string()
     }
 }
