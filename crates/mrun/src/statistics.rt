@@ -13,6 +13,8 @@ pub struct Statistics {
     pub journal_bytes: usize,
     /// How many nodes have a value.
     pub nodes: u64,
+    /// How many versions of nodes are kept, absences among them.
+    pub versions: u64,
 }
 
 fn count_nodes<V: OrderedView>(view: &V) -> u64 {
@@ -24,13 +26,14 @@ fn count_nodes<V: OrderedView>(view: &V) -> u64 {
 }
 
 impl Statistics {
-    /// Counts what the core holds. Walks over all nodes; takes no memory.
+    /// Counts what the core holds. Walks over all nodes and versions; takes no memory.
     pub fn of(core: &JobCore) -> Statistics {
         Statistics {
             units: core.journal().len(),
             dropped: core.base().number(),
             journal_bytes: core.journal().size(),
             nodes: count_nodes(&core.content()),
+            versions: core.versions(),
         }
     }
 }
@@ -42,8 +45,9 @@ pub fn print_statistics(rt: &impl Eprint, program: &str, held: &Statistics) {
         dropped,
         journal_bytes,
         nodes,
+        versions,
     } = *held;
     let _ = eprintln!(rt;
-        "{program}: {nodes} nodes; {units} units, {dropped} of them dropped; {journal_bytes} bytes of journal"
+        "{program}: {nodes} nodes, {versions} versions; {units} units, {dropped} of them dropped; {journal_bytes} bytes of journal"
     );
 }

@@ -110,7 +110,7 @@ pub fn print_greeting(rt: &impl Eprint, program: &str) {
     );
 }
 
-/// Prints that memory was refused where lines got `error 11 OutOfMemory`, so that another run may print something else.
+/// Prints that memory was refused where lines got `error 14 OutOfMemory`, so that another run may print something else.
 pub fn print_wanting(rt: &impl Eprint, program: &str) {
     let _ = eprintln!(rt;
         "{program}: memory was refused: with more of it, the lines that got OutOfMemory would have other replies"

@@ -33,7 +33,8 @@ before names, or all where it names none, and Ctrl-D on an empty line ends the i
 --errors tells a refused line's number, the column of its fault, the refusal and what was expected there.
 --collect-every drops old versions of values that no transaction can see any more, --checkpoint-every what the journal
 keeps of the lines done before all open transactions; what is printed doesn't depend on either. --stats tells at the end
-what is held: nodes, and the units of the journal, what was dropped of them and the bytes that the others take.
+what is held: nodes and their versions, and the units of the journal, how many of them were dropped and the bytes that
+the others take.
 
 Exit status: 0, all replies are accepted; 1, a reply is an `error`; 2, input can't be read, output or the journal
 can't be written, memory ran out, a listing can't be loaded, or the words above are wrong.";
