@@ -1,2 +1,1 @@
-mod Front
 mod Pairs

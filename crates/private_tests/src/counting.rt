@@ -218,11 +218,7 @@ fn set(alloc: Global, own: &mut Workspace, spelled: &[u8]) -> Result<(), Refusal
 
 fn kill_plain(alloc: Global, plain: &mut KeyMap<Text>, spelled: &[u8]) -> Result<(), Refusal> {
     let key = key_of(alloc, spelled)?;
-    let under = plain.keys_under(alloc, &key);
-    drop(key);
-    let under = under?;
-    plain.remove_all(&under);
-    drop(under);
+    plain.remove_under(&key);
     Ok(())
 }
 

@@ -53,11 +53,7 @@ fn set_plain(alloc: Global, plain: &mut KeyMap<Text>, seed: u64) -> Result<(), R
 
 fn kill_plain(alloc: Global, plain: &mut KeyMap<Text>, seed: u64) -> Result<(), Refusal> {
     let key = key_at(alloc, seed)?;
-    let under = plain.keys_under(alloc, &key);
-    drop(key);
-    let under = under?;
-    plain.remove_all(&under);
-    drop(under);
+    plain.remove_under(&key);
     Ok(())
 }
 

@@ -2,7 +2,7 @@
 use Rattle.std.proofs.Common.{◌≡◌, Bool, true, false, not, cond, Option, Some, None, List, [], ◌∷◌, refl, sym, ap, ◌∙◌}
 use Rattle.std.specs.List.{filter}
 use Rattle.std.specs.Ordering.{is_eq, is_lt, eq_by_cmp}
-use Rattle.std.specs.Cmp.{IsTotalOrder, first_so, second_so}
+use Rattle.std.specs.Cmp.{IsTotalOrder, tied_itself, first_so, second_so}
 use Rattle.std.specs.declared.cmp.Ordering.{Ordering}
 use Rattle.std.specs.declared.cmp.Ordering.TheVariants.{Less, Equal, Greater}
 use Rattle.std.specs.FinMap.Entries as entries
@@ -10,6 +10,15 @@ use Rattle.std.specs.FinMap.Entries.{below_all, is_sorted, put, by_order}
 use Rattle.btree.specs.Order.{Each, without}
 use Rattle.steady_map.specs.Shown.{shown, hidden_keys, with_value, without_value, others}
 use Rattle.steady_map.proofs.Shows.{less_of, below_down, below_tied}
+
+-- what a test has passed, it passes again
+filter_twice : {A : Type 0} (q : A → Bool) (xs : List A) → filter q (filter q xs) ≡ filter q xs
+filter_twice q [] = refl
+filter_twice q (x ∷ xs) = by_test (q x) refl (filter_twice q xs)
+  where
+    by_test : (t : Bool) → q x ≡ t → filter q (filter q xs) ≡ filter q xs → filter q (cond t (x ∷ filter q xs) (filter q xs)) ≡ cond t (x ∷ filter q xs) (filter q xs)
+    by_test true u p = ap (λ b. cond b (x ∷ filter q (filter q xs)) (filter q (filter q xs))) u ∙ ap (λ ys. x ∷ ys) p
+    by_test false u p = p
 
 module _ {K V : Type 0} where
   kept_value : (q : K → Bool) (k : K) (v : Option V) (ks : List K) → filter q (without_value k v ks) ≡ cond (q k) (without_value k v (filter q ks)) (filter q ks)
@@ -25,6 +34,10 @@ module _ {K V : Type 0} where
       choose true = refl
       choose false = refl
 
+  -- pairs that are alike where a test passes hide the same keys there
+  pub hidden_alike : (q : K → Bool) (es fs : List (K × Option V)) → filter (λ e. q e.0) es ≡ filter (λ e. q e.0) fs → filter q (hidden_keys es) ≡ filter q (hidden_keys fs)
+  hidden_alike q es fs same = sym (hidden_filter q es) ∙ ap hidden_keys same ∙ hidden_filter q fs
+
   -- what all shown and all hidden keys have, all have
   pub have_all : (S : K → Type 0) (es : List (K × Option V)) → Each (λ (e : K × V). S e.0) (shown es) → Each S (hidden_keys es) → Each (λ (e : K × Option V). S e.0) es
   have_all S [] a b = tt
@@ -37,6 +50,10 @@ module _ {K V : Type 0} where
 module _ {K V : Type 0} (R : K → K → Ordering) where
   pub hidden_without : (k : K) (es : List (K × Option V)) → hidden_keys (without R k es) ≡ others R k (hidden_keys es)
   hidden_without k es = hidden_filter (λ x. not (eq_by_cmp R k x)) es
+
+  -- the other keys, once this one has gone
+  pub others_without : (k : K) (es : List (K × Option V)) → others R k (hidden_keys (without R k es)) ≡ others R k (hidden_keys es)
+  others_without k es = ap (others R k) (hidden_without k es) ∙ filter_twice (λ x. not (eq_by_cmp R k x)) (hidden_keys es)
 
   -- below all there is none that ties
   none_tie : (k : K) (es : List (K × Option V)) → below_all R k es ≡ true → others R k (hidden_keys es) ≡ hidden_keys es
@@ -84,3 +101,24 @@ module _ {K V : Type 0} (R : K → K → Ordering) (o : IsTotalOrder R) where
       by_cmp Less t rest = refl
       by_cmp Equal t rest = let here : eq_by_cmp R k e.0 ≡ true = ap is_eq t in value_set e.1 (rw here at f)
       by_cmp Greater t rest = let here : eq_by_cmp R k e.0 ≡ false = ap is_eq t in ap (without_value e.0 e.1) (rest (rw here at f))
+
+  -- the other keys, once this one has no value
+  pub others_put : (k : K) (es : List (K × Option V)) → others R k (hidden_keys (put R k None es)) ≡ others R k (hidden_keys es)
+  others_put k [] = ap (λ r. cond (not (is_eq r)) (k ∷ []) []) (tied_itself o k)
+  others_put k (e ∷ es) = by_cmp (R k e.0) refl (others_put k es)
+    where
+      itself : (ks : List K) → others R k (k ∷ ks) ≡ others R k ks
+      itself ks = ap (λ r. cond (not (is_eq r)) (k ∷ others R k ks) (others R k ks)) (tied_itself o k)
+
+      value_gone : (w : Option V) → R k e.0 ≡ Equal → others R k (e.0 ∷ hidden_keys es) ≡ others R k (without_value e.0 w (hidden_keys es))
+      value_gone None t = refl
+      value_gone (Some w) t = ap (λ r. cond (not (is_eq r)) (e.0 ∷ others R k (hidden_keys es)) (others R k (hidden_keys es))) t
+
+      value_stays : (w : Option V) (ks : List K) → others R k ks ≡ others R k (hidden_keys es) → others R k (without_value e.0 w ks) ≡ others R k (without_value e.0 w (hidden_keys es))
+      value_stays None ks p = ap (λ ls. cond (not (eq_by_cmp R k e.0)) (e.0 ∷ ls) ls) p
+      value_stays (Some w) ks p = p
+
+      by_cmp : (r : Ordering) → R k e.0 ≡ r → others R k (hidden_keys (put R k None es)) ≡ others R k (hidden_keys es) → others R k (hidden_keys (by_order r ((k, None) ∷ e ∷ es) ((e.0, None) ∷ es) (e ∷ put R k None es))) ≡ others R k (without_value e.0 e.1 (hidden_keys es))
+      by_cmp Less t rest = itself (without_value e.0 e.1 (hidden_keys es))
+      by_cmp Equal t rest = value_gone e.1 t
+      by_cmp Greater t rest = value_stays e.1 (hidden_keys (put R k None es)) rest

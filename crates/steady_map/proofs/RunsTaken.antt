@@ -10,7 +10,7 @@ use Rattle.std.specs.FinMap.Entries.{below_all, is_sorted}
 use Rattle.btree.specs.Order.{Each}
 use Rattle.btree.specs.Stretch.{IsStretch, is_in_run}
 use Rattle.btree.specs.Values.{emptied}
-use Rattle.steady_map.specs.Shown.{shown, with_value, is_between}
+use Rattle.steady_map.specs.Shown.{shown, hidden_keys, with_value, without_value, is_between}
 use Rattle.steady_map.proofs.Shows.{less_of}
 
 module _ {A : Type 0} where
@@ -105,6 +105,17 @@ module _ {K V : Type 0} (from to : K → Bool) where
       by_value true (Some w) t rest = rest ∙ sym (ap (λ b. cond (not b) ((e.0, w) ∷ filter (λ e. not (is_between from to e.0)) (shown es)) (filter (λ e. not (is_between from to e.0)) (shown es))) t)
       by_value false None t rest = rest
       by_value false (Some w) t rest = ap (λ fs. (e.0, w) ∷ fs) rest ∙ sym (ap (λ b. cond (not b) ((e.0, w) ∷ filter (λ e. not (is_between from to e.0)) (shown es)) (filter (λ e. not (is_between from to e.0)) (shown es))) t)
+
+  -- outside the run the same keys are hidden
+  pub hidden_emptied : (es : List (K × Option V)) → filter (λ k. not (is_between from to k)) (hidden_keys (map (emptied None from to) es)) ≡ filter (λ k. not (is_between from to k)) (hidden_keys es)
+  hidden_emptied [] = refl
+  hidden_emptied (e ∷ es) = by_value (is_between from to e.0) e.1 refl (hidden_emptied es)
+    where
+      by_value : (t : Bool) (w : Option V) → is_between from to e.0 ≡ t → filter (λ k. not (is_between from to k)) (hidden_keys (map (emptied None from to) es)) ≡ filter (λ k. not (is_between from to k)) (hidden_keys es) → filter (λ k. not (is_between from to k)) (without_value e.0 (cond t None w) (hidden_keys (map (emptied None from to) es))) ≡ filter (λ k. not (is_between from to k)) (without_value e.0 w (hidden_keys es))
+      by_value true None t rest = ap (λ ks. cond (not (is_between from to e.0)) (e.0 ∷ ks) ks) rest
+      by_value true (Some w) t rest = ap (λ b. cond (not b) (e.0 ∷ filter (λ k. not (is_between from to k)) (hidden_keys (map (emptied None from to) es))) (filter (λ k. not (is_between from to k)) (hidden_keys (map (emptied None from to) es)))) t ∙ rest
+      by_value false None t rest = ap (λ ks. cond (not (is_between from to e.0)) (e.0 ∷ ks) ks) rest
+      by_value false (Some w) t rest = rest
 
 -- ---- pairs that stand before a point
 

@@ -6,7 +6,7 @@ ghost use Rattle.std.specs.FinMap.{IsAntisymmetric};
 ghost use Rattle.std.specs.FinMap.Entries as entries;
 ghost use Rattle.btree.specs.Order.{Each, find_last, without};
 ghost use Rattle.btree.specs.Parts.{IsSure};
-ghost use Rattle.steady_map.specs.Shown.{shown, joined as joined_spec, pair_of, others, is_between, HaveAll};
+ghost use Rattle.steady_map.specs.Shown.{shown, hidden_keys, joined as joined_spec, pair_of, others, is_between, HaveAll};
 
 use crate::walk::{Walk, WalkBack};
 use btree::{Point, Trail, Tree};
@@ -229,12 +229,13 @@ impl<K: Ord + Clone, V: Drop> SteadyMap<K, V> {
         }
     }
 
-    /// Takes out the pair of a key, also where it is hidden, and gives its value. It is never refused. Where copies of all keys are
-    /// sure it hides none.
+    /// Takes out the pair of a key, also where it is hidden, and gives its value. It is never refused. No other key is hidden or
+    /// shown by it, and where copies of all keys are sure it hides none.
     pub fn remove(&mut self, key: &K) -> Option<V>
         ensures value { result ≡ entries.find K.cmp key.now self.old.pairs }
         ensures pairs { self.new.pairs ≡ without K.cmp key.now self.old.pairs }
         ensures sure { HaveAll (IsSure K.cmp K.is_clone K.is_infallible) self.old → self.new.hidden ≡ others K.cmp key.now self.old.hidden }
+        ensures others { others K.cmp key.now self.new.hidden ≡ others K.cmp key.now self.old.hidden }
     {
         let _count = self.tree.len();
         let value = take_or_hide(&mut self.tree, key);
@@ -243,10 +244,12 @@ impl<K: Ord + Clone, V: Drop> SteadyMap<K, V> {
     }
 
     /// Takes out the pairs that do not stand before one point and stand before another, also the hidden ones, a leaf's at once. It
-    /// takes no memory but for copies of keys, and is never refused. Where copies of all keys are sure it hides none.
+    /// takes no memory but for copies of keys, and is never refused. No other key is hidden or shown by it, and where copies of all
+    /// keys are sure it hides none.
     pub fn remove_between<P: Point<K>, Q: Point<K>>(&mut self, from: &P, to: &Q)
         ensures pairs { self.new.pairs ≡ filter (λ e. not (is_between (P.before from.now) (Q.before to.now) e.0)) self.old.pairs }
         ensures sure { HaveAll (IsSure K.cmp K.is_clone K.is_infallible) self.old → self.new.hidden ≡ filter (λ k. not (is_between (P.before from.now) (Q.before to.now) k)) self.old.hidden }
+        ensures others { filter (λ k. not (is_between (P.before from.now) (Q.before to.now) k)) self.new.hidden ≡ filter (λ k. not (is_between (P.before from.now) (Q.before to.now) k)) self.old.hidden }
     {
         let _count = self.tree.len();
         let gone = count_before(self.from(from), to);
@@ -280,6 +283,7 @@ fn take_or_hide_between<K: Ord + Clone, V: Drop, P: Point<K>, Q: Point<K>>(
 )
     ensures pairs { shown tree.new.pairs ≡ filter (λ e. not (is_between (P.before from.now) (Q.before to.now) e.0)) (shown tree.old.pairs) }
     ensures sure { Each (λ e. IsSure K.cmp K.is_clone K.is_infallible e.0) tree.old.pairs → tree.new.pairs ≡ filter (λ e. not (is_between (P.before from.now) (Q.before to.now) e.0)) tree.old.pairs }
+    ensures others { filter (λ k. not (is_between (P.before from.now) (Q.before to.now) k)) (hidden_keys tree.new.pairs) ≡ filter (λ k. not (is_between (P.before from.now) (Q.before to.now) k)) (hidden_keys tree.old.pairs) }
 {
     'run: loop {
         match tree.take_stretch(from, to) {
@@ -302,6 +306,7 @@ fn take_or_hide<K: Ord + Clone, V: Drop>(tree: &mut Tree<K, Option<V>>, key: &K)
     ensures value { result ≡ entries.find K.cmp key.now (shown tree.old.pairs) }
     ensures pairs { shown tree.new.pairs ≡ without K.cmp key.now (shown tree.old.pairs) }
     ensures sure { Each (λ e. IsSure K.cmp K.is_clone K.is_infallible e.0) tree.old.pairs → tree.new.pairs ≡ without K.cmp key.now tree.old.pairs }
+    ensures others { others K.cmp key.now (hidden_keys tree.new.pairs) ≡ others K.cmp key.now (hidden_keys tree.old.pairs) }
 {
     match tree.remove(key) {
         Ok(value) => joined(value),

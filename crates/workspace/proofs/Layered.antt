@@ -1,18 +1,14 @@
 -- A layer by the lists that it is kept in.
 use Rattle.std.proofs.Common.{◌≡◌, Bool, true, false, refl, sym, ap, subst, ◌∙◌}
-use Rattle.std.proofs.lemmas.Bool.{false_from_ne_true}
-use Rattle.std.specs.Prelude.{not, cond, ◌&&◌, is_some, Option, Some, None}
+use Rattle.std.specs.Prelude.{not, cond, ◌||◌, Option, Some, None}
 use Rattle.std.specs.FinMap as finmap
 use Rattle.std.specs.FinMap.{FinMap}
 use Rattle.collation.specs.Reference.{Reference}
 use Rattle.collation.specs.Order.{ref_cmp, ref_eq}
-use Rattle.collation.specs.laws.Order.{ref_cmp_total, ref_cmp-IsAntisymmetric, ref_ties, ref_eq_decides}
+use Rattle.collation.specs.laws.Order.{ref_cmp_total, ref_cmp-IsAntisymmetric, ref_ties}
 use Rattle.collation.specs.Database.{Database, is_under}
 use Rattle.workspace.specs.Layers.{Layer, nothing_written, is_killed}
-use Rattle.key_map.specs.Members.{keys_under, removed_all}
-use Rattle.key_map.specs.laws.Removal.{get_removed, any_under}
-use Rattle.workspace.specs.laws.Layering.{more_killed, get_more, killed_by, KillsUnder, keys_of_empty, killed_covers, killed_more}
-use Rattle.globals.specs.laws.Under.{under_itself}
+use Rattle.workspace.specs.laws.Layering.{more_killed, get_more, KillsUnder, keys_of_empty, killed_covers, killed_more}
 
 abbrev pub layer : {X : Type 0} → Database → FinMap ref_cmp X → Layer
 layer written d = record { written = written; killed = finmap.keys d }
@@ -34,27 +30,14 @@ pub kills_more : {X : Type 0} (r : Reference) (v : X) (old : Layer) (was now : D
 kills_more r v old was now d n is e f =
     subst (λ w. KillsUnder r w (layer now n)) is (record { written = e; killed = λ x. ap (λ z. is_killed (finmap.keys z) x) f ∙ killed_more d r v x })
 
-without_under : {X : Type 0} (u : Bool) (o : Option X) → cond (u && is_some o) None o ≡ cond u None o
-without_under true None = refl
-without_under true (Some x) = refl
-without_under false o = refl
-
 -- a new root, and then no other one under it
-pub root_killed : {X : Type 0} (d : FinMap ref_cmp X) (r : Reference) (v : X) → is_killed (finmap.keys d) r ≡ false → removed_all (keys_under r d) (finmap.insert d r v) ≡ more_killed d r v
-root_killed {X} d r v free = finmap.same_map ref_cmp_total ref_cmp-IsAntisymmetric _ _ (λ q.
-    get_removed (keys_under r d) (finmap.insert d r v) q
-    ∙ (λ i. cond (any_under r q d i) None ((finmap.get-insert ref_cmp_total d r v q ∙ ap (λ b. cond b (Some v) (finmap.get d q)) (sym (ref_ties q r))) i))
-    ∙ by_test q (ref_eq q r) refl ∙ sym (get_more d r v q))
+pub root_killed : {X : Type 0} (d : FinMap ref_cmp X) (r : Reference) (v : X) → finmap.retain_keys (finmap.insert d r v) (λ x. ref_eq x r || not (is_under r x)) ≡ more_killed d r v
+root_killed {X} d r v = finmap.same_map ref_cmp_total ref_cmp-IsAntisymmetric _ _ (λ q.
+    finmap.get-retain_keys (finmap.insert d r v) (λ x. ref_eq x r || not (is_under r x)) q (λ x e. ap (λ y. ref_eq y r || not (is_under r y)) (sym (ref_cmp-IsAntisymmetric q x e)))
+    ∙ ap (λ o. cond (ref_eq q r || not (is_under r q)) o None) (finmap.get-insert ref_cmp_total d r v q ∙ ap (λ b. cond b (Some v) (finmap.get d q)) (sym (ref_ties q r)))
+    ∙ by_test (ref_eq q r) (is_under r q) (finmap.get d q) ∙ sym (get_more d r v q))
   where
-    absent : finmap.contains_key d r ≡ false
-    absent = false_from_ne_true _ (λ there. let killed = killed_by d r r (record { there = there; above = under_itself r }) in absurd (cc))
-
-    by_test : (q : Reference) (b : Bool) → ref_eq q r ≡ b → cond (is_under r q && finmap.contains_key d q) None (cond b (Some v) (finmap.get d q)) ≡ cond b (Some v) (cond (is_under r q) None (finmap.get d q))
-    by_test q true e =
-        let none : finmap.contains_key d q ≡ false = ap (finmap.contains_key d) ((ref_eq_decides q r).0 e) ∙ absent in
-        ap (λ b. cond (is_under r q && b) None (Some v)) none ∙ no_more (is_under r q)
-      where
-        no_more : (u : Bool) → cond (u && false) None (Some v) ≡ Some v
-        no_more true = refl
-        no_more false = refl
-    by_test q false e = without_under (is_under r q) (finmap.get d q)
+    by_test : (b u : Bool) (o : Option X) → cond (b || not u) (cond b (Some v) o) None ≡ cond b (Some v) (cond u None o)
+    by_test true u o = refl
+    by_test false true o = refl
+    by_test false false o = refl

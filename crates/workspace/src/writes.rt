@@ -13,7 +13,7 @@ ghost use Rattle.workspace.specs.Changes.{AreChanges};
 
 use crate::changes::list_changes;
 use crate::copies::{set_copies, set_one};
-use crate::kills::{kill_both, kill_written};
+use crate::kills::kill_root;
 use collation::Text;
 use globals::{Cut, OrderedView};
 use key_codec::Key;
@@ -146,7 +146,8 @@ impl Workspace {
         Ok(())
     }
 
-    /// Kills what is at and under a reference: what was written there, and whatever the database below has there.
+    /// Kills what is at and under a reference: what was written there, and whatever the database below has there. Takes memory
+    /// for this reference alone, and none where it is at or under a killed one.
     ///
     /// Refused where there is no memory, and then nothing has changed.
     #[inline(never)]
@@ -158,10 +159,11 @@ impl Workspace {
         ensures err { OnErr result (self.new ≡ self.old) }
     {
         if self.is_killed(&key) {
-            kill_written(&mut self.written, alloc, key)?;
+            self.written.remove_under(&key);
             return Ok(());
         }
-        kill_both(&mut self.written, &mut self.killed, alloc, key)?;
+        kill_root(&mut self.killed, alloc, &key)?;
+        self.written.remove_under(&key);
         Ok(())
     }
 

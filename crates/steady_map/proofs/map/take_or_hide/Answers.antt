@@ -2,8 +2,9 @@ use Rattle.std.proofs.Common.{◌≡◌, ◌∙◌, true, false, Option, None, a
 use Rattle.std.specs.FinMap.Entries as entries
 use Rattle.std.specs.FinMap.Entries.{put}
 use Rattle.btree.specs.Tree.{Content}
-use Rattle.steady_map.specs.Shown.{shown, joined}
+use Rattle.steady_map.specs.Shown.{shown, hidden_keys, joined, others}
 use Rattle.steady_map.proofs.Shows.{find_shown, shown_without, shown_hidden, without_none}
+use Rattle.steady_map.proofs.HiddenKeys.{others_without, others_put}
 use Rattle.steady_map.proofs.map.take_or_hide.Goals as goal
 
 pub returns-in-Ok-clause-value : goal.returns-in-Ok-clause-value
@@ -40,3 +41,16 @@ returns-clause-sure g c = λ sure. let clash : false ≡ true = c.in-Err.ensures
 
 pub returns-in-Ok-clause-sure : goal.returns-in-Ok-clause-sure
 returns-in-Ok-clause-sure g c = λ sure. c.in-Ok.ensures.pairs
+
+pub returns-in-Ok-clause-others : goal.returns-in-Ok-clause-others
+returns-in-Ok-clause-others g c = ap (λ es. others g.K.Ord.cmp c.args.key.now (hidden_keys es)) c.in-Ok.ensures.pairs ∙ others_without g.K.Ord.cmp c.args.key.now c.args.tree.now.pairs
+
+pub returns-in-Ok-replace-clause-others : goal.returns-in-Ok-replace-clause-others
+returns-in-Ok-replace-clause-others g c =
+    let R = g.K.Ord.cmp in
+    ap (λ es. others R c.args.key.now (hidden_keys es)) c.in-Ok-replace.ensures.put
+    ∙ ap (λ (t : Content g.row.K.Denot (Option g.row.V.Denot)). others R c.args.key.now (hidden_keys (put R c.args.key.now None t.pairs))) c.in-Err.ensures.refused ∙ others_put R g.met.K.Ord.total c.args.key.now c.args.tree.now.pairs
+
+pub returns-clause-others : goal.returns-clause-others
+returns-clause-others g c =
+    ap (λ (t : Content g.row.K.Denot (Option g.row.V.Denot)). others g.K.Ord.cmp c.args.key.now (hidden_keys t.pairs)) (c.in-Err-replace.ensures.kept ∙ c.in-Err.ensures.refused)

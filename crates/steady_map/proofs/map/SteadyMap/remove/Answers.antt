@@ -19,3 +19,6 @@ returns-clause-sure g c = λ sure.
     let seen = subst (HaveAll S) (sym c.self.view_is) sure in
     let all = have_all S c.self.inside.tree.pairs seen.0 seen.1 in
     ap hidden_keys (c.take_or_hide-value.ensures.sure all) ∙ hidden_without g.K.Ord.cmp c.args.key.now c.self.inside.tree.pairs ∙ ap (others g.K.Ord.cmp c.args.key.now) (ap (λ (m : Seen g.row.K.Denot g.row.V.Denot). m.hidden) c.self.view_is)
+
+pub returns-clause-others : goal.returns-clause-others
+returns-clause-others g c = c.take_or_hide-value.ensures.others ∙ ap (others g.K.Ord.cmp c.args.key.now) (ap (λ (m : Seen g.row.K.Denot g.row.V.Denot). m.hidden) c.self.view_is)

@@ -49,3 +49,8 @@ returns-clause-sure g c = λ sure.
 pub returns-clause-pairs : goal.returns-clause-pairs
 returns-clause-pairs g c =
     c.take_or_hide_between.ensures.pairs ∙ ap (filter (λ e. not (is_between (g.P.Point.before c.args.from.now) (g.Q.Point.before c.args.to.now) e.0))) (ap (λ (m : Seen g.row.K.Denot g.row.V.Denot). m.pairs) c.self.view_is)
+
+pub returns-clause-others : goal.returns-clause-others
+returns-clause-others g c =
+    let q : g.row.K.Denot → Bool = λ k. not (is_between (g.P.Point.before c.args.from.now) (g.Q.Point.before c.args.to.now) k) in
+    c.take_or_hide_between.ensures.others ∙ ap (filter q) (ap (λ (m : Seen g.row.K.Denot g.row.V.Denot). m.hidden) c.self.view_is)
