@@ -21,7 +21,7 @@ pub struct Progress {
     pub dropped: usize,
     /// How many of them had no version left, and were taken out.
     pub removed: usize,
-    /// How many of them have no version left and stayed all the same. Taking a key out takes no memory, so it is 0.
+    /// How many of them have no version left and stayed all the same: 0, since a key is taken out or hidden.
     pub left: usize,
 }
 

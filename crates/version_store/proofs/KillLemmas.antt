@@ -11,15 +11,18 @@ use Rattle.std.specs.FinMap as finmap
 use Rattle.std.specs.FinMap.{find, is_sorted, get, get-remove, get-retain_keys, same_map, retain_keys}
 use Rattle.std.specs.FinMap.Entries.{below_all, find-where_key}
 use Rattle.collation.specs.Reference.{Reference}
-use Rattle.collation.specs.Order.{ref_cmp}
+use Rattle.collation.specs.Order.{ref_cmp, ref_eq}
 use Rattle.collation.specs.Database.{is_under}
 use Rattle.collation.specs.Levels.{is_before}
-use Rattle.collation.specs.laws.Order.{ref_cmp_total, ref_cmp-IsAntisymmetric, is_less, is_equal}
+use Rattle.collation.specs.laws.Order.{ref_cmp_total, ref_cmp-IsAntisymmetric, ref_ties, is_less, is_equal}
 use Rattle.globals.specs.laws.Nearest.{still_fails}
 use Rattle.globals.specs.laws.Cuts.{under_between, before_end-earlier}
 use Rattle.btree.specs.Order.{Each, without}
 use Rattle.version_chain.specs.Versions.{at_of, IsAbove}
 use Rattle.version_chain.specs.Chains.{versions_at, cells_at, listed, IsOpen, Updates}
+use Rattle.version_store.specs.declared.kill.Placed.{Placed}
+use Rattle.version_store.specs.declared.kill.Placed.TheVariants.{Nothing, Itself, More}
+use Rattle.version_store.specs.Killed.{with_one, Tells}
 use Rattle.version_store.specs.Versions.{Row, Versions, content_at, versions_of, cells_in}
 use Rattle.version_store.specs.laws.Content.{get_content, content_settled}
 use Rattle.version_store.specs.Tied.{versions_in, rows, IsTied}
@@ -104,6 +107,15 @@ module _ (k : Reference) (id : ℕ) (es : Pairs) where
       ap (λ b. cond (not b) (f ∷ without ref_cmp k (fs ++ (k, id) ∷ es)) (without ref_cmp k (fs ++ (k, id) ∷ es))) (other_front f fs (first_so (below_all ref_cmp f.0 (fs ++ (k, id) ∷ es)) (is_sorted ref_cmp (fs ++ (k, id) ∷ es)) h))
       ∙ ap (λ gs. f ∷ gs) (without_here fs (second_so (below_all ref_cmp f.0 (fs ++ (k, id) ∷ es)) (is_sorted ref_cmp (fs ++ (k, id) ∷ es)) h))
 
+  -- what is told once it is gone
+  told_on : (r : Reference) (all fs : Pairs) → is_sorted ref_cmp (fs ++ (k, id) ∷ es) ≡ true → (p : Placed) (b : Bool) → b ≡ ref_eq k r → Tells p r all (fs ++ (k, id) ∷ es) → Tells (with_one p b) r all (fs ++ es)
+  told_on r all fs h Nothing true e told =
+      let same : k ≡ r = ref_cmp-IsAntisymmetric k r (is_equal (ref_cmp k r) (sym (ref_ties k r) ∙ sym e)) in
+      sym (without_here fs h) ∙ (λ i. without ref_cmp (same i) (told i))
+  told_on r all fs h Nothing false e told = tt
+  told_on r all fs h Itself b e told = tt
+  told_on r all fs h More b e told = tt
+
 -- the cells of a pair between others
 cells_between : (c : State) (k : Reference) (id : ℕ) (fs es : Pairs) → cells_in (rows c (fs ++ (k, id) ∷ es)) ≡ cells_at c id + cells_in (rows c (fs ++ es))
 cells_between c k id [] es = refl
@@ -155,14 +167,16 @@ module _ (r : Reference) where
 
 -- ---- chains closed one after another
 
--- of all pairs these are left to look at: what stands in front of them is not under r, and the chains of what is gone are closed
-pub record IsClosing (r : Reference) (all : Pairs) (c : State) (rest : Pairs) (d : State) : Type 0 where
+-- of all pairs these are left to look at: what stands in front of them is not under r, the chains of what is gone are closed, and
+-- what is gone is told
+pub record IsClosing (r : Reference) (all : Pairs) (c : State) (rest : Pairs) (d : State) (p : Placed) : Type 0 where
   pub front : Pairs
   pub ahead : Each (λ (e : Reference × ℕ). stays r e.0 ≡ true) front
   pub behind : Each (λ (e : Reference × ℕ). is_lt (ref_cmp e.0 r) ≡ false) rest
   pub tied : (now : ℕ) → IsTied all c now → IsTied (front ++ rest) d now
   pub same : filter (λ e. stays r e.0) (front ++ rest) ≡ filter (λ e. stays r e.0) all
   pub versions : retain_keys (versions_in d (front ++ rest)) (stays r) ≡ retain_keys (versions_in c all) (stays r)
+  pub told : Tells p r all (front ++ rest)
   pub spare : c.spare ≤ d.spare
   pub cells : d.spare + cells_in (rows d (front ++ rest)) ≡ c.spare + cells_in (rows c all)
 
@@ -170,7 +184,7 @@ module _ (r : Reference) (all : Pairs) (c : State) where
   before_stays : (x : Reference) → is_lt (ref_cmp x r) ≡ true → stays r x ≡ true
   before_stays x l = ap not (under_between r x ∙ ap (λ b. not b && is_before true r x) l)
 
-  pub closing_begun : (now : ℕ) → IsTied all c now → IsClosing r all c (filter (λ e. not (is_lt (ref_cmp e.0 r))) all) c
+  pub closing_begun : (now : ℕ) → IsTied all c now → IsClosing r all c (filter (λ e. not (is_lt (ref_cmp e.0 r))) all) c Nothing
   closing_begun now tied =
       let down : (x y : Reference) → ref_cmp x y ≡ Less → is_lt (ref_cmp y r) ≡ true → is_lt (ref_cmp x r) ≡ true = λ x y l h. ap is_lt (ref_cmp_total.trans x y r l (is_less _ h)) in
       let whole = parted (λ x. is_lt (ref_cmp x r)) down all tied.sorted in
@@ -181,12 +195,13 @@ module _ (r : Reference) (all : Pairs) (c : State) where
         tied = λ now t. subst (λ es. IsTied es c now) (sym whole) t;
         same = ap (filter (λ e. stays r e.0)) whole;
         versions = ap (λ es. retain_keys (versions_in c es) (stays r)) whole;
+        told = whole;
         spare = omega arith;
         cells = ap (λ es. c.spare + cells_in (rows c es)) whole;
       }
 
-  pub closing_on : (now : ℕ) → IsTied all c now → (rest more : Pairs) (k : Reference) (id : ℕ) (d e : State) → rest ≡ (k, id) ∷ more → is_under r k ≡ true → IsClosing r all c rest d → Updates d e id None → e.spare ≡ d.spare + cells_at d id → IsClosing r all c more e
-  closing_on now start rest more k id d e is under s closing spare =
+  pub closing_on : (now : ℕ) → IsTied all c now → (rest more : Pairs) (k : Reference) (id : ℕ) (d e : State) (p : Placed) (b : Bool) → rest ≡ (k, id) ∷ more → is_under r k ≡ true → b ≡ ref_eq k r → IsClosing r all c rest d p → Updates d e id None → e.spare ≡ d.spare + cells_at d id → IsClosing r all c more e (with_one p b)
+  closing_on now start rest more k id d e p b is under itself s closing spare =
       let whole : s.front ++ rest ≡ s.front ++ (k, id) ∷ more = ap (λ es. s.front ++ es) is in
       let tied = subst (λ es. IsTied es d now) whole (s.tied now start) in
       let at = found_here k id more s.front tied.sorted in
@@ -212,22 +227,26 @@ module _ (r : Reference) (all : Pairs) (c : State) where
             ∙ ap (λ m. retain_keys m (stays r)) (versions_without d e (s.front ++ (k, id) ∷ more) now id k tied at closing)
             ∙ removed_stays r (versions_in d (s.front ++ (k, id) ∷ more)) k under
             ∙ sym (ap (λ es. retain_keys (versions_in d es) (stays r)) whole) ∙ s.versions;
+        told = told_on k id more r all s.front tied.sorted p b itself (subst (Tells p r all) whole s.told);
         spare = omega (arith, was, spare);
         cells = omega (arith, before, between, now_is, spare);
       }
 
-  pub closing_open : (now : ℕ) → IsTied all c now → (rest more : Pairs) (k : Reference) (id : ℕ) (d : State) → rest ≡ (k, id) ∷ more → IsClosing r all c rest d → IsOpen d id
-  closing_open now start rest more k id d is s =
+  pub closing_open : (now : ℕ) → IsTied all c now → (rest more : Pairs) (k : Reference) (id : ℕ) (d : State) (p : Placed) → rest ≡ (k, id) ∷ more → IsClosing r all c rest d p → IsOpen d id
+  closing_open now start rest more k id d p is s =
       let tied = subst (λ es. IsTied es d now) (ap (λ es. s.front ++ es) is) (s.tied now start) in
       tied.opened k id (sym (found_here k id more s.front tied.sorted))
 
   -- what is left once none of the rest is under r
-  module _ (now : ℕ) (start : IsTied all c now) (rest : Pairs) (d : State) (s : IsClosing r all c rest d) (none : Each (λ (e : Reference × ℕ). stays r e.0 ≡ true) rest) where
+  module _ (now : ℕ) (start : IsTied all c now) (rest : Pairs) (d : State) (p : Placed) (s : IsClosing r all c rest d p) (none : Each (λ (e : Reference × ℕ). stays r e.0 ≡ true) rest) where
     left_is : s.front ++ rest ≡ filter (λ e. stays r e.0) all
     left_is = sym (all_kept (λ e. stays r e.0) (s.front ++ rest) (each_append (λ (e : Reference × ℕ). stays r e.0 ≡ true) s.front rest s.ahead none)) ∙ s.same
 
     pub closed_tied : (now : ℕ) → IsTied all c now → IsTied (filter (λ e. stays r e.0) all) d now
     closed_tied now t = subst (λ es. IsTied es d now) left_is (s.tied now t)
+
+    pub closed_told : Tells p r all (filter (λ e. stays r e.0) all)
+    closed_told = subst (Tells p r all) left_is s.told
 
     pub closed_cells : d.spare + cells_in (rows d (filter (λ e. stays r e.0) all)) ≡ c.spare + cells_in (rows c all)
     closed_cells = subst (λ es. d.spare + cells_in (rows d es) ≡ c.spare + cells_in (rows c all)) left_is s.cells
@@ -251,8 +270,8 @@ module _ (r : Reference) (all : Pairs) (c : State) where
         by_test q false t = ap (λ b. option_map (versions_at d) (cond b (find ref_cmp q all) None)) t ∙ sym (ap (λ b. cond b (get (versions_in d (filter (λ e. stays r e.0) all)) q) None) t)
 
   -- from the first that is not under r on none is
-  pub none_under : (now : ℕ) → IsTied all c now → (rest more : Pairs) (x : Reference × ℕ) (d : State) → rest ≡ x ∷ more → is_under r x.0 ≡ false → IsClosing r all c rest d → Each (λ (e : Reference × ℕ). stays r e.0 ≡ true) rest
-  none_under now start rest more x d is under s =
+  pub none_under : (now : ℕ) → IsTied all c now → (rest more : Pairs) (x : Reference × ℕ) (d : State) (p : Placed) → rest ≡ x ∷ more → is_under r x.0 ≡ false → IsClosing r all c rest d p → Each (λ (e : Reference × ℕ). stays r e.0 ≡ true) rest
+  none_under now start rest more x d p is under s =
       let behind = subst (Each (λ (e : Reference × ℕ). is_lt (ref_cmp e.0 r) ≡ false)) is s.behind in
       let sorted = sorted_back s.front rest (s.tied now start).sorted in
       let order = subst (λ es. is_sorted ref_cmp es ≡ true) is sorted in

@@ -4,6 +4,7 @@ ghost use Rattle.std.specs.List.{filter};
 ghost use Rattle.std.specs.FinMap as finmap;
 ghost use Rattle.collation.specs.Database.{is_under};
 ghost use Rattle.collation.specs.Reference.{Reference};
+ghost use Rattle.version_store.specs.Killed.{with_one as with_one_spec, Tells};
 ghost use Rattle.version_store.specs.Versions.{content_at, versions_of, cells_in};
 ghost use Rattle.version_store.specs.Tied.{versions_in, rows, IsTied};
 
@@ -15,20 +16,65 @@ use key_map::CutPoint;
 use steady_map::SteadyMap;
 use version_chain::{ChainId, Chains};
 
-// Closes the chains of the references at and under this one.
-fn close_under(tree: &SteadyMap<Key, ChainId>, chains: &mut Chains<Text>, root: &Key)
+// What is placed at and under a reference.
+#[derive(Clone, Copy)]
+enum Placed {
+    // Neither it nor anything under it.
+    Nothing,
+    // It alone.
+    Itself,
+    // At least one under it.
+    More,
+}
+
+// What is placed where there is one more, which is the reference itself or isn't.
+fn with_one(placed: Placed, is_itself: bool) -> Placed
+    ensures { result ≡ with_one_spec placed is_itself }
+{
+    match (placed, is_itself) {
+        (Placed::Nothing, true) => Placed::Itself,
+        _ => Placed::More,
+    }
+}
+
+// Closes the chains of the references at and under this one, and tells what was placed there.
+fn close_under(tree: &SteadyMap<Key, ChainId>, chains: &mut Chains<Text>, root: &Key) -> Placed
     requires { (now : ℕ) × IsTied tree.now.pairs chains.old now }
     ensures tied { (now : ℕ) → IsTied tree.now.pairs chains.old now → IsTied (filter (λ e. not (is_under root.now e.0)) tree.now.pairs) chains.new now }
     ensures versions { versions_in chains.new (filter (λ e. not (is_under root.now e.0)) tree.now.pairs) ≡ finmap.retain_keys (versions_in chains.old tree.now.pairs) (λ x. not (is_under root.now x)) }
+    ensures told { Tells result root.now tree.now.pairs (filter (λ e. not (is_under root.now e.0)) tree.now.pairs) }
     ensures spare { chains.old.spare ≤ chains.new.spare }
     ensures cells { chains.new.spare + cells_in (rows chains.new (filter (λ e. not (is_under root.now e.0)) tree.now.pairs)) ≡ chains.old.spare + cells_in (rows chains.old tree.now.pairs) }
 {
     let cut = Cut::Before(root);
+    let mut placed = Placed::Nothing;
     for (key, id) in tree.from(&CutPoint { cut }) {
         if !key.is_under(root) {
-            return;
+            return placed;
         }
         chains.close(*id);
+        placed = with_one(placed, key == root);
+    }
+    placed
+}
+
+// Takes out the references at and under this one. One alone goes by one way down the tree.
+fn take_under(tree: &mut SteadyMap<Key, ChainId>, root: &Key, placed: Placed)
+    requires { Tells placed root.now tree.old.pairs (filter (λ e. not (is_under root.now e.0)) tree.old.pairs) }
+    ensures { tree.new.pairs ≡ filter (λ e. not (is_under root.now e.0)) tree.old.pairs }
+{
+    match placed {
+        Placed::Nothing => {}
+        Placed::Itself => drop(tree.remove(root)),
+        Placed::More => {
+            let from = CutPoint {
+                cut: Cut::Before(root),
+            };
+            let to = CutPoint {
+                cut: Cut::Past(root),
+            };
+            tree.remove_between(&from, &to);
+        }
     }
 }
 
@@ -47,14 +93,8 @@ impl KeyedStore {
         ensures spare { self.old.spare ≤ self.new.spare }
         ensures cells { self.new.spare + cells_in (finmap.entries self.new.versions) ≡ self.old.spare + cells_in (finmap.entries self.old.versions) }
     {
-        close_under(&self.tree, &mut self.chains, root);
-        let from = CutPoint {
-            cut: Cut::Before(root),
-        };
-        let to = CutPoint {
-            cut: Cut::Past(root),
-        };
-        self.tree.remove_between(&from, &to);
+        let placed = close_under(&self.tree, &mut self.chains, root);
+        take_under(&mut self.tree, root, placed);
         self.present = stamp;
         self.cut = stamp;
     }
