@@ -8,7 +8,6 @@ use Rattle.std.specs.Cmp.{first_so, second_so}
 use Rattle.std.specs.FinMap as finmap
 use Rattle.std.specs.FinMap.{is_sorted, find}
 use Rattle.std.specs.FinMap.Entries.{below_all, find-where_key}
-use Rattle.std.specs.List.{AllWithin}
 use Rattle.std.specs.List.Sorted.{IsPartitionedBy, IsPartitionPoint}
 use Rattle.std.specs.Prelude.{slice_index_or}
 use Rattle.std.proofs.lemmas.Bool.{and_right}
@@ -66,45 +65,6 @@ from_point p es zero h le = all_from p es (λ k d l. h.1 k d (omega arith) l)
 from_point p [] (suc n) h le = absurd (omega arith)
 from_point p (e ∷ es) (suc n) h le =
     rw (h.0 zero e (omega arith) (omega arith)) (from_point p es n ((λ k d low high. h.0 (suc k) d (omega arith) (omega arith)), (λ k d low high. h.1 (suc k) d (omega arith) (omega arith))) (omega arith))
-
--- the first so many pass the test, and none from so many on
-pub record IsHalved (p : Node → Bool) (es : List Node) (low high : ℕ) : Type 0 where
-  pub low_is : low ≤ high
-  pub high_is : high ≤ length es
-  pub before : AllWithin (λ e. p e ≡ true) es 0 low
-  pub behind : AllWithin (λ e. p e ≡ false) es high (length es)
-
--- within a list it doesn't matter what stands for a place behind it
-other_default : (es : List Node) (m : ℕ) (d e : Node) → m < length es → slice_index_or es m d ≡ slice_index_or es m e
-other_default [] m d e l = absurd (omega arith)
-other_default (x ∷ es) zero d e l = refl
-other_default (x ∷ es) (suc m) d e l = other_default es m d e (omega arith)
-
-pub halved_low : (p : Node → Bool) (es : List Node) (low high m : ℕ) (e : Node) → IsPartitionedBy p es → IsHalved p es low high → m < high → p (slice_index_or es m e) ≡ true → IsHalved p es (m + 1) high
-halved_low p es low high m e parted h lt at = record {
-  low_is = omega arith;
-  high_is = h.high_is;
-  before = λ k d z l. parted k m d (omega arith) (omega (arith, h.high_is)) (ap p (other_default es m d e (omega (arith, h.high_is))) ∙ at);
-  behind = h.behind;
-}
-
-pub halved_high : (p : Node → Bool) (es : List Node) (low high m : ℕ) (e : Node) → IsPartitionedBy p es → IsHalved p es low high → low ≤ m → m < high → p (slice_index_or es m e) ≡ false → IsHalved p es low m
-halved_high p es low high m e parted h le lt at = record {
-  low_is = le;
-  high_is = omega (arith, h.high_is);
-  before = h.before;
-  behind = λ k d l z. by_test (p (slice_index_or es k d)) k d refl l z;
-}
-  where
-    by_test : (b : Bool) → (k : ℕ) (d : Node) → p (slice_index_or es k d) ≡ b → m ≤ k → k < length es → p (slice_index_or es k d) ≡ false
-    by_test b k d is l z = by_value b is
-      where
-        by_value : (b : Bool) → p (slice_index_or es k d) ≡ b → p (slice_index_or es k d) ≡ false
-        by_value true is = let t : p (slice_index_or es m d) ≡ true = parted m k d l z is in let f : p (slice_index_or es m d) ≡ false = ap p (other_default es m d e (omega (arith, h.high_is))) ∙ at in absurd (cc)
-        by_value false is = is
-
-pub halved : (p : Node → Bool) (es : List Node) (low high : ℕ) → IsHalved p es low high → high ≤ low → drop low es ≡ filter (λ e. not (p e)) es
-halved p es low high h met = from_point p es low (h.before, (λ k d l z. h.behind k d (omega arith) z)) (omega (arith, h.low_is, h.high_is))
 
 -- ---- what stands at and under a reference stands together
 

@@ -36,17 +36,11 @@ fn count_before(nodes: &[(Key, Text)], root: &Key) -> usize
     ensures within { result ≤ length nodes.now }
     ensures left { drop result nodes.now ≡ filter (λ e. not (is_lt (ref_cmp e.0 root.now))) nodes.now }
 {
-    let mut low = 0;
-    let mut high = nodes.len();
-    while low < high {
-        let middle = low + (high - low) / 2;
-        if nodes[middle].0 < *root {
-            low = middle + 1;
-        } else {
-            high = middle;
-        }
-    }
-    low
+    nodes.partition_point(
+        |node: &(Key, Text)| -> bool
+            ensures { result ≡ is_lt (ref_cmp node.now.0 root.entry.now) }
+        { node.0 < *root },
+    )
 }
 
 // The nodes of the base that don't stand before the reference.

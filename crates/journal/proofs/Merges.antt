@@ -18,7 +18,7 @@ first_left xs n e rest h =
     let lt : n < length xs = omega arith in
     (lt, ((λ d. (let b : slice_index_or xs n d ∷ drop (n + 1) xs ≡ e ∷ rest = sym (drop_more xs n d lt) ∙ h in cc)), (let b : slice_index_or xs n e ∷ drop (n + 1) xs ≡ e ∷ rest = sym (drop_more xs n e lt) ∙ h in cc)))
 
-none_waits : (q : List Node) → nat_lt 0 (length q) ≡ false → q ≡ []
+pub none_waits : (q : List Node) → nat_lt 0 (length q) ≡ false → q ≡ []
 none_waits [] h = refl
 none_waits (x ∷ q) h = let l : length (x ∷ q) ≤ 0 = ltb-false 0 (length (x ∷ q)) h in absurd (omega arith)
 

@@ -1,6 +1,10 @@
 -- Changes in a list whose references rise.
-use Rattle.std.proofs.Common.{◌≡◌, ℕ, ◌+◌, ◌≤◌, ◌<◌, List, [], ◌∷◌, ◌++◌, length, Bool, true, false, refl, sym, ap, subst, ◌∙◌, arith, append_assoc, suc}
-use Rattle.std.specs.Prelude.{T, cond, not, Option, Some, None}
+use Rattle.std.proofs.Common.{◌≡◌, ℕ, ◌+◌, ◌-◌, ◌≤◌, ◌<◌, List, [], ◌∷◌, ◌++◌, length, take, drop, Bool, true, false, refl, sym, ap, subst, ◌∙◌, arith, append_assoc, append-nil, suc, zero}
+use Rattle.std.specs.Prelude.{T, cond, not, Option, Some, None, slice_index_or}
+use Rattle.std.specs.List.{AllWithin}
+use Rattle.std.specs.List.Sorted.{IsPartitionedBy, IsPartitionPoint}
+use Rattle.std.proofs.lemmas.List.{take-append-drop, length-drop, take_more, drop-drop}
+use Rattle.std.proofs.Math.Seq.{take-add}
 use Rattle.std.specs.declared.cmp.Ordering.{Ordering}
 use Rattle.std.specs.declared.cmp.Ordering.TheVariants.{Less, Equal, Greater}
 use Rattle.std.specs.Ordering.{is_lt, is_eq, eq_by_cmp, ordering_reverse}
@@ -16,9 +20,10 @@ use Rattle.collation.specs.Order.{ref_cmp, ref_eq}
 use Rattle.collation.specs.Changes.{Change, set_to, changed}
 use Rattle.collation.specs.laws.Order.{ref_cmp_total, ref_cmp-IsAntisymmetric, ref_ties, is_less, is_equal}
 use Rattle.collation.specs.laws.Entries.{true_of}
-use Rattle.journal.specs.Merging.{Parted, IsKept, IsSet, IsPassed, IsAdded, put_to, put_all, are_before, is_first_before, is_first_at}
+use Rattle.journal.specs.Merging.{Parted, parted, IsKept, AreKept, IsSet, IsPassed, IsAdded, put_to, put_all, are_before, is_first_before, is_first_at}
+use Rattle.journal.proofs.Merges.{first_left}
 
-abbrev Node : Type 0
+abbrev pub Node : Type 0
 Node = Reference × List ℕ
 
 so : (b : Bool) → b ≡ true → T b
@@ -47,7 +52,7 @@ before_later r later (e ∷ es) less h =
 before_more : (r : Reference) (es : List Node) (e : Node) → are_before r es ≡ true → is_lt (ref_cmp e.0 r) ≡ true → are_before r (es ++ e ∷ []) ≡ true
 before_more r es e h less = list_all-append (λ (e : Node). is_lt (ref_cmp e.0 r)) es (e ∷ []) ∙ and_from _ _ h (and_from _ _ less refl)
 
-sorted_rest : {X : Type 0} (es fs : List (Reference × X)) → is_sorted ref_cmp (es ++ fs) ≡ true → is_sorted ref_cmp fs ≡ true
+pub sorted_rest : {X : Type 0} (es fs : List (Reference × X)) → is_sorted ref_cmp (es ++ fs) ≡ true → is_sorted ref_cmp fs ≡ true
 sorted_rest [] fs h = h
 sorted_rest (e ∷ es) fs h = sorted_rest es fs (second_so (below_all ref_cmp e.0 (es ++ fs)) _ h)
 
@@ -107,44 +112,76 @@ gone_already r done (e ∷ es) h rise from at =
 
 -- ---- the steps
 
--- a node before the reference is kept
-pub record KeptOn (r : Reference) (p q : Parted) : Type 0 where
-  pub all : q.done ++ q.left ≡ p.done ++ p.left
-  pub before : are_before r p.done ≡ true → are_before r q.done ≡ true
-  pub room : q.room ≡ p.room
-  pub fewer : length q.left < length p.left
+-- one more is kept
+pub keeps_none : (p : Parted) → AreKept 0 p p
+keeps_none p = (refl, (sym (append-nil p.done), refl))
 
-pub kept_on : (r : Reference) (p q : Parted) → is_first_before r p.left ≡ true → IsKept p q → KeptOn r p q
-kept_on r p q first kept = by_left p.left refl first
+pub keeps_more : (n : ℕ) (p q r : Parted) → n < length p.left → AreKept n p q → IsKept q r → AreKept (n + 1) p r
+keeps_more n p q r l kept more = by_left (drop n p.left) refl
   where
-    by_left : (es : List Node) → p.left ≡ es → is_first_before r es ≡ true → KeptOn r p q
-    by_left [] is h = absurd (cc)
-    by_left (e ∷ es) is h =
-        let k = kept.1 e es is in
-        let l : length q.left ≡ length es = ap length k.1 in
-        let m : length p.left ≡ suc (length es) = ap length is in
-        record {
-          all = ap (λ xs. xs ++ q.left) k.0 ∙ ap (λ xs. (p.done ++ e ∷ []) ++ xs) k.1 ∙ append_assoc p.done (e ∷ []) es ∙ ap (λ xs. p.done ++ xs) (sym is);
-          before = λ b. ap (are_before r) k.0 ∙ before_more r p.done e b h;
-          room = kept.0;
-          fewer = omega arith;
-        }
+    by_left : (es : List Node) → drop n p.left ≡ es → AreKept (n + 1) p r
+    by_left [] is = let z : length p.left - n ≡ 0 = sym (length-drop n p.left) ∙ ap length is in absurd (omega arith)
+    by_left (e ∷ es) is =
+        let f = first_left p.left n e es is in
+        let k = more.1 e es (kept.1.1 ∙ is) in (
+          more.0 ∙ kept.0,
+          (
+            k.0 ∙ ap (λ xs. xs ++ e ∷ []) kept.1.0 ∙ append_assoc p.done (take n p.left) (e ∷ [])
+                ∙ ap (λ xs. p.done ++ xs) (ap (λ x. take n p.left ++ x ∷ []) (sym (f.1.0 e)) ∙ sym (take_more p.left n e l)),
+            k.1 ∙ sym f.1.1,
+          ),
+        )
 
--- any node is kept
-pub record KeptOne (p q : Parted) : Type 0 where
-  pub all : q.done ++ q.left ≡ p.done ++ p.left
-  pub fewer : length q.left < length p.left
+-- as they stand
+pub keeps_in_place : (ns q : List Node) (old : Parted) (n done next room more_done more_next : ℕ) → parted ns q done next room ≡ old → done ≡ next → q ≡ [] → more_done ≡ done + n → more_next ≡ next + n → AreKept n old (parted ns q more_done more_next room)
+keeps_in_place ns q old n done next room more_done more_next is here none d m = subst (λ (o : Parted). AreKept n o (parted ns q more_done more_next room)) is (
+  refl,
+  (
+    ap (λ xs. take more_done ns ++ xs) none ∙ append-nil (take more_done ns) ∙ ap (λ k. take k ns) d ∙ take-add done n ns
+        ∙ ap (λ k. take done ns ++ take n (drop k ns)) here ∙ ap (λ xs. xs ++ take n (drop next ns)) (sym (append-nil (take done ns)) ∙ ap (λ xs. take done ns ++ xs) (sym none)),
+    ap (λ k. drop k ns) m ∙ sym (drop-drop n next ns),
+  ),
+)
 
-pub kept_one : (p q : Parted) → 0 < length p.left → IsKept p q → KeptOne p q
-kept_one p q some kept = by_left p.left refl some
-  where
-    by_left : (es : List Node) → p.left ≡ es → 0 < length es → KeptOne p q
-    by_left [] is h = absurd (omega arith)
-    by_left (e ∷ es) is h =
-        let k = kept.1 e es is in
-        let l : length q.left ≡ length es = ap length k.1 in
-        let m : length p.left ≡ suc (length es) = ap length is in
-        record { all = ap (λ xs. xs ++ q.left) k.0 ∙ ap (λ xs. (p.done ++ e ∷ []) ++ xs) k.1 ∙ append_assoc p.done (e ∷ []) es ∙ ap (λ xs. p.done ++ xs) (sym is); fewer = omega arith }
+-- what is left from a partition point on doesn't stand before the reference
+parted_first : (r : Reference) (es : List Node) (x : Reference) (j : ℕ) (d : Node) → below_all ref_cmp x es ≡ true → j < length es → is_lt (ref_cmp (slice_index_or es j d).0 r) ≡ true → is_lt (ref_cmp x r) ≡ true
+parted_first r [] x j d h l is = absurd (omega arith)
+parted_first r (e ∷ es) x zero d h l is = ap is_lt (ref_cmp_total.trans x e.0 r (is_less (ref_cmp x e.0) (first_so _ _ h)) (is_less (ref_cmp e.0 r) is))
+parted_first r (e ∷ es) x (suc j) d h l is = parted_first r es x j d (second_so (is_lt (ref_cmp x e.0)) _ h) (omega arith) is
+
+pub parted_by : (r : Reference) (es : List Node) → is_sorted ref_cmp es ≡ true → IsPartitionedBy (λ (e : Node). is_lt (ref_cmp e.0 r)) es
+parted_by r [] h i j d le l is = absurd (omega arith)
+parted_by r (e ∷ es) h zero zero d le l is = is
+parted_by r (e ∷ es) h zero (suc j) d le l is = parted_first r es e.0 j d (first_so (below_all ref_cmp e.0 es) _ h) (omega arith) is
+parted_by r (e ∷ es) h (suc i) zero d le l is = absurd (omega arith)
+parted_by r (e ∷ es) h (suc i) (suc j) d le l is = parted_by r es (second_so (below_all ref_cmp e.0 es) _ h) i j d (omega arith) (omega arith) is
+
+before_point : (r : Reference) (es : List Node) (n : ℕ) → n ≤ length es → AllWithin (λ (e : Node). is_lt (ref_cmp e.0 r) ≡ true) es 0 n → are_before r (take n es) ≡ true
+before_point r es zero le h = refl
+before_point r [] (suc n) le h = absurd (omega arith)
+before_point r (e ∷ es) (suc n) le h = and_from _ _ (h zero e (omega arith) (omega arith)) (before_point r es n (omega arith) (λ k d low high. h (suc k) d (omega arith) (omega arith)))
+
+from_point : (r : Reference) (es : List Node) (n : ℕ) → AllWithin (λ (e : Node). is_lt (ref_cmp e.0 r) ≡ false) es n (length es) → is_first_before r (drop n es) ≡ false
+from_point r [] zero h = refl
+from_point r (e ∷ es) zero h = h zero e (omega arith) (omega arith)
+from_point r [] (suc n) h = refl
+from_point r (e ∷ es) (suc n) h = from_point r es n (λ k d low high. h (suc k) d (omega arith) (omega arith))
+
+-- where what is left is cut in two
+pub record PartedAt (r : Reference) (left : List Node) (n : ℕ) : Type 0 where
+  pub within : n ≤ length left
+  pub before : are_before r (take n left) ≡ true
+  pub from : is_first_before r (drop n left) ≡ false
+
+pub parted_at : (r : Reference) (es left : List Node) (n : ℕ) → es ≡ left → n ≤ length es → IsPartitionPoint (λ (e : Node). is_lt (ref_cmp e.0 r) ≡ true) (λ (e : Node). is_lt (ref_cmp e.0 r) ≡ false) es n → PartedAt r left n
+parted_at r es left n same le point = subst (λ xs. PartedAt r xs n) same (record { within = le; before = before_point r es n le point.0; from = from_point r es n point.1 })
+
+-- those that are kept before the reference
+pub kept_before : (r : Reference) (n : ℕ) (p q : Parted) → AreKept n p q → are_before r (take n p.left) ≡ true → are_before r p.done ≡ true → are_before r q.done ≡ true
+kept_before r n p q kept front h = ap (are_before r) kept.1.0 ∙ list_all-append (λ (e : Node). is_lt (ref_cmp e.0 r)) p.done (take n p.left) ∙ and_from _ _ h front
+
+pub kept_all : (n : ℕ) (p q : Parted) → AreKept n p q → q.done ++ q.left ≡ p.done ++ p.left
+kept_all n p q kept = ap (λ xs. xs ++ q.left) kept.1.0 ∙ ap (λ xs. (p.done ++ take n p.left) ++ xs) kept.1.1 ∙ append_assoc p.done (take n p.left) (drop n p.left) ∙ ap (λ xs. p.done ++ xs) (take-append-drop n p.left)
 
 -- a change is made: old is the list before, p once all before the reference is kept
 pub record Made (r : Reference) (value : Option (List ℕ)) (old q : Parted) : Type 0 where

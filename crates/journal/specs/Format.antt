@@ -1,7 +1,7 @@
 -- How units lie in the log. Source: docs/FORMATS.md, "Units".
 -- Read unit_bytes from the top: the job, a tag that tells the kind, and what the kind has. Each length stands before what it measures.
-use Rattle.std.specs.Prelude.{ℕ, ◌+◌, ◌*◌, Bool, true, false, nat_lt, if◌then◌else◌, List, [], ◌∷◌, ◌++◌, length, None, Some}
-use Rattle.std.specs.List.{flat_map}
+use Rattle.std.specs.Prelude.{ℕ, ◌+◌, ◌-◌, ◌*◌, Bool, true, false, nat_eq, nat_lt, if◌then◌else◌, List, [], ◌∷◌, ◌++◌, length, take, None, Some}
+use Rattle.std.specs.List.{flat_map, ends_with}
 use Rattle.std.specs.Int.{w16, w64, to_be_bytes}
 use Rattle.collation.specs.declared.direction.Direction.{Direction}
 use Rattle.collation.specs.declared.direction.Direction.TheVariants.{Forward, Backward}
@@ -28,9 +28,16 @@ number_bytes n = if nat_lt n 254 then n ∷ [] else (if nat_lt n 65536 then 254 
 abbrev pub string_bytes : List ℕ → List ℕ
 string_bytes s = number_bytes (length s) ++ s
 
--- a reference by its key
+-- bytes without a last 0: a key's length tells where it ends, so its end byte 0 need not be there
+abbrev pub has_end : List ℕ → Bool
+has_end bytes = ends_with nat_eq bytes (0 ∷ [])
+
+unfoldable pub without_end : List ℕ → List ℕ
+without_end key = if has_end key then take (length key - 1) key else key
+
+-- a reference by its key, without the end byte 0; a key whose last subscript is 0 or below has none, and is whole
 abbrev pub reference_bytes : Reference → List ℕ
-reference_bytes r = string_bytes (key_of r)
+reference_bytes r = string_bytes (without_end (key_of r))
 
 -- a lock name: 1 for a caret and 0 for none, and the rest as a reference
 abbrev pub caret_byte : Bool → ℕ

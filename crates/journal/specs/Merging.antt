@@ -19,9 +19,12 @@ pub record Parted : Type 0 where
 abbrev pub parted : List (Reference × List ℕ) → List (Reference × List ℕ) → ℕ → ℕ → ℕ → Parted
 parted nodes waiting done next room = record { done = take done nodes ++ waiting; left = drop next nodes; room = room; waits = nat_lt 0 (length waiting) }
 
--- the first that is left stays, with another value, or goes; a node comes that wasn't left
+-- the first that is left stays, the first so many do, it stays with another value, or goes; a node comes that wasn't left
 abbrev pub IsKept : Parted → Parted → Type 0
 IsKept p q = (q.room ≡ p.room) × ((e : Reference × List ℕ) (rest : List (Reference × List ℕ)) → p.left ≡ e ∷ rest → (q.done ≡ p.done ++ e ∷ []) × (q.left ≡ rest))
+
+abbrev pub AreKept : ℕ → Parted → Parted → Type 0
+AreKept n p q = (q.room ≡ p.room) × ((q.done ≡ p.done ++ take n p.left) × (q.left ≡ drop n p.left))
 
 abbrev pub IsSet : List ℕ → Parted → Parted → Type 0
 IsSet v p q = (q.room ≡ p.room) × ((e : Reference × List ℕ) (rest : List (Reference × List ℕ)) → p.left ≡ e ∷ rest → (q.done ≡ p.done ++ (e.0, v) ∷ []) × (q.left ≡ rest))

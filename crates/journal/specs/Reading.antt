@@ -1,7 +1,8 @@
 -- What bytes of the log read as; none where they are no such thing. Source: docs/FORMATS.md, "Units".
 -- Read unit_at, then down to number_at. That each unit reads back, whatever follows it: specs/laws/Reading.antt.
 -- That nothing else reads as a unit: specs/Statements.antt.
-use Rattle.std.specs.Prelude.{ℕ, ◌/◌, ◌%◌, ◌==◌, Bool, true, false, ◌&&◌, nat_lt, nat_le, nat_eq, if◌then◌else◌, List, [], ◌∷◌, length, take, drop, Option, None, Some, zero, suc, is_none, option_and_then}
+use Rattle.std.specs.Prelude.{ℕ, ◌/◌, ◌%◌, ◌==◌, Bool, true, false, ◌&&◌, nat_lt, nat_le, nat_eq, if◌then◌else◌, List, [], ◌∷◌, length, take, drop, Option, None, Some, zero, suc, is_none, option_and_then, ◌++◌}
+use Rattle.std.specs.Option.{option_or}
 use Rattle.std.specs.Cmp.Lexicographic.{pointwise}
 use Rattle.std.specs.Int.{Width, w16, w64, byte_len, from_be_bytes}
 use Rattle.collation.specs.Limits.{is_job}
@@ -20,6 +21,7 @@ use Rattle.collation.specs.Name.{is_name}
 use Rattle.collation.specs.Faults.{reference_fault}
 use Rattle.key_codec.specs.Key.{key_of}
 use Rattle.key_codec.specs.Back.{reference_of}
+use Rattle.journal.specs.Format.{has_end}
 use Rattle.journal.specs.declared.unit.Exchange.{Exchange}
 use Rattle.journal.specs.declared.unit.Unit.{Unit as JournalUnit}
 use Rattle.journal.specs.declared.unit.Unit.TheVariants.{Lone, Whole, Lock, Back, End}
@@ -55,8 +57,16 @@ is_key bytes = (is_name (reference_of bytes).name && is_none (reference_fault (r
 unfoldable pub key_at : List ℕ → Option Reference
 key_at bytes = if is_key bytes then Some (reference_of bytes) else None
 
+-- a key that is whole, since it has no end byte 0
+unfoldable pub endless_at : List ℕ → Option Reference
+endless_at bytes = if has_end bytes then None else key_at bytes
+
+-- the key with the end byte 0 behind these bytes, else a whole one
+unfoldable pub ended_at : List ℕ → Option Reference
+ended_at bytes = option_or (key_at (bytes ++ 0 ∷ [])) (endless_at bytes)
+
 unfoldable pub reference_at : List ℕ → Option (Reference × List ℕ)
-reference_at bytes = string_at bytes >>= λ s. key_at s.0 >>= λ r. Some (r, s.1)
+reference_at bytes = string_at bytes >>= λ s. ended_at s.0 >>= λ r. Some (r, s.1)
 
 abbrev pub caret_of : ℕ → Bool
 caret_of b = b == 1

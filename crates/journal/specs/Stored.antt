@@ -14,6 +14,7 @@ use Rattle.key_codec.specs.Key.{key_of, IsFaultless}
 use Rattle.journal.specs.declared.unit.Exchange.{Exchange}
 use Rattle.journal.specs.declared.unit.Unit.{Unit as JournalUnit}
 use Rattle.journal.specs.declared.unit.Unit.TheVariants.{Lone, Whole, Lock, Back, End}
+use Rattle.journal.specs.Format.{without_end}
 use Rattle.journal.specs.Kept.{job_of}
 
 -- a number of eight bytes
@@ -23,10 +24,10 @@ pub record FitsNumber (n : ℕ) : Type 0 where
 pub record FitsString (s : List ℕ) : Type 0 where
   pub fits : length s < 2 ^ 64
 
--- what a `Ref` keeps, and a key that isn't too long
+-- what a `Ref` keeps, and a key that isn't too long without its end
 pub record FitsReference (r : Reference) : Type 0 where
   pub form : IsFaultless r
-  pub fits : length (key_of r) < 2 ^ 64
+  pub fits : length (without_end (key_of r)) < 2 ^ 64
 
 pub record FitsName (n : Resource) : Type 0 where
   pub reference : FitsReference n.reference

@@ -26,7 +26,7 @@ use refusal::Refusal;
 use std::alloc::{AllocError, Global};
 use std::marker::Model;
 
-/// The units so far, as bytes, and behind them one that is prepared or none. It only grows.
+/// The units after the base, as bytes, and behind them one that is prepared or none.
 #[derive(Drop)]
 pub struct Journal {
     log: Chronicle,
@@ -129,7 +129,7 @@ impl Journal {
         self.log.as_slice()
     }
 
-    /// The units, the first with number 1, read back one by one.
+    /// The units after the base, read back one by one: the first has the number after the base's.
     pub fn units(&self) -> Units<'_>
         ensures { result ≡ since self.now }
     {
@@ -266,9 +266,10 @@ impl Journal {
         self.log.base()
     }
 
-    /// Moves the base on to this number, to which these changes lead from the base's database; their references rise. It
-    /// takes memory for the changes and not for all references: they are merged into the base's list where it stands,
-    /// before the first of them nothing moves, and after it each node at most once.
+    /// Moves the base on to this number, to which these changes lead from the base's database; their references rise. They
+    /// are merged into the base's list where it stands: before the first that takes a node out or puts one in nothing moves,
+    /// and after it each node at most once. Memory is taken for the changes, for copies of locks and tallies, and for the
+    /// bytes of the units after this number.
     ///
     /// Refusals: `OutOfMemory`, after which units and base are as they were. A unit that was prepared is gone.
     pub fn checkpoint(

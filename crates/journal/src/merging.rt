@@ -1,11 +1,12 @@
 //! Changes made in a sorted list where it stands: what has to move, moves once.
-ghost use Rattle.std.specs.Prelude.{◌≡◌, ◌≤◌, ◌<◌, ◌+◌, ◌++◌, [], ◌∷◌, List, ℕ, length, true, false, vec_capacity, slice_index_or, slice_set, OnOk, IfOk, MatchOption};
+ghost use Rattle.std.specs.Prelude.{◌≡◌, ◌≤◌, ◌<◌, ◌+◌, ◌++◌, [], ◌∷◌, List, ℕ, length, take, drop, true, false, vec_capacity, slice_index_or, slice_set, OnOk, IfOk, MatchOption};
+ghost use Rattle.std.specs.Ordering.{is_lt};
 ghost use Rattle.std.specs.VecDeque.{deque_capacity};
 ghost use Rattle.std.specs.declared.cmp.Ordering.TheVariants.{Less};
 ghost use Rattle.std.specs.FinMap.{is_sorted};
 ghost use Rattle.collation.specs.Reference.{Reference};
 ghost use Rattle.collation.specs.Order.{ref_cmp};
-ghost use Rattle.journal.specs.Merging.{put_to, are_before, BeginsFrom, IsKept, IsSet, IsPassed, IsAdded, is_first_before, is_first_at, put_all};
+ghost use Rattle.journal.specs.Merging.{put_to, are_before, BeginsFrom, IsKept, AreKept, IsSet, IsPassed, IsAdded, is_first_at, put_all};
 
 use collation::Text;
 use key_codec::Key;
@@ -188,26 +189,53 @@ impl Merging {
         self.nodes.get(self.next)
     }
 
+    // The first that are left stay, so many, one after the other.
+    fn keep_each(&mut self, count: usize)
+        requires { count ≤ length self.old.left }
+        ensures { AreKept count self.old self.new }
+    {
+        for _ in 0..count {
+            self.keep();
+        }
+    }
+
+    // The first that are left stay, so many: where nothing has moved, as they stand.
+    fn keep_first(&mut self, count: usize)
+        requires { count ≤ length self.old.left }
+        ensures { AreKept count self.old self.new }
+    {
+        if self.done == self.next && self.waiting.is_empty() {
+            self.done += count;
+            self.next += count;
+        } else {
+            self.keep_each(count);
+        }
+    }
+
+    // How many of those that are left stand before the key: they are in order.
+    fn count_before(&self, key: &Key) -> usize
+        requires { is_sorted ref_cmp self.now.left ≡ true }
+        ensures within { result ≤ length self.now.left }
+        ensures before { are_before key.now (take result self.now.left) ≡ true }
+        ensures from { BeginsFrom key.now (drop result self.now.left) }
+    {
+        self.nodes[self.next..].partition_point(
+            |node: &(Key, Text)| -> bool
+                ensures { result ≡ is_lt (ref_cmp node.now.0 key.entry.now) }
+            { node.0 < *key },
+        )
+    }
+
     // What is left stays up to the first that doesn't stand before the key.
     fn keep_before(&mut self, key: &Key)
+        requires { is_sorted ref_cmp self.old.left ≡ true }
         ensures all { self.new.done ++ self.new.left ≡ self.old.done ++ self.old.left }
         ensures before { are_before key.now self.old.done ≡ true → are_before key.now self.new.done ≡ true }
         ensures from { BeginsFrom key.now self.new.left }
         ensures room { self.new.room ≡ self.old.room }
     {
-        while self.is_first_before(key) {
-            self.keep();
-        }
-    }
-
-    // Whether the first that is left stands before the key.
-    fn is_first_before(&self, key: &Key) -> bool
-        ensures { result ≡ is_first_before key.now self.now.left }
-    {
-        match self.first() {
-            Some(node) => node.0 < *key,
-            None => false,
-        }
+        let count = self.count_before(key);
+        self.keep_first(count);
     }
 
     // Whether the first that is left is the key's.
@@ -251,33 +279,13 @@ impl Merging {
         }
     }
 
-    // What is left stays where it stands, if nothing has moved.
-    fn skip_rest(&mut self)
-        ensures { self.new.done ++ self.new.left ≡ self.old.done ++ self.old.left }
-    {
-        if self.waiting.is_empty() && self.done == self.next {
-            self.done = self.nodes.len();
-            self.next = self.nodes.len();
-        }
-    }
-
-    // Whether nothing is left.
-    fn is_over(&self) -> bool
-        ensures some { result ≡ false → 0 < length self.now.left }
-        ensures none { result ≡ true → self.now.left ≡ [] }
-    {
-        self.next >= self.nodes.len()
-    }
-
     // All that is left stays.
     fn keep_rest(&mut self)
         ensures done { self.new.done ≡ self.old.done ++ self.old.left }
         ensures left { self.new.left ≡ [] }
     {
-        self.skip_rest();
-        while !self.is_over() {
-            self.keep();
-        }
+        let count = self.nodes.len() - self.next;
+        self.keep_first(count);
     }
 
     // The list, where nothing is left.

@@ -1,5 +1,5 @@
 //! Units read back from bytes. Each reader answers what it read and the bytes after it.
-ghost use Rattle.std.specs.Prelude.{◌≡◌, None, Some, IfErr, IfOk};
+ghost use Rattle.std.specs.Prelude.{◌≡◌, [], ◌∷◌, ◌++◌, None, Some, IfErr, IfOk};
 ghost use Rattle.std.specs.Int.{w16, w64};
 ghost use Rattle.journal.specs.Reading as reading;
 
@@ -7,6 +7,7 @@ use crate::unit::{Exchange, Exchanges, Unit};
 use collation::{Direction, Job, LockCommand, LockName, LockNames, Ref, Text};
 use command::{Answer, DataCommand, Look};
 use key_codec::{Key, Place, decode};
+use smallvec::SmallVec;
 use std::alloc::{AllocError, Global};
 
 // Why nothing was read: memory was refused, or the bytes are no such thing.
@@ -104,6 +105,16 @@ fn read_text(alloc: Global, bytes: &[u8]) -> Result<(Text, &[u8]), Unread>
     Ok((text, rest))
 }
 
+// The bytes, and the end byte 0 behind them. Takes memory only past 38 bytes, as a `Key` does.
+fn with_end(alloc: Global, bytes: &[u8]) -> Result<SmallVec<u8, 39>, AllocError>
+    ensures { IfOk result (λ key. key.items ≡ bytes.now ++ 0 ∷ []) }
+{
+    let mut key = SmallVec::with_capacity(alloc, bytes.len().saturating_add(1))?;
+    key.extend_from_slice(bytes)?;
+    key.push(0)?;
+    Ok(key)
+}
+
 // The reference of a whole key.
 #[tactic(auto, using(crate::specs::laws::Reading::key_known, crate::specs::laws::Reading::key_unknown))]
 fn decoded(alloc: Global, bytes: &[u8]) -> Result<Ref, Unread>
@@ -128,13 +139,64 @@ fn whole_key(alloc: Global, bytes: &[u8]) -> Result<Key, Unread>
     Ok(key)
 }
 
+// The key, if the bytes are one that has no end byte 0.
+#[tactic(auto, unfolding(crate::specs::Reading::endless_at))]
+fn endless_key(alloc: Global, bytes: &[u8]) -> Result<Key, Unread>
+    ensures some { IfOk result (λ key. reading.endless_at bytes.now ≡ Some key) }
+    ensures none { IfErr result (λ e. e ≡ Unread.Form → reading.endless_at bytes.now ≡ None) }
+{
+    if bytes.ends_with(&[0]) {
+        return Err(Unread::Form);
+    }
+    whole_key(alloc, bytes)
+}
+
+// The key that these bytes stand for, with its end byte put back.
+#[tactic(auto, unfolding(crate::specs::Reading::ended_at))]
+fn ended_key(alloc: Global, bytes: &[u8]) -> Result<Key, Unread>
+    ensures some { IfOk result (λ key. reading.ended_at bytes.now ≡ Some key) }
+    ensures none { IfErr result (λ e. e ≡ Unread.Form → reading.ended_at bytes.now ≡ None) }
+{
+    let ended = with_end(alloc, bytes)?;
+    match whole_key(alloc, ended.as_slice()) {
+        Ok(key) => Ok(key),
+        Err(Unread::Memory) => Err(Unread::Memory),
+        Err(Unread::Form) => endless_key(alloc, bytes),
+    }
+}
+
+#[tactic(auto, unfolding(crate::specs::Reading::endless_at))]
+fn endless_reference(alloc: Global, bytes: &[u8]) -> Result<Ref, Unread>
+    ensures some { IfOk result (λ r. reading.endless_at bytes.now ≡ Some r) }
+    ensures none { IfErr result (λ e. e ≡ Unread.Form → reading.endless_at bytes.now ≡ None) }
+{
+    if bytes.ends_with(&[0]) {
+        return Err(Unread::Form);
+    }
+    decoded(alloc, bytes)
+}
+
+// The same as a reference.
+#[tactic(auto, unfolding(crate::specs::Reading::ended_at))]
+fn ended_reference(alloc: Global, bytes: &[u8]) -> Result<Ref, Unread>
+    ensures some { IfOk result (λ r. reading.ended_at bytes.now ≡ Some r) }
+    ensures none { IfErr result (λ e. e ≡ Unread.Form → reading.ended_at bytes.now ≡ None) }
+{
+    let ended = with_end(alloc, bytes)?;
+    match decoded(alloc, ended.as_slice()) {
+        Ok(reference) => Ok(reference),
+        Err(Unread::Memory) => Err(Unread::Memory),
+        Err(Unread::Form) => endless_reference(alloc, bytes),
+    }
+}
+
 #[tactic(auto, unfolding(crate::specs::Reading::reference_at))]
 fn read_key(alloc: Global, bytes: &[u8]) -> Result<(Key, &[u8]), Unread>
     ensures some { IfOk result (λ p. reading.reference_at bytes.now ≡ Some (p.0, p.1.now)) }
     ensures none { IfErr result (λ e. e ≡ Unread.Form → reading.reference_at bytes.now ≡ None) }
 {
     let (string, rest) = read_string(bytes)?;
-    let key = whole_key(alloc, string)?;
+    let key = ended_key(alloc, string)?;
     Ok((key, rest))
 }
 
@@ -144,7 +206,7 @@ fn read_reference(alloc: Global, bytes: &[u8]) -> Result<(Ref, &[u8]), Unread>
     ensures none { IfErr result (λ e. e ≡ Unread.Form → reading.reference_at bytes.now ≡ None) }
 {
     let (string, rest) = read_string(bytes)?;
-    let reference = decoded(alloc, string)?;
+    let reference = ended_reference(alloc, string)?;
     Ok((reference, rest))
 }
 

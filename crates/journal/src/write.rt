@@ -143,12 +143,24 @@ fn push_string(bytes: &mut Vec<u8>, string: &[u8]) -> Result<(), AllocError>
     Ok(())
 }
 
+// A key without its end byte 0, where it has one.
+#[tactic(auto, unfolding(crate::specs::Format::without_end))]
+fn without_end(key: &[u8]) -> &[u8]
+    ensures { result.now ≡ format.without_end key.now }
+{
+    if key.ends_with(&[0]) {
+        &key[..key.len() - 1]
+    } else {
+        key
+    }
+}
+
 fn push_key(bytes: &mut Vec<u8>, key: &Key) -> Result<(), AllocError>
     ensures bytes { OnOk result (bytes.new.items ≡ bytes.old.items ++ format.reference_bytes key.now) }
     ensures fits { OnOk result (FitsReference key.now) }
     ensures kept { GoesOnFrom bytes.old.items bytes.new.items }
 {
-    push_string(bytes, key.as_slice())
+    push_string(bytes, without_end(key.as_slice()))
 }
 
 fn push_name(bytes: &mut Vec<u8>, name: &LockName) -> Result<(), AllocError>

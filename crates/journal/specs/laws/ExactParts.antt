@@ -7,15 +7,16 @@ use Rattle.std.proofs.lemmas.Option.{option_and_then_some, some_pair_parts, same
 use Rattle.std.proofs.Math.ListN.{get_or-eq_default}
 use Rattle.std.specs.Prelude.{◌==◌, nat_lt, nat_le, if◌then◌else◌}
 use Rattle.std.specs.List.{flat_map}
+use Rattle.std.specs.Option.{option_or}
 use Rattle.std.specs.Int.{Width, w16, w64, byte_len, to_be_bytes, from_be_bytes}
 use Rattle.collation.specs.Reference.{Reference}
 use Rattle.key_codec.specs.Back.{reference_of}
 use Rattle.key_codec.specs.Key.{key_of, IsFaultless}
 use Rattle.journal.specs.Statements.{AreBytes}
-use Rattle.journal.specs.Format.{number_bytes, string_bytes, reference_bytes}
-use Rattle.journal.specs.Reading.{number_at, wide_at, string_at, is_key, key_at, reference_at, list_at}
+use Rattle.journal.specs.Format.{number_bytes, string_bytes, has_end, without_end, reference_bytes}
+use Rattle.journal.specs.Reading.{number_at, wide_at, string_at, is_key, key_at, endless_at, ended_at, reference_at, list_at}
 use Rattle.journal.specs.Stored.{FitsNumber, FitsString, FitsReference, Each}
-use Rattle.journal.specs.laws.Reading.{key_means}
+use Rattle.journal.specs.laws.Reading.{key_means, without_back, endless_back}
 
 -- what was read stands there as it is written, in front of other bytes; and it keeps its limits
 pub record IsRead {A : Type 0} (write : A → List ℕ) (Fits : A → Type 0) (bytes : List ℕ) (x : A) (rest : List ℕ) : Type 0 where
@@ -183,9 +184,26 @@ key_exact bytes r e =
     let means = key_means bytes known in
     (subst IsFaultless is means.0, means.1 ∙ ap key_of is)
 
-reference_read : (bytes s rest : List ℕ) (r : Reference) → IsRead string_bytes FitsString bytes s rest → key_at s ≡ Some r → IsRead reference_bytes FitsReference bytes r rest
+-- as the key with the end byte, or as a whole one
+ended_by : (bytes : List ℕ) (r : Reference) (o : Option Reference) → key_at (bytes ++ 0 ∷ []) ≡ o → option_or o (endless_at bytes) ≡ Some r → IsFaultless r × (bytes ≡ without_end (key_of r))
+unfolding endless_at
+ended_by bytes r (Some x) ended e =
+    let k = key_exact (bytes ++ 0 ∷ []) r (ended ∙ e) in
+    (k.0, sym (without_back bytes) ∙ ap without_end k.1)
+ended_by bytes r None ended e =
+    either_way (has_end bytes) _ _ _ e
+    (λ has none. absurd (none-some _ none))
+    λ endless found.
+    let k = key_exact bytes r found in
+    (k.0, sym (endless_back bytes endless) ∙ ap without_end k.1)
+
+ended_exact : (bytes : List ℕ) (r : Reference) → ended_at bytes ≡ Some r → IsFaultless r × (bytes ≡ without_end (key_of r))
+unfolding ended_at
+ended_exact bytes r e = ended_by bytes r (key_at (bytes ++ 0 ∷ [])) refl e
+
+reference_read : (bytes s rest : List ℕ) (r : Reference) → IsRead string_bytes FitsString bytes s rest → ended_at s ≡ Some r → IsRead reference_bytes FitsReference bytes r rest
 reference_read bytes s rest r h e =
-    let k = key_exact s r e in
+    let k = ended_exact s r e in
     record {
       written = h.written ∙ ap (λ t. string_bytes t ++ rest) k.1;
       fits = record { form = k.0; fits = subst (λ (t : List ℕ). length t < 2 ^ 64) k.1 h.fits.fits };
@@ -196,7 +214,7 @@ pub reference_exact : IsExact reference_at reference_bytes FitsReference
 unfolding reference_at
 reference_exact bytes rest r h e =
     option_and_then_some _ (string_at bytes) _ e λ s string given.
-    option_and_then_some _ (key_at s.0) _ given λ x key found.
+    option_and_then_some _ (ended_at s.0) _ given λ x key found.
     as_found reference_bytes FitsReference bytes x r s.1 rest found (reference_read bytes s.0 s.1 x (string_exact bytes s.1 s.0 h string) key)
 
 -- ---- lists

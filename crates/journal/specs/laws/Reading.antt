@@ -1,15 +1,17 @@
 -- What was written reads back, whatever follows it.
-use Rattle.std.proofs.Common.{◌≡◌, ℕ, ◌+◌, ◌*◌, ◌/◌, ◌%◌, ◌≤◌, ◌<◌, ◌^◌, Bool, List, [], ◌∷◌, ◌++◌, length, drop, true, false, refl, ap, sym, ◌∙◌, arith, append_assoc, length-append, Option, Some, None}
+use Rattle.std.proofs.Common.{◌≡◌, ℕ, ◌+◌, ◌-◌, ◌*◌, ◌/◌, ◌%◌, ◌≤◌, ◌<◌, ◌^◌, Bool, List, [], ◌∷◌, ◌++◌, length, take, drop, true, false, refl, ap, sym, ◌∙◌, arith, append_assoc, length-append, take-append-drop, Option, Some, None}
 use Rattle.std.proofs.lemmas.Bool.Decides.{nat_tests}
-use Rattle.std.proofs.lemmas.List.{take_at, drop_at}
+use Rattle.std.proofs.lemmas.List.{take_at, drop_at, append_cancel_left}
 use Rattle.std.proofs.lemmas.Nat.{from_be_bytes-to_be_bytes_2, from_be_bytes-to_be_bytes_8}
 use Rattle.std.specs.Prelude.{◌==◌, nat_eq, nat_lt, nat_le, ◌&&◌, is_none}
 use Rattle.std.specs.List.{flat_map}
 use Rattle.std.specs.Int.{w16, w64, to_be_bytes}
 use Rattle.collation.specs.Reference.{Reference, Resource}
-use Rattle.key_codec.specs.Key.{key_of, IsFaultless}
+use Rattle.collation.specs.Database.{is_under}
+use Rattle.key_codec.specs.Key.{key_of, long_form, subscripts_key, IsFaultless}
 use Rattle.key_codec.specs.Back.{reference_of}
 use Rattle.key_codec.specs.laws.Back.{reference_of_key}
+use Rattle.key_codec.specs.laws.Key.{long_form_is, fits_long, has_tag, begins_under, under_begins}
 use Rattle.key_codec.specs.Kept.{Keeps}
 use Rattle.std.specs.Cmp.Lexicographic.{pointwise, bytes_decides}
 use Rattle.std.specs.Cmp.{first_so, second_so}
@@ -30,8 +32,8 @@ use Rattle.collation.specs.declared.lock.LockCommand.TheVariants.{Release, Only,
 use Rattle.journal.specs.declared.unit.Exchange.{Exchange}
 use Rattle.journal.specs.declared.unit.Unit.{Unit as JournalUnit}
 use Rattle.journal.specs.declared.unit.Unit.TheVariants.{Lone, Whole, Lock, Back, End}
-use Rattle.journal.specs.Format.{number_bytes, string_bytes, reference_bytes, caret_byte, name_bytes, names_bytes, order_kind, query_kind, look_kind, look_bytes, command_kind, command_bytes, answer_kind, answer_bytes, exchange_bytes, lock_flags, lock_kind, lock_bytes, deed_bytes, unit_bytes}
-use Rattle.journal.specs.Reading.{at_least, number_at, wide_at, bytes_at, string_at, is_key, key_at, reference_at, name_at, list_at, names_at, looks_at, data_command_at, answer_at, answered_at, exchange_at, lock_command_at, exchanges_at, deed_at, deed_of, unit_at, is_inside, has_had}
+use Rattle.journal.specs.Format.{number_bytes, string_bytes, has_end, without_end, reference_bytes, caret_byte, name_bytes, names_bytes, order_kind, query_kind, look_kind, look_bytes, command_kind, command_bytes, answer_kind, answer_bytes, exchange_bytes, lock_flags, lock_kind, lock_bytes, deed_bytes, unit_bytes}
+use Rattle.journal.specs.Reading.{at_least, number_at, wide_at, bytes_at, string_at, is_key, key_at, endless_at, ended_at, reference_at, name_at, list_at, names_at, looks_at, data_command_at, answer_at, answered_at, exchange_at, lock_command_at, exchanges_at, deed_at, deed_of, unit_at, is_inside, has_had}
 use Rattle.collation.specs.Limits.{is_job}
 use Rattle.journal.specs.Kept.{job_of}
 use Rattle.journal.specs.Stored.{FitsNumber, FitsString, FitsReference, FitsName, Each, FitNames, FitsLook, FitsCommand, FitsAnswer, FitsExchange, FitExchanges, FitsLock, FitsDeed, FitsUnit}
@@ -123,11 +125,63 @@ key_keeps bytes r known = (key_keeps_by bytes r (is_key bytes) refl known).0
 pub key_again : (bytes : List ℕ) (r x : Reference) → key_at bytes ≡ Some r → x ≡ reference_of bytes → key_at bytes ≡ Some x
 key_again bytes r x known e = (key_keeps_by bytes r (is_key bytes) refl known).1 ∙ ap (λ y. Some y) (sym e)
 
+-- bytes in front of an end byte
+front_size : (xs : List ℕ) → length (xs ++ 0 ∷ []) - 1 ≡ length xs
+front_size xs = let l = length-append xs (0 ∷ []) in omega (arith, l)
+
+front_ends : (xs : List ℕ) → has_end (xs ++ 0 ∷ []) ≡ true
+front_ends xs = (bytes_decides (0 ∷ []) _).1 (sym (ap (λ n. drop n (xs ++ 0 ∷ [])) (front_size xs) ∙ drop_at xs (0 ∷ []) (length xs) refl))
+
+pub without_back : (xs : List ℕ) → without_end (xs ++ 0 ∷ []) ≡ xs
+unfolding without_end
+without_back xs = rw (front_ends xs) (ap (λ n. take n (xs ++ 0 ∷ [])) (front_size xs) ∙ take_at xs (0 ∷ []) (length xs) refl)
+
+-- a key with the end byte is what stands without it, and the end byte
+end_back : (bytes : List ℕ) → has_end bytes ≡ true → without_end bytes ++ 0 ∷ [] ≡ bytes
+unfolding without_end
+end_back bytes e =
+    let last : 0 ∷ [] ≡ drop (length bytes - 1) bytes = (bytes_decides (0 ∷ []) (drop (length bytes - 1) bytes)).0 e in
+    rw e (ap (λ t. take (length bytes - 1) bytes ++ t) last ∙ take-append-drop (length bytes - 1) bytes)
+
+pub endless_back : (bytes : List ℕ) → has_end bytes ≡ false → without_end bytes ≡ bytes
+unfolding without_end
+endless_back bytes e = rw e refl
+
+-- no key is another one and a 0
+head_is : (a b : ℕ) (xs ys : List ℕ) → a ∷ xs ≡ b ∷ ys → a ≡ b
+head_is a b xs ys e = cc
+
+tag_of : (more : List (List ℕ)) → 0 ∷ [] ≡ subscripts_key long_form more → ⊥
+tag_of [] e = cc
+tag_of (s ∷ ss) e =
+    let t = has_tag long_form s in
+    let first : 0 ≡ t.tag = head_is 0 t.tag [] (t.rest ++ subscripts_key long_form ss) (e ∙ ap (λ k. k ++ subscripts_key long_form ss) t.is) in
+    omega (arith, first, t.low)
+
+no_longer : (r x : Reference) → IsFaultless r → IsFaultless x → key_of r ++ 0 ∷ [] ≡ key_of x → ⊥
+no_longer r x a b e =
+    let under : is_under r x ≡ true = begins_under long_form long_form_is r x (0 ∷ []) (fits_long r a) (fits_long x b) (sym e) in
+    let on = under_begins long_form r x under in
+    tag_of on.more (append_cancel_left (key_of r) (0 ∷ []) (subscripts_key long_form on.more) (e ∙ on.is))
+
+ended_back_by : (r : Reference) (b : Bool) → IsFaultless r → has_end (key_of r) ≡ b → ended_at (without_end (key_of r)) ≡ Some r
+unfolding ended_at endless_at
+ended_back_by r true is e =
+    let known : key_at (without_end (key_of r) ++ 0 ∷ []) ≡ Some r = key_known _ r is (sym (end_back (key_of r) e)) in
+    rw known refl
+ended_back_by r false is e =
+    let unknown : key_at (key_of r ++ 0 ∷ []) ≡ None = key_unknown (key_of r ++ 0 ∷ []) (λ x form same. no_longer r x is form same) in
+    ap ended_at (endless_back (key_of r) e) ∙ rw (unknown, e) (key_back r is)
+
+-- a key reads back without its end
+pub ended_back : (r : Reference) → IsFaultless r → ended_at (without_end (key_of r)) ≡ Some r
+ended_back r is = ended_back_by r (has_end (key_of r)) is refl
+
 pub reference_back : (r : Reference) (t : List ℕ) → FitsReference r → reference_at (reference_bytes r ++ t) ≡ Some (r, t)
 unfolding reference_at
 reference_back r t h =
-    let string : string_at (string_bytes (key_of r) ++ t) ≡ Some (key_of r, t) = string_back (key_of r) t (record { fits = h.fits }) in
-    rw string (rw (key_back r h.form) refl)
+    let string : string_at (string_bytes (without_end (key_of r)) ++ t) ≡ Some (without_end (key_of r), t) = string_back (without_end (key_of r)) t (record { fits = h.fits }) in
+    rw string (rw (ended_back r h.form) refl)
 
 -- ---- lists
 

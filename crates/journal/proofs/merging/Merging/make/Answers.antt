@@ -1,6 +1,9 @@
 use Rattle.std.proofs.Common.{sym, subst}
-use Rattle.journal.proofs.Rising.{Made, set_made, pass_made, add_made, none_made}
+use Rattle.journal.proofs.Rising.{Made, sorted_rest, set_made, pass_made, add_made, none_made}
 use Rattle.journal.proofs.merging.Merging.make.Goals as goal
+
+pub keep_before-requires : goal.keep_before-requires
+keep_before-requires c = sorted_rest c.args.self.now.done c.args.self.now.left c.requires.sorted
 
 pub returns-in-true-Some-clause-made : goal.returns-in-true-Some-clause-made
 returns-in-true-Some-clause-made c = (subst (λ o. Made c.args.key o c.args.self.now c.set.new.self) (sym c.in-true-Some.is-1) (set_made c.args.key c.in-true-Some.value c.args.self.now c.keep_before.new.self c.set.new.self (record { all = c.keep_before.ensures.all; before = c.keep_before.ensures.before c.requires.behind; from = c.keep_before.ensures.from; room = c.keep_before.ensures.room; sorted = c.requires.sorted }) (sym c.in-true-Some.ensures) c.set.ensures)).made
