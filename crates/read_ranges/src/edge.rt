@@ -59,8 +59,8 @@ impl Edge {
     }
 }
 
-// Whether the first of two cuts doesn't stand after the second.
-pub(crate) fn is_at_most(first: Cut<'_>, second: Cut<'_>) -> bool
+/// Whether the first of two cuts doesn't stand after the second. Takes no memory.
+pub fn is_at_most(first: Cut<'_>, second: Cut<'_>) -> bool
     ensures yes { result ≡ true → AreEarlier first.entry second.entry }
     ensures no { result ≡ false → AreEarlier second.entry first.entry }
 {

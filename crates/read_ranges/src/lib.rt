@@ -15,7 +15,7 @@
 //! Not promised: that ranges are apart, or how many they are; a reference may lie in several.
 #![tactic(auto)]
 
-pub use edge::Edge;
+pub use edge::{Edge, is_at_most};
 pub use noted::Ranges;
 pub use range::ReadRange;
 
