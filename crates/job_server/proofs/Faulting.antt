@@ -43,6 +43,15 @@ pub unserved_unwritten : {T : Type 0} (r : Result T JobsFault) (f : Unserved) �
 unserved_unwritten (Ok x) f is w = absurd is
 unserved_unwritten {T = T} (Err g) f is w = unserved_writes f (sym is ∙ error_is {T = T} g Write w)
 
+input_writes : (f : InputFault) → fault_of_input f ≡ Write → ⊥
+input_writes InputRead e = cc
+input_writes InputMemory e = cc
+
+-- no fault of the input is the writer's
+pub input_unwritten : {T : Type 0} (r : Result T JobsFault) (f : InputFault) → IsErrAnd r (λ g. g ≡ fault_of_input f) → IsErrOf r Write → ⊥
+input_unwritten (Ok x) f is w = absurd is
+input_unwritten {T = T} (Err g) f is w = input_writes f (sym is ∙ error_is {T = T} g Write w)
+
 pub writing_is : (listing : List ℕ) (f : JobsFault) → IsOfWriting f → IsJobsFault listing f
 writing_is listing Read h = absurd h
 writing_is listing Write h = tt

@@ -147,7 +147,7 @@ pub fn run_text<R: Threads + Wait + Sync, W: Write, G: Gate + Sync>(
 
 /// Reads all input, and runs its jobs as `run_text` does, with the listing.
 ///
-/// After `Read` nothing was done or written.
+/// After `Read` nothing was done or written. `Write` comes only where a call of the writer failed.
 pub fn run_jobs<R: Threads + Wait + Sync, I: Read, W: Write, G: Gate + Sync>(
     rt: &R,
     alloc: Global,
@@ -164,6 +164,7 @@ pub fn run_jobs<R: Threads + Wait + Sync, I: Read, W: Write, G: Gate + Sync>(
         (λ bytes. IsBegun listing.now true bytes (W.contents writer.old.inner) (W.contents writer.new.inner))) }
     ensures unloaded { IfErr result (IsJobsFault listing.now) }
     ensures nothing { IfErr result (λ fault. IsOfWriting fault ⊎ (W.contents writer.old.inner ≡ W.contents writer.new.inner)) }
+    ensures counted { IsErrOf result JobsFault.Write → IsOneMore writer.old.failures writer.new.failures }
 {
     let text = read_all(alloc, reader)?;
     run_text(rt, alloc, listing, true, text, writer, workers, gate)

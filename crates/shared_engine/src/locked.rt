@@ -261,7 +261,7 @@ impl<B: BoardName> Locked<B> {
         command: DataCommand,
     ) -> Result<Answer, Refusal>
         requires { 1 ≤ session.old.state.level }
-        ensures start { IfSome session.old.start (λ base. base ≡ take (length base) self.now.common.units) }
+        ensures journal { IsJournalOf self.now.common.units session.old }
         ensures answered { IfSome session.old.start (λ base. IsAnsweredOrRefused command result (after base initial).map session.old.state session.new.state) }
         ensures open { IsSome session.old.start }
         ensures same { (session.new.start ≡ session.old.start) × (session.new.receipts ≡ session.old.receipts) }

@@ -249,8 +249,8 @@ impl<B: BoardName> Shared<B> {
         }
     }
 
-    /// A data command of an open transaction, on the map of its start followed by its own commands. Takes the shared
-    /// lock.
+    /// A data command of an open transaction, on the map of its start followed by its own commands. The present journal
+    /// goes on from that start, and has the units of the session's receipts. Takes the shared lock.
     ///
     /// Refusals, after which nothing has changed: those of `Core::read`. A start that is no longer kept is none of
     /// them.
@@ -263,9 +263,11 @@ impl<B: BoardName> Shared<B> {
         requires { 1 ≤ session.old.state.level }
         ensures answered { IfSome session.old.start (λ base. IsAnsweredOrRefused command result (after base initial).map session.old.state session.new.state) }
         ensures open { IsSome session.old.start }
+        ensures journal { (units : List JournalUnit) × IsJournalOf units session.old }
         ensures same { (session.new.start ≡ session.old.start) × (session.new.receipts ≡ session.old.receipts) }
     {
-        self.lock.read(rt).read(rt, &self.board, session, command)
+        let locked = self.lock.read(rt);
+        locked.read(rt, &self.board, session, command)
     }
 
     /// Data commands of an open transaction, one after the other, each as `read` does it, under one hold of the shared

@@ -114,8 +114,21 @@ fn a_collector_that_has_gone_round_waits_for_a_write(rt: HostRuntime) -> Result<
     Ok(())
 }
 
-// Where the base stands while a transaction is open that began after the first of two SETs, and after its end.
-fn bases<B: BoardName, R: Wait>(rt: &R, alloc: Global, engine: &Shared<B>) -> Option<(u64, u64)> {
+// The number of the session's newest unit, 0 where it has none.
+fn newest_of<B: BoardName>(session: &Session<B>) -> u64 {
+    match session.numbers().last() {
+        Some(number) => *number,
+        None => 0,
+    }
+}
+
+// Where the base stands while a transaction is open that began after the first of two SETs, and after its end; then the
+// number of one SET more.
+fn bases<B: BoardName, R: Wait>(
+    rt: &R,
+    alloc: Global,
+    engine: &Shared<B>,
+) -> Option<(u64, u64, u64)> {
     let mut session = opened(rt, alloc, engine, 1)?;
     let mut other = opened(rt, alloc, engine, 2)?;
     let one = is_set(rt, alloc, engine, &mut session, "1 SET ^A=1");
@@ -124,24 +137,26 @@ fn bases<B: BoardName, R: Wait>(rt: &R, alloc: Global, engine: &Shared<B>) -> Op
     let first = engine.checkpoint(rt).ok()?;
     let is_over = is_replied(rt, alloc, engine, &mut other, "2 TROLLBACK", "0 ok\n");
     let second = engine.checkpoint(rt).ok()?;
-    if one && is_begun && two && is_over {
-        Some((first, second))
+    let three = is_set(rt, alloc, engine, &mut session, "1 SET ^A=3");
+    if one && is_begun && two && is_over && three {
+        Some((first, second, newest_of(&session)))
     } else {
         None
     }
 }
 
-fn bases_of<B: BoardName, R: Wait>(rt: &R, alloc: Global, blank: Blank) -> Option<(u64, u64)>
+fn bases_of<B: BoardName, R: Wait>(rt: &R, alloc: Global, blank: Blank) -> Option<(u64, u64, u64)>
     requires { (blank.seat.table_id ≡ B.table) × (blank.words.seats ≡ 4096) }
 {
     let engine = Shared::<B>::new(alloc, blank);
     bases(rt, alloc, &engine)
 }
 
+// A unit after the base goes on with its number.
 #[test]
 fn a_checkpoint_stops_at_an_open_start(rt: HostRuntime) -> Result<(), Fail> {
     let blank = Blank::new(rt.alloc(), SEATS)?;
     let found = bases_of::<Brand, _>(&rt, rt.alloc(), blank);
-    assert_eq!(rt; found, Some((1, 2)));
+    assert_eq!(rt; found, Some((1, 2, 3)));
     Ok(())
 }

@@ -1,10 +1,11 @@
 //! Sessions in threads.
 ghost use Rattle.std.specs.Prelude.{◌≡◌};
 
+use journal::{Journal, Unit};
 use pin_board::{Blank, BoardName, SEATS};
 use session_acts::{data_of, is_replied, opened};
 use shared_engine::{Pass, Session, Shared};
-use std::alloc::Global;
+use std::alloc::{AllocError, Global};
 use std::marker::Brand;
 use std::sync::Wait;
 use std::test::*;
@@ -56,19 +57,19 @@ fn hundred<B: BoardName, R: Wait>(
     }
 }
 
-// Puts the passes together. How many receipts they have.
+// Puts the passes together. How many of them have a hundred receipts.
 fn gather<B: BoardName>(made: Vec<Option<Pass<B>>>, passes: &mut Vec<Pass<B>>) -> usize {
-    let mut receipts = 0usize;
+    let mut whole = 0usize;
     for pass in made {
         if let Some(pass) = pass {
-            receipts = receipts.wrapping_add(pass.numbers().len());
+            whole = whole.wrapping_add((pass.numbers().len() == 100) as usize);
             let _ = passes.push(pass);
         }
     }
-    receipts
+    whole
 }
 
-// Four threads write. How many receipts their passes have.
+// Four threads write. How many of their passes have a hundred receipts.
 fn four_write<B: BoardName + Send + Sync, R: Threads + Wait + Sync>(
     rt: &R,
     alloc: Global,
@@ -81,26 +82,51 @@ fn four_write<B: BoardName + Send + Sync, R: Threads + Wait + Sync>(
     }
 }
 
-// How many sessions, units, and receipts in all.
+// One for a lone command, and one for an end.
+fn kind_of(unit: &Unit) -> (u64, u64) {
+    match unit {
+        Unit::Lone(_, _, _) => (1, 0),
+        Unit::End(_) => (0, 1),
+        _ => (0, 0),
+    }
+}
+
+// How many units are lone commands, and how many ends.
+fn kinds_of(journal: &Journal) -> Result<(u64, u64), AllocError> {
+    let mut lone = 0u64;
+    let mut ends = 0u64;
+    for unit in journal.units() {
+        let unit = unit?;
+        let kind = kind_of(&unit);
+        drop(unit);
+        lone = lone.wrapping_add(kind.0);
+        ends = ends.wrapping_add(kind.1);
+    }
+    Ok((lone, ends))
+}
+
+// How many sessions and units there were, how many passes have a hundred receipts, and how many units are lone commands
+// and ends.
 fn four_jobs<B: BoardName + Send + Sync, R: Threads + Wait + Sync>(
     rt: &R,
     alloc: Global,
     blank: Blank,
-) -> (u64, u64, usize)
+) -> (u64, u64, usize, Option<(u64, u64)>)
     requires { (blank.seat.table_id ≡ B.table) × (blank.words.seats ≡ 4096) }
 {
     let engine = Shared::<B>::new(alloc, blank);
     let mut passes = Vec::new(alloc);
-    let receipts = four_write(rt, alloc, &engine, &mut passes);
+    let whole = four_write(rt, alloc, &engine, &mut passes);
     let closed = engine.finish(rt, passes);
-    (closed.sessions, closed.core.now(), receipts)
+    let kinds = kinds_of(closed.core.journal()).ok();
+    (closed.sessions, closed.core.now(), whole, kinds)
 }
 
 #[test]
 fn four_threads_write_and_their_passes_close_the_engine(rt: HostRuntime) -> Result<(), Fail> {
     let blank = Blank::new(rt.alloc(), SEATS)?;
     let counts = four_jobs::<Brand, _>(&rt, rt.alloc(), blank);
-    assert_eq!(rt; counts, (4, 404, 400));
+    assert_eq!(rt; counts, (4, 404, 4, Some((400, 4))));
     Ok(())
 }
 

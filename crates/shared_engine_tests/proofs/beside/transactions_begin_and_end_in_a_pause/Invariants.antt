@@ -1,4 +1,4 @@
 use Rattle.shared_engine_tests.proofs.beside.transactions_begin_and_end_in_a_pause.Given as goal
 
-abbrev pub ghosts-are_begun_in_a_pause : goal.ghosts-are_begun_in_a_pause
-ghosts-are_begun_in_a_pause g a = record { table = a.blank.seat.table_id }
+abbrev pub ghosts-goes_on_beside : goal.ghosts-goes_on_beside
+ghosts-goes_on_beside g a = record { table = a.blank.seat.table_id }
