@@ -17,8 +17,8 @@ use journal_lines::write_journal;
 use listing::{Counted, read_all};
 use loading::{LoadFault, SettingReader};
 use program_front::{
-    ListingFile, MjobsArgs, Piped, Progress, Ticker, arguments_of, create_named, mjobs_args_of,
-    path_of, print_bad_name, print_fault, print_help_or_error, print_journal_fault,
+    ListingFile, MjobsArgs, Piped, Progress, Ticker, Workers, arguments_of, create_named,
+    mjobs_args_of, path_of, print_bad_name, print_fault, print_help_or_error, print_journal_fault,
     print_load_fault, print_refused, print_unopened, read_listing,
 };
 use script::{Drafts, read_line};
@@ -103,6 +103,15 @@ fn print_all_refused(rt: &(impl Eprint + AllocGlobal), text: &[u8]) {
     }
 }
 
+// How many workers there are.
+fn count_workers(rt: &impl Threads, workers: Workers) -> usize {
+    let processors = match thread::available_parallelism(rt) {
+        Ok(processors) => Some(processors.get()),
+        Err(_) => None,
+    };
+    workers.count(processors)
+}
+
 // Reads all input, and serves its jobs on the listing.
 fn serve_from<P: Eprint + AllocGlobal + Clock + Threads + Wait + Sync, R: Read + Drop>(
     rt: &P,
@@ -123,7 +132,7 @@ fn serve_from<P: Eprint + AllocGlobal + Clock + Threads + Wait + Sync, R: Read +
         &file.text,
         &mut ticker,
         text,
-        args.workers as usize,
+        count_workers(rt, args.workers),
         &Patience { rt, progress },
     );
     ticker.clear();

@@ -13,26 +13,34 @@ pub struct Statistics {
     pub journal_bytes: usize,
     /// How many nodes have a value.
     pub nodes: u64,
+    /// How many bytes their keys and values have; what the store takes around them comes on top.
+    pub node_bytes: u64,
     /// How many versions of nodes are kept, absences among them.
     pub versions: u64,
 }
 
-fn count_nodes<V: OrderedView>(view: &V) -> u64 {
+// How many nodes a view has, and the bytes of their keys and values.
+fn count_nodes<V: OrderedView>(view: &V) -> (u64, u64) {
     let mut nodes: u64 = 0;
-    for _node in walk_from(view, Cut::Start) {
+    let mut bytes: u64 = 0;
+    for (key, value) in walk_from(view, Cut::Start) {
         nodes = nodes.saturating_add(1);
+        bytes = bytes.saturating_add(key.as_slice().len() as u64);
+        bytes = bytes.saturating_add(value.len() as u64);
     }
-    nodes
+    (nodes, bytes)
 }
 
 impl Statistics {
     /// Counts what the core holds. Walks over all nodes and versions; takes no memory.
     pub fn of(core: &JobCore) -> Statistics {
+        let (nodes, node_bytes) = count_nodes(&core.content());
         Statistics {
             units: core.journal().len(),
             dropped: core.base().number(),
             journal_bytes: core.journal().size(),
-            nodes: count_nodes(&core.content()),
+            nodes,
+            node_bytes,
             versions: core.versions(),
         }
     }
@@ -45,9 +53,10 @@ pub fn print_statistics(rt: &impl Eprint, program: &str, held: &Statistics) {
         dropped,
         journal_bytes,
         nodes,
+        node_bytes,
         versions,
     } = *held;
     let _ = eprintln!(rt;
-        "{program}: {nodes} nodes, {versions} versions; {units} units, {dropped} of them dropped; {journal_bytes} bytes of journal"
+        "{program}: {nodes} nodes of {node_bytes} bytes, {versions} versions; {units} units, {dropped} of them dropped; {journal_bytes} bytes of journal"
     );
 }

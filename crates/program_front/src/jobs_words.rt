@@ -5,7 +5,7 @@ use crate::words::{
 };
 use clap::builder::ValueParser;
 use clap::error::ErrorKind;
-use clap::{Arg, ArgAction, Command, Error};
+use clap::{Arg, ArgAction, ArgMatches, Command, Error};
 use std::alloc::Global;
 
 // The most workers that may be asked for.
@@ -14,8 +14,32 @@ const MOST_WORKERS: u64 = 16;
 // How many workers there are where none are asked for.
 const USUAL_WORKERS: u64 = 2;
 
+// What is said where the word for workers has another value.
+const WORKERS: &str = "'--workers <N>' takes a number from 1 to 16, or auto";
+
+/// How many workers are asked for.
+#[derive(Clone, Copy, Debug, PartialEq, Eq)]
+pub enum Workers {
+    /// So many, 1 to 16.
+    Number(u64),
+    /// As many as there are processors, and at most 16.
+    Processors,
+}
+
+impl Workers {
+    /// How many there are, where there are so many processors, or their number isn't known.
+    pub fn count(self, processors: Option<usize>) -> usize {
+        match (self, processors) {
+            (Workers::Number(number), _) => number as usize,
+            (Workers::Processors, Some(processors)) => processors.min(MOST_WORKERS as usize),
+            (Workers::Processors, None) => USUAL_WORKERS as usize,
+        }
+    }
+}
+
 // What `--help` prints under the options.
-const LINES: &str = "Each line is a job, 1 to 4096, a blank, and a command or a function:
+const LINES: &str =
+    "Each line is a job, 1 to 4096, a blank, and a command or a function, as mrun --help names them:
 
   1 TSTART
   1 SET ^Stock(\"apples\")=3
@@ -27,7 +51,7 @@ that was overtaken is done again by itself; a LOCK waits until it has its names,
 Printed are the replies by job, in order of the jobs' first lines, then `--` and the listing of the database.
 What stands in it where jobs meet depends on which was first.
 
-  mjobs --workers 4 orders.txt
+  mjobs --workers auto orders.txt
   mjobs --load stock.txt orders.txt
   generate | mjobs --no-listing
 
@@ -38,7 +62,7 @@ M systems write them in ZWR form. They are read before the first job; where one 
 mrun done.txt leaves the same listing.
 
 Exit status: 0, all replies are accepted; 1, a reply is an `error`; 2, input can't be read, output or the journal
-can't be written, memory ran out, a listing can't be loaded, a report is missing, or the words above are wrong.";
+can't be written, memory ran out, a listing can't be loaded, a report is missing, or the words of the command are wrong.";
 
 /// What the arguments of `mjobs` ask for.
 #[derive(Clone, Copy, Debug, PartialEq, Eq)]
@@ -53,8 +77,8 @@ pub struct MjobsArgs {
     pub listed: bool,
     /// Whether each line that can't be read is told on standard error.
     pub errors: bool,
-    /// How many workers there are, 1 to 16.
-    pub workers: u64,
+    /// How many workers there are.
+    pub workers: Workers,
 }
 
 fn command<'a>(alloc: Global) -> Result<Command<'a>, Error> {
@@ -62,9 +86,9 @@ fn command<'a>(alloc: Global) -> Result<Command<'a>, Error> {
         .long("workers")
         .action(ArgAction::Set)
         .value_name("N")
-        .value_parser(ValueParser::unsigned(1, MOST_WORKERS))
+        .value_parser(ValueParser::string())
         .default_value("2")
-        .help("Do so many jobs at the same time, 1 to 16");
+        .help("Do so many jobs at the same time, 1 to 16; auto: as many as there are processors");
     let command = Command::new(alloc, "mjobs")
         .version(VERSION)
         .about(
@@ -80,10 +104,39 @@ fn command<'a>(alloc: Global) -> Result<Command<'a>, Error> {
     Ok(command)
 }
 
-// An error of words that don't go together.
-fn conflict(alloc: Global, why: &str) -> Result<Error, Error> {
-    let error = command(alloc)?.error(ErrorKind::ArgumentConflict, why)?;
+// An error of words that are wrong.
+fn error_of(alloc: Global, kind: ErrorKind, why: &str) -> Result<Error, Error> {
+    let error = command(alloc)?.error(kind, why)?;
     Ok(error)
+}
+
+// The workers that a word asks for, or none where it has neither a number from 1 to 16 nor `auto`.
+fn workers_in(word: &str) -> Option<Workers> {
+    if word == "auto" {
+        return Some(Workers::Processors);
+    }
+    match word.parse::<u64>() {
+        Ok(number) => {
+            if 1 <= number && number <= MOST_WORKERS {
+                Some(Workers::Number(number))
+            } else {
+                None
+            }
+        }
+        Err(_) => None,
+    }
+}
+
+// The workers that the words ask for.
+fn workers_of(alloc: Global, matches: &ArgMatches<'_>) -> Result<Workers, Error> {
+    let asked = match matches.get_str("workers") {
+        Some(word) => workers_in(word),
+        None => Some(Workers::Number(USUAL_WORKERS)),
+    };
+    match asked {
+        Some(workers) => Ok(workers),
+        None => Err(error_of(alloc, ErrorKind::ValueValidation, WORKERS)?),
+    }
 }
 
 // Whether the journal would be written to a file that is read.
@@ -107,10 +160,10 @@ pub fn mjobs_args_of(alloc: Global, arguments: &[Vec<u8>]) -> Result<MjobsArgs, 
         journal: journal_of(&matches, &texts),
         listed: !matches.get_flag("no-listing"),
         errors: matches.get_flag("errors"),
-        workers: matches.get_one("workers").unwrap_or(USUAL_WORKERS),
+        workers: workers_of(alloc, &matches)?,
     };
     if is_journal_read(arguments, args) {
-        return Err(conflict(alloc, READ)?);
+        return Err(error_of(alloc, ErrorKind::ArgumentConflict, READ)?);
     }
     Ok(args)
 }

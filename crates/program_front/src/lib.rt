@@ -12,7 +12,7 @@
 //! `listing_file.rt`, `journal_file.rt`.
 #![tactic(auto)]
 
-pub use jobs_words::{MjobsArgs, mjobs_args_of};
+pub use jobs_words::{MjobsArgs, Workers, mjobs_args_of};
 pub use journal_file::create_named;
 pub use listing_file::{ListingFile, read_listing};
 pub use piped::Piped;

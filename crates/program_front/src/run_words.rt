@@ -16,7 +16,9 @@ const DROPPED: &str =
     "'--journal <JOURNAL>' cannot be used with '--checkpoint-every <M>' other than 0, by which the journal drops its beginning";
 
 // What `--help` prints under the options.
-const LINES: &str = "Each line is a job, 1 to 4096, a blank, and a command or a function:
+const LINES: &str =
+    "Each line is a job, 1 to 4096, a blank, and SET, KILL, MERGE, LOCK, TSTART, TCOMMIT, TROLLBACK, TRESTART or HALT, or a
+function: $DATA, $GET, $ORDER, $QUERY, $TLEVEL or $TRESTART:
 
   1 SET ^Fruit(\"apple\",\"price\")=1.2
   1 $GET(^Fruit(\"apple\",\"price\"))
@@ -33,11 +35,11 @@ before names, or all where it names none, and Ctrl-D on an empty line ends the i
 --errors tells a refused line's number, the column of its fault, the refusal and what was expected there.
 --collect-every drops old versions of values that no transaction can see any more, --checkpoint-every what the journal
 keeps of the lines done before all open transactions; what is printed doesn't depend on either. --stats tells at the end
-what is held: nodes and their versions, and the units of the journal, how many of them were dropped and the bytes that
-the others take.
+what is held: nodes, the bytes of their keys and values, versions, and the units of the journal, how many of them were
+dropped and the bytes that the others take.
 
 Exit status: 0, all replies are accepted; 1, a reply is an `error`; 2, input can't be read, output or the journal
-can't be written, memory ran out, a listing can't be loaded, or the words above are wrong.";
+can't be written, memory ran out, a listing can't be loaded, or the words of the command are wrong.";
 
 /// What the arguments of `mrun` ask for.
 #[derive(Clone, Copy, Debug, PartialEq, Eq)]

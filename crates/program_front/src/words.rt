@@ -71,7 +71,7 @@ pub(crate) fn stats_word<'a>(alloc: Global) -> Arg<'a> {
         .long("stats")
         .action(ArgAction::SetTrue)
         .help(
-            "Print at the end how many nodes, versions, units and bytes of journal there are, on standard error",
+            "Print at the end how many nodes, versions, units and bytes there are, on standard error",
         )
 }
 

@@ -28,7 +28,7 @@ rule_text Ahead = codes "a stamp that has come"
 
 -- what should stand there
 abbrev pub expected_text : Expected → List ℕ
-expected_text expectations.Job = codes "a job, 1 to 4096, before all else"
+expected_text expectations.Job = codes "a job, 1 to 4096, before all else, a byte order mark too"
 expected_text expectations.Blank = codes "a blank"
 expected_text expectations.Operand = codes "a blank and ^ and a name; there are no post-conditionals"
 expected_text expectations.Command = codes "SET, KILL, MERGE, LOCK, TSTART, TCOMMIT, TROLLBACK, TRESTART or HALT, or $ and a function"
@@ -36,8 +36,8 @@ expected_text expectations.Function = codes "DATA, GET, ORDER, QUERY, TLEVEL or 
 expected_text expectations.Reference = codes "^ and a name"
 expected_text expectations.Name = codes "a name"
 expected_text expectations.LockName = codes "a lock name"
-expected_text expectations.Subscript = codes "a number, \"text\" or $C(0 to 255), without a blank"
-expected_text expectations.Value = codes "a number, \"text\" or $C(0 to 255), without a blank"
+expected_text expectations.Subscript = codes "a number, \"text\" with both quotes or $C(0 to 255), without a blank"
+expected_text expectations.Value = codes "a number, \"text\" with both quotes or $C(0 to 255), without a blank"
 expected_text expectations.Equals = codes "= without a blank"
 expected_text expectations.Opening = codes "("
 expected_text expectations.Closing = codes ")"

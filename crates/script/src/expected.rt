@@ -51,7 +51,7 @@ impl Expected {
         ensures { result.now ≡ expected.expected_text self }
     {
         match self {
-            Expected::Job => "a job, 1 to 4096, before all else",
+            Expected::Job => "a job, 1 to 4096, before all else, a byte order mark too",
             Expected::Blank => "a blank",
             Expected::Operand => "a blank and ^ and a name; there are no post-conditionals",
             Expected::Command =>
@@ -60,8 +60,10 @@ impl Expected {
             Expected::Reference => "^ and a name",
             Expected::Name => "a name",
             Expected::LockName => "a lock name",
-            Expected::Subscript => "a number, \"text\" or $C(0 to 255), without a blank",
-            Expected::Value => "a number, \"text\" or $C(0 to 255), without a blank",
+            Expected::Subscript =>
+                "a number, \"text\" with both quotes or $C(0 to 255), without a blank",
+            Expected::Value =>
+                "a number, \"text\" with both quotes or $C(0 to 255), without a blank",
             Expected::Equals => "= without a blank",
             Expected::Opening => "(",
             Expected::Closing => ")",

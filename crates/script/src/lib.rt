@@ -5,10 +5,10 @@
 //!
 //! (1) its grammar: `command_at` in `specs/Commands.antt`, which knows no limits;
 //! (2) its job, from 1 to 4,096, however many digits it has;
-//! (3) its references, lock names and values from left to right: `fault_of` in `specs/Commands.antt`.
+//! (3) its references, lock names and values from left to right: `command_fault` in `specs/Commands.antt`.
 //!
 //! So `4097 LOCK 5 x` gets BadLine, `4097 LOCK 5` gets BadJob, `1 LOCK 5` gets BadName. The job that is
-//! printed before a refusal is `job_of`. Replies: `reply_text` in `specs/Text.antt`.
+//! printed before a refusal is `job_of_line`. Replies: `reply_text` in `specs/Text.antt`.
 //!
 //! The grammar stands apart as a relation, `IsLine` in `specs/Grammar.antt`; `specs/Statements.antt` ties both together.
 //!

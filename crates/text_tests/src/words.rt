@@ -1,6 +1,8 @@
 //! The words of `mrun` and `mjobs`: what their command lines ask for. Expected from README and `--help`.
 use clap::error::ErrorKind;
-use program_front::{MjobsArgs, MrunArgs, NamePlace, mjobs_args_of, mrun_args_of, room_before};
+use program_front::{
+    MjobsArgs, MrunArgs, NamePlace, Workers, mjobs_args_of, mrun_args_of, room_before,
+};
 use std::alloc::Global;
 use std::test::Fail;
 
@@ -282,7 +284,7 @@ const PLAIN_JOBS: MjobsArgs = MjobsArgs {
     journal: None,
     listed: true,
     errors: false,
-    workers: 2,
+    workers: Workers::Number(2),
 };
 
 // Words, and what they ask `mjobs` for.
@@ -392,14 +394,15 @@ fn words_ask_for_a_journal_of_jobs_that_is_no_file_that_is_read(
 }
 
 // Whether the word asks for so many workers, or is wrong.
-fn are_workers(alloc: Global, word: &[u8], want: Result<u64, ErrorKind>) -> Result<bool, Fail> {
+fn are_workers(alloc: Global, word: &[u8], want: Result<Workers, ErrorKind>) -> Result<bool, Fail> {
     let found = asked_of_jobs(alloc, &[b"--workers", word])?;
     Ok(found.map(|args| args.workers) == want)
 }
 
-const WORKERS: [NumberRow; 5] = [
-    (b"1", Ok(1)),
-    (b"16", Ok(16)),
+const WORKERS: [(&[u8], Result<Workers, ErrorKind>); 6] = [
+    (b"1", Ok(Workers::Number(1))),
+    (b"16", Ok(Workers::Number(16))),
+    (b"auto", Ok(Workers::Processors)),
     (b"0", Err(ErrorKind::ValueValidation)),
     (b"17", Err(ErrorKind::ValueValidation)),
     (b"x", Err(ErrorKind::ValueValidation)),
@@ -410,6 +413,10 @@ fn words_ask_for_workers(rt: HostRuntime) -> Result<(), Fail> {
     for (word, want) in &WORKERS {
         assert!(rt; are_workers(rt.alloc(), word, *want)?, "{word:?}");
     }
+    assert_eq!(rt; Workers::Number(3).count(Some(8)), 3);
+    assert_eq!(rt; Workers::Processors.count(Some(8)), 8);
+    assert_eq!(rt; Workers::Processors.count(Some(64)), 16);
+    assert_eq!(rt; Workers::Processors.count(None), 2);
     Ok(())
 }
 
