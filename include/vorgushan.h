@@ -71,13 +71,25 @@ typedef struct vg_engine {
 
 #define VG_ENGINE_NONE {0}
 
-/* A reference: a name and subscripts, made once and used in any number of calls, on any engine. As with an engine:
- * set it to VG_KEY_NONE before the first call, and of two copies only one may be used. */
+/* Where vg_key_spell spells a key. */
+typedef struct vg_draft {
+    void *own;
+} vg_draft;
+
+/* A reference: a name and subscripts, used in any number of calls, on any engine, and made again in place. As with an
+ * engine: set it to VG_KEY_NONE before the first call, and of two copies only one may be used. */
 typedef struct vg_key {
     void *own;
+    vg_draft draft;
 } vg_key;
 
-#define VG_KEY_NONE {0}
+#define VG_KEY_NONE {0, {0}}
+
+/* A text of the caller's, as one of the subscripts of vg_key_spell. */
+typedef struct vg_text {
+    const char *bytes;
+    size_t length;
+} vg_text;
 
 /* What an engine holds. */
 typedef struct vg_statistics {
@@ -100,6 +112,9 @@ vg_outcome vorgushan_checkpoint(vg_engine *engine);
 vg_outcome vorgushan_statistics(vg_engine *engine, vg_statistics *statistics);
 vg_outcome vorgushan_key_name(vg_key *key, const char *name, size_t name_length);
 vg_outcome vorgushan_key_subscript(vg_key *key, const char *subscript, size_t subscript_length);
+vg_outcome vorgushan_key_spell(vg_key *key, vg_draft *draft, const char *name, size_t name_length,
+                               const vg_text *subscripts, size_t count);
+void vorgushan_draft_end(vg_draft *draft);
 vg_outcome vorgushan_key_end(vg_key *key);
 vg_outcome vorgushan_set(vg_engine *engine, uint64_t job, vg_key *key, const char *value, size_t value_length);
 vg_outcome vorgushan_kill(vg_engine *engine, uint64_t job, vg_key *key);
@@ -216,9 +231,39 @@ static inline vg_outcome vg_key_subscript(vg_key *key, const char *subscript, si
                : (vg_outcome)VG_NO_KEY;
 }
 
+/* Makes the key of a name and subscripts by one call, in place of what was there: the same key as by vg_key_name and
+ * then a vg_key_subscript for each. It returns the first refusal that these would, and then the key is as it was. NULL
+ * subscripts are none, and one whose bytes are NULL is empty. The texts are read during the call alone.
+ *
+ * A key that was spelled before is spelled again without memory, unless it is longer than each time before, or over 38
+ * bytes: the name and 1, and for each subscript its bytes and 2 (a byte 0 or 1 counts twice), or a number's digits and
+ * at most 4. */
+static inline vg_outcome vg_key_spell(vg_key *key, const char *name, size_t name_length, const vg_text *subscripts,
+                                      size_t count) {
+    char nothing = 0;
+    vg_text given[32]; /* one more than a key has: if there are more the answer is the same */
+    size_t i;
+    if (!key)
+        return VG_NO_KEY;
+    if (!subscripts)
+        count = 0;
+    if (count > 32)
+        count = 32;
+    given[0].bytes = &nothing;
+    given[0].length = 0;
+    for (i = 0; i < count; i++) {
+        given[i].bytes = subscripts[i].bytes ? subscripts[i].bytes : &nothing;
+        given[i].length = subscripts[i].bytes ? subscripts[i].length : 0;
+    }
+    return vorgushan_key_spell(key, &key->draft, name ? name : &nothing, name ? name_length : 0, given, count);
+}
+
 /* Ends a key and gives its memory back. */
 static inline vg_outcome vg_key_end(vg_key *key) {
-    return key ? vorgushan_key_end(key) : (vg_outcome)VG_NO_KEY;
+    if (!key)
+        return VG_NO_KEY;
+    vorgushan_draft_end(&key->draft);
+    return vorgushan_key_end(key);
 }
 
 /* SET of a key's reference by a job from 1 to 4,096. The value's bytes are copied. VG_BAD_JOB, VG_VALUE_TOO_LONG

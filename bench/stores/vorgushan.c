@@ -23,9 +23,8 @@ void end_work(void) {}
 static void make_key(uint32_t number, const char *field) {
     char digits[16];
     int length = snprintf(digits, sizeof digits, "%u", number);
-    must(vg_key_name(&key, "Patient", 7) == VG_DONE, "vg_key_name");
-    must(vg_key_subscript(&key, digits, (size_t)length) == VG_DONE, "vg_key_subscript");
-    must(vg_key_subscript(&key, field, strlen(field)) == VG_DONE, "vg_key_subscript");
+    const vg_text at[] = {{digits, (size_t)length}, {field, strlen(field)}};
+    must(vg_key_spell(&key, "Patient", 7, at, 2) == VG_DONE, "vg_key_spell");
 }
 
 void put(uint32_t number, const char *field, const char *value, size_t length) {

@@ -23,7 +23,7 @@ depth_is ss depth e is =
     let low : length ss ≤ 2 ^ 64 - 1 = grind (arith, nat_tests, few) in
     is ∙ min-eq_left low
 
-fault_is : (ss : List (List ℕ)) (s : List ℕ) → reference_fault ss ≡ None → reference_fault (ss ++ s ∷ []) ≡ below_fault (length ss) s
+pub fault_is : (ss : List (List ℕ)) (s : List ℕ) → reference_fault ss ≡ None → reference_fault (ss ++ s ∷ []) ≡ below_fault (length ss) s
 fault_is ss s e =
     ap (λ (n : ℕ). cond (nat_lt most_subscripts n) (Some TooManySubscripts) (subscripts_fault (ss ++ s ∷ []))) (length-append ss (s ∷ []))
     ∙ ap (λ (f : Option Refusal). cond (nat_lt most_subscripts (length ss + 1)) (Some TooManySubscripts) f)

@@ -1,10 +1,12 @@
 //! Keys of names and subscripts.
-ghost use Rattle.std.specs.Prelude.{◌≡◌, ◌-◌, ◌^◌, [], None, min, length, IfErr, IfOk};
+ghost use Rattle.std.specs.Prelude.{◌≡◌, ◌-◌, ◌^◌, [], None, if◌then◌else◌, min, length, IfErr, IfOk};
+ghost use Rattle.collation.specs.Name.{is_name as is_name_spec};
 ghost use Rattle.key_codec.specs.Draft.{IsDueOrMemory, longer, place_due, place_of, reference_due};
 ghost use Rattle.typed_calls.specs.Commands.{below_fault};
+ghost use Rattle.typed_calls.specs.Spelled.{due_in_turn, texts_of};
 
 use canonic_number::LONGEST_SUBSCRIPT;
-use collation::{MOST_SUBSCRIPTS, Text};
+use collation::{MOST_SUBSCRIPTS, Text, is_name};
 use key_codec::{Key, KeyDraft, Place};
 use refusal::Refusal;
 use std::alloc::Global;
@@ -45,6 +47,51 @@ fn fault_below(depth: u64, subscript: &[u8]) -> Option<Refusal>
     } else {
         None
     }
+}
+
+/// A text that is lent: for C a pointer and a length.
+#[repr(C)]
+#[derive(Clone, Copy, Debug)]
+pub struct LentText<'t> {
+    /// Its bytes.
+    pub bytes: &'t [u8],
+}
+
+// The refusal of a name, else this one of a subscript behind it.
+fn name_fault_or(name: &[u8], fault: Refusal) -> Refusal
+    ensures { result ≡ (if is_name_spec name.now then fault else Refusal.BadName) }
+{
+    if is_name(name) {
+        fault
+    } else {
+        Refusal::BadName
+    }
+}
+
+/// The key of a name and subscripts, spelled in a draft, which serves for the next one too. Takes memory only where
+/// the draft has to grow, or the key has over 38 bytes.
+///
+/// Refusals: the first that `key_of_name`, and then `key_below` for one subscript after the other, would tell;
+/// `OutOfMemory`.
+pub fn spell_key(
+    alloc: Global,
+    draft: &mut KeyDraft,
+    name: &[u8],
+    subscripts: &[LentText<'_>],
+) -> Result<Key, Refusal>
+    ensures ok { IfOk result (λ key. (due_in_turn (record { name = name.now; subscripts = [] }) (texts_of subscripts.now) ≡ None) × (key ≡ record { name = name.now; subscripts = texts_of subscripts.now })) }
+    ensures err { IfErr result (λ refusal. IsDueOrMemory refusal (due_in_turn (record { name = name.now; subscripts = [] }) (texts_of subscripts.now))) }
+{
+    draft.begin(name)?;
+    let mut depth: u64 = 0;
+    for text in subscripts {
+        if let Some(fault) = fault_below(depth, text.bytes) {
+            return Err(name_fault_or(name, fault));
+        }
+        draft.push(text.bytes)?;
+        depth += 1;
+    }
+    draft.key(alloc)
 }
 
 /// The key one level below this one, by this subscript.

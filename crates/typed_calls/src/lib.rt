@@ -1,17 +1,20 @@
 //! Typed calls of an embedded engine: commands without their text, on keys that are made once.
 //!
 //! A key is made of a name and then of one subscript after the other (`key_of_name`, `key_below`), each looked at as
-//! in a line. A call does the machine's step of one command and keeps its reply (`IsStep` of `specs/Typed.antt`); or it
-//! was refused before the step, and then nothing has changed (`IsRefusedCall`). A value that is answered is copied as
-//! its bytes are, bytes 0 too; a number is told; the reference that $QUERY finds comes to be the key's.
+//! in a line; or of all these by one call, which answers what they would (`spell_key`: `due_in_turn` of
+//! `specs/Spelled.antt`). A typed call does the machine's step of one command and keeps its reply (`IsStep` of
+//! `specs/Typed.antt`); or it was refused before the step, and then nothing has changed (`IsRefusedCall`). A value that
+//! is answered is copied as its bytes are, bytes 0 too; a number is told; the reference that $QUERY finds comes to be
+//! the key's.
 //!
-//! Read `specs/Commands.antt`, `specs/Typed.antt`, then `keys.rt`, `commands.rt`, `steps.rt`, `calls.rt`.
+//! Read `specs/Commands.antt`, `specs/Spelled.antt`, `specs/Typed.antt`, then `keys.rt`, `commands.rt`, `steps.rt`,
+//! `calls.rt`.
 //! Not promised: the time of a call.
 #![tactic(auto)]
 
 pub use calls::{data, get, kill, lock, merge, order, query, set};
 pub use commands::LockForm;
-pub use keys::{key_below, key_of_name};
+pub use keys::{LentText, key_below, key_of_name, spell_key};
 pub use steps::{copy_value, run_command, run_numbered};
 
 mod calls;

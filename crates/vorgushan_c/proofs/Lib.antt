@@ -1,3 +1,4 @@
 mod Called
+pub mod DraftValues
 pub mod KeyValues
 pub mod Values

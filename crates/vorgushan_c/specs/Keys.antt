@@ -1,11 +1,12 @@
 -- What exported calls do with the key that they are given.
--- Read IsNamedKey, IsLongerKey, IsKeyCalled, IsKeysCalled.
+-- Read IsNamedKey, IsLongerKey, IsSpelledKey, IsKeyCalled, IsKeysCalled.
 use Rattle.std.specs.Prelude.{◌≡◌, ◌⊎◌, ℕ, ◌==◌, Bool, not, if◌then◌else◌, List, [], Option, Some, None}
 use Rattle.refusal.specs.declared.Refusal.{Refusal}
 use Rattle.collation.specs.Reference.{Reference}
 use Rattle.collation.specs.declared.direction.Direction.{Direction}
 use Rattle.collation.specs.declared.direction.Direction.TheVariants.{Forward, Backward}
 use Rattle.key_codec.specs.Draft.{IsDueOrMemory, longer, reference_due}
+use Rattle.typed_calls.specs.Spelled.{due_in_turn}
 use Rattle.embedded.specs.Outcomes.{outcome_number}
 use Rattle.embedded.specs.declared.engine.Embedded.{Embedded}
 use Rattle.embedded.specs.declared.outcome.Outcome.{Outcome}
@@ -31,6 +32,12 @@ IsNamedKey name old now number = IsMadeKey (record { name = name; subscripts = [
 abbrev pub IsLongerKey : List ℕ → Option Reference → Option Reference → ℕ → Type 0
 IsLongerKey s None now number = (now ≡ None) × (number ≡ outcome_number NoKey)
 IsLongerKey s (Some r) now number = IsMadeKey (longer r s) (Some r) now number
+
+-- the key of a name and subscripts was made; or it stays as it was, and the refusal was told that the call for the name, and then one for each subscript, would tell first
+abbrev pub IsSpelledKey : List ℕ → List (List ℕ) → Option Reference → Option Reference → ℕ → Type 0
+IsSpelledKey name ss old now number =
+    ((now ≡ Some (record { name = name; subscripts = ss })) × (due_in_turn (record { name = name; subscripts = [] }) ss ≡ None) × (number ≡ outcome_number Done))
+    ⊎ ((now ≡ old) × IsRefusedAs (due_in_turn (record { name = name; subscripts = [] }) ss) number)
 
 -- the call on an engine and a key did this; where one of them isn't there it tells so and does the other, and the engine is as it was
 abbrev pub IsKeyCalled : Option Embedded → Option Embedded → Option Reference → ℕ → Type 0 → (Reference → Embedded → Embedded → Outcome → Type 0) → Type 0

@@ -1,24 +1,31 @@
 //! What C calls to make keys. Each of them is declared in `include/vorgushan.h`, with its meaning for a C programmer.
-ghost use Rattle.std.specs.Prelude.{◌≡◌, None, Some, IfOk, IfErr};
+ghost use Rattle.std.specs.Prelude.{◌≡◌, [], None, Some, IfOk, IfErr};
 ghost use Rattle.std.specs.Option.{MatchOption};
 ghost use Rattle.embedded.specs.Outcomes.{outcome_number};
-ghost use Rattle.vorgushan_c.specs.Keys.{IsNamedKey, IsLongerKey};
+ghost use Rattle.key_codec.specs.Draft.{IsDueOrMemory};
+ghost use Rattle.typed_calls.specs.Spelled.{due_in_turn, texts_of};
+ghost use Rattle.vorgushan_c.specs.Keys.{IsNamedKey, IsLongerKey, IsSpelledKey};
 
+use crate::draft_handle::VgDraft;
 use crate::key_handle::VgKey;
 use embedded::Outcome;
-use key_codec::Key;
+use key_codec::{Key, KeyDraft};
 use refusal::Refusal;
 use std::alloc::Global;
-use typed_calls::{key_below, key_of_name};
+use typed_calls::{LentText, key_below, key_of_name, spell_key};
 
-// Puts a key in the place of what was there. Where memory is refused it stays.
+// Puts a key in the place of what was there. Takes memory only where none was; where that is refused there is none still.
 fn replace_key(alloc: Global, key: &mut VgKey, made: Key) -> Result<(), Refusal>
     ensures ok { IfOk result (λ _. key.new.inside ≡ Some made) }
     ensures err { IfErr result (λ refusal. (refusal ≡ Refusal.OutOfMemory) × (key.new.inside ≡ key.old.inside)) }
 {
+    if let Some(mut there) = key.take(alloc) {
+        *there = made;
+        key.put(there);
+        return Ok(());
+    }
     match Box::new(alloc, made) {
         Ok(made) => {
-            drop(key.take(alloc));
             key.put(made);
             Ok(())
         }
@@ -64,6 +71,87 @@ pub extern "C" fn vorgushan_key_subscript(alloc: Global, key: &mut VgKey, subscr
             Outcome::Refused(refusal).number()
         }
     }
+}
+
+// The draft that is there, or a new one.
+fn take_draft(alloc: Global, draft: &mut VgDraft) -> Result<Box<KeyDraft>, Refusal>
+    ensures { IfErr result (λ refusal. refusal ≡ Refusal.OutOfMemory) }
+{
+    match draft.take(alloc) {
+        Some(there) => Ok(there),
+        None => match Box::new(alloc, KeyDraft::new(alloc)) {
+            Ok(made) => Ok(made),
+            Err(_) => Err(Refusal::OutOfMemory),
+        },
+    }
+}
+
+// Spells a key in the draft that is there, or a new one, which is there afterwards.
+fn spell_in(
+    alloc: Global,
+    draft: &mut VgDraft,
+    name: &[u8],
+    subscripts: &[LentText<'_>],
+) -> Result<Key, Refusal>
+    ensures ok { IfOk result (λ key. (due_in_turn (record { name = name.now; subscripts = [] }) (texts_of subscripts.now) ≡ None) × (key ≡ record { name = name.now; subscripts = texts_of subscripts.now })) }
+    ensures err { IfErr result (λ refusal. IsDueOrMemory refusal (due_in_turn (record { name = name.now; subscripts = [] }) (texts_of subscripts.now))) }
+{
+    match take_draft(alloc, draft) {
+        Ok(mut there) => {
+            let spelled = spell_key(alloc, &mut there, name, subscripts);
+            draft.put(there);
+            spelled
+        }
+        Err(refusal) => Err(refusal),
+    }
+}
+
+// Ends the draft where no key is there.
+fn end_lone_draft(alloc: Global, key: &mut VgKey, draft: &mut VgDraft)
+    ensures key { key.new.inside ≡ key.old.inside }
+    ensures draft { MatchOption key.new.inside (draft.new.inside ≡ None) (λ _. draft.new.inside ≡ draft.old.inside) }
+{
+    match key.take(alloc) {
+        Some(there) => key.put(there),
+        None => drop(draft.take(alloc)),
+    }
+}
+
+/// Makes the key of a name and subscripts, in the place of what was there. Takes memory only where no key is there, its
+/// draft has to grow, or the key has over 38 bytes.
+///
+/// Refusals: the first that `vorgushan_key_name`, and then `vorgushan_key_subscript` for one subscript after the other,
+/// would tell; `OutOfMemory`: then what was there is there still. Where that was no key, no draft is left either.
+#[unsafe(no_mangle)]
+pub extern "C" fn vorgushan_key_spell(
+    alloc: Global,
+    key: &mut VgKey,
+    draft: &mut VgDraft,
+    name: &[u8],
+    subscripts: &[LentText<'_>],
+) -> u32
+    ensures key { IsSpelledKey name.now (texts_of subscripts.now) key.old.inside key.new.inside result }
+    ensures draft { key.new.inside ≡ None → draft.new.inside ≡ None }
+{
+    let spelled = match spell_in(alloc, draft, name, subscripts) {
+        Ok(made) => replace_key(alloc, key, made),
+        Err(refusal) => Err(refusal),
+    };
+    match spelled {
+        Ok(()) => Outcome::Done.number(),
+        Err(refusal) => {
+            end_lone_draft(alloc, key, draft);
+            Outcome::Refused(refusal).number()
+        }
+    }
+}
+
+/// Ends a draft, where one is there: its memory is given back.
+#[unsafe(no_mangle)]
+pub extern "C" fn vorgushan_draft_end(alloc: Global, draft: &mut VgDraft)
+    ensures { draft.new.inside ≡ None }
+{
+    drop(draft.take(alloc));
 }
 
 /// Ends a key: its memory is given back, and none is there.

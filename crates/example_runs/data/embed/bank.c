@@ -38,14 +38,15 @@ static void transfer(vg_engine *engine) {
     run(engine, "1 TCOMMIT");
 }
 
-/* The same database by keys, which are made once: a value with a byte 0 comes back whole. */
+/* The same database by keys: a value with a byte 0 comes back whole. A key that can't be spelled stays as it was. */
 static void use_keys(vg_engine *engine) {
+    const vg_text at[] = {{"cy", 2}, {"", 0}};
     char value[8];
     size_t length = 0;
     vg_key key = VG_KEY_NONE;
     name(vg_key_name(&key, "5", 1));
-    vg_key_name(&key, "Account", 7);
-    vg_key_subscript(&key, "cy", 2);
+    name(vg_key_spell(&key, "Account", 7, at, 1));
+    name(vg_key_spell(&key, "Account", 7, at, 2));
     name(vg_set(engine, 3, &key, "7\0" "7", 3));
     name(vg_get(engine, 3, &key, value, sizeof value, &length));
     printf("%zu bytes, the second is %d\n", length, value[1]);
