@@ -40,7 +40,15 @@ fn time_tree(count: u64, rising: bool) {
         passed = passed.wrapping_mul(31).wrapping_add(*value);
     }
     eprintln!("walk: {} ms", start.elapsed().as_millis());
-    println!("{found} {passed}");
+    let start = Instant::now();
+    let mut taken: u64 = 0;
+    for step in 0..count {
+        if let Some(value) = tree.remove(&key_of(shuffled(step, count))) {
+            taken = taken.wrapping_mul(31).wrapping_add(value);
+        }
+    }
+    eprintln!("removals: {} ms", start.elapsed().as_millis());
+    println!("{found} {passed} {taken} {}", tree.len());
 }
 
 fn main() {

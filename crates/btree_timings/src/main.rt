@@ -1,4 +1,4 @@
-//! Times of the B+tree: inserts of rising and of shuffled keys, look-ups and walks. Standard output has checksums
+//! Times of the B+tree: inserts of rising and of shuffled keys, look-ups, walks and removals. Standard output has checksums
 //! alone, which another program with the same keys must print too; times go to standard error.
 //!
 //! The argument is how many keys there are. A key has 12 to 38 bytes: a number in ten digits, and as many bytes more as
@@ -71,19 +71,31 @@ fn walk(tree: &Tree<Key, u64>) -> u64 {
     sum
 }
 
+// Takes all keys out one by one in shuffled order: the sum of their values.
+fn take_out(tree: &mut Tree<Key, u64>, count: u64) -> u64 {
+    let mut sum: u64 = 0;
+    for step in 0..count {
+        let key = key_of(shuffled(step, count));
+        if let Ok(Some(value)) = tree.remove(&key) {
+            sum = sum.wrapping_mul(31).wrapping_add(value);
+        }
+    }
+    sum
+}
+
 fn tell(rt: &HostRuntime, what: &str, start: Instant) -> io::Result<()> {
     let millis = start.elapsed(rt)?.as_millis();
     eprintln!(rt; "{what}: {millis} ms")
 }
 
-fn time_reads(rt: &HostRuntime, tree: &Tree<Key, u64>, count: u64) -> io::Result<()> {
+fn time_reads(rt: &HostRuntime, tree: &Tree<Key, u64>, count: u64) -> io::Result<(u64, u64)> {
     let start = Instant::now(rt)?;
     let found = look_up(tree, count);
     tell(rt, "look-ups", start)?;
     let start = Instant::now(rt)?;
     let passed = walk(tree);
     tell(rt, "walk", start)?;
-    println!(rt; "{found} {passed}")
+    Ok((found, passed))
 }
 
 fn time_tree(rt: &HostRuntime, count: u64, rising: bool) -> io::Result<()> {
@@ -93,7 +105,11 @@ fn time_tree(rt: &HostRuntime, count: u64, rising: bool) -> io::Result<()> {
         return eprintln!(rt; "no memory");
     };
     tell(rt, "inserts", start)?;
-    time_reads(rt, &tree, count)
+    let (found, passed) = time_reads(rt, &tree, count)?;
+    let start = Instant::now(rt)?;
+    let taken = take_out(&mut tree, count);
+    tell(rt, "removals", start)?;
+    println!(rt; "{found} {passed} {taken} {}", tree.len())
 }
 
 // How many keys there are: the first argument, or 1,000.
