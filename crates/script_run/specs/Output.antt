@@ -30,7 +30,7 @@ Answer = List ℕ × Reply
 abbrev pub asked_by : List ℕ → Result (ℕ × Command) Refusal
 asked_by line = reading_of line
 
--- a line that asks nothing gets its refusal, or that of memory; another gets a reply of the machine, or that of memory where the line couldn't be read
+-- a line that asks nothing gets its refusal, or that of memory; another gets a reply of the machine, or that of memory
 abbrev pub IsAnswer : Machine → Result (ℕ × Command) Refusal → Reply → Type 0
 IsAnswer s (Ok step) reply = IsReply step.0 step.1 reply s ⊎ (reply ≡ Refused OutOfMemory)
 IsAnswer s (Err refusal) reply = (reply ≡ Refused refusal) ⊎ (reply ≡ Refused OutOfMemory)
