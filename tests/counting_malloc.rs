@@ -1,6 +1,7 @@
-//! C's allocation, counted. Before each write to standard output it reports on standard error how many bytes are allocated
-//! apart from the largest block. To be preloaded, into a program of one thread.
-use std::ffi::c_void;
+//! C's allocation, counted. Before each write to standard output it reports on standard error how many bytes are
+//! allocated apart from the largest block; where `WHOLE` is set, the most of all blocks since the last write. To be
+//! preloaded, into a program of one thread.
+use std::ffi::{c_char, c_void};
 use std::sync::atomic::{AtomicUsize, Ordering::Relaxed};
 
 extern "C" {
@@ -10,13 +11,15 @@ extern "C" {
     fn __libc_free(old: *mut c_void);
     fn malloc_usable_size(block: *mut c_void) -> usize;
     fn __write(file: i32, bytes: *const u8, count: usize) -> isize;
+    fn getenv(name: *const c_char) -> *const c_char;
 }
 
 /// Only blocks of at least this many bytes may be the largest.
 const LARGE: usize = 65_536;
 
-/// The bytes of all blocks, and the sizes of the large ones, 0 where a place is free.
+/// The bytes of all blocks, the most since the last write, and the sizes of the large ones, 0 where a place is free.
 static LIVE: AtomicUsize = AtomicUsize::new(0);
+static MOST: AtomicUsize = AtomicUsize::new(0);
 static SIZES: [AtomicUsize; 64] = [const { AtomicUsize::new(0) }; 64];
 
 /// A place that has this size gets another.
@@ -27,7 +30,7 @@ fn exchange(old: usize, new: usize) {
 
 fn count(block: *mut c_void) -> *mut c_void {
     let size = unsafe { malloc_usable_size(block) };
-    LIVE.fetch_add(size, Relaxed);
+    MOST.fetch_max(LIVE.fetch_add(size, Relaxed) + size, Relaxed);
     if size >= LARGE {
         exchange(0, size);
     }
@@ -81,8 +84,9 @@ fn tell(mut number: usize) {
 #[no_mangle]
 pub unsafe extern "C" fn write(file: i32, bytes: *const u8, count: usize) -> isize {
     if file == 1 {
-        let largest = SIZES.iter().map(|size| size.load(Relaxed)).max().unwrap_or(0);
-        tell(LIVE.load(Relaxed) - largest);
+        let (live, largest) = (LIVE.load(Relaxed), SIZES.iter().map(|size| size.load(Relaxed)).max().unwrap_or(0));
+        let most = MOST.swap(live, Relaxed);
+        tell(if getenv(c"WHOLE".as_ptr()).is_null() { live - largest } else { most });
     }
     __write(file, bytes, count)
 }
