@@ -10,6 +10,4 @@ pub mod Changes
 pub mod Nearest
 pub mod Levels
 pub mod Answers
-pub mod Locks
-pub mod LockStatements
 pub mod laws

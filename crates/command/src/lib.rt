@@ -5,7 +5,7 @@
 //! what a LOCK asks for lies in a tree by subscripts.
 //!
 //! What a data command means stands in `specs/Data.antt`: why it is refused on a database, what it is answered, what it
-//! leaves. What a LOCK means stands in `specs/Locks.antt` of `collation`.
+//! leaves. What a LOCK means stands in `specs/Locks.antt` of `lock_name`.
 //!
 //! Read `access.rt`, `specs/Data.antt`, then `request.rt`.
 #![tactic(auto)]

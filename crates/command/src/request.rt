@@ -1,6 +1,6 @@
 //! What a job asks, and what it is answered.
 use crate::{Answer, DataCommand};
-use collation::LockCommand;
+use lock_name::LockCommand;
 use refusal::Refusal;
 
 /// What a job asks.

@@ -6,7 +6,7 @@ use Rattle.std.specs.FinMap as finmap
 use Rattle.std.proofs.lemmas.List.{length-drop, take_all}
 use Rattle.collation.specs.Reference.{Reference}
 use Rattle.collation.specs.Database.{Database}
-use Rattle.collation.specs.Locks.{LockState}
+use Rattle.lock_name.specs.Locks.{LockState}
 use Rattle.journal.specs.declared.unit.Unit.{Unit as JournalUnit}
 use Rattle.journal.specs.Adopted.{adopted_units}
 use Rattle.journal.specs.Checkpoints.{IsBehind}

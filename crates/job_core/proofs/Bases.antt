@@ -4,7 +4,7 @@ use Rattle.std.specs.Prelude.{not, min, max, filter, Option, Some, None, IfSome,
 use Rattle.std.specs.Ordering.{nat_cmp}
 use Rattle.std.specs.FinMap as finmap
 use Rattle.collation.specs.Reference.{Reference}
-use Rattle.collation.specs.Locks.{LockState}
+use Rattle.lock_name.specs.Locks.{LockState}
 use Rattle.command.specs.declared.request.Command.{Command}
 use Rattle.command.specs.declared.request.Reply.{Reply}
 use Rattle.globals.specs.declared.cut.Cut.TheVariants.{Start}

@@ -3,8 +3,8 @@ use Rattle.std.proofs.Common.{◌≡◌, ◌≢◌, ◌⊎◌, inl, inr, ℕ, ze
 use Rattle.std.specs.Prelude.{Option, Some, None, Result, Ok, Err, IfSome, IsSome, nat_lt, ◌^◌, min}
 use Rattle.refusal.specs.declared.Refusal.{Refusal}
 use Rattle.collation.specs.Limits.{most_levels}
-use Rattle.collation.specs.declared.lock.LockCommand.{LockCommand}
-use Rattle.collation.specs.declared.lock.LockCommand.TheVariants.{Release, Only, More, Fewer}
+use Rattle.lock_name.specs.declared.lock.LockCommand.{LockCommand}
+use Rattle.lock_name.specs.declared.lock.LockCommand.TheVariants.{Release, Only, More, Fewer}
 use Rattle.command.specs.declared.access.DataCommand.{DataCommand}
 use Rattle.command.specs.declared.access.Answer.{Answer}
 use Rattle.command.specs.declared.access.Answer.TheVariants.{Done}

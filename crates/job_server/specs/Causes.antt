@@ -5,8 +5,8 @@ use Rattle.refusal.specs.declared.Refusal.{Refusal}
 use Rattle.refusal.specs.declared.Refusal.TheVariants.{BadJob, NoTransaction, LevelTooDeep, TransactionTooLong, OutOfMemory, StampsUsedUp}
 use Rattle.collation.specs.Limits.{most_commands, most_levels}
 use Rattle.collation.specs.Database.{Database}
-use Rattle.collation.specs.declared.lock.LockCommand.{LockCommand}
-use Rattle.collation.specs.Locks.{LockState, lock_refusal}
+use Rattle.lock_name.specs.declared.lock.LockCommand.{LockCommand}
+use Rattle.lock_name.specs.Locks.{LockState, lock_refusal}
 use Rattle.command.specs.declared.access.DataCommand.{DataCommand}
 use Rattle.command.specs.declared.access.Answer.{Answer}
 use Rattle.command.specs.declared.request.Command.{Command}

@@ -6,8 +6,9 @@ ghost use Rattle.shared_engine.specs.Blocks.{said};
 ghost use Rattle.job_server.specs.Telling.{Follows, HasLocked, names_some as has_some};
 
 use crate::replies::{answered, at_level, ended, finished, locked, restarted, written};
-use collation::{Job, LockCommand};
+use collation::Job;
 use command::{Answer, Command, DataCommand, Look, Reply};
+use lock_name::LockCommand;
 use pin_board::BoardName;
 use refusal::Refusal;
 use shared_engine::{Gate, Session, Shared};

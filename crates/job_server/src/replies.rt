@@ -5,8 +5,8 @@ ghost use Rattle.serial.specs.Machine.{told_had};
 ghost use Rattle.shared_engine.specs.Blocks.{said};
 ghost use Rattle.job_server.specs.Replying.{written_as, ended_as};
 
-use collation::LockCommand;
 use command::{Answer, Reply};
+use lock_name::LockCommand;
 use refusal::Refusal;
 use shared_engine::Ended;
 

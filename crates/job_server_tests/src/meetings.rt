@@ -1,11 +1,12 @@
 //! Jobs that meet: each would fail if jobs were done one after the other.
 use crate::gates::Counts;
-use collation::{Job, LockCommand};
+use collation::Job;
 use job_scripts::scripts_of;
 use job_server::{run_jobs, serve};
 use journal::{Journal, Unit};
 use listing::Counted;
 use loading::NoLog;
+use lock_name::LockCommand;
 use shared_engine::Gate;
 use std::alloc::{AllocError, Global};
 use std::rt::Clock;

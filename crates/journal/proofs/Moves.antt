@@ -10,7 +10,7 @@ use Rattle.std.proofs.lemmas.List.Elements.{filter-append}
 use Rattle.std.proofs.lemmas.Bool.Decides.{eqb_tells}
 use Rattle.std.proofs.Math.Seq.{take-append-add}
 use Rattle.collation.specs.Reference.{Reference}
-use Rattle.collation.specs.Locks.{LockState}
+use Rattle.lock_name.specs.Locks.{LockState}
 use Rattle.collation.specs.Order.{ref_cmp}
 use Rattle.collation.specs.laws.Order.{is_equal}
 use Rattle.collation.specs.laws.Entries.{true_of}

@@ -5,7 +5,7 @@ use Rattle.std.specs.FinMap.{code}
 use Rattle.std.specs.Coded.{Coded, code_by, coded×, coded_ℕ}
 use Rattle.collation.specs.Reference.{Reference}
 use Rattle.collation.specs.Database.{Database, database_code}
-use Rattle.collation.specs.Locks.{LockState, locks_after, locks_after_commit, locks_after_back, locks_after_end}
+use Rattle.lock_name.specs.Locks.{LockState, locks_after, locks_after_commit, locks_after_back, locks_after_end}
 use Rattle.lock_table.specs.Codes.{lock_state_code}
 use Rattle.journal.specs.declared.unit.Unit.{Unit as JournalUnit}
 use Rattle.journal.specs.declared.unit.Unit.TheVariants.{Lone, Whole, Lock, Back, End}

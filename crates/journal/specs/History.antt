@@ -5,7 +5,7 @@ use Rattle.command.specs.declared.access.DataCommand.{DataCommand}
 use Rattle.command.specs.declared.access.Answer.{Answer}
 use Rattle.collation.specs.Database.{Database}
 use Rattle.command.specs.Data.{data_refusal, data_reply, data_after}
-use Rattle.collation.specs.Locks.{LockState, lock_refusal, lock_reply, locks_after, locks_after_commit, locks_after_back, locks_after_end}
+use Rattle.lock_name.specs.Locks.{LockState, lock_refusal, lock_reply, locks_after, locks_after_commit, locks_after_back, locks_after_end}
 use Rattle.journal.specs.declared.unit.Exchange.{Exchange}
 use Rattle.journal.specs.declared.unit.Unit.{Unit as JournalUnit}
 use Rattle.journal.specs.declared.unit.Unit.TheVariants.{Lone, Whole, Lock, Back, End}

@@ -14,8 +14,8 @@ use Rattle.command.specs.declared.access.Look.{Look as LookCommand}
 use Rattle.command.specs.declared.access.Look.TheVariants.{Data, Get, Order, Query}
 use Rattle.command.specs.declared.access.Answer.{Answer}
 use Rattle.command.specs.declared.access.Answer.TheVariants.{Done, Value, Number, Found}
-use Rattle.collation.specs.declared.lock.LockCommand.{LockCommand}
-use Rattle.collation.specs.declared.lock.LockCommand.TheVariants.{Release, Only, More, Fewer}
+use Rattle.lock_name.specs.declared.lock.LockCommand.{LockCommand}
+use Rattle.lock_name.specs.declared.lock.LockCommand.TheVariants.{Release, Only, More, Fewer}
 use Rattle.collation.specs.Reference.{Reference, Resource}
 use Rattle.collation.specs.Name.{is_name}
 use Rattle.collation.specs.Faults.{reference_fault}

@@ -7,8 +7,8 @@ use Rattle.command.specs.declared.access.Look.TheVariants.{Data, Get, Order, Que
 use Rattle.command.specs.declared.access.Answer.{Answer}
 use Rattle.command.specs.declared.access.Answer.TheVariants.{Done, Value, Number, Found}
 use Rattle.collation.specs.Limits.{most_jobs}
-use Rattle.collation.specs.declared.lock.LockCommand.{LockCommand}
-use Rattle.collation.specs.declared.lock.LockCommand.TheVariants.{Release, Only, More, Fewer}
+use Rattle.lock_name.specs.declared.lock.LockCommand.{LockCommand}
+use Rattle.lock_name.specs.declared.lock.LockCommand.TheVariants.{Release, Only, More, Fewer}
 use Rattle.collation.specs.Reference.{Reference, Resource}
 use Rattle.key_codec.specs.Key.{key_of, IsFaultless}
 use Rattle.journal.specs.declared.unit.Exchange.{Exchange}

@@ -3,8 +3,8 @@ ghost use Rattle.std.specs.Prelude.{◌≡◌, ◌<◌, ◌≤◌, ℕ, Bool, Li
 ghost use Rattle.std.specs.List.{flat_map};
 ghost use Rattle.std.specs.FinMap as finmap;
 ghost use Rattle.collation.specs.Reference.{Reference};
-ghost use Rattle.collation.specs.declared.lock.LockCommand.{LockCommand};
-ghost use Rattle.collation.specs.Locks.{lock_refusal, lock_reply, locks_after, locks_after_commit, locks_after_back, locks_after_end};
+ghost use Rattle.lock_name.specs.declared.lock.LockCommand.{LockCommand};
+ghost use Rattle.lock_name.specs.Locks.{lock_refusal, lock_reply, locks_after, locks_after_commit, locks_after_back, locks_after_end};
 ghost use Rattle.command.specs.declared.access.DataCommand.{DataCommand};
 ghost use Rattle.command.specs.declared.access.Answer.{Answer};
 ghost use Rattle.command.specs.Data.{data_refusal, data_reply, data_after};

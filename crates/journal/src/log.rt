@@ -11,8 +11,9 @@ use crate::exchanges::ExchangeLog;
 use crate::read::{Unread, read_unit};
 use crate::write::{push_back, push_end, push_lock, push_lone, push_whole};
 use crate::{Unit, Units};
-use collation::{Job, LockCommand};
+use collation::Job;
 use command::{Answer, DataCommand};
+use lock_name::LockCommand;
 use std::alloc::{AllocError, Global};
 use std::marker::Model;
 

@@ -4,9 +4,10 @@ ghost use Rattle.std.specs.Int.{w16, w64};
 ghost use Rattle.journal.specs.Reading as reading;
 
 use crate::unit::{Exchange, Exchanges, Unit};
-use collation::{Direction, Job, LockCommand, LockName, LockNames, Ref, Text};
+use collation::{Direction, Job, Ref, Text};
 use command::{Answer, DataCommand, Look};
 use key_codec::{Key, Place, decode};
+use lock_name::{LockCommand, LockName, LockNames};
 use smallvec::SmallVec;
 use std::alloc::{AllocError, Global};
 

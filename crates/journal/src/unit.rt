@@ -2,8 +2,9 @@
 ghost use Rattle.std.specs.Prelude.{◌≡◌};
 ghost use Rattle.journal.specs.Kept.{job_of};
 
-use collation::{Job, LockCommand};
+use collation::Job;
 use command::{Answer, DataCommand};
+use lock_name::LockCommand;
 use std::marker::Model;
 
 /// A data command that was accepted, and its answer.

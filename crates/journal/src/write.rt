@@ -8,9 +8,10 @@ ghost use Rattle.journal.specs.declared.unit.Unit.TheVariants.{Lone, Whole, Lock
 ghost use Rattle.journal.specs.Stored.{FitsUnit, FitsString, FitsReference, FitsName, FitNames, FitsLook, FitsCommand, FitsAnswer, FitsLock, Each};
 
 use crate::exchanges::ExchangeLog;
-use collation::{Direction, Job, LockCommand, LockName, LockNames};
+use collation::{Direction, Job};
 use command::{Answer, DataCommand, Look};
 use key_codec::{Key, Place};
+use lock_name::{LockCommand, LockName, LockNames};
 use std::alloc::AllocError;
 
 // Makes room for so many bytes more, where there is too little: twice the memory, or where that is refused as much as is needed.

@@ -5,8 +5,8 @@ use Rattle.collation.specs.Bytes as byte
 use Rattle.collation.specs.Reference.{Reference, Spot, Resource}
 use Rattle.collation.specs.declared.direction.Direction.{Direction}
 use Rattle.collation.specs.declared.direction.Direction.TheVariants.{Forward, Backward}
-use Rattle.collation.specs.declared.lock.LockCommand.{LockCommand}
-use Rattle.collation.specs.declared.lock.LockCommand.TheVariants.{Release, Only, More, Fewer}
+use Rattle.lock_name.specs.declared.lock.LockCommand.{LockCommand}
+use Rattle.lock_name.specs.declared.lock.LockCommand.TheVariants.{Release, Only, More, Fewer}
 use Rattle.command.specs.declared.access.DataCommand.{DataCommand}
 use Rattle.command.specs.declared.access.DataCommand.TheVariants.{Set, Kill, Merge, Look}
 use Rattle.command.specs.declared.access.Look.{Look as LookCommand}

@@ -6,8 +6,9 @@ ghost use Rattle.journal_lines.specs.Journals as lines;
 
 use crate::pending::{Pending, drop_pending, push_beginning, push_opening, push_pending};
 use crate::step::{push_access, push_lock, push_word};
-use collation::{Job, LockCommand};
+use collation::Job;
 use journal::{Exchange, Unit};
+use lock_name::LockCommand;
 use std::alloc::AllocError;
 
 fn push_exchanges(job: Job, exchanges: &[Exchange], out: &mut Vec<u8>) -> Result<(), AllocError>

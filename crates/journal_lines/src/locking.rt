@@ -6,7 +6,8 @@ ghost use Rattle.key_codec.specs.Grown.{GoesOnFrom};
 ghost use Rattle.m_text.specs.Written.{parted, literal_text, subscripts_text};
 ghost use Rattle.journal_lines.specs.Steps as steps;
 
-use collation::{LockCommand, LockName, LockNames, Ref, Text};
+use collation::{Ref, Text};
+use lock_name::{LockCommand, LockName, LockNames};
 use m_text::write_literal;
 use std::alloc::AllocError;
 

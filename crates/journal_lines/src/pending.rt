@@ -4,7 +4,8 @@ ghost use Rattle.std.specs.List.{flat_map};
 ghost use Rattle.journal_lines.specs.Journals as lines;
 
 use crate::step::{push_lock, push_word};
-use collation::{Job, LockCommand};
+use collation::Job;
+use lock_name::LockCommand;
 use std::alloc::AllocError;
 use std::marker::Model;
 
@@ -17,7 +18,7 @@ pub(crate) struct Pending {
 
 impl Model for Pending {
     ghost use Rattle.std.specs.Prelude.{ℕ, Option};
-    ghost use Rattle.collation.specs.declared.lock.LockCommand.{LockCommand};
+    ghost use Rattle.lock_name.specs.declared.lock.LockCommand.{LockCommand};
 
     ghost Value = { ℕ × Option LockCommand };
 

@@ -8,9 +8,10 @@ ghost use Rattle.journal_lines.specs.Journals.{step_line};
 
 use crate::access::write_access;
 use crate::locking::write_lock;
-use collation::{Job, LockCommand};
+use collation::Job;
 use command::{Command, DataCommand};
 use itoa::Buffer;
+use lock_name::LockCommand;
 use std::alloc::AllocError;
 
 // The job and a blank.

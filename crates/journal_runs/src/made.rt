@@ -2,10 +2,11 @@
 ghost use Rattle.std.specs.Prelude.{OnOk, IsSome};
 
 use crate::lines::{push_access, push_lock, push_reference};
-use collation::{Job, LockCommand, Text};
+use collation::{Job, Text};
 use command::{Answer, Command, DataCommand};
 use journal::{ExchangeLog, Journal};
 use key_codec::{Key, KeyDraft};
+use lock_name::LockCommand;
 use m_text::read_reference;
 use refusal::Refusal;
 use script::{Drafts, read_line};

@@ -1,8 +1,8 @@
 //! The units that are had back, beside those that were made.
 use crate::made::{access_of, answer_of, job_of, lock_of};
-use collation::LockCommand;
 use command::{Answer, DataCommand};
 use journal::{Exchange, Unit};
+use lock_name::LockCommand;
 use refusal::Refusal;
 use std::alloc::{AllocError, Global};
 

@@ -4,9 +4,9 @@ use Rattle.std.specs.Prelude.{cond, filter, ◌-◌, min}
 use Rattle.std.specs.Ordering.{eq_by_cmp}
 use Rattle.std.specs.FinMap as finmap
 use Rattle.collation.specs.Reference.{Resource}
-use Rattle.collation.specs.Locks.{resource_cmp, Counts, count_of, more_of, fewer_of}
-use Rattle.collation.specs.LockStatements.{times}
-use Rattle.collation.specs.laws.Counting.{counts_tell}
+use Rattle.lock_name.specs.Locks.{resource_cmp, Counts, count_of, more_of, fewer_of}
+use Rattle.lock_name.specs.LockStatements.{times}
+use Rattle.lock_name.specs.laws.Counting.{counts_tell}
 use Rattle.lock_trie.specs.Held.{Held, held_count}
 use Rattle.lock_table.specs.Counted.{AreCounts, AreLowered, is_listed}
 use Rattle.lock_table.specs.Rows.{IsHeldIn}

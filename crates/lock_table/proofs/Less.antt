@@ -4,10 +4,10 @@ use Rattle.std.specs.Prelude.{◌-◌, cond, filter, min, Some, unwrap_or}
 use Rattle.std.specs.Ordering.{eq_by_cmp}
 use Rattle.std.specs.FinMap as finmap
 use Rattle.collation.specs.Reference.{Resource}
-use Rattle.collation.specs.Locks.{resource_cmp, Counts, count_of, one_fewer, HasNoZeros}
-use Rattle.collation.specs.LockStatements.{times}
-use Rattle.collation.specs.laws.Counting.{count_insert, count_remove, counts_tell, same_resource}
-use Rattle.collation.specs.laws.Zeros.{none_insert, none_remove, same_counts}
+use Rattle.lock_name.specs.Locks.{resource_cmp, Counts, count_of, one_fewer, HasNoZeros}
+use Rattle.lock_name.specs.LockStatements.{times}
+use Rattle.lock_name.specs.laws.Counting.{count_insert, count_remove, counts_tell, same_resource}
+use Rattle.lock_name.specs.laws.Zeros.{none_insert, none_remove, same_counts}
 use Rattle.lock_table.specs.Counted.{AreRaised, is_listed, put_count, taken_from, less}
 use Rattle.lock_table.proofs.Lists.{unnamed_times}
 

@@ -8,9 +8,9 @@ use Rattle.std.proofs.lemmas.Bool.{or_left, or_right, lt-ltb, ltb-true}
 use Rattle.std.proofs.Math.Seq.{drop-cons}
 use Rattle.std.proofs.Math.ListN.{get_or}
 use Rattle.collation.specs.Reference.{Resource}
-use Rattle.collation.specs.Locks.{resource_cmp, Counts, count_of, more_of}
-use Rattle.collation.specs.LockStatements.{times}
-use Rattle.collation.specs.laws.Counting.{resource_cmp_total, same_resource, counts_tell}
+use Rattle.lock_name.specs.Locks.{resource_cmp, Counts, count_of, more_of}
+use Rattle.lock_name.specs.LockStatements.{times}
+use Rattle.lock_name.specs.laws.Counting.{resource_cmp_total, same_resource, counts_tell}
 use Rattle.lock_table.specs.Counted.{is_over, is_listed}
 
 pub once_itself : (n : Resource) (ns : List Resource) → 1 ≤ times n (n ∷ ns)

@@ -10,10 +10,10 @@ use Rattle.std.specs.FinMap as finmap
 use Rattle.std.proofs.Math.Seq.{drop-cons}
 use Rattle.std.proofs.Math.ListN.{get_or}
 use Rattle.collation.specs.Reference.{Resource}
-use Rattle.collation.specs.Locks.{resource_cmp, Counts, count_of}
-use Rattle.collation.specs.LockStatements.{times}
-use Rattle.collation.specs.laws.Counting.{resource_cmp_total, resource_cmp-IsAntisymmetric, same_resource}
-use Rattle.collation.specs.laws.Zeros.{times_parted}
+use Rattle.lock_name.specs.Locks.{resource_cmp, Counts, count_of}
+use Rattle.lock_name.specs.LockStatements.{times}
+use Rattle.lock_name.specs.laws.Counting.{resource_cmp_total, resource_cmp-IsAntisymmetric, same_resource}
+use Rattle.lock_name.specs.laws.Zeros.{times_parted}
 use Rattle.lock_trie.specs.laws.Conflicts.{left_first, entry_counted, AreThere}
 use Rattle.lock_table.specs.Counted.{AreRaised, AreLowered, is_listed}
 use Rattle.lock_table.proofs.Lists.{once_itself}

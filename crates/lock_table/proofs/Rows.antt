@@ -4,10 +4,10 @@ use Rattle.std.specs.Prelude.{◌-◌, cond, max, min, Option, Some, None, is_so
 use Rattle.std.specs.List.{list_any}
 use Rattle.std.specs.FinMap as finmap
 use Rattle.collation.specs.Reference.{Resource}
-use Rattle.collation.specs.Locks.{Counts, count_of, more_of, fewer_of, greater, JobLocks, job_wants, job_commits, HasNoZeros}
-use Rattle.collation.specs.LockStatements.{times}
-use Rattle.collation.specs.laws.Counting.{counts_tell}
-use Rattle.collation.specs.laws.Zeros.{none_empty, none_greater, none_more, none_fewer, same_counts, all_taken_back}
+use Rattle.lock_name.specs.Locks.{Counts, count_of, more_of, fewer_of, greater, JobLocks, job_wants, job_commits, HasNoZeros}
+use Rattle.lock_name.specs.LockStatements.{times}
+use Rattle.lock_name.specs.laws.Counting.{counts_tell}
+use Rattle.lock_name.specs.laws.Zeros.{none_empty, none_greater, none_more, none_fewer, same_counts, all_taken_back}
 use Rattle.lock_table.specs.Counted.{less, is_over}
 use Rattle.lock_table.specs.Rows.{AreWithin, locks_in, enters, is_full_by}
 use Rattle.lock_table.specs.declared.row.Form.{Form}

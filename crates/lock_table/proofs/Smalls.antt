@@ -7,9 +7,9 @@ use Rattle.std.specs.Map.{lookup}
 use Rattle.std.specs.BTreeMap.{is_at}
 use Rattle.std.specs.FinMap as finmap
 use Rattle.collation.specs.Reference.{Resource}
-use Rattle.collation.specs.Locks.{resource_cmp, Counts, count_of}
-use Rattle.collation.specs.laws.Counting.{resource_cmp_total, resource_cmp-IsAntisymmetric, count_insert, count_remove, same_resource}
-use Rattle.collation.specs.laws.Zeros.{none_empty, none_insert, none_remove}
+use Rattle.lock_name.specs.Locks.{resource_cmp, Counts, count_of}
+use Rattle.lock_name.specs.laws.Counting.{resource_cmp_total, resource_cmp-IsAntisymmetric, count_insert, count_remove, same_resource}
+use Rattle.lock_name.specs.laws.Zeros.{none_empty, none_insert, none_remove}
 use Rattle.lock_table.specs.Counted.{AreCounts}
 use Rattle.lock_table.proofs.Moving.{RaisedOne, LoweredOne}
 use Rattle.lock_trie.specs.laws.Mapped.{seen, is_inserted, is_removed}

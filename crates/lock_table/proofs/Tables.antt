@@ -12,8 +12,8 @@ use Rattle.refusal.specs.declared.Refusal.{Refusal}
 use Rattle.refusal.specs.declared.Refusal.TheVariants.{LockCountFull, OutOfMemory}
 use Rattle.collation.specs.Reference.{Resource}
 use Rattle.collation.specs.laws.Order.{is_equal}
-use Rattle.collation.specs.Locks.{count_of, JobLocks, LockState, no_locks, locks_of, is_blocked, changed, job_wants}
-use Rattle.collation.specs.laws.Blocking.{blocked_tells}
+use Rattle.lock_name.specs.Locks.{count_of, JobLocks, LockState, no_locks, locks_of, is_blocked, changed, job_wants}
+use Rattle.lock_name.specs.laws.Blocking.{blocked_tells}
 use Rattle.lock_trie.specs.Held.{Held, held_count, IsHeldByAnother}
 use Rattle.lock_trie.specs.laws.Results.{if_err_onward}
 use Rattle.lock_trie.specs.laws.Mapped.{seen, is_inserted, is_removed}

@@ -6,8 +6,8 @@ use Rattle.std.specs.Cmp.{nat_cmp_total, tied_itself}
 use Rattle.std.specs.FinMap.{nat_cmp-IsAntisymmetric}
 use Rattle.collation.specs.Reference.{Resource}
 use Rattle.collation.specs.laws.Order.{is_equal}
-use Rattle.collation.specs.Locks.{resource_cmp}
-use Rattle.collation.specs.laws.Counting.{same_resource}
+use Rattle.lock_name.specs.Locks.{resource_cmp}
+use Rattle.lock_name.specs.laws.Counting.{same_resource}
 use Rattle.lock_trie.specs.Held.{Held, held_count, IsRecounted}
 use Rattle.lock_table.specs.Rows.{AreOthersSame}
 

@@ -2,8 +2,8 @@
 use Rattle.std.specs.Prelude.{Option, refl}
 use Rattle.std.specs.FinMap.{code}
 use Rattle.std.specs.Coded.{Coded, code_by, coded×, coded_ℕ, coded_option}
-use Rattle.collation.specs.Locks.{Counts, JobLocks, LockState}
-use Rattle.collation.specs.contracts.lock.LockName as n
+use Rattle.lock_name.specs.Locks.{Counts, JobLocks, LockState}
+use Rattle.lock_name.specs.contracts.lock.LockName as n
 
 abbrev pub counts_code : Coded Counts
 counts_code = code n.the_row.coded coded_ℕ

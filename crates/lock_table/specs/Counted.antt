@@ -5,7 +5,7 @@ use Rattle.std.specs.Ordering.{eq_by_cmp}
 use Rattle.std.specs.FinMap as finmap
 use Rattle.collation.specs.Limits.{most_locks}
 use Rattle.collation.specs.Reference.{Resource}
-use Rattle.collation.specs.Locks.{resource_cmp, Counts, count_of, more_of}
+use Rattle.lock_name.specs.Locks.{resource_cmp, Counts, count_of, more_of}
 
 -- no count is above 65,535, and a name that is had no time has no entry
 pub record AreCounts (counts : Counts) : Type 0 where

@@ -3,7 +3,7 @@ use Rattle.std.specs.Prelude.{◌≡◌, ◌≤◌, ℕ, Bool, false, List, Opti
 use Rattle.std.specs.List.{list_any}
 use Rattle.std.specs.FinMap as finmap
 use Rattle.collation.specs.Reference.{Resource}
-use Rattle.collation.specs.Locks.{Counts, count_of, more_of, fewer_of, JobLocks, job_wants}
+use Rattle.lock_name.specs.Locks.{Counts, count_of, more_of, fewer_of, JobLocks, job_wants}
 use Rattle.lock_trie.specs.Held.{Held, held_count}
 use Rattle.lock_table.specs.declared.inside.Inside.{Inside}
 use Rattle.lock_table.specs.declared.row.Form.{Form}

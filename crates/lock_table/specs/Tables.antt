@@ -1,7 +1,7 @@
 -- The trie beside the rows.
 use Rattle.std.specs.Prelude.{◌≡◌, ℕ}
 use Rattle.collation.specs.Reference.{Resource}
-use Rattle.collation.specs.Locks.{count_of, JobLocks, no_locks, LockState, locks_of}
+use Rattle.lock_name.specs.Locks.{count_of, JobLocks, no_locks, LockState, locks_of}
 use Rattle.lock_trie.specs.Held.{Held, held_count}
 
 -- the trie has of each job what its row holds

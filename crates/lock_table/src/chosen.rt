@@ -2,11 +2,11 @@
 ghost use Rattle.std.specs.Prelude.{if◌then◌else◌, ◌≡◌, ◌+◌, ◌-◌, ◌++◌, ◌∷◌, [], min, ℕ, suc, OnOk, IfOk};
 ghost use Rattle.std.specs.Ordering.{eq_by_cmp};
 ghost use Rattle.collation.specs.Reference.{Resource};
-ghost use Rattle.collation.specs.Locks.{resource_cmp, count_of};
-ghost use Rattle.collation.specs.LockStatements.{times};
+ghost use Rattle.lock_name.specs.Locks.{resource_cmp, count_of};
+ghost use Rattle.lock_name.specs.LockStatements.{times};
 
 use crate::counts::Counts;
-use collation::LockName;
+use lock_name::LockName;
 use std::alloc::{AllocError, Global};
 
 fn keep(kept: &mut Vec<LockName>, name: &LockName) -> Result<(), AllocError>

@@ -1,12 +1,13 @@
 //! LOCK as a command: what it replies, whether it is refused, and what it leaves.
 ghost use Rattle.std.specs.Prelude.{true, false, ◌⊎◌, ◌≡◌, None, Some, OnOk, OnErr, IfErr};
 ghost use Rattle.std.specs.List.{list_any};
-ghost use Rattle.collation.specs.Locks.{locks_of, lock_reply, lock_refusal, locks_after};
+ghost use Rattle.lock_name.specs.Locks.{locks_of, lock_reply, lock_refusal, locks_after};
 ghost use Rattle.lock_table.specs.Counted.{is_over};
 
 use crate::counts::Counts;
 use crate::table::LockTable;
-use collation::{Job, LockCommand, LockName};
+use collation::Job;
+use lock_name::{LockCommand, LockName};
 use refusal::Refusal;
 
 /// Whether these counts bear one more of each name; where they do, they have them.

@@ -5,14 +5,14 @@ ghost use Rattle.std.specs.FinMap as finmap;
 ghost use Rattle.collation.specs.Limits.{most_locks};
 ghost use Rattle.collation.specs.Reference.{Resource};
 ghost use Rattle.std.specs.Ordering.{eq_by_cmp};
-ghost use Rattle.collation.specs.Locks.{resource_cmp, count_of, one_fewer, more_of, fewer_of};
+ghost use Rattle.lock_name.specs.Locks.{resource_cmp, count_of, one_fewer, more_of, fewer_of};
 ghost use Rattle.lock_trie.specs.Held.{held_count};
 ghost use Rattle.lock_table.specs.Counted.{AreCounts, AreRaised, AreLowered, less, is_over, is_listed};
 ghost use Rattle.lock_table.specs.Rows.{IsHeldIn, AreOthersSame};
 
 use crate::inside::{Inside, wanted};
 use crate::moves::lower;
-use collation::LockName;
+use lock_name::LockName;
 use lock_trie::LockTrie;
 use refusal::Refusal;
 use std::alloc::{AllocError, Global};
@@ -33,7 +33,7 @@ impl Model for Counts {
     ghost use Rattle.std.specs.FinMap as finmap;
     ghost use Rattle.lock_table.specs.Codes.{counts_code};
     ghost use Rattle.lock_table.specs.Counted.{AreCounts};
-    ghost use Rattle.collation.specs.Locks as locks;
+    ghost use Rattle.lock_name.specs.Locks as locks;
 
     ghost Value = { locks.Counts };
 

@@ -4,15 +4,15 @@ ghost use Rattle.std.specs.List.{list_any};
 ghost use Rattle.std.specs.FinMap as finmap;
 ghost use Rattle.collation.specs.Limits.{most_locks};
 ghost use Rattle.collation.specs.Reference.{Resource};
-ghost use Rattle.collation.specs.Locks.{count_of, more_of, fewer_of, job_wants};
-ghost use Rattle.collation.specs.LockStatements.{times};
+ghost use Rattle.lock_name.specs.Locks.{count_of, more_of, fewer_of, job_wants};
+ghost use Rattle.lock_name.specs.LockStatements.{times};
 ghost use Rattle.lock_table.specs.Counted.{less, is_listed, is_over};
 ghost use Rattle.lock_table.specs.Rows.{AreWithin, inside_locks, IsInsideSame, IsHeldIn, AreOthersSame};
 
 use crate::chosen::{beyond, within};
 use crate::counts::Counts;
 use crate::moves::hold_more;
-use collation::LockName;
+use lock_name::LockName;
 use lock_trie::LockTrie;
 use refusal::Refusal;
 use std::alloc::{AllocError, Global};

@@ -1,6 +1,6 @@
 //! The lock table: which names each job wants, holds, and wanted when its transaction began.
 //!
-//! Callers see a `LockState` (`specs/Locks.antt` of `collation`): for each job its wanted counts, its held counts, which
+//! Callers see a `LockState` (`specs/Locks.antt` of `lock_name`): for each job its wanted counts, its held counts, which
 //! keep other jobs off, and, once it took a LOCK in its transaction, the counts that it wanted at its start.
 //!
 //! | Step | Wanted | Held | Start | Function |

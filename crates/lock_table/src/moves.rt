@@ -3,14 +3,14 @@ ghost use Rattle.std.specs.Prelude.{true, ◌⊎◌, if◌then◌else◌, ◌≡
 ghost use Rattle.std.specs.List.{list_any};
 ghost use Rattle.collation.specs.Limits.{most_locks};
 ghost use Rattle.collation.specs.Reference.{Resource};
-ghost use Rattle.collation.specs.Locks.{count_of, more_of, fewer_of};
-ghost use Rattle.collation.specs.LockStatements.{times};
+ghost use Rattle.lock_name.specs.Locks.{count_of, more_of, fewer_of};
+ghost use Rattle.lock_name.specs.LockStatements.{times};
 ghost use Rattle.lock_trie.specs.Held.{held_count, IsRecounted};
 ghost use Rattle.lock_table.specs.Counted.{less, is_over};
 ghost use Rattle.lock_table.specs.Rows.{IsHeldIn, AreOthersSame};
 
 use crate::counts::Counts;
-use collation::LockName;
+use lock_name::LockName;
 use lock_trie::LockTrie;
 use refusal::Refusal;
 use std::alloc::AllocError;

@@ -1,14 +1,14 @@
 //! One job's counts.
 ghost use Rattle.std.specs.Prelude.{true, false, ◌⊎◌, ◌≡◌, None, Some, OnOk, OnErr, IfErr, IfOk};
 ghost use Rattle.collation.specs.Reference.{Resource};
-ghost use Rattle.collation.specs.Locks.{count_of, no_locks, job_wants, job_commits, job_goes_back};
+ghost use Rattle.lock_name.specs.Locks.{count_of, no_locks, job_wants, job_commits, job_goes_back};
 ghost use Rattle.lock_table.specs.Counted.{is_listed, less};
 ghost use Rattle.lock_table.specs.Rows.{AreWithin, inside_locks, enters, want_by, is_full_by, IsHeldIn, IsInsideSame, IsKept, AreOthersSame};
 
 use crate::counts::Counts;
 use crate::inside::{Inside, fewer, more, only, wanted_among};
 use crate::moves::{give_back, hold_fewer, hold_more};
-use collation::LockName;
+use lock_name::LockName;
 use lock_trie::LockTrie;
 use refusal::Refusal;
 use std::alloc::{AllocError, Global};
@@ -65,7 +65,7 @@ pub struct Row {
 }
 
 impl Model for Row {
-    ghost use Rattle.collation.specs.Locks.{JobLocks};
+    ghost use Rattle.lock_name.specs.Locks.{JobLocks};
     ghost use Rattle.lock_table.specs.Codes.{job_locks_code};
     ghost use Rattle.lock_table.specs.Rows.{locks_in, IsWithin};
 

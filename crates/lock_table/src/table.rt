@@ -2,16 +2,17 @@
 ghost use Rattle.std.specs.Prelude.{true, false, ◌⊎◌, if◌then◌else◌, ◌≡◌, None, Some, is_some, OnOk, OnErr, IfErr, IfOk};
 ghost use Rattle.std.specs.List.{list_any};
 ghost use Rattle.std.specs.FinMap as finmap;
-ghost use Rattle.collation.specs.declared.lock.LockCommand.TheVariants.{Release, Only, More, Fewer};
+ghost use Rattle.lock_name.specs.declared.lock.LockCommand.TheVariants.{Release, Only, More, Fewer};
 ghost use Rattle.collation.specs.Reference.{Resource};
-ghost use Rattle.collation.specs.Locks.{no_locks, count_of, locks_of, changed, job_wants, is_blocked, lock_reply, lock_refusal, locks_after, locks_after_commit, locks_after_back, locks_after_end};
+ghost use Rattle.lock_name.specs.Locks.{no_locks, count_of, locks_of, changed, job_wants, is_blocked, lock_reply, lock_refusal, locks_after, locks_after_commit, locks_after_back, locks_after_end};
 ghost use Rattle.lock_table.specs.Counted.{is_listed};
 ghost use Rattle.lock_table.specs.Rows.{want_by, is_full_by};
 ghost use Rattle.lock_table.specs.Tables.{nothing};
 
 use crate::counts::Counts;
 use crate::row::{Form, Row};
-use collation::{Job, LockName, LockNames};
+use collation::Job;
+use lock_name::{LockName, LockNames};
 use lock_trie::LockTrie;
 use refusal::Refusal;
 use std::alloc::{AllocError, Global};
@@ -28,7 +29,7 @@ pub struct LockTable {
 
 impl Model for LockTable {
     ghost use Rattle.std.specs.FinMap as finmap;
-    ghost use Rattle.collation.specs.Locks.{LockState};
+    ghost use Rattle.lock_name.specs.Locks.{LockState};
     ghost use Rattle.lock_table.specs.Codes.{lock_state_code};
     ghost use Rattle.lock_table.specs.Tables.{RowsMatchTrie};
 

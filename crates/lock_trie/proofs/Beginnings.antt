@@ -6,8 +6,8 @@ use Rattle.std.specs.Ordering.{is_lt, is_eq}
 use Rattle.std.specs.FinMap as finmap
 use Rattle.std.specs.FinMap.{FinMap, is_sorted, from_sorted}
 use Rattle.collation.specs.Reference.{Resource}
-use Rattle.collation.specs.Locks.{resource_cmp}
-use Rattle.collation.specs.laws.Counting.{resource_cmp_total, resource_cmp-IsAntisymmetric}
+use Rattle.lock_name.specs.Locks.{resource_cmp}
+use Rattle.lock_name.specs.laws.Counting.{resource_cmp_total, resource_cmp-IsAntisymmetric}
 use Rattle.lock_trie.proofs.Pairs.{map_get}
 use Rattle.lock_trie.proofs.Nearest.{at_key, found_first}
 

@@ -11,10 +11,10 @@ use Rattle.std.specs.FinMap.Entries.{below_all}
 use Rattle.std.proofs.lemmas.Bool.{and_from, or_left, or_right, ltb-true, ltb-false}
 use Rattle.collation.specs.Reference.{Resource}
 use Rattle.collation.specs.Database.{is_under}
-use Rattle.collation.specs.Locks.{resource_cmp}
+use Rattle.lock_name.specs.Locks.{resource_cmp}
 use Rattle.collation.specs.laws.Order.{is_less}
 use Rattle.collation.specs.laws.Entries.{true_of, either, some_entry_of, entry_of}
-use Rattle.collation.specs.laws.Counting.{resource_cmp_total, resource_cmp-IsAntisymmetric}
+use Rattle.lock_name.specs.laws.Counting.{resource_cmp_total, resource_cmp-IsAntisymmetric}
 use Rattle.lock_trie.specs.Names.{beginning, is_at_or_under, is_above, IsWithinReach}
 use Rattle.lock_trie.specs.Holders.{has_other, counted}
 use Rattle.lock_trie.specs.Held.{Held, holders_of, held_count, IsHeldByAnother, IsHeldWhere, AreHeld, HasNoShorter}

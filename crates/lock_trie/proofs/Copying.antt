@@ -8,8 +8,8 @@ use Rattle.std.specs.FinMap as finmap
 use Rattle.std.specs.FinMap.{FinMap, is_sorted, find, same_map, get-insert, get-empty, get-entries}
 use Rattle.std.specs.FinMap.Entries.{below_all}
 use Rattle.collation.specs.Reference.{Resource}
-use Rattle.collation.specs.Locks.{resource_cmp}
-use Rattle.collation.specs.laws.Counting.{resource_cmp_total, resource_cmp-IsAntisymmetric, same_resource}
+use Rattle.lock_name.specs.Locks.{resource_cmp}
+use Rattle.lock_name.specs.laws.Counting.{resource_cmp_total, resource_cmp-IsAntisymmetric, same_resource}
 use Rattle.collation.specs.laws.Entries.{true_of, not_found_itself}
 
 module _ {X : Type 0} where

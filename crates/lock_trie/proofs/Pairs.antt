@@ -7,8 +7,8 @@ use Rattle.std.specs.Cmp.{eq_by_cmp_equiv}
 use Rattle.std.specs.FinMap.{is_sorted, find, get, insert, remove, empty, entries, from_sorted, same_map, same_entries_map, entries-from_sorted, entries-insert, get-from_sorted, get-remove, empty_of_len, len-entries}
 use Rattle.std.specs.FinMap.Entries.{put, is_sorted-put, find-where_key, is_sorted-where_key}
 use Rattle.collation.specs.Reference.{Resource}
-use Rattle.collation.specs.Locks.{resource_cmp}
-use Rattle.collation.specs.laws.Counting.{resource_cmp_total, resource_cmp-IsAntisymmetric}
+use Rattle.lock_name.specs.Locks.{resource_cmp}
+use Rattle.lock_name.specs.laws.Counting.{resource_cmp_total, resource_cmp-IsAntisymmetric}
 use Rattle.collation.specs.laws.Entries.{true_of}
 use Rattle.btree.specs.Order.{without}
 use Rattle.steady_map.specs.Shown.{Seen}

@@ -9,9 +9,9 @@ use Rattle.std.proofs.lemmas.Bool.{ltb-true}
 use Rattle.std.specs.FinMap as finmap
 use Rattle.std.specs.FinMap.{FinMap, is_sorted, find, from_sorted}
 use Rattle.collation.specs.Reference.{Resource}
-use Rattle.collation.specs.Locks.{resource_cmp}
+use Rattle.lock_name.specs.Locks.{resource_cmp}
 use Rattle.collation.specs.laws.Order.{is_less}
-use Rattle.collation.specs.laws.Counting.{resource_cmp_total, resource_cmp-IsAntisymmetric}
+use Rattle.lock_name.specs.laws.Counting.{resource_cmp_total, resource_cmp-IsAntisymmetric}
 use Rattle.btree.specs.Order.{find_last}
 use Rattle.lock_trie.specs.Names.{beginning, is_at_or_under, reach, IsWithinReach}
 use Rattle.lock_trie.proofs.Pairs.{map_get}

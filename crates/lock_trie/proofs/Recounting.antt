@@ -7,8 +7,8 @@ use Rattle.std.specs.FinMap as finmap
 use Rattle.std.specs.FinMap.{get-insert, get-remove, get-empty}
 use Rattle.std.proofs.lemmas.Bool.{eqb-true, eq-eqb}
 use Rattle.collation.specs.Reference.{Resource}
-use Rattle.collation.specs.Locks.{resource_cmp}
-use Rattle.collation.specs.laws.Counting.{resource_cmp_total, same_resource}
+use Rattle.lock_name.specs.Locks.{resource_cmp}
+use Rattle.lock_name.specs.laws.Counting.{resource_cmp_total, same_resource}
 use Rattle.lock_trie.specs.Holders.{counted, AreHolders, IsEntry, IsCounted, entry_of}
 use Rattle.lock_trie.specs.Held.{Held, holders_of, held_count, IsEntryPut, IsRecounted, AreHeld, HasNoShorter}
 use Rattle.lock_trie.proofs.Holding.{Jobs, counted_same}

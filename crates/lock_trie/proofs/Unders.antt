@@ -12,8 +12,8 @@ use Rattle.std.proofs.lemmas.Bool.{and_from}
 use Rattle.collation.specs.Reference.{Reference, Resource}
 use Rattle.collation.specs.Database.{is_under}
 use Rattle.collation.specs.Order.{subscript_cmp, ref_cmp}
-use Rattle.collation.specs.Locks.{resource_cmp}
-use Rattle.collation.specs.laws.Counting.{resource_cmp_total}
+use Rattle.lock_name.specs.Locks.{resource_cmp}
+use Rattle.lock_name.specs.laws.Counting.{resource_cmp_total}
 use Rattle.lock_trie.specs.Names.{beginning, have_one_root, is_at_or_under, shared, reach}
 use Rattle.lock_trie.proofs.Begins.{Path, same_text, equal_texts, text_itself, begins_shared, shared_most, begins_is, take_begins, whole_begins, not_before, squeezed, between}
 

@@ -7,8 +7,8 @@ use Rattle.std.specs.FinMap as finmap
 use Rattle.std.specs.FinMap.{FinMap}
 use Rattle.collation.specs.Reference.{Resource}
 use Rattle.collation.specs.Database.{is_under}
-use Rattle.collation.specs.Locks.{resource_cmp}
-use Rattle.collation.specs.contracts.lock.LockName as name
+use Rattle.lock_name.specs.Locks.{resource_cmp}
+use Rattle.lock_name.specs.contracts.lock.LockName as name
 
 -- how a lock name is stored
 abbrev pub resource_code : Coded Resource

@@ -3,12 +3,12 @@ ghost use Rattle.std.specs.Prelude.{◌≡◌, not, filter, None, Some, IfOk, If
 ghost use Rattle.std.specs.Option.{option_copied};
 ghost use Rattle.std.specs.Ordering.{is_lt};
 ghost use Rattle.std.specs.FinMap as finmap;
-ghost use Rattle.collation.specs.Locks.{resource_cmp};
+ghost use Rattle.lock_name.specs.Locks.{resource_cmp};
 ghost use Rattle.lock_trie.specs.Names.{beginning, IsWithinReach};
 
 use crate::names::{Beginning, depth, reach};
 use btree::Trail;
-use collation::LockName;
+use lock_name::LockName;
 use std::alloc::{AllocError, Global};
 use std::marker::Model;
 use steady_map::{SteadyMap, Walk};
@@ -22,7 +22,7 @@ pub struct NameMap<X> {
 impl<X> Model for NameMap<X> {
     ghost use Rattle.std.specs.Prelude.{IsTrue};
     ghost use Rattle.std.specs.FinMap.{FinMap, code, from_sorted, is_sorted};
-    ghost use Rattle.collation.specs.Locks.{resource_cmp};
+    ghost use Rattle.lock_name.specs.Locks.{resource_cmp};
     ghost use Rattle.lock_trie.specs.Names.{resource_code};
 
     ghost Value = { FinMap resource_cmp X };

@@ -3,11 +3,12 @@ ghost use Rattle.std.specs.Prelude.{◌≡◌, ◌≤◌, None, length, take};
 ghost use Rattle.std.specs.Cmp.Lexicographic.{slice_cmp};
 ghost use Rattle.collation.specs.Faults.{subscripts_fault};
 ghost use Rattle.collation.specs.Order.{subscript_cmp, ref_cmp};
-ghost use Rattle.collation.specs.Locks.{resource_cmp};
+ghost use Rattle.lock_name.specs.Locks.{resource_cmp};
 ghost use Rattle.lock_trie.specs.Names.{beginning, have_one_root as have_one_root_spec, is_at_or_under as is_at_or_under_spec, shared as shared_spec, reach as reach_spec};
 
 use btree::Point;
-use collation::{LockName, Text, cmp_subscript};
+use collation::{Text, cmp_subscript};
+use lock_name::LockName;
 use std::cmp::Ordering;
 
 /// The beginning of a lock name: its caret or none, its name and the first so many of its subscripts.
@@ -79,7 +80,7 @@ impl<'a> Beginning<'a> {
     }
 
     /// Compares a name to this beginning.
-    #[tactic(auto, unfolding(collation::specs::Locks::resource_cmp))]
+    #[tactic(auto, unfolding(lock_name::specs::Locks::resource_cmp))]
     pub fn compare(&self, key: &LockName) -> Ordering
         ensures { result ≡ resource_cmp key.now (beginning self.now.name.now self.now.len) }
     {
@@ -93,11 +94,11 @@ impl<'a> Beginning<'a> {
 
 impl<'a> Point<LockName> for Beginning<'a> {
     ghost use Rattle.std.specs.Ordering.{is_lt};
-    ghost use Rattle.collation.specs.Locks.{resource_cmp};
+    ghost use Rattle.lock_name.specs.Locks.{resource_cmp};
     ghost use Rattle.lock_trie.specs.Names.{beginning};
     ghost use Rattle.lock_trie.specs.laws.Named.{before_earlier};
     ghost use Rattle.std.proofs.Common.{ap};
-    ghost use Rattle.collation.specs.laws.Counting.{resource_cmp-IsAntisymmetric};
+    ghost use Rattle.lock_name.specs.laws.Counting.{resource_cmp-IsAntisymmetric};
 
     ghost before = { λ p x. is_lt (resource_cmp x (beginning p.name.now p.len)) };
 

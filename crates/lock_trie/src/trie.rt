@@ -11,7 +11,7 @@ use crate::holders::Holders;
 use crate::map::NameMap;
 use crate::names::{depth, is_at_or_under};
 use btree::Trail;
-use collation::LockName;
+use lock_name::LockName;
 use std::alloc::{AllocError, Global};
 use std::marker::Model;
 

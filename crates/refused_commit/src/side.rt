@@ -1,8 +1,9 @@
 //! A store, a journal, a lock table and one open transaction, by the calls that a core stands on.
-use collation::{Job, LockCommand};
+use collation::Job;
 use command::{Answer, Command, DataCommand, Reply};
 use job_core::lone;
 use journal::Journal;
+use lock_name::LockCommand;
 use lock_table::LockTable;
 use refusal::Refusal;
 use std::alloc::Global;

@@ -3,7 +3,7 @@ use Rattle.std.proofs.Common.{◌≡◌, ℕ, false, List, length, Option, Some,
 use Rattle.refusal.specs.declared.Refusal.{Refusal}
 use Rattle.std.specs.Prelude.{◌==◌}
 use Rattle.collation.specs.Reference.{Reference, Resource}
-use Rattle.collation.specs.declared.lock.LockCommand.{LockCommand}
+use Rattle.lock_name.specs.declared.lock.LockCommand.{LockCommand}
 use Rattle.key_codec.specs.Draft.{IsDraft}
 use Rattle.key_codec.specs.declared.draft.KeyDraft.{KeyDraft}
 use Rattle.command.specs.declared.access.DataCommand.{DataCommand}

@@ -5,8 +5,8 @@ use Rattle.std.specs.Option.{option_map, option_or}
 use Rattle.refusal.specs.declared.Refusal.{Refusal}
 use Rattle.collation.specs.Bytes as byte
 use Rattle.collation.specs.Reference.{Resource}
-use Rattle.collation.specs.declared.lock.LockCommand.{LockCommand}
-use Rattle.collation.specs.declared.lock.LockCommand.TheVariants.{Release, Only, More, Fewer}
+use Rattle.lock_name.specs.declared.lock.LockCommand.{LockCommand}
+use Rattle.lock_name.specs.declared.lock.LockCommand.TheVariants.{Release, Only, More, Fewer}
 use Rattle.m_text.specs.Reading.{◌>>=◌, begins_with_byte, parted_at, then_closing}
 use Rattle.m_text.specs.Literal.{front_digits, past_digits}
 use Rattle.m_text.specs.Place.{named_at, ref_fault}

@@ -12,9 +12,10 @@ ghost use Rattle.script.specs.Sentence.{Spells, SpellsData, SpellsSome, SomeData
 use crate::lock::locking;
 use crate::sentence::{DataSentence, Drafts, Sentence};
 use crate::word::AloneWord;
-use collation::{Direction, LONGEST_VALUE, LockCommand, Text};
+use collation::{Direction, LONGEST_VALUE, Text};
 use command::{Command, DataCommand, Look};
 use key_codec::{Key, KeyDraft, Place};
+use lock_name::LockCommand;
 use refusal::Refusal;
 use std::alloc::Global;
 use std::mem;

@@ -7,8 +7,8 @@ ghost use Rattle.script.specs.Locking as locking;
 ghost use Rattle.script.specs.Sentence.{AreNamed, NamesSpelled, FindsLocking};
 
 use crate::names::Names;
-use collation::{LockCommand, LockNames};
 use key_codec::KeyDraft;
+use lock_name::{LockCommand, LockNames};
 use m_text::{after, read_named, split_digits};
 use refusal::Refusal;
 use std::alloc::Global;

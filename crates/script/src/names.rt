@@ -7,8 +7,9 @@ ghost use Rattle.m_text.specs.Place.{ref_fault, unless};
 ghost use Rattle.script.specs.Locking.{names_fault};
 ghost use Rattle.script.specs.Sentence.{AreNamed, HasNoRoom};
 
-use collation::{LockName, LockNames, Ref};
+use collation::Ref;
 use key_codec::KeyDraft;
+use lock_name::{LockName, LockNames};
 use refusal::Refusal;
 use std::alloc::{AllocError, Global};
 use std::mem;

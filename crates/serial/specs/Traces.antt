@@ -4,7 +4,7 @@ use Rattle.command.specs.declared.request.Command.{Command}
 use Rattle.command.specs.declared.request.Command.TheVariants.{Start, Commit, Rollback, Restart, Halt}
 use Rattle.command.specs.declared.request.Reply.TheVariants.{Finished, Restarted}
 use Rattle.collation.specs.Database.{Database}
-use Rattle.collation.specs.Locks.{JobLocks, no_locks, locks_of}
+use Rattle.lock_name.specs.Locks.{JobLocks, no_locks, locks_of}
 use Rattle.std.specs.List.{list_all}
 use Rattle.journal.specs.Kept.{job_of}
 use Rattle.journal.specs.declared.unit.Unit.{Unit as JournalUnit}

@@ -1,7 +1,7 @@
 //! The laws of lock counts.
 ghost use Rattle.std.specs.Prelude.{List};
 ghost use Rattle.collation.specs.Reference.{Resource};
-ghost use Rattle.collation.specs.LockStatements.{CountsTell, BlockedTells, AreApart};
+ghost use Rattle.lock_name.specs.LockStatements.{CountsTell, BlockedTells, AreApart};
 ghost use Rattle.journal.specs.declared.unit.Unit.{Unit as JournalUnit};
 ghost use Rattle.journal.specs.History.{initial, after};
 

@@ -1,9 +1,10 @@
 //! Commands by the calls of a session.
 ghost use Rattle.std.specs.Prelude.{◌≤◌};
 
-use collation::{Job, LockCommand};
+use collation::Job;
 use command::{Answer, Command, DataCommand, Look, Reply};
 use key_codec::Key;
+use lock_name::LockCommand;
 use pin_board::BoardName;
 use refusal::Refusal;
 use script::{Drafts, read_line};

@@ -3,7 +3,7 @@ use Rattle.std.proofs.Common.{◌≡◌, ℕ, Bool, true, false, List, ap, subst
 use Rattle.std.specs.Prelude.{◌⊎◌, IfErr}
 use Rattle.refusal.specs.declared.Refusal.{Refusal}
 use Rattle.refusal.specs.declared.Refusal.TheVariants.{OutOfMemory, StampsUsedUp}
-use Rattle.collation.specs.declared.lock.LockCommand.{LockCommand}
+use Rattle.lock_name.specs.declared.lock.LockCommand.{LockCommand}
 use Rattle.journal.specs.declared.unit.Unit.{Unit as JournalUnit}
 use Rattle.validate_commit.specs.Working.{Working}
 use Rattle.job_core.specs.Common.{IsCauseOfLock}

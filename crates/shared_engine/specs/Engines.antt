@@ -4,7 +4,7 @@ use Rattle.std.specs.List.{All, sum_by}
 use Rattle.journal.specs.declared.unit.Unit.{Unit as JournalUnit}
 use Rattle.journal.specs.declared.unit.Unit.TheVariants.{Back, Whole, Lock}
 use Rattle.journal.specs.Kept.{Claim}
-use Rattle.collation.specs.declared.lock.LockCommand.{LockCommand}
+use Rattle.lock_name.specs.declared.lock.LockCommand.{LockCommand}
 use Rattle.validate_commit.specs.Verdicts.{has_been_overtaken}
 use Rattle.job_core.specs.Sessions.{Session as JobSession}
 use Rattle.job_core.specs.Common.{Common}

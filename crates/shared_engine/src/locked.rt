@@ -2,7 +2,7 @@
 ghost use Rattle.std.specs.Prelude.{◌≡◌, ◌⊎◌, ◌<◌, ◌≤◌, ◌+◌, ◌-◌, ◌^◌, ◌∷◌, ◌++◌, ℕ, true, false, List, [], min, max, nat_lt, length, vec_len, take, None, Some, IfOk, IfErr, IfSome, IsSome, OnOk, OnErr};
 ghost use Rattle.std.specs.List.{All};
 ghost use Rattle.refusal.specs.declared.Refusal.{Refusal};
-ghost use Rattle.collation.specs.Locks.{lock_refusal, lock_reply};
+ghost use Rattle.lock_name.specs.Locks.{lock_refusal, lock_reply};
 ghost use Rattle.command.specs.Data.{data_refusal, data_reply};
 ghost use Rattle.journal.specs.History.{initial, after, IsLegal};
 ghost use Rattle.journal.specs.Kept.{Claim, HasNoRoom};
@@ -20,10 +20,11 @@ ghost use Rattle.shared_engine.specs.Engines.{has_session, SessionIs, SameSessio
 use crate::seats::Seats;
 use crate::session::{Pass, Session};
 use crate::sweep::{Sweep, looks};
-use collation::{Job, LockCommand};
+use collation::Job;
 use collector::Progress;
 use command::{Answer, DataCommand};
 use job_core::{Core, JobState};
+use lock_name::LockCommand;
 use pin_board::{Board, BoardName, Desk, Pin, Tally};
 use refusal::Refusal;
 use std::alloc::{AllocError, Global};

@@ -12,8 +12,8 @@ ghost use Rattle.shared_engine.specs.Writes.{IsAlone};
 
 use crate::locked::{Ended, Locked};
 use crate::session::Session;
-use collation::LockCommand;
 use command::{Answer, Command, DataCommand, Reply};
+use lock_name::LockCommand;
 use pin_board::{Board, BoardName};
 use refusal::Refusal;
 use std::alloc::{AllocError, Global};

@@ -1,6 +1,7 @@
 //! The lock table against plain counts by name: 26 names of three levels, with the caret and without, and 20 jobs, in
 //! transactions and outside. Expected answers are those of docs/RULES.md, "Locks", told by arrays.
-use collation::{Job, LockName, LockNames, Name, Ref, Subscripts, Text};
+use collation::{Job, Name, Ref, Subscripts, Text};
+use lock_name::{LockName, LockNames};
 use lock_table::LockTable;
 use refusal::Refusal;
 use smallvec::SmallVec;

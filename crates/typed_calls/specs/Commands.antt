@@ -7,8 +7,8 @@ use Rattle.collation.specs.Faults.{subscripts_fault}
 use Rattle.collation.specs.Limits.{most_subscripts}
 use Rattle.collation.specs.Reference.{Reference}
 use Rattle.collation.specs.declared.direction.Direction.{Direction}
-use Rattle.collation.specs.declared.lock.LockCommand.{LockCommand}
-use Rattle.collation.specs.declared.lock.LockCommand.TheVariants.{Only as OnlyThese, More as TheseToo, Fewer as FewerOfThese}
+use Rattle.lock_name.specs.declared.lock.LockCommand.{LockCommand}
+use Rattle.lock_name.specs.declared.lock.LockCommand.TheVariants.{Only as OnlyThese, More as TheseToo, Fewer as FewerOfThese}
 use Rattle.collation.specs.Reference.{Resource}
 use Rattle.command.specs.declared.access.DataCommand.TheVariants.{Set, Kill, Merge, Look as LookAt}
 use Rattle.command.specs.declared.access.Look.TheVariants.{Data, Get, Order, Query}

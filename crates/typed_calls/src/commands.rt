@@ -4,9 +4,10 @@ ghost use Rattle.typed_calls.specs.Commands.{data_command as data_of, get_comman
 ghost use Rattle.typed_calls.specs.Typed.{IsMemory, IsPlaceCause, IsValueCause};
 
 use crate::keys::place_below;
-use collation::{Direction, LONGEST_VALUE, LockCommand, LockName, LockNames, Text};
+use collation::{Direction, LONGEST_VALUE, Text};
 use command::{Command, DataCommand, Look};
 use key_codec::{Key, Place};
+use lock_name::{LockCommand, LockName, LockNames};
 use refusal::Refusal;
 use std::alloc::Global;
 

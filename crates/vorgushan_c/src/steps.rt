@@ -5,9 +5,9 @@ ghost use Rattle.typed_calls.specs.Typed.{IsJobCause, IsNumberCall};
 ghost use Rattle.vorgushan_c.specs.Exports.{IsCalled};
 
 use crate::handle::VgEngine;
-use collation::LockCommand;
 use command::Command;
 use embedded::Outcome;
+use lock_name::LockCommand;
 use std::alloc::Global;
 use typed_calls::run_numbered;
 

@@ -10,7 +10,7 @@ use Rattle.collation.specs.Reference.{Reference}
 use Rattle.collation.specs.Database.{Database}
 use Rattle.collation.specs.Order.{ref_cmp}
 use Rattle.collation.specs.laws.Order.{ref_cmp_total, ref_cmp-IsAntisymmetric}
-use Rattle.collation.specs.Locks.{LockState, JobLocks, job_commits, changed, locks_after_commit, locks_after_end}
+use Rattle.lock_name.specs.Locks.{LockState, JobLocks, job_commits, changed, locks_after_commit, locks_after_end}
 use Rattle.journal.specs.declared.unit.Exchange.{Exchange}
 use Rattle.journal.specs.declared.unit.Unit.{Unit as JournalUnit}
 use Rattle.journal.specs.declared.unit.Unit.TheVariants.{Whole, End}

@@ -9,8 +9,8 @@ use Rattle.collation.specs.Limits.{is_job, most_jobs}
 use Rattle.collation.specs.Reference.{Reference, Resource}
 use Rattle.collation.specs.declared.direction.Direction.{Direction}
 use Rattle.collation.specs.declared.direction.Direction.TheVariants.{Forward, Backward}
-use Rattle.collation.specs.declared.lock.LockCommand.{LockCommand}
-use Rattle.collation.specs.declared.lock.LockCommand.TheVariants.{Release, Only, More, Fewer}
+use Rattle.lock_name.specs.declared.lock.LockCommand.{LockCommand}
+use Rattle.lock_name.specs.declared.lock.LockCommand.TheVariants.{Release, Only, More, Fewer}
 use Rattle.command.specs.declared.access.DataCommand.TheVariants.{Set, Kill, Merge, Look}
 use Rattle.command.specs.declared.access.Look.{Look as LookCommand}
 use Rattle.command.specs.declared.access.Look.TheVariants.{Data, Get, Order, Query}

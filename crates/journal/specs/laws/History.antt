@@ -2,7 +2,7 @@
 use Rattle.std.specs.Prelude.{◌≡◌, ℕ, List, [], ◌∷◌, ◌++◌}
 use Rattle.std.proofs.Common.{refl, sym, ap, subst, ◌∙◌}
 use Rattle.collation.specs.Database.{Database}
-use Rattle.collation.specs.Locks.{locks_after_commit}
+use Rattle.lock_name.specs.Locks.{locks_after_commit}
 use Rattle.command.specs.Data.{data_after}
 use Rattle.journal.specs.declared.unit.Exchange.{Exchange}
 use Rattle.journal.specs.declared.unit.Unit.{Unit as JournalUnit}

@@ -2,8 +2,8 @@
 use Rattle.std.proofs.Common.{◌≡◌, ℕ, Bool, true, false, cond, List, [], ◌∷◌, ◌++◌, map, Option, Some, None, refl}
 use Rattle.std.specs.Prelude.{◌==◌, not, filter}
 use Rattle.std.specs.List.{flat_map}
-use Rattle.collation.specs.declared.lock.LockCommand.{LockCommand}
-use Rattle.collation.specs.declared.lock.LockCommand.TheVariants.{Release, Only, More, Fewer}
+use Rattle.lock_name.specs.declared.lock.LockCommand.{LockCommand}
+use Rattle.lock_name.specs.declared.lock.LockCommand.TheVariants.{Release, Only, More, Fewer}
 use Rattle.command.specs.declared.request.Command.TheVariants.{Access, Lock as lock_command, Start, Restart}
 use Rattle.journal.specs.declared.unit.Exchange.{Exchange}
 use Rattle.journal.specs.declared.unit.Unit.{Unit as JournalUnit}

@@ -12,7 +12,7 @@ use Rattle.std.specs.FinMap.{FinMap, IsAntisymmetric}
 use Rattle.std.proofs.lemmas.Bool.{or_left, or_right, lt-ltb}
 use Rattle.collation.specs.Reference.{Resource}
 use Rattle.collation.specs.laws.Order.{is_equal}
-use Rattle.collation.specs.Locks.{Counts, count_of}
+use Rattle.lock_name.specs.Locks.{Counts, count_of}
 use Rattle.collation.specs.laws.Entries.{some_entry_of, entry_of}
 use Rattle.lock_trie.specs.laws.Mapped.{seen}
 

@@ -6,7 +6,7 @@ use Rattle.std.specs.Cmp.{nat_cmp_total, tied_itself}
 use Rattle.std.specs.FinMap as finmap
 use Rattle.std.specs.FinMap.{nat_cmp-IsAntisymmetric, FinMap}
 use Rattle.collation.specs.laws.Order.{is_equal}
-use Rattle.collation.specs.Locks.{JobLocks, LockState, no_locks, locks_of, changed}
+use Rattle.lock_name.specs.Locks.{JobLocks, LockState, no_locks, locks_of, changed}
 
 here : (job : ℕ) → eq_by_cmp nat_cmp job job ≡ true
 here job = ap is_eq (tied_itself nat_cmp_total job)

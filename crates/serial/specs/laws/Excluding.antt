@@ -6,17 +6,17 @@ use Rattle.std.specs.List.{list_any}
 use Rattle.std.specs.Ordering.{eq_by_cmp}
 use Rattle.std.proofs.lemmas.Bool.{ltb-true, ltb-false}
 use Rattle.std.specs.FinMap as finmap
-use Rattle.collation.specs.declared.lock.LockCommand.{LockCommand}
-use Rattle.collation.specs.declared.lock.LockCommand.TheVariants.{Release, Only, More, Fewer}
+use Rattle.lock_name.specs.declared.lock.LockCommand.{LockCommand}
+use Rattle.lock_name.specs.declared.lock.LockCommand.TheVariants.{Release, Only, More, Fewer}
 use Rattle.collation.specs.Reference.{Resource}
 use Rattle.collation.specs.Database.{is_under}
-use Rattle.collation.specs.Locks.{resource_cmp, Counts, count_of, JobLocks, LockState, no_locks, locks_of, conflict, is_blocked, asked, want_had, want_kept, lock_reply, want_after, job_wants, job_commits, job_goes_back, changed}
+use Rattle.lock_name.specs.Locks.{resource_cmp, Counts, count_of, JobLocks, LockState, no_locks, locks_of, conflict, is_blocked, asked, want_had, want_kept, lock_reply, want_after, job_wants, job_commits, job_goes_back, changed}
 use Rattle.journal.specs.declared.unit.Unit.{Unit as JournalUnit}
 use Rattle.journal.specs.declared.unit.Unit.TheVariants.{Lone, Whole, Lock, Back, End}
 use Rattle.journal.specs.History.{State, initial, after, after_unit}
-use Rattle.collation.specs.LockStatements.{times, Holds, AreApart}
-use Rattle.collation.specs.laws.Blocking.{blocked_tells}
-use Rattle.collation.specs.laws.Counting.{same_resource, counts_tell}
+use Rattle.lock_name.specs.LockStatements.{times, Holds, AreApart}
+use Rattle.lock_name.specs.laws.Blocking.{blocked_tells}
+use Rattle.lock_name.specs.laws.Counting.{same_resource, counts_tell}
 use Rattle.serial.specs.laws.Untouched.{neither}
 use Rattle.serial.specs.laws.Overtaken.{false_of_not}
 use Rattle.serial.specs.laws.ByJob.{same_or_not, locks_put, locks_put_apart, locks_gone, locks_gone_apart, no_locks_yet, locks_changed, locks_changed_apart}

@@ -1,8 +1,8 @@
 use Rattle.std.proofs.Common.{◌≡◌, ◌≤◌, ◌+◌, length, drop}
 use Rattle.std.specs.Prelude.{◌-◌}
 use Rattle.collation.specs.Reference.{Resource}
-use Rattle.collation.specs.Locks.{count_of}
-use Rattle.collation.specs.LockStatements.{times}
+use Rattle.lock_name.specs.Locks.{count_of}
+use Rattle.lock_name.specs.LockStatements.{times}
 use Rattle.lock_table.proofs.chosen.beyond.Given as goal
 
 abbrev pub invariant-loop-name : goal.invariant-loop-name

@@ -1,5 +1,5 @@
 use Rattle.std.proofs.Common.{arith, inl, inr, refl}
-use Rattle.collation.specs.Locks.{more_of}
+use Rattle.lock_name.specs.Locks.{more_of}
 use Rattle.lock_table.proofs.Rows.{more_held, within_more, undone, not_held, nothing_more, within_same, more_allowed, more_full}
 use Rattle.lock_table.proofs.inside.more_over.Goals as goal
 

@@ -1,6 +1,6 @@
 use Rattle.std.proofs.Common.{sym, ap, ◌∙◌}
 use Rattle.std.specs.Prelude.{cond}
-use Rattle.collation.specs.Locks.{more_of}
+use Rattle.lock_name.specs.Locks.{more_of}
 use Rattle.lock_table.proofs.Rows.{undone}
 use Rattle.lock_table.proofs.Kept.{kept_again, borne_by, held_fits, kept_more, kept_undone, roomy}
 use Rattle.lock_table.proofs.moves.hold_more.Goals as goal

@@ -1,4 +1,4 @@
-use Rattle.collation.specs.laws.Blocking.{blocked_tells}
+use Rattle.lock_name.specs.laws.Blocking.{blocked_tells}
 use Rattle.serial.proofs.locks.blocked_where_another_job_holds.Goals as goal
 
 pub returns : goal.returns

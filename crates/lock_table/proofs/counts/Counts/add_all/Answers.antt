@@ -1,6 +1,6 @@
 use Rattle.std.proofs.Common.{inl, inr, ap, ◌∙◌, ◌≡◌, drop, take}
-use Rattle.collation.specs.Locks.{more_of, fewer_of}
-use Rattle.collation.specs.laws.Zeros.{taken_back}
+use Rattle.lock_name.specs.Locks.{more_of, fewer_of}
+use Rattle.lock_name.specs.laws.Zeros.{taken_back}
 use Rattle.lock_table.proofs.Lists.{over_at}
 use Rattle.lock_table.proofs.counts.Counts.add_all.Goals as goal
 

@@ -1,5 +1,5 @@
 use Rattle.std.proofs.Common.{◌≡◌, ◌≤◌, length, drop}
-use Rattle.collation.specs.Locks.{more_of}
+use Rattle.lock_name.specs.Locks.{more_of}
 use Rattle.lock_table.proofs.counts.Counts.add_all.Given as goal
 
 abbrev pub invariant-loop-i : goal.invariant-loop-i

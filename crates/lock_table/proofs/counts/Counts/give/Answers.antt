@@ -1,5 +1,5 @@
-use Rattle.collation.specs.Locks.{count_of}
-use Rattle.collation.specs.laws.Counting.{resource_cmp_total}
+use Rattle.lock_name.specs.Locks.{count_of}
+use Rattle.lock_name.specs.laws.Counting.{resource_cmp_total}
 use Rattle.lock_trie.specs.Held.{held_count}
 use Rattle.lock_trie.specs.laws.Conflicts.{all_there}
 use Rattle.lock_table.proofs.Moving.{sinking_first, sinking_next, given_to, gives, gives_next, given_all}

@@ -1,5 +1,5 @@
 use Rattle.std.proofs.Common.{refl}
-use Rattle.collation.specs.Locks.{count_of}
+use Rattle.lock_name.specs.Locks.{count_of}
 use Rattle.lock_trie.specs.Held.{held_count}
 use Rattle.lock_table.proofs.Moving.{sinking_first, sinking_next, sunk}
 use Rattle.lock_table.proofs.Trie.{at_job, at_other}

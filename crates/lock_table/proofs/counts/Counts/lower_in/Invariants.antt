@@ -1,4 +1,4 @@
-use Rattle.collation.specs.Locks.{count_of}
+use Rattle.lock_name.specs.Locks.{count_of}
 use Rattle.lock_trie.specs.Held.{held_count}
 use Rattle.lock_table.specs.Rows.{AreOthersSame}
 use Rattle.lock_table.proofs.Moving.{Sinking}

@@ -1,6 +1,6 @@
 use Rattle.std.proofs.Common.{sym, ap, ◌∙◌}
 use Rattle.std.specs.FinMap as finmap
-use Rattle.collation.specs.Locks.{count_of}
+use Rattle.lock_name.specs.Locks.{count_of}
 use Rattle.lock_table.proofs.Smalls.{inserted, small_insert, small_along, counted, counted_small}
 use Rattle.lock_table.proofs.counts.Counts.put.Goals as goal
 use Rattle.lock_table.proofs.counts.Counts.put.Goals.{in-Ok, in-Err}

@@ -1,5 +1,5 @@
 use Rattle.std.proofs.Common.{arith, inr}
-use Rattle.collation.specs.Locks.{count_of}
+use Rattle.lock_name.specs.Locks.{count_of}
 use Rattle.lock_table.proofs.Moving.{raised_first, raised_next, high_next, high_done}
 use Rattle.lock_table.proofs.counts.Counts.raise_names.Goals as goal
 

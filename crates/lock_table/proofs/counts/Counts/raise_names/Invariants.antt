@@ -1,5 +1,5 @@
 use Rattle.std.proofs.Common.{◌≤◌, length}
-use Rattle.collation.specs.Locks.{count_of}
+use Rattle.lock_name.specs.Locks.{count_of}
 use Rattle.lock_table.specs.Counted.{AreRaised}
 use Rattle.lock_table.proofs.Moving.{HighLeft}
 use Rattle.lock_table.proofs.counts.Counts.raise_names.Given as goal

@@ -1,5 +1,5 @@
 use Rattle.std.proofs.Common.{◌≡◌, ◌≤◌, length, drop}
-use Rattle.collation.specs.Locks.{fewer_of}
+use Rattle.lock_name.specs.Locks.{fewer_of}
 use Rattle.lock_table.proofs.counts.Counts.take_all.Given as goal
 
 abbrev pub invariant-loop-name : goal.invariant-loop-name

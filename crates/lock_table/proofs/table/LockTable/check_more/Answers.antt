@@ -1,5 +1,5 @@
 use Rattle.std.proofs.Common.{inl, inr, true, false}
-use Rattle.collation.specs.Locks.{locks_of}
+use Rattle.lock_name.specs.Locks.{locks_of}
 use Rattle.lock_trie.specs.laws.Results.{onward, if_err_onward}
 use Rattle.lock_table.proofs.Lists.{over_same}
 use Rattle.lock_table.proofs.table.LockTable.check_more.Goals as goal

@@ -1,6 +1,6 @@
 use Rattle.std.proofs.Common.{sym, ap, ◌∙◌, refl}
 use Rattle.std.specs.Option.{option_copied_mut}
-use Rattle.collation.specs.Locks.{job_commits}
+use Rattle.lock_name.specs.Locks.{job_commits}
 use Rattle.lock_table.proofs.Tables.{is_there, row_kept, row_joined, row_changed, row_absent}
 use Rattle.lock_table.proofs.table.LockTable.commit.Goals as goal
 

@@ -1,6 +1,6 @@
 use Rattle.std.proofs.Common.{sym, ap, ◌∙◌, refl}
 use Rattle.std.specs.Option.{option_copied_mut}
-use Rattle.collation.specs.Locks.{job_goes_back}
+use Rattle.lock_name.specs.Locks.{job_goes_back}
 use Rattle.lock_table.proofs.Tables.{is_there, row_kept, row_joined, row_changed, row_absent}
 use Rattle.lock_table.proofs.table.LockTable.go_back.Goals as goal
 

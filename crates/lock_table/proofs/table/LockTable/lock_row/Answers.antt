@@ -1,5 +1,5 @@
 use Rattle.std.proofs.Common.{◌∙◌, ap, inl, inr}
-use Rattle.collation.specs.Locks.{JobLocks, job_wants}
+use Rattle.lock_name.specs.Locks.{JobLocks, job_wants}
 use Rattle.lock_table.specs.Rows.{want_by}
 use Rattle.lock_table.proofs.Tables.{is_there, row_kept, row_joined, locks_got, put, full_along, same_put}
 use Rattle.lock_trie.specs.laws.Results.{onward, err_onward, if_err_onward}

@@ -1,5 +1,5 @@
 use Rattle.std.proofs.Common.{◌∙◌, ap, refl}
-use Rattle.collation.specs.Locks.{locks_of}
+use Rattle.lock_name.specs.Locks.{locks_of}
 use Rattle.lock_table.proofs.Tables.{removed, removed_joined}
 use Rattle.std.specs.FinMap as finmap
 use Rattle.lock_table.proofs.table.LockTable.remove.Goals as goal

@@ -1,6 +1,6 @@
 use Rattle.std.proofs.Common.{sym, ap, ◌∙◌}
 use Rattle.std.specs.Option.{option_copied}
-use Rattle.collation.specs.Locks.{Counts, count_of, JobLocks}
+use Rattle.lock_name.specs.Locks.{Counts, count_of, JobLocks}
 use Rattle.lock_table.proofs.Tables.{locks_got, wants_nothing}
 use Rattle.lock_trie.specs.laws.Results.{if_ok_onward}
 use Rattle.lock_table.proofs.table.LockTable.wanted.Goals as goal

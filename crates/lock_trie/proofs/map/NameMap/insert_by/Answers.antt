@@ -1,4 +1,4 @@
-use Rattle.collation.specs.laws.Counting.{resource_cmp-IsAntisymmetric}
+use Rattle.lock_name.specs.laws.Counting.{resource_cmp-IsAntisymmetric}
 use Rattle.lock_trie.proofs.Pairs.{map_put, sorted_put}
 use Rattle.lock_trie.proofs.map.NameMap.insert_by.Goals as goal
 

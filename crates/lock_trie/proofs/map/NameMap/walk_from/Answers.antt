@@ -2,7 +2,7 @@ use Rattle.std.proofs.Common.{sym, ap, ◌∙◌}
 use Rattle.std.specs.FinMap as finmap
 use Rattle.std.specs.Prelude.{not, filter}
 use Rattle.std.specs.Ordering.{is_lt}
-use Rattle.collation.specs.Locks.{resource_cmp}
+use Rattle.lock_name.specs.Locks.{resource_cmp}
 use Rattle.lock_trie.proofs.Pairs.{map_entries}
 use Rattle.lock_trie.proofs.Unders.{whole_point}
 use Rattle.lock_trie.proofs.map.NameMap.walk_from.Goals as goal

@@ -2,7 +2,7 @@ use Rattle.std.proofs.Common.{◌≡◌}
 use Rattle.std.specs.Prelude.{not, filter}
 use Rattle.std.specs.Ordering.{is_lt}
 use Rattle.std.specs.FinMap as finmap
-use Rattle.collation.specs.Locks.{resource_cmp}
+use Rattle.lock_name.specs.Locks.{resource_cmp}
 use Rattle.lock_trie.proofs.Conflicting.{front_other}
 use Rattle.lock_trie.proofs.trie.LockTrie.is_blocked_below.Given as goal
 

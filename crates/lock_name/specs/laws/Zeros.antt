@@ -6,10 +6,10 @@ use Rattle.std.specs.Ordering.{eq_by_cmp}
 use Rattle.std.proofs.lemmas.Bool.{leb-true}
 use Rattle.std.specs.FinMap as finmap
 use Rattle.collation.specs.Reference.{Resource}
-use Rattle.collation.specs.Locks.{resource_cmp, Counts, HasNoZeros, count_of, more_of, one_fewer, fewer_of, greater}
+use Rattle.lock_name.specs.Locks.{resource_cmp, Counts, HasNoZeros, count_of, more_of, one_fewer, fewer_of, greater}
 use Rattle.collation.specs.laws.Entries.{some_entry_of}
-use Rattle.collation.specs.LockStatements.{times}
-use Rattle.collation.specs.laws.Counting.{resource_cmp_total, resource_cmp-IsAntisymmetric, counts_tell}
+use Rattle.lock_name.specs.LockStatements.{times}
+use Rattle.lock_name.specs.laws.Counting.{resource_cmp_total, resource_cmp-IsAntisymmetric, counts_tell}
 
 pub none_empty : HasNoZeros finmap.empty
 none_empty n v e = let none : None ≡ Some v = sym (finmap.get-empty resource_cmp n) ∙ e in absurd (cc)

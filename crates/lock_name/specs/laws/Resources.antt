@@ -7,8 +7,8 @@ use Rattle.std.specs.Ordering.{eq_by_cmp}
 use Rattle.std.proofs.lemmas.Bool.{and_from}
 use Rattle.collation.specs.Reference.{Resource}
 use Rattle.collation.specs.laws.Order.{ref_eq_decides, ties_of, ref_eq_laws}
-use Rattle.collation.specs.Locks.{resource_cmp, resource_eq}
-use Rattle.collation.specs.laws.Counting.{resource_cmp_total, resource_cmp-IsAntisymmetric}
+use Rattle.lock_name.specs.Locks.{resource_cmp, resource_eq}
+use Rattle.lock_name.specs.laws.Counting.{resource_cmp_total, resource_cmp-IsAntisymmetric}
 
 pub resource_eq_laws : IsEquivalence resource_eq
 resource_eq_laws = and_equiv (on_equiv (λ n. n.has_caret) bool_eq_equiv) (on_equiv (λ n. n.reference) ref_eq_laws)

@@ -11,9 +11,9 @@ use Rattle.canonic_number.specs.laws.Classes.{AreTied, both_tied}
 use Rattle.collation.specs.Reference.{Resource}
 use Rattle.collation.specs.Order.{ref_cmp}
 use Rattle.collation.specs.laws.Order.{ref_cmp_total, ref_cmp-IsAntisymmetric, is_equal}
-use Rattle.collation.specs.Locks.{resource_cmp, Counts, count_of, more_of, one_fewer, fewer_of, greater}
+use Rattle.lock_name.specs.Locks.{resource_cmp, Counts, count_of, more_of, one_fewer, fewer_of, greater}
 use Rattle.collation.specs.laws.Entries.{not_found_itself, true_of}
-use Rattle.collation.specs.LockStatements.{times, CountsTell}
+use Rattle.lock_name.specs.LockStatements.{times, CountsTell}
 
 pub resource_cmp_total : IsTotalOrder resource_cmp
 unfolding resource_cmp

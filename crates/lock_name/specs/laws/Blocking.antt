@@ -8,10 +8,10 @@ use Rattle.std.proofs.lemmas.Bool.{and_from, eq-eqb, eqb-true, lt-ltb, ltb-true}
 use Rattle.std.specs.FinMap as finmap
 use Rattle.std.specs.FinMap.{nat_cmp-IsAntisymmetric}
 use Rattle.collation.specs.Reference.{Resource}
-use Rattle.collation.specs.Locks.{resource_cmp, Counts, count_of, JobLocks, LockState, no_locks, conflict, is_blocked}
-use Rattle.collation.specs.LockStatements.{Holds, BlockedTells}
+use Rattle.lock_name.specs.Locks.{resource_cmp, Counts, count_of, JobLocks, LockState, no_locks, conflict, is_blocked}
+use Rattle.lock_name.specs.LockStatements.{Holds, BlockedTells}
 use Rattle.collation.specs.laws.Entries.{some_entry_of, entry_of}
-use Rattle.collation.specs.laws.Counting.{resource_cmp_total, resource_cmp-IsAntisymmetric}
+use Rattle.lock_name.specs.laws.Counting.{resource_cmp_total, resource_cmp-IsAntisymmetric}
 
 pub differ : (a b : ℕ) → (a ≡ b → ⊥) → not (a == b) ≡ true
 differ a b ne = by_test (a == b) refl

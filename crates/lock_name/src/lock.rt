@@ -1,7 +1,7 @@
 //! Lock names and the forms of LOCK.
 ghost use Rattle.std.specs.Prelude.{◌≡◌};
 
-use crate::Ref;
+use collation::Ref;
 use std::alloc::AllocError;
 use std::cmp::Ordering;
 use std::marker::Model;
@@ -22,8 +22,8 @@ impl Model for LockName {
 }
 
 impl PartialEq for LockName {
-    ghost use Rattle.collation.specs.Locks.{resource_eq};
-    ghost use Rattle.collation.specs.laws.Resources.{resource_eq_laws};
+    ghost use Rattle.lock_name.specs.Locks.{resource_eq};
+    ghost use Rattle.lock_name.specs.laws.Resources.{resource_eq_laws};
     ghost use Rattle.std.specs.Cmp.{partial_equiv_from_equiv};
 
     ghost eq = { resource_eq };
@@ -36,16 +36,16 @@ impl PartialEq for LockName {
 }
 
 impl Eq for LockName {
-    ghost use Rattle.collation.specs.laws.Resources.{resource_eq_laws};
+    ghost use Rattle.lock_name.specs.laws.Resources.{resource_eq_laws};
 
     ghost laws = { resource_eq_laws };
 }
 
 impl Ord for LockName {
     ghost use Rattle.std.specs.Prelude.{refl};
-    ghost use Rattle.collation.specs.Locks.{resource_cmp};
-    ghost use Rattle.collation.specs.laws.Counting.{resource_cmp_total};
-    ghost use Rattle.collation.specs.laws.Resources.{resource_ties};
+    ghost use Rattle.lock_name.specs.Locks.{resource_cmp};
+    ghost use Rattle.lock_name.specs.laws.Counting.{resource_cmp_total};
+    ghost use Rattle.lock_name.specs.laws.Resources.{resource_ties};
 
     ghost cmp = { resource_cmp };
 
@@ -66,9 +66,9 @@ impl PartialOrd for LockName {
     ghost use Rattle.std.specs.Prelude.{refl};
     ghost use Rattle.std.specs.Ordering.{as_partial_cmp};
     ghost use Rattle.std.specs.Cmp.{partial_order_from_agreeing_total};
-    ghost use Rattle.collation.specs.Locks.{resource_cmp};
-    ghost use Rattle.collation.specs.laws.Counting.{resource_cmp_total};
-    ghost use Rattle.collation.specs.laws.Resources.{resource_ties};
+    ghost use Rattle.lock_name.specs.Locks.{resource_cmp};
+    ghost use Rattle.lock_name.specs.laws.Counting.{resource_cmp_total};
+    ghost use Rattle.lock_name.specs.laws.Resources.{resource_ties};
 
     ghost partial_cmp = { as_partial_cmp resource_cmp };
 
@@ -137,8 +137,8 @@ impl Model for LockNames {
 
 impl PartialEq for LockNames {
     ghost use Rattle.std.specs.Cmp.Lexicographic.{pointwise, lists_equiv};
-    ghost use Rattle.collation.specs.Locks.{resource_eq};
-    ghost use Rattle.collation.specs.laws.Resources.{resource_eq_laws};
+    ghost use Rattle.lock_name.specs.Locks.{resource_eq};
+    ghost use Rattle.lock_name.specs.laws.Resources.{resource_eq_laws};
     ghost use Rattle.std.specs.Cmp.{partial_equiv_from_equiv};
 
     ghost eq = { pointwise resource_eq };
@@ -152,7 +152,7 @@ impl PartialEq for LockNames {
 
 impl Eq for LockNames {
     ghost use Rattle.std.specs.Cmp.Lexicographic.{lists_equiv};
-    ghost use Rattle.collation.specs.laws.Resources.{resource_eq_laws};
+    ghost use Rattle.lock_name.specs.laws.Resources.{resource_eq_laws};
 
     ghost laws = { lists_equiv resource_eq_laws };
 }

@@ -1,0 +1,3 @@
+pub mod Locks
+pub mod LockStatements
+pub mod laws

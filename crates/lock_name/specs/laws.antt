@@ -1,0 +1,4 @@
+pub mod Blocking
+pub mod Counting
+pub mod Resources
+pub mod Zeros
