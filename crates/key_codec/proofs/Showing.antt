@@ -177,11 +177,11 @@ none_last keys [] a e none = refl
 none_last keys (s ∷ []) a e none = refl
 none_last keys (s ∷ t ∷ ts) a e none = let some = some_keys s (t ∷ ts) in let size = ap length e in absurd (grind (arith, nat_tests))
 
--- the key one level up
-pub level_key : (bytes name keys last : List ℕ) (x : Reference) → bytes ≡ name ++ 0 ∷ keys → HasReference name keys x → keys ≡ subscripts_key long_form (without_last x.subscripts) ++ last → take (length bytes - length last) bytes ≡ key_of (record { name = x.name; subscripts = without_last x.subscripts })
-level_key bytes name keys last x b has k =
-    let up : List ℕ = x.name ++ 0 ∷ subscripts_key long_form (without_last x.subscripts) in
-    let whole : bytes ≡ up ++ last = b ∙ (λ i. has.name i ++ 0 ∷ k i) ∙ sym (append_assoc x.name (0 ∷ subscripts_key long_form (without_last x.subscripts)) last) in
+-- the key of a name and the first of some subscripts, where the bytes of the others stand last
+pub cut_key : (bytes name keys last : List ℕ) (ups : List (List ℕ)) (x : Reference) → bytes ≡ name ++ 0 ∷ keys → HasReference name keys x → keys ≡ subscripts_key long_form ups ++ last → take (length bytes - length last) bytes ≡ key_of (record { name = x.name; subscripts = ups })
+cut_key bytes name keys last ups x b has k =
+    let up : List ℕ = x.name ++ 0 ∷ subscripts_key long_form ups in
+    let whole : bytes ≡ up ++ last = b ∙ (λ i. has.name i ++ 0 ∷ k i) ∙ sym (append_assoc x.name (0 ∷ subscripts_key long_form ups) last) in
     let size : length bytes - length last ≡ length up = omega (arith, ap length whole, length-append up last) in
     (λ i. take (size i) (whole i)) ∙ take-append_seam up last
 

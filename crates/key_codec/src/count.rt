@@ -1,5 +1,5 @@
-//! How many subscripts stand in a key's bytes, counted without memory.
-ghost use Rattle.std.specs.Prelude.{◌≡◌, ◌<◌, ◌≤◌, ◌++◌, ◌∷◌, ℕ, List, IfSome, MatchOption, length, nat_eq, not, true};
+//! How many subscripts stand in a key's bytes, and where so many end, told without memory.
+ghost use Rattle.std.specs.Prelude.{◌≡◌, ◌<◌, ◌≤◌, ◌++◌, ◌∷◌, ℕ, List, IfSome, MatchOption, length, take, nat_eq, not, true};
 ghost use Rattle.std.specs.List.{list_all};
 ghost use Rattle.key_codec.specs.Key as spec;
 ghost use Rattle.key_codec.specs.Key.{long_form, IsSubscriptWithin, AreSubscriptsWithin};
@@ -21,6 +21,19 @@ pub(crate) fn count_subscripts(bytes: &[u8]) -> usize
         rest = more;
     }
     count
+}
+
+// What stands behind the first so many of these keys, or behind all where there are no more.
+pub(crate) fn past_subscripts(bytes: &[u8], len: usize) -> &[u8]
+    ensures { (ss : List (List ℕ)) → AreSubscriptsWithin long_form ss → bytes.now ≡ spec.subscripts_key long_form ss → bytes.now ≡ spec.subscripts_key long_form (take len ss) ++ result.now }
+{
+    if len == 0 {
+        return bytes;
+    }
+    match skip_subscript(bytes) {
+        Some(rest) => past_subscripts(rest, len - 1),
+        None => bytes,
+    }
 }
 
 // What follows the subscript whose key stands in front.

@@ -1,5 +1,5 @@
 //! Keys: references that are kept as their key bytes.
-ghost use Rattle.std.specs.Prelude.{◌≡◌, None, [], ◌∷◌, ◌++◌, ◌≢◌, ◌≤◌, ◌⊎◌, List, ℕ, IfNone, IfOk, IfSome, IsOk, MatchResult, false, true, length, nat_lt};
+ghost use Rattle.std.specs.Prelude.{◌≡◌, None, [], ◌∷◌, ◌++◌, ◌≢◌, ◌≤◌, ◌⊎◌, List, ℕ, IfNone, IfOk, IfSome, IsOk, MatchResult, false, true, length, take, nat_lt};
 ghost use Rattle.collation.specs.Limits.{most_subscripts};
 ghost use Rattle.collation.specs.Reference.{Reference};
 ghost use Rattle.collation.specs.Name.{is_name};
@@ -13,7 +13,7 @@ ghost use Rattle.key_codec.specs.Key.{IsFaultless};
 
 use crate::END;
 use crate::bytes::KeyBytes;
-use crate::count::count_subscripts;
+use crate::count::{count_subscripts, past_subscripts};
 use crate::read::{read_reference, split_at_end};
 use crate::shown::{KeySubscripts, first_child, subscripts_of};
 use crate::write::{most_subscript_bytes, push_subscript, roomy_copy, write_key};
@@ -138,13 +138,25 @@ impl Key {
         self.as_slice().strip_prefix(root.as_slice())
     }
 
-    // How many subscripts the reference has.
-    fn depth(&self) -> usize
+    /// How many subscripts the reference has. Takes no memory.
+    pub fn depth(&self) -> usize
         ensures depth { result ≡ length self.now.subscripts }
         ensures few { result ≤ most_subscripts }
     {
         match split_at_end(self.as_slice(), END) {
             Some((_, rest)) => count_subscripts(rest),
+            None => unreachable!(),
+        }
+    }
+
+    /// The key bytes of the reference of the first so many subscripts, or all bytes where it has no more. Takes no memory.
+    pub fn front(&self, len: usize) -> &[u8]
+        ensures value { result.now ≡ spec.key_of (record { name = self.now.name; subscripts = take len self.now.subscripts }) }
+        ensures form { IsFaultless (record { name = self.now.name; subscripts = take len self.now.subscripts }) }
+    {
+        let bytes = self.as_slice();
+        match split_at_end(bytes, END) {
+            Some((_, keys)) => &bytes[..bytes.len() - past_subscripts(keys, len).len()],
             None => unreachable!(),
         }
     }

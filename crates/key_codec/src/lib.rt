@@ -7,7 +7,8 @@
 //! subscript follows it. A `KeyDraft` is what is read of either so far, whatever faults it has.
 //!
 //! (1) Keys compare as references, a beginning first, and no two references have one key.
-//! (2) A key begins with another exactly where its reference is the other or lies under it.
+//! (2) A key begins with another exactly where its reference is the other or lies under it. So the keys
+//!     of the references above one are beginnings of its key, which `Key::front` lends.
 //! (3) From a reference's key on, and before its key with byte 06 after it, lie the keys of what is under it.
 //!
 //! `^A(10,0)` has the key 41 00 04 01 02 02 00 03: the name and its end; a number above zero whose point stands
