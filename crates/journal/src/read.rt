@@ -166,31 +166,6 @@ fn ended_key(alloc: Global, bytes: &[u8]) -> Result<Key, Unread>
     }
 }
 
-#[tactic(auto, unfolding(crate::specs::Reading::endless_at))]
-fn endless_reference(alloc: Global, bytes: &[u8]) -> Result<Ref, Unread>
-    ensures some { IfOk result (λ r. reading.endless_at bytes.now ≡ Some r) }
-    ensures none { IfErr result (λ e. e ≡ Unread.Form → reading.endless_at bytes.now ≡ None) }
-{
-    if bytes.ends_with(&[0]) {
-        return Err(Unread::Form);
-    }
-    decoded(alloc, bytes)
-}
-
-// The same as a reference.
-#[tactic(auto, unfolding(crate::specs::Reading::ended_at))]
-fn ended_reference(alloc: Global, bytes: &[u8]) -> Result<Ref, Unread>
-    ensures some { IfOk result (λ r. reading.ended_at bytes.now ≡ Some r) }
-    ensures none { IfErr result (λ e. e ≡ Unread.Form → reading.ended_at bytes.now ≡ None) }
-{
-    let ended = with_end(alloc, bytes)?;
-    match decoded(alloc, ended.as_slice()) {
-        Ok(reference) => Ok(reference),
-        Err(Unread::Memory) => Err(Unread::Memory),
-        Err(Unread::Form) => endless_reference(alloc, bytes),
-    }
-}
-
 #[tactic(auto, unfolding(crate::specs::Reading::reference_at))]
 fn read_key(alloc: Global, bytes: &[u8]) -> Result<(Key, &[u8]), Unread>
     ensures some { IfOk result (λ p. reading.reference_at bytes.now ≡ Some (p.0, p.1.now)) }
@@ -199,16 +174,6 @@ fn read_key(alloc: Global, bytes: &[u8]) -> Result<(Key, &[u8]), Unread>
     let (string, rest) = read_string(bytes)?;
     let key = ended_key(alloc, string)?;
     Ok((key, rest))
-}
-
-#[tactic(auto, unfolding(crate::specs::Reading::reference_at))]
-fn read_reference(alloc: Global, bytes: &[u8]) -> Result<(Ref, &[u8]), Unread>
-    ensures some { IfOk result (λ p. reading.reference_at bytes.now ≡ Some (p.0, p.1.now)) }
-    ensures none { IfErr result (λ e. e ≡ Unread.Form → reading.reference_at bytes.now ≡ None) }
-{
-    let (string, rest) = read_string(bytes)?;
-    let reference = ended_reference(alloc, string)?;
-    Ok((reference, rest))
 }
 
 #[tactic(auto, unfolding(crate::specs::Reading::name_at))]
@@ -222,8 +187,8 @@ fn read_name(alloc: Global, bytes: &[u8]) -> Result<(LockName, &[u8]), Unread>
     if *caret > 1 {
         return Err(Unread::Form);
     }
-    let (reference, rest) = read_reference(alloc, behind)?;
-    Ok((LockName::new(*caret == 1, reference), rest))
+    let (key, rest) = read_key(alloc, behind)?;
+    Ok((LockName::new(*caret == 1, key), rest))
 }
 
 // So many names, put after those that stand there.

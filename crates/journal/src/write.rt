@@ -170,8 +170,7 @@ fn push_name(bytes: &mut Vec<u8>, name: &LockName) -> Result<(), AllocError>
     ensures kept { GoesOnFrom bytes.old.items bytes.new.items }
 {
     push_byte(bytes, u8::from(name.has_caret()))?;
-    let key = Key::of(*bytes.allocator(), name.reference())?;
-    push_key(bytes, &key)
+    push_key(bytes, name.key())
 }
 
 fn push_each(bytes: &mut Vec<u8>, names: &[LockName]) -> Result<(), AllocError>

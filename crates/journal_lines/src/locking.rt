@@ -3,59 +3,21 @@ ghost use Rattle.std.specs.Prelude.{◌≡◌, ◌++◌, ◌∷◌, [], OnOk};
 ghost use Rattle.std.specs.List.{flat_map};
 ghost use Rattle.collation.specs.Bytes as byte;
 ghost use Rattle.key_codec.specs.Grown.{GoesOnFrom};
-ghost use Rattle.m_text.specs.Written.{parted, literal_text, subscripts_text};
+ghost use Rattle.m_text.specs.Written.{parted};
 ghost use Rattle.journal_lines.specs.Steps as steps;
 
-use collation::{Ref, Text};
 use lock_name::{LockCommand, LockName, LockNames};
-use m_text::write_literal;
+use m_text::{write_key, write_named};
 use std::alloc::AllocError;
-
-fn write_more_subscripts(subscripts: &[Text], out: &mut Vec<u8>) -> Result<(), AllocError>
-    ensures ok { OnOk result (out.new.items ≡ out.old.items ++ flat_map (λ s. byte.comma ∷ literal_text s) subscripts.now) }
-    ensures kept { GoesOnFrom out.old.items out.new.items }
-{
-    'subscripts: for subscript in subscripts {
-        out.push(b',')?;
-        write_literal(subscript.as_slice(), out)?;
-    }
-    Ok(())
-}
-
-fn write_subscripts(subscripts: &[Text], out: &mut Vec<u8>) -> Result<(), AllocError>
-    ensures ok { OnOk result (out.new.items ≡ out.old.items ++ subscripts_text subscripts.now) }
-    ensures kept { GoesOnFrom out.old.items out.new.items }
-{
-    match subscripts {
-        [] => Ok(()),
-        [first, rest @ ..] => {
-            out.push(b'(')?;
-            write_literal(first.as_slice(), out)?;
-            write_more_subscripts(rest, out)?;
-            out.push(b')')?;
-            Ok(())
-        }
-    }
-}
-
-// A reference without its caret.
-fn write_bare(reference: &Ref, out: &mut Vec<u8>) -> Result<(), AllocError>
-    ensures ok { OnOk result (out.new.items ≡ out.old.items ++ (reference.now.name ++ subscripts_text reference.now.subscripts)) }
-    ensures kept { GoesOnFrom out.old.items out.new.items }
-{
-    out.extend_from_slice(reference.name())?;
-    write_subscripts(reference.subscripts(), out)
-}
 
 fn write_name(name: &LockName, out: &mut Vec<u8>) -> Result<(), AllocError>
     ensures ok { OnOk result (out.new.items ≡ out.old.items ++ steps.name_text name.now) }
     ensures kept { GoesOnFrom out.old.items out.new.items }
 {
     if name.has_caret() {
-        out.push(b'^')?;
-        write_bare(name.reference(), out)
+        write_key(name.key(), out)
     } else {
-        write_bare(name.reference(), out)
+        write_named(name.key(), out)
     }
 }
 

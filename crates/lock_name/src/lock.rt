@@ -1,16 +1,17 @@
 //! Lock names and the forms of LOCK.
 ghost use Rattle.std.specs.Prelude.{◌≡◌};
 
-use collation::Ref;
+use key_codec::Key;
 use std::alloc::AllocError;
 use std::cmp::Ordering;
 use std::marker::Model;
 
-/// A lock name: it is written like a reference, with the caret or without.
+/// A lock name: it is written like a reference, with the caret or without. What stands after the caret is kept as a key: a
+/// name takes 48 bytes, and memory only where its key is over 38.
 #[derive(Debug, Drop)]
 pub struct LockName {
     has_caret: bool,
-    reference: Ref,
+    key: Key,
 }
 
 impl Model for LockName {
@@ -18,7 +19,7 @@ impl Model for LockName {
 
     ghost Value = { Resource };
 
-    ghost view = { λ n. record { has_caret = n.has_caret; reference = n.reference } };
+    ghost view = { λ n. record { has_caret = n.has_caret; reference = n.key } };
 }
 
 impl PartialEq for LockName {
@@ -31,7 +32,7 @@ impl PartialEq for LockName {
     ghost laws = { partial_equiv_from_equiv resource_eq_laws };
 
     fn eq(&self, other: &LockName) -> bool {
-        self.has_caret == other.has_caret && self.reference == other.reference
+        self.has_caret == other.has_caret && self.key == other.key
     }
 }
 
@@ -58,7 +59,7 @@ impl Ord for LockName {
     #[tactic(auto, unfolding(crate::specs::Locks::resource_cmp))]
     fn cmp(&self, other: &LockName) -> Ordering {
         let carets = self.has_caret.cmp(&other.has_caret);
-        carets.then_with(|| self.reference.cmp(&other.reference))
+        carets.then_with(|| self.key.cmp(&other.key))
     }
 }
 
@@ -85,24 +86,21 @@ impl Clone for LockName {
     ghost is_clone = { λ a b. a ≡ b };
 
     fn clone(&self) -> Result<LockName, AllocError> {
-        let reference = self.reference.clone()?;
+        let key = self.key.clone()?;
         Ok(LockName {
             has_caret: self.has_caret,
-            reference,
+            key,
         })
     }
 }
 
 impl LockName {
-    /// The lock name of this reference, with the caret or without.
-    pub fn new(has_caret: bool, reference: Ref) -> LockName
+    /// The lock name of this key's reference, with the caret or without. Takes no memory.
+    pub fn new(has_caret: bool, key: Key) -> LockName
         ensures caret { result.has_caret ≡ has_caret }
-        ensures reference { result.reference ≡ reference }
+        ensures reference { result.reference ≡ key }
     {
-        LockName {
-            has_caret,
-            reference,
-        }
+        LockName { has_caret, key }
     }
 
     /// Whether it has a caret.
@@ -112,11 +110,11 @@ impl LockName {
         self.has_caret
     }
 
-    /// What stands after the caret.
-    pub fn reference(&self) -> &Ref
+    /// The key of what stands after the caret.
+    pub fn key(&self) -> &Key
         ensures { result.now ≡ self.now.reference }
     {
-        &self.reference
+        &self.key
     }
 }
 

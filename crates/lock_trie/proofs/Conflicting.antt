@@ -15,11 +15,11 @@ use Rattle.lock_name.specs.Locks.{resource_cmp}
 use Rattle.collation.specs.laws.Order.{is_less}
 use Rattle.collation.specs.laws.Entries.{true_of, either, some_entry_of, entry_of}
 use Rattle.lock_name.specs.laws.Counting.{resource_cmp_total, resource_cmp-IsAntisymmetric}
-use Rattle.lock_trie.specs.Names.{beginning, is_at_or_under, is_above, IsWithinReach}
+use Rattle.lock_trie.specs.Names.{beginning, is_at_or_under, is_above, HasNoneAbove, HaveSameAbove}
 use Rattle.lock_trie.specs.Holders.{has_other, counted}
 use Rattle.lock_trie.specs.Held.{Held, holders_of, held_count, IsHeldByAnother, IsHeldWhere, AreHeld, HasNoShorter}
 use Rattle.lock_trie.proofs.Holding.{Jobs, other_counted, none_other}
-use Rattle.lock_trie.proofs.Unders.{under_not_before, not_under_behind, under_beginning, is_beginning, turned_caret, whole_under}
+use Rattle.lock_trie.proofs.Unders.{under_not_before, not_under_behind, under_beginning, under_fewer, is_beginning, turned_caret, whole_under}
 
 -- ---- the front of what stands from a name on
 
@@ -99,12 +99,35 @@ short_unheld held least job k n none l = by_test (has_other (holders_of held (be
         let t : length (take k n.reference.subscripts) ≤ k = taken_most k n.reference.subscripts in
         absurd (omega arith)
 
-pub none_above : (held : Held) (n : Resource) (job reach i : ℕ) → IsWithinReach held n reach → reach ≤ i → ((k : ℕ) → k < i → has_other (holders_of held (beginning n k)) job ≡ false) → IsHeldWhere (is_above n) held job → ⊥
-none_above held n job reach i within all none w =
+-- a name above another that is held isn't among its beginnings that aren't
+not_among : (held : Held) (n : Resource) (job i : ℕ) → ((k : ℕ) → k < i → has_other (holders_of held (beginning n k)) job ≡ false) → (w : IsHeldWhere (is_above n) held job) → i ≤ length w.0.reference.subscripts
+not_among held n job i none w = by_test (nat_lt (length w.0.reference.subscripts) i) refl
+  where
+    by_test : (b : Bool) → nat_lt (length w.0.reference.subscripts) i ≡ b → i ≤ length w.0.reference.subscripts
+    by_test true e =
+        let t : true ≡ false = sym w.1.0 ∙ ap (λ z. has_other (holders_of held z) job) (is_beginning w.0 n (first_so _ _ w.1.1)) ∙ none (length w.0.reference.subscripts) (ltb-true _ _ e) in
+        absurd (cc)
+    by_test false e = ltb-false _ _ e
+
+-- where none of a name's shorter beginnings is held, none above it is
+pub none_above : (held : Held) (n : Resource) (job i : ℕ) → length n.reference.subscripts ≤ i → ((k : ℕ) → k < i → has_other (holders_of held (beginning n k)) job ≡ false) → IsHeldWhere (is_above n) held job → ⊥
+none_above held n job i all none w =
+    let h : i ≤ length w.0.reference.subscripts = not_among held n job i none w in
+    let l : length w.0.reference.subscripts < length n.reference.subscripts = ltb-true _ _ (second_so (is_at_or_under w.0 n) _ w.1.1) in
+    absurd (omega arith)
+
+-- nor where no shorter one is, and this one isn't a beginning of the name before
+pub none_further : (held : Held) (n p : Resource) (job i : ℕ) → HaveSameAbove held n p → is_at_or_under (beginning n i) p ≡ false → ((k : ℕ) → k < i → has_other (holders_of held (beginning n k)) job ≡ false) → IsHeldWhere (is_above n) held job → ⊥
+none_further held n p job i same no_ none w =
     let s = entry_held held w.0 job w.1.0 in
-    let l : length w.0.reference.subscripts < reach = within w.0 (subst IsSome (sym s.1) refl) w.1.1 in
-    let t : true ≡ false = sym w.1.0 ∙ ap (λ z. has_other (holders_of held z) job) (is_beginning w.0 n (first_so _ _ w.1.1)) ∙ none (length w.0.reference.subscripts) (omega arith) in
+    let b : is_at_or_under w.0 p ≡ true = same w.0 (subst IsSome (sym s.1) refl) w.1.1 in
+    let c : is_at_or_under (beginning n (length w.0.reference.subscripts)) p ≡ true = subst (λ z. is_at_or_under z p ≡ true) (is_beginning w.0 n (first_so _ _ w.1.1)) b in
+    let t : true ≡ false = sym (under_fewer n p i (length w.0.reference.subscripts) (not_among held n job i none w) c) ∙ no_ in
     absurd (cc)
+
+-- nor where nothing stands before
+pub none_first : (held : Held) (n : Resource) (job : ℕ) → HasNoneAbove held n → IsHeldWhere (is_above n) held job → ⊥
+none_first held n job none w = let s = entry_held held w.0 job w.1.0 in none w.0 (subst IsSome (sym s.1) refl) w.1.1
 
 pub none_shorter : (held : Held) (n : Resource) (job least : ℕ) → HasNoShorter held least → length n.reference.subscripts ≤ least → IsHeldWhere (is_above n) held job → ⊥
 none_shorter held n job least none all w =
@@ -162,6 +185,6 @@ held_neither held job n below above w = by_way (either _ _ (second_so (beq n.has
     by_way (inl u) = below (x, (held_x, and_from _ _ caret u))
     by_way (inr u) = by_length (and_from _ _ (turned_caret n.has_caret x.has_caret caret) u) _ refl
 
-pub above_found : (held m : Held) (n : Resource) (job k : ℕ) (hs : Jobs) (r : Bool) → m ≡ held → Some hs ≡ finmap.get m (beginning n k) → r ≡ has_other hs job → r ≡ true → IsHeldWhere (λ x. is_at_or_under x n) held job
-above_found held m n job k hs r is found tested yes_ =
-    beginning_held held n job k (ap (λ o. has_other (unwrap_or o []) job) (ap (λ z. finmap.get z (beginning n k)) (sym is) ∙ sym found) ∙ sym tested ∙ yes_)
+pub above_found : (held m : Held) (n b : Resource) (job k : ℕ) (hs : Jobs) (r : Bool) → m ≡ held → b ≡ beginning n k → Some hs ≡ finmap.get m b → r ≡ has_other hs job → r ≡ true → IsHeldWhere (λ x. is_at_or_under x n) held job
+above_found held m n b job k hs r is at found tested yes_ =
+    beginning_held held n job k (ap (λ o. has_other (unwrap_or o []) job) (ap (finmap.get held) (sym at) ∙ ap (λ z. finmap.get z b) (sym is) ∙ sym found) ∙ sym tested ∙ yes_)

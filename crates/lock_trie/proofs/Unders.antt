@@ -1,6 +1,6 @@
 -- Lock names at and under another, in their order.
-use Rattle.std.proofs.Common.{◌≡◌, ◌≤◌, ◌<◌, ◌+◌, ℕ, List, Bool, true, false, length, take, refl, sym, ap, subst, ◌∙◌, arith, [], ◌∷◌}
-use Rattle.std.specs.Prelude.{cond, ◌&&◌, ◌==◌, nat_eq}
+use Rattle.std.proofs.Common.{◌≡◌, ◌≤◌, ℕ, Bool, true, false, length, take, refl, sym, ap, ◌∙◌}
+use Rattle.std.specs.Prelude.{◌&&◌, nat_eq}
 use Rattle.std.specs.Bool.{beq}
 use Rattle.std.specs.Cmp.{first_so, second_so, tied_itself}
 use Rattle.std.specs.Cmp.Lexicographic.{slice_cmp, pointwise, nat_list_cmp_total}
@@ -14,8 +14,8 @@ use Rattle.collation.specs.Database.{is_under}
 use Rattle.collation.specs.Order.{subscript_cmp, ref_cmp}
 use Rattle.lock_name.specs.Locks.{resource_cmp}
 use Rattle.lock_name.specs.laws.Counting.{resource_cmp_total}
-use Rattle.lock_trie.specs.Names.{beginning, have_one_root, is_at_or_under, shared, reach}
-use Rattle.lock_trie.proofs.Begins.{Path, same_text, equal_texts, text_itself, begins_shared, shared_most, begins_is, take_begins, whole_begins, not_before, squeezed, between}
+use Rattle.lock_trie.specs.Names.{beginning, is_at_or_under}
+use Rattle.lock_trie.proofs.Begins.{same_text, equal_texts, text_itself, begins_fewer, begins_is, take_begins, whole_begins, not_before, squeezed, between}
 
 caret_itself : (c : Bool) → beq c c ≡ true
 caret_itself true = refl
@@ -26,14 +26,6 @@ same_caret true true e = refl
 same_caret true false e = absurd (cc)
 same_caret false true e = absurd (cc)
 same_caret false false e = refl
-
-pub whole_taken : (xs : List (List ℕ)) → take (length xs) xs ≡ xs
-whole_taken [] = refl
-whole_taken (x ∷ xs) = ap (λ ys. x ∷ ys) (whole_taken xs)
-
--- the beginning of all subscripts is the name
-pub whole_beginning : (n : Resource) → beginning n (length n.reference.subscripts) ≡ n
-whole_beginning n i = record { has_caret = n.has_caret; reference = record { name = n.reference.name; subscripts = whole_taken n.reference.subscripts i } }
 
 -- ---- one comparison and the other way round
 
@@ -114,41 +106,11 @@ is_beginning x n b =
     let p : x.reference.subscripts ≡ take (length x.reference.subscripts) n.reference.subscripts = begins_is _ _ (second_so (pointwise nat_eq x.reference.name n.reference.name) _ u) in
     λ i. record { has_caret = c i; reference = record { name = a i; subscripts = p i } }
 
--- names under one name share its caret, its name and its subscripts
-pub within_reach : (x p n : Resource) → is_at_or_under x p ≡ true → is_at_or_under x n ≡ true → length x.reference.subscripts < reach p n
-within_reach x p n b d =
-    let u : is_under x.reference p.reference ≡ true = second_so (beq x.has_caret p.has_caret) _ b in
-    let v : is_under x.reference n.reference ≡ true = second_so (beq x.has_caret n.has_caret) _ d in
-    let c : p.has_caret ≡ n.has_caret = sym (same_caret _ _ (first_so _ _ b)) ∙ same_caret _ _ (first_so _ _ d) in
-    let a : p.reference.name ≡ n.reference.name = sym (same_text _ _ (first_so _ _ u)) ∙ same_text _ _ (first_so _ _ v) in
-    let root : have_one_root p n ≡ true = and_from _ _ (subst (λ k. beq p.has_caret k ≡ true) c (caret_itself p.has_caret)) (equal_texts p.reference.name n.reference.name a) in
-    let most : length x.reference.subscripts ≤ shared p.reference.subscripts n.reference.subscripts =
-    shared_most p.reference.subscripts n.reference.subscripts x.reference.subscripts (second_so (pointwise nat_eq x.reference.name p.reference.name) _ u) (second_so (pointwise nat_eq x.reference.name n.reference.name) _ v) in
-    let less : length x.reference.subscripts < 1 + shared p.reference.subscripts n.reference.subscripts = omega (arith, most) in
-    subst (λ k. length x.reference.subscripts < cond k (1 + shared p.reference.subscripts n.reference.subscripts) 0) (sym root) less
-
--- a name under another has its root, and shares all its subscripts
-under_by_shared : (r x : Resource) → is_at_or_under r x ≡ (have_one_root r x && (shared r.reference.subscripts x.reference.subscripts == length r.reference.subscripts))
-under_by_shared r x = ap (λ b. beq r.has_caret x.has_caret && (pointwise nat_eq r.reference.name x.reference.name && b)) (sym (begins_shared r.reference.subscripts x.reference.subscripts)) ∙ joined (beq r.has_caret x.has_caret) _ _
-  where
-    joined : (a b c : Bool) → (a && (b && c)) ≡ ((a && b) && c)
-    joined true b c = refl
-    joined false b c = refl
-
-pub under_tested : (r x : Resource) (front all : Path) (root : Bool) (n : ℕ) → root ≡ true → root ≡ have_one_root r x → front ≡ r.reference.subscripts → all ≡ x.reference.subscripts → n ≡ shared front all → (n == length front) ≡ is_at_or_under r x
-under_tested r x front all root n is root_is front_is all_is n_is =
-    ap (λ k. k == length front) (n_is ∙ ap (shared front) all_is) ∙ ap (λ p. shared p x.reference.subscripts == length p) front_is
-    ∙ ap (λ b. b && (shared r.reference.subscripts x.reference.subscripts == length r.reference.subscripts)) (sym is ∙ root_is) ∙ sym (under_by_shared r x)
-
-pub under_no_root : (r x : Resource) (root : Bool) → root ≡ false → root ≡ have_one_root r x → root ≡ is_at_or_under r x
-under_no_root r x root is root_is = is ∙ ap (λ b. b && (shared r.reference.subscripts x.reference.subscripts == length r.reference.subscripts)) (sym is ∙ root_is) ∙ sym (under_by_shared r x)
-
--- a point at all subscripts of a name is the name
-pub whole_point : (p n : Resource) (i : ℕ) → p ≡ n → i ≡ length n.reference.subscripts → beginning p i ≡ n
-whole_point p n i same all = ap (λ z. beginning z i) same ∙ ap (beginning n) all ∙ whole_beginning n
-
-pub same_beginning : (p n : Resource) (i j : ℕ) → p ≡ n → i ≡ j → beginning p i ≡ beginning n j
-same_beginning p n i j same len = ap (λ z. beginning z i) same ∙ ap (beginning n) len
+-- what is under a beginning is under each shorter one
+pub under_fewer : (n p : Resource) (i k : ℕ) → i ≤ k → is_at_or_under (beginning n k) p ≡ true → is_at_or_under (beginning n i) p ≡ true
+under_fewer n p i k l b =
+    let u : is_under (beginning n k).reference p.reference ≡ true = second_so (beq n.has_caret p.has_caret) _ b in
+    and_from _ _ (first_so _ _ b) (and_from _ _ (first_so _ _ u) (begins_fewer i k p.reference.subscripts n.reference.subscripts l (second_so (pointwise nat_eq n.reference.name p.reference.name) _ u)))
 
 pub turned_caret : (c d : Bool) → beq c d ≡ true → beq d c ≡ true
 turned_caret true true e = refl

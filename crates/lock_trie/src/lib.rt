@@ -12,8 +12,9 @@
 //!
 //! Only held names have entries, none for their beginnings. In the order of names what a name begins stands behind it in a
 //! row: what is held at and below a name are the entries from it on that begin with it. What lies between a name and its
-//! beginning begins so too: so the entry before a name shares with it all that a held beginning has. What depends on how a
-//! name is kept is in `names.rt`.
+//! beginning begins so too: so the entry before a name begins as each held beginning does. What depends on how a name is
+//! kept is in `names.rt`: names compare by their carets and then by their keys' bytes, and a beginning is the front of a key
+//! up to a subscript's end, lent (`Beginning`).
 //!
 //! Invariants:
 //! (1) the names rise (`NameMap`);
@@ -23,13 +24,13 @@
 //!
 //! `blocked` goes down the tree once, and looks at the entries from the name on until one is another job's or doesn't begin
 //! with it. Only where a held name may be shorter than this one it goes down again, to the entry before, and once more for
-//! each beginning that has `least` subscripts or more and that the entry before shares. `add` goes down once, and once more
-//! where the name is held; `take_away` twice. So each costs a logarithm of how many names are held, times the
+//! each beginning that has `least` subscripts or more and with which the entry before begins. `add` goes down once, and once
+//! more where the name is held; `take_away` twice. So each costs a logarithm of how many names are held, times the
 //! depth of the name at most, beside what the job itself holds below it.
-//! A held name takes one entry: a copy of it, and its holders.
+//! A held name takes one entry: a copy of it, which lies in the entry where its key is short, and its holders.
 //!
 //! With `^A(1)`, `^A(1,2)` and `^A(3)` held, `^A(1)` is told by the first two; of `^A(1,2,7)` the entry before is `^A(1,2)`,
-//! which shares two subscripts with it, so that `^A`, `^A(1)` and `^A(1,2)` are looked up.
+//! which begins as it does up to two subscripts, so that `^A`, `^A(1)` and `^A(1,2)` are looked up.
 //!
 //! Read `specs/Held.antt`, then `trie.rt`, `names.rt`, `map.rt`, `holders.rt`.
 //! Not promised: any time.

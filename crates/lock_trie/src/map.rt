@@ -1,12 +1,12 @@
 //! Values by lock name.
-ghost use Rattle.std.specs.Prelude.{◌≡◌, not, filter, None, Some, IfOk, IfErr, OnErr};
+ghost use Rattle.std.specs.Prelude.{◌≡◌, not, filter, None, Some, IfOk, IfErr, IfNone, IfSome, OnErr};
 ghost use Rattle.std.specs.Option.{option_copied};
 ghost use Rattle.std.specs.Ordering.{is_lt};
 ghost use Rattle.std.specs.FinMap as finmap;
 ghost use Rattle.lock_name.specs.Locks.{resource_cmp};
-ghost use Rattle.lock_trie.specs.Names.{beginning, IsWithinReach};
+ghost use Rattle.lock_trie.specs.Names.{HasNoneAbove, HaveSameAbove};
 
-use crate::names::{Beginning, depth, reach};
+use crate::names::{Beginning, Whole};
 use btree::Trail;
 use lock_name::LockName;
 use std::alloc::{AllocError, Global};
@@ -58,14 +58,13 @@ impl<X> NameMap<X> {
         self.tree.get(name).0
     }
 
-    /// The value of a name's beginning of so many subscripts, where it has one.
-    pub fn at_beginning(&self, name: &LockName, len: usize) -> Option<&X>
-        ensures { option_copied result ≡ finmap.get self.now (beginning name.now len) }
+    /// The value of a beginning, where it is a name that has one.
+    pub fn at_beginning(&self, beginning: &Beginning<'_>) -> Option<&X>
+        ensures { option_copied result ≡ finmap.get self.now beginning.now }
     {
-        let point = Beginning::of(name, len);
-        match self.tree.first_from(&point).0 {
+        match self.tree.first_from(beginning).0 {
             Some((key, value)) => {
-                if point.compare(key).is_eq() {
+                if beginning.compare(key).is_eq() {
                     Some(value)
                 } else {
                     None
@@ -75,15 +74,15 @@ impl<X> NameMap<X> {
         }
     }
 
-    /// A number of subscripts: each name of the map that is a shorter beginning of this one has fewer. The name before this
-    /// one tells it: what lies between a name and its beginning begins so too.
-    pub fn reach_above(&self, name: &LockName) -> usize
-        ensures { IsWithinReach self.now name.now result }
+    /// The last name that stands before this one. Each name of the map that is a shorter beginning of this one is one of it
+    /// too, since what lies between a name and its beginning begins so. Where there is none no name is such a beginning.
+    pub fn last_before(&self, name: &LockName) -> Option<&LockName>
+        ensures some { IfSome result (λ before. HaveSameAbove self.now name.now before.now) }
+        ensures none { IfNone result (HasNoneAbove self.now name.now) }
     {
-        let point = Beginning::of(name, depth(name));
-        match self.tree.last_before(&point).0 {
-            Some((before, _)) => reach(before, name),
-            None => 0,
+        match self.tree.last_before(&Whole { name }).0 {
+            Some((before, _)) => Some(before),
+            None => None,
         }
     }
 
@@ -91,7 +90,7 @@ impl<X> NameMap<X> {
     pub fn walk_from(&self, name: &LockName) -> Walk<'_, LockName, X>
         ensures { result ≡ filter (λ e. not (is_lt (resource_cmp e.0 name.now))) (finmap.entries self.now) }
     {
-        self.tree.from(&Beginning::of(name, depth(name)))
+        self.tree.from(&Whole { name })
     }
 
     /// The names with their values, in order.

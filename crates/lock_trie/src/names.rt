@@ -1,113 +1,122 @@
-//! Lock names: their beginnings as points, and what two of them share. All that depends on how a name is kept stands here.
-ghost use Rattle.std.specs.Prelude.{◌≡◌, ◌≤◌, None, length, take};
-ghost use Rattle.std.specs.Cmp.Lexicographic.{slice_cmp};
-ghost use Rattle.collation.specs.Faults.{subscripts_fault};
-ghost use Rattle.collation.specs.Order.{subscript_cmp, ref_cmp};
+//! Lock names as points in their order, and which of them are beginnings of others. All that depends on how a name is kept
+//! stands here.
+ghost use Rattle.std.specs.Prelude.{◌≡◌, length};
+ghost use Rattle.collation.specs.Database.{is_under};
+ghost use Rattle.collation.specs.Order.{ref_cmp};
 ghost use Rattle.lock_name.specs.Locks.{resource_cmp};
-ghost use Rattle.lock_trie.specs.Names.{beginning, have_one_root as have_one_root_spec, is_at_or_under as is_at_or_under_spec, shared as shared_spec, reach as reach_spec};
+ghost use Rattle.lock_trie.specs.Names.{beginning, is_at_or_under as is_at_or_under_spec};
 
 use btree::Point;
-use collation::{Text, cmp_subscript};
 use lock_name::LockName;
 use std::cmp::Ordering;
+use std::marker::Model;
 
 /// The beginning of a lock name: its caret or none, its name and the first so many of its subscripts.
-#[derive(Clone, Copy)]
+///
+/// It lends the bytes of the name's key up to the end of the last of these. Contracts see the lock name that it is.
+#[derive(Drop)]
 pub struct Beginning<'a> {
-    name: &'a LockName,
-    len: usize,
+    has_caret: bool,
+    bytes: &'a [u8],
 }
 
-// Compares two lists of subscripts, a beginning first. Names next to one another mostly share their first subscripts: that
-// these are equal is seen without reading them as numbers.
-fn cmp_subscripts(a: &[Text], b: &[Text]) -> Ordering
-    requires a_form { subscripts_fault a.now ≡ None }
-    requires b_form { subscripts_fault b.now ≡ None }
-    ensures { result ≡ slice_cmp subscript_cmp a.now b.now }
-{
-    match a {
-        [] => {
-            if b.is_empty() {
-                Ordering::Equal
-            } else {
-                Ordering::Less
-            }
-        }
-        [x, xs @ ..] => match b {
-            [] => Ordering::Greater,
-            [y, ys @ ..] => {
-                if x == y {
-                    cmp_subscripts(xs, ys)
-                } else {
-                    cmp_subscript(x.as_slice(), y.as_slice())
-                }
-            }
-        },
-    }
-}
+impl<'a> Model for Beginning<'a> {
+    ghost use Rattle.collation.specs.Reference.{Resource};
+    ghost use Rattle.key_codec.specs.Back.{reference_of};
+    ghost use Rattle.key_codec.specs.Kept.{Keeps};
 
-// The first so many subscripts of a name, or all where it has no more.
-fn first_subscripts(name: &LockName, len: usize) -> &[Text]
-    ensures value { result.now ≡ take len name.now.reference.subscripts }
-    ensures form { subscripts_fault result.now ≡ None }
-{
-    let subscripts = name.reference().subscripts();
-    if len < subscripts.len() {
-        &subscripts[..len]
-    } else {
-        subscripts
-    }
+    ghost Value = { Resource };
+
+    ghost view = { λ b. record { has_caret = b.has_caret; reference = reference_of b.bytes.now } };
+
+    ghost invariant = { λ b. Keeps b.bytes.now (reference_of b.bytes.now) };
 }
 
 impl<'a> Beginning<'a> {
     /// The first so many subscripts of a name, or all where it has no more.
     pub fn of(name: &'a LockName, len: usize) -> Beginning<'a>
-        ensures name { result.name.now ≡ name.now }
-        ensures len { result.len ≡ len }
+        ensures { result ≡ beginning name.now len }
     {
-        Beginning { name, len }
+        Beginning {
+            has_caret: name.has_caret(),
+            bytes: name.key().front(len),
+        }
     }
 
     // Compares what stands after a name's caret to what stands after this beginning's.
-    #[tactic(auto, unfolding(collation::specs::Order::ref_cmp))]
-    fn compare_reference(&self, key: &LockName) -> Ordering
-        ensures { result ≡ ref_cmp key.now.reference (beginning self.now.name.now self.now.len).reference }
+    fn compare_reference(&self, name: &LockName) -> Ordering
+        ensures { result ≡ ref_cmp name.now.reference self.now.reference }
     {
-        let (own, other) = (self.name.reference(), key.reference());
-        let names = other.name().cmp(&own.name());
-        let (front, subscripts) = (first_subscripts(self.name, self.len), other.subscripts());
-        names.then_with(|| cmp_subscripts(subscripts, front))
+        let bytes = name.key().as_slice();
+        bytes.cmp(&self.bytes)
     }
 
     /// Compares a name to this beginning.
     #[tactic(auto, unfolding(lock_name::specs::Locks::resource_cmp))]
-    pub fn compare(&self, key: &LockName) -> Ordering
-        ensures { result ≡ resource_cmp key.now (beginning self.now.name.now self.now.len) }
+    pub fn compare(&self, name: &LockName) -> Ordering
+        ensures { result ≡ resource_cmp name.now self.now }
     {
-        let carets = key.has_caret().cmp(&self.name.has_caret());
+        let carets = name.has_caret().cmp(&self.has_caret);
         match carets {
-            Ordering::Equal => self.compare_reference(key),
+            Ordering::Equal => self.compare_reference(name),
             _ => carets,
         }
+    }
+
+    // Whether what stands after a name's caret goes on from what stands after this beginning's.
+    fn begins_reference(&self, name: &LockName) -> bool
+        ensures { result ≡ is_under self.now.reference name.now.reference }
+    {
+        name.key().as_slice().starts_with(self.bytes)
+    }
+
+    /// Whether a name is this beginning, or goes on from it.
+    pub fn begins(&self, name: &LockName) -> bool
+        ensures { result ≡ is_at_or_under_spec self.now name.now }
+    {
+        self.has_caret == name.has_caret() && self.begins_reference(name)
     }
 }
 
 impl<'a> Point<LockName> for Beginning<'a> {
     ghost use Rattle.std.specs.Ordering.{is_lt};
     ghost use Rattle.lock_name.specs.Locks.{resource_cmp};
-    ghost use Rattle.lock_trie.specs.Names.{beginning};
     ghost use Rattle.lock_trie.specs.laws.Named.{before_earlier};
     ghost use Rattle.std.proofs.Common.{ap};
     ghost use Rattle.lock_name.specs.laws.Counting.{resource_cmp-IsAntisymmetric};
 
-    ghost before = { λ p x. is_lt (resource_cmp x (beginning p.name.now p.len)) };
+    ghost before = { λ p x. is_lt (resource_cmp x p) };
 
-    ghost downward = { λ p x y l h. before_earlier (beginning p.name.now p.len) x y l h };
+    ghost downward = { λ p x y l h. before_earlier p x y l h };
 
-    ghost tied = { λ p x y e. ap (λ z. is_lt (resource_cmp z (beginning p.name.now p.len))) (resource_cmp-IsAntisymmetric x y e) };
+    ghost tied = { λ p x y e. ap (λ z. is_lt (resource_cmp z p)) (resource_cmp-IsAntisymmetric x y e) };
 
     fn is_after(&self, key: &LockName) -> bool {
         self.compare(key).is_lt()
+    }
+}
+
+/// A whole lock name as a point: names compare to it as to the name.
+#[derive(Clone, Copy)]
+pub struct Whole<'a> {
+    pub name: &'a LockName,
+}
+
+impl<'a> Point<LockName> for Whole<'a> {
+    ghost use Rattle.std.specs.Ordering.{is_lt};
+    ghost use Rattle.lock_name.specs.Locks.{resource_cmp};
+    ghost use Rattle.lock_trie.specs.laws.Named.{before_earlier};
+    ghost use Rattle.std.proofs.Common.{ap};
+    ghost use Rattle.lock_name.specs.laws.Counting.{resource_cmp-IsAntisymmetric};
+
+    ghost before = { λ p x. is_lt (resource_cmp x p.name.now) };
+
+    ghost downward = { λ p x y l h. before_earlier p.name.now x y l h };
+
+    ghost tied = { λ p x y e. ap (λ z. is_lt (resource_cmp z p.name.now)) (resource_cmp-IsAntisymmetric x y e) };
+
+    fn is_after(&self, key: &LockName) -> bool {
+        key.cmp(self.name).is_lt()
     }
 }
 
@@ -115,46 +124,12 @@ impl<'a> Point<LockName> for Beginning<'a> {
 pub fn depth(name: &LockName) -> usize
     ensures { result ≡ length name.now.reference.subscripts }
 {
-    name.reference().subscripts().len()
-}
-
-// Whether two names are the same apart from subscripts.
-fn have_one_root(a: &LockName, b: &LockName) -> bool
-    ensures { result ≡ have_one_root_spec a.now b.now }
-{
-    a.has_caret() == b.has_caret() && a.reference().name() == b.reference().name()
-}
-
-// How many of the first subscripts are the same.
-fn shared(a: &[Text], b: &[Text]) -> usize
-    ensures count { result ≡ shared_spec a.now b.now }
-    ensures most { result ≤ length a.now }
-{
-    match a {
-        [] => 0,
-        [x, xs @ ..] => match b {
-            [] => 0,
-            [y, ys @ ..] => { if x == y { 1 + shared(xs, ys) } else { 0 } }
-        },
-    }
+    name.key().depth()
 }
 
 /// Whether a name is the other, or goes on from it.
 pub fn is_at_or_under(name: &LockName, root: &LockName) -> bool
     ensures { result ≡ is_at_or_under_spec root.now name.now }
 {
-    let (subscripts, front) = (name.reference().subscripts(), root.reference().subscripts());
-    have_one_root(root, name) && shared(front, subscripts) == front.len()
-}
-
-/// One more than how many of the first subscripts the names share, and 0 where they differ before: each name from which
-/// both go on, or which is one of them, has fewer subscripts.
-pub fn reach(a: &LockName, b: &LockName) -> usize
-    ensures { result ≡ reach_spec a.now b.now }
-{
-    if have_one_root(a, b) {
-        1 + shared(a.reference().subscripts(), b.reference().subscripts())
-    } else {
-        0
-    }
+    root.has_caret() == name.has_caret() && name.key().is_under(root.key())
 }

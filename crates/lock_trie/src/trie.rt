@@ -9,7 +9,7 @@ ghost use Rattle.lock_trie.specs.Names.{is_above, is_at_or_under as is_at_or_und
 
 use crate::holders::Holders;
 use crate::map::NameMap;
-use crate::names::{depth, is_at_or_under};
+use crate::names::{Beginning, depth, is_at_or_under};
 use btree::Trail;
 use lock_name::LockName;
 use std::alloc::{AllocError, Global};
@@ -138,11 +138,19 @@ impl LockTrie {
         ensures some { result ≡ true → IsHeldWhere (λ x. is_at_or_under_spec x name.now) self.now job }
         ensures none { result ≡ false → IsHeldWhere (is_above name.now) self.now job → ⊥ }
     {
-        if self.least >= depth(name) {
+        let len = depth(name);
+        if self.least >= len {
             return false;
         }
-        for i in self.least..self.map.reach_above(name) {
-            if let Some(holders) = self.map.at_beginning(name, i)
+        let Some(before) = self.map.last_before(name) else {
+            return false;
+        };
+        for i in self.least..len {
+            let beginning = Beginning::of(name, i);
+            if !beginning.begins(before) {
+                return false;
+            }
+            if let Some(holders) = self.map.at_beginning(&beginning)
                 && holders.has_other(job)
             {
                 return true;

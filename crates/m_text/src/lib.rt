@@ -19,7 +19,7 @@ pub use front::{after, is_word, number_up_to, split_digits, split_letters, split
 pub use laws::{literals_are_read_as_spelled, references_are_read_as_spelled};
 pub use literal::{read_literal, skip_literal};
 pub use place::{read_draft, read_named, read_place, read_reference, skip_place};
-pub use write::{write_key, write_literal};
+pub use write::{write_key, write_literal, write_named};
 
 mod chars;
 mod front;

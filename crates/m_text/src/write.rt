@@ -203,13 +203,20 @@ fn write_subscripts(mut subscripts: KeySubscripts<'_>, out: &mut Vec<u8>) -> Res
     }
 }
 
+fn push_named(key: &Key, out: &mut Vec<u8>) -> Result<(), AllocError>
+    ensures ok { OnOk result (out.new.items ≡ out.old.items ++ (key.now.name ++ written.subscripts_text key.now.subscripts)) }
+    ensures kept { GoesOnFrom out.old.items out.new.items }
+{
+    out.extend_from_slice(key.name())?;
+    write_subscripts(key.subscripts(), out)
+}
+
 fn push_key(key: &Key, out: &mut Vec<u8>) -> Result<(), AllocError>
     ensures ok { OnOk result (out.new.items ≡ out.old.items ++ written.reference_text key.now) }
     ensures kept { GoesOnFrom out.old.items out.new.items }
 {
     out.push(b'^')?;
-    out.extend_from_slice(key.name())?;
-    write_subscripts(key.subscripts(), out)
+    push_named(key, out)
 }
 
 /// Writes the reference of a key at the end of `out`: a caret, the name, and the subscripts as literals.
@@ -222,6 +229,24 @@ pub fn write_key(key: &Key, out: &mut Vec<u8>) -> Result<(), AllocError>
 {
     let before = out.len();
     match push_key(key, out) {
+        Ok(()) => Ok(()),
+        Err(error) => {
+            out.truncate(before);
+            Err(error)
+        }
+    }
+}
+
+/// Writes the reference of a key at the end of `out` without its caret: the name, and the subscripts as literals.
+///
+/// Where memory is refused `out` is as it was.
+#[tactic(auto, using(key_codec::specs::laws::Grown::back_to))]
+pub fn write_named(key: &Key, out: &mut Vec<u8>) -> Result<(), AllocError>
+    ensures ok { OnOk result (out.new.items ≡ out.old.items ++ (key.now.name ++ written.subscripts_text key.now.subscripts)) }
+    ensures err { OnErr result (out.new.items ≡ out.old.items) }
+{
+    let before = out.len();
+    match push_named(key, out) {
         Ok(()) => Ok(()),
         Err(error) => {
             out.truncate(before);

@@ -7,8 +7,7 @@ ghost use Rattle.m_text.specs.Place.{ref_fault, unless};
 ghost use Rattle.script.specs.Locking.{names_fault};
 ghost use Rattle.script.specs.Sentence.{AreNamed, HasNoRoom};
 
-use collation::Ref;
-use key_codec::KeyDraft;
+use key_codec::{Key, KeyDraft};
 use lock_name::{LockName, LockNames};
 use refusal::Refusal;
 use std::alloc::{AllocError, Global};
@@ -21,16 +20,13 @@ pub(crate) struct Names {
     pub(crate) fault: Option<Refusal>,
 }
 
-// The reference of a draft, or its fault.
-fn reference_of(alloc: Global, draft: &KeyDraft) -> Result<Result<Ref, Refusal>, AllocError>
+// The key of a draft's reference, or its fault.
+fn key_of(alloc: Global, draft: &KeyDraft) -> Result<Result<Key, Refusal>, AllocError>
     requires { IsSpelled draft.now }
-    ensures { (r : Reference) → IsDraft draft.now r → IfOk result (λ judged. MatchResult judged (λ reference. (ref_fault r ≡ None) × (reference ≡ r)) (λ fault. ref_fault r ≡ Some fault)) }
+    ensures { (r : Reference) → IsDraft draft.now r → IfOk result (λ judged. MatchResult judged (λ key. (ref_fault r ≡ None) × (key ≡ r)) (λ fault. ref_fault r ≡ Some fault)) }
 {
     match draft.key(alloc) {
-        Ok(key) => match key.reference(alloc) {
-            Ok(reference) => Ok(Ok(reference)),
-            Err(error) => Err(error),
-        },
+        Ok(key) => Ok(Ok(key)),
         Err(Refusal::OutOfMemory) => Err(AllocError),
         Err(fault) => Ok(Err(fault)),
     }
@@ -68,8 +64,8 @@ impl Names {
         if self.fault.is_some() {
             return Ok(());
         }
-        match reference_of(alloc, draft)? {
-            Ok(reference) => self.add(LockName::new(has_caret, reference)),
+        match key_of(alloc, draft)? {
+            Ok(key) => self.add(LockName::new(has_caret, key)),
             Err(fault) => {
                 self.fault = Some(fault);
                 Ok(())

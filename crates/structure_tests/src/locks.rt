@@ -1,6 +1,7 @@
 //! The lock table against plain counts by name: 26 names of three levels, with the caret and without, and 20 jobs, in
 //! transactions and outside. Expected answers are those of docs/RULES.md, "Locks", told by arrays.
 use collation::{Job, Name, Ref, Subscripts, Text};
+use key_codec::Key;
 use lock_name::{LockName, LockNames};
 use lock_table::LockTable;
 use refusal::Refusal;
@@ -61,7 +62,8 @@ fn reference(alloc: Global, name: usize) -> Result<Ref, Refusal> {
 fn push_name(alloc: Global, names: &mut Vec<LockName>, name: usize) -> Result<(), Refusal> {
     names.reserve(1)?;
     let reference = reference(alloc, name)?;
-    names.push_reserved(LockName::new(name >= 13, reference));
+    let key = Key::of(alloc, &reference)?;
+    names.push_reserved(LockName::new(name >= 13, key));
     Ok(())
 }
 

@@ -15,10 +15,10 @@ fn push_name(name: &LockName, out: &mut Vec<u8>) -> Result<(), AllocError> {
     if name.has_caret() {
         out.push(b'^')?;
     }
-    out.extend_from_slice(name.reference().name())?;
-    for subscript in name.reference().subscripts() {
+    out.extend_from_slice(name.key().name())?;
+    for subscript in name.key().subscripts() {
         out.push(b'/')?;
-        out.extend_from_slice(subscript.as_slice())?;
+        subscript.push_to(out)?;
     }
     Ok(())
 }

@@ -114,8 +114,8 @@ pub(crate) fn lock_command(alloc: Global, form: LockForm, key: &Key) -> Result<C
     ensures ok { IfOk result (λ command. command ≡ lock_of_key form key.now) }
     ensures err { IfErr result (λ refusal. IsMemory refusal) }
 {
-    let reference = key.reference(alloc)?;
+    let key = key.clone()?;
     let mut names = Vec::new(alloc);
-    names.push(LockName::new(true, reference))?;
+    names.push(LockName::new(true, key))?;
     Ok(Command::Lock(form.of(LockNames::new(names))))
 }

@@ -4,10 +4,7 @@ use Rattle.std.specs.Prelude.{not, filter}
 use Rattle.std.specs.Ordering.{is_lt}
 use Rattle.lock_name.specs.Locks.{resource_cmp}
 use Rattle.lock_trie.proofs.Pairs.{map_entries}
-use Rattle.lock_trie.proofs.Unders.{whole_point}
 use Rattle.lock_trie.proofs.map.NameMap.walk_from.Goals as goal
 
 pub returns : goal.returns
-returns g c =
-    c.from.ensures ∙ ap (λ n. filter (λ e. not (is_lt (resource_cmp e.0 n))) c.self.inside.tree.pairs) (whole_point c.of.result.name.now c.args.name.now c.of.result.len c.of.ensures.name (c.of.ensures.len ∙ c.depth.ensures))
-    ∙ ap (filter (λ e. not (is_lt (resource_cmp e.0 c.args.name.now)))) (sym (map_entries c.self.inside.tree.pairs c.self.invariant) ∙ ap finmap.entries c.self.view_is)
+returns g c = c.from.ensures ∙ ap (filter (λ e. not (is_lt (resource_cmp e.0 c.args.name.now)))) (sym (map_entries c.self.inside.tree.pairs c.self.invariant) ∙ ap finmap.entries c.self.view_is)
