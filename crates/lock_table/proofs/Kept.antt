@@ -60,11 +60,16 @@ kept_less old t job held new others down same kept lowered reached x = by_count 
     by_count zero e was down same below least reached = let s = same e in omega arith
     by_count (suc n) e was down same below least reached = let low = reached (omega arith) in omega arith
 
-pub none_kept : (old t : Held) (job : ℕ) (held others new : Counts) → others ≡ held → new ≡ finmap.empty → IsHeldIn old job held → AreLowered (held_count old job) (held_count t job) (count_of new)
-    → ((x : Resource) → 0 < count_of others x → held_count t job x ≤ count_of new x) → IsHeldIn t job new
-none_kept old t job held others new is new_is kept lowered reached = kept_less old t job held new others
-    (λ x. let z : count_of new x ≡ 0 = ap (λ c. count_of c x) new_is ∙ no_count x in omega arith)
-    (λ x h. ap (λ c. count_of c x) new_is ∙ no_count x ∙ sym h ∙ ap (λ c. count_of c x) is) kept lowered reached
+-- a trie that is lowered to counts that are no higher than what was held
+pub just_kept : (old t : Held) (job : ℕ) (held before new want : Counts) → before ≡ held → new ≡ want → ((x : Resource) → count_of want x ≤ count_of held x) → IsHeldIn old job held → AreLowered (held_count old job) (held_count t job) (count_of new)
+    → ((x : Resource) → 0 < count_of before x → held_count t job x ≤ count_of new x) → IsHeldIn t job new
+just_kept old t job held before new want is new_is low kept lowered reached = kept_less old t job held new before
+    (λ x. let w : count_of new x ≡ count_of want x = ap (λ c. count_of c x) new_is in let l : count_of want x ≤ count_of held x = low x in omega arith)
+    (λ x none.
+    let w : count_of new x ≡ count_of want x = ap (λ c. count_of c x) new_is in
+    let l : count_of want x ≤ count_of held x = low x in
+    let z : count_of held x ≡ 0 = ap (λ c. count_of c x) (sym is) ∙ none in
+    omega arith) kept lowered reached
 
 pub kept_fewer : (old t : Held) (job : ℕ) (held new : Counts) (ns : List Resource) → new ≡ fewer_of ns held → IsHeldIn old job held → ((x : Resource) → held_count t job x ≡ held_count old job x - times x ns) → IsHeldIn t job new
 kept_fewer old t job held new ns is kept taken x =

@@ -14,6 +14,9 @@ use Rattle.lock_table.proofs.Lists.{unnamed_times}
 pub no_count : (x : Resource) → count_of finmap.empty x ≡ 0
 no_count x = ap (λ o. unwrap_or o 0) (finmap.get-empty resource_cmp x)
 
+pub none_above : (none held : Counts) → none ≡ finmap.empty → (x : Resource) → count_of none x ≤ count_of held x
+none_above none held is x = let z : count_of none x ≡ 0 = ap (λ c. count_of c x) is ∙ no_count x in omega arith
+
 counted_put : (counts : Counts) (n : Resource) (v : ℕ) (x : Resource) → count_of (put_count counts n v) x ≡ cond (eq_by_cmp resource_cmp x n) v (count_of counts x)
 counted_put counts n zero x = count_remove counts n x
 counted_put counts n (suc v) x = count_insert counts n (suc v) x
@@ -29,6 +32,9 @@ counted_from x (e ∷ es) counts = counted_put (taken_from counts es) e.0 (count
 
 pub counted_less : (counts others : Counts) (x : Resource) → count_of (less counts others) x ≡ count_of counts x - count_of others x
 counted_less counts others x = counted_from x (finmap.entries others) counts ∙ ap (λ o. count_of counts x - unwrap_or o 0) (sym (finmap.get-entries others x))
+
+pub surplus_is : (counts others : Counts) (x : Resource) (a b r : ℕ) → a ≡ count_of counts x → b ≡ count_of others x → r ≡ a - b → r ≡ count_of (less counts others) x
+surplus_is counts others x a b r a_is b_is r_is = r_is ∙ ap (λ z. z - b) a_is ∙ ap (λ z. count_of counts x - z) b_is ∙ sym (counted_less counts others x)
 
 none_put : (counts : Counts) (n : Resource) (v : ℕ) → HasNoZeros counts → HasNoZeros (put_count counts n v)
 none_put counts n zero none = none_remove counts n none
@@ -107,8 +113,8 @@ by_named x ns P there out = by_test (is_listed x ns) refl
     by_test true e = there e
     by_test false e = out (unnamed_times x ns e)
 
-pub raised_list : (left others : Counts) (ns over : List Resource) → ((x : Resource) → is_listed x ns ≡ true → count_of left x ≡ count_of others x) → ((x : Resource) → times x over ≡ times x ns - count_of left x) → (x : Resource) → times x over ≡ times x ns - count_of others x
-raised_list left others ns over same is x = by_named x ns _ (λ e. is x ∙ ap (λ c. times x ns - c) (same x e)) (λ none. let t = is x in omega arith)
+pub raised_list : (left : Counts) (spare : Resource → ℕ) (ns over : List Resource) → ((x : Resource) → is_listed x ns ≡ true → count_of left x ≡ spare x) → ((x : Resource) → times x over ≡ times x ns - count_of left x) → (x : Resource) → times x over ≡ times x ns - spare x
+raised_list left spare ns over same is x = by_named x ns _ (λ e. is x ∙ ap (λ c. times x ns - c) (same x e)) (λ none. let t = is x in omega arith)
 
 pub lowered_list : (left others : Counts) (ns gone : List Resource) → ((x : Resource) → is_listed x ns ≡ true → count_of left x ≡ count_of others x) → ((x : Resource) → times x gone ≡ min (times x ns) (count_of left x)) → (x : Resource) → times x gone ≡ min (times x ns) (count_of others x)
 lowered_list left others ns gone same is x = by_named x ns _ (λ e. is x ∙ ap (λ c. min (times x ns) c) (same x e)) (λ none. let t = is x in omega arith)

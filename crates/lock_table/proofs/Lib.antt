@@ -4,5 +4,6 @@ pub mod Lists
 pub mod Trie
 pub mod Less
 pub mod Kept
+pub mod Wants
 pub mod Rows
 pub mod Tables

@@ -197,6 +197,13 @@ pub no_row : (o : Option JobLocks) → false ≡ is_some o → o ≡ None
 no_row None e = refl
 no_row (Some l) e = absurd (cc)
 
+-- a row that is there is found
+pub row_there : (es : List (ℕ × JobLocks)) (m : LockState) (job : ℕ) → finmap.from_entries es ≡ m → is_some (finmap.get m job) ≡ true → None ≡ lookup (is_at (nat_cmp job)) es → ⊥
+row_there es m job was there none = let clash : false ≡ true = ap is_some (sym (got es m job None was none)) ∙ there in absurd (cc)
+
+pub put_there : (m n : LockState) (job : ℕ) (l : JobLocks) → n ≡ finmap.insert m job l → is_some (finmap.get n job) ≡ true
+put_there m n job l is = ap (λ s. is_some (finmap.get s job)) is ∙ ap is_some (finmap.get-insert nat_cmp_total m job l job) ∙ ap (λ t. is_some (cond t (Some l) (finmap.get m job))) (ap is_eq (tied_itself nat_cmp_total job))
+
 pub put_new : (es fs : List (ℕ × JobLocks)) (m : LockState) (job : ℕ) (l : JobLocks) → finmap.from_entries es ≡ m → Puts es fs job l → l ≡ no_locks → finmap.from_entries fs ≡ finmap.insert m job no_locks
 put_new es fs m job l was puts is = put es fs m job l no_locks was puts is
 

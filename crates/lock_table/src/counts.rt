@@ -10,7 +10,6 @@ ghost use Rattle.lock_trie.specs.Held.{held_count};
 ghost use Rattle.lock_table.specs.Counted.{AreCounts, AreRaised, AreLowered, less, is_over, is_listed};
 ghost use Rattle.lock_table.specs.Rows.{IsHeldIn, AreOthersSame};
 
-use crate::inside::{Inside, wanted};
 use crate::moves::lower;
 use lock_name::LockName;
 use lock_trie::LockTrie;
@@ -250,20 +249,38 @@ impl Counts {
         Ok(some)
     }
 
-    /// Of each of these names at least as many as the job wants. Where memory is refused some may be raised.
-    pub fn raise_wanted(
+    /// How many times more this name is had than in the others.
+    fn surplus(&self, others: &Counts, name: &LockName) -> u32
+        ensures count { result ≡ count_of (less self.now others.now) name.now }
+        ensures small { result ≤ most_locks }
+    {
+        self.count(name).saturating_sub(others.count(name))
+    }
+
+    /// Of each of these names at least as many as the counts have more than the others. Where memory is refused some
+    /// may be raised.
+    fn raise_surplus(
         &mut self,
         names: &[LockName],
-        held: &Counts,
-        inside: &Inside,
+        counts: &Counts,
+        others: &Counts,
     ) -> Result<(), AllocError>
-        ensures raised { AreRaised (count_of self.old) (count_of self.new) (count_of (less held.now inside.now.fewer)) }
-        ensures ok { OnOk result ((x : Resource) → is_listed x names.now ≡ true → count_of (less held.now inside.now.fewer) x ≤ count_of self.new x) }
+        ensures raised { AreRaised (count_of self.old) (count_of self.new) (count_of (less counts.now others.now)) }
+        ensures ok { OnOk result ((x : Resource) → is_listed x names.now ≡ true → count_of (less counts.now others.now) x ≤ count_of self.new x) }
     {
         for name in names {
-            self.raise(name, wanted(held, inside, name))?;
+            self.raise(name, counts.surplus(others, name))?;
         }
         Ok(())
+    }
+
+    /// Of these names as many as are had more than in the others, and of no other name.
+    pub fn surplus_among(&self, others: &Counts, names: &[LockName]) -> Result<Counts, AllocError>
+        ensures { IfOk result (λ some. (x : Resource) → is_listed x names.now ≡ true → count_of some x ≡ count_of (less self.now others.now) x) }
+    {
+        let mut some = Counts::new(self.alloc);
+        some.raise_surplus(names, self, others)?;
+        Ok(some)
     }
 
     /// This name is had at most n times. Takes no memory.

@@ -19,27 +19,29 @@
 //! `plus`, `minus` or `clear`; `reply` and `check` change nothing.
 //!
 //! Invariants:
-//! (1) a row keeps what is held and, inside, two differences to it: how many times fewer each name is wanted, and how
-//!     many times more it is held than it was wanted at the start; neither is above what is held (`specs/Rows.antt`);
+//! (1) a row keeps what is held and, inside, what is wanted, as all that is held but these or as just these, and how
+//!     many times more each name is held than it was wanted at the start; neither is above what is held
+//!     (`specs/Rows.antt`);
 //! (2) the trie has of each job what its row holds (`specs/Tables.antt`);
 //! (3) no count is above 65,535, and a name that is had no time has no entry (`specs/Counted.antt`).
 //!
-//! So a commit takes away the first difference and a rollback the second: both only give back, and take no memory. With
-//! 1 `^A` wanted at the start:
+//! So a commit takes away what isn't wanted and a rollback what was added: both only give back, and take no memory.
+//! With 1 `^A` wanted at the start:
 //!
-//! | LOCK inside | Held | Fewer | Added | Wanted | Start |
-//! |---|---|---|---|---|---|
-//! | | 1 `^A` | | | 1 `^A` | 1 `^A` |
-//! | `-^A` | 1 `^A` | 1 `^A` | | none | 1 `^A` |
-//! | `+(^A,^B)` | 1 `^A`, 1 `^B` | | 1 `^B` | 1 `^A`, 1 `^B` | 1 `^A` |
+//! | LOCK inside | Held | Wanted | Added | Start |
+//! |---|---|---|---|---|
+//! | | 1 `^A` | all | | 1 `^A` |
+//! | `-^A` | 1 `^A` | all but 1 `^A` | | 1 `^A` |
+//! | `+(^A,^B)` | 1 `^A`, 1 `^B` | all | 1 `^B` | 1 `^A` |
+//! | `^C` | 1 `^A`, 1 `^B`, 1 `^C` | just 1 `^C` | 1 `^B`, 1 `^C` | 1 `^A` |
 //!
-//! What may be refused comes first and is taken back. Outside, a LOCK that releases all is one inside that is committed
-//! at once. A LOCK with + or - costs what it names, one that releases all what the job holds, a commit what was given
-//! back in the transaction, a rollback what was added.
+//! What may be refused comes first or is taken back. Outside, a LOCK that releases all is one inside that is committed
+//! at once. A LOCK inside, of any form, costs what it names. A commit costs what was given back in the transaction or,
+//! after a LOCK without a sign, what the job holds, and so does such a LOCK outside; a rollback costs what was added.
 //!
 //! `check` looks at the counts of the names that are asked for; `reply` takes no memory.
 //!
-//! Read `specs/Rows.antt`, then `table.rt`, `command.rt`, `row.rt`, `inside.rt`, `moves.rt`.
+//! Read `specs/Rows.antt`, then `table.rt`, `command.rt`, `row.rt`, `inside.rt`, `wanted.rt`, `moves.rt`.
 //! Not promised: any time.
 #![tactic(auto)]
 
@@ -52,3 +54,4 @@ mod inside;
 mod moves;
 mod row;
 mod table;
+mod wanted;

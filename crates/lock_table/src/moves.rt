@@ -7,13 +7,15 @@ ghost use Rattle.lock_name.specs.Locks.{count_of, more_of, fewer_of};
 ghost use Rattle.lock_name.specs.LockStatements.{times};
 ghost use Rattle.lock_trie.specs.Held.{held_count, IsRecounted};
 ghost use Rattle.lock_table.specs.Counted.{less, is_over};
-ghost use Rattle.lock_table.specs.Rows.{IsHeldIn, AreOthersSame};
+ghost use Rattle.lock_table.specs.Rows.{IsHeldIn, AreOthersSame, want_of, told_by};
 
 use crate::counts::Counts;
+use crate::wanted::Wanted;
 use lock_name::LockName;
 use lock_trie::LockTrie;
 use refusal::Refusal;
 use std::alloc::AllocError;
+use std::mem::replace;
 
 /// The job holds this name at most n times. Takes no memory.
 pub fn lower(trie: &mut LockTrie, job: u16, name: &LockName, n: u32)
@@ -115,4 +117,30 @@ pub fn give_back(trie: &mut LockTrie, job: u16, held: &mut Counts, others: &Coun
     held.give(trie, job, others);
     held.look();
     others.lower_in(trie, job, held);
+}
+
+/// The job, which holds what its counts say, holds just what is wanted, which is no more. Takes no memory.
+pub fn hold_just(trie: &mut LockTrie, job: u16, held: &mut Counts, want: Counts)
+    requires kept { IsHeldIn trie.old job held.old }
+    requires fewer { (x : Resource) → count_of want x ≤ count_of held.old x }
+    ensures held { held.new ≡ want }
+    ensures kept { IsHeldIn trie.new job held.new }
+    ensures others { AreOthersSame trie.old trie.new job }
+{
+    let before = replace(held, want);
+    before.lower_in(trie, job, held);
+}
+
+/// The job, which holds what its counts say, holds just what it wants of that. Takes no memory.
+pub fn hold_wanted(trie: &mut LockTrie, job: u16, held: &mut Counts, wanted: Wanted)
+    requires kept { IsHeldIn trie.old job held.old }
+    requires within { (x : Resource) → count_of (told_by wanted) x ≤ count_of held.old x }
+    ensures held { held.new ≡ want_of held.old wanted }
+    ensures kept { IsHeldIn trie.new job held.new }
+    ensures others { AreOthersSame trie.old trie.new job }
+{
+    match wanted {
+        Wanted::AllBut(fewer) => give_back(trie, job, held, &fewer),
+        Wanted::Just(want) => hold_just(trie, job, held, want),
+    }
 }

@@ -2,18 +2,17 @@
 ghost use Rattle.std.specs.Prelude.{true, false, ◌⊎◌, ◌≡◌, None, Some, OnOk, OnErr, IfErr, IfOk};
 ghost use Rattle.collation.specs.Reference.{Resource};
 ghost use Rattle.lock_name.specs.Locks.{count_of, no_locks, job_wants, job_commits, job_goes_back};
-ghost use Rattle.lock_table.specs.Counted.{is_listed, less};
-ghost use Rattle.lock_table.specs.Rows.{AreWithin, inside_locks, enters, want_by, is_full_by, IsHeldIn, IsInsideSame, IsKept, AreOthersSame};
+ghost use Rattle.lock_table.specs.Counted.{is_listed};
+ghost use Rattle.lock_table.specs.Rows.{AreWithin, want_of, told_by, inside_locks, want_by, is_full_by, IsHeldIn, IsInsideSame, IsKept, AreOthersSame};
 
 use crate::counts::Counts;
-use crate::inside::{Inside, fewer, more, only, wanted_among};
-use crate::moves::{give_back, hold_fewer, hold_more};
+use crate::inside::{Inside, fewer, more, only};
+use crate::moves::{give_back, hold_fewer, hold_just, hold_more, hold_wanted};
 use lock_name::LockName;
 use lock_trie::LockTrie;
 use refusal::Refusal;
 use std::alloc::{AllocError, Global};
 use std::marker::Model;
-use std::mem::replace;
 
 /// The forms of LOCK; of those that ask for names, whether the job can have them all.
 #[derive(Drop, Clone, Copy)]
@@ -36,15 +35,15 @@ fn lock_inside(
     names: &[LockName],
 ) -> Result<(), Refusal>
     requires kept { IsHeldIn trie.old job held.old }
-    requires within { AreWithin held.old inside.old.fewer inside.old.added }
-    ensures ok { OnOk result (inside_locks held.new inside.new ≡ job_wants true (want_by form names.now (less held.old inside.old.fewer)) (inside_locks held.old inside.old)) }
+    requires within { AreWithin held.old (told_by inside.old.wanted) inside.old.added }
+    ensures ok { OnOk result (inside_locks held.new inside.new ≡ job_wants true (want_by form names.now (want_of held.old inside.old.wanted)) (inside_locks held.old inside.old)) }
     ensures same { OnErr result (held.new ≡ held.old) }
     ensures err { OnErr result (IsInsideSame inside.old inside.new) }
-    ensures within { AreWithin held.new inside.new.fewer inside.new.added }
+    ensures within { AreWithin held.new (told_by inside.new.wanted) inside.new.added }
     ensures kept { IsHeldIn trie.new job held.new }
     ensures others { AreOthersSame trie.old trie.new job }
-    ensures allowed { OnOk result (is_full_by form names.now (less held.old inside.old.fewer) ≡ false) }
-    ensures full { IfErr result (λ refusal. (refusal ≡ Refusal.OutOfMemory) ⊎ ((refusal ≡ Refusal.LockCountFull) × (is_full_by form names.now (less held.old inside.old.fewer) ≡ true))) }
+    ensures allowed { OnOk result (is_full_by form names.now (want_of held.old inside.old.wanted) ≡ false) }
+    ensures full { IfErr result (λ refusal. (refusal ≡ Refusal.OutOfMemory) ⊎ ((refusal ≡ Refusal.LockCountFull) × (is_full_by form names.now (want_of held.old inside.old.wanted) ≡ true))) }
 {
     match form {
         Form::Only(had) => only(trie, job, held, inside, names, had),
@@ -95,27 +94,9 @@ impl Row {
         ensures { IfOk result (λ want. (x : Resource) → is_listed x names.now ≡ true → count_of want x ≡ count_of self.now.want x) }
     {
         match &self.inside {
-            Some(inside) => wanted_among(&self.held, inside, names),
+            Some(inside) => inside.wanted.among(&self.held, names),
             None => self.held.among(names),
         }
-    }
-
-    /// The first LOCK in a transaction remembers what is wanted; answers whether this is the first. Takes no memory.
-    fn enter(&mut self) -> bool
-        ensures ok { self.new ≡ enters self.old }
-        ensures fresh { result ≡ true → job_commits self.new ≡ self.old }
-        ensures stays { result ≡ false → self.new ≡ self.old }
-    {
-        if self.inside.is_some() {
-            return false;
-        }
-        self.held.look();
-        self.inside = Some(Inside {
-            fewer: Counts::new(self.alloc),
-            added: Counts::new(self.alloc),
-            alloc: self.alloc,
-        });
-        true
     }
 
     /// What is wanted is what is held, and the start is forgotten. Takes no memory.
@@ -126,7 +107,7 @@ impl Row {
         ensures others { AreOthersSame trie.old trie.new job }
     {
         if let Some(inside) = self.inside.take() {
-            give_back(trie, job, &mut self.held, &inside.fewer);
+            hold_wanted(trie, job, &mut self.held, inside.wanted);
         }
     }
 
@@ -149,20 +130,20 @@ impl Row {
         ensures kept { IsKept trie.new job self.new }
         ensures others { AreOthersSame trie.old trie.new job }
     {
-        let held = replace(&mut self.held, Counts::new(self.alloc));
         drop(self.inside.take());
-        held.lower_in(trie, job, &self.held);
+        hold_just(trie, job, &mut self.held, Counts::new(self.alloc));
     }
 
-    /// One form of LOCK of a job that took a LOCK in its transaction.
-    fn step(
+    /// The first LOCK in a transaction: what is wanted is remembered.
+    fn first(
         &mut self,
         trie: &mut LockTrie,
         job: u16,
         form: Form,
         names: &[LockName],
     ) -> Result<(), Refusal>
-        requires { IsKept trie.old job self.old }
+        requires kept { IsKept trie.old job self.old }
+        requires out { self.old.start ≡ None }
         ensures ok { OnOk result (self.new ≡ job_wants true (want_by form names.now self.old.want) self.old) }
         ensures err { OnErr result (self.new ≡ self.old) }
         ensures kept { IsKept trie.new job self.new }
@@ -170,9 +151,14 @@ impl Row {
         ensures allowed { OnOk result (is_full_by form names.now self.old.want ≡ false) }
         ensures full { IfErr result (λ refusal. (refusal ≡ Refusal.OutOfMemory) ⊎ ((refusal ≡ Refusal.LockCountFull) × (is_full_by form names.now self.old.want ≡ true))) }
     {
-        match &mut self.inside {
-            Some(inside) => lock_inside(trie, job, &mut self.held, inside, form, names),
-            None => Err(Refusal::OutOfMemory),
+        self.held.look();
+        let mut inside = Inside::new(self.alloc);
+        match lock_inside(trie, job, &mut self.held, &mut inside, form, names) {
+            Ok(()) => {
+                self.inside = Some(inside);
+                Ok(())
+            }
+            Err(refusal) => Err(refusal),
         }
     }
 
@@ -192,15 +178,9 @@ impl Row {
         ensures allowed { OnOk result (is_full_by form names.now self.old.want ≡ false) }
         ensures full { IfErr result (λ refusal. (refusal ≡ Refusal.OutOfMemory) ⊎ ((refusal ≡ Refusal.LockCountFull) × (is_full_by form names.now self.old.want ≡ true))) }
     {
-        let fresh = self.enter();
-        match self.step(trie, job, form, names) {
-            Ok(()) => Ok(()),
-            Err(refusal) => {
-                if fresh {
-                    self.commit(trie, job);
-                }
-                Err(refusal)
-            }
+        match &mut self.inside {
+            Some(inside) => lock_inside(trie, job, &mut self.held, inside, form, names),
+            None => self.first(trie, job, form, names),
         }
     }
 

@@ -117,6 +117,7 @@ impl LockTable {
 
     /// The job has a row; answers whether it had none.
     fn make_row(&mut self, job: u16) -> Result<bool, Refusal>
+        ensures there { OnOk result (is_some (finmap.get self.new job) ≡ true) }
         ensures ok { IfOk result (λ fresh. self.new ≡ (if fresh then finmap.insert self.old job no_locks else self.old)) }
         ensures fresh { IfOk result (λ fresh. fresh ≡ true → finmap.get self.old job ≡ None) }
         ensures refused { IfErr result (λ refusal. refusal ≡ Refusal.OutOfMemory) }
@@ -139,6 +140,7 @@ impl LockTable {
         form: Form,
         names: &[LockName],
     ) -> Result<(), Refusal>
+        requires { is_some (finmap.get self.old job) ≡ true }
         ensures ok { OnOk result (self.new ≡ finmap.insert self.old job (job_wants inside (want_by form names.now (let l = locks_of job self.old in l.want)) (locks_of job self.old))) }
         ensures allowed { OnOk result (is_full_by form names.now (let l = locks_of job self.old in l.want) ≡ false) }
         ensures full { IfErr result (λ refusal. (refusal ≡ Refusal.OutOfMemory) ⊎ ((refusal ≡ Refusal.LockCountFull) × (is_full_by form names.now (let l = locks_of job self.old in l.want) ≡ true))) }
@@ -146,7 +148,7 @@ impl LockTable {
     {
         match self.rows.get_mut(&job) {
             Some(row) => row.lock(&mut self.trie, job, inside, form, names),
-            None => Err(Refusal::OutOfMemory),
+            None => unreachable!(),
         }
     }
 

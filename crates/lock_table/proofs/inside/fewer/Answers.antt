@@ -1,11 +1,9 @@
-use Rattle.std.proofs.Common.{refl}
-use Rattle.lock_table.proofs.Rows.{fewer_wanted, within_fewer}
+use Rattle.lock_table.specs.Rows.{want_of}
+use Rattle.lock_trie.specs.laws.Results.{onward}
+use Rattle.lock_table.proofs.Rows.{fewer_wanted}
+use Rattle.lock_table.proofs.Wants.{want_held, none_wanted}
 use Rattle.lock_table.proofs.inside.fewer.Goals as goal
 
-pub returns-in-Ok-clause-ok : goal.returns-in-Ok-clause-ok
-returns-in-Ok-clause-ok c = fewer_wanted c.args.held.now c.args.inside.now.fewer c.args.inside.now.added c.add_all.new.self c.args.inside.now.added c.args.names.now c.in_ok-gone.gone.items (let a = c.look.ensures in a.some) c.requires c.in_ok-gone.ensures
-    (rw c.as_slice.ensures.value at c.in-Ok.ensures.ok) refl
-
-pub returns-in-Ok-clause-within : goal.returns-in-Ok-clause-within
-returns-in-Ok-clause-within c = within_fewer c.args.held.now c.args.inside.now.fewer c.args.inside.now.added c.add_all.new.self c.args.inside.now.added c.args.names.now c.in_ok-gone.gone.items c.requires c.in_ok-gone.ensures
-    (rw c.as_slice.ensures.value at c.in-Ok.ensures.ok) refl
+pub returns-clause-ok : goal.returns-clause-ok
+returns-clause-ok c = onward c.release.result (fewer_wanted c.args.held.now (want_of c.args.held.now c.args.inside.now.wanted) c.args.inside.now.added (want_of c.args.held.now c.release.new.self) c.args.names.now (let a = c.look.ensures in a.some)
+    (none_wanted c.args.held.now c.args.inside.now.wanted (let a = c.look.ensures in a.some) (let a = c.look-2.ensures in a.some)) (want_held c.args.held.now c.args.inside.now.wanted (let a = c.requires in a.told_held))) c.release.ensures.ok
