@@ -3,6 +3,8 @@ pub mod ByJob
 pub mod Committing
 pub mod Excluding
 pub mod Good
+pub mod Levels
+pub mod Locking
 pub mod Overtaken
 pub mod ReadRanges
 pub mod Rereading

@@ -11,8 +11,9 @@
 //! was touched. Had job 2 set `^B`, job 1 would be committed, and 1 would be the value of `^A` there too.
 //!
 //! Read `specs/Machine.antt`, `specs/Touches.antt`, `specs/Overtaking.antt`, `specs/Soundness.antt`, `specs/Committing.antt`,
-//! `specs/Standing.antt`, `specs/Traces.antt`, `specs/Memory.antt` and `specs/ReadRanges.antt`; then `laws.rt`, `commits.rt`, `runs.rt`
-//! and `locks.rt`. Laws for callers: `specs/laws`.
+//! `specs/Standing.antt`, `specs/Traces.antt`, `specs/Levels.antt`, `specs/Locking.antt`, `specs/Memory.antt` and
+//! `specs/ReadRanges.antt`; then `laws.rt`, `commits.rt`, `transactions.rt`, `runs.rt` and `locks.rt`. Laws for callers:
+//! `specs/laws`.
 //! Not promised: that a transaction is ever committed, where others go on touching what it reads.
 #![tactic(auto)]
 
@@ -27,14 +28,20 @@ pub use laws::{
 };
 pub use locks::{
     blocked_where_another_job_holds, counts_are_told_by_resource, jobs_hold_nothing_in_common,
+    locks_are_counted_by_command, locks_are_granted_where_no_name_is_blocked,
+    names_conflict_where_one_begins_the_other,
 };
 pub use runs::{
     answers_stand_in_the_journal, backed_transactions_leave_no_trace,
     memory_is_wanting_only_where_it_is_taken, runs_are_legal, runs_are_their_stories,
     steps_without_memory_leave_nothing, stories_are_legal,
 };
+pub use transactions::{
+    ended_transactions_are_closed, levels_rise_and_fall_by_one, transactions_begin_now,
+};
 
 mod commits;
 mod laws;
 mod locks;
 mod runs;
+mod transactions;

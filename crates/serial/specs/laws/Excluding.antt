@@ -86,7 +86,7 @@ fair_changed job l s t here others fit new fair = record {
 -- ---- LOCK
 
 -- a resource of a list of which none is blocked isn't blocked
-listed_free : (s : LockState) (job : ℕ) (n : Resource) (ns : List Resource) → list_any (is_blocked s job) ns ≡ false → 0 < times n ns → is_blocked s job n ≡ false
+pub listed_free : (s : LockState) (job : ℕ) (n : Resource) (ns : List Resource) → list_any (is_blocked s job) ns ≡ false → 0 < times n ns → is_blocked s job n ≡ false
 listed_free s job n [] none h = absurd (omega arith)
 listed_free s job n (k ∷ ks) none h = by_test (eq_by_cmp resource_cmp n k) refl h (listed_free s job n ks)
   where

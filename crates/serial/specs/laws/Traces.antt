@@ -35,7 +35,7 @@ other_unit (Back q) s job ne = locks_changed_apart job_goes_back s.locks q job n
 other_unit (End q) s job ne = locks_gone_apart s.locks q job ne
 
 -- one more unit
-one_more : (u : JournalUnit) (s : Machine) (job : ℕ) → job_locks job (add_unit u s) ≡ locks_of job (after_unit u (after s.units initial)).locks
+pub one_more : (u : JournalUnit) (s : Machine) (job : ℕ) → job_locks job (add_unit u s) ≡ locks_of job (after_unit u (after s.units initial)).locks
 one_more u s job = ap (λ st. locks_of job st.locks) (after-append s.units (u ∷ []) initial)
 
 -- ---- another job's step
@@ -322,7 +322,7 @@ goes_start job reply s is rest = by_reply reply
     by_reply (Refused refusal) = unchanged
     by_reply r = unchanged
 
-map_back : (job : ℕ) (o : Option Transaction) (s : Machine) → machine_map (told_back job o s) ≡ machine_map s
+pub map_back : (job : ℕ) (o : Option Transaction) (s : Machine) → machine_map (told_back job o s) ≡ machine_map s
 map_back job None s = refl
 map_back job (Some t) s = elim t.took_lock as (λ b. machine_map (cond b (add_unit (Back job) s) s) ≡ machine_map s) [ true ↦ ap (λ (st : State). st.map) (after-append s.units (Back job ∷ []) initial) | false ↦ refl ]
 
