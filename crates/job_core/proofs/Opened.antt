@@ -103,7 +103,7 @@ pub are_answered : (s : Starts) (command : DataCommand) (result : Result Answer 
 are_answered s command result units job old new are answered = by_found (finmap.get old job) refl answered
   where
     by_found : (o : Option Session) → finmap.get old job ≡ o → HasAnsweredAt command result units job old new o → AreBegun s new
-    by_found None none same = subst (AreBegun s) (sym same.0) are
+    by_found None none never = absurd never
     by_found (Some w) there put = subst (AreBegun s) (sym put.put) (are_still s old (finmap.insert old job put.session) are (begun_again old job w put.session there (answered_start command result units w put.session put.answered)))
 
 -- ---- the least start is the least stamp

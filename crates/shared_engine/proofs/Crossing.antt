@@ -17,8 +17,8 @@ use Rattle.lock_table.specs.contracts.table.LockTable as LockTable
 use Rattle.lock_table.specs.contracts.table.LockTable.TheInside as LocksInside
 use Rattle.lock_trie.specs.contracts.trie.LockTrie as LockTrie
 use Rattle.lock_table.proofs.row.Row.TheSendSync as row
+use Rattle.lock_name.proofs.lock.LockName.TheSendSync as lock_name
 use Rattle.lock_trie.proofs.holders.Holders.TheSendSync as holders
-use Rattle.collation.proofs.lock.LockName.TheSendSync as lock_name
 use Rattle.key_codec.proofs.key.Key.TheSendSync as key
 use Rattle.collation.proofs.text.Text.TheSendSync as text
 use Rattle.cell_pool.proofs.pool.Pool.TheSendSync as pool
