@@ -1,4 +1,5 @@
 pub mod Blocks
 pub mod Cut
 pub mod OneMore
+pub mod Runs
 pub mod Written

@@ -16,7 +16,7 @@ then_ok (Err e) p f = tt
 
 -- ---- numbers
 
-same_number : (m n : ℕ) → eqb m n ≡ true → m ≡ n
+pub same_number : (m n : ℕ) → eqb m n ≡ true → m ≡ n
 same_number m n e = grind (arith, common_steps)
 
 other_way : (m n : ℕ) → eqb m n ≡ false → eqb n m ≡ false
@@ -80,7 +80,7 @@ firsts_new (m ∷ ms) n h = by (eqb n m) refl (firsts_new ms n) h
         ap (λ (l : List ℕ). m ∷ without m l) (ih (sym (has_without n m (firsts ms) e) ∙ h)) ∙ ap (λ (l : List ℕ). m ∷ l) (filter-append (λ k. not (eqb k m)) (firsts ms) (n ∷ []))
         ∙ ap (λ b. m ∷ (without m (firsts ms) ++ cond (not b) (n ∷ []) [])) e
 
-firsts_known : (ns : List ℕ) (n : ℕ) → has n (firsts ns) ≡ true → firsts (ns ++ n ∷ []) ≡ firsts ns
+pub firsts_known : (ns : List ℕ) (n : ℕ) → has n (firsts ns) ≡ true → firsts (ns ++ n ∷ []) ≡ firsts ns
 firsts_known [] n h = absurd (true≢false (sym h))
 firsts_known (m ∷ ms) n h = by (has n (firsts ms)) refl (firsts_known ms n)
   where
@@ -149,7 +149,7 @@ map_extended lines l (n ∷ ns) d = by (eqb (group_of l) n) refl (map_extended l
         ap (λ (gs : List Group). group (lines ++ l ∷ []) n ∷ gs) ih ∙ ap (λ (ls : List (List ℕ)). of_lines n ls ∷ extended (position_or_len (eqb (group_of l)) ns) l (map (group lines) ns)) (under_same n lines l e)
         ∙ sym (ap (λ i. extended i l (group lines n ∷ map (group lines) ns)) (one-add (position_or_len (eqb (group_of l)) ns)))
 
-groups_known : (lines : List (List ℕ)) (l : List ℕ) → has (group_of l) (firsts (map group_of lines)) ≡ true → groups_of (lines ++ l ∷ []) ≡ extended (position_or_len (eqb (group_of l)) (firsts (map group_of lines))) l (groups_of lines)
+pub groups_known : (lines : List (List ℕ)) (l : List ℕ) → has (group_of l) (firsts (map group_of lines)) ≡ true → groups_of (lines ++ l ∷ []) ≡ extended (position_or_len (eqb (group_of l)) (firsts (map group_of lines))) l (groups_of lines)
 groups_known lines l h =
     ap (λ (ns : List ℕ). map (group (lines ++ l ∷ [])) (firsts ns)) (map-append group_of lines (l ∷ [])) ∙ ap (λ (ns : List ℕ). map (group (lines ++ l ∷ [])) ns) (firsts_known (map group_of lines) (group_of l) h)
     ∙ map_extended lines l (firsts (map group_of lines)) (firsts_distinct (map group_of lines))
@@ -174,7 +174,7 @@ set_extended (x ∷ xs) zero s d line h e = ap (λ (g : Group). g ∷ map shown 
 set_extended (x ∷ xs) (suc i) s d line h e = ap (λ (gs : List Group). shown x ∷ gs) (set_extended xs i s d line (omega arith) e)
 
 -- the numbers of scripts that show the groups of lines
-numbers_of_groups : (lines : List (List ℕ)) (scripts : List Script) (keys : List ℕ) → keys ≡ numbers_in (map shown scripts) → map shown scripts ≡ groups_of lines → keys ≡ firsts (map group_of lines)
+pub numbers_of_groups : (lines : List (List ℕ)) (scripts : List Script) (keys : List ℕ) → keys ≡ numbers_in (map shown scripts) → map shown scripts ≡ groups_of lines → keys ≡ firsts (map group_of lines)
 numbers_of_groups lines scripts keys k e = k ∙ ap numbers_in e ∙ numbers_group lines (firsts (map group_of lines))
 
 -- a script of one line is put behind them

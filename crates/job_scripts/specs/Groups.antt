@@ -42,9 +42,13 @@ groups_of lines = map (group lines) (firsts (map group_of lines))
 abbrev pub nonempty : List (List ℕ) → List (List ℕ)
 nonempty lines = filter (λ line. not (length line == 0)) lines
 
--- the lines of a text that aren't empty, each without its end and a byte 13 before that
+-- the lines of a text, each without its end and a byte 13 before that
+abbrev pub all_lines : List ℕ → List (List ℕ)
+all_lines text = map without_terminator (lines_of text)
+
+-- those that aren't empty
 abbrev pub lines_in : List ℕ → List (List ℕ)
-lines_in text = nonempty (map without_terminator (lines_of text))
+lines_in text = nonempty (all_lines text)
 
 -- the groups of a text's lines
 abbrev pub groups_in : List ℕ → List Group

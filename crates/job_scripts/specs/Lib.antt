@@ -2,3 +2,4 @@ pub mod Blocks
 pub mod Groups
 pub mod Lines
 pub mod Reports
+pub mod Runs

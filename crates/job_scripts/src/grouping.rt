@@ -1,7 +1,10 @@
 //! The lines of a text by job.
-ghost use Rattle.std.specs.Prelude.{◌≡◌, ◌<◌, ◌++◌, ◌∷◌, [], List, ℕ, map, unwrap_or, length, OnOk, IfOk};
+ghost use Rattle.std.specs.Prelude.{◌≡◌, ◌==◌, ◌<◌, ◌≤◌, ◌++◌, ◌∷◌, [], List, ℕ, map, unwrap_or, length, OnOk, IfOk, IfSome};
+ghost use Rattle.std.specs.List.{position};
+ghost use Rattle.collation.specs.Bytes as byte;
 ghost use Rattle.script.specs.Line.{job_of_line as job_of};
-ghost use Rattle.job_scripts.specs.Groups.{groups_of, groups_in, shown, more, single, extended, numbers_in, nonempty};
+ghost use Rattle.job_scripts.specs.Groups.{all_lines, groups_of, groups_in, group_of, shown, more, single, extended, numbers_in, nonempty, with_ends};
+ghost use Rattle.job_scripts.specs.Runs.{with_more, extended_by, AreSoFar, IsFrontOf, IsLineBefore, IsPlaceOf, IsRun};
 
 use crate::Script;
 use bstr::ByteSlice;
@@ -59,31 +62,136 @@ fn extend_at(scripts: &mut Vec<Script>, index: usize, line: &[u8]) -> Result<(),
     extend_script(&mut scripts[index], line)
 }
 
-// A line under its job.
-fn add_line(alloc: Global, groups: &mut Groups, line: &[u8]) -> Result<(), AllocError>
+// A line under its job. Answers the place of its script.
+fn add_line(alloc: Global, groups: &mut Groups, line: &[u8]) -> Result<usize, AllocError>
     requires { groups.old.numbers.keys ≡ numbers_in (map shown groups.old.scripts.items) }
     ensures numbers { OnOk result (groups.new.numbers.keys ≡ numbers_in (map shown groups.new.scripts.items)) }
     ensures scripts { OnOk result ((lines : List (List ℕ)) → map shown groups.old.scripts.items ≡ groups_of lines → map shown groups.new.scripts.items ≡ groups_of (lines ++ line.now ∷ [])) }
+    ensures place { IfOk result (IsPlaceOf (group_of line.now) groups.new.numbers.keys) }
+    ensures within { IfOk result (λ place. place < length groups.new.scripts.items) }
 {
     let job = job_of_line(line);
     let (index, added) = groups.numbers.insert_full(number_of(&job))?;
     if added {
         let script = first_script(alloc, job, line)?;
         groups.scripts.push(script)?;
-        return Ok(());
+        return Ok(index);
     }
-    extend_at(&mut groups.scripts, index, line)
+    extend_at(&mut groups.scripts, index, line)?;
+    Ok(index)
 }
 
-// A line under its job, where it isn't empty.
-fn take_line(alloc: Global, groups: &mut Groups, line: &[u8]) -> Result<(), AllocError>
+// Lines at the front of a text, each with its end, how many they are, and what follows them.
+#[derive(Clone, Copy)]
+struct Run<'a> {
+    text: &'a [u8],
+    lines: usize,
+    rest: &'a [u8],
+}
+
+// Where the first blank of a line is. A line's job is short, so this is close to its beginning.
+fn first_blank(line: &[u8]) -> Option<usize>
+    ensures { result ≡ position (λ b. b == byte.blank) line.now }
+{
+    line.iter().position(|byte| *byte == b' ')
+}
+
+// What a line begins with, through its first blank.
+fn front_of(line: &[u8]) -> Option<&[u8]>
+    ensures { IfSome result (λ front. IsFrontOf front.now line.now) }
+{
+    let end = first_blank(line)?;
+    Some(&line[..end + 1])
+}
+
+// What follows the first line of a text, where that begins so and ends with a byte 10 and no 13 before it.
+fn after_line<'a>(front: &[u8], text: &'a [u8]) -> Option<&'a [u8]>
+    ensures line { IfSome result (λ rest. IsLineBefore front.now text.now rest.now) }
+    ensures shorter { IfSome result (λ rest. length rest.now < length text.now) }
+{
+    if !text.starts_with(front) {
+        return None;
+    }
+    let end = text.find_byte(b'\n')?;
+    if end == 0 || end < front.len() || text[end - 1] == b'\r' {
+        return None;
+    }
+    Some(&text[end + 1..])
+}
+
+// The lines at the front of a text that begin so, and end with a byte 10 and no 13 before it.
+fn run_of<'a>(front: &[u8], text: &'a [u8]) -> Run<'a>
+    ensures { IsRun front.now text.now result.text.now result.lines result.rest.now }
+{
+    let mut lines = 0;
+    let mut rest = text;
+    'lines: while let Some(after) = after_line(front, rest) {
+        lines += 1;
+        rest = after;
+    }
+    Run {
+        text: &text[..text.len() - rest.len()],
+        lines,
+        rest,
+    }
+}
+
+// Lines more.
+fn extend_by_run(script: &mut Script, run: Run<'_>) -> Result<(), AllocError>
+    ensures { OnOk result ((lines : List (List ℕ)) → run.entry.text.now ≡ with_ends lines → run.entry.lines ≡ length lines → shown script.new ≡ with_more lines (shown script.old)) }
+{
+    script.text.extend_from_slice(run.text)?;
+    script.lines = script.lines.checked_add(run.lines).ok_or(AllocError)?;
+    Ok(())
+}
+
+// Lines more at this index.
+fn extend_by_run_at(scripts: &mut Vec<Script>, index: usize, run: Run<'_>) -> Result<(), AllocError>
+    requires { index < length scripts.old.items }
+    ensures { OnOk result ((lines : List (List ℕ)) → run.entry.text.now ≡ with_ends lines → run.entry.lines ≡ length lines → map shown scripts.new.items ≡ extended_by index lines (map shown scripts.old.items)) }
+{
+    extend_by_run(&mut scripts[index], run)
+}
+
+// A line, and those behind it that begin so too, under their job. Answers what follows them.
+fn add_lines<'a>(
+    alloc: Global,
+    groups: &mut Groups,
+    line: &[u8],
+    rest: &'a [u8],
+) -> Result<&'a [u8], AllocError>
     requires { groups.old.numbers.keys ≡ numbers_in (map shown groups.old.scripts.items) }
     ensures numbers { OnOk result (groups.new.numbers.keys ≡ numbers_in (map shown groups.new.scripts.items)) }
-    ensures scripts { OnOk result ((lines : List (List ℕ)) → map shown groups.old.scripts.items ≡ groups_of lines → map shown groups.new.scripts.items ≡ groups_of (lines ++ nonempty (line.now ∷ []))) }
+    ensures scripts { IfOk result (λ left. (all : List (List ℕ)) → AreSoFar all (line.now ∷ nonempty (all_lines rest.now)) groups.old.scripts.items → AreSoFar all (nonempty (all_lines left.now)) groups.new.scripts.items) }
+    ensures fewer { IfOk result (λ left. length (all_lines left.now) ≤ length (all_lines rest.now)) }
+{
+    let index = add_line(alloc, groups, line)?;
+    if rest.first() != line.first() {
+        return Ok(rest);
+    }
+    let Some(front) = front_of(line) else {
+        return Ok(rest);
+    };
+    let run = run_of(front, rest);
+    extend_by_run_at(&mut groups.scripts, index, run)?;
+    Ok(run.rest)
+}
+
+// A line, where it isn't empty, and those behind it that begin so too. Answers what follows them.
+fn take_lines<'a>(
+    alloc: Global,
+    groups: &mut Groups,
+    line: &[u8],
+    rest: &'a [u8],
+) -> Result<&'a [u8], AllocError>
+    requires { groups.old.numbers.keys ≡ numbers_in (map shown groups.old.scripts.items) }
+    ensures numbers { OnOk result (groups.new.numbers.keys ≡ numbers_in (map shown groups.new.scripts.items)) }
+    ensures scripts { IfOk result (λ left. (all : List (List ℕ)) → AreSoFar all (nonempty (line.now ∷ all_lines rest.now)) groups.old.scripts.items → AreSoFar all (nonempty (all_lines left.now)) groups.new.scripts.items) }
+    ensures fewer { IfOk result (λ left. length (all_lines left.now) ≤ length (all_lines rest.now)) }
 {
     match line {
-        [] => Ok(()),
-        [_, ..] => add_line(alloc, groups, line),
+        [] => Ok(rest),
+        [_, ..] => add_lines(alloc, groups, line, rest),
     }
 }
 
@@ -98,8 +206,9 @@ pub fn scripts_of(alloc: Global, text: &[u8]) -> Result<Vec<Script>, AllocError>
         numbers: IndexSet::new(alloc),
         scripts: Vec::new(alloc),
     };
-    'lines: for line in text.lines() {
-        take_line(alloc, &mut groups, line)?;
+    let mut lines = text.lines();
+    'lines: while let Some(line) = lines.next() {
+        lines = take_lines(alloc, &mut groups, line, lines.as_bytes())?.lines();
     }
     Ok(groups.scripts)
 }
