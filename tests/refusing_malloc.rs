@@ -1,4 +1,5 @@
-//! C's `malloc` and `realloc`, of which one call is refused: the one whose number is in `REFUSED`. To be preloaded.
+//! C's `malloc` and `realloc`, of which one call is refused: the one whose number is in `REFUSED`. To be preloaded. Where
+//! the file descriptor 9 is open, a byte there tells that the call came.
 use std::ffi::{c_char, c_void};
 use std::sync::atomic::{AtomicI64, Ordering};
 
@@ -7,6 +8,7 @@ extern "C" {
     fn __libc_realloc(old: *mut c_void, size: usize) -> *mut c_void;
     fn getenv(name: *const c_char) -> *const c_char;
     fn atol(text: *const c_char) -> i64;
+    fn write(file: i32, bytes: *const c_void, length: usize) -> isize;
 }
 
 /// How many calls are left up to the one that is refused, that one counted; the least number before the first call.
@@ -17,7 +19,11 @@ fn is_refused() -> bool {
         let text = unsafe { getenv(c"REFUSED".as_ptr()) };
         LEFT.store(if text.is_null() { 0 } else { unsafe { atol(text) } }, Ordering::SeqCst);
     }
-    LEFT.fetch_sub(1, Ordering::SeqCst) == 1
+    let refused = LEFT.fetch_sub(1, Ordering::SeqCst) == 1;
+    if refused {
+        unsafe { write(9, c"r".as_ptr().cast(), 1) };
+    }
+    refused
 }
 
 #[no_mangle]

@@ -20,6 +20,7 @@
 //! | `running.rt` | a job as it is run, and one line of it |
 //! | `holding.rt` | lines that are done under one hold of the engine's lock |
 //! | `blocks.rt` | blocks, as often as they are overtaken |
+//! | `turns.rt` | when the collector looks, and at how many keys |
 //! | `worker.rt` | the lines of one job, and of one job after the other |
 //! | `load.rt` | the listing that is loaded before the first job |
 //! | `serving.rt` | the workers, the channels, the reports in order |
@@ -43,4 +44,5 @@ mod replies;
 mod run;
 mod running;
 mod serving;
+mod turns;
 mod worker;

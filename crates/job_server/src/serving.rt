@@ -6,9 +6,10 @@ ghost use Rattle.job_server.specs.Served.{Wanted, wanted, AreHanded, AreBooked, 
 
 use crate::job_run::Calls;
 use crate::load::load_listing;
+use crate::turns::Turns;
 use crate::worker::{Batch, Done, Task, Worker};
 use crate::{ServerFault, Unserved};
-use crossbeam_channel::{Receiver, Sender, unbounded};
+use crossbeam_channel::{Receiver, Sender, bounded};
 use job_scripts::{Report, Script};
 use loading::LoadLog;
 use pin_board::{Blank, BoardName, SEATS};
@@ -180,7 +181,7 @@ fn start<'s, E, B: BoardName + Batch + Send + Sync, R: Wait + Sync, G: Gate + Sy
         let mut worker = Worker {
             alloc,
             calls,
-            writes: 0,
+            turns: Turns::new(),
         };
         worker.work(tasks, reports)
     });
@@ -201,14 +202,16 @@ fn share_out<B: BoardName + Batch + Send + Sync, R: Threads + Wait + Sync, G: Ga
 ) -> Result<Gathered<B>, ServerFault>
     requires { map wanted scripts.items ≡ B.scripts }
 {
+    let count = scripts.len();
     let mut gathered = Gathered {
-        slots: slots_of(alloc, scripts.len())?,
+        slots: slots_of(alloc, count)?,
         fault: None,
         done: 0,
         lines: 0,
     };
-    let (task_sender, task_receiver) = unbounded(alloc)?;
-    let (report_sender, report_receiver) = unbounded(alloc)?;
+    // All memory of the channels is taken here, so that no report is lost for want of it.
+    let (task_sender, task_receiver) = bounded(alloc, count)?;
+    let (report_sender, report_receiver) = bounded(alloc, count)?;
     thread::scope(
         thread::scope_env(),
         rt,

@@ -15,6 +15,7 @@ use crate::cursor::{Cursor, Line};
 use crate::in_turn::are_in_turn;
 use crate::job_run::Calls;
 use crate::running::{JobRun, Sessions, read_for};
+use crate::turns::Turns;
 use collation::Job;
 use command::{Command, DataCommand, Reply};
 use crossbeam_channel::{Receiver, Sender};
@@ -26,11 +27,6 @@ use shared_engine::{Gate, Pass};
 use std::alloc::{AllocError, Global};
 use std::marker::{Brand, PhantomData};
 use std::sync::Wait;
-
-// After how many lines that write a worker lets the collector look at some keys, and at how many.
-const WRITES_PER_TURN: u64 = 64;
-
-const KEYS_PER_TURN: usize = 64;
 
 /// Which scripts are served. Each call of `serve` picks its own.
 pub(crate) trait Batch {
@@ -197,11 +193,11 @@ pub(crate) fn writes_of(asked: &Result<Command, Refusal>) -> u64 {
     }
 }
 
-/// A worker: the engine's calls, and how many lines that write it has done.
+/// A worker: the engine's calls, and its turns of the collector.
 pub(crate) struct Worker<'a, B: BoardName, R, G> {
     pub(crate) alloc: Global,
     pub(crate) calls: Calls<'a, B, R, G>,
-    pub(crate) writes: u64,
+    pub(crate) turns: Turns,
 }
 
 impl<'a, B: BoardName, R, G> Drop for Worker<'a, B, R, G> {
@@ -209,19 +205,19 @@ impl<'a, B: BoardName, R, G> Drop for Worker<'a, B, R, G> {
         let Worker {
             alloc: _,
             calls: _,
-            writes: _,
+            turns: _,
         } = self;
     }
 }
 
 impl<'a, B: BoardName, R: Wait, G: Gate> Worker<'a, B, R, G> {
-    /// Counts lines that write, once they are done, and lets the collector look at some keys after each so many. A turn that
+    /// Counts lines that write, once they are done, and lets the collector look at some keys where a turn is due. One that
     /// finds no memory is passed over.
     pub(crate) fn note_writes(&mut self, count: u64) {
-        let before = self.writes / WRITES_PER_TURN;
-        self.writes = self.writes.wrapping_add(count);
-        if self.writes / WRITES_PER_TURN != before {
-            let _ = self.calls.engine.collect(self.calls.rt, KEYS_PER_TURN);
+        if let Some(keys) = self.turns.note_writes(count)
+            && let Ok(turn) = self.calls.engine.collect(self.calls.rt, keys)
+        {
+            self.turns.note_dropped(turn.dropped);
         }
     }
 
