@@ -11,17 +11,17 @@ def built():
     subprocess.run([os.path.join(ROOT, "mrun"), "--version"], check=True, stdout=subprocess.DEVNULL)
 
 
+def compile_one(folder, source, name=None):
+    """A plain program of this source; those that share parts leave some of them unused."""
+    program = os.path.join(folder, name or source)
+    path = os.path.join(ROOT, "bench", "plain", source + ".rs")
+    subprocess.run(["rustc", "--edition", "2021", "-O", "-A", "dead_code", "-o", program, path], check=True)
+    return program
+
+
 def compile_plain(folder):
     """The two plain programs: over a map alone, and with versions, transactions and locks."""
-    programs = []
-    for source, name in (("main.rs", "plain"), ("whole.rs", "whole")):
-        program = os.path.join(folder, name)
-        path = os.path.join(ROOT, "bench", "plain", source)
-        # The map alone leaves the parts that it shares with the other partly unused.
-        command = ["rustc", "--edition", "2021", "-O", "-A", "dead_code", "-o", program, path]
-        subprocess.run(command, check=True)
-        programs.append(program)
-    return programs
+    return [compile_one(folder, "main", "plain"), compile_one(folder, "whole")]
 
 
 def check_bytes(name, programs, path, folder):

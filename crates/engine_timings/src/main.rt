@@ -1,6 +1,7 @@
-//! Times of the shared engine's calls: transactions that begin and end without the lock, draws, lone SETs beside those of a
-//! `JobCore`, and transactions and lone SETs of one thread and of four. Standard output has counts alone, which don't depend on time; times
-//! go to standard error, in nanoseconds a turn.
+//! Times of the shared engine's calls: transactions that begin and end without the lock, draws, lone SETs beside those
+//! of a `JobCore`, and transactions and lone SETs of one thread, of four, and of four that have an engine each, which
+//! is what the machine lets four do. Standard output has counts alone, which don't depend on time; times go to standard
+//! error, in nanoseconds a turn. `bench/engine` runs it beside plain Rust.
 //!
 //! The argument is how many turns each takes.
 #![tactic(auto)]
@@ -10,7 +11,8 @@ ghost use Rattle.std.specs.Prelude.{◌≡◌, ◌≤◌};
 mod turns;
 
 use crate::turns::{
-    begin_often, collect_often, job_of, lone_sets, set_in_core, set_often, transactions,
+    SEED_LINE, begin_often, collect_often, job_of, lone_sets, set_in_core, set_often, sets_apart,
+    transactions, transactions_apart,
 };
 use anyhow::Result;
 use job_core::JobCore;
@@ -24,8 +26,8 @@ use std::sync::Wait;
 use std::thread::{Threads, map_indices};
 use std::time::Instant;
 
-// What threads are measured at: how many nodes each transaction reads, whether it commits, and each how many-th, 0 for none,
-// sets a node and commits.
+// What threads are measured at: how many nodes each transaction reads, whether it commits, and each how many-th, 0 for
+// none, sets a node and commits.
 #[derive(Clone, Copy)]
 struct Kind {
     name: &'static str,
@@ -34,7 +36,10 @@ struct Kind {
     each: u64,
 }
 
-const KINDS: [Kind; 4] = [
+// Four threads, each with an engine of its own.
+const APART: &str = "four threads apart";
+
+const KINDS: [Kind; 5] = [
     Kind {
         name: "8 reads, rolled back",
         reads: 8,
@@ -50,6 +55,12 @@ const KINDS: [Kind; 4] = [
     Kind {
         name: "8 reads, committed",
         reads: 8,
+        commits: true,
+        each: 0,
+    },
+    Kind {
+        name: "100 reads, committed",
+        reads: 100,
         commits: true,
         each: 0,
     },
@@ -79,7 +90,7 @@ fn alone<B: BoardName, R: Wait + Clock + Eprint>(
     let mut done = begin_often(engine, session, turns);
     tell(rt, "tstart and rollback_free", turns, begun)?;
     let begun = Instant::now(rt)?;
-    done = done.wrapping_add(set_often(rt, alloc, engine, session, "1 SET ^A(5)=7", turns));
+    done = done.wrapping_add(set_often(rt, alloc, engine, session, SEED_LINE, turns));
     tell(rt, "a lone SET", turns, begun)?;
     let begun = Instant::now(rt)?;
     done = done.wrapping_add(collect_often(rt, engine, turns));
@@ -116,22 +127,31 @@ fn beside<R: Clock + Eprint>(rt: &R, alloc: Global, turns: u64) -> Result<u64> {
     Ok(done)
 }
 
-// Tells how long a turn took of each of so many threads, and answers how many turns were done.
+// Tells how long a turn took of each of those who did it, and answers how many turns were done.
 fn tell_together<R: Clock + Eprint>(
     rt: &R,
     what: &str,
-    threads: usize,
+    who: &str,
     turns: u64,
     begun: Instant,
     made: Vec<u64>,
 ) -> Result<u64> {
     let each = begun.elapsed(rt)?.as_nanos() / turns.max(1) as u128;
-    eprintln!(rt; "{what}, {threads} threads: {each} ns a turn of each")?;
+    eprintln!(rt; "{what}, {who}: {each} ns a turn of each")?;
     let mut done = 0u64;
     for count in made {
         done = done.wrapping_add(count);
     }
     Ok(done)
+}
+
+// So many threads on one engine.
+fn who_of(threads: usize) -> &'static str {
+    if threads == 1 {
+        "one thread"
+    } else {
+        "four threads"
+    }
 }
 
 // Transactions of so many threads, each with a session of its own.
@@ -151,7 +171,7 @@ fn together<B: BoardName + Send + Sync, R: Threads + Wait + Clock + Eprint + Syn
         threads,
         &|i| transactions(rt, alloc, engine, i as u64 + 1, reads, commits, each, turns),
     )?;
-    tell_together(rt, kind.name, threads, turns, begun, made)
+    tell_together(rt, kind.name, who_of(threads), turns, begun, made)
 }
 
 // Lone SETs of so many threads.
@@ -169,7 +189,41 @@ fn sets_together<B: BoardName + Send + Sync, R: Threads + Wait + Clock + Eprint 
         threads,
         &|i| lone_sets(rt, alloc, engine, i as u64 + 1, turns),
     )?;
-    tell_together(rt, "lone SETs", threads, turns, begun, made)
+    tell_together(rt, "lone SETs", who_of(threads), turns, begun, made)
+}
+
+// Transactions of four threads, each with an engine of its own.
+fn apart<R: Threads + Wait + Clock + Eprint + Sync>(
+    rt: &R,
+    alloc: Global,
+    kind: Kind,
+    turns: u64,
+) -> Result<u64> {
+    let begun = Instant::now(rt)?;
+    let (reads, commits, each) = (kind.reads, kind.commits, kind.each);
+    let made = map_indices(
+        rt,
+        alloc,
+        4,
+        &|i| transactions_apart(rt, alloc, i as u64 + 1, reads, commits, each, turns),
+    )?;
+    tell_together(rt, kind.name, APART, turns, begun, made)
+}
+
+// Lone SETs of four threads, each with an engine of its own.
+fn lone_apart<R: Threads + Wait + Clock + Eprint + Sync>(
+    rt: &R,
+    alloc: Global,
+    turns: u64,
+) -> Result<u64> {
+    let begun = Instant::now(rt)?;
+    let made = map_indices(
+        rt,
+        alloc,
+        4,
+        &|i| sets_apart(rt, alloc, i as u64 + 1, turns),
+    )?;
+    tell_together(rt, "lone SETs", APART, turns, begun, made)
 }
 
 // A session of one thread, and what it does beside a core of one thread.
@@ -185,7 +239,7 @@ fn of_one_thread<B: BoardName, R: Wait + Clock + Print + Eprint>(
     Ok(())
 }
 
-// One thread and four, by what threads do.
+// One thread, four, and four apart, by what threads do.
 fn of_threads<B: BoardName + Send + Sync, R: Threads + Wait + Clock + Print + Eprint + Sync>(
     rt: &R,
     alloc: Global,
@@ -195,11 +249,13 @@ fn of_threads<B: BoardName + Send + Sync, R: Threads + Wait + Clock + Print + Ep
     for kind in &KINDS {
         let one = together(rt, alloc, engine, *kind, 1, turns)?;
         let four = together(rt, alloc, engine, *kind, 4, turns)?;
-        println!(rt; "{one} {four}")?;
+        let alone = apart(rt, alloc, *kind, turns)?;
+        println!(rt; "{one} {four} {alone}")?;
     }
     let one = sets_together(rt, alloc, engine, 1, turns)?;
     let four = sets_together(rt, alloc, engine, 4, turns)?;
-    println!(rt; "{one} {four}")?;
+    let alone = lone_apart(rt, alloc, turns)?;
+    println!(rt; "{one} {four} {alone}")?;
     Ok(())
 }
 

@@ -7,10 +7,11 @@ ghost use Rattle.command.specs.declared.request.Command.{Command};
 use collation::Job;
 use command::{Command, DataCommand};
 use job_core::JobCore;
-use pin_board::BoardName;
+use pin_board::{Blank, BoardName, SEATS};
 use script::{Drafts, read_line};
 use shared_engine::{Session, Shared};
 use std::alloc::{AllocError, Global};
+use std::marker::Brand;
 use std::sync::Wait;
 
 // How often a start is tried.
@@ -18,6 +19,9 @@ const BEGIN_TRIES: u64 = 1_000_000;
 
 // How many reads are done under one hold of the lock, at most.
 const READS_PER_HOLD: u64 = 16;
+
+// What sets the node that is read.
+pub const SEED_LINE: &str = "1 SET ^A(5)=7";
 
 // What the jobs set: each a node of its own.
 const OWN: [&str; 4] = [
@@ -102,7 +106,7 @@ pub fn set_often<B: BoardName, R: Wait>(
 }
 
 fn step_once(alloc: Global, core: &mut JobCore, job: Job) -> Option<()> {
-    let command = command_of(alloc, "1 SET ^A(5)=7")?;
+    let command = command_of(alloc, SEED_LINE)?;
     drop(core.step(job, Command::Access(command)));
     Some(())
 }
@@ -245,8 +249,8 @@ fn own_line(number: u64) -> &'static str {
     OWN[number as usize % OWN.len()]
 }
 
-// Transactions of so many reads: all commit, or are rolled back but for each so many-th, 0 for none, which also sets what
-// the line says and commits.
+// Transactions of so many reads: all commit, or are rolled back but for each so many-th, 0 for none, which also sets
+// what the line says and commits.
 fn transactions_of<B: BoardName, R: Wait>(
     rt: &R,
     alloc: Global,
@@ -280,8 +284,8 @@ fn ended<B: BoardName, R: Wait>(rt: &R, engine: &Shared<B>, session: Session<B>,
     }
 }
 
-/// Transactions of so many reads, of a session of the job's own. All commit, or are rolled back but for each so many-th, 0
-/// for none, which also sets a node and commits.
+/// Transactions of so many reads, of a session of the job's own. All commit, or are rolled back but for each so many-th,
+/// 0 for none, which also sets a node and commits.
 pub fn transactions<B: BoardName, R: Wait>(
     rt: &R,
     alloc: Global,
@@ -313,12 +317,13 @@ pub fn transactions<B: BoardName, R: Wait>(
     ended(rt, engine, session, done)
 }
 
-/// Lone SETs of a session of the job's own.
-pub fn lone_sets<B: BoardName, R: Wait>(
+// Lone SETs of one node, of a session of the job's own.
+fn sets_of<B: BoardName, R: Wait>(
     rt: &R,
     alloc: Global,
     engine: &Shared<B>,
     number: u64,
+    line: &str,
     turns: u64,
 ) -> u64 {
     let Some(job) = job_of(number) else {
@@ -327,6 +332,77 @@ pub fn lone_sets<B: BoardName, R: Wait>(
     let Ok(mut session) = engine.open(rt, alloc, job) else {
         return 0;
     };
-    let done = set_often(rt, alloc, engine, &mut session, own_line(number), turns);
+    let done = set_often(rt, alloc, engine, &mut session, line, turns);
     ended(rt, engine, session, done)
+}
+
+/// Lone SETs of a session of the job's own.
+pub fn lone_sets<B: BoardName, R: Wait>(
+    rt: &R,
+    alloc: Global,
+    engine: &Shared<B>,
+    number: u64,
+    turns: u64,
+) -> u64 {
+    sets_of(rt, alloc, engine, number, own_line(number), turns)
+}
+
+// Transactions on an engine that nobody else has, whose node that is read has a value.
+fn transactions_on<B: BoardName, R: Wait>(
+    rt: &R,
+    alloc: Global,
+    blank: Blank,
+    number: u64,
+    reads: u64,
+    commits: bool,
+    each: u64,
+    turns: u64,
+) -> u64
+    requires { (blank.seat.table_id ≡ B.table) × (blank.words.seats ≡ 4096) }
+{
+    let engine = Shared::<B>::new(alloc, blank);
+    if sets_of(rt, alloc, &engine, number, SEED_LINE, 1) == 0 {
+        return 0;
+    }
+    transactions(rt, alloc, &engine, number, reads, commits, each, turns)
+}
+
+/// `transactions` on an engine of the thread's own.
+pub fn transactions_apart<R: Wait>(
+    rt: &R,
+    alloc: Global,
+    number: u64,
+    reads: u64,
+    commits: bool,
+    each: u64,
+    turns: u64,
+) -> u64 {
+    match Blank::new(alloc, SEATS) {
+        Ok(blank) => transactions_on::<Brand, R>(
+            rt, alloc, blank, number, reads, commits, each, turns,
+        ),
+        Err(_) => 0,
+    }
+}
+
+// Lone SETs on an engine that nobody else has.
+fn sets_on<B: BoardName, R: Wait>(
+    rt: &R,
+    alloc: Global,
+    blank: Blank,
+    number: u64,
+    turns: u64,
+) -> u64
+    requires { (blank.seat.table_id ≡ B.table) × (blank.words.seats ≡ 4096) }
+{
+    let engine = Shared::<B>::new(alloc, blank);
+    lone_sets(rt, alloc, &engine, number, turns)
+}
+
+/// `lone_sets` on an engine of the thread's own.
+pub fn sets_apart<R: Wait>(rt: &R, alloc: Global, number: u64, turns: u64) -> u64 {
+    match Blank::new(alloc, SEATS) {
+        Ok(blank) => sets_on::<Brand, R>(rt, alloc, blank, number, turns),
+        Err(_) => 0,
+    }
 }
