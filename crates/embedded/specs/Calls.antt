@@ -156,6 +156,11 @@ pub record IsCount (e : Embedded) (units bytes nodes : ℕ) : Type 0 where
   pub of_bytes : bytes ≡ length (flat_map unit_bytes (drop e.core.base e.core.machine.units))
   pub of_nodes : nodes ≡ count_of (database e)
 
+-- a turn of the collector: done, or memory was refused; all that can be asked is as it was
+pub record IsCollectCall (before after : Embedded) (outcome : Outcome) : Type 0 where
+  pub kept : IsKept before after
+  pub told : (outcome ≡ Done) ⊎ (outcome ≡ RefusedCall OutOfMemory)
+
 -- the journal's base moved on as far as open transactions let it; or memory was refused, and it stays. All else is as it was
 pub record IsCheckpointCall (before after : Embedded) (outcome : Outcome) : Type 0 where
   pub machine : after.core.machine ≡ before.core.machine

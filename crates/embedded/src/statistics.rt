@@ -1,6 +1,6 @@
 //! What an engine holds, in numbers.
 ghost use Rattle.std.specs.Prelude.{◌≡◌};
-ghost use Rattle.embedded.specs.Calls.{count_of, IsCheckpointCall, IsCount, IsKept};
+ghost use Rattle.embedded.specs.Calls.{count_of, IsCheckpointCall, IsCollectCall, IsCount};
 
 use crate::{Embedded, Outcome};
 use globals::{Cut, OrderedView, walk_from};
@@ -45,7 +45,7 @@ impl Embedded {
     ///
     /// `OutOfMemory`, after which nothing has changed.
     pub fn collect(&mut self, limit: usize) -> Outcome
-        ensures { IsKept self.old self.new }
+        ensures { IsCollectCall self.old self.new result }
     {
         match self.core.collect(limit) {
             Ok(_) => Outcome::Done,

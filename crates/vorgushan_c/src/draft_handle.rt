@@ -78,6 +78,7 @@ impl VgDraft {
 
     // Puts a draft where none is.
     pub(crate) fn put(&mut self, spelled: Box<KeyDraft>)
+        requires { self.old.inside ≡ None }
         ensures { self.new.inside ≡ Some spelled.value }
     {
         *self = VgDraft::of(Loose::of(spelled));

@@ -1,7 +1,7 @@
 //! What C calls. Each of them is declared in `include/vorgushan.h`, with its meaning for a C programmer.
 ghost use Rattle.std.specs.Prelude.{◌≡◌, ⊤, None};
 ghost use Rattle.std.specs.Option.{MatchOption};
-ghost use Rattle.embedded.specs.Calls.{IsCheckpointCall, IsKept, IsLineCall, IsListCall, IsReplyCall, IsRestart};
+ghost use Rattle.embedded.specs.Calls.{IsCheckpointCall, IsCollectCall, IsLineCall, IsListCall, IsReplyCall, IsRestart};
 ghost use Rattle.embedded.specs.Outcomes.{outcome_number};
 ghost use Rattle.vorgushan_c.specs.Exports.{IsMade, IsCalled, IsCounted, IsNamedBy};
 
@@ -106,7 +106,7 @@ pub extern "C" fn vorgushan_reply(
 #[unsafe(no_mangle)]
 pub extern "C" fn vorgushan_list_from_start(alloc: Global, engine: &mut VgEngine) -> u32
     ensures { IsCalled engine.old.inside engine.new.inside result ⊤
-        (λ before after outcome. IsRestart before after) }
+        (λ before after outcome. IsRestart before after × (outcome ≡ Outcome.Done)) }
 {
     let Some(mut there) = engine.take(alloc) else {
         return Outcome::NoEngine.number();
@@ -142,7 +142,7 @@ pub extern "C" fn vorgushan_list_next(
 /// Outcomes: as of `Embedded::collect`; `NoEngine`.
 #[unsafe(no_mangle)]
 pub extern "C" fn vorgushan_collect(alloc: Global, engine: &mut VgEngine, limit: usize) -> u32
-    ensures { IsCalled engine.old.inside engine.new.inside result ⊤ (λ before after outcome. IsKept before after) }
+    ensures { IsCalled engine.old.inside engine.new.inside result ⊤ (λ before after outcome. IsCollectCall before after outcome) }
 {
     let Some(mut there) = engine.take(alloc) else {
         return Outcome::NoEngine.number();

@@ -75,6 +75,7 @@ impl VgEngine {
 
     // Puts an engine where none is.
     pub(crate) fn put(&mut self, embedded: Box<Embedded>)
+        requires { self.old.inside ≡ None }
         ensures { self.new.inside ≡ Some embedded.value }
     {
         *self = VgEngine::of(Loose::of(embedded));

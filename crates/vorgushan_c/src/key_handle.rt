@@ -1,5 +1,5 @@
 //! What C keeps of a key.
-ghost use Rattle.std.specs.Prelude.{◌≡◌, Option, Some, None};
+ghost use Rattle.std.specs.Prelude.{◌≡◌, ⊤, Option, Some, None};
 ghost use Rattle.std.specs.Option.{MatchOption};
 ghost use Rattle.std.specs.Coded.{coded_option};
 ghost use Rattle.collation.specs.Reference.{Reference};
@@ -78,6 +78,7 @@ impl VgKey {
 
     // Puts a key where none is.
     pub(crate) fn put(&mut self, key: Box<Key>)
+        requires { self.old.inside ≡ None }
         ensures { self.new.inside ≡ Some key.value }
     {
         *self = VgKey::of(Loose::of(key));
@@ -85,6 +86,7 @@ impl VgKey {
 
     // Puts a key, where there is one.
     pub(crate) fn put_back(&mut self, key: Option<Box<Key>>)
+        requires { MatchOption key ⊤ (λ _. self.old.inside ≡ None) }
         ensures { MatchOption key (self.new.inside ≡ self.old.inside) (λ b. self.new.inside ≡ Some b.value) }
     {
         if let Some(there) = key {

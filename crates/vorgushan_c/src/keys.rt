@@ -75,7 +75,8 @@ pub extern "C" fn vorgushan_key_subscript(alloc: Global, key: &mut VgKey, subscr
 
 // The draft that is there, or a new one.
 fn take_draft(alloc: Global, draft: &mut VgDraft) -> Result<Box<KeyDraft>, Refusal>
-    ensures { IfErr result (λ refusal. refusal ≡ Refusal.OutOfMemory) }
+    ensures refused { IfErr result (λ refusal. refusal ≡ Refusal.OutOfMemory) }
+    ensures left { draft.new.inside ≡ None }
 {
     match draft.take(alloc) {
         Some(there) => Ok(there),
