@@ -233,8 +233,10 @@ impl Ranges {
         }
     }
 
-    // Puts in what lies between two cuts: into one of the last ranges that it joins, or else as a range of its own.
-    fn add(&mut self, low: Cut<'_>, high: Cut<'_>) -> Result<(), AllocError>
+    /// Puts in what lies between two cuts: into one of the last four ranges that it joins, or else as a range of its own.
+    ///
+    /// Refusals, after which nothing has changed: `AllocError`.
+    pub fn add(&mut self, low: Cut<'_>, high: Cut<'_>) -> Result<(), AllocError>
         ensures more { OnOk result ((x : Reference) → is_in_one self.new x ≡ (is_in_one self.old x || between low.entry high.entry x)) }
         ensures few { length self.new ≤ length self.old + 1 }
         ensures err { OnErr result (self.new ≡ self.old) }

@@ -31,8 +31,10 @@ pub(crate) enum Joint {
 }
 
 impl ReadRange {
-    // What lies between two cuts. Takes memory only for a key of over 38 bytes.
-    pub(crate) fn new(low: Cut<'_>, high: Cut<'_>) -> Result<ReadRange, AllocError>
+    /// What lies between two cuts. Takes memory only for a key of over 38 bytes.
+    ///
+    /// Refusals: `AllocError`.
+    pub fn new(low: Cut<'_>, high: Cut<'_>) -> Result<ReadRange, AllocError>
         ensures { IfOk result (λ range. (x : Reference) → is_in range x ≡ between low.entry high.entry x) }
     {
         let low = Edge::of(low)?;

@@ -1,0 +1,2 @@
+pub mod Empty
+pub mod laws

@@ -1,0 +1,47 @@
+-- What leaves empty stretches empty.
+use Rattle.std.proofs.Common.{◌≡◌, ℕ, Bool, true, false, List, [], refl, ap, ◌∙◌}
+use Rattle.std.specs.Prelude.{cond, ◌||◌, is_some, Option, Some, None}
+use Rattle.std.specs.FinMap as finmap
+use Rattle.collation.specs.Reference.{Reference}
+use Rattle.collation.specs.Order.{ref_eq}
+use Rattle.collation.specs.laws.Order.{ref_eq_decides}
+use Rattle.collation.specs.Database.{Database, is_under}
+use Rattle.command.specs.declared.access.DataCommand.TheVariants.{Set, Kill}
+use Rattle.command.specs.Data.{data_after}
+use Rattle.globals.specs.laws.Changing.{set_one, kill_subtree}
+use Rattle.read_ranges.specs.declared.range.ReadRange.{ReadRange}
+use Rattle.read_ranges.specs.Ranges.{is_in, is_in_one}
+use Rattle.stretches.specs.Empty.{AreEmpty, AreNoMore, IsEmpty}
+
+another : {A : Type 0} (b : Bool) (v : A) (o : Option A) → b ≡ false → is_some o ≡ false → is_some (cond b (Some v) o) ≡ false
+another true v o is none = absurd (cc)
+another false v o is none = none
+
+pub stay_after_set : (rs : List ReadRange) (r : Reference) (v : List ℕ) → is_in_one rs r ≡ false → (m : Database) → AreEmpty rs m → AreEmpty rs (data_after (Set r v) m)
+stay_after_set rs r v out m empty x h = ap is_some (set_one m r v x) ∙ another (ref_eq x r) v (finmap.get m x) (by_same (ref_eq x r) refl) (empty x h)
+  where
+    by_same : (b : Bool) → ref_eq x r ≡ b → b ≡ false
+    by_same true is =
+        let one : x ≡ r = (ref_eq_decides x r).0 is in
+        let none : is_in_one rs x ≡ false = ap (is_in_one rs) one ∙ out in
+        absurd (cc)
+    by_same false is = refl
+
+fewer : {A : Type 0} (b : Bool) (o : Option A) → is_some o ≡ false → is_some (cond b None o) ≡ false
+fewer true o none = refl
+fewer false o none = none
+
+pub stay_after_kill : (rs : List ReadRange) (r : Reference) (m : Database) → AreEmpty rs m → AreEmpty rs (data_after (Kill r) m)
+stay_after_kill rs r m empty x h = ap is_some (kill_subtree m r x) ∙ fewer (is_under r x) (finmap.get m x) (empty x h)
+
+-- ---- no stretches, and one more
+
+pub none_are_empty : (m : Database) → AreEmpty [] m
+none_are_empty m x h = absurd (cc)
+
+pub stay_after_note : (s : ReadRange) (old new : List ReadRange) → AreNoMore s old new → (m : Database) → AreEmpty old m → IsEmpty s m → AreEmpty new m
+stay_after_note s old new more m were is x h = by_old (is_in_one old x) refl (more x h)
+  where
+    by_old : (b : Bool) → is_in_one old x ≡ b → (b || is_in s x) ≡ true → finmap.contains_key m x ≡ false
+    by_old true inside h = were x inside
+    by_old false outside h = is x h
