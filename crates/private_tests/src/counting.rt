@@ -13,13 +13,13 @@ use workspace::Workspace;
 
 // What stands here is what the view contains; the count rises with each look-up of any kind.
 #[derive(Drop)]
-struct Counting<'v, V: OrderedView> {
+pub struct Counting<'v, V: OrderedView> {
     view: &'v V,
     count: Cell<u64>,
 }
 
 impl<'v, V: OrderedView> Counting<'v, V> {
-    fn new(view: &'v V) -> Counting<'v, V> {
+    pub fn new(view: &'v V) -> Counting<'v, V> {
         Counting {
             view,
             count: Cell::new(0),
@@ -31,7 +31,7 @@ impl<'v, V: OrderedView> Counting<'v, V> {
     }
 
     // How many look-ups there were since this was asked last.
-    fn taken(&self) -> u64 {
+    pub fn taken(&self) -> u64 {
         self.count.replace(0)
     }
 }
@@ -61,7 +61,7 @@ impl<'v, V: OrderedView> OrderedView for Counting<'v, V> {
 }
 
 // ^A(0,0,0) to ^A(9,9,9), in order, each with its last subscript.
-fn thousand(alloc: Global) -> Result<KeyMap<Text>, Refusal> {
+pub fn thousand(alloc: Global) -> Result<KeyMap<Text>, Refusal> {
     let mut map = KeyMap::new(alloc);
     match fill(alloc, &mut map) {
         Ok(()) => Ok(map),
@@ -196,7 +196,7 @@ const DONE: [&[u8]; 17] = [
     b"-A223", b"-A224", b"+A2245", b"-A6", b"-A7", b"-A999", b"+B",
 ];
 
-fn kill(alloc: Global, own: &mut Workspace, spelled: &[u8]) -> Result<(), Refusal> {
+pub fn kill(alloc: Global, own: &mut Workspace, spelled: &[u8]) -> Result<(), Refusal> {
     let key = key_of(alloc, spelled)?;
     own.kill(alloc, key)?;
     Ok(())

@@ -11,4 +11,6 @@ mod loops;
 #[cfg(test)]
 mod random;
 #[cfg(test)]
+mod skipped;
+#[cfg(test)]
 mod worked;

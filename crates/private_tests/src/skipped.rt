@@ -1,0 +1,129 @@
+//! Stretches of killed nodes: once one is noted a look-up passes over it at once.
+ghost use Rattle.std.specs.Prelude.{◌≡◌, false, IfSome};
+ghost use Rattle.stretches.specs.Empty.{AreEmpty};
+
+use crate::counting::{Counting, kill, thousand};
+use crate::keys::{key_of, text};
+use collation::{Direction, Text};
+use command::{Answer, DataCommand, Look};
+use globals::OrderedView;
+use key_codec::{Key, Place};
+use key_map::KeyMap;
+use overlay_view::Overlay;
+use refusal::Refusal;
+use std::alloc::Global;
+use std::test::*;
+use stretches::{Skipping, Stretches, scout};
+use workspace::Workspace;
+
+// Notes the stretch over which a command passes, and tells whether there is one.
+fn is_scouted<V: OrderedView>(view: &V, stretches: &mut Stretches, look: &Look) -> bool
+    requires { AreEmpty stretches.old (V.content view.now) }
+    ensures { AreEmpty stretches.new (V.content view.now) }
+{
+    let stretch = scout(view, stretches, look);
+    stretches.follow(false, &stretch);
+    stretch.is_some()
+}
+
+// Whether a $ORDER through the stretches is answered this digit.
+fn is_found<V: OrderedView>(
+    alloc: Global,
+    view: &V,
+    stretches: &Stretches,
+    look: &Look,
+    digit: u8,
+) -> bool
+    requires { AreEmpty stretches.now (V.content view.now) }
+{
+    let skipping = Skipping::new(view, stretches);
+    match globals::look(alloc, &skipping, look) {
+        Ok(answer) => is_digit(answer, digit),
+        Err(_) => false,
+    }
+}
+
+fn is_digit(answer: Answer, digit: u8) -> bool {
+    match answer {
+        Answer::Value(found) => found.as_slice() == [digit].as_slice(),
+        _ => false,
+    }
+}
+
+// How many look-ups of the map a $ORDER makes that is answered this digit, before its stretch is noted and after; none
+// where it isn't answered so.
+fn counts_of(
+    alloc: Global,
+    own: &Workspace,
+    map: &KeyMap<Text>,
+    look: &Look,
+    digit: u8,
+) -> Option<(u64, u64)> {
+    let counting = Counting::new(map);
+    let overlay = Overlay::new(own, &counting);
+    let mut stretches = Stretches::new(alloc);
+    let found = is_found(alloc, &overlay, &stretches, look, digit);
+    let before = counting.taken();
+    let scouted = is_scouted(&overlay, &mut stretches, look);
+    let _scout = counting.taken();
+    let again = is_found(alloc, &overlay, &stretches, look, digit);
+    let after = counting.taken();
+    if found && scouted && again {
+        Some((before, after))
+    } else {
+        None
+    }
+}
+
+fn counts_toward(
+    alloc: Global,
+    own: &Workspace,
+    map: &KeyMap<Text>,
+    direction: Direction,
+    digit: u8,
+) -> Result<Option<(u64, u64)>, Refusal> {
+    let place = Place::new(key_of(alloc, b"A")?, true);
+    let look = Look::Order(place, direction);
+    let counts = counts_of(alloc, own, map, &look, digit);
+    drop(look);
+    Ok(counts)
+}
+
+fn kill_ends(alloc: Global, own: &mut Workspace) -> Result<(), Refusal> {
+    let ends: [&[u8]; 7] = [b"A0", b"A1", b"A2", b"A3", b"A4", b"A8", b"A9"];
+    for spelled in ends {
+        kill(alloc, own, spelled)?;
+    }
+    Ok(())
+}
+
+type EndCounts = (Option<(u64, u64)>, Option<(u64, u64)>);
+
+// The counts of $ORDERs from both ends of the thousand, of which ^A(0) to ^A(4), ^A(8) and ^A(9) are killed.
+fn end_counts(
+    alloc: Global,
+    own: &mut Workspace,
+    map: &KeyMap<Text>,
+) -> Result<EndCounts, Refusal> {
+    kill_ends(alloc, own)?;
+    let forward = counts_toward(alloc, own, map, Direction::Forward, b'5')?;
+    let backward = counts_toward(alloc, own, map, Direction::Backward, b'7')?;
+    Ok((forward, backward))
+}
+
+fn end_counts_of_thousand(alloc: Global) -> Result<EndCounts, Refusal> {
+    let map = thousand(alloc)?;
+    let mut own = Workspace::new(alloc);
+    let counts = end_counts(alloc, &mut own, &map);
+    drop(own);
+    drop(map);
+    counts
+}
+
+#[test]
+fn a_noted_stretch_is_passed_over_by_one_look_up(rt: HostRuntime) -> Result<(), Fail> {
+    let (forward, backward) = end_counts_of_thousand(rt.alloc())?;
+    assert!(rt; forward == Some((6, 1)));
+    assert!(rt; backward == Some((3, 1)));
+    Ok(())
+}
