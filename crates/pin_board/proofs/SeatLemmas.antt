@@ -7,8 +7,8 @@ use Rattle.journal.specs.Kept.{Claim}
 use Rattle.pin_board.specs.Views.{SeatState, idle, IsPin, IsDesk, IsBoth, IsSlip, IsTally, pin_in, desk_in, desk_only, slip_only, nobody}
 use Rattle.pin_board.specs.Slips.{IsNext}
 use Rattle.pin_board.specs.Rule.{slot_word, BoardRule}
-use Rattle.pin_board.specs.Steps.{clocks, stores, checks, rests, begins, lifts, passes, draws, writes, rebases, meets, gives_slip, learns, left_of, right_of, lent_of, own_of, back_of, kept_of, slip_of, added_of}
-use Rattle.pin_board.proofs.StepLemmas.{clocks_kept, stores_kept, checks_kept, rests_kept, begins_kept, lifts_kept, passes_kept, draws_kept, deals_kept, lends_kept, writes_kept, rebases_kept, meets_kept, gives_back_kept, gives_slip_kept, takes_slip_kept, adds_kept, learns_kept}
+use Rattle.pin_board.specs.Steps.{clocks, stores, checks, rests, begins, lifts, passes, draws, writes, rebases, settles, meets, gives_slip, learns, left_of, right_of, lent_of, own_of, back_of, kept_of, slip_of, added_of}
+use Rattle.pin_board.proofs.StepLemmas.{clocks_kept, stores_kept, checks_kept, rests_kept, begins_kept, lifts_kept, passes_kept, draws_kept, deals_kept, lends_kept, writes_kept, rebases_kept, settles_kept, meets_kept, gives_back_kept, gives_slip_kept, takes_slip_kept, adds_kept, learns_kept}
 
 module _ (seats slots id : ℕ) (m : SeatState) (is : IsPin m) where
   pub clocks_at : (pin_in m.0).settled ≡ false → Allows (BoardRule seats) slots id m 0 (λ n. n) (clocks (step slots 0 0 0 none) m)
@@ -62,6 +62,12 @@ module _ (seats slots id : ℕ) (m : SeatState) (is : IsBoth m) where
 
   pub rebases_at : Allows (BoardRule seats) slots id m 0 (λ n. n) (rebases (step slots 0 0 0 none) m)
   rebases_at = subst (λ (v : SeatState). Allows (BoardRule seats) slots id v 0 (λ n. n) (rebases (step slots 0 0 0 none) v)) (sym is) (rebases_kept seats slots id (desk_in m.0) (pin_in m.0))
+
+  pub settles_at : (w place x : ℕ) → w ≡ slot_word place → place ≡ (pin_in m.0).place → x ≡ length (desk_in m.0).log → Allows (BoardRule seats) slots id m w (λ _. x) (λ _. settles (step slots w x 0 none) m x)
+  settles_at w place x word there now = subst (λ (i : ℕ). Allows (BoardRule seats) slots id m i (λ _. x) (λ _. settles (step slots i x 0 none) m x)) (sym word)
+      (subst (λ (i : ℕ). Allows (BoardRule seats) slots id m (slot_word i) (λ _. x) (λ _. settles (step slots (slot_word i) x 0 none) m x)) (sym there)
+      (subst (λ (v : SeatState). Allows (BoardRule seats) slots id v (slot_word (pin_in m.0).place) (λ _. x) (λ _. settles (step slots (slot_word (pin_in m.0).place) x 0 none) v x)) (sym is)
+      (settles_kept seats slots id (desk_in m.0) (pin_in m.0) x now)))
 
   pub meets_at : Allows (BoardRule seats) slots id m 0 (λ n. n) (meets (step slots 0 0 0 none) m)
   meets_at = subst (λ (v : SeatState). Allows (BoardRule seats) slots id v 0 (λ n. n) (meets (step slots 0 0 0 none) v)) (sym is) (meets_kept seats slots id (desk_in m.0) (pin_in m.0))

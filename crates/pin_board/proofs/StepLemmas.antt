@@ -19,9 +19,9 @@ use Rattle.pin_board.specs.declared.view.PinView.{PinView}
 use Rattle.pin_board.specs.declared.view.SeatView.{SeatView}
 use Rattle.pin_board.specs.Slips.{AreInJournal, IsNext, SlipFacts, SlipsAddUp}
 use Rattle.pin_board.proofs.SlipLemmas.{slips_same, slips_given, slips_written, slips_beside, slips_off, slips_joined, slips_all, slips_few, writes_nothing}
-use Rattle.pin_board.specs.Views.{idle, least, new_desk, new_pin, desk_only, pin_only, pin_with_desk, slip_only, tally_only, nobody, starting, desk_or, pin_or, clocked, stored, checked, rested, began, lifted, passed, drew, dealt_one, logged, wrote, rebased, gave, with_slip, without_slip}
+use Rattle.pin_board.specs.Views.{idle, least, new_desk, new_pin, desk_only, pin_only, pin_with_desk, slip_only, tally_only, nobody, starting, desk_or, pin_or, clocked, stored, checked, rested, began, lifted, passed, drew, dealt_one, logged, wrote, rebased, settled_now, gave, with_slip, without_slip}
 use Rattle.pin_board.specs.Rule.{slot_word, DeskFacts, IsSettled, PinFacts, SeatFacts, BoardRule}
-use Rattle.pin_board.specs.Steps.{clocks, stores, checks, rests, begins, lifts, passes, draws, writes, rebases, meets, gives_slip, learns}
+use Rattle.pin_board.specs.Steps.{clocks, stores, checks, rests, begins, lifts, passes, draws, writes, rebases, settles, meets, gives_slip, learns}
 
 abbrev St : Type 0
 St = State Claim SeatView
@@ -66,8 +66,8 @@ module _ (ws : List ℕ) (owner : ℕ → ℕ) (keeper : ℕ) (d : DeskView) (j 
 same_slot : (ws ws' : List ℕ) (owner : ℕ → ℕ) (d : DeskView) (j : ℕ) (q : PinView) → get_or ws' (slot_word q.place) 0 ≡ get_or ws (slot_word q.place) 0 → PinFacts ws owner d j q → PinFacts ws' owner d j q
 same_slot ws ws' owner d j q same k = record { placed = k.placed; alone = k.alone; held = same ∙ k.held; before = k.before; base = k.base; settled = k.settled }
 
-same_desk : (ws ws' : List ℕ) (d : DeskView) → get_or ws' 0 0 ≡ get_or ws 0 0 → get_or ws 1 0 ≤ get_or ws' 1 0 → ((i : ℕ) → d.dealt ≤ i → i < d.seats → get_or ws' (slot_word i) 0 ≡ get_or ws (slot_word i) 0) → DeskFacts ws d → DeskFacts ws' d
-same_desk ws ws' d c f same k = record {
+same_desk : (ws ws' : List ℕ) (d : DeskView) → get_or ws' 0 0 ≡ get_or ws 0 0 → get_or ws' 1 0 ≡ get_or ws 1 0 → ((i : ℕ) → d.dealt ≤ i → i < d.seats → get_or ws' (slot_word i) 0 ≡ get_or ws (slot_word i) 0) → DeskFacts ws d → DeskFacts ws' d
+same_desk ws ws' d c g same k = let f : get_or ws 1 0 ≤ get_or ws' 1 0 = omega arith in record {
   clock_is = c ∙ k.clock_is;
   dealt = k.dealt;
   vacant = λ i a b. same i a b ∙ k.vacant i a b;
@@ -76,6 +76,8 @@ same_desk ws ws' d c f same k = record {
   high_floor = le_trans k.high_floor f;
   read_now = k.read_now;
   high_now = k.high_now;
+  floor_is = g ∙ k.floor_is;
+  floor_now = k.floor_now;
 }
 
 pub fold_min_le : (n : ℕ) (xs : List ℕ) → fold min n xs ≤ n
@@ -110,7 +112,7 @@ module _ (seats slots id : ℕ) (p : PinView) (s : St) (r : BoardRule seats s) (
   slot_step x p' ok a b = let ws : List ℕ = set s.words (slot_word p.place) x in let own = own_at in let pl = own.placed in
       let f : get_or ws 1 0 ≡ get_or s.words 1 0 = get_or-set_other s.words (slot_word p.place) 1 x 0 (omega arith) in
       keeps_rule seats s r id (pin_only p') ws r.desk (length-set s.words (slot_word p.place) x) r.seats_are
-      (same_desk s.words ws r.desk (get_or-set_other s.words (slot_word p.place) 0 x 0 (omega arith)) (omega arith) (λ i a _. get_or-set_other s.words (slot_word p.place) (slot_word i) x 0 (omega arith)) r.desk_ok)
+      (same_desk s.words ws r.desk (get_or-set_other s.words (slot_word p.place) 0 x 0 (omega arith)) f (λ i a _. get_or-set_other s.words (slot_word p.place) (slot_word i) x 0 (omega arith)) r.desk_ok)
       (knows_pin ws r.owner r.keeper r.desk id p' ok)
       (λ j u o e. record {
         desks = (r.each j u e).desks;
@@ -220,7 +222,7 @@ module _ (seats slots id : ℕ) (d : DeskView) where
     keeps,
     tt,
     desk_quiet seats slots id d s r at 0 (began d n) (as_many seats slots id d s r at)
-        (record { clock_is = k.clock_is; dealt = k.dealt; vacant = k.vacant; raised = λ e. absurd (true≢false (sym e)); not_yet = λ _. refl; high_floor = k.high_floor; read_now = omega arith; high_now = k.high_now })
+        (record { clock_is = k.clock_is; dealt = k.dealt; vacant = k.vacant; raised = λ e. absurd (true≢false (sym e)); not_yet = λ _. refl; high_floor = k.high_floor; read_now = omega arith; high_now = k.high_now; floor_is = k.floor_is; floor_now = k.floor_now })
         (λ j q o. record { placed = o.placed; alone = o.alone; held = o.held; before = o.before; base = o.base; settled = λ e. let z = o.settled e in record { within = z.within; high = z.high; passed = λ l. absurd (omega arith) } })
         (desk_slips seats slots id d s r at),
     (refl, k.clock_is),
@@ -228,7 +230,7 @@ module _ (seats slots id : ℕ) (d : DeskView) where
 
   pub lifts_kept : Allows (BoardRule seats) slots id (desk_only d, []) 1 (λ n. max n d.read) (lifts (step slots 1 d.read 0 none) (desk_only d, []))
   lifts_kept s r deep at small = let x : ℕ = max (get_or s.words 1 0) d.read in let ws : List ℕ = set s.words 1 x in let w = r.wide in
-      let k = desk_at seats slots id d s r at in let hf = k.high_floor in
+      let k = desk_at seats slots id d s r at in let hf = k.high_floor in let fn = k.floor_now in let rn = k.read_now in
       let here : get_or ws 1 0 ≡ x = get_or-set_same s.words 1 x 0 (omega arith) in (
         desk_only (lifted d),
         keeps,
@@ -243,6 +245,8 @@ module _ (seats slots id : ℕ) (d : DeskView) where
               high_floor = omega arith;
               read_now = k.read_now;
               high_now = k.high_now;
+              floor_is = here ∙ ap (λ (n : ℕ). max n d.read) k.floor_is;
+              floor_now = omega arith;
             })
             (λ j q o. record { placed = o.placed; alone = o.alone; held = get_or-set_other s.words 1 (slot_word q.place) x 0 (omega arith) ∙ o.held; before = o.before; base = o.base; settled = λ e. let z = o.settled e in record { within = z.within; high = z.high; passed = z.passed } })
             (desk_slips seats slots id d s r at),
@@ -255,7 +259,7 @@ module _ (seats slots id : ℕ) (d : DeskView) where
     keeps,
     tt,
     desk_quiet seats slots id d s r at (slot_word (length d.loaded)) (passed d n) (as_many seats slots id d s r at)
-        (record { clock_is = k.clock_is; dealt = k.dealt; vacant = k.vacant; raised = k.raised; not_yet = λ e. absurd (true≢false (sym up ∙ e)); high_floor = k.high_floor; read_now = k.read_now; high_now = k.high_now })
+        (record { clock_is = k.clock_is; dealt = k.dealt; vacant = k.vacant; raised = k.raised; not_yet = λ e. absurd (true≢false (sym up ∙ e)); high_floor = k.high_floor; read_now = k.read_now; high_now = k.high_now; floor_is = k.floor_is; floor_now = k.floor_now })
         (λ j q o. record {
           placed = o.placed;
           alone = o.alone;
@@ -303,7 +307,7 @@ module _ (seats slots id : ℕ) (d : DeskView) where
         keeps,
         tt,
         desk_quiet seats slots id d s r at 0 (drew d) (as_many seats slots id d s r at)
-            (record { clock_is = k.clock_is; dealt = k.dealt; vacant = k.vacant; raised = k.raised; not_yet = k.not_yet; high_floor = omega arith; read_now = k.read_now; high_now = omega arith })
+            (record { clock_is = k.clock_is; dealt = k.dealt; vacant = k.vacant; raised = k.raised; not_yet = k.not_yet; high_floor = omega arith; read_now = k.read_now; high_now = omega arith; floor_is = k.floor_is; floor_now = k.floor_now })
             (λ j q o. record {
               placed = o.placed;
               alone = o.alone;
@@ -363,7 +367,7 @@ deals_kept seats id d more s r at = record {
   desk = dealt_one d;
   seats_are = as_many seats 0 id d s r at;
   wide = r.wide;
-  desk_ok = record { clock_is = k.clock_is; dealt = (let m = as_many seats 0 id d s r at in omega arith); vacant = λ i a b. k.vacant i (omega arith) b; raised = k.raised; not_yet = k.not_yet; high_floor = k.high_floor; read_now = k.read_now; high_now = k.high_now };
+  desk_ok = record { clock_is = k.clock_is; dealt = (let m = as_many seats 0 id d s r at in omega arith); vacant = λ i a b. k.vacant i (omega arith) b; raised = k.raised; not_yet = k.not_yet; high_floor = k.high_floor; read_now = k.read_now; high_now = k.high_now; floor_is = k.floor_is; floor_now = k.floor_now };
   each = all_end (SeatFacts s.words owner' r.keeper (dealt_one d)) s.views id (desk_only (dealt_one d)) (pin_only (new_pin d.dealt))
       (knows_desk s.words owner' r.keeper (dealt_one d) id here.0)
       (knows_pin s.words owner' r.keeper (dealt_one d) (length views) (new_pin d.dealt) fresh)
@@ -463,7 +467,7 @@ module _ (seats slots id : ℕ) (d : DeskView) (p : PinView) where
       let k = both_desk seats slots id d p s r at in let own = both_own seats slots id d p s r at in let now = k.clock_is in
       let hit : x ≡ new = ap (λ (b : Bool). either b new n) (eq-eqb n old (now ∙ sym is)) in
       let len = length-append d.log (c.unit ∷ []) in
-      let rn = k.read_now in let hn = k.high_now in
+      let rn = k.read_now in let hn = k.high_now in let fn = k.floor_now in
       let f : get_or ws 1 0 ≡ get_or s.words 1 0 = get_or-set_other s.words 0 1 x 0 (omega arith) in
       let hf = k.high_floor in
       let grown : (j : ℕ) (q : PinView) → PinFacts s.words r.owner d j q → PinFacts ws r.owner (logged d c) j q = λ j q o. record {
@@ -487,6 +491,8 @@ module _ (seats slots id : ℕ) (d : DeskView) (p : PinView) where
               high_floor = omega arith;
               read_now = omega (arith, len);
               high_now = omega (arith, len);
+              floor_is = f ∙ k.floor_is;
+              floor_now = omega (arith, len);
             })
             (let g = grown id p own in record { placed = g.placed; alone = g.alone; held = g.held; before = g.before; base = g.base; settled = λ e. let z = own.settled e in record { within = z.within; high = z.high; passed = z.passed } })
             grown
@@ -505,7 +511,37 @@ module _ (seats slots id : ℕ) (d : DeskView) (p : PinView) where
             (record { placed = own.placed; alone = own.alone; held = own.held; before = le_refl (length d.log); base = sym (take_all (length d.log) d.log (le_refl (length d.log))); settled = λ e. let z = own.settled e in let y = z.within in record { within = omega arith; high = z.high; passed = z.passed } })
             (λ j q o. o)
             (slips_same d.log d.given s.views id (pin_with_desk d p) (both_slips seats slots id d p s r at) at (pin_with_desk d (rebased d p)) refl refl)),
-        (refl, k.clock_is, record { below = λ e. let z = own.settled e in le_trans z.high z.within; slot = λ e. let z = own.settled e in (z.high, z.within); before = own.before; base = own.base; mine = both_in_journal seats slots id d p s r at; high = k.high_now }),
+        (refl, k.clock_is, record { below = λ e. let z = own.settled e in le_trans z.high z.within; slot = λ e. let z = own.settled e in (z.high, z.within); before = own.before; base = own.base; mine = both_in_journal seats slots id d p s r at; high = k.high_now; floor = k.floor_now }),
+      )
+
+  -- no draw goes on meanwhile: the least so far is not above the clock
+  pub settles_kept : (x : ℕ) → x ≡ length d.log → Allows (BoardRule seats) slots id (pin_with_desk d p, []) (slot_word p.place) (λ _. x) (λ _. settles (step slots (slot_word p.place) x 0 none) (pin_with_desk d p, []) x)
+  settles_kept x now s r deep at small =
+      let ws : List ℕ = set s.words (slot_word p.place) x in let p' : PinView = settled_now d p in
+      let k = both_desk seats slots id d p s r at in let own = both_own seats slots id d p s r at in let many = both_many seats slots id d p s r at in let here = both_is seats slots id d p s r at in
+      let w = r.wide in let pl = own.placed in let dl = k.dealt in (
+        pin_with_desk d p',
+        keeps,
+        tt,
+        keeps_rule seats s r id (pin_with_desk d p') ws d (length-set s.words (slot_word p.place) x) many
+            (same_desk s.words ws d (get_or-set_other s.words (slot_word p.place) 0 x 0 (omega arith)) (get_or-set_other s.words (slot_word p.place) 1 x 0 (omega arith)) (λ i a _. get_or-set_other s.words (slot_word p.place) (slot_word i) x 0 (omega arith)) k)
+            (knows_both ws r.owner r.keeper d id p' here.0
+            (record {
+              placed = own.placed;
+              alone = own.alone;
+              held = get_or-set_same s.words (slot_word p.place) x 0 (omega arith) ∙ now;
+              before = le_refl (length d.log);
+              base = sym (take_all (length d.log) d.log (le_refl (length d.log)));
+              settled = λ _. record { within = le_refl (length d.log); high = k.high_now; passed = λ l. le_trans (fold_min_le d.read d.loaded) k.read_now };
+            }))
+            (λ j u o e. record {
+              desks = λ y ey. absurd (o (((r.each j u e).desks y ey).0 ∙ sym here.0));
+              pins = λ q eq. let f = both_pin seats slots id d p s r at j u q e eq in
+                  let apart : q.place ≢ p.place = λ (same : q.place ≡ p.place). o (sym f.alone ∙ ap r.owner same ∙ own.alone) in
+                  same_slot s.words ws r.owner d j q (get_or-set_other s.words (slot_word p.place) (slot_word q.place) x 0 (omega arith)) f;
+            })
+            (slips_same d.log d.given s.views id (pin_with_desk d p) (both_slips seats slots id d p s r at) at (pin_with_desk d p') refl refl),
+        refl,
       )
 
   pub meets_kept : Allows (BoardRule seats) slots id (pin_with_desk d p, []) 0 (λ n. n) (meets (step slots 0 0 0 none) (pin_with_desk d p, []))
@@ -517,7 +553,7 @@ module _ (seats slots id : ℕ) (d : DeskView) (p : PinView) where
         subst (λ (ws : List ℕ). BoardRule seats record { words = ws; homes = s.homes; views = set s.views id (pin_with_desk d p) }) (sym (set-get_or s.words 0 0))
             (both_step seats slots id d p s r at d p s.words refl (both_many seats slots id d p s r at) k own (λ j q o. o)
             (slips_same d.log d.given s.views id (pin_with_desk d p) (both_slips seats slots id d p s r at) at (pin_with_desk d p) refl refl)),
-        (refl, record { below = λ e. let z = own.settled e in le_trans z.high z.within; slot = λ e. let z = own.settled e in (z.high, z.within); before = own.before; base = own.base; mine = both_in_journal seats slots id d p s r at; high = k.high_now }),
+        (refl, record { below = λ e. let z = own.settled e in le_trans z.high z.within; slot = λ e. let z = own.settled e in (z.high, z.within); before = own.before; base = own.base; mine = both_in_journal seats slots id d p s r at; high = k.high_now; floor = k.floor_now }),
       )
 
   pub gives_slip_kept : p.slips ≡ 0 → Allows (BoardRule seats) slots id (pin_with_desk d p, []) 0 (λ n. n) (gives_slip (step slots 0 0 0 none) (pin_with_desk d p, []))
@@ -528,7 +564,7 @@ module _ (seats slots id : ℕ) (d : DeskView) (p : PinView) where
         tt,
         subst (λ (ws : List ℕ). BoardRule seats record { words = ws; homes = s.homes; views = set s.views id (pin_with_desk (gave d) (with_slip p)) }) (sym (set-get_or s.words 0 0))
             (both_step seats slots id d p s r at (gave d) (with_slip p) s.words refl (both_many seats slots id d p s r at)
-            (record { clock_is = k.clock_is; dealt = k.dealt; vacant = k.vacant; raised = k.raised; not_yet = k.not_yet; high_floor = k.high_floor; read_now = k.read_now; high_now = k.high_now })
+            (record { clock_is = k.clock_is; dealt = k.dealt; vacant = k.vacant; raised = k.raised; not_yet = k.not_yet; high_floor = k.high_floor; read_now = k.read_now; high_now = k.high_now; floor_is = k.floor_is; floor_now = k.floor_now })
             (record { placed = own.placed; alone = own.alone; held = own.held; before = own.before; base = own.base; settled = λ e. let z = own.settled e in record { within = z.within; high = z.high; passed = z.passed } })
             (λ j q o. record { placed = o.placed; alone = o.alone; held = o.held; before = o.before; base = o.base; settled = λ e. let z = o.settled e in record { within = z.within; high = z.high; passed = z.passed } })
             (slips_given d.log d.given s.views id (pin_with_desk d p) (both_slips seats slots id d p s r at) at (pin_with_desk (gave d) (with_slip p)) (omega arith) refl)),
@@ -615,14 +651,14 @@ single v u zero e = (refl, some-injective v u e)
 single v u (suc j) e = absurd (some-ne-none u (sym e))
 
 -- the board at the start
-pub opens_kept : (seats : ℕ) (words : List ℕ) → length words ≡ slot_word seats → get_or words 0 0 ≡ 0 → ((i : ℕ) → i < seats → get_or words (slot_word i) 0 ≡ idle) → BoardRule seats (opening words [] (starting seats))
-opens_kept seats words wide first empty = record {
+pub opens_kept : (seats : ℕ) (words : List ℕ) → length words ≡ slot_word seats → get_or words 0 0 ≡ 0 → get_or words 1 0 ≡ 0 → ((i : ℕ) → i < seats → get_or words (slot_word i) 0 ≡ idle) → BoardRule seats (opening words [] (starting seats))
+opens_kept seats words wide first low empty = record {
   owner = λ x. x;
   keeper = 0;
   desk = new_desk seats;
   seats_are = refl;
   wide = wide;
-  desk_ok = record { clock_is = first; dealt = omega arith; vacant = λ i _ b. empty i b; raised = λ e. absurd (true≢false (sym e)); not_yet = λ _. refl; high_floor = omega arith; read_now = omega arith; high_now = omega arith };
+  desk_ok = record { clock_is = first; dealt = omega arith; vacant = λ i _ b. empty i b; raised = λ e. absurd (true≢false (sym e)); not_yet = λ _. refl; high_floor = omega arith; read_now = omega arith; high_now = omega arith; floor_is = low; floor_now = omega arith };
   each = λ j u e. let t = single (starting seats) u j e in subst (λ (x : ℕ × SeatView). SeatFacts words (λ y. y) 0 (new_desk seats) x.0 x.1) (λ i. (sym t.0 i, t.1 i))
       (knows_desk words (λ y. y) 0 (new_desk seats) 0 refl);
   slips = record { writes = λ j u e. let t = single (starting seats) u j e in subst (SlipFacts []) t.1 (writes_nothing [] (starting seats) refl); slips = refl; units = λ h. refl };

@@ -24,7 +24,7 @@ abbrev pub slot : List ℕ → ℕ → ℕ
 slot words place = slice_index words (slot_word place)
 
 -- the desk is right: the clock is the number of units, slots not yet dealt are idle, and the floor is at least each
--- horizon, and from the raise on at least the clock that the draw read
+-- horizon, from the raise on at least the clock that the draw read, and never above the number of units
 pub record DeskFacts (words : List ℕ) (d : DeskView) : Type 0 where
   pub clock_is : clock words ≡ length d.log
   pub dealt : d.dealt ≤ d.seats
@@ -34,6 +34,8 @@ pub record DeskFacts (words : List ℕ) (d : DeskView) : Type 0 where
   pub high_floor : d.high ≤ floor words
   pub read_now : d.read ≤ length d.log
   pub high_now : d.high ≤ length d.log
+  pub floor_is : floor words ≡ d.floor
+  pub floor_now : d.floor ≤ length d.log
 
 -- a settled session: the stamp in its slot is not after its start, and no horizon is above it, nor the least of a draw
 -- that has passed its slot

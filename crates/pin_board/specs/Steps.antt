@@ -5,7 +5,7 @@ use Rattle.atomic_table.specs.Table.{Step}
 use Rattle.journal.specs.Kept.{Claim}
 use Rattle.pin_board.specs.declared.view.SeatView.{SeatView}
 use Rattle.pin_board.specs.Slips.{AreInJournal}
-use Rattle.pin_board.specs.Views.{SeatState, Met, Learned, pin_in, desk_in, pin_only, desk_only, pin_with_desk, slip_only, tally_only, clocked, stored, checked, rested, began, lifted, passed, drew, dealt_one, new_pin, logged, wrote, rebased, gave, with_slip, without_slip}
+use Rattle.pin_board.specs.Views.{SeatState, Met, Learned, pin_in, desk_in, pin_only, desk_only, pin_with_desk, slip_only, tally_only, clocked, stored, checked, rested, began, lifted, passed, drew, dealt_one, new_pin, logged, wrote, rebased, settled_now, gave, with_slip, without_slip}
 
 -- a session reads the clock: its base is the journal of that moment, and its units are in it
 abbrev pub clocks : Step Claim → SeatState → ℕ → SeatState → Type 0
@@ -50,6 +50,10 @@ writes st m n m' = Writes st.said m m'
 -- it moves its start to now, and learns what the rule says of it and the desk
 abbrev pub rebases : Step Claim → SeatState → ℕ → SeatState → Type 0
 rebases st m n m' = (m' ≡ (pin_with_desk (desk_in m.0) (rebased (desk_in m.0) (pin_in m.0)), [])) × (n ≡ length (desk_in m.0).log) × Met (desk_in m.0) (pin_in m.0)
+
+-- it stores the clock in its slot, and is settled
+abbrev pub settles : Step Claim → SeatState → ℕ → SeatState → Type 0
+settles st m n m' = m' ≡ (pin_with_desk (desk_in m.0) (settled_now (desk_in m.0) (pin_in m.0)), [])
 
 -- it learns what the rule says of it and the desk
 abbrev pub meets : Step Claim → SeatState → ℕ → SeatState → Type 0

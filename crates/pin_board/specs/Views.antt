@@ -22,7 +22,7 @@ abbrev pub start_of : PinView → Option ℕ
 start_of p = cond p.settled (Some (length p.base)) None
 
 abbrev pub new_desk : ℕ → DeskView
-new_desk seats = record { log = []; given = 0; high = 0; seats = seats; dealt = 0; read = 0; raised = false; loaded = [] }
+new_desk seats = record { log = []; given = 0; high = 0; seats = seats; dealt = 0; read = 0; raised = false; floor = 0; loaded = [] }
 
 abbrev pub new_pin : ℕ → PinView
 new_pin place = record { place = place; held = idle; base = []; settled = false; refused = 0; slips = 0; mine = [] }
@@ -46,7 +46,7 @@ abbrev pub began : DeskView → ℕ → DeskView
 began d n = record d { read = n; raised = false; loaded = [] }
 
 abbrev pub lifted : DeskView → DeskView
-lifted d = record d { raised = true }
+lifted d = record d { raised = true; floor = max d.floor d.read }
 
 abbrev pub passed : DeskView → ℕ → DeskView
 passed d x = record d { loaded = d.loaded ++ x ∷ [] }
@@ -71,6 +71,10 @@ wrote p c = record p { mine = p.mine ++ c ∷ [] }
 abbrev pub rebased : DeskView → PinView → PinView
 rebased d p = record p { base = d.log }
 
+-- under the lock a session is settled at now
+abbrev pub settled_now : DeskView → PinView → PinView
+settled_now d p = record p { base = d.log; held = length d.log; settled = true }
+
 -- a session is given a slip, which is taken off its seat when it ends
 abbrev pub gave : DeskView → DeskView
 gave d = record d { given = d.given + 1 }
@@ -81,7 +85,8 @@ with_slip p = record p { slips = 1 }
 abbrev pub without_slip : PinView → PinView
 without_slip p = record p { slips = 0; mine = [] }
 
--- what a session learns under the lock: no horizon is above its stamp, and its base begins the journal
+-- what a session learns under the lock: no horizon is above its stamp, its base begins the journal, and neither a horizon
+-- nor the floor is above the number of units
 pub record Met (d : DeskView) (p : PinView) : Type 0 where
   pub below : p.settled ≡ true → d.high ≤ length p.base
   pub slot : p.settled ≡ true → (d.high ≤ p.held) × (p.held ≤ length p.base)
@@ -89,6 +94,7 @@ pub record Met (d : DeskView) (p : PinView) : Type 0 where
   pub base : p.base ≡ take (length p.base) d.log
   pub mine : AreInJournal d.log p.mine
   pub high : d.high ≤ length d.log
+  pub floor : d.floor ≤ length d.log
 
 -- the units on the slips that came back are in the journal, and where all came back they are all of it; no more came back than were given
 abbrev pub Learned : DeskView → ℕ → List Claim → Type 0

@@ -2,7 +2,7 @@
 ghost use Rattle.std.specs.Prelude.{◌≡◌, ℕ, ◌+◌, ◌<◌, ◌≤◌, max, true, false, List, [], ◌∷◌, ◌++◌, length, take, IfOk, OnErr, Option, Some, None};
 ghost use Rattle.pin_board.specs.Slips.{AreInJournal, AreAll, IsNext};
 ghost use Rattle.pin_board.specs.Tally.{tallied};
-ghost use Rattle.pin_board.specs.Views.{starting, new_desk, new_pin, dealt_one, start_of, least, logged, wrote, rebased, Met, gave, with_slip, without_slip, rested, idle};
+ghost use Rattle.pin_board.specs.Views.{starting, new_desk, new_pin, dealt_one, start_of, least, logged, wrote, rebased, settled_now, Met, gave, with_slip, without_slip, rested, idle};
 
 use crate::view::SeatView;
 use crate::words::{Place, Words};
@@ -426,8 +426,26 @@ impl<B: BoardName> Board<B> {
         now
     }
 
-    /// Shows that no horizon is above the session's stamp, that its base begins the journal, and that its units are in
-    /// the journal. Sessions that share the lock may meet the desk in turn. It changes nothing. Takes no memory.
+    /// Settles the session at now, and answers it; shows what `meet` does of the session before. It is never refused: no
+    /// draw goes on meanwhile. Takes no memory.
+    pub fn settle_now<R: Wait>(&self, rt: &R, desk: &Desk<B>, pin: &mut Pin<B>) -> u64
+        ensures pin { pin.new ≡ settled_now desk.now pin.old }
+        ensures start { result ≡ length desk.now.log }
+        ensures met { Met desk.now pin.old }
+    {
+        let seat = lift(rt, &desk.perch);
+        self.words.lend(&mut pin.seat, seat);
+        let clock = self.words.rebase(&mut pin.seat);
+        self.words.settle_now(&mut pin.seat, pin.place, clock);
+        let seat = self.words.give_back(&mut pin.seat);
+        let _ = desk.perch.give(seat, 1, 2);
+        pin.start = Some(clock);
+        clock
+    }
+
+    /// Shows that no horizon is above the session's stamp, that its base begins the journal, that its units are in the
+    /// journal, and that the floor isn't above the number of all units. Sessions that share the lock may meet the desk in
+    /// turn. It changes nothing. Takes no memory.
     pub fn meet<R: Wait>(&self, rt: &R, desk: &Desk<B>, pin: &mut Pin<B>)
         ensures pin { pin.new ≡ pin.old }
         ensures met { Met desk.now pin.old }
@@ -439,13 +457,15 @@ impl<B: BoardName> Board<B> {
         let _ = desk.perch.give(seat, 1, 2);
     }
 
-    /// Draws a horizon: the least of the clock and of the stamps in the slots of all seats dealt. Takes no memory.
+    /// Draws a horizon: the least of the clock and of the stamps in the slots of all seats dealt. The floor is raised to
+    /// the clock, and no farther. Takes no memory.
     ///
     /// It is not above the stamp of any session that is settled, nor above that of any that will settle.
     pub fn draw<R: Wait>(&self, rt: &R, desk: &mut Desk<B>) -> u64
         ensures least { (result ≡ least desk.new) × (length desk.new.loaded ≡ desk.old.dealt) }
         ensures clock { (desk.new.read ≡ length desk.old.log) × (result ≤ length desk.old.log) }
         ensures high { desk.new.high ≡ max desk.old.high result }
+        ensures floor { desk.new.floor ≡ max desk.old.floor (length desk.old.log) }
         ensures same { (desk.new.log ≡ desk.old.log) × (desk.new.given ≡ desk.old.given) × (desk.new.seats ≡ desk.old.seats) × (desk.new.dealt ≡ desk.old.dealt) }
     {
         let mut seat = lift(rt, &desk.perch);

@@ -9,7 +9,7 @@
 //! (1) the clock is the number of units in the journal;
 //! (2) each session's seat alone stores its slot, which holds the stamp that it stored, or 2^64 - 1 while it is idle;
 //! (3) a session's base is the beginning of the journal that is as long as the clock that it read;
-//! (4) no horizon is above the stamp of a settled seat, nor above the floor;
+//! (4) no horizon is above the stamp of a settled seat, nor above the floor, which is never above the clock;
 //! (5) each unit was written on one slip, at the number that it has in the journal.
 //!
 //! A session settles in three steps: it reads the clock, stores that in its slot, and loads the floor. A draw reads the

@@ -1,5 +1,5 @@
 //! The kinds of atomic steps, and what each tells: `specs/Steps.antt`.
-ghost use Rattle.pin_board.specs.Steps.{clocks, stores, checks, rests, begins, lifts, passes, draws, writes, rebases, meets, gives_slip, learns, kept_of, slip_of, added_of, left_of, right_of, lent_of, own_of, back_of};
+ghost use Rattle.pin_board.specs.Steps.{clocks, stores, checks, rests, begins, lifts, passes, draws, writes, rebases, settles, meets, gives_slip, learns, kept_of, slip_of, added_of, left_of, right_of, lent_of, own_of, back_of};
 ghost use Rattle.pin_board.specs.Views.{nobody};
 
 use crate::view::SeatView;
@@ -64,6 +64,12 @@ pub(crate) struct Rebase;
 
 impl Play<Receipt, SeatView> for Rebase {
     ghost then = { rebases };
+}
+
+pub(crate) struct SettleNow;
+
+impl Play<Receipt, SeatView> for SettleNow {
+    ghost then = { settles };
 }
 
 pub(crate) struct Meet;

@@ -19,6 +19,8 @@ pub struct DeskView {
     pub read: u64,
     /// The floor is at least that clock.
     pub raised: bool,
+    /// What the floor holds, which the desk alone stores.
+    pub floor: u64,
     /// What it has found in the slots since, from the first on.
     pub loaded: LinkedList<u64>,
 }

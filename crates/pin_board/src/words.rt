@@ -5,11 +5,11 @@
 ghost use Rattle.std.specs.Prelude.{◌≡◌, ℕ, ◌+◌, ◌*◌, ◌<◌, ◌≤◌, ◌++◌, max, true, false, List, [], length, slice_index, IfOk, IfErr, Option, Some, None};
 ghost use Rattle.pin_board.specs.Rule.{slot};
 ghost use Rattle.pin_board.specs.Slips.{AreInJournal, IsNext};
-ghost use Rattle.pin_board.specs.Views.{IsPin, IsDesk, IsBoth, IsSlip, IsTally, Met, Learned, pin_in, desk_in, pin_only, desk_only, pin_with_desk, slip_only, tally_only, clocked, stored, checked, rested, began, lifted, passed, drew, new_pin, new_desk, dealt_one, starting, least, idle, logged, wrote, rebased, gave, with_slip, without_slip};
+ghost use Rattle.pin_board.specs.Views.{IsPin, IsDesk, IsBoth, IsSlip, IsTally, Met, Learned, pin_in, desk_in, pin_only, desk_only, pin_with_desk, slip_only, tally_only, clocked, stored, checked, rested, began, lifted, passed, drew, new_pin, new_desk, dealt_one, starting, least, idle, logged, wrote, rebased, settled_now, gave, with_slip, without_slip};
 
 use crate::step_kinds::{
     Begin, CheckFloor, Deal, Draw, GiveBack, GiveSlip, Learn, Lend, Lift, Meet, Pass, ReadClock,
-    Rebase, Rest, ReturnSlip, Store, TakeSlip, Write,
+    Rebase, Rest, ReturnSlip, SettleNow, Store, TakeSlip, Write,
 };
 use crate::view::{BoardRules, SeatView};
 use atomic_table::{Seat, Table};
@@ -39,6 +39,7 @@ fn first_words(alloc: Global, seats: usize) -> Result<Vec<u64>, AllocError>
     requires { seats ≤ 4096 }
     ensures wide { IfOk result (λ v. length v.items ≡ seats * 8 + 8) }
     ensures clock { IfOk result (λ v. slice_index v.items 0 ≡ 0) }
+    ensures floor { IfOk result (λ v. slice_index v.items 1 ≡ 0) }
     ensures empty { IfOk result (λ v. (i : ℕ) → i < seats → slice_index v.items (i * 8 + 8) ≡ idle) }
 {
     let mut words = vec![in alloc; IDLE; (seats + 1) * STRIDE]?;
@@ -269,6 +270,21 @@ impl Words {
         self.table.shared.load::<Rebase>(seat, CLOCK)
     }
 
+    /// The session stores the clock in its slot, and is settled.
+    pub(crate) fn settle_now(&self, seat: &mut Place, place: usize, stamp: u64)
+        requires own { seat.old.table_id ≡ self.now.table.shared.table_id }
+        requires both { IsBoth seat.old.me }
+        requires place { (place ≡ (pin_in seat.old.me.0).place) × (place < self.now.seats) }
+        requires now { stamp ≡ length (desk_in seat.old.me.0).log }
+        ensures same { (seat.new.table_id ≡ seat.old.table_id) × (seat.new.id ≡ seat.old.id) }
+        ensures view { seat.new.me ≡ (pin_with_desk (desk_in seat.old.me.0) (settled_now (desk_in seat.old.me.0) (pin_in seat.old.me.0)), []) }
+    {
+        // Nobody else stores this slot. Who has the desk draws horizons, and that is this seat: none is above the clock.
+        self.table
+            .shared
+            .store::<SettleNow>(seat, place * STRIDE + STRIDE, stamp);
+    }
+
     /// The session learns what the rule says of it and the desk.
     pub(crate) fn meet(&self, seat: &mut Place)
         requires own { seat.old.table_id ≡ self.now.table.shared.table_id }
@@ -306,6 +322,7 @@ impl Words {
         ensures least { (result ≡ least (desk_in seat.new.me.0)) × (length (desk_in seat.new.me.0).loaded ≡ dealt) }
         ensures clock { ((desk_in seat.new.me.0).read ≡ length (desk_in seat.old.me.0).log) × (result ≤ length (desk_in seat.old.me.0).log) }
         ensures high { (desk_in seat.new.me.0).high ≡ max (desk_in seat.old.me.0).high result }
+        ensures floor { (desk_in seat.new.me.0).floor ≡ max (desk_in seat.old.me.0).floor (length (desk_in seat.old.me.0).log) }
         ensures same { ((desk_in seat.new.me.0).log ≡ (desk_in seat.old.me.0).log) × ((desk_in seat.new.me.0).given ≡ (desk_in seat.old.me.0).given) × ((desk_in seat.new.me.0).seats ≡ (desk_in seat.old.me.0).seats) × ((desk_in seat.new.me.0).dealt ≡ (desk_in seat.old.me.0).dealt) }
     {
         let clock = self.begin(seat);
