@@ -135,7 +135,7 @@ alone_lock command (Err refusal) n a b old new units is refused alone = alone_sa
 
 alone_opened : (result : Result ℕ Refusal) (units more : List JournalUnit) (old new : Held) → IsOpened result units more old new → IsAlone old units → IsAlone new more
 alone_opened (Ok level) units more old new h alone = alone_now more new (ap (λ (s : Held). s.state.work.start) h.1.1.is ∙ ap length (sym h.1.0))
-alone_opened (Err refusal) units more old new h alone = alone_same units more old new h.1 alone
+alone_opened (Err refusal) units more old new h alone = absurd h
 
 alone_deeper : (result : Result ℕ Refusal) (units more : List JournalUnit) (old new : Held) → 1 ≤ old.state.level → IsDeeper result units more old new → IsAlone old units → IsAlone new more
 alone_deeper (Ok level) units more old new deep h alone = alone_kept units more old new deep (ap (λ (s : Held). s.state.work.start) h.1.1) h.1.0 alone

@@ -1,6 +1,6 @@
 -- A session with one unit more.
 use Rattle.std.proofs.Common.{◌≡◌, ℕ, ◌+◌, ◌<◌, Bool, List, [], ◌∷◌, ◌++◌, map, length, length-append, true, false, refl, sym, ap, ◌∙◌, subst, arith}
-use Rattle.std.specs.Prelude.{Option}
+use Rattle.std.specs.Prelude.{Option, not}
 use Rattle.std.specs.List.{All, filter}
 use Rattle.std.proofs.lemmas.List.Elements.{All-nil, All-head, All-tail, All-push, All-weaker, All-filter, filter-append}
 use Rattle.std.proofs.lemmas.List.{append-nil, map-append}
@@ -10,7 +10,7 @@ use Rattle.journal.specs.declared.unit.Unit.{Unit as JournalUnit}
 use Rattle.journal.specs.Kept.{Claim, job_of}
 use Rattle.job_core.specs.Common.{Common, HasAdded}
 use Rattle.pin_board.specs.Slips.{IsInJournal, AreInJournal, IsNext}
-use Rattle.shared_engine.specs.Receipts.{claim, has_receipt, RisesFrom, gives, number_of, receipts_in, IsBook}
+use Rattle.shared_engine.specs.Receipts.{claim, has_receipt, RisesFrom, gives, gives_none, number_of, receipts_in, others_in, IsBook}
 
 rises_push : (n : ℕ) (xs : List Claim) (y : Claim) → RisesFrom n xs → n < y.number → All (λ (c : Claim). c.number < y.number) xs → RisesFrom n (xs ++ y ∷ [])
 rises_push n [] y r l a = (l, tt)
@@ -32,6 +32,22 @@ receipts_push mine c has = filter-append gives mine (c ∷ []) ∙ ap (λ (b : B
 receipts_quiet : (mine : List Claim) (c : Claim) → has_receipt c.unit ≡ false → receipts_in (mine ++ c ∷ []) ≡ receipts_in mine
 unfolding receipts_in
 receipts_quiet mine c has = filter-append gives mine (c ∷ []) ∙ (ap (λ (b : Bool). filter gives mine ++ cond b (c ∷ []) []) has ∙ append-nil (filter gives mine))
+
+pub in_journal_others : (log : List JournalUnit) (mine : List Claim) → AreInJournal log mine → AreInJournal log (others_in mine)
+unfolding others_in
+in_journal_others log mine s = record { each = All-filter gives_none (IsInJournal log) mine s.each }
+
+others_push : (mine : List Claim) (c : Claim) → has_receipt c.unit ≡ false → others_in (mine ++ c ∷ []) ≡ others_in mine ++ c ∷ []
+unfolding others_in
+others_push mine c has = filter-append gives_none mine (c ∷ []) ∙ ap (λ (b : Bool). filter gives_none mine ++ cond (not b) (c ∷ []) []) has
+
+others_quiet : (mine : List Claim) (c : Claim) → has_receipt c.unit ≡ true → others_in (mine ++ c ∷ []) ≡ others_in mine
+unfolding others_in
+others_quiet mine c has = filter-append gives_none mine (c ∷ []) ∙ (ap (λ (b : Bool). filter gives_none mine ++ cond (not b) (c ∷ []) []) has ∙ append-nil (filter gives_none mine))
+
+pub others_nothing : others_in [] ≡ []
+unfolding others_in
+others_nothing = refl
 
 pub receipts_nothing : receipts_in [] ≡ []
 unfolding receipts_in
@@ -80,12 +96,22 @@ received u told oldest old new mine longer h l has =
     let unit : told.unit ≡ u = ap (λ (c : Claim). c.unit) h.receipt in
     ap receipts_in l ∙ (receipts_push mine told (ap has_receipt unit ∙ has) ∙ ap (λ (c : Claim). receipts_in mine ++ c ∷ []) (claim_of u told oldest old new h))
 
+pub others_same : (u : JournalUnit) (told : Claim) (oldest : Option ℕ) (old new : Common) (mine longer : List Claim) → HasAdded u told oldest old new → longer ≡ mine ++ told ∷ [] → has_receipt u ≡ true → others_in longer ≡ others_in mine
+others_same u told oldest old new mine longer h l has =
+    let unit : told.unit ≡ u = ap (λ (c : Claim). c.unit) h.receipt in
+    ap others_in l ∙ others_quiet mine told (ap has_receipt unit ∙ has)
+
 -- a unit that gives none
 pub booked_quiet : (u : JournalUnit) (told : Claim) (oldest : Option ℕ) (old new : Common) (job : ℕ) (ns : List ℕ) (mine longer : List Claim) → IsBook job ns mine → HasAdded u told oldest old new → longer ≡ mine ++ told ∷ [] → has_receipt u ≡ false → job_of u ≡ job
     → IsBook job ns longer
 booked_quiet u told oldest old new job ns mine longer b h l has own =
     let unit : told.unit ≡ u = ap (λ (c : Claim). c.unit) h.receipt in
     rw l (book_quiet job ns mine told b (ap has_receipt unit ∙ has) (ap job_of unit ∙ own))
+
+pub others_more : (u : JournalUnit) (told : Claim) (oldest : Option ℕ) (old new : Common) (mine longer : List Claim) → HasAdded u told oldest old new → longer ≡ mine ++ told ∷ [] → has_receipt u ≡ false → others_in longer ≡ others_in mine ++ claim (length new.units) u ∷ []
+others_more u told oldest old new mine longer h l has =
+    let unit : told.unit ≡ u = ap (λ (c : Claim). c.unit) h.receipt in
+    ap others_in l ∙ (others_push mine told (ap has_receipt unit ∙ has) ∙ ap (λ (c : Claim). others_in mine ++ c ∷ []) h.receipt)
 
 pub received_none : (u : JournalUnit) (told : Claim) (oldest : Option ℕ) (old new : Common) (mine longer : List Claim) → HasAdded u told oldest old new → longer ≡ mine ++ told ∷ [] → has_receipt u ≡ false → receipts_in longer ≡ receipts_in mine
 received_none u told oldest old new mine longer h l has =

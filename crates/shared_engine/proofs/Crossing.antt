@@ -24,7 +24,6 @@ use Rattle.collation.proofs.text.Text.TheSendSync as text
 use Rattle.cell_pool.proofs.pool.Pool.TheSendSync as pool
 use Rattle.cell_pool.proofs.cell.Cell.TheSendSync as cell
 use Rattle.version_store.proofs.near.Near.TheSendSync as near
-use Rattle.std.proofs.option.Option.TheSendSync as option
 use Rattle.version_store.specs.contracts.store.KeyedStore as KeyedStore
 use Rattle.version_store.specs.contracts.store.KeyedStore.TheInside as StoreInside
 use Rattle.job_core.specs.contracts.kernel.Core as Core
@@ -38,7 +37,6 @@ use Rattle.pin_board.proofs.board.Board.TheSendSync as board
 use Rattle.shared_engine.proofs.seats.Seats.TheSendSync as seats
 use Rattle.shared_engine.specs.contracts.locked.Locked as Locked
 use Rattle.shared_engine.specs.contracts.locked.Locked.TheInside as LockedInside
-use Rattle.std.proofs.sync.RwLock.TheSendSync as rwlock
 use Rattle.shared_engine.proofs.adaptive.AdaptiveLock.TheSendSync as adaptive
 use Rattle.shared_engine.specs.contracts.shared.Shared as Shared
 use Rattle.job_core.specs.contracts.kernel.Core.TheInside as Inside

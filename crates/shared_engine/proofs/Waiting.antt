@@ -21,6 +21,14 @@ known_between (Ok a) us more Q P q h = (us, more, q, h)
 known_between (Err e) us more Q P q h = tt
 
 -- what holds of this number holds of some
+pub ok_at_number : {A E : Type 0} (r : Result A E) (n : ℕ) (P : ℕ → A → Type 0) → IfOk r (P n) → IfOk r (λ a. (m : ℕ) × P m a)
+ok_at_number (Ok a) n P h = (n, h)
+ok_at_number (Err e) n P h = tt
+
+pub done_at_number : {A E : Type 0} (r : Result A E) (n : ℕ) (P : ℕ → Type 0) → OnOk r (P n) → OnOk r ((m : ℕ) × P m)
+done_at_number (Ok a) n P h = (n, h)
+done_at_number (Err e) n P h = tt
+
 pub at_number : (r : Result Bool Refusal) (n : ℕ) (P : ℕ → Type 0) → OnOkThat r (P n) → OnOkThat r ((m : ℕ) × P m)
 at_number (Ok true) n P h = (n, h)
 at_number (Ok false) n P h = tt

@@ -2,7 +2,7 @@
 -- then. Read HasDone, then AreDone.
 use Rattle.std.specs.Prelude.{◌≡◌, ◌≢◌, ◌⊎◌, ⊤, ℕ, ◌+◌, ◌-◌, ◌≤◌, ◌<◌, nat_lt, if◌then◌else◌, Bool, true, false, List, [], ◌∷◌, ◌++◌, length, Option, None, Some, Result, Ok, Err}
 use Rattle.refusal.specs.declared.Refusal.{Refusal}
-use Rattle.refusal.specs.declared.Refusal.TheVariants.{NoTransaction, LevelTooDeep, Again}
+use Rattle.refusal.specs.declared.Refusal.TheVariants.{NoTransaction, LevelTooDeep}
 use Rattle.collation.specs.Limits.{most_levels}
 use Rattle.lock_name.specs.declared.lock.LockCommand.{LockCommand}
 use Rattle.lock_name.specs.Locks.{lock_refusal, lock_reply}
@@ -23,7 +23,7 @@ use Rattle.validate_commit.specs.Verdicts.{IsCauseAtCommit}
 use Rattle.job_core.specs.Causes.{IsCauseOf}
 use Rattle.job_core.specs.Common.{IsCauseOfLock}
 use Rattle.job_core.specs.Sessions.{Session as JobSession, at_level, IsAnsweredOrRefused}
-use Rattle.shared_engine.specs.Sessions.{Held, held, ended, and_receipt, begun_anew, HasBegun}
+use Rattle.shared_engine.specs.Sessions.{Held, held, rolled_back, and_receipt, begun_anew, HasBegun}
 use Rattle.shared_engine.specs.Engines.{HasEnded, gone_back, lock_unit, after_try}
 use Rattle.shared_engine.specs.declared.locked.Ended.TheVariants.{Committed}
 
@@ -51,7 +51,7 @@ IsReadAt (Some base) command result old new = IsAnsweredOrRefused command result
 abbrev pub IsInside : DataCommand → Result Answer Refusal → List JournalUnit → List JournalUnit → Held → Held → Type 0
 IsInside command result units more old new =
     IsReadAt old.start command result old.state new.state
-    × ((more ≡ units) × ((new.start ≡ old.start) × (new.receipts ≡ old.receipts)))
+    × ((more ≡ units) × ((new.start ≡ old.start) × ((new.receipts ≡ old.receipts) × (new.others ≡ old.others))))
 
 -- one try of a LOCK
 abbrev pub IsTried : LockCommand → Result Bool Refusal → List JournalUnit → List JournalUnit → Held → Held → Type 0
@@ -60,14 +60,14 @@ IsTried command (Ok had) units more old new =
     × ((more ≡ units ++ lock_unit old.state command had ∷ []) × (new ≡ after_try (length units + 1) command had old))
 IsTried command (Err refusal) units more old new = IsCauseOfLock refusal old.state.work.job command units × AreSame units more old new
 
--- the outermost TSTART: the transaction begins on all units
+-- the outermost TSTART: the transaction begins on all units, and is never refused
 abbrev pub IsOpened : Result ℕ Refusal → List JournalUnit → List JournalUnit → Held → Held → Type 0
 IsOpened (Ok level) units more old new = (level ≡ 1) × ((more ≡ units) × HasBegun units old new)
-IsOpened (Err refusal) units more old new = (refusal ≡ Again) × AreSame units more old new
+IsOpened (Err refusal) units more old new = ⊥
 
 -- a TSTART within a transaction
 abbrev pub IsDeeper : Result ℕ Refusal → List JournalUnit → List JournalUnit → Held → Held → Type 0
-IsDeeper (Ok level) units more old new = ((level ≡ old.state.level + 1) × (old.state.level < most_levels)) × ((more ≡ units) × (new ≡ held (at_level level old.state) old.start old.receipts))
+IsDeeper (Ok level) units more old new = ((level ≡ old.state.level + 1) × (old.state.level < most_levels)) × ((more ≡ units) × (new ≡ held (at_level level old.state) old.start old.receipts old.others))
 IsDeeper (Err refusal) units more old new = ((refusal ≡ LevelTooDeep) × (most_levels ≤ old.state.level)) × AreSame units more old new
 
 -- TCOMMIT, TROLLBACK or TRESTART without a transaction
@@ -81,11 +81,11 @@ IsCommitted (Err refusal) units more old new = (IsCauseAtCommit refusal old.stat
 
 -- a TCOMMIT within a transaction
 abbrev pub IsLower : Result Reply Refusal → List JournalUnit → List JournalUnit → Held → Held → Type 0
-IsLower result units more old new = (result ≡ Ok (AtLevel (old.state.level - 1))) × ((more ≡ units) × (new ≡ held (at_level (old.state.level - 1) old.state) old.start old.receipts))
+IsLower result units more old new = (result ≡ Ok (AtLevel (old.state.level - 1))) × ((more ≡ units) × (new ≡ held (at_level (old.state.level - 1) old.state) old.start old.receipts old.others))
 
 -- TROLLBACK of a transaction
 abbrev pub IsRolledBack : Result (Unit {0}) Refusal → List JournalUnit → List JournalUnit → Held → Held → Type 0
-IsRolledBack (Ok done) units more old new = (more ≡ gone_back old.state units) × (new ≡ ended old)
+IsRolledBack (Ok done) units more old new = (more ≡ gone_back old.state units) × (new ≡ rolled_back (length more) old)
 IsRolledBack (Err refusal) units more old new = (HasNoRoom refusal 1 (length units) × (old.state.took_lock ≡ true)) × AreSame units more old new
 
 -- TRESTART of a transaction
@@ -139,7 +139,7 @@ IsReady s = (s.state.level ≡ 0) ⊎ IsFresh s
 
 -- its start is moved behind these units
 abbrev pub moved : List JournalUnit → Held → Held
-moved units s = held (record s.state { work = just_begun s.state.work.job (length units) }) (Some units) s.receipts
+moved units s = held (record s.state { work = just_begun s.state.work.job (length units) }) (Some units) s.receipts s.others
 
 -- where a transaction is open, its start is moved behind these units
 abbrev pub moved_open : List JournalUnit → Held → Held

@@ -16,8 +16,8 @@ claim_code = code_by (ℕ × (ℕ × JournalUnit)) (coded× coded_ℕ (coded× c
 
 abbrev pub held_code : Coded Held
 held_code =
-    code_by (JobSession × (Option (List JournalUnit) × List Claim)) (coded× session_code (coded× (coded_option (coded_list u.the_row.coded)) (coded_list claim_code)))
-    (λ s. (s.state, (s.start, s.receipts))) (λ p. record { state = p.0; start = p.1.0; receipts = p.1.1 }) (λ _. refl)
+    code_by (JobSession × (Option (List JournalUnit) × (List Claim × List Claim))) (coded× session_code (coded× (coded_option (coded_list u.the_row.coded)) (coded× (coded_list claim_code) (coded_list claim_code))))
+    (λ s. (s.state, (s.start, (s.receipts, s.others)))) (λ p. record { state = p.0; start = p.1.0; receipts = p.1.1.0; others = p.1.1.1 }) (λ _. refl)
 
 abbrev pub engine_code : Coded Engine
 engine_code =
@@ -25,4 +25,6 @@ engine_code =
     (λ e. (e.common, (e.opened, e.seats))) (λ p. record { common = p.0; opened = p.1.0; seats = p.1.1 }) (λ _. refl)
 
 abbrev pub book_code : Coded Book
-book_code = code_by (ℕ × List Claim) (coded× coded_ℕ (coded_list claim_code)) (λ b. (b.job, b.receipts)) (λ p. record { job = p.0; receipts = p.1 }) (λ _. refl)
+book_code =
+    code_by (ℕ × (List Claim × List Claim)) (coded× coded_ℕ (coded× (coded_list claim_code) (coded_list claim_code))) (λ b. (b.job, (b.receipts, b.others)))
+    (λ p. record { job = p.0; receipts = p.1.0; others = p.1.1 }) (λ _. refl)

@@ -87,7 +87,7 @@ lock_unit s command had = Lock s.work.job (nat_lt 0 s.level) command had
 
 -- a LOCK was tried, and is this unit at this number
 abbrev pub after_try : ℕ → LockCommand → Bool → Held → Held
-after_try n command had s = held (noted_lock s.state) s.start (s.receipts ++ claim n (lock_unit s.state command had) ∷ [])
+after_try n command had s = held (noted_lock s.state) s.start (s.receipts ++ claim n (lock_unit s.state command had) ∷ []) s.others
 
 -- what holds where the answer is yes, and where it is no
 abbrev pub OnOkThat : {E : Type 0} → Result Bool E → Type 0 → Type 0
@@ -120,9 +120,19 @@ receipts_weigh weight passes = sum_by (λ (p : Book). weigh weight p.receipts) p
 abbrev pub AreAllReceipts : List JournalUnit → List Book → Type 0
 AreAllReceipts units passes = (weight : JournalUnit → ℕ) → sum_by (of_receipts weight) units ≡ receipts_weigh weight passes
 
+-- what all units of these passes weigh
+abbrev pub units_weigh : (JournalUnit → ℕ) → List Book → ℕ
+units_weigh weight passes = sum_by (λ (p : Book). weigh weight p.receipts + weigh weight p.others) passes
+
+-- the units of these passes are all units, each as often as it was written
+abbrev pub AreAllUnits : List JournalUnit → List Book → Type 0
+AreAllUnits units passes = (weight : JournalUnit → ℕ) → sum_by weight units ≡ units_weigh weight passes
+
 -- the rest of the passes is still to be taken in, and the others wrote what came back
 pub record IsDue (all rest : List Book) (back : List Claim) : Type 0 where
   pub count : (weight : JournalUnit → ℕ) → weigh (of_receipts weight) back + receipts_weigh weight rest ≡ receipts_weigh weight all
+  pub units : (weight : JournalUnit → ℕ) → weigh weight back + units_weigh weight rest ≡ units_weigh weight all
   pub own : All IsOwn rest → All IsOwn all
   pub in_journal : (log : List JournalUnit) → AreInJournal log back → All (λ (p : Book). AreInJournal log p.receipts) rest → All (λ (p : Book). AreInJournal log p.receipts) all
+  pub others : (log : List JournalUnit) → AreInJournal log back → All (λ (p : Book). AreInJournal log p.others) rest → All (λ (p : Book). AreInJournal log p.others) all
   pub rising : All (λ (p : Book). RisesFrom 0 p.receipts) rest → All (λ (p : Book). RisesFrom 0 p.receipts) all

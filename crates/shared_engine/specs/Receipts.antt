@@ -1,5 +1,5 @@
 -- What a job's receipts say of the units that it wrote.
-use Rattle.std.specs.Prelude.{◌≡◌, ℕ, ◌<◌, Bool, true, false, List, [], ◌∷◌, map, if◌then◌else◌}
+use Rattle.std.specs.Prelude.{◌≡◌, ℕ, ◌<◌, Bool, true, false, not, List, [], ◌∷◌, ◌++◌, map, if◌then◌else◌}
 use Rattle.std.specs.List.{All, filter}
 use Rattle.journal.specs.declared.unit.Unit.{Unit as JournalUnit}
 use Rattle.journal.specs.declared.unit.Unit.TheVariants.{Lone, Whole, Lock, Back, End}
@@ -38,17 +38,26 @@ number_of c = c.number
 unfoldable pub receipts_in : List Claim → List Claim
 receipts_in mine = filter gives mine
 
--- a job, and its receipts in order
+-- whether a unit that was written gives none
+abbrev pub gives_none : Claim → Bool
+gives_none c = not (gives c)
+
+-- the others of what a session wrote: rollbacks and restarts of transactions that took a LOCK, and its end
+unfoldable pub others_in : List Claim → List Claim
+others_in mine = filter gives_none mine
+
+-- a job, its receipts in order, and the other units that its session wrote
 pub record Book : Type 0 where
   pub job : ℕ
   pub receipts : List Claim
+  pub others : List Claim
 
-abbrev pub book : ℕ → List Claim → Book
-book job receipts = record { job = job; receipts = receipts }
+abbrev pub book : ℕ → List Claim → List Claim → Book
+book job receipts others = record { job = job; receipts = receipts; others = others }
 
--- the units of its receipts are its job's
+-- its units are its job's
 abbrev pub IsOwn : Book → Type 0
-IsOwn b = All (λ (c : Claim). job_of c.unit ≡ b.job) b.receipts
+IsOwn b = All (λ (c : Claim). job_of c.unit ≡ b.job) (b.receipts ++ b.others)
 
 -- the numbers are those of the receipts, which rise, and all units are the job's
 pub record IsBook (job : ℕ) (numbers : List ℕ) (mine : List Claim) : Type 0 where

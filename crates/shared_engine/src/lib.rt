@@ -2,15 +2,16 @@
 //! the lock.
 //!
 //! What callers see of a session (`specs/Sessions.antt`) is its job's state, the journal at the start of its
-//! transaction, and its receipts, each a unit with its number. What they learn:
+//! transaction, its receipts, each a unit with its number, and the other units that it wrote. What they learn:
 //!
 //! (1) each accepted lone command and each commit adds one receipt, whose unit is just this command with this answer; a
 //!     LOCK one or two; no other call any. Their numbers rise, and as a transaction begins they are in the journal of
-//!     its start;
+//!     its start. A rollback or restart adds one other unit exactly where the transaction took a LOCK, the end of a
+//!     session one more, no other call any;
 //! (2) a read answers what the machine would, on the map of the transaction's start followed by its own commands; a
 //!     transaction restarts exactly where a unit since its start touched what it had read;
-//! (3) once the engine is closed its journal is legal, its content is what that leaves, each receipt's unit is in it at
-//!     its number, and where all passes are in each job has as many units as receipts.
+//! (3) once the engine is closed its journal is legal, its content is what that leaves, each unit of a pass is in it at
+//!     its number, and where all passes are in, their units are all of it.
 //!
 //! `Locked` (`src/locked.rt`) is what lies under the lock; each of its methods is a step, whose contract is exact.
 //! `Shared` takes the lock and calls one. Whenever the lock is free, no content that an open transaction sees is gone

@@ -13,9 +13,9 @@ ghost use Rattle.job_core.specs.Common.{IsCauseOfLock, HasTurned};
 ghost use Rattle.job_core.specs.Sessions.{idle, IsAnsweredOrRefused, IsOpenOn};
 ghost use Rattle.pin_board.specs.Slips.{AreInJournal};
 ghost use Rattle.pin_board.specs.Tally.{tallied};
-ghost use Rattle.shared_engine.specs.Receipts.{Book, book, IsOwn, RisesFrom};
-ghost use Rattle.shared_engine.specs.Sessions.{held, ended, and_receipt, begun_anew, noted_lock, IsJournalOf};
-ghost use Rattle.shared_engine.specs.Engines.{has_session, SessionIs, SameSessions, gone_back, lock_unit, after_try, HasEnded, OnOkThat, OnOkNot, AreAllReceipts, IsDue};
+ghost use Rattle.shared_engine.specs.Receipts.{Book, IsOwn, RisesFrom};
+ghost use Rattle.shared_engine.specs.Sessions.{held, and_receipt, went_back, begun_anew, rolled_back, halted, noted_lock, IsJournalOf};
+ghost use Rattle.shared_engine.specs.Engines.{has_session, SessionIs, SameSessions, gone_back, lock_unit, after_try, HasEnded, OnOkThat, OnOkNot, AreAllReceipts, AreAllUnits, IsDue};
 
 use crate::seats::Seats;
 use crate::session::{Pass, Session};
@@ -92,8 +92,8 @@ fn go_back<B: BoardName, R: Wait>(
     ensures units { OnOk result (core.new.units ≡ gone_back session.old.state core.old.units) }
     ensures cut { core.new.store.cut ≤ desk.new.high }
     ensures desk { desk.new ≡ record desk.old { log = core.new.units } }
-    ensures session { session.new ≡ session.old }
-    ensures refused { OnErr result (core.new ≡ core.old) }
+    ensures session { OnOk result (session.new ≡ went_back (length core.new.units) session.old) }
+    ensures refused { OnErr result ((core.new ≡ core.old) × (session.new ≡ session.old)) }
     ensures cause { IfErr result (λ refusal. HasNoRoom refusal 1 (length core.old.units) × (session.old.state.took_lock ≡ true)) }
 {
     if !session.state.took_lock() {
@@ -139,7 +139,7 @@ impl<B: BoardName> Locked<B> {
         alloc: Global,
         job: Job,
     ) -> Result<Session<B>, Refusal>
-        ensures session { IfOk result (λ session. session ≡ held (idle job) None []) }
+        ensures session { IfOk result (λ session. session ≡ held (idle job) None [] []) }
         ensures free { OnOk result (has_session self.old.seats job ≡ false) }
         ensures opened { OnOk result ((self.new.opened ≡ self.old.opened + 1) × SessionIs true job self.old.seats self.new.seats) }
         ensures common { self.new.common ≡ self.old.common }
@@ -266,6 +266,7 @@ impl<B: BoardName> Locked<B> {
         ensures answered { IfSome session.old.start (λ base. IsAnsweredOrRefused command result (after base initial).map session.old.state session.new.state) }
         ensures open { IsSome session.old.start }
         ensures same { (session.new.start ≡ session.old.start) × (session.new.receipts ≡ session.old.receipts) }
+        ensures others { session.new.others ≡ session.old.others }
     {
         self.meet(rt, board, session);
         self.read_met(session, command)
@@ -299,6 +300,7 @@ impl<B: BoardName> Locked<B> {
         ensures answered { IfSome session.old.start (λ base. IsAnsweredOrRefused command result (after base initial).map session.old.state session.new.state) }
         ensures open { IsSome session.old.start }
         ensures same { (session.new.start ≡ session.old.start) × (session.new.receipts ≡ session.old.receipts) }
+        ensures others { session.new.others ≡ session.old.others }
         ensures level { session.new.state.level ≡ session.old.state.level }
         ensures kept { IsOpenOn self.now.common session.new.state }
     {
@@ -316,7 +318,7 @@ impl<B: BoardName> Locked<B> {
     ) -> Result<(), Refusal>
         requires { 1 ≤ session.old.state.level }
         ensures units { OnOk result (self.new.common.units ≡ gone_back session.old.state self.old.common.units) }
-        ensures session { OnOk result (session.new ≡ ended session.old) }
+        ensures session { OnOk result (session.new ≡ rolled_back (length self.new.common.units) session.old) }
         ensures refused { OnErr result ((self.new ≡ self.old) × (session.new ≡ session.old)) }
         ensures cause { IfErr result (λ refusal. HasNoRoom refusal 1 (length self.old.common.units) × (session.old.state.took_lock ≡ true)) }
         ensures others { (self.new.opened ≡ self.old.opened) × (self.new.seats ≡ self.old.seats) }
@@ -416,7 +418,7 @@ impl<B: BoardName> Locked<B> {
         board: &Board<B>,
         session: Session<B>,
     ) -> Result<Pass<B>, (Session<B>, Refusal)>
-        ensures pass { IfOk result (λ pass. pass ≡ book session.state.work.job session.receipts) }
+        ensures pass { IfOk result (λ pass. pass ≡ halted (length self.new.common.units) session) }
         ensures units { OnOk result (self.new.common.units ≡ self.old.common.units ++ End session.state.work.job ∷ []) }
         ensures over { OnOk result (SessionIs false session.state.work.job self.old.seats self.new.seats) }
         ensures opened { self.new.opened ≡ self.old.opened }
@@ -490,15 +492,17 @@ impl<B: BoardName> Locked<B> {
         self.sweep.is_done()
     }
 
-    /// The core at the end. Where all passes are in, their receipts are those of all units in the journal, but for rollbacks
-    /// and ends. Takes no memory.
+    /// The core at the end. Where all passes are in, their units are all units in the journal, and their receipts those of
+    /// all, but for rollbacks and ends. Takes no memory.
     pub(crate) fn finish<R: Wait>(self, rt: &R, board: &Board<B>, passes: Vec<Pass<B>>) -> Closed
         ensures core { result.core.units ≡ self.common.units }
         ensures sessions { result.sessions ≡ min self.opened (2 ^ 64 - 1) }
         ensures in_journal { All (λ (p : Book). AreInJournal result.core.units p.receipts) passes.items }
+        ensures others { All (λ (p : Book). AreInJournal result.core.units p.others) passes.items }
         ensures rising { All (λ (p : Book). RisesFrom 0 p.receipts) passes.items }
         ensures own { All IsOwn passes.items }
         ensures all { vec_len passes ≡ result.sessions → result.sessions < 2 ^ 64 - 1 → AreAllReceipts result.core.units passes.items }
+        ensures all_units { vec_len passes ≡ result.sessions → result.sessions < 2 ^ 64 - 1 → AreAllUnits result.core.units passes.items }
         ensures few { vec_len passes ≤ result.sessions }
     {
         let Locked {

@@ -196,7 +196,7 @@ impl<B: BoardName> Locked<B> {
         self.read(rt, board, session, command)
     }
 
-    // A TSTART of the block. Outside a transaction one begins now.
+    // A TSTART of the block. Outside a transaction one begins now, and is never refused.
     fn serial_start<R: Wait>(
         &mut self,
         rt: &R,
@@ -210,10 +210,7 @@ impl<B: BoardName> Locked<B> {
         if session.tlevel() > 0 {
             return session.tstart_inner();
         }
-        let Ok(_) = board.settle(&mut session.pin) else {
-            return Err(Refusal::Again);
-        };
-        let now = board.restart(rt, &self.desk, &mut session.pin);
+        let now = board.settle_now(rt, &self.desk, &mut session.pin);
         session.state.begin(now);
         Ok(1)
     }

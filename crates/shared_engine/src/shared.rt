@@ -13,9 +13,9 @@ ghost use Rattle.pin_board.specs.Slips.{AreInJournal};
 ghost use Rattle.command.specs.declared.access.DataCommand.{DataCommand};
 ghost use Rattle.command.specs.declared.request.Command.{Command};
 ghost use Rattle.shared_engine.specs.Blocks.{AreDone, NoneRestarts, IsReady, moved_open};
-ghost use Rattle.shared_engine.specs.Receipts.{Book, book, IsOwn, RisesFrom};
-ghost use Rattle.shared_engine.specs.Sessions.{held, ended, and_receipt, begun_anew, HasBegun, IsJournalOf};
-ghost use Rattle.shared_engine.specs.Engines.{HasEnded, HasItsNames, WasBlocked, OnOkThat, OnOkNot, after_try, AreAllReceipts};
+ghost use Rattle.shared_engine.specs.Receipts.{Book, IsOwn, RisesFrom};
+ghost use Rattle.shared_engine.specs.Sessions.{held, ended, and_receipt, begun_anew, rolled_back, halted, HasBegun, IsJournalOf};
+ghost use Rattle.shared_engine.specs.Engines.{HasEnded, HasItsNames, WasBlocked, OnOkThat, OnOkNot, after_try, AreAllReceipts, AreAllUnits};
 ghost use Rattle.shared_engine.specs.Writes.{AreWrites};
 
 use crate::adaptive::{AdaptiveLock, Patience};
@@ -77,7 +77,7 @@ impl<B: BoardName> Shared<B> {
     ///
     /// Refusals: `BadJob` where the job has a session; `OutOfMemory`.
     pub fn open<R: Wait>(&self, rt: &R, alloc: Global, job: Job) -> Result<Session<B>, Refusal>
-        ensures session { IfOk result (λ session. session ≡ held (idle job) None []) }
+        ensures session { IfOk result (λ session. session ≡ held (idle job) None [] []) }
         ensures cause { IfErr result (λ refusal. (refusal ≡ Refusal.BadJob) ⊎ (refusal ≡ Refusal.OutOfMemory)) }
     {
         self.lock
@@ -266,6 +266,7 @@ impl<B: BoardName> Shared<B> {
         ensures open { IsSome session.old.start }
         ensures journal { (units : List JournalUnit) × IsJournalOf units session.old }
         ensures same { (session.new.start ≡ session.old.start) × (session.new.receipts ≡ session.old.receipts) }
+        ensures others { session.new.others ≡ session.old.others }
     {
         let locked = self.lock.read(rt);
         locked.read(rt, &self.board, session, command)
@@ -320,12 +321,13 @@ impl<B: BoardName> Shared<B> {
         session.state.end();
     }
 
-    /// TROLLBACK: nothing of the transaction is left. Takes the exclusive lock where it took a LOCK, else none.
+    /// TROLLBACK: nothing of the transaction is left. Where it took a LOCK a unit says so, one of the session's others,
+    /// and the exclusive lock is taken; else neither.
     ///
     /// Refusals, after which nothing has changed, and only where it took a LOCK: `StampsUsedUp`, `OutOfMemory`.
     pub fn trollback<R: Wait>(&self, rt: &R, session: &mut Session<B>) -> Result<(), Refusal>
         requires { 1 ≤ session.old.state.level }
-        ensures over { OnOk result (session.new ≡ ended session.old) }
+        ensures over { OnOk result ((n : ℕ) × (session.new ≡ rolled_back n session.old)) }
         ensures refused { OnErr result (session.new ≡ session.old) }
         ensures cause { IfErr result (λ refusal. ((refusal ≡ Refusal.OutOfMemory) ⊎ (refusal ≡ Refusal.StampsUsedUp)) × (session.old.state.took_lock ≡ true)) }
     {
@@ -340,8 +342,9 @@ impl<B: BoardName> Shared<B> {
     }
 
     /// TRESTART: nothing of the transaction is left but its LOCKs' units, and it begins anew at level 1, at the present
-    /// moment, on a journal that goes on from its start before and has the units of the session's receipts. Answers how
-    /// often it has. Takes the exclusive lock.
+    /// moment, on a journal that goes on from its start before and has the units of the session's receipts. Where it took
+    /// a LOCK the last unit of that says so, one of the session's others. Answers how often it has. Takes the exclusive
+    /// lock.
     ///
     /// Refusals, after which nothing has changed, and only where it took a LOCK: `StampsUsedUp`, `OutOfMemory`.
     pub fn trestart<R: Wait>(&self, rt: &R, session: &mut Session<B>) -> Result<u64, Refusal>
@@ -356,7 +359,7 @@ impl<B: BoardName> Shared<B> {
     }
 
     /// HALT: the session is over, its locks are released and its transaction is gone; its job may have another. Gives
-    /// its pass, or the session back with the refusal. Takes the exclusive lock.
+    /// its pass, whose last unit is that end, or the session back with the refusal. Takes the exclusive lock.
     ///
     /// Refusals, after which the session goes on as it was: `StampsUsedUp`, `OutOfMemory`.
     pub fn halt<R: Wait>(
@@ -364,7 +367,7 @@ impl<B: BoardName> Shared<B> {
         rt: &R,
         session: Session<B>,
     ) -> Result<Pass<B>, (Session<B>, Refusal)>
-        ensures pass { IfOk result (λ pass. pass ≡ book session.state.work.job session.receipts) }
+        ensures pass { IfOk result (λ pass. (n : ℕ) × (pass ≡ halted n session)) }
         ensures refused { IfErr result (λ r. r.0 ≡ session) }
         ensures cause { IfErr result (λ r. (r.1 ≡ Refusal.OutOfMemory) ⊎ (r.1 ≡ Refusal.StampsUsedUp)) }
     {
@@ -445,14 +448,16 @@ impl<B: BoardName> Shared<B> {
         }
     }
 
-    /// Closes the engine. Each receipt's unit is in its journal at its number, and is its job's; and where as many passes
-    /// are in as there were sessions, the receipts are those of all units, but for rollbacks and ends; more can't be in.
-    /// Takes no memory.
+    /// Closes the engine. Each unit of a pass is in its journal at its number, and is its job's; and where as many passes
+    /// are in as there were sessions, their units are all units, and their receipts those of all but rollbacks and ends;
+    /// more can't be in. Takes no memory.
     pub fn finish<R: Wait>(self, rt: &R, passes: Vec<Pass<B>>) -> Closed
         ensures in_journal { All (λ (p : Book). AreInJournal result.core.units p.receipts) passes.items }
+        ensures others { All (λ (p : Book). AreInJournal result.core.units p.others) passes.items }
         ensures rising { All (λ (p : Book). RisesFrom 0 p.receipts) passes.items }
         ensures own { All IsOwn passes.items }
         ensures all { vec_len passes ≡ result.sessions → result.sessions < 2 ^ 64 - 1 → AreAllReceipts result.core.units passes.items }
+        ensures all_units { vec_len passes ≡ result.sessions → result.sessions < 2 ^ 64 - 1 → AreAllUnits result.core.units passes.items }
         ensures few { vec_len passes ≤ result.sessions }
     {
         let Shared { board, lock } = self;

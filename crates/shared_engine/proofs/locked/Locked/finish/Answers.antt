@@ -11,6 +11,12 @@ returns-clause-in_journal g c =
     let units = units_told _ _ _ _ _ _ c.gather.ensures.tally c.into_tally-tally.ensures c.self.invariant.log in
     c.gather.ensures.due.in_journal log (subst (λ l. AreInJournal l c.gather.new.tally.back) units c.audit.ensures.in_journal) (All-nil (λ (p : Book). AreInJournal log p.receipts))
 
+pub returns-clause-others : goal.returns-clause-others
+returns-clause-others g c =
+    let log = c.self.inside.core.units in
+    let units = units_told _ _ _ _ _ _ c.gather.ensures.tally c.into_tally-tally.ensures c.self.invariant.log in
+    c.gather.ensures.due.others log (subst (λ l. AreInJournal l c.gather.new.tally.back) units c.audit.ensures.in_journal) (All-nil (λ (p : Book). AreInJournal log p.others))
+
 pub returns-clause-few : goal.returns-clause-few
 returns-clause-few g c =
     let returned = ap (λ t. t.returned) c.gather.ensures.tally in

@@ -1,6 +1,7 @@
 use Rattle.std.proofs.Common.{◌≡◌, ◌++◌, ◌∷◌, [], refl, sym, ap, ◌∙◌, subst}
-use Rattle.shared_engine.specs.Receipts.{book, IsBook}
-use Rattle.shared_engine.proofs.Booking.{booked_quiet, received_none}
+use Rattle.shared_engine.specs.Receipts.{IsBook}
+use Rattle.shared_engine.proofs.Booking.{booked_quiet}
+use Rattle.shared_engine.proofs.Writing.{view_halted}
 use Rattle.shared_engine.proofs.locked.Locked.halt.Goals as goal
 
 pub invariant_of-result : goal.invariant_of-result
@@ -11,7 +12,4 @@ invariant_of-result g c =
 pub returns-in-Ok-clause-pass : goal.returns-in-Ok-clause-pass
 returns-in-Ok-clause-pass g c =
     let mine : c.take_slip-slip.result ≡ c.session.inside.pin.mine ++ c.in-Ok.receipt ∷ [] = c.take_slip-slip.ensures.slip ∙ (ap (λ p. p.mine) c.leave.ensures.left ∙ ap (λ p. p.mine) c.write.ensures.pin) in
-    let s = c.session.view_is in
-    let job = c.job-job.ensures ∙ ap (λ h. h.state.work.job) s in
-    let receipts = received_none _ _ _ _ _ _ _ c.in-Ok.ensures.added mine refl ∙ ap (λ h. h.receipts) s in
-    λ i. book (job i) (receipts i)
+    view_halted _ _ _ _ c.session.inside.state _ _ _ _ _ c.in-Ok.ensures.added mine c.job-job.ensures c.session.view_is

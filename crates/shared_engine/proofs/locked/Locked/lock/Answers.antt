@@ -1,6 +1,6 @@
 use Rattle.std.proofs.Common.{◌+◌, ◌∷◌, ◌++◌, [], nat_lt, length, refl, ap, ◌∙◌}
 use Rattle.journal.specs.declared.unit.Unit.TheVariants.{Lock}
-use Rattle.shared_engine.specs.Receipts.{claim, receipts_in}
+use Rattle.shared_engine.specs.Receipts.{claim, receipts_in, others_in}
 use Rattle.shared_engine.specs.Sessions.{held, start_in, noted_lock}
 use Rattle.shared_engine.specs.Engines.{after_try}
 use Rattle.shared_engine.proofs.Writing.{numbers_next, session_next, session_noted, view_next}
@@ -19,9 +19,10 @@ returns-clause-receipt g c =
     let next = view_next _ _ _ _ _ c.session.inside.state _ _ c.in_ok-had.ensures.added c.write.ensures.pin refl in
     let start = ap (λ h. h.start) next in
     let receipts = ap (λ h. h.receipts) next in
+    let others = ap (λ h. h.others) next in
     let state = c.session.inside.state in
     let pin = c.session.inside.pin in
     let here = length c.self.inside.core.units + 1 in
-    (λ i. held (c.note_lock.ensures i) (start i) (receipts i))
-    ∙ ((λ i. held (noted_lock state) (start_in pin) (receipts_in pin.mine ++ claim here (Lock (c.job.ensures i) (nat_lt 0 (c.level-inside.ensures i)) c.args.command.now c.in_ok-had.had) ∷ []))
+    (λ i. held (c.note_lock.ensures i) (start i) (receipts i) (others i))
+    ∙ ((λ i. held (noted_lock state) (start_in pin) (receipts_in pin.mine ++ claim here (Lock (c.job.ensures i) (nat_lt 0 (c.level-inside.ensures i)) c.args.command.now c.in_ok-had.had) ∷ []) (others_in pin.mine))
     ∙ (λ i. after_try (length (units i) + 1) c.args.command.now c.in_ok-had.had (s i)))

@@ -1,10 +1,10 @@
 use Rattle.std.proofs.Common.{◌≡◌, ◌+◌, ◌++◌, ◌∷◌, [], length, refl, sym, ap, ◌∙◌}
 use Rattle.validate_commit.specs.Verdicts.{has_been_overtaken}
-use Rattle.shared_engine.specs.Receipts.{receipts_in}
+use Rattle.shared_engine.specs.Receipts.{receipts_in, others_in}
 use Rattle.shared_engine.specs.Sessions.{held, start_in, and_receipt, ended}
 use Rattle.shared_engine.specs.Engines.{whole_of}
 use Rattle.shared_engine.proofs.Beginning.{met_journal}
-use Rattle.shared_engine.proofs.Booking.{received}
+use Rattle.shared_engine.proofs.Booking.{received, others_same}
 use Rattle.shared_engine.proofs.Keeping.{committed_added, committed_stands}
 use Rattle.shared_engine.proofs.Writing.{numbers_next, session_next, session_met, session_left}
 use Rattle.shared_engine.proofs.locked.Locked.tcommit.Goals as goal
@@ -24,11 +24,12 @@ returns-in-Committed-clause-ended g c =
     let units = ap (λ e. e.common.units) c.self.view_is in
     let mine : c.write.new.pin.mine ≡ c.session.inside.pin.mine ++ c.in-Committed.receipt ∷ [] = ap (λ p. p.mine) c.write.ensures.pin ∙ ap (λ p. p.mine ++ c.in-Committed.receipt ∷ []) c.meet.ensures.pin in
     let start = ap start_in c.leave.ensures.left in
-    let receipts = ap (λ p. receipts_in p.mine) c.leave.ensures.left ∙ received _ _ _ _ _ _ _ h mine refl in (
+    let receipts = ap (λ p. receipts_in p.mine) c.leave.ensures.left ∙ received _ _ _ _ _ _ _ h mine refl in
+    let others = ap (λ p. others_in p.mine) c.leave.ensures.left ∙ others_same _ _ _ _ _ _ _ h mine refl in (
       sym (λ i. has_been_overtaken (s i).state.work (units i)) ∙ stands,
       (
         h.units ∙ (λ i. units i ++ whole_of (s i).state ∷ []),
-        (λ i. held (c.end.ensures i) (start i) (receipts i)) ∙ (λ i. ended (and_receipt (length (units i) + 1) (whole_of (s i).state) (s i))),
+        (λ i. held (c.end.ensures i) (start i) (receipts i) (others i)) ∙ (λ i. ended (and_receipt (length (units i) + 1) (whole_of (s i).state) (s i))),
       ),
     )
 

@@ -13,4 +13,5 @@ invariant_of-session g c =
 
 pub returns-clause-journal : goal.returns-clause-journal
 returns-clause-journal g c =
-    subst (IsJournalOf _) (c.session.view_is ∙ c.in_ok-go_back.ensures.session) (met_journal _ _ _ c.session.inside.state c.journal.ensures.legal (ap (λ d. d.log) c.in_ok-go_back.ensures.desk) c.restart-now.ensures.met)
+    let back = subst (IsJournalOf _) (c.session.view_is ∙ c.in_ok-go_back.ensures.session) (met_journal _ _ _ c.session.inside.state c.journal.ensures.legal (ap (λ d. d.log) c.in_ok-go_back.ensures.desk) c.restart-now.ensures.met) in
+    record { legal = back.legal; start = back.start; receipts = back.receipts }
