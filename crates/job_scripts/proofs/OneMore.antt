@@ -1,13 +1,14 @@
--- A line more, and the groups of all lines.
+-- Lines more, and the groups of all lines.
 use Rattle.std.proofs.Common.{◌≡◌, ℕ, zero, suc, ◌+◌, ◌<◌, Bool, true, false, not, cond, ◌||◌, eqb, List, [], ◌∷◌, ◌++◌, map, filter, length, get_or, set, refl, sym, ap, subst, ◌∙◌, arith, append-nil, length-append, true≢false, Result, Ok, Err, OnOk}
 use Rattle.std.specs.Prelude.{⊤}
 use Rattle.std.proofs.Math.Numerals.{one-add}
-use Rattle.std.proofs.lemmas.List.{map-append}
+use Rattle.std.proofs.lemmas.List.{map-append, append_assoc}
 use Rattle.std.proofs.lemmas.List.Elements.{filter-append}
 use Rattle.std.proofs.lemmas.Grind.{common_steps, flat_map-append}
 use Rattle.std.specs.List.{list_any, position_or_len}
 use Rattle.job_scripts.specs.declared.lines.Script.{Script}
-use Rattle.job_scripts.specs.Groups.{Group, group, group_of, groups_of, lines_under, with_ends, firsts, more, extended, single, numbers_in, shown}
+use Rattle.job_scripts.specs.Groups.{Group, group, group_of, groups_of, lines_under, with_ends, firsts, numbers_in, shown}
+use Rattle.job_scripts.specs.Runs.{more, extended, HaveGroup}
 
 -- what follows from a fact that holds where it is Ok
 pub then_ok : {T E : Type 0} (r : Result T E) {P Q : Type 0} → OnOk r P → (P → Q) → OnOk r Q
@@ -96,19 +97,36 @@ firsts_known (m ∷ ms) n h = by (has n (firsts ms)) refl (firsts_known ms n)
 
 -- ---- groups
 
-abbrev of_lines : ℕ → List (List ℕ) → Group
+-- each line is of this number
+abbrev pub AreUnder : ℕ → List (List ℕ) → Type 0
+AreUnder n [] = ⊤
+AreUnder n (l ∷ ls) = (group_of l ≡ n) × AreUnder n ls
+
+abbrev pub of_lines : ℕ → List (List ℕ) → Group
 of_lines n lines = record { number = n; text = with_ends lines; count = length lines }
 
-of_lines_more : (n : ℕ) (ls : List (List ℕ)) (l : List ℕ) → of_lines n (ls ++ l ∷ []) ≡ more l (of_lines n ls)
-of_lines_more n ls l =
-    ap (λ (t : List ℕ). record { number = n; text = t; count = length (ls ++ l ∷ []) }) (flat_map-append (λ line. line ++ 10 ∷ []) ls (l ∷ []) ∙ ap (λ (t : List ℕ). with_ends ls ++ t) (append-nil (l ++ 10 ∷ [])))
-    ∙ ap (λ c. record { number = n; text = with_ends ls ++ (l ++ 10 ∷ []); count = c }) (length-append ls (l ∷ []))
+of_lines_more : (n : ℕ) (lines ls : List (List ℕ)) → of_lines n (lines ++ ls) ≡ more ls (of_lines n lines)
+of_lines_more n lines ls =
+    ap (λ (t : List ℕ). record { number = n; text = t; count = length (lines ++ ls) }) (flat_map-append (λ line. line ++ 10 ∷ []) lines ls)
+    ∙ ap (λ c. record { number = n; text = with_ends lines ++ with_ends ls; count = c }) (length-append lines ls)
 
-under_same : (n : ℕ) (lines : List (List ℕ)) (l : List ℕ) → eqb (group_of l) n ≡ false → lines_under n (lines ++ l ∷ []) ≡ lines_under n lines
-under_same n lines l e = filter-append (λ line. eqb (group_of line) n) lines (l ∷ []) ∙ ap (λ b. lines_under n lines ++ cond b (l ∷ []) []) e ∙ append-nil (lines_under n lines)
+none_of : (n m : ℕ) (ls : List (List ℕ)) → AreUnder m ls → eqb m n ≡ false → lines_under n ls ≡ []
+none_of n m [] u e = refl
+none_of n m (l ∷ ls) u e = ap (λ b. cond b (l ∷ lines_under n ls) (lines_under n ls)) (ap (λ x. eqb x n) u.0 ∙ e) ∙ none_of n m ls u.1 e
 
-under_more : (n : ℕ) (lines : List (List ℕ)) (l : List ℕ) → eqb (group_of l) n ≡ true → lines_under n (lines ++ l ∷ []) ≡ lines_under n lines ++ l ∷ []
-under_more n lines l e = filter-append (λ line. eqb (group_of line) n) lines (l ∷ []) ∙ ap (λ b. lines_under n lines ++ cond b (l ∷ []) []) e
+self_equal : (n : ℕ) → eqb n n ≡ true
+self_equal n = grind (arith, common_steps)
+
+all_of : (n : ℕ) (ls : List (List ℕ)) → AreUnder n ls → lines_under n ls ≡ ls
+all_of n [] u = refl
+all_of n (l ∷ ls) u = ap (λ b. cond b (l ∷ lines_under n ls) (lines_under n ls)) (ap (λ x. eqb x n) u.0 ∙ self_equal n) ∙ ap (λ (t : List (List ℕ)). l ∷ t) (all_of n ls u.1)
+
+under_same : (n m : ℕ) (lines ls : List (List ℕ)) → AreUnder m ls → eqb m n ≡ false → lines_under n (lines ++ ls) ≡ lines_under n lines
+under_same n m lines ls u e =
+    filter-append (λ line. eqb (group_of line) n) lines ls ∙ ap (λ (t : List (List ℕ)). lines_under n lines ++ t) (none_of n m ls u e) ∙ append-nil (lines_under n lines)
+
+under_more : (n : ℕ) (lines ls : List (List ℕ)) → AreUnder n ls → lines_under n (lines ++ ls) ≡ lines_under n lines ++ ls
+under_more n lines ls u = filter-append (λ line. eqb (group_of line) n) lines ls ∙ ap (λ (t : List (List ℕ)). lines_under n lines ++ t) (all_of n ls u)
 
 none_under : (n : ℕ) (lines : List (List ℕ)) → has n (map group_of lines) ≡ false → lines_under n lines ≡ []
 none_under n [] h = refl
@@ -118,79 +136,85 @@ none_under n (l ∷ ls) h = by (eqb n (group_of l)) refl (none_under n ls) h
     by true e ih h = absurd (true≢false h)
     by false e ih h = ap (λ b. cond b (l ∷ lines_under n ls) (lines_under n ls)) (other_way n (group_of l) e) ∙ ih h
 
-numbers_group : (lines : List (List ℕ)) (ns : List ℕ) → numbers_in (map (group lines) ns) ≡ ns
+pub numbers_group : (lines : List (List ℕ)) (ns : List ℕ) → numbers_in (map (group lines) ns) ≡ ns
 numbers_group lines [] = refl
 numbers_group lines (n ∷ ns) = ap (λ (l : List ℕ). n ∷ l) (numbers_group lines ns)
 
-pub numbers_extended : (i : ℕ) (line : List ℕ) (gs : List Group) → numbers_in (extended i line gs) ≡ numbers_in gs
-numbers_extended i line [] = refl
-numbers_extended zero line (g ∷ gs) = refl
-numbers_extended (suc i) line (g ∷ gs) = ap (λ (l : List ℕ). g.number ∷ l) (numbers_extended i line gs)
+pub numbers_extended : (i : ℕ) (ls : List (List ℕ)) (gs : List Group) → numbers_in (extended i ls gs) ≡ numbers_in gs
+numbers_extended i ls [] = refl
+numbers_extended zero ls (g ∷ gs) = refl
+numbers_extended (suc i) ls (g ∷ gs) = ap (λ (l : List ℕ). g.number ∷ l) (numbers_extended i ls gs)
 
-map_same : (lines : List (List ℕ)) (l : List ℕ) (ns : List ℕ) → has (group_of l) ns ≡ false → map (group (lines ++ l ∷ [])) ns ≡ map (group lines) ns
-map_same lines l [] h = refl
-map_same lines l (n ∷ ns) h = by (eqb (group_of l) n) refl (map_same lines l ns) h
+map_same : (lines ls : List (List ℕ)) (m : ℕ) (ns : List ℕ) → AreUnder m ls → has m ns ≡ false → map (group (lines ++ ls)) ns ≡ map (group lines) ns
+map_same lines ls m [] u h = refl
+map_same lines ls m (n ∷ ns) u h = by (eqb m n) refl (map_same lines ls m ns u) h
   where
-    by : (b : Bool) → eqb (group_of l) n ≡ b → (has (group_of l) ns ≡ false → map (group (lines ++ l ∷ [])) ns ≡ map (group lines) ns) → (b || has (group_of l) ns) ≡ false
-        → group (lines ++ l ∷ []) n ∷ map (group (lines ++ l ∷ [])) ns ≡ group lines n ∷ map (group lines) ns
+    by : (b : Bool) → eqb m n ≡ b → (has m ns ≡ false → map (group (lines ++ ls)) ns ≡ map (group lines) ns) → (b || has m ns) ≡ false → group (lines ++ ls) n ∷ map (group (lines ++ ls)) ns ≡ group lines n ∷ map (group lines) ns
     by true e ih h = absurd (true≢false h)
-    by false e ih h = ap (λ (gs : List Group). group (lines ++ l ∷ []) n ∷ gs) (ih h) ∙ ap (λ (ls : List (List ℕ)). of_lines n ls ∷ map (group lines) ns) (under_same n lines l e)
+    by false e ih h = ap (λ (gs : List Group). group (lines ++ ls) n ∷ gs) (ih h) ∙ ap (λ (t : List (List ℕ)). of_lines n t ∷ map (group lines) ns) (under_same n m lines ls u e)
 
-map_extended : (lines : List (List ℕ)) (l : List ℕ) (ns : List ℕ) → Distinct ns → map (group (lines ++ l ∷ [])) ns ≡ extended (position_or_len (eqb (group_of l)) ns) l (map (group lines) ns)
-map_extended lines l [] d = refl
-map_extended lines l (n ∷ ns) d = by (eqb (group_of l) n) refl (map_extended lines l ns d.1)
+map_extended : (lines ls : List (List ℕ)) (m : ℕ) (ns : List ℕ) → AreUnder m ls → Distinct ns → map (group (lines ++ ls)) ns ≡ extended (position_or_len (eqb m) ns) ls (map (group lines) ns)
+map_extended lines ls m [] u d = refl
+map_extended lines ls m (n ∷ ns) u d = by (eqb m n) refl (map_extended lines ls m ns u d.1)
   where
-    by : (b : Bool) → eqb (group_of l) n ≡ b → map (group (lines ++ l ∷ [])) ns ≡ extended (position_or_len (eqb (group_of l)) ns) l (map (group lines) ns)
-        → group (lines ++ l ∷ []) n ∷ map (group (lines ++ l ∷ [])) ns ≡ extended (cond (not b) (1 + position_or_len (eqb (group_of l)) ns) 0) l (group lines n ∷ map (group lines) ns)
+    by : (b : Bool) → eqb m n ≡ b → map (group (lines ++ ls)) ns ≡ extended (position_or_len (eqb m) ns) ls (map (group lines) ns)
+        → group (lines ++ ls) n ∷ map (group (lines ++ ls)) ns ≡ extended (cond (not b) (1 + position_or_len (eqb m) ns) 0) ls (group lines n ∷ map (group lines) ns)
     by true e ih =
-        ap (λ (gs : List Group). group (lines ++ l ∷ []) n ∷ gs) (map_same lines l ns (subst (λ x. has x ns ≡ false) (sym (same_number (group_of l) n e)) d.0))
-        ∙ ap (λ (g : Group). g ∷ map (group lines) ns) (ap (of_lines n) (under_more n lines l e) ∙ of_lines_more n (lines_under n lines) l)
+        ap (λ (gs : List Group). group (lines ++ ls) n ∷ gs) (map_same lines ls m ns u (subst (λ x. has x ns ≡ false) (sym (same_number m n e)) d.0))
+        ∙ ap (λ (g : Group). g ∷ map (group lines) ns) (ap (of_lines n) (under_more n lines ls (subst (λ x. AreUnder x ls) (same_number m n e) u)) ∙ of_lines_more n (lines_under n lines) ls)
     by false e ih =
-        ap (λ (gs : List Group). group (lines ++ l ∷ []) n ∷ gs) ih ∙ ap (λ (ls : List (List ℕ)). of_lines n ls ∷ extended (position_or_len (eqb (group_of l)) ns) l (map (group lines) ns)) (under_same n lines l e)
-        ∙ sym (ap (λ i. extended i l (group lines n ∷ map (group lines) ns)) (one-add (position_or_len (eqb (group_of l)) ns)))
+        ap (λ (gs : List Group). group (lines ++ ls) n ∷ gs) ih ∙ ap (λ (t : List (List ℕ)). of_lines n t ∷ extended (position_or_len (eqb m) ns) ls (map (group lines) ns)) (under_same n m lines ls u e)
+        ∙ sym (ap (λ i. extended i ls (group lines n ∷ map (group lines) ns)) (one-add (position_or_len (eqb m) ns)))
 
-pub groups_known : (lines : List (List ℕ)) (l : List ℕ) → has (group_of l) (firsts (map group_of lines)) ≡ true → groups_of (lines ++ l ∷ []) ≡ extended (position_or_len (eqb (group_of l)) (firsts (map group_of lines))) l (groups_of lines)
-groups_known lines l h =
-    ap (λ (ns : List ℕ). map (group (lines ++ l ∷ [])) (firsts ns)) (map-append group_of lines (l ∷ [])) ∙ ap (λ (ns : List ℕ). map (group (lines ++ l ∷ [])) ns) (firsts_known (map group_of lines) (group_of l) h)
-    ∙ map_extended lines l (firsts (map group_of lines)) (firsts_distinct (map group_of lines))
+has_last : (n : ℕ) (ns : List ℕ) → has n (ns ++ n ∷ []) ≡ true
+has_last n [] = ap (λ b. b || false) (self_equal n)
+has_last n (k ∷ ks) = ap (λ b. eqb n k || b) (has_last n ks) ∙ either (eqb n k)
+  where
+    either : (b : Bool) → (b || true) ≡ true
+    either true = refl
+    either false = refl
 
-first_group : (lines : List (List ℕ)) (l : List ℕ) → has (group_of l) (firsts (map group_of lines)) ≡ false → group (lines ++ l ∷ []) (group_of l) ≡ single l
-first_group lines l h =
-    let none : lines_under (group_of l) lines ≡ [] = none_under (group_of l) lines (sym (has_firsts (group_of l) (map group_of lines)) ∙ h) in
-    let self : eqb (group_of l) (group_of l) ≡ true = grind (arith, common_steps) in
-    ap (of_lines (group_of l)) (under_more (group_of l) lines l self ∙ ap (λ (ls : List (List ℕ)). ls ++ l ∷ []) none) ∙ of_lines_more (group_of l) [] l
+firsts_run : (ls : List (List ℕ)) (ns : List ℕ) (n : ℕ) → AreUnder n ls → has n (firsts ns) ≡ true → firsts (ns ++ map group_of ls) ≡ firsts ns
+firsts_run [] ns n u h = ap firsts (append-nil ns)
+firsts_run (l ∷ ls) ns n u h =
+    let same : firsts (ns ++ group_of l ∷ []) ≡ firsts ns = ap (λ x. firsts (ns ++ x ∷ [])) u.0 ∙ firsts_known ns n h in
+    ap firsts (sym (append_assoc ns (group_of l ∷ []) (map group_of ls))) ∙ firsts_run ls (ns ++ group_of l ∷ []) n u.1 (ap (has n) same ∙ h) ∙ same
 
-groups_new : (lines : List (List ℕ)) (l : List ℕ) → has (group_of l) (firsts (map group_of lines)) ≡ false → groups_of (lines ++ l ∷ []) ≡ groups_of lines ++ single l ∷ []
-groups_new lines l h =
-    ap (λ (ns : List ℕ). map (group (lines ++ l ∷ [])) (firsts ns)) (map-append group_of lines (l ∷ [])) ∙ ap (λ (ns : List ℕ). map (group (lines ++ l ∷ [])) ns) (firsts_new (map group_of lines) (group_of l) h)
-    ∙ map-append (group (lines ++ l ∷ [])) (firsts (map group_of lines)) (group_of l ∷ [])
-    ∙ ap (λ (gs : List Group). gs ++ group (lines ++ l ∷ []) (group_of l) ∷ []) (map_same lines l (firsts (map group_of lines)) h) ∙ ap (λ (g : Group). groups_of lines ++ g ∷ []) (first_group lines l h)
+-- a line, and others of its number, more
+pub groups_with : (lines ls : List (List ℕ)) (l : List ℕ) → AreUnder (group_of l) ls
+    → groups_of (lines ++ l ∷ ls) ≡ extended (position_or_len (eqb (group_of l)) (firsts (map group_of lines ++ group_of l ∷ []))) (l ∷ ls) (map (group lines) (firsts (map group_of lines ++ group_of l ∷ [])))
+groups_with lines ls l u =
+    let ns : List ℕ = map group_of lines ++ group_of l ∷ [] in
+    let seen : has (group_of l) (firsts ns) ≡ true = has_firsts (group_of l) ns ∙ has_last (group_of l) (map group_of lines) in
+    ap (λ (ks : List ℕ). map (group (lines ++ l ∷ ls)) (firsts ks)) (map-append group_of lines (l ∷ ls) ∙ sym (append_assoc (map group_of lines) (group_of l ∷ []) (map group_of ls)))
+    ∙ ap (λ (ks : List ℕ). map (group (lines ++ l ∷ ls)) ks) (firsts_run ls ns (group_of l) u seen)
+    ∙ map_extended lines (l ∷ ls) (group_of l) (firsts ns) (refl, u) (firsts_distinct ns)
 
 -- ---- scripts
 
-pub set_extended : (scripts : List Script) (i : ℕ) (s d : Script) (line : List ℕ) → i < length scripts → shown s ≡ more line (shown (get_or scripts i d)) → map shown (set scripts i s) ≡ extended i line (map shown scripts)
-set_extended [] i s d line h e = absurd (omega arith)
-set_extended (x ∷ xs) zero s d line h e = ap (λ (g : Group). g ∷ map shown xs) e
-set_extended (x ∷ xs) (suc i) s d line h e = ap (λ (gs : List Group). shown x ∷ gs) (set_extended xs i s d line (omega arith) e)
+pub set_extended : (scripts : List Script) (i : ℕ) (s d : Script) (ls : List (List ℕ)) → i < length scripts → shown s ≡ more ls (shown (get_or scripts i d)) → map shown (set scripts i s) ≡ extended i ls (map shown scripts)
+set_extended [] i s d ls h e = absurd (omega arith)
+set_extended (x ∷ xs) zero s d ls h e = ap (λ (g : Group). g ∷ map shown xs) e
+set_extended (x ∷ xs) (suc i) s d ls h e = ap (λ (gs : List Group). shown x ∷ gs) (set_extended xs i s d ls (omega arith) e)
 
--- the numbers of scripts that show the groups of lines
-pub numbers_of_groups : (lines : List (List ℕ)) (scripts : List Script) (keys : List ℕ) → keys ≡ numbers_in (map shown scripts) → map shown scripts ≡ groups_of lines → keys ≡ firsts (map group_of lines)
-numbers_of_groups lines scripts keys k e = k ∙ ap numbers_in e ∙ numbers_group lines (firsts (map group_of lines))
+-- the numbers of the groups of lines
+numbers_of_groups : (lines : List (List ℕ)) (gs : List Group) (keys : List ℕ) → keys ≡ numbers_in gs → gs ≡ groups_of lines → keys ≡ firsts (map group_of lines)
+numbers_of_groups lines gs keys k e = k ∙ ap numbers_in e ∙ numbers_group lines (firsts (map group_of lines))
 
--- a script of one line is put behind them
-pub added : (scripts new : List Script) (s : Script) (line : List ℕ) (lines : List (List ℕ)) (keys : List ℕ) (n : ℕ)
-    → new ≡ scripts ++ s ∷ [] → shown s ≡ single line → n ≡ group_of line → keys ≡ numbers_in (map shown scripts) → has n keys ≡ false → map shown scripts ≡ groups_of lines → map shown new ≡ groups_of (lines ++ line ∷ [])
-added scripts new s line lines keys n e one m k h g =
-    ap (map shown) e ∙ map-append shown scripts (s ∷ []) ∙ ap (λ (gs : List Group). gs ++ shown s ∷ []) g ∙ ap (λ (x : Group). groups_of lines ++ x ∷ []) one
-    ∙ sym (groups_new lines line (sym (ap (λ (ns : List ℕ). has (group_of line) ns) (numbers_of_groups lines scripts keys k g)) ∙ sym (ap (λ x. has x keys) m) ∙ h))
+-- a number that is known has its group
+pub have_known : (n : ℕ) (gs : List Group) (keys : List ℕ) → keys ≡ numbers_in gs → has n keys ≡ true → HaveGroup n gs gs
+have_known n gs keys k h = λ lines e. e ∙ sym (ap (λ (ns : List ℕ). map (group lines) ns) (firsts_known (map group_of lines) n (ap (has n) (sym (numbers_of_groups lines gs keys k e)) ∙ h)))
 
--- a script has a line more
-pub known : (scripts new : List Script) (line : List ℕ) (lines : List (List ℕ)) (keys : List ℕ) (n i : ℕ)
-    → map shown new ≡ extended i line (map shown scripts) → n ≡ group_of line → i ≡ position_or_len (eqb n) keys → keys ≡ numbers_in (map shown scripts) → has n keys ≡ true → map shown scripts ≡ groups_of lines → map shown new ≡ groups_of (lines ++ line ∷ [])
-known scripts new line lines keys n i e m at k h g =
-    let same : keys ≡ firsts (map group_of lines) = numbers_of_groups lines scripts keys k g in
-    e ∙ ap (extended i line) g ∙ ap (λ x. extended x line (groups_of lines)) (at ∙ ap (λ x. position_or_len (eqb x) keys) m ∙ ap (λ (ns : List ℕ). position_or_len (eqb (group_of line)) ns) same)
-    ∙ sym (groups_known lines line (sym (ap (λ (ns : List ℕ). has (group_of line) ns) same) ∙ sym (ap (λ x. has x keys) m) ∙ h))
+-- a new one gets a group of no line
+have_new : (n : ℕ) (gs new : List Group) (g : Group) (keys : List ℕ) → keys ≡ numbers_in gs → has n keys ≡ false → new ≡ gs ++ g ∷ [] → g ≡ of_lines n [] → HaveGroup n gs new
+have_new n gs new g keys k h e is = λ lines same.
+    (let none : has n (firsts (map group_of lines)) ≡ false = ap (has n) (sym (numbers_of_groups lines gs keys k same)) ∙ h in
+    let empty : g ≡ group lines n = is ∙ sym (ap (of_lines n) (none_under n lines (sym (has_firsts n (map group_of lines)) ∙ none))) in
+    e ∙ ap (λ (l : List Group). l ++ g ∷ []) same ∙ ap (λ (x : Group). groups_of lines ++ x ∷ []) empty
+    ∙ sym (ap (λ (ns : List ℕ). map (group lines) ns) (firsts_new (map group_of lines) n none) ∙ map-append (group lines) (firsts (map group_of lines)) (n ∷ [])))
+
+pub new_script : (n : ℕ) (scripts new : List Script) (s : Script) (keys : List ℕ) → keys ≡ numbers_in (map shown scripts) → has n keys ≡ false → new ≡ scripts ++ s ∷ [] → shown s ≡ of_lines n [] → HaveGroup n (map shown scripts) (map shown new)
+new_script n scripts new s keys k h e is = have_new n (map shown scripts) (map shown new) (shown s) keys k h (ap (map shown) e ∙ map-append shown scripts (s ∷ [])) is
 
 -- what a set tells of a key that was put in
 pub was_new : (added seen : Bool) → added ≡ not seen → added ≡ true → seen ≡ false
@@ -200,7 +224,3 @@ was_new added false e t = refl
 pub was_known : (added seen : Bool) → added ≡ not seen → added ≡ false → seen ≡ true
 was_known added true e t = refl
 was_known added false e t = absurd (true≢false (sym e ∙ t))
-
--- a key that is known stays, and the groups keep their numbers
-pub numbers_kept : (old new longer : List ℕ) (gs more_gs : List Group) (seen : Bool) (i : ℕ) (line : List ℕ) → new ≡ cond seen old longer → seen ≡ true → old ≡ numbers_in gs → more_gs ≡ extended i line gs → new ≡ numbers_in more_gs
-numbers_kept old new longer gs more_gs seen i line e s k h = e ∙ ap (λ b. cond b old longer) s ∙ k ∙ sym (ap numbers_in h ∙ numbers_extended i line gs)

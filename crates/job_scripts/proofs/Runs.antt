@@ -1,6 +1,6 @@
 -- Lines that begin so: their job, and the groups with them.
-use Rattle.std.proofs.Common.{◌≡◌, ℕ, zero, suc, ◌+◌, ◌-◌, ◌<◌, ◌≤◌, Bool, true, false, not, cond, set, ◌&&◌, ◌||◌, eqb, List, [], ◌∷◌, ◌++◌, map, length, take, drop, refl, sym, ap, subst, ◌∙◌, arith, append-nil, length-append, get_or, true≢false}
-use Rattle.std.proofs.lemmas.List.{map-append, length-map, append_assoc, take-append-le, drop-append-le, length-drop, length-take-le, get_or-take, take-append-drop, take_rest}
+use Rattle.std.proofs.Common.{◌≡◌, ℕ, zero, suc, ◌+◌, ◌-◌, ◌<◌, ◌≤◌, Bool, true, false, not, cond, ◌&&◌, ◌||◌, eqb, List, [], ◌∷◌, ◌++◌, map, length, take, drop, refl, sym, ap, subst, ◌∙◌, arith, append-nil, length-append, get_or, true≢false}
+use Rattle.std.proofs.lemmas.List.{length-map, append_assoc, take-append-le, drop-append-le, length-drop, length-take-le, get_or-take, take-append-drop, take_rest}
 use Rattle.std.proofs.Math.Seq.{take-append_seam, get_or-append_seam}
 use Rattle.std.proofs.lemmas.List.Folds.{position_or_len_push, list_any-append}
 use Rattle.bstr.specs.Find.{IsFirstByte, is_byte}
@@ -11,60 +11,17 @@ use Rattle.std.proofs.lemmas.Grind.{common_steps, flat_map-append}
 use Rattle.std.proofs.lemmas.List.Quantifiers.{position-Some}
 use Rattle.std.specs.List.{position, position_or_len, prefix_len}
 use Rattle.std.specs.Cmp.Lexicographic.{pointwise}
-use Rattle.std.specs.Prelude.{⊤, nat_lt, Some, None, if◌then◌else◌, unwrap_or}
+use Rattle.std.specs.Prelude.{nat_lt, Some, None, if◌then◌else◌, unwrap_or}
 use Rattle.m_text.specs.Literal.{is_no_digit, front_digits, past_digits, number_from}
 use Rattle.script.specs.Commands.{is_blank}
 use Rattle.script.specs.Line.{ends_digits, is_job, job_of_line}
 use Rattle.job_scripts.specs.declared.lines.Script.{Script}
-use Rattle.job_scripts.specs.Groups.{Group, all_lines, group_of, groups_of, with_ends, firsts, more, extended, nonempty, numbers_in, shown}
-use Rattle.job_scripts.specs.Runs.{with_more, extended_by, AreSoFar, BeginSo, IsFrontOf, IsLineBefore, IsPlaceOf, IsRun}
-use Rattle.job_scripts.proofs.OneMore.{has, same_number, firsts_known, groups_known, numbers_of_groups}
-
--- ---- groups
-
--- each line is of this number
-abbrev pub AreUnder : ℕ → List (List ℕ) → Type 0
-AreUnder n [] = ⊤
-AreUnder n (l ∷ ls) = (group_of l ≡ n) × AreUnder n ls
+use Rattle.job_scripts.specs.Groups.{Group, all_lines, group, group_of, with_ends, firsts, nonempty, numbers_in, shown}
+use Rattle.job_scripts.specs.Runs.{more, extended, AreLike, AreSoFar, BeginSo, HaveGroup, IsFrontOf, IsLineBefore, IsPlaceOf, IsRun, IsRunBehind}
+use Rattle.job_scripts.proofs.OneMore.{AreUnder, has, same_number, groups_with, numbers_group, numbers_extended}
 
 none_added : (n : ℕ) → n + 0 ≡ n
 none_added n = omega arith
-
-one_added : (m n : ℕ) → m + 1 + n ≡ m + suc n
-one_added m n = omega arith
-
-none_more : (g : Group) → with_more [] g ≡ g
-none_more g =
-    ap (λ (t : List ℕ). record { number = g.number; text = t; count = g.count + 0 }) (append-nil g.text)
-    ∙ ap (λ c. record { number = g.number; text = g.text; count = c }) (none_added g.count)
-
-extended_by_none : (i : ℕ) (gs : List Group) → extended_by i [] gs ≡ gs
-extended_by_none i [] = refl
-extended_by_none zero (g ∷ gs) = ap (λ (x : Group). x ∷ gs) (none_more g)
-extended_by_none (suc i) (g ∷ gs) = ap (λ (l : List Group). g ∷ l) (extended_by_none i gs)
-
-one_more : (g : Group) (l : List ℕ) (ls : List (List ℕ)) → with_more ls (more l g) ≡ with_more (l ∷ ls) g
-one_more g l ls =
-    ap (λ (t : List ℕ). record { number = g.number; text = t; count = g.count + 1 + length ls }) (append_assoc g.text (l ++ 10 ∷ []) (with_ends ls))
-    ∙ ap (λ c. record { number = g.number; text = g.text ++ ((l ++ 10 ∷ []) ++ with_ends ls); count = c }) (one_added g.count (length ls))
-
-extended_by_one : (i : ℕ) (l : List ℕ) (ls : List (List ℕ)) (gs : List Group) → extended_by i ls (extended i l gs) ≡ extended_by i (l ∷ ls) gs
-extended_by_one i l ls [] = refl
-extended_by_one zero l ls (g ∷ gs) = ap (λ (x : Group). x ∷ gs) (one_more g l ls)
-extended_by_one (suc i) l ls (g ∷ gs) = ap (λ (x : List Group). g ∷ x) (extended_by_one i l ls gs)
-
-pub groups_by_run : (ls lines : List (List ℕ)) (n : ℕ) → AreUnder n ls → has n (firsts (map group_of lines)) ≡ true
-    → groups_of (lines ++ ls) ≡ extended_by (position_or_len (eqb n) (firsts (map group_of lines))) ls (groups_of lines)
-groups_by_run [] lines n u h = ap groups_of (append-nil lines) ∙ sym (extended_by_none _ (groups_of lines))
-groups_by_run (l ∷ ls) lines n u h =
-    let known : has (group_of l) (firsts (map group_of lines)) ≡ true = ap (λ x. has x (firsts (map group_of lines))) u.0 ∙ h in
-    let same : firsts (map group_of (lines ++ l ∷ [])) ≡ firsts (map group_of lines) = ap firsts (map-append group_of lines (l ∷ [])) ∙ firsts_known (map group_of lines) (group_of l) known in
-    ap groups_of (sym (append_assoc lines (l ∷ []) ls))
-    ∙ groups_by_run ls (lines ++ l ∷ []) n u.1 (ap (has n) same ∙ h)
-    ∙ ap (λ (ns : List ℕ). extended_by (position_or_len (eqb n) ns) ls (groups_of (lines ++ l ∷ []))) same
-    ∙ ap (extended_by (position_or_len (eqb n) (firsts (map group_of lines))) ls) (groups_known lines l known)
-    ∙ ap (λ x. extended_by (position_or_len (eqb n) (firsts (map group_of lines))) ls (extended (position_or_len (eqb x) (firsts (map group_of lines))) l (groups_of lines))) u.0
-    ∙ extended_by_one (position_or_len (eqb n) (firsts (map group_of lines))) l ls (groups_of lines)
 
 -- ---- the job
 
@@ -103,12 +60,21 @@ same_job word a b =
     ap (λ t. if t && is_job (number_from 0 (front_digits (front ++ a))) then Some (number_from 0 (front_digits (front ++ a))) else None) ends
     ∙ ap (λ (ds : List ℕ). if ends_digits (past_digits (front ++ b)) && is_job (number_from 0 ds) then Some (number_from 0 ds) else None) same
 
--- lines that begin as one does are of its job
-pub under_one : (front line : List ℕ) (lines : List (List ℕ)) → IsFrontOf front line → BeginSo front lines → AreUnder (group_of line) lines
-under_one front line [] f b = tt
-under_one front line (l ∷ ls) f b =
+-- lines that begin as one does are like it
+alike : (front line : List ℕ) (lines : List (List ℕ)) → IsFrontOf front line → BeginSo front lines → AreLike line lines
+alike front line [] f b = tt
+alike front line (l ∷ ls) f b =
     let at : (more : List ℕ) → front ++ more ≡ (f.0 ++ 32 ∷ []) ++ more = λ more. ap (λ (t : List ℕ). t ++ more) f.2 in
-    (ap group_of (b.0.1 ∙ at b.0.0) ∙ ap (λ j. unwrap_or j 0) (same_job f.0 b.0.0 f.1) ∙ sym (ap group_of (f.3 ∙ at f.1)), under_one front line ls f b.1)
+    let size : length front ≡ length f.0 + 1 = ap length f.2 ∙ length-append f.0 (32 ∷ []) in (
+      (
+        ap group_of (b.0.1 ∙ at b.0.0) ∙ ap (λ j. unwrap_or j 0) (same_job f.0 b.0.0 f.1) ∙ sym (ap group_of (f.3 ∙ at f.1)),
+        subst (λ (t : List ℕ). 0 < length t) (sym b.0.1) (omega (arith, size, length-append front b.0.0)),
+      ),
+      alike front line ls f b.1,
+    )
+
+pub run_alike : (front line text run rest : List ℕ) (n : ℕ) → IsFrontOf front line → IsRun front text run n rest → IsRunBehind line text run n rest
+run_alike front line text run rest n f r = (r.0, alike front line r.0 f r.1, r.2, r.3, r.4)
 
 -- ---- a line's front
 
@@ -221,18 +187,8 @@ run_is front text rest n s =
 
 -- ---- the scripts
 
-pub scripts_by_run : (scripts : List Script) (i : ℕ) (s d : Script) (lines : List (List ℕ)) → i < length scripts → shown s ≡ with_more lines (shown (get_or scripts i d)) → map shown (set scripts i s) ≡ extended_by i lines (map shown scripts)
-scripts_by_run [] i s d lines h e = absurd (omega arith)
-scripts_by_run (x ∷ xs) zero s d lines h e = ap (λ (g : Group). g ∷ map shown xs) e
-scripts_by_run (x ∷ xs) (suc i) s d lines h e = ap (λ (gs : List Group). shown x ∷ gs) (scripts_by_run xs i s d lines (omega arith) e)
-
-numbers_by_run : (i : ℕ) (lines : List (List ℕ)) (gs : List Group) → numbers_in (extended_by i lines gs) ≡ numbers_in gs
-numbers_by_run i lines [] = refl
-numbers_by_run zero lines (g ∷ gs) = refl
-numbers_by_run (suc i) lines (g ∷ gs) = ap (λ (l : List ℕ). g.number ∷ l) (numbers_by_run i lines gs)
-
-pub numbers_stay : (keys : List ℕ) (i : ℕ) (lines : List (List ℕ)) (gs new : List Group) → new ≡ extended_by i lines gs → keys ≡ numbers_in gs → keys ≡ numbers_in new
-numbers_stay keys i lines gs new e k = k ∙ sym (ap numbers_in e ∙ numbers_by_run i lines gs)
+pub numbers_stay : (keys : List ℕ) (i : ℕ) (lines : List (List ℕ)) (gs new : List Group) → new ≡ extended i lines gs → keys ≡ numbers_in gs → keys ≡ numbers_in new
+numbers_stay keys i lines gs new e k = k ∙ sym (ap numbers_in e ∙ numbers_extended i lines gs)
 
 pub within_scripts : (keys : List ℕ) (scripts : List Script) (i : ℕ) → keys ≡ numbers_in (map shown scripts) → i < length keys → i < length scripts
 within_scripts keys scripts i k h = subst (λ n. i < n) (ap length k ∙ length-map (map shown scripts) _ ∙ length-map scripts shown) h
@@ -253,42 +209,35 @@ place_in keys new n m i false h e at is =
     let self : eqb n n ≡ true = grind (arith, common_steps) in
     subst (λ x. IsPlaceOf x new i) is (ap (has n) e ∙ list_any-append (eqb n) keys (n ∷ []) ∙ ap (λ b. b || (eqb n n || false)) h ∙ ap (λ b. b || false) self, at ∙ sym (ap (position_or_len (eqb n)) e ∙ place_stays n keys))
 
-none_is_empty : (front more : List ℕ) (xs : List (List ℕ)) → 0 < length front → nonempty ((front ++ more) ∷ xs) ≡ (front ++ more) ∷ nonempty xs
-none_is_empty [] more xs h = absurd (omega arith)
-none_is_empty (f ∷ fs) more xs h = ap (λ b. cond (not b) (((f ∷ fs) ++ more) ∷ nonempty xs) (nonempty xs)) (not_none (length (fs ++ more)))
+none_is_empty : (line : List ℕ) (xs : List (List ℕ)) → 0 < length line → nonempty (line ∷ xs) ≡ line ∷ nonempty xs
+none_is_empty [] xs h = absurd (omega arith)
+none_is_empty (b ∷ bs) xs h = ap (λ t. cond (not t) ((b ∷ bs) ∷ nonempty xs) (nonempty xs)) (not_none (length bs))
 
-nonempty_run : (front : List ℕ) (lines xs : List (List ℕ)) → 0 < length front → BeginSo front lines → nonempty (lines ++ xs) ≡ lines ++ nonempty xs
-nonempty_run front [] xs h b = refl
-nonempty_run front (l ∷ ls) xs h b =
-    ap (λ (t : List ℕ). nonempty (t ∷ ls ++ xs)) b.0.1 ∙ none_is_empty front b.0.0 (ls ++ xs) h ∙ ap (λ (t : List ℕ). t ∷ nonempty (ls ++ xs)) (sym b.0.1)
-    ∙ ap (λ (t : List (List ℕ)). l ∷ t) (nonempty_run front ls xs h b.1)
+nonempty_alike : (line : List ℕ) (lines xs : List (List ℕ)) → AreLike line lines → nonempty (lines ++ xs) ≡ lines ++ nonempty xs
+nonempty_alike line [] xs a = refl
+nonempty_alike line (l ∷ ls) xs a = none_is_empty l (ls ++ xs) a.0.1 ∙ ap (λ (t : List (List ℕ)). l ∷ t) (nonempty_alike line ls xs a.1)
+
+under_alike : (line : List ℕ) (lines : List (List ℕ)) → AreLike line lines → AreUnder (group_of line) lines
+under_alike line [] a = tt
+under_alike line (l ∷ ls) a = (a.0.0, under_alike line ls a.1)
 
 -- a line and a run are put behind the lines so far
-pub run_grouped : (front line rest left text : List ℕ) (n place : ℕ) (old mid new : List Script) (keys : List ℕ) (all : List (List ℕ))
-    → IsFrontOf front line → (run : IsRun front rest text n left) → IsPlaceOf (group_of line) keys place → keys ≡ numbers_in (map shown mid)
-    → ((lines : List (List ℕ)) → map shown old ≡ groups_of lines → map shown mid ≡ groups_of (lines ++ line ∷ []))
-    → map shown new ≡ extended_by place run.0 (map shown mid)
+pub run_grouped : (line rest left text : List ℕ) (n place : ℕ) (old mid new : List Script) (keys : List ℕ) (all : List (List ℕ))
+    → (run : IsRunBehind line rest text n left) → IsPlaceOf (group_of line) keys place → keys ≡ numbers_in (map shown mid) → HaveGroup (group_of line) (map shown old) (map shown mid)
+    → map shown new ≡ extended place (line ∷ run.0) (map shown mid)
     → AreSoFar all (line ∷ nonempty (all_lines rest)) old → AreSoFar all (nonempty (all_lines left)) new
-run_grouped front line rest left text n place old mid new keys all f run p k one e s =
-    let done : List (List ℕ) = s.0 ++ line ∷ [] in
-    let g : map shown mid ≡ groups_of done = one s.0 s.1 in
-    let same : keys ≡ firsts (map group_of done) = numbers_of_groups done mid keys k g in
-    let some : 0 < length front = subst (λ (t : List ℕ). 0 < length t) (sym f.2) (omega (arith, length-append f.0 (32 ∷ []))) in (
-      done ++ run.0,
-      e ∙ ap (λ i. extended_by i run.0 (map shown mid)) (p.1 ∙ ap (position_or_len (eqb (group_of line))) same) ∙ ap (extended_by (position_or_len (eqb (group_of line)) (firsts (map group_of done))) run.0) g
-          ∙ sym (groups_by_run run.0 done (group_of line) (under_one front line run.0 f run.1) (ap (has (group_of line)) (sym same) ∙ p.0)),
-      append_assoc done run.0 (nonempty (all_lines left)) ∙ ap (λ (t : List (List ℕ)). done ++ t) (sym (ap nonempty run.2 ∙ nonempty_run front run.0 (all_lines left) some run.1))
-          ∙ append_assoc s.0 (line ∷ []) (nonempty (all_lines rest)) ∙ s.2,
+run_grouped line rest left text n place old mid new keys all run p k have e s =
+    let ns : List ℕ = firsts (map group_of s.0 ++ group_of line ∷ []) in
+    let g : map shown mid ≡ map (group s.0) ns = have s.0 s.1 in
+    let same : keys ≡ ns = k ∙ ap numbers_in g ∙ numbers_group s.0 ns in (
+      s.0 ++ line ∷ run.0,
+      e ∙ ap (λ i. extended i (line ∷ run.0) (map shown mid)) (p.1 ∙ ap (position_or_len (eqb (group_of line))) same) ∙ ap (extended (position_or_len (eqb (group_of line)) ns) (line ∷ run.0)) g
+          ∙ sym (groups_with s.0 run.0 line (under_alike line run.0 run.1)),
+      append_assoc s.0 (line ∷ run.0) (nonempty (all_lines left)) ∙ ap (λ (t : List (List ℕ)). s.0 ++ line ∷ t) (sym (ap nonempty run.2 ∙ nonempty_alike line run.0 (all_lines left) run.1)) ∙ s.2,
     )
 
--- a line alone is put behind them
-pub line_grouped : (line : List ℕ) (old new : List Script) (all left : List (List ℕ))
-    → ((lines : List (List ℕ)) → map shown old ≡ groups_of lines → map shown new ≡ groups_of (lines ++ line ∷ []))
-    → AreSoFar all (line ∷ left) old → AreSoFar all left new
-line_grouped line old new all left one s = (s.0 ++ line ∷ [], one s.0 s.1, append_assoc s.0 (line ∷ []) left ∙ s.2)
-
-pub run_fewer : (front rest left text : List ℕ) (n : ℕ) → IsRun front rest text n left → length (all_lines left) ≤ length (all_lines rest)
-run_fewer front rest left text n run = subst (λ (t : List (List ℕ)). length (all_lines left) ≤ length t) (sym run.2) (omega (arith, length-append run.0 (all_lines left)))
+pub run_fewer : (line rest left text : List ℕ) (n : ℕ) → IsRunBehind line rest text n left → length (all_lines left) ≤ length (all_lines rest)
+run_fewer line rest left text n run = subst (λ (t : List (List ℕ)). length (all_lines left) ≤ length t) (sym run.2) (omega (arith, length-append run.0 (all_lines left)))
 
 -- the lines that are left stay those of the text that is left
 pub on_from : (lines after new_lines all : List (List ℕ)) (line rest left : List ℕ) (old new : List Script) → lines ≡ line ∷ after → all_lines rest ≡ after → new_lines ≡ all_lines left

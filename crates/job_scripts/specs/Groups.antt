@@ -1,6 +1,6 @@
 -- Lines by job. Source: docs/CONCURRENCY.md, "Many jobs at the same time".
 -- Read groups_in, then groups_of, lines_under and firsts; the contract of scripts_of cites groups_in.
-use Rattle.std.specs.Prelude.{ℕ, zero, suc, ◌+◌, not, List, [], ◌∷◌, ◌++◌, ◌==◌, map, filter, length, unwrap_or}
+use Rattle.std.specs.Prelude.{ℕ, not, List, [], ◌∷◌, ◌++◌, ◌==◌, map, filter, length, unwrap_or}
 use Rattle.std.specs.List.{flat_map}
 use Rattle.bstr.specs.Text.{lines_of, without_terminator}
 use Rattle.collation.specs.Bytes as byte
@@ -57,20 +57,6 @@ groups_in text = groups_of (lines_in text)
 -- what a script shows
 abbrev pub shown : Script → Group
 shown s = record { number = unwrap_or s.job 0; text = s.text.items; count = s.lines }
-
--- a group with a line more
-abbrev pub more : List ℕ → Group → Group
-more line g = record { number = g.number; text = g.text ++ (line ++ byte.line_feed ∷ []); count = g.count + 1 }
-
--- the groups, of which that at this index has a line more
-abbrev pub extended : ℕ → List ℕ → List Group → List Group
-extended i line [] = []
-extended zero line (g ∷ gs) = more line g ∷ gs
-extended (suc i) line (g ∷ gs) = g ∷ extended i line gs
-
--- a group of one line
-abbrev pub single : List ℕ → Group
-single line = more line (record { number = group_of line; text = []; count = 0 })
 
 -- the groups' numbers
 abbrev pub numbers_in : List Group → List ℕ

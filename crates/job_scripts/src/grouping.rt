@@ -2,9 +2,8 @@
 ghost use Rattle.std.specs.Prelude.{◌≡◌, ◌==◌, ◌<◌, ◌≤◌, ◌++◌, ◌∷◌, [], List, ℕ, map, unwrap_or, length, OnOk, IfOk, IfSome};
 ghost use Rattle.std.specs.List.{position};
 ghost use Rattle.collation.specs.Bytes as byte;
-ghost use Rattle.script.specs.Line.{job_of_line as job_of};
-ghost use Rattle.job_scripts.specs.Groups.{all_lines, groups_of, groups_in, group_of, shown, more, single, extended, numbers_in, nonempty, with_ends};
-ghost use Rattle.job_scripts.specs.Runs.{with_more, extended_by, AreSoFar, IsFrontOf, IsLineBefore, IsPlaceOf, IsRun};
+ghost use Rattle.job_scripts.specs.Groups.{all_lines, groups_in, group_of, shown, numbers_in, nonempty, with_ends};
+ghost use Rattle.job_scripts.specs.Runs.{more, extended, AreSoFar, HaveGroup, IsFrontOf, IsLineBefore, IsPlaceOf, IsRun, IsRunBehind};
 
 use crate::Script;
 use bstr::ByteSlice;
@@ -30,54 +29,23 @@ fn number_of(job: &Option<Job>) -> u16
     }
 }
 
-// One line more.
-fn extend_script(script: &mut Script, line: &[u8]) -> Result<(), AllocError>
-    ensures { OnOk result (shown script.new ≡ more line.now (shown script.old)) }
-{
-    script.text.extend_from_slice(line)?;
-    script.text.push(b'\n')?;
-    script.lines = script.lines.checked_add(1).ok_or(AllocError)?;
-    Ok(())
-}
-
-// A script of one line.
-fn first_script(alloc: Global, job: Option<Job>, line: &[u8]) -> Result<Script, AllocError>
-    requires { job ≡ job_of line.now }
-    ensures { IfOk result (λ script. shown script ≡ single line.now) }
-{
-    let mut script = Script {
-        job,
-        text: Vec::new(alloc),
-        lines: 0,
-    };
-    extend_script(&mut script, line)?;
-    Ok(script)
-}
-
-// One line more at this index.
-fn extend_at(scripts: &mut Vec<Script>, index: usize, line: &[u8]) -> Result<(), AllocError>
-    requires { index < length scripts.old.items }
-    ensures { OnOk result (map shown scripts.new.items ≡ extended index line.now (map shown scripts.old.items)) }
-{
-    extend_script(&mut scripts[index], line)
-}
-
-// A line under its job. Answers the place of its script.
-fn add_line(alloc: Global, groups: &mut Groups, line: &[u8]) -> Result<usize, AllocError>
+// The script of a line's job, which has no line yet where it is new. Answers its place.
+fn script_at(alloc: Global, groups: &mut Groups, line: &[u8]) -> Result<usize, AllocError>
     requires { groups.old.numbers.keys ≡ numbers_in (map shown groups.old.scripts.items) }
     ensures numbers { OnOk result (groups.new.numbers.keys ≡ numbers_in (map shown groups.new.scripts.items)) }
-    ensures scripts { OnOk result ((lines : List (List ℕ)) → map shown groups.old.scripts.items ≡ groups_of lines → map shown groups.new.scripts.items ≡ groups_of (lines ++ line.now ∷ [])) }
+    ensures scripts { OnOk result (HaveGroup (group_of line.now) (map shown groups.old.scripts.items) (map shown groups.new.scripts.items)) }
     ensures place { IfOk result (IsPlaceOf (group_of line.now) groups.new.numbers.keys) }
     ensures within { IfOk result (λ place. place < length groups.new.scripts.items) }
 {
     let job = job_of_line(line);
     let (index, added) = groups.numbers.insert_full(number_of(&job))?;
     if added {
-        let script = first_script(alloc, job, line)?;
-        groups.scripts.push(script)?;
-        return Ok(index);
+        groups.scripts.push(Script {
+            job,
+            text: Vec::new(alloc),
+            lines: 0,
+        })?;
     }
-    extend_at(&mut groups.scripts, index, line)?;
     Ok(index)
 }
 
@@ -136,21 +104,43 @@ fn run_of<'a>(front: &[u8], text: &'a [u8]) -> Run<'a>
     }
 }
 
-// Lines more.
-fn extend_by_run(script: &mut Script, run: Run<'_>) -> Result<(), AllocError>
-    ensures { OnOk result ((lines : List (List ℕ)) → run.entry.text.now ≡ with_ends lines → run.entry.lines ≡ length lines → shown script.new ≡ with_more lines (shown script.old)) }
+// The lines right behind one that begin as it does, through its first blank.
+fn run_behind<'a>(line: &[u8], text: &'a [u8]) -> Run<'a>
+    ensures { IsRunBehind line.now text.now result.text.now result.lines result.rest.now }
 {
+    match front_of(line) {
+        Some(front) => run_of(front, text),
+        None => Run {
+            text: &text[..0],
+            lines: 0,
+            rest: text,
+        },
+    }
+}
+
+// A line more, and the run behind it.
+fn extend_script(script: &mut Script, line: &[u8], run: Run<'_>) -> Result<(), AllocError>
+    ensures { OnOk result ((lines : List (List ℕ)) → run.entry.text.now ≡ with_ends lines → run.entry.lines ≡ length lines → shown script.new ≡ more (line.now ∷ lines) (shown script.old)) }
+{
+    script.text.extend_from_slice(line)?;
+    script.text.push(b'\n')?;
     script.text.extend_from_slice(run.text)?;
-    script.lines = script.lines.checked_add(run.lines).ok_or(AllocError)?;
+    let lines = run.lines.checked_add(1).ok_or(AllocError)?;
+    script.lines = script.lines.checked_add(lines).ok_or(AllocError)?;
     Ok(())
 }
 
-// Lines more at this index.
-fn extend_by_run_at(scripts: &mut Vec<Script>, index: usize, run: Run<'_>) -> Result<(), AllocError>
+// The same of the script at this index.
+fn extend_at(
+    scripts: &mut Vec<Script>,
+    index: usize,
+    line: &[u8],
+    run: Run<'_>,
+) -> Result<(), AllocError>
     requires { index < length scripts.old.items }
-    ensures { OnOk result ((lines : List (List ℕ)) → run.entry.text.now ≡ with_ends lines → run.entry.lines ≡ length lines → map shown scripts.new.items ≡ extended_by index lines (map shown scripts.old.items)) }
+    ensures { OnOk result ((lines : List (List ℕ)) → run.entry.text.now ≡ with_ends lines → run.entry.lines ≡ length lines → map shown scripts.new.items ≡ extended index (line.now ∷ lines) (map shown scripts.old.items)) }
 {
-    extend_by_run(&mut scripts[index], run)
+    extend_script(&mut scripts[index], line, run)
 }
 
 // A line, and those behind it that begin so too, under their job. Answers what follows them.
@@ -165,15 +155,9 @@ fn add_lines<'a>(
     ensures scripts { IfOk result (λ left. (all : List (List ℕ)) → AreSoFar all (line.now ∷ nonempty (all_lines rest.now)) groups.old.scripts.items → AreSoFar all (nonempty (all_lines left.now)) groups.new.scripts.items) }
     ensures fewer { IfOk result (λ left. length (all_lines left.now) ≤ length (all_lines rest.now)) }
 {
-    let index = add_line(alloc, groups, line)?;
-    if rest.first() != line.first() {
-        return Ok(rest);
-    }
-    let Some(front) = front_of(line) else {
-        return Ok(rest);
-    };
-    let run = run_of(front, rest);
-    extend_by_run_at(&mut groups.scripts, index, run)?;
+    let run = run_behind(line, rest);
+    let index = script_at(alloc, groups, line)?;
+    extend_at(&mut groups.scripts, index, line, run)?;
     Ok(run.rest)
 }
 
