@@ -17,12 +17,11 @@ use Rattle.journal.specs.History.{initial, after}
 use Rattle.validate_commit.specs.Working.{IsCauseAlone}
 use Rattle.job_core.specs.Causes.{IsCauseOf}
 use Rattle.job_core.specs.Sessions.{at_level, IsAnsweredOrRefused, HasWritten}
-use Rattle.shared_engine.specs.Sessions.{Held, held, and_receipt, begun_anew, ended, HasBegun, IsJournalOf}
+use Rattle.shared_engine.specs.Sessions.{Held, held, and_receipt, begun_anew, rolled_back, HasBegun, IsJournalOf}
 use Rattle.shared_engine.specs.Engines.{HasEnded, HasItsNames, WasBlocked, OnOkThat, OnOkNot}
 use Rattle.shared_engine.specs.declared.locked.Ended.{Ended}
 use Rattle.shared_engine.specs.declared.locked.Ended.TheVariants.{Committed, Restarted}
 use Rattle.shared_engine.specs.Blocks.{said}
-use Rattle.shared_engine.specs.Writes.{AreWrites}
 use Rattle.job_server.specs.Telling.{Follows, names_some, IsLockRefusal, HasLocked}
 use Rattle.job_server.specs.Replying.{written_as, ended_as}
 use Rattle.job_server.proofs.Causes.{lone_may, written_may, deeper_may, commit_may, rollback_may, restart_may, no_commit_may, no_rollback_may, no_restart_may}
@@ -58,7 +57,7 @@ within_locked command (Ok true) old new names had blocked refused cause = had
 within_locked command (Ok false) old new names had blocked refused cause = (names, blocked)
 within_locked command (Err refusal) old new names had blocked refused cause = (refused, cause)
 
-pub inner_told : (result : Result ℕ Refusal) (old new : Held) → 1 ≤ old.state.level → IfOk result (λ level. (level ≡ old.state.level + 1) × ((old.state.level < most_levels) × (new ≡ held (at_level level old.state) old.start old.receipts)))
+pub inner_told : (result : Result ℕ Refusal) (old new : Held) → 1 ≤ old.state.level → IfOk result (λ level. (level ≡ old.state.level + 1) × ((old.state.level < most_levels) × (new ≡ held (at_level level old.state) old.start old.receipts old.others)))
     → IfErr result (λ refusal. (refusal ≡ LevelTooDeep) × ((most_levels ≤ old.state.level) × (new ≡ old))) → Follows Start (said AtLevel result) old new
 inner_told (Ok level) old new one deeper refused = deeper_follows level old new one deeper.1.0 deeper.0 deeper.1.1
 inner_told (Err refusal) old new one deeper refused = refused_follows Start refusal old new refused.1.1 (deeper_may refusal old one refused.0 refused.1.0)
@@ -67,21 +66,18 @@ pub outer_told : (old new at : Held) (level : ℕ) → at ≡ old → level ≡ 
 outer_told old new at level is one none begun =
     subst (λ (l : ℕ). Follows Start (AtLevel l) old new) (sym one) (begun_follows begun.0 old new none (subst (λ (h : Held). HasBegun begun.0 h new) is begun.1))
 
-not_committed : (restarts : ℕ) → Restarted restarts ≡ Committed → ⊥
-not_committed restarts is = absurd (cc)
-
 pub commit_told : (result : Result Ended Refusal) (old new : Held) → old.state.level ≡ 1 → IfOk result (λ end. (units more : List JournalUnit) × IsJournalOf units old × HasEnded end units more old new)
-    → (AreWrites old.state.work.exchanges → IfOk result (λ end. end ≡ Committed)) → OnErr result (new ≡ old) → IfErr result (λ refusal. (refusal ≡ OutOfMemory) ⊎ (refusal ≡ StampsUsedUp)) → Follows Commit (ended_as result) old new
-commit_told (Ok Committed) old new one ended writes refused cause = committed_follows ended.0 ended.1 old new one ended.3
-commit_told (Ok (Restarted restarts)) old new one ended writes refused cause = overtaken_follows restarts ended.0 ended.1 old new one (λ w. not_committed restarts (writes w)) ended.3
-commit_told (Err refusal) old new one ended writes refused cause = refused_follows Commit refusal old new refused (commit_may refusal old one cause)
+    → OnErr result (new ≡ old) → IfErr result (λ refusal. (refusal ≡ OutOfMemory) ⊎ (refusal ≡ StampsUsedUp)) → Follows Commit (ended_as result) old new
+commit_told (Ok Committed) old new one ended refused cause = committed_follows ended.0 ended.1 old new one ended.3
+commit_told (Ok (Restarted restarts)) old new one ended refused cause = overtaken_follows restarts ended.0 ended.1 old new ended.3
+commit_told (Err refusal) old new one ended refused cause = refused_follows Commit refusal old new refused (commit_may refusal old one cause)
 
 pub no_commit : (old new : Held) → old.state.level ≡ 0 → new ≡ old → Follows Commit (Refused NoTransaction) old new
 no_commit old new none same = refused_follows Commit NoTransaction old new same (no_commit_may old none)
 
-pub rollback_told : (result : Result (Unit {0}) Refusal) (old new : Held) → 1 ≤ old.state.level → OnOk result (new ≡ ended old) → OnErr result (new ≡ old)
+pub rollback_told : (result : Result (Unit {0}) Refusal) (old new : Held) → 1 ≤ old.state.level → OnOk result ((n : ℕ) × (new ≡ rolled_back n old)) → OnErr result (new ≡ old)
     → IfErr result (λ refusal. ((refusal ≡ OutOfMemory) ⊎ (refusal ≡ StampsUsedUp)) × (old.state.took_lock ≡ true)) → Follows Rollback (said (λ d. Finished) result) old new
-rollback_told (Ok u) old new one over refused cause = rolled_back_follows old new one over
+rollback_told (Ok u) old new one over refused cause = rolled_back_follows over.0 old new one over.1
 rollback_told (Err refusal) old new one over refused cause = refused_follows Rollback refusal old new refused (rollback_may refusal old one cause.0)
 
 pub no_rollback : (old new : Held) → old.state.level ≡ 0 → new ≡ old → Follows Rollback (Refused NoTransaction) old new

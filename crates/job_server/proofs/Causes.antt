@@ -27,7 +27,6 @@ use Rattle.validate_commit.specs.Verdicts.{IsCauseAtCommit}
 use Rattle.job_core.specs.Causes.{IsCauseOf}
 use Rattle.job_core.specs.Sessions.{Session as JobSession}
 use Rattle.shared_engine.specs.Sessions.{Held, IsAt, IsBegun}
-use Rattle.shared_engine.specs.Writes.{AreWrites}
 use Rattle.job_scripts.specs.Blocks.{Asks}
 use Rattle.job_server.specs.Causes.{IsAnswer, IsAllowed, IsReplyTo}
 use Rattle.job_server.specs.Telling.{Shows, MayReply, IsLockRefusal, IsFault, IsAsked}
@@ -36,18 +35,18 @@ use Rattle.job_server.specs.Telling.{Shows, MayReply, IsLockRefusal, IsFault, Is
 
 -- where none is open none is shown
 outside : (command : Command) (reply : Reply) (h : Held) → h.state.level ≡ 0 → IsAllowed h.state.work.job command reply None → MayReply command reply h
-outside command reply h none allowed None shows at = allowed
-outside command reply h none allowed (Some t) shows at = absurd (omega (arith, none, shows.0))
+outside command reply h none allowed never None shows at = allowed
+outside command reply h none allowed never (Some t) shows at = absurd (omega (arith, none, shows.0))
 
 -- where one is open it is shown
 inside : (command : Command) (reply : Reply) (h : Held) → 1 ≤ h.state.level → ((t : Transaction) → Shows h.state (Some t) → IsAllowed h.state.work.job command reply (Some t)) → MayReply command reply h
-inside command reply h one allowed None shows at = absurd (omega (arith, one, shows.0))
-inside command reply h one allowed (Some t) shows at = allowed t shows
+inside command reply h one allowed never None shows at = absurd (omega (arith, one, shows.0))
+inside command reply h one allowed never (Some t) shows at = allowed t shows
 
 -- the same, with what is known of its start
 inside_at : (command : Command) (reply : Reply) (h : Held) → 1 ≤ h.state.level → ((t : Transaction) → Shows h.state (Some t) → IsAt h.start h.state → IsAllowed h.state.work.job command reply (Some t)) → MayReply command reply h
-inside_at command reply h one allowed None shows at = absurd (omega (arith, one, shows.0))
-inside_at command reply h one allowed (Some t) shows at = allowed t shows at
+inside_at command reply h one allowed never None shows at = absurd (omega (arith, one, shows.0))
+inside_at command reply h one allowed never (Some t) shows at = allowed t shows at
 
 -- the transaction of a session that has one began somewhere
 pub began : {P : Type 0} (start : Option (List JournalUnit)) (state : JobSession) → 1 ≤ state.level → IsAt start state → ((base : List JournalUnit) → start ≡ Some base → IsBegun base state → P) → P
@@ -112,16 +111,16 @@ done_may command h new one kept = inside_at (Access command) (Answered Done) h o
 -- ---- LOCK
 
 pub lock_may : (command : LockCommand) (refusal : Refusal) (h : Held) → IsLockRefusal h.state.work.job command refusal → MayReply (lock_command command) (Refused refusal) h
-lock_may command refusal h (units, inl (inl memory)) t shows at = inl memory
-lock_may command refusal h (units, inl (inr rule)) t shows at = inr (inr ((after units initial).locks, rule))
-lock_may command refusal h (units, inr full) t shows at = inr (inl full.0)
+lock_may command refusal h (units, inl (inl memory)) never t shows at = inl memory
+lock_may command refusal h (units, inl (inr rule)) never t shows at = inr (inr ((after units initial).locks, rule))
+lock_may command refusal h (units, inr full) never t shows at = inr (inl full.0)
 
 -- one that was answered
 pub had_may : (command : LockCommand) (had : Bool) (h : Held) → MayReply (lock_command command) (told_had command had) h
-had_may Release had h t shows at = (had, refl)
-had_may (Only names) had h t shows at = (had, refl)
-had_may (More names) had h t shows at = (had, refl)
-had_may (Fewer names) had h t shows at = (had, refl)
+had_may Release had h never t shows at = (had, refl)
+had_may (Only names) had h never t shows at = (had, refl)
+had_may (More names) had h never t shows at = (had, refl)
+had_may (Fewer names) had h never t shows at = (had, refl)
 
 -- ---- transactions
 
@@ -138,13 +137,9 @@ pub lower_may : (level : ℕ) (h : Held) → 1 < h.state.level → level ≡ h.s
 lower_may level h deep is = inside Commit (AtLevel level) h (omega (arith, deep)) (λ t shows. inl (omega (arith, deep, shows.1.0), ap AtLevel (is ∙ ap (λ (n : ℕ). n - 1) shows.1.0)))
 
 pub committed_may : (h : Held) → h.state.level ≡ 1 → MayReply Commit Committed h
-committed_may h one = inside Commit Committed h (omega (arith, one)) (λ t shows. inr (sym shows.1.0 ∙ one, inl refl))
+committed_may h one = inside Commit Committed h (omega (arith, one)) (λ t shows. inr (sym shows.1.0 ∙ one, refl))
 
 -- it is begun anew
-pub overtaken_may : (restarts : ℕ) (h : Held) → h.state.level ≡ 1 → (AreWrites h.state.work.exchanges → ⊥) → restarts ≡ min (h.state.restarts + 1) (2 ^ 64 - 1) → MayReply Commit (Restarted restarts) h
-overtaken_may restarts h one reads is =
-    inside Commit (Restarted restarts) h (omega (arith, one)) (λ t shows. inr (sym shows.1.0 ∙ one, inr ((h.state.restarts, shows.1.1.1, ap Restarted is), λ w. reads (subst AreWrites (sym shows.1.1.0) w))))
-
 pub anew_may : (restarts : ℕ) (h : Held) → 1 ≤ h.state.level → restarts ≡ min (h.state.restarts + 1) (2 ^ 64 - 1) → MayReply Restart (Restarted restarts) h
 anew_may restarts h one is = inside Restart (Restarted restarts) h one (λ t shows. (h.state.restarts, shows.1.1.1, ap Restarted is))
 
@@ -153,12 +148,12 @@ rolled_back_may h one = inside Rollback Finished h one (λ t shows. refl)
 
 -- what is asked of it
 pub level_may : (n : ℕ) (h : Held) → n ≡ h.state.level → MayReply Level (Count n) h
-level_may n h is None shows at = ap Count (is ∙ shows.0)
-level_may n h is (Some t) shows at = ap Count (is ∙ shows.1.0)
+level_may n h is never None shows at = ap Count (is ∙ shows.0)
+level_may n h is never (Some t) shows at = ap Count (is ∙ shows.1.0)
 
 pub restarts_may : (n : ℕ) (h : Held) → n ≡ h.state.restarts → MayReply Restarts (Count n) h
-restarts_may n h is None shows at = ap Count (is ∙ shows.1)
-restarts_may n h is (Some t) shows at = (h.state.restarts, shows.1.1.1, ap Count is)
+restarts_may n h is never None shows at = ap Count (is ∙ shows.1)
+restarts_may n h is never (Some t) shows at = (h.state.restarts, shows.1.1.1, ap Count is)
 
 -- why it is refused
 pub deeper_may : (refusal : Refusal) (h : Held) → 1 ≤ h.state.level → refusal ≡ LevelTooDeep → most_levels ≤ h.state.level → MayReply Start (Refused refusal) h

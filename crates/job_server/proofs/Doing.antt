@@ -26,7 +26,7 @@ use Rattle.shared_engine.specs.Blocks.{said, IsLone, IsReadAt, IsInside, IsTried
 use Rattle.job_scripts.specs.Blocks.{in_place, AreAsked}
 use Rattle.job_server.specs.Causes.{IsAllowed, IsReplyTo}
 use Rattle.job_server.specs.Told.{told_by, told_by_lines, AreRepliesTo, units_of, IsToldIn, given}
-use Rattle.job_server.specs.Telling.{Shows, Stands, MayReply, Follows, NoneAgain}
+use Rattle.job_server.specs.Telling.{Shows, Stands, IsOvertaken, MayReply, Follows, NoneAgain}
 use Rattle.job_server.proofs.Causes.{lone_may, lock_may, deeper_may, commit_may, rollback_may, restart_may, no_commit_may, no_rollback_may, no_restart_may, room_of, room_at_commit, fault_of, asked_may}
 use Rattle.job_server.proofs.Following.{refused_follows, level_counted, restarts_counted, lone_follows, read_at_follows, tried_follows, begun_follows, deeper_follows, lower_follows, committed_follows, restarted_follows, rolled_back_follows}
 use Rattle.job_server.proofs.Answering.{follows_as}
@@ -44,7 +44,7 @@ tried_done command (Err refusal) units more old new h = refused_follows (lock_co
 
 opened_done : (result : Result ℕ Refusal) (units more : List JournalUnit) (old new : Held) → old.state.level ≡ 0 → said AtLevel result ≢ Refused Again → IsOpened result units more old new → Follows Start (said AtLevel result) old new
 opened_done (Ok level) units more old new none never h = subst (λ (l : ℕ). Follows Start (AtLevel l) old new) (sym h.0) (begun_follows units old new none h.1.1)
-opened_done (Err refusal) units more old new none never h = absurd (never (ap Refused h.0))
+opened_done (Err refusal) units more old new none never h = absurd h
 
 deeper_done : (result : Result ℕ Refusal) (units more : List JournalUnit) (old new : Held) → 1 ≤ old.state.level → IsDeeper result units more old new → Follows Start (said AtLevel result) old new
 deeper_done (Ok level) units more old new one h = deeper_follows level old new one h.0.1 h.0.0 h.1.1
@@ -62,7 +62,7 @@ lower_done result units more old new deep h =
     subst (λ (r : Result Reply Refusal). Follows Commit (said (λ x. x) r) old new) (sym h.0) (lower_follows (old.state.level - 1) old new deep refl h.1.1)
 
 rolled_back_done : (result : Result (Unit {0}) Refusal) (units more : List JournalUnit) (old new : Held) → 1 ≤ old.state.level → IsRolledBack result units more old new → Follows Rollback (said (λ d. Finished) result) old new
-rolled_back_done (Ok d) units more old new one h = rolled_back_follows old new one h.1
+rolled_back_done (Ok d) units more old new one h = rolled_back_follows (length more) old new one h.1
 rolled_back_done (Err refusal) units more old new one h = refused_follows Rollback refusal old new h.1.1 (rollback_may refusal old one (room_of refusal 1 (length units) h.0.0))
 
 restarted_done : (result : Result ℕ Refusal) (units more : List JournalUnit) (old new : Held) → 1 ≤ old.state.level → IsRestarted result units more old new → Follows Restart (said restarted_reply result) old new
@@ -83,7 +83,7 @@ in_or_out (suc n) none one = one (omega arith)
 pub done_follows : (command : Command) (reply : Reply) (units more : List JournalUnit) (old new : Held) → (command ≡ Start → reply ≢ Refused Again) → HasDone command reply units more old new → Follows command reply old new
 done_follows (Access command) reply units more old new never h =
     follows_as (Access command) (said Answered h.0) reply old new
-    (in_or_out old.state.level (λ none. lone_done command h.0 units more old new none (h.2 none)) (λ one. read_at_follows old.start command h.0 old new refl one (h.3 one).0 (h.3 one).1.1.0 (h.3 one).1.1.1)) h.1
+    (in_or_out old.state.level (λ none. lone_done command h.0 units more old new none (h.2 none)) (λ one. read_at_follows old.start command h.0 old new refl one (h.3 one).0 (h.3 one).1.1.0 (h.3 one).1.1.1.0)) h.1
 done_follows (lock_command command) reply units more old new never h = follows_as (lock_command command) (said (told_had command) h.0) reply old new (tried_done command h.0 units more old new h.2) h.1
 done_follows Start reply units more old new never h =
     follows_as Start (said AtLevel h.0) reply old new
@@ -100,6 +100,31 @@ done_follows Restart reply units more old new never h =
 done_follows Level reply units more old new never h = follows_as Level (Count old.state.level) reply old new (level_counted old.state.level old new refl h.1.1) h.0
 done_follows Restarts reply units more old new never h = follows_as Restarts (Count old.state.restarts) reply old new (restarts_counted old.state.restarts old new refl h.1.1) h.0
 done_follows Halt reply units more old new never h = absurd h
+
+-- a TCOMMIT of a block is never overtaken
+answer_stays : (result answer : Result Reply Refusal) (restarts : ℕ) → result ≡ answer → (said (λ r. r) answer ≡ restarted_reply restarts → ⊥) → said (λ r. r) result ≡ restarted_reply restarts → ⊥
+answer_stays result answer restarts is other again = other (sym (ap (λ (r : Result Reply Refusal). said (λ x. x) r) is) ∙ again)
+
+lower_restarted : (level restarts : ℕ) → AtLevel level ≡ restarted_reply restarts → ⊥
+lower_restarted level restarts is = absurd (cc)
+
+whole_restarted : (restarts : ℕ) → committed_reply ≡ restarted_reply restarts → ⊥
+whole_restarted restarts is = absurd (cc)
+
+refused_restarted : (refusal : Refusal) (restarts : ℕ) → Refused refusal ≡ restarted_reply restarts → ⊥
+refused_restarted refusal restarts is = absurd (cc)
+
+whole_stays : (result : Result Reply Refusal) (units more : List JournalUnit) (old new : Held) (restarts : ℕ) → IsCommitted result units more old new → said (λ r. r) result ≡ restarted_reply restarts → ⊥
+whole_stays (Ok reply) units more old new restarts h is = whole_restarted restarts (sym h.0 ∙ is)
+whole_stays (Err refusal) units more old new restarts h is = refused_restarted refusal restarts is
+
+never_overtaken : (command : Command) (reply : Reply) (units more : List JournalUnit) (old new : Held) → HasDone command reply units more old new → IsOvertaken command reply → ⊥
+never_overtaken command reply units more old new h over =
+    let done : HasDone Commit reply units more old new = subst (λ (c : Command). HasDone c reply units more old new) over.0 h in
+    let again : said (λ r. r) done.0 ≡ restarted_reply over.1 = sym done.1 ∙ over.2 in
+    by_level old.state.level (λ none. answer_stays done.0 (Err NoTransaction) over.1 (done.2 none).0 (refused_restarted NoTransaction over.1) again)
+    (λ one. whole_stays done.0 units more old new over.1 (done.3 one) again)
+    (λ deep. answer_stays done.0 (Ok (AtLevel (old.state.level - 1))) over.1 (done.4 deep).0 (lower_restarted (old.state.level - 1) over.1) again)
 
 -- ---- lines
 
@@ -149,7 +174,7 @@ block_told job front (line ∷ lines) (None ∷ places) (command ∷ commands) (
     let follows : Follows command reply old done.1 = done_follows command reply units done.0 old done.1 never.0 done.2 in
     line_before job front line lines reply (in_place places replies) s (told job command reply s) new
     (asked_may job line command reply (transaction_of job s) asked.0
-    (subst (λ (j : ℕ). IsAllowed j command reply (transaction_of j s)) whose (follows.may (transaction_of old.state.work.job s) stands.shows stands.begun)))
+    (subst (λ (j : ℕ). IsAllowed j command reply (transaction_of j s)) whose (follows.may (never_overtaken command reply units done.0 old done.1 done.2) (transaction_of old.state.work.job s) stands.shows stands.begun)))
     (ap (λ (r : Result (ℕ × Command) Refusal). told_by job r reply s) asked.0.1)
     (block_told job front lines places commands replies done.0 more done.1 new (told job command reply s) asked.1 done.3 never.1 (follows.whose ∙ whose)
     (subst (λ (j : ℕ). Stands front (told j command reply s) done.1) whose (follows.stands front s stands)))
@@ -198,4 +223,4 @@ reads_keep (command ∷ commands) (reply ∷ replies) units more old new all don
     let access : HasDone (Access first.0) reply units done.0 old done.1 = subst (λ (c : Command). HasDone c reply units done.0 old done.1) first.1 done.2 in
     let level : done.1.state.level ≡ old.state.level = same_level old.start first.0 access.0 old.state done.1.state (access.3 one).0 in
     let later = reads_keep commands replies done.0 more done.1 new (All-rest IsAccess command commands (command ∷ commands) refl all) done.3 (omega (arith, one, level)) in
-    (later.0 ∙ level, later.1 ∙ (access.3 one).1.1.1)
+    (later.0 ∙ level, later.1 ∙ (access.3 one).1.1.1.0)

@@ -20,16 +20,15 @@ use Rattle.journal.specs.Story.{Machine, transaction_of, told, told_lock, told_b
 use Rattle.serial.specs.Machine.{told_had}
 use Rattle.validate_commit.specs.laws.Working.{work_nothing}
 use Rattle.job_core.specs.Sessions.{Session as JobSession, at_level, just_opened, anew, IsAnswered, IsRefused, IsAnsweredOrRefused, HasWritten}
-use Rattle.shared_engine.specs.Sessions.{Held, held, IsAt, IsBegun, and_receipt, begun_anew, ended, HasBegun}
+use Rattle.shared_engine.specs.Sessions.{Held, held, IsAt, IsBegun, and_receipt, begun_anew, rolled_back, HasBegun}
 use Rattle.shared_engine.specs.Engines.{HasEnded, HasItsNames, WasBlocked, after_try, lock_unit, whole_of}
 use Rattle.shared_engine.specs.declared.locked.Ended.TheVariants.{Committed, Restarted}
 use Rattle.shared_engine.specs.Blocks.{said, IsReadAt}
-use Rattle.shared_engine.specs.Writes.{AreWrites}
 use Rattle.job_server.specs.Told.{given, IsToldIn, units_of}
 use Rattle.job_server.specs.Causes.{IsAllowed}
 use Rattle.job_server.specs.Telling.{Shows, Stands, AreStillTold, MayReply, Follows, names_some, IsLockRefusal, HasLocked}
 use Rattle.job_server.proofs.Units.{lock_receipt_more}
-use Rattle.job_server.proofs.Causes.{inside_may, alone_may, answered_may, done_may, lock_may, had_may, begun_may, inner_may, lower_may, committed_may, overtaken_may, anew_may, rolled_back_may, level_may, restarts_may}
+use Rattle.job_server.proofs.Causes.{inside_may, alone_may, answered_may, done_may, lock_may, had_may, begun_may, inner_may, lower_may, committed_may, anew_may, rolled_back_may, level_may, restarts_may}
 use Rattle.job_server.proofs.Standing.{shown_none, still_shows, noted_at, with_open, with_none, with_closed, told_lone, told_inside, tried_untold, blocked_untold, inside_untold, tried_told, tried_job, tried_level, back_given, told_begun, told_at, told_whole}
 
 -- the receipts are the same
@@ -151,8 +150,8 @@ blocked_then command reply n old new then = record {
       (then.stands front s (tried_untold front s old command n stands));
   keeps = λ before later front ts h.
       then.keeps (omega (arith, before, tried_level n command false old)) later front ts (lock_receipt_more ts front old.receipts n (lock_unit old.state command false) (blocked_untold old command) h);
-  may = λ t shows at.
-      subst (λ (j : ℕ). IsAllowed j (lock_command command) reply t) (tried_job n command false old) (then.may t (still_shows (nat_lt 0 old.state.level) old.state t shows) (noted_at old.start old.state at));
+  may = λ never t shows at.
+      subst (λ (j : ℕ). IsAllowed j (lock_command command) reply t) (tried_job n command false old) (then.may never t (still_shows (nat_lt 0 old.state.level) old.state t shows) (noted_at old.start old.state at));
 }
 
 -- why it was refused, behind a first try
@@ -185,14 +184,14 @@ begun_follows base old new level h = record {
   stands = λ front s stands.
       let none : transaction_of old.state.work.job s ≡ None = shown_none old.state (transaction_of old.state.work.job s) stands.shows level in
       subst (λ (x : Held). Stands front (told old.state.work.job Start (AtLevel 1) s) x) (sym h.is)
-      (subst (λ o. Stands front (told_level old.state.work.job 1 o s) (held (just_opened old.state.work.job (length base)) (Some base) old.receipts)) (sym none)
-      (told_begun front s (held (just_opened old.state.work.job (length base)) (Some base) old.receipts) 0 refl refl (omega arith) (just_begun_at base old.state.work.job) stands.is_told));
+      (subst (λ o. Stands front (told_level old.state.work.job 1 o s) (held (just_opened old.state.work.job (length base)) (Some base) old.receipts old.others)) (sym none)
+      (told_begun front s (held (just_opened old.state.work.job (length base)) (Some base) old.receipts old.others) 0 refl refl (inl refl) (just_begun_at base old.state.work.job) stands.is_told));
   keeps = λ before later front. absurd (omega (arith, before, level));
   may = begun_may old level;
 }
 
 pub level_follows : (command : Command) (level : ℕ) (old new : Held) → ((s : Machine) → told old.state.work.job command (AtLevel level) s ≡ told_level old.state.work.job level (transaction_of old.state.work.job s) s) → 1 ≤ old.state.level → 1 ≤ level
-    → new ≡ held (at_level level old.state) old.start old.receipts → MayReply command (AtLevel level) old → Follows command (AtLevel level) old new
+    → new ≡ held (at_level level old.state) old.start old.receipts old.others → MayReply command (AtLevel level) old → Follows command (AtLevel level) old new
 level_follows command level old new tells one some is may = record {
   whose = ap (λ (x : Held). x.state.work.job) is;
   stands = λ front s stands.
@@ -202,12 +201,12 @@ level_follows command level old new tells one some is may = record {
   may = may;
 }
 
-pub deeper_follows : (level : ℕ) (old new : Held) → 1 ≤ old.state.level → old.state.level < most_levels → level ≡ old.state.level + 1 → new ≡ held (at_level level old.state) old.start old.receipts → Follows Start (AtLevel level) old new
+pub deeper_follows : (level : ℕ) (old new : Held) → 1 ≤ old.state.level → old.state.level < most_levels → level ≡ old.state.level + 1 → new ≡ held (at_level level old.state) old.start old.receipts old.others → Follows Start (AtLevel level) old new
 deeper_follows level old new one deep is h = level_follows Start level old new (λ s. refl) one (omega (arith, one, is)) h (inner_may level old one deep is)
 
-pub lower_follows : (level : ℕ) (old new : Held) → 1 < old.state.level → level ≡ old.state.level - 1 → new ≡ held (at_level (old.state.level - 1) old.state) old.start old.receipts → Follows Commit (AtLevel level) old new
+pub lower_follows : (level : ℕ) (old new : Held) → 1 < old.state.level → level ≡ old.state.level - 1 → new ≡ held (at_level (old.state.level - 1) old.state) old.start old.receipts old.others → Follows Commit (AtLevel level) old new
 lower_follows level old new deep is h =
-    level_follows Commit level old new (λ s. refl) (omega (arith, deep)) (omega (arith, deep, is)) (h ∙ ap (λ (n : ℕ). held (at_level n old.state) old.start old.receipts) (sym is)) (lower_may level old deep is)
+    level_follows Commit level old new (λ s. refl) (omega (arith, deep)) (omega (arith, deep, is)) (h ∙ ap (λ (n : ℕ). held (at_level n old.state) old.start old.receipts old.others) (sym is)) (lower_may level old deep is)
 
 pub committed_follows : (units more : List JournalUnit) (old new : Held) → old.state.level ≡ 1 → HasEnded Committed units more old new → Follows Commit committed_reply old new
 committed_follows units more old new one h = record {
@@ -233,25 +232,24 @@ anew_follows command restarts units old new tells is counted may = record {
   stands = λ front s stands.
       subst (λ (m : Machine). Stands front m new) (sym (tells s))
       (subst (λ (x : Held). Stands front (begin old.state.work.job restarts (told_back old.state.work.job (transaction_of old.state.work.job s) s)) x) (sym is)
-      (told_begun front (told_back old.state.work.job (transaction_of old.state.work.job s) s) (begun_anew units old) restarts refl refl (omega (arith, anew_count restarts units old new is counted)) (anew_at units old.state)
+      (told_begun front (told_back old.state.work.job (transaction_of old.state.work.job s) s) (begun_anew units old) restarts refl refl (inr (sym (anew_count restarts units old new is counted))) (anew_at units old.state)
       (subst (λ (us : List JournalUnit). IsToldIn us (front ++ units_of old.receipts)) (sym (back_given old.state.work.job (transaction_of old.state.work.job s) s)) stands.is_told)));
   keeps = λ before later front. same_told old new front (ap (λ (x : Held). x.receipts) is);
   may = may;
 }
 
-pub overtaken_follows : (restarts : ℕ) (units more : List JournalUnit) (old new : Held) → old.state.level ≡ 1 → (AreWrites old.state.work.exchanges → ⊥) → HasEnded (Restarted restarts) units more old new → Follows Commit (restarted_reply restarts) old new
-overtaken_follows restarts units more old new one reads h =
-    anew_follows Commit restarts more old new (λ s. refl) h.1.1.0 h.1.1.1 (overtaken_may restarts old one reads (anew_count restarts more old new h.1.1.0 h.1.1.1))
+pub overtaken_follows : (restarts : ℕ) (units more : List JournalUnit) (old new : Held) → HasEnded (Restarted restarts) units more old new → Follows Commit (restarted_reply restarts) old new
+overtaken_follows restarts units more old new h = anew_follows Commit restarts more old new (λ s. refl) h.1.1.0 h.1.1.1 (λ never. absurd (never (refl, restarts, refl)))
 
 pub restarted_follows : (restarts : ℕ) (units : List JournalUnit) (old new : Held) → 1 ≤ old.state.level → new ≡ begun_anew units old → restarts ≡ new.state.restarts → Follows Restart (restarted_reply restarts) old new
 restarted_follows restarts units old new one is counted = anew_follows Restart restarts units old new (λ s. refl) is counted (anew_may restarts old one (anew_count restarts units old new is counted))
 
-pub rolled_back_follows : (old new : Held) → 1 ≤ old.state.level → new ≡ ended old → Follows Rollback Finished old new
-rolled_back_follows old new one is = record {
+pub rolled_back_follows : (n : ℕ) (old new : Held) → 1 ≤ old.state.level → new ≡ rolled_back n old → Follows Rollback Finished old new
+rolled_back_follows n old new one is = record {
   whose = ap (λ (x : Held). x.state.work.job) is;
   stands = λ front s stands.
       subst (λ (x : Held). Stands front (close old.state.work.job (told_back old.state.work.job (transaction_of old.state.work.job s) s)) x) (sym is)
-      (with_closed front (told_back old.state.work.job (transaction_of old.state.work.job s) s) (ended old) refl refl refl
+      (with_closed front (told_back old.state.work.job (transaction_of old.state.work.job s) s) (rolled_back n old) refl refl refl
       (subst (λ (us : List JournalUnit). IsToldIn us (front ++ units_of old.receipts)) (sym (back_given old.state.work.job (transaction_of old.state.work.job s) s)) stands.is_told));
   keeps = λ before later front. absurd (omega (arith, later, ap (λ (x : Held). x.state.level) is));
   may = rolled_back_may old one;

@@ -21,20 +21,20 @@ use Rattle.journal.specs.Story.{Transaction, Machine, nothing_done, transaction_
 use Rattle.serial.specs.laws.ByJob.{get_here, gone_here}
 use Rattle.script.specs.Line.{reading_of}
 use Rattle.job_core.specs.Sessions.{Session as JobSession, idle}
-use Rattle.shared_engine.specs.Receipts.{Book, book}
-use Rattle.shared_engine.specs.Sessions.{Held, held}
+use Rattle.shared_engine.specs.Receipts.{Book}
+use Rattle.shared_engine.specs.Sessions.{Held, held, halted}
 use Rattle.shared_engine.specs.Blocks.{AreDone, IsReady, moved_open}
 use Rattle.job_scripts.specs.declared.block.Block.{Block}
 use Rattle.job_scripts.specs.Blocks.{in_place, Asks, AreInFront}
 use Rattle.job_scripts.specs.Lines.{lines_of_script}
-use Rattle.job_scripts.specs.Reports.{Answers, is_refused}
+use Rattle.job_scripts.specs.Reports.{Answers}
 use Rattle.job_server.specs.declared.cursor.Cursor.{Cursor}
 use Rattle.job_server.specs.declared.cursor.Line.{Line}
 use Rattle.job_server.specs.Causes.{IsAllowed, IsReplyTo}
-use Rattle.job_server.specs.Told.{told_by, told_by_lines, AreRepliesTo, given, IsToldIn, IsTold, units_of, units_in}
+use Rattle.job_server.specs.Told.{told_by, told_by_lines, AreRepliesTo, given, IsToldIn, IsAllTold, IsTold, units_of, units_of_book, units_in}
 use Rattle.job_server.specs.Served.{Wanted, IsReport, IsReportAt}
-use Rattle.job_server.specs.Telling.{Shows, Stands, Follows, is_open, units_behind, StandsIn, SessionsSoFar, sessions_so_far, StandsAt, GoesOn, GoesOnUntold, GoesOnBy, GoesOnAt, IsFault, Running, running, not_begun, Leads, Serves, Keeps, HasAnswered, Advances, Reaches, ServesBlock, HasRun, HasReadAll, AreDataCommands, NoneAgain, HasJustBegun, Begins, IsStillOpen, WasOvertaken, IsBack, GoesOnFrom}
-use Rattle.job_server.proofs.Units.{none_given}
+use Rattle.job_server.specs.Telling.{Shows, Stands, Follows, is_open, units_behind, AreOf, StandsIn, SessionsSoFar, sessions_so_far, StandsAt, GoesOn, GoesOnUntold, GoesOnBy, GoesOnAt, MayGoOnAt, IsOvertakenAs, IsNoCommit, HasStopped, IsFault, Running, running, not_begun, Leads, Serves, Keeps, HasAnswered, Advances, Reaches, ServesBlock, HasRun, HasReadAll, AreDataCommands, NoneAgain, HasJustBegun, Begins, IsStillOpen, WasOvertaken, IsBack, GoesOnFrom}
+use Rattle.job_server.proofs.Units.{both_more, one_given}
 use Rattle.job_server.proofs.Causes.{asked_may}
 use Rattle.job_server.proofs.Levels.{none_again, none_again_of_data}
 use Rattle.job_server.proofs.Standing.{shown_none}
@@ -64,23 +64,23 @@ pub untold_from : (job : ℕ) (same old new : SessionsSoFar) → same ≡ old �
 untold_from job same old new is h = subst (λ (x : SessionsSoFar). GoesOnUntold job x new) is h
 
 -- a refusal tells nothing
-pub refused_goes : (job : ℕ) (line : List ℕ) (refusal : Refusal) (old new : SessionsSoFar) → IsFault job line refusal → GoesOnUntold job old new → GoesOnAt job line (Refused refusal) old new
+pub refused_goes : (job : ℕ) (line : List ℕ) (refusal : Refusal) (old new : SessionsSoFar) → IsFault job line refusal → GoesOnUntold job old new → MayGoOnAt job line (Err refusal) (Refused refusal) old new
 refused_goes job line refusal old new fault h = record {
   stands = λ s stands. subst (λ (m : Machine). StandsIn job new.books new.session m) (sym (refused_tells job (reading_of line) refusal s)) (h.stands s stands);
   keeps = h.keeps;
-  allowed = λ s stands. fault (transaction_of job s);
+  allowed = λ s stands never. fault (transaction_of job s);
 }
 
 -- what a line tells is what its command tells
-pub asked_goes : (job : ℕ) (line : List ℕ) (command : Command) (reply : Reply) (old new : SessionsSoFar) → Asks line command → GoesOnBy job command reply old new → GoesOnAt job line reply old new
+pub asked_goes : (job : ℕ) (line : List ℕ) (command : Command) (reply : Reply) (old new : SessionsSoFar) → Asks line command → GoesOnBy job command reply old new → MayGoOnAt job line (Ok command) reply old new
 asked_goes job line command reply old new asks h = record {
   stands = λ s stands. subst (λ (r : Result (ℕ × Command) Refusal). StandsIn job new.books new.session (told_by job r reply s)) (sym asks.1) (h.stands s stands);
   keeps = h.keeps;
-  allowed = λ s stands. asked_may job line command reply (transaction_of job s) asks (h.allowed s stands);
+  allowed = λ s stands never. asked_may job line command reply (transaction_of job s) asks (h.allowed s stands never);
 }
 
 -- a session begins
-pub opened_goes : (job : ℕ) (books : List Book) → GoesOnUntold job (sessions_so_far books None) (sessions_so_far books (Some (held (idle job) None [])))
+pub opened_goes : (job : ℕ) (books : List Book) → GoesOnUntold job (sessions_so_far books None) (sessions_so_far books (Some (held (idle job) None [] [])))
 opened_goes job books = record {
   stands = λ s stands. (
     stands.0,
@@ -103,7 +103,7 @@ step_goes job books command reply old new h = record {
   stands = λ s stands.
       (stands.0, (h.whose ∙ stands.1.0, subst (λ (j : ℕ). Stands (units_in books) (told j command reply s) new) stands.1.0 (h.stands (units_in books) s stands.1.1)));
   keeps = λ before after. h.keeps (positive old.state.level before) (positive new.state.level after) (units_in books);
-  allowed = λ s stands. subst (λ (j : ℕ). IsAllowed j command reply (transaction_of j s)) stands.1.0 (h.may (transaction_of old.state.work.job s) stands.1.1.shows stands.1.1.begun);
+  allowed = λ s stands never. subst (λ (j : ℕ). IsAllowed j command reply (transaction_of j s)) stands.1.0 (h.may never (transaction_of old.state.work.job s) stands.1.1.shows stands.1.1.begun);
 }
 
 -- one step behind another that tells nothing
@@ -118,32 +118,26 @@ then_goes job command reply old middle new first stays second = record {
 pub halt_refused : (job : ℕ) (books more : List Book) (session later : Option Held) (refusal : Refusal) → more ≡ books → later ≡ session → (refusal ≡ OutOfMemory) ⊎ (refusal ≡ StampsUsedUp) → GoesOnBy job Halt (Refused refusal) (sessions_so_far books session) (sessions_so_far more later)
 halt_refused job books more session later refusal same_books same_session room =
     let h : GoesOnUntold job (sessions_so_far books session) (sessions_so_far more later) = same_goes job books more session later same_books same_session in
-    record { stands = h.stands; keeps = h.keeps; allowed = λ s stands. room }
+    record { stands = h.stands; keeps = h.keeps; allowed = λ s stands never. room }
 
-pub halted_none : (job : ℕ) (books : List Book) → GoesOnBy job Halt Finished (sessions_so_far books None) (sessions_so_far books None)
-halted_none job books = record {
-  stands = λ s stands.
-      (stands.0, (gone_here s.transactions job, subst (λ (us : List JournalUnit). IsToldIn us (units_in books)) (sym (none_given s.units (End job) refl)) stands.1.1));
-  keeps = λ before after. absurd (true≢false (sym before));
-  allowed = λ s stands. refl;
-}
-
-pub halted_some : (job : ℕ) (books : List Book) (h : Held) → GoesOnBy job Halt Finished (sessions_so_far books (Some h)) (sessions_so_far (books ++ book h.state.work.job h.receipts ∷ []) None)
-halted_some job books h = record {
+pub halted_some : (job n : ℕ) (books : List Book) (h : Held) → GoesOnBy job Halt Finished (sessions_so_far books (Some h)) (sessions_so_far (books ++ halted n h ∷ []) None)
+halted_some job n books h = record {
   stands = λ s stands. (
-    All-push (λ (b : Book). b.job ≡ job) books (book h.state.work.job h.receipts) stands.0 stands.1.0,
+    All-push (λ (b : Book). b.job ≡ job) books (halted n h) stands.0 stands.1.0,
     (
       gone_here s.transactions job,
-      subst (λ (us : List JournalUnit). IsToldIn us (units_in (books ++ book h.state.work.job h.receipts ∷ []))) (sym (none_given s.units (End job) refl))
-          (subst (λ (us : List JournalUnit). IsToldIn (given s) us) (sym all_units) stands.1.1.is_told),
+      subst (λ (us : List JournalUnit). IsToldIn us (units_in (books ++ halted n h ∷ []))) (sym (one_given s.units (End job) refl))
+          (subst (λ (us : List JournalUnit). IsToldIn (given s ++ End job ∷ []) us) (sym all_units)
+          (subst (λ (j : ℕ). IsToldIn (given s ++ End job ∷ []) ((units_in books ++ units_of h.receipts) ++ End j ∷ [])) (sym stands.1.0) (both_more (given s) (units_in books ++ units_of h.receipts) (End job) stands.1.1.is_told))),
     ),
   );
   keeps = λ before after. absurd (true≢false (sym after));
-  allowed = λ s stands. refl;
+  allowed = λ s stands never. refl;
 }
   where
-    all_units : units_in (books ++ book h.state.work.job h.receipts ∷ []) ≡ units_in books ++ units_of h.receipts
-    all_units = flat_map-append (λ (b : Book). units_of b.receipts) books (book h.state.work.job h.receipts ∷ []) ∙ ap (λ (us : List JournalUnit). units_in books ++ us) (append-nil (units_of h.receipts))
+    all_units : units_in (books ++ halted n h ∷ []) ≡ (units_in books ++ units_of h.receipts) ++ End h.state.work.job ∷ []
+    all_units = flat_map-append units_of_book books (halted n h ∷ [])
+        ∙ (ap (λ (us : List JournalUnit). units_in books ++ us) (append-nil (units_of h.receipts ++ End h.state.work.job ∷ [])) ∙ sym (append_assoc (units_in books) (units_of h.receipts) (End h.state.work.job ∷ [])))
 
 -- what was read of a line
 pub asked_of : (line : List ℕ) (step : ℕ × Command) → reading_of line ≡ Ok step → Asks line step.1
@@ -224,18 +218,30 @@ answered_advances job line old new h = record { fewer = omega arith; serves = an
 pub answered_keeps : (job : ℕ) (line : Line) (old new : Running) → HasAnswered job line old new → Keeps old new
 answered_keeps job line old new h = h.goes.keeps
 
-pub has_answered : (job : ℕ) (line : Line) (reply : Reply) (old new : Running) → new.replies ≡ old.replies ++ reply ∷ [] → GoesOnAt job line.text.now reply old.sessions new.sessions → HasAnswered job line old new
-has_answered job line reply old new replied goes = record { reply = reply; replied = replied; goes = goes }
+-- a line that wasn't overtaken
+pub has_answered_as : (job : ℕ) (line : Line) (asked : Result Command Refusal) (reply : Reply) (old new : Running) → new.replies ≡ old.replies ++ reply ∷ [] → MayGoOnAt job line.text.now asked reply old.sessions new.sessions → (IsOvertakenAs asked reply → ⊥) → HasAnswered job line old new
+has_answered_as job line asked reply old new replied goes never = record {
+  reply = reply;
+  replied = replied;
+  goes = record { stands = goes.stands; keeps = goes.keeps; allowed = λ s stands. goes.allowed s stands never };
+}
+
+-- one that is no TCOMMIT
+no_commit : (asked : Result Command Refusal) (reply : Reply) → IsNoCommit asked → IsOvertakenAs asked reply → ⊥
+no_commit (Ok command) reply other over = other over.0
+no_commit (Err refusal) reply other over = over
+
+pub has_answered : (job : ℕ) (line : Line) (asked : Result Command Refusal) (reply : Reply) (old new : Running) → IsNoCommit asked → new.replies ≡ old.replies ++ reply ∷ [] → MayGoOnAt job line.text.now asked reply old.sessions new.sessions → HasAnswered job line old new
+has_answered job line asked reply old new other replied goes = has_answered_as job line asked reply old new replied goes (no_commit asked reply other)
 
 -- a TCOMMIT that is no restart
-pub committed_advances : (job : ℕ) (line : Line) (reply : Reply) (old new : Running) → new.replies ≡ old.replies ++ reply ∷ [] → GoesOnAt job line.text.now reply old.sessions new.sessions → Advances job line line.next old new
-committed_advances job line reply old new replied goes = answered_advances job line old new (has_answered job line reply old new replied goes)
-
-pub committed_keeps : (job : ℕ) (line : List ℕ) (reply : Reply) (old new : Running) → GoesOnAt job line reply old.sessions new.sessions → Keeps old new
-committed_keeps job line reply old new goes = goes.keeps
+pub committed_tried : (job : ℕ) (line : Line) (reply : Reply) (old new : Running) → (new.replies ≡ old.replies ++ reply ∷ []) × ((restarts : ℕ) → reply ≢ Restarted restarts) → MayGoOnAt job line.text.now (Ok Commit) reply old.sessions new.sessions
+    → Advances job line line.next old new × Keeps old new
+committed_tried job line reply old new kept goes =
+    (answered_advances job line old new (has_answered_as job line (Ok Commit) reply old new kept.0 goes (λ over. kept.1 over.1 over.2)), goes.keeps)
 
 -- one that is
-pub was_overtaken : (job : ℕ) (line : List ℕ) (reply : Reply) (old new : Running) → Asks line Commit → GoesOnAt job line reply old.sessions new.sessions → (new.replies ≡ old.replies) × (restarts : ℕ) × (reply ≡ Restarted restarts)
+pub was_overtaken : (job : ℕ) (line : List ℕ) (reply : Reply) (old new : Running) → Asks line Commit → MayGoOnAt job line (Ok Commit) reply old.sessions new.sessions → (new.replies ≡ old.replies) × (restarts : ℕ) × (reply ≡ Restarted restarts)
     → WasOvertaken job old new
 was_overtaken job line reply old new asks goes again = (
   again.0,
@@ -245,14 +251,9 @@ was_overtaken job line reply old new asks goes again = (
         subst (λ (r : Reply). StandsAt job new.sessions (told job Commit r s)) again.2
         (subst (λ (r : Result (ℕ × Command) Refusal). StandsAt job new.sessions (told_by job r reply s)) asks.1 (goes.stands s stands));
     keeps = goes.keeps;
-    allowed = λ s stands. by_reply s (subst (λ (r : Result (ℕ × Command) Refusal). IsReplyTo job r reply (transaction_of job s)) asks.1 (goes.allowed s stands));
+    allowed = λ s stands never. absurd (never (refl, again.1, refl));
   },
 )
-  where
-    -- a line of another job is refused
-    by_reply : (s : Machine) → IsAllowed job Commit reply (transaction_of job s) ⊎ ((reply ≡ Refused BadJob) × (asks.0 ≢ job)) → IsAllowed job Commit (Restarted again.1) (transaction_of job s)
-    by_reply s (inl allowed) = subst (λ (r : Reply). IsAllowed job Commit r (transaction_of job s)) again.2 allowed
-    by_reply s (inr other) = absurd (true≢false (ap is_refused (sym other.0 ∙ again.2)))
 
 -- ---- blocks under one hold
 
@@ -395,7 +396,7 @@ begun_again job restarts books (Some h) s first stands begun is_told = (
 
     shows_begun : (o : Option Transaction) → HasJustBegun o → Shows h.state o
     shows_begun None b = absurd b
-    shows_begun (Some x) b = (now.0, (now.1.0 ∙ sym b.0, (now.1.1.0 ∙ sym b.1.0, omega (arith, b.1.1))))
+    shows_begun (Some x) b = (now.0, (now.1.0 ∙ sym b.0, (now.1.1.0 ∙ sym b.1.0, inl b.1.1)))
 
 -- what is told where the job stands
 told_in : (job : ℕ) (books : List Book) (session : Option Held) (s : Machine) → StandsIn job books session s → IsToldIn (given s) (units_behind books session)
@@ -498,18 +499,26 @@ reaches_replies job text place old new h = (h.serves.their_replies, h.serves.rep
 
 -- ---- the end
 
--- the job's last HALT
-pub run_told : (job : ℕ) (text : List ℕ) (old new : Running) (later : SessionsSoFar) → old ≡ not_begun → Serves job (lines_of_script text) [] old new → GoesOnBy job Halt Finished new.sessions later → later.session ≡ None → IsTold (Some job) text new.replies later.books
-run_told job text old new later first serves goes over =
+-- the job's session has ended, where it had one
+all_told : (job : ℕ) (s : Machine) (old new : SessionsSoFar) → StandsAt job old s → HasStopped job old new → AreOf job new.books × IsAllTold job (given s) (units_in new.books)
+all_told job s old new stands (inl same) =
+    let now : StandsIn job new.books None s = subst (λ (x : SessionsSoFar). StandsIn job x.books None s) (sym same.0) (subst (λ (o : Option Held). StandsIn job old.books o s) same.1 stands) in
+    (now.0, inl now.1.1)
+all_told job s old new stands (inr halted) =
+    let now : StandsIn job new.books None (told job Halt Finished s) = subst (λ (o : Option Held). StandsIn job new.books o (told job Halt Finished s)) halted.1 (halted.0.stands s stands) in
+    (now.0, inr (subst (λ (us : List JournalUnit). IsToldIn us (units_in new.books)) (one_given s.units (End job) refl) now.1.1))
+
+pub run_told : (job : ℕ) (text : List ℕ) (old new : Running) (later : SessionsSoFar) → old ≡ not_begun → Serves job (lines_of_script text) [] old new → HasStopped job new.sessions later → IsTold (Some job) text new.replies later.books
+run_told job text old new later first serves stopped =
     let h : Serves job (lines_of_script text) [] not_begun new = subst (λ (x : Running). Serves job (lines_of_script text) [] x new) first serves in
     let led : Leads job h.lines_done h.their_replies nothing_done new.sessions = h.leads nothing_done ((λ k d lt. absurd (omega (arith, lt))), (finmap.get-empty nat_cmp job, tt)) in
     let s : Machine = led.machine in
-    let stands : StandsIn job later.books None (told job Halt Finished s) = subst (λ (x : Option Held). StandsIn job later.books x (told job Halt Finished s)) over (goes.stands s led.stands) in
+    let over : AreOf job later.books × IsAllTold job (given s) (units_in later.books) = all_told job s new.sessions later led.stands stopped in
     let machine : told_by_lines job (lines_of_script text) new.replies nothing_done ≡ s = ap (λ (ls : List (List ℕ)). told_by_lines job ls new.replies nothing_done) h.split
     ∙ (ap (λ (rs : List Reply). told_by_lines job (h.lines_done ++ []) rs nothing_done) (h.replied ∙ sym (append-nil h.their_replies)) ∙ led.led [] []) in
     let replies : AreRepliesTo job (lines_of_script text) new.replies nothing_done = subst (λ (ls : List (List ℕ)). AreRepliesTo job ls new.replies nothing_done) (sym h.split)
     (subst (λ (rs : List Reply). AreRepliesTo job (h.lines_done ++ []) rs nothing_done) (sym (h.replied ∙ sym (append-nil h.their_replies))) (led.replies_are [] [] tt)) in
-    (stands.0, (subst (λ (us : List JournalUnit). IsToldIn us (units_in later.books)) (none_given s.units (End job) refl ∙ sym (ap given machine)) stands.1.1, replies))
+    (over.0, (subst (λ (us : List JournalUnit). IsAllTold job us (units_in later.books)) (sym (ap given machine)) over.1, replies))
 
 -- what holds of an answer, where another does
 pub ok_weaker : {A E : Type 0} {P Q : A → Type 0} (r : Result A E) → IfOk r P → ((a : A) → P a → Q a) → IfOk r Q

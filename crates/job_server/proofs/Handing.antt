@@ -50,12 +50,13 @@ one_more scripts place reports more_reports books more_books own report h at rep
     ∥∥₁_map₂ h at (λ (x : AreHanded (take place scripts) reports books) (y : IsReportAt scripts place report own). one_more_of scripts place y.script reports more_reports books more_books own report x y.at y.is_report reports_are books_are)
 
 -- all are handed over, behind what was loaded
-booked_of : (settings : List Setting) (scripts : List Wanted) (n : ℕ) (reports : List Answers) (passes all_passes : List Book) (units : List JournalUnit) (sessions : ℕ) → AreHanded (take n scripts) reports passes → n ≡ length scripts
-    → all_passes ≡ load_books settings ++ passes → length all_passes ≡ sessions → All (λ (b : Book). AreInJournal units b.receipts) all_passes
+booked_of : (ended : ℕ) (settings : List Setting) (scripts : List Wanted) (n : ℕ) (reports : List Answers) (passes all_passes : List Book) (units : List JournalUnit) (sessions : ℕ) → AreHanded (take n scripts) reports passes → n ≡ length scripts
+    → all_passes ≡ load_books ended settings ++ passes → length all_passes ≡ sessions → All (λ (b : Book). AreInJournal units b.receipts) all_passes
     → All (λ (b : Book). RisesFrom 0 b.receipts) all_passes → All IsOwn all_passes → AreAllReceipts units all_passes → AreBooked settings scripts reports units sessions
-booked_of settings scripts n reports passes all_passes units sessions h all joined each written rising own every =
-    let are : all_passes ≡ with_load settings h.books = joined ∙ ap (λ (bs : List Book). load_books settings ++ bs) h.all_is in
+booked_of ended settings scripts n reports passes all_passes units sessions h all joined each written rising own every =
+    let are : all_passes ≡ with_load ended settings h.books = joined ∙ ap (λ (bs : List Book). load_books ended settings ++ bs) h.all_is in
     record {
+      ended = ended;
       books = h.books;
       are_told = subst (λ (ws : List Wanted). AreReports ws reports h.books) (ap (λ k. take k scripts) all ∙ take-all scripts) h.are_told;
       each = sym (ap length are) ∙ each;
@@ -73,22 +74,22 @@ same_length : (scripts : List Script) → length (map wanted scripts) ≡ length
 same_length [] = refl
 same_length (s ∷ ss) = ap (λ (n : ℕ). suc n) (same_length ss)
 
-pub booked : (settings : List Setting) (scripts : List Script) (batch : List Wanted) (n : ℕ) (reports : List Answers) (loaded passes all_passes : List Book) (units : List JournalUnit) (sessions : ℕ) → map wanted scripts ≡ batch
-    → ∥ AreHanded (take n batch) reports passes ∥₁ → n ≡ length scripts → loaded ≡ load_books settings → all_passes ≡ loaded ++ passes → length all_passes ≡ sessions → All (λ (b : Book). AreInJournal units b.receipts) all_passes
+pub booked : (ended : ℕ) (settings : List Setting) (scripts : List Script) (batch : List Wanted) (n : ℕ) (reports : List Answers) (loaded passes all_passes : List Book) (units : List JournalUnit) (sessions : ℕ) → map wanted scripts ≡ batch
+    → ∥ AreHanded (take n batch) reports passes ∥₁ → n ≡ length scripts → loaded ≡ load_books ended settings → all_passes ≡ loaded ++ passes → length all_passes ≡ sessions → All (λ (b : Book). AreInJournal units b.receipts) all_passes
     → All (λ (b : Book). RisesFrom 0 b.receipts) all_passes → All IsOwn all_passes → AreAllReceipts units all_passes → ∥ AreBooked settings (map wanted scripts) reports units sessions ∥₁
-booked settings scripts batch n reports loaded passes all_passes units sessions same h all is joined each written rising own every =
+booked ended settings scripts batch n reports loaded passes all_passes units sessions same h all is joined each written rising own every =
     ∥∥₁_map h
-    (λ (x : AreHanded (take n batch) reports passes). booked_of settings (map wanted scripts) n reports passes all_passes units sessions
+    (λ (x : AreHanded (take n batch) reports passes). booked_of ended settings (map wanted scripts) n reports passes all_passes units sessions
     (subst (λ (ws : List Wanted). AreHanded (take n ws) reports passes) (sym same) x) (all ∙ sym (same_length scripts)) (joined ∙ ap (λ (bs : List Book). bs ++ passes) is) each written rising own every)
 
 -- what was loaded, and what was served behind it
-pub served_of : (listing : List ℕ) (scripts : List Wanted) (reports : List Answers) (units : List JournalUnit) (sessions : ℕ) (loaded : List Book) → IsLoaded listing loaded → ((settings : List Setting) → loaded ≡ load_books settings → BeginsWith settings units)
-    → ((settings : List Setting) → loaded ≡ load_books settings → ∥ AreBooked settings scripts reports units sessions ∥₁) → AreServed listing scripts reports units sessions
+pub served_of : (listing : List ℕ) (scripts : List Wanted) (reports : List Answers) (units : List JournalUnit) (sessions : ℕ) (loaded : List Book) → IsLoaded listing loaded → ((ended : ℕ) (settings : List Setting) → loaded ≡ load_books ended settings → BeginsWith settings units)
+    → ((ended : ℕ) (settings : List Setting) → loaded ≡ load_books ended settings → ∥ AreBooked settings scripts reports units sessions ∥₁) → AreServed listing scripts reports units sessions
 served_of listing scripts reports units sessions loaded h begins booked = record {
   settings = h.settings;
   asked = h.asked;
-  begins = begins h.settings h.books_are;
-  booked = booked h.settings h.books_are;
+  begins = begins h.ended h.settings h.books_are;
+  booked = booked h.ended h.settings h.books_are;
 }
 
 -- nothing is handed over yet

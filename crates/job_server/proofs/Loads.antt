@@ -7,18 +7,18 @@ use Rattle.command.specs.declared.access.Answer.{Answer}
 use Rattle.command.specs.declared.access.Answer.TheVariants.{Done}
 use Rattle.command.specs.declared.access.DataCommand.TheVariants.{Set}
 use Rattle.journal.specs.declared.unit.Unit.{Unit as JournalUnit}
-use Rattle.journal.specs.declared.unit.Unit.TheVariants.{Lone}
+use Rattle.journal.specs.declared.unit.Unit.TheVariants.{Lone, End}
 use Rattle.journal.specs.Kept.{Claim}
 use Rattle.job_core.specs.Sessions.{idle}
 use Rattle.pin_board.specs.Slips.{IsInJournal, AreInJournal}
 use Rattle.shared_engine.specs.Receipts.{Book, book, claim, number_of, RisesFrom}
-use Rattle.shared_engine.specs.Sessions.{Held, held, and_receipt}
+use Rattle.shared_engine.specs.Sessions.{Held, held, and_receipt, halted}
 use Rattle.loading.specs.Settings.{Setting, TextFault, before, settings_of}
 use Rattle.loading.specs.Pending.{Pending, asked_of}
 use Rattle.loading.specs.Loaded.{units_of}
 use Rattle.loading.specs.laws.Before.{before_none, before_next, before_end, fault_before}
 use Rattle.loading.specs.declared.fault.LoadFault.TheVariants as load_faults
-use Rattle.job_server.specs.Loads.{unit_of, claims_from, load_books, BeginsWith, AreReceiptsOf, HasSet, HasSetTo, HasSetAll, IsBookOf, IsLoaded, IsOfAnyLoad, IsUnservedOf}
+use Rattle.job_server.specs.Loads.{unit_of, claims_from, load_book, load_books, BeginsWith, AreReceiptsOf, HasSet, HasSetTo, HasSetAll, IsBookOf, IsLoaded, IsOfAnyLoad, IsUnservedOf}
 use Rattle.job_server.specs.declared.fault.Unserved.{Unserved}
 use Rattle.job_server.specs.declared.fault.Unserved.TheVariants.{Load, Jobs}
 
@@ -87,7 +87,7 @@ pub level_set : (ss : List Setting) (h : Held) → HasSet ss h → h.state.level
 level_set ss h set = ap (λ (x : Held). x.state.level) set.is
 
 -- nothing was done
-pub none_set : (h : Held) → h ≡ held (idle 1) None [] → HasSet [] h
+pub none_set : (h : Held) → h ≡ held (idle 1) None [] [] → HasSet [] h
 none_set h is = record { receipts = []; are_of = tt; is = is }
 
 -- one setting more
@@ -119,16 +119,18 @@ pub last_set : (first : Setting) (asked left : Result (List Setting) TextFault) 
 last_set first asked left h so none = record { more = so.more; is = before_end so.more asked left so.goes_on none; set = so.set }
 
 -- its book
-pub closed_book : (ss : List Setting) (h : Held) (b : Book) (ns : List ℕ) → HasSet ss h → map number_of h.receipts ≡ ns → RisesFrom 0 h.receipts → get_or ns (length ns - 1) 0 ≡ length ns → b ≡ book h.state.work.job h.receipts → b ≡ book 1 (claims_from 1 ss)
-closed_book ss h b ns set same rises last is =
+pub closed_book : (ss : List Setting) (h : Held) (b : Book) (ns : List ℕ) → HasSet ss h → map number_of h.receipts ≡ ns → RisesFrom 0 h.receipts → get_or ns (length ns - 1) 0 ≡ length ns → ((n : ℕ) × (b ≡ halted n h))
+    → (ended : ℕ) × (b ≡ load_book ended ss)
+closed_book ss h b ns set same rises last (n, is) =
     let receipts : h.receipts ≡ set.receipts = ap (λ (x : Held). x.receipts) set.is in
     let are : AreReceiptsOf ss h.receipts = subst (AreReceiptsOf ss) (sym receipts) set.are_of in
-    is ∙ ap (λ (j : ℕ). book j h.receipts) (ap (λ (x : Held). x.state.work.job) set.is) ∙ ap (book 1) (count_up ss h.receipts ns same rises are last)
+    let ended : halted n h ≡ book 1 h.receipts (claim n (End 1) ∷ []) = ap (halted n) set.is ∙ ap (λ (cs : List Claim). book 1 cs (claim n (End 1) ∷ [])) (sym receipts) in
+    (n, is ∙ ended ∙ ap (λ (cs : List Claim). book 1 cs (claim n (End 1) ∷ [])) (count_up ss h.receipts ns same rises are last))
 
 -- the same, where its session closes
-pub book_on : {E : Type 0} (r : Result Book E) (first : Setting) (asked : Result (List Setting) TextFault) (h : Held) → HasSetAll first asked h → IfOk r (λ b. (s : Setting) (more : List Setting) → HasSet (s ∷ more) h → b ≡ book 1 (claims_from 1 (s ∷ more)))
+pub book_on : {E : Type 0} (r : Result Book E) (first : Setting) (asked : Result (List Setting) TextFault) (h : Held) → HasSetAll first asked h → IfOk r (λ b. (s : Setting) (more : List Setting) → HasSet (s ∷ more) h → (ended : ℕ) × (b ≡ load_book ended (s ∷ more)))
     → IfOk r (IsBookOf first asked)
-book_on (Ok b) first asked h set is = record { more = set.more; is = set.is; book_is = is first set.more set.set }
+book_on (Ok b) first asked h set is = let last = is first set.more set.set in record { more = set.more; ended = last.0; is = set.is; book_is = last.1 }
 book_on (Err e) first asked h set is = tt
 
 -- ---- faults
@@ -148,12 +150,13 @@ fault_left so_far asked left (Jobs fault) is h = tt
 
 -- it sets nothing
 pub none_loaded : (listing : List ℕ) (p : Pending) → settings_of listing ≡ asked_of p → asked_of p ≡ Ok [] → IsLoaded listing []
-none_loaded listing p is none = record { settings = []; asked = is ∙ none; books_are = refl }
+none_loaded listing p is none = record { settings = []; ended = 0; asked = is ∙ none; books_are = refl }
 
 -- its settings have a book
 pub book_loaded : (listing : List ℕ) (first : Setting) (p later : Pending) (b : Book) (books : List Book) → settings_of listing ≡ asked_of p → asked_of p ≡ before (first ∷ []) (asked_of later) → IsBookOf first (asked_of later) b → books ≡ b ∷ [] → IsLoaded listing books
 book_loaded listing first p later b books is next h are = record {
   settings = first ∷ h.more;
+  ended = h.ended;
   asked = is ∙ next ∙ ap (before (first ∷ [])) h.is;
   books_are = are ∙ ap (λ (x : Book). x ∷ []) h.book_is;
 }
@@ -195,13 +198,13 @@ drop_none : (us : List JournalUnit) → us ≡ drop 0 us
 drop_none [] = refl
 drop_none (u ∷ us) = refl
 
-pub begins : (ss : List Setting) (units : List JournalUnit) (loaded more all : List Book) → loaded ≡ load_books ss → all ≡ loaded ++ more → All (λ (b : Book). AreInJournal units b.receipts) all → BeginsWith ss units
-begins [] units loaded more all is joined h = ap (take 0) (drop_none units) ∙ begins_from 0 [] units (λ k d lt. absurd (none k lt))
+pub begins : (ended : ℕ) (ss : List Setting) (units : List JournalUnit) (loaded more all : List Book) → loaded ≡ load_books ended ss → all ≡ loaded ++ more → All (λ (b : Book). AreInJournal units b.receipts) all → BeginsWith ss units
+begins ended [] units loaded more all is joined h = ap (take 0) (drop_none units) ∙ begins_from 0 [] units (λ k d lt. absurd (none k lt))
   where
     none : (k : ℕ) → k < 0 → ⊥
     none k lt = omega (arith, lt)
-begins (s ∷ ss) units loaded more all is joined h =
-    let b : Book = book 1 (claims_from 1 (s ∷ ss)) in
+begins ended (s ∷ ss) units loaded more all is joined h =
+    let b : Book = load_book ended (s ∷ ss) in
     let whole : All (λ (x : Book). AreInJournal units x.receipts) (b ∷ more) = subst (λ (bs : List Book). All (λ (x : Book). AreInJournal units x.receipts) bs) (joined ∙ ap (λ (bs : List Book). bs ++ more) is) h in
     let first : 0 < suc (length more) = omega arith in
     let there : AreInJournal units (claims_from 1 (s ∷ ss)) = whole 0 b first in

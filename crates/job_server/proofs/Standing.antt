@@ -13,9 +13,10 @@ use Rattle.journal.specs.Kept.{Claim}
 use Rattle.journal.specs.Story.{Transaction, Machine, transaction_of, add_unit, put_transaction, close, begin, told_answer, told_lock, told_level, told_commit, told_back}
 use Rattle.serial.specs.laws.ByJob.{get_here, gone_here}
 use Rattle.job_core.specs.Sessions.{Session as JobSession, idle, after_lock}
-use Rattle.shared_engine.specs.Receipts.{has_receipt, claim}
+use Rattle.shared_engine.specs.Receipts.{claim}
 use Rattle.shared_engine.specs.Sessions.{Held, held, IsAt, IsBegun, and_receipt, noted_lock}
 use Rattle.shared_engine.specs.Engines.{lock_unit, after_try, whole_of}
+use Rattle.job_server.specs.Causes.{HasRestarted}
 use Rattle.job_server.specs.Told.{given, may_be_untold, IsToldIn, units_of}
 use Rattle.job_server.specs.Telling.{Shows, Stands}
 use Rattle.job_server.proofs.Units.{told_more, lock_receipt_more, none_given}
@@ -29,13 +30,17 @@ none_restarts : (state : JobSession) (t : Option Transaction) → Shows state t 
 none_restarts state None shows none = shows.1
 none_restarts state (Some t) shows none = absurd (omega (arith, none, shows.0))
 
+-- a number that is the same
+pub as_often : (told old new : ℕ) → new ≡ old → HasRestarted told old → HasRestarted told new
+as_often told old new same h = subst (λ (n : ℕ). HasRestarted told n) (sym same) h
+
 -- one where it isn't
 pub record IsShown (state : JobSession) (t : Option Transaction) : Type 0 where
   pub open_one : Transaction
   pub is : t ≡ Some open_one
   pub level : state.level ≡ open_one.level
   pub exchanges : state.work.exchanges ≡ open_one.exchanges
-  pub restarts : open_one.restarts ≤ state.restarts
+  pub restarts : HasRestarted open_one.restarts state.restarts
 
 pub shown_some : (state : JobSession) (t : Option Transaction) → Shows state t → 1 ≤ state.level → IsShown state t
 shown_some state None shows one = absurd (omega (arith, shows.0, one))
@@ -43,7 +48,7 @@ shown_some state (Some t) shows one = record { open_one = t; is = refl; level = 
 
 -- ---- the machine with a transaction, or without one
 
-pub with_open : (front : List JournalUnit) (s : Machine) (t : Transaction) (h : Held) → 1 ≤ h.state.level → h.state.level ≡ t.level → h.state.work.exchanges ≡ t.exchanges → t.restarts ≤ h.state.restarts → IsAt h.start h.state → IsToldIn (given s) (front ++ units_of h.receipts)
+pub with_open : (front : List JournalUnit) (s : Machine) (t : Transaction) (h : Held) → 1 ≤ h.state.level → h.state.level ≡ t.level → h.state.work.exchanges ≡ t.exchanges → HasRestarted t.restarts h.state.restarts → IsAt h.start h.state → IsToldIn (given s) (front ++ units_of h.receipts)
     → Stands front (put_transaction h.state.work.job t s) h
 with_open front s t h one level exchanges restarts begun is_told = record {
   shows = subst (λ (o : Option Transaction). Shows h.state o) (sym (get_here s.transactions h.state.work.job t)) (one, (level, (exchanges, restarts)));
@@ -80,7 +85,7 @@ told_inside front s h new command answer one stands level exchanges job restarts
     subst (λ (o : Option Transaction). Stands front (told_answer h.state.work.job command answer o s) new) (sym shown.is)
     (subst (λ (j : ℕ). Stands front (put_transaction j more s) new) job
     (with_open front s more new (omega (arith, one, level)) (level ∙ shown.level)
-    (exchanges ∙ ap (λ (es : List Exchange). es ++ record { command = command; answer = answer } ∷ []) shown.exchanges) (omega (arith, restarts, shown.restarts)) begun
+    (exchanges ∙ ap (λ (es : List Exchange). es ++ record { command = command; answer = answer } ∷ []) shown.exchanges) (as_often shown.open_one.restarts h.state.restarts new.state.restarts restarts shown.restarts) begun
     (subst (λ (cs : List Claim). IsToldIn (given s) (front ++ units_of cs)) (sym receipts) stands.is_told)))
 
 -- ---- LOCK
@@ -111,7 +116,7 @@ tried_level n command had h = noted_level (nat_lt 0 h.state.level) h.state
 pub still_shows : (b : Bool) (state : JobSession) (t : Option Transaction) → Shows state t → Shows (if b then after_lock state else state) t
 still_shows b state None shows = (noted_level b state ∙ shows.0, noted_restarts b state ∙ shows.1)
 still_shows b state (Some t) shows =
-    (omega (arith, noted_level b state, shows.0), (noted_level b state ∙ shows.1.0, (noted_exchanges b state ∙ shows.1.1.0, omega (arith, noted_restarts b state, shows.1.1.1))))
+    (omega (arith, noted_level b state, shows.0), (noted_level b state ∙ shows.1.0, (noted_exchanges b state ∙ shows.1.1.0, as_often t.restarts state.restarts (if b then after_lock state else state).restarts (noted_restarts b state) shows.1.1.1)))
 
 -- it is right where it began, as before
 pub noted_at : (start : Option (List JournalUnit)) (state : JobSession) → IsAt start state → IsAt start (noted_lock state)
@@ -165,13 +170,13 @@ tried_told front s h command had n (Some t) is stands =
     let b : Bool = nat_lt 0 h.state.level in
     subst (λ (j : ℕ). Stands front (put_transaction j (record t { took_lock = true }) (add_unit (Lock h.state.work.job true command had) s)) (after_try n command had h)) (tried_job n command had h)
     (with_open front (add_unit (Lock h.state.work.job true command had) s) (record t { took_lock = true }) (after_try n command had h)
-    (omega (arith, noted_level b h.state, shows.0)) (noted_level b h.state ∙ shows.1.0) (noted_exchanges b h.state ∙ shows.1.1.0) (omega (arith, noted_restarts b h.state, shows.1.1.1)) (noted_at h.start h.state stands.begun)
+    (omega (arith, noted_level b h.state, shows.0)) (noted_level b h.state ∙ shows.1.0) (noted_exchanges b h.state ∙ shows.1.1.0) (as_often t.restarts h.state.restarts (if b then after_lock h.state else h.state).restarts (noted_restarts b h.state) shows.1.1.1) (noted_at h.start h.state stands.begun)
     (subst (λ (u : JournalUnit). IsToldIn (given (add_unit u s)) (front ++ units_of (h.receipts ++ claim n (lock_unit h.state command had) ∷ []))) unit
     (told_more s.units (lock_unit h.state command had) front h.receipts n refl stands.is_told)))
 
 -- ---- transactions
 
--- going back gives no receipt
+-- going back shows in no book
 pub back_given : (job : ℕ) (t : Option Transaction) (s : Machine) → given (told_back job t s) ≡ given s
 back_given job None s = refl
 back_given job (Some t) s = by_test t.took_lock
@@ -181,7 +186,7 @@ back_given job (Some t) s = by_test t.took_lock
     by_test false = refl
 
 -- a transaction begins, at level 1
-pub told_begun : (front : List JournalUnit) (s : Machine) (h : Held) (restarts : ℕ) → h.state.level ≡ 1 → h.state.work.exchanges ≡ [] → restarts ≤ h.state.restarts → IsAt h.start h.state → IsToldIn (given s) (front ++ units_of h.receipts) → Stands front (begin h.state.work.job restarts s) h
+pub told_begun : (front : List JournalUnit) (s : Machine) (h : Held) (restarts : ℕ) → h.state.level ≡ 1 → h.state.work.exchanges ≡ [] → HasRestarted restarts h.state.restarts → IsAt h.start h.state → IsToldIn (given s) (front ++ units_of h.receipts) → Stands front (begin h.state.work.job restarts s) h
 told_begun front s h restarts level exchanges few begun is_told = with_open front s (record { level = 1; restarts = restarts; start = length s.units; exchanges = []; took_lock = false }) h (omega (arith, level)) level exchanges few begun is_told
 
 -- another level
@@ -191,7 +196,7 @@ told_at front s h new level one stands some is exchanges job restarts begun rece
     let shown : IsShown h.state (transaction_of h.state.work.job s) = shown_some h.state (transaction_of h.state.work.job s) stands.shows one in
     subst (λ (o : Option Transaction). Stands front (told_level h.state.work.job level o s) new) (sym shown.is)
     (subst (λ (j : ℕ). Stands front (put_transaction j (record shown.open_one { level = level }) s) new) job
-    (with_open front s (record shown.open_one { level = level }) new (omega (arith, some, is)) is (exchanges ∙ shown.exchanges) (omega (arith, restarts, shown.restarts)) begun
+    (with_open front s (record shown.open_one { level = level }) new (omega (arith, some, is)) is (exchanges ∙ shown.exchanges) (as_often shown.open_one.restarts h.state.restarts new.state.restarts restarts shown.restarts) begun
     (subst (λ (cs : List Claim). IsToldIn (given s) (front ++ units_of cs)) (sym receipts) stands.is_told)))
 
 -- the transaction is a unit

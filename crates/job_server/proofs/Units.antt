@@ -5,8 +5,8 @@ use Rattle.std.proofs.lemmas.List.{map-append}
 use Rattle.std.proofs.lemmas.List.Elements.{filter-append}
 use Rattle.journal.specs.declared.unit.Unit.{Unit as JournalUnit}
 use Rattle.journal.specs.Kept.{Claim}
-use Rattle.shared_engine.specs.Receipts.{has_receipt, claim}
-use Rattle.job_server.specs.Told.{may_be_untold, IsToldIn, units_of}
+use Rattle.shared_engine.specs.Receipts.{claim}
+use Rattle.job_server.specs.Told.{is_booked, may_be_untold, IsToldIn, units_of}
 
 -- one unit more on both sides
 pub both_more : (ts units : List JournalUnit) (u : JournalUnit) → IsToldIn ts units → IsToldIn (ts ++ u ∷ []) (units ++ u ∷ [])
@@ -29,18 +29,21 @@ units_more : (front : List JournalUnit) (receipts : List Claim) (n : ℕ) (u : J
 units_more front receipts n u =
     ap (λ (l : List JournalUnit). front ++ l) (map-append (λ (c : Claim). c.unit) receipts (claim n u ∷ [])) ∙ sym (append_assoc front (units_of receipts) (u ∷ []))
 
--- a unit that is told and has a receipt
-pub told_more : (units : List JournalUnit) (u : JournalUnit) (front : List JournalUnit) (receipts : List Claim) (n : ℕ) → filter has_receipt (u ∷ []) ≡ u ∷ [] → IsToldIn (filter has_receipt units) (front ++ units_of receipts)
-    → IsToldIn (filter has_receipt (units ++ u ∷ [])) (front ++ units_of (receipts ++ claim n u ∷ []))
+-- a unit that shows in its book
+pub one_given : (units : List JournalUnit) (u : JournalUnit) → filter is_booked (u ∷ []) ≡ u ∷ [] → filter is_booked (units ++ u ∷ []) ≡ filter is_booked units ++ u ∷ []
+one_given units u one = filter-append is_booked units (u ∷ []) ∙ ap (λ (l : List JournalUnit). filter is_booked units ++ l) one
+
+-- the same, told
+pub told_more : (units : List JournalUnit) (u : JournalUnit) (front : List JournalUnit) (receipts : List Claim) (n : ℕ) → filter is_booked (u ∷ []) ≡ u ∷ [] → IsToldIn (filter is_booked units) (front ++ units_of receipts)
+    → IsToldIn (filter is_booked (units ++ u ∷ [])) (front ++ units_of (receipts ++ claim n u ∷ []))
 told_more units u front receipts n one h =
-    let left : filter has_receipt (units ++ u ∷ []) ≡ filter has_receipt units ++ u ∷ [] = filter-append has_receipt units (u ∷ []) ∙ ap (λ (l : List JournalUnit). filter has_receipt units ++ l) one in
-    subst (λ (l : List JournalUnit). IsToldIn l (front ++ units_of (receipts ++ claim n u ∷ []))) (sym left)
-    (subst (λ (r : List JournalUnit). IsToldIn (filter has_receipt units ++ u ∷ []) r) (sym (units_more front receipts n u)) (both_more (filter has_receipt units) (front ++ units_of receipts) u h))
+    subst (λ (l : List JournalUnit). IsToldIn l (front ++ units_of (receipts ++ claim n u ∷ []))) (sym (one_given units u one))
+    (subst (λ (r : List JournalUnit). IsToldIn (filter is_booked units ++ u ∷ []) r) (sym (units_more front receipts n u)) (both_more (filter is_booked units) (front ++ units_of receipts) u h))
 
 -- a receipt of a LOCK that no reply tells
 pub lock_receipt_more : (ts front : List JournalUnit) (receipts : List Claim) (n : ℕ) (u : JournalUnit) → may_be_untold u ≡ true → IsToldIn ts (front ++ units_of receipts) → IsToldIn ts (front ++ units_of (receipts ++ claim n u ∷ []))
 lock_receipt_more ts front receipts n u l h = subst (λ (r : List JournalUnit). IsToldIn ts r) (sym (units_more front receipts n u)) (lock_more ts (front ++ units_of receipts) u l h)
 
--- a unit that gives no receipt
-pub none_given : (units : List JournalUnit) (u : JournalUnit) → filter has_receipt (u ∷ []) ≡ [] → filter has_receipt (units ++ u ∷ []) ≡ filter has_receipt units
-none_given units u none = filter-append has_receipt units (u ∷ []) ∙ (ap (λ (l : List JournalUnit). filter has_receipt units ++ l) none ∙ append-nil (filter has_receipt units))
+-- a unit that shows in no book
+pub none_given : (units : List JournalUnit) (u : JournalUnit) → filter is_booked (u ∷ []) ≡ [] → filter is_booked (units ++ u ∷ []) ≡ filter is_booked units
+none_given units u none = filter-append is_booked units (u ∷ []) ∙ (ap (λ (l : List JournalUnit). filter is_booked units ++ l) none ∙ append-nil (filter is_booked units))

@@ -17,7 +17,6 @@ use Rattle.command.specs.Data.{data_refusal}
 use Rattle.journal.specs.History.{AreRight, all_after}
 use Rattle.journal.specs.Story.{Transaction}
 use Rattle.serial.specs.Machine.{told_had, level_of, restarted}
-use Rattle.shared_engine.specs.Writes.{AreWrites}
 
 -- ---- accepted
 
@@ -27,25 +26,30 @@ abbrev pub IsAnswer : DataCommand → Answer → Option Transaction → Type 0
 IsAnswer command answer None = ⊤
 IsAnswer command answer (Some t) = (length t.exchanges < most_commands) × (m : Database) × AreRight (t.exchanges ++ record { command = command; answer = answer } ∷ []) m
 
--- the transaction begins anew, one time more: it has done so at least as often as was told, since no reply tells of the tries of a block that were overtaken
+-- how often a transaction has begun anew: as often as was told last; before that however often, since no reply tells of tries
+-- of its block that were overtaken
+abbrev pub HasRestarted : ℕ → ℕ → Type 0
+HasRestarted told restarts = (told ≡ 0) ⊎ (restarts ≡ told)
+
+-- TRESTART: the transaction begins anew, one time more
 abbrev pub IsAnew : Reply → Option Transaction → Type 0
 IsAnew reply None = ⊥
-IsAnew reply (Some t) = (restarts : ℕ) × (t.restarts ≤ restarts) × (reply ≡ restarted (record t { restarts = restarts }))
+IsAnew reply (Some t) = (restarts : ℕ) × HasRestarted t.restarts restarts × (reply ≡ restarted (record t { restarts = restarts }))
 
--- TCOMMIT: one level lower, or at level 1 committed, or begun anew, which one that did SETs and KILLs alone never is
+-- TCOMMIT: one level lower, or at level 1 committed; where it is overtaken its block is done again, and no reply tells of that
 abbrev pub IsCommitted : Reply → Option Transaction → Type 0
 IsCommitted reply None = ⊥
-IsCommitted reply (Some t) = ((1 < t.level) × (reply ≡ AtLevel (t.level - 1))) ⊎ ((t.level ≡ 1) × ((reply ≡ Committed) ⊎ (IsAnew reply (Some t) × (AreWrites t.exchanges → ⊥))))
+IsCommitted reply (Some t) = ((1 < t.level) × (reply ≡ AtLevel (t.level - 1))) ⊎ ((t.level ≡ 1) × (reply ≡ Committed))
 
 -- TROLLBACK: done, where there is a transaction
 abbrev pub IsRolledBack : Reply → Option Transaction → Type 0
 IsRolledBack reply None = ⊥
 IsRolledBack reply (Some t) = reply ≡ Finished
 
--- $TRESTART: at least as often as was told
+-- $TRESTART: how often it has begun anew
 abbrev pub IsRestartCount : Reply → Option Transaction → Type 0
 IsRestartCount reply None = reply ≡ Count 0
-IsRestartCount reply (Some t) = (restarts : ℕ) × (t.restarts ≤ restarts) × (reply ≡ Count restarts)
+IsRestartCount reply (Some t) = (restarts : ℕ) × HasRestarted t.restarts restarts × (reply ≡ Count restarts)
 
 -- what a command is replied that isn't refused
 abbrev pub IsAccepted : Command → Reply → Option Transaction → Type 0

@@ -1,5 +1,5 @@
--- Which fault of a run a fault of its parts is. Source: docs/FORMATS.md, "Faults of a run".
-use Rattle.std.specs.Prelude.{⊤, ℕ, List}
+-- The text of a fault, and which fault of a run a fault of its parts is. Source: docs/FORMATS.md, "Faults of a run".
+use Rattle.std.specs.Prelude.{⊤, ℕ, List, codes}
 use Rattle.listing.specs.declared.nodes.ListingFault.{ListingFault}
 use Rattle.listing.specs.declared.nodes.ListingFault.TheVariants.{Write as ListingWrite, Memory as ListingMemory}
 use Rattle.listing.specs.declared.whole.InputFault.{InputFault}
@@ -12,6 +12,15 @@ use Rattle.job_server.specs.declared.fault.JobsFault.{JobsFault}
 use Rattle.job_server.specs.declared.fault.JobsFault.TheVariants.{Read, Write, Memory, Missing, Load}
 use Rattle.loading.specs.Settings.{settings_of}
 use Rattle.loading.specs.Loaded.{IsFaultOf}
+use Rattle.loading.specs.declared.fault.LoadFault.TheVariants.{Line as LoadLine, Memory as LoadMemory}
+
+abbrev pub fault_text : JobsFault → List ℕ
+fault_text Read = codes "cannot read input"
+fault_text Write = codes "cannot write output"
+fault_text Memory = codes "out of memory"
+fault_text Missing = codes "report missing"
+fault_text (Load (LoadLine fault)) = codes "cannot load the listing"
+fault_text (Load LoadMemory) = codes "out of memory"
 
 abbrev pub fault_of : ListingFault → JobsFault
 fault_of ListingWrite = Write

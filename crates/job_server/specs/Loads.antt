@@ -4,7 +4,7 @@ use Rattle.std.specs.Prelude.{◌≡◌, ⊤, ℕ, ◌+◌, List, [], ◌∷◌,
 use Rattle.command.specs.declared.access.DataCommand.TheVariants.{Set}
 use Rattle.command.specs.declared.access.Answer.TheVariants.{Done}
 use Rattle.journal.specs.declared.unit.Unit.{Unit as JournalUnit}
-use Rattle.journal.specs.declared.unit.Unit.TheVariants.{Lone}
+use Rattle.journal.specs.declared.unit.Unit.TheVariants.{Lone, End}
 use Rattle.journal.specs.Kept.{Claim}
 use Rattle.job_core.specs.Sessions.{idle}
 use Rattle.loading.specs.Settings.{Setting, TextFault, before, settings_of}
@@ -25,10 +25,14 @@ abbrev pub claims_from : ℕ → List Setting → List Claim
 claims_from n [] = []
 claims_from n (s ∷ ss) = claim n (unit_of s) ∷ claims_from (n + 1) ss
 
--- the book of a load, if anything is set: job 1's, with the units from the first on
-abbrev pub load_books : List Setting → List Book
-load_books [] = []
-load_books (s ∷ ss) = book 1 (claims_from 1 (s ∷ ss)) ∷ []
+-- job 1's book, with the settings as the units from the first on, and its end at this number
+abbrev pub load_book : ℕ → List Setting → Book
+load_book ended settings = book 1 (claims_from 1 settings) (claim ended (End 1) ∷ [])
+
+-- the book of a load, if anything is set
+abbrev pub load_books : ℕ → List Setting → List Book
+load_books ended [] = []
+load_books ended (s ∷ ss) = load_book ended (s ∷ ss) ∷ []
 
 -- the journal's first units are these settings
 abbrev pub BeginsWith : List Setting → List JournalUnit → Type 0
@@ -37,8 +41,9 @@ BeginsWith settings units = take (length settings) units ≡ units_of settings
 -- the listing asks for settings, and their book is there
 pub record IsLoaded (listing : List ℕ) (books : List Book) : Type 0 where
   pub settings : List Setting
+  pub ended : ℕ
   pub asked : settings_of listing ≡ Ok settings
-  pub books_are : books ≡ load_books settings
+  pub books_are : books ≡ load_books ended settings
 
 -- why jobs weren't served: the listing's fault, or another
 abbrev pub IsUnservedOf : Result (List Setting) TextFault → Unserved → Type 0
@@ -70,7 +75,7 @@ AreReceiptsOf (s ∷ ss) (c ∷ cs) = (c ≡ claim c.number (unit_of s)) × AreR
 pub record HasSet (settings : List Setting) (h : Held) : Type 0 where
   pub receipts : List Claim
   pub are_of : AreReceiptsOf settings receipts
-  pub is : h ≡ held (idle 1) None receipts
+  pub is : h ≡ held (idle 1) None receipts []
 
 -- it has done the first setting and those behind it that came before what is left
 pub record HasSetTo (first : Setting) (asked left : Result (List Setting) TextFault) (h : Held) : Type 0 where
@@ -87,5 +92,6 @@ pub record HasSetAll (first : Setting) (asked : Result (List Setting) TextFault)
 -- the book of the first setting and those behind it
 pub record IsBookOf (first : Setting) (asked : Result (List Setting) TextFault) (b : Book) : Type 0 where
   pub more : List Setting
+  pub ended : ℕ
   pub is : asked ≡ Ok more
-  pub book_is : b ≡ book 1 (claims_from 1 (first ∷ more))
+  pub book_is : b ≡ load_book ended (first ∷ more)

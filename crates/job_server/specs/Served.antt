@@ -64,20 +64,21 @@ pub record AreHanded (scripts : List Wanted) (reports : List Answers) (all : Lis
   pub are_told : AreReports scripts reports books
   pub all_is : all ≡ all_of books
 
--- that of the settings that were loaded, and those of the reports
-abbrev pub with_load : List Setting → List (List Book) → List Book
-with_load settings books = load_books settings ++ all_of books
+-- that of the settings that were loaded, which ended at this number, and those of the reports
+abbrev pub with_load : ℕ → List Setting → List (List Book) → List Book
+with_load ended settings books = load_books ended settings ++ all_of books
 
 -- each session has a book, whose units are its job's, in the journal, at numbers that rise; the units of all books are those of the journal, each as
 -- often as it was written, but for rollbacks and ends; and what the reports tell are the units of the books of their jobs, but for the loaded settings'
 pub record AreBooked (settings : List Setting) (scripts : List Wanted) (reports : List Answers) (units : List JournalUnit) (sessions : ℕ) : Type 0 where
+  pub ended : ℕ
   pub books : List (List Book)
   pub are_told : AreReports scripts reports books
-  pub each : length (with_load settings books) ≡ sessions
-  pub written : All (λ (b : Book). AreInJournal units b.receipts) (with_load settings books)
-  pub rising : All (λ (b : Book). RisesFrom 0 b.receipts) (with_load settings books)
-  pub own : All IsOwn (with_load settings books)
-  pub all : AreAllReceipts units (with_load settings books)
+  pub each : length (with_load ended settings books) ≡ sessions
+  pub written : All (λ (b : Book). AreInJournal units b.receipts) (with_load ended settings books)
+  pub rising : All (λ (b : Book). RisesFrom 0 b.receipts) (with_load ended settings books)
+  pub own : All IsOwn (with_load ended settings books)
+  pub all : AreAllReceipts units (with_load ended settings books)
 
 -- the settings of a listing were done, and are the journal's first units; then the scripts were served
 pub record AreServed (listing : List ℕ) (scripts : List Wanted) (reports : List Answers) (units : List JournalUnit) (sessions : ℕ) : Type 0 where

@@ -10,7 +10,7 @@ use Rattle.command.specs.declared.access.DataCommand.{DataCommand}
 use Rattle.command.specs.declared.request.Command.{Command}
 use Rattle.command.specs.declared.request.Command.TheVariants.{Access, Start, Commit, Halt}
 use Rattle.command.specs.declared.request.Reply.{Reply}
-use Rattle.command.specs.declared.request.Reply.TheVariants.{Restarted, Refused}
+use Rattle.command.specs.declared.request.Reply.TheVariants.{Finished, Restarted, Refused}
 use Rattle.journal.specs.declared.unit.Unit.{Unit as JournalUnit}
 use Rattle.journal.specs.Story.{Transaction, Machine, transaction_of, told}
 use Rattle.script.specs.Line.{reading_of}
@@ -23,17 +23,17 @@ use Rattle.shared_engine.specs.Blocks.{AreDone, IsReady, moved_open}
 use Rattle.job_scripts.specs.declared.block.Block.{Block}
 use Rattle.job_scripts.specs.Blocks.{Asks, AreInFront, IsOneBlock}
 use Rattle.job_scripts.specs.Lines.{lines_of_script}
-use Rattle.job_server.specs.Causes.{IsAllowed, IsReplyTo, IsReplyToNone}
+use Rattle.job_server.specs.Causes.{HasRestarted, IsAllowed, IsReplyTo, IsReplyToNone}
 use Rattle.job_server.specs.declared.cursor.Cursor.{Cursor}
 use Rattle.job_server.specs.declared.cursor.Line.{Line}
 use Rattle.job_server.specs.Told.{told_by, given, IsToldIn, told_by_lines, AreRepliesTo, AreRepliesToNone, units_of, units_in}
 
 -- ---- one session
 
--- the session has the machine's transaction, as far as replies tell it; it was begun anew at least as often
+-- the session has the machine's transaction, as far as replies tell it
 abbrev pub Shows : JobSession → Option Transaction → Type 0
 Shows state None = (state.level ≡ 0) × (state.restarts ≡ 0)
-Shows state (Some t) = (1 ≤ state.level) × ((state.level ≡ t.level) × ((state.work.exchanges ≡ t.exchanges) × (t.restarts ≤ state.restarts)))
+Shows state (Some t) = (1 ≤ state.level) × ((state.level ≡ t.level) × ((state.work.exchanges ≡ t.exchanges) × HasRestarted t.restarts state.restarts))
 
 -- behind these units of earlier sessions the session has the machine's transaction, which is right where it began, and what was told are the units so far
 pub record Stands (front : List JournalUnit) (s : Machine) (h : Held) : Type 0 where
@@ -45,9 +45,13 @@ pub record Stands (front : List JournalUnit) (s : Machine) (h : Held) : Type 0 w
 abbrev pub AreStillTold : List JournalUnit → List JournalUnit → Type 0
 AreStillTold old new = (ts : List JournalUnit) → IsToldIn ts old → IsToldIn ts new
 
--- the reply is allowed, whatever transaction the session shows
+-- a TCOMMIT found that its transaction was overtaken, and has begun it anew, which is replied to no line
+abbrev pub IsOvertaken : Command → Reply → Type 0
+IsOvertaken command reply = (command ≡ Commit) × (restarts : ℕ) × (reply ≡ Restarted restarts)
+
+-- the reply is allowed but for that, whatever transaction the session shows
 abbrev pub MayReply : Command → Reply → Held → Type 0
-MayReply command reply h = (t : Option Transaction) → Shows h.state t → IsAt h.start h.state → IsAllowed h.state.work.job command reply t
+MayReply command reply h = (IsOvertaken command reply → ⊥) → (t : Option Transaction) → Shows h.state t → IsAt h.start h.state → IsAllowed h.state.work.job command reply t
 
 -- the session goes on as the reply tells, which is allowed; while its transaction stays open all that it writes is LOCKs
 pub record Follows (command : Command) (reply : Reply) (old new : Held) : Type 0 where
@@ -120,13 +124,32 @@ pub record GoesOn (tell : Machine → Machine) (is_allowed : Machine → Type 0)
 abbrev pub GoesOnUntold : ℕ → SessionsSoFar → SessionsSoFar → Type 0
 GoesOnUntold job old new = GoesOn (λ s. s) (λ s. ⊤) job old new
 
--- a command is replied
+-- a command is replied, or was overtaken
 abbrev pub GoesOnBy : ℕ → Command → Reply → SessionsSoFar → SessionsSoFar → Type 0
-GoesOnBy job command reply old new = GoesOn (told job command reply) (λ s. IsAllowed job command reply (transaction_of job s)) job old new
+GoesOnBy job command reply old new = GoesOn (told job command reply) (λ s. (IsOvertaken command reply → ⊥) → IsAllowed job command reply (transaction_of job s)) job old new
 
 -- a line is replied
 abbrev pub GoesOnAt : ℕ → List ℕ → Reply → SessionsSoFar → SessionsSoFar → Type 0
 GoesOnAt job line reply old new = GoesOn (told_by job (reading_of line) reply) (λ s. IsReplyTo job (reading_of line) reply (transaction_of job s)) job old new
+
+-- what was read of a line was overtaken
+abbrev pub IsOvertakenAs : Result Command Refusal → Reply → Type 0
+IsOvertakenAs (Ok command) reply = IsOvertaken command reply
+IsOvertakenAs (Err refusal) reply = ⊥
+
+-- a line, of which this was read, is replied, or was overtaken
+abbrev pub MayGoOnAt : ℕ → List ℕ → Result Command Refusal → Reply → SessionsSoFar → SessionsSoFar → Type 0
+MayGoOnAt job line asked reply old new =
+    GoesOn (told_by job (reading_of line) reply) (λ s. (IsOvertakenAs asked reply → ⊥) → IsReplyTo job (reading_of line) reply (transaction_of job s)) job old new
+
+-- it is no TCOMMIT
+abbrev pub IsNoCommit : Result Command Refusal → Type 0
+IsNoCommit (Ok command) = command ≢ Commit
+IsNoCommit (Err refusal) = ⊤
+
+-- the job's session has ended, where it had one
+abbrev pub HasStopped : ℕ → SessionsSoFar → SessionsSoFar → Type 0
+HasStopped job old new = ((new ≡ old) × (old.session ≡ None)) ⊎ (GoesOnBy job Halt Finished old new × (new.session ≡ None))
 
 -- the line may be refused so, whatever transaction the job has
 abbrev pub IsFault : ℕ → List ℕ → Refusal → Type 0

@@ -1,5 +1,5 @@
 -- What a job's replies tell of the units that the job wrote, and what lines may be replied. Source: docs/THEOREMS.md, "Many jobs at the same time".
--- Read told_by_lines, units_told, IsToldIn, AreRepliesTo, AreRepliesToNone, then IsTold.
+-- Read told_by_lines, units_told, units_of_book, IsToldIn, IsAllTold, AreRepliesTo, AreRepliesToNone, then IsTold.
 use Rattle.std.specs.Prelude.{◌≡◌, ◌⊎◌, ⊤, ℕ, Bool, true, false, not, ◌||◌, List, [], ◌∷◌, ◌++◌, map, Option, None, Some, Result, Ok, Err}
 use Rattle.std.specs.List.{All, filter, flat_map}
 use Rattle.refusal.specs.declared.Refusal.{Refusal}
@@ -10,7 +10,7 @@ use Rattle.journal.specs.declared.unit.Unit.TheVariants.{Lone, Whole, Lock, Back
 use Rattle.journal.specs.Kept.{Claim}
 use Rattle.journal.specs.Story.{Machine, nothing_done, transaction_of, told}
 use Rattle.script.specs.Line.{reading_of}
-use Rattle.shared_engine.specs.Receipts.{Book, has_receipt}
+use Rattle.shared_engine.specs.Receipts.{Book}
 use Rattle.job_scripts.specs.Lines.{lines_of_script}
 use Rattle.job_server.specs.Causes.{IsReplyTo, IsReplyToNone}
 
@@ -25,11 +25,19 @@ told_by_lines job [] replies s = s
 told_by_lines job (line ∷ lines) [] s = s
 told_by_lines job (line ∷ lines) (reply ∷ replies) s = told_by_lines job lines replies (told_by job (reading_of line) reply s)
 
--- the units that give receipts
-abbrev pub given : Machine → List JournalUnit
-given s = filter has_receipt s.units
+-- whether a unit shows in its session's book, with its receipt or as its end: a rollback doesn't
+abbrev pub is_booked : JournalUnit → Bool
+is_booked (Lone job command answer) = true
+is_booked (Whole job exchanges) = true
+is_booked (Lock job inside command had) = true
+is_booked (Back job) = false
+is_booked (End job) = true
 
--- the units with receipts that a job's text and its replies tell
+-- the units that show in books
+abbrev pub given : Machine → List JournalUnit
+given s = filter is_booked s.units
+
+-- those that a job's text and its replies tell
 abbrev pub units_told : ℕ → List ℕ → List Reply → List JournalUnit
 units_told job text replies = given (told_by_lines job (lines_of_script text) replies nothing_done)
 
@@ -52,9 +60,17 @@ IsToldIn (t ∷ ts) (u ∷ units) = ((t ≡ u) × IsToldIn ts units) ⊎ ((may_b
 abbrev pub units_of : List Claim → List JournalUnit
 units_of receipts = map (λ (c : Claim). c.unit) receipts
 
+-- the units of a session that has ended, in its book
+abbrev pub units_of_book : Book → List JournalUnit
+units_of_book b = units_of b.receipts ++ End b.job ∷ []
+
 -- the units of books, one behind the other
 abbrev pub units_in : List Book → List JournalUnit
-units_in books = flat_map (λ (b : Book). units_of b.receipts) books
+units_in books = flat_map units_of_book books
+
+-- what is told are these units; at the end of its lines a job's session ends, where it has one, which no reply tells
+abbrev pub IsAllTold : ℕ → List JournalUnit → List JournalUnit → Type 0
+IsAllTold job told units = IsToldIn told units ⊎ IsToldIn (told ++ End job ∷ []) units
 
 -- each reply is one to its line, in the transaction that the replies so far tell
 abbrev pub AreRepliesTo : ℕ → List (List ℕ) → List Reply → Machine → Type 0
@@ -68,8 +84,8 @@ AreRepliesToNone [] replies = ⊤
 AreRepliesToNone (line ∷ lines) [] = ⊤
 AreRepliesToNone (line ∷ lines) (reply ∷ replies) = IsReplyToNone (reading_of line) reply × AreRepliesToNone lines replies
 
--- the replies to a job's lines are such, and tell the units of its books; without a job there is no book
+-- the replies to a job's lines are such, and tell the units of its books, each up to the HALT that ended its session; without a job there is no book
 abbrev pub IsTold : Option ℕ → List ℕ → List Reply → List Book → Type 0
 IsTold None text replies books = (books ≡ []) × AreRepliesToNone (lines_of_script text) replies
 IsTold (Some job) text replies books =
-    All (λ (b : Book). b.job ≡ job) books × (IsToldIn (units_told job text replies) (units_in books) × AreRepliesTo job (lines_of_script text) replies nothing_done)
+    All (λ (b : Book). b.job ≡ job) books × (IsAllTold job (units_told job text replies) (units_in books) × AreRepliesTo job (lines_of_script text) replies nothing_done)

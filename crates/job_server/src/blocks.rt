@@ -19,10 +19,10 @@ use std::sync::Wait;
 const MOST_RESTARTS: usize = 3;
 
 impl<'a, B: BoardName, R: Wait, G: Gate> Worker<'a, B, R, G> {
-    // Does a TCOMMIT of a block. Answers the place behind it, or none where it found that the transaction was overtaken, and
-    // has begun it anew.
-    #[tactic(auto, using(crate::proofs::GoingOn::committed_keeps, crate::proofs::GoingOn::was_overtaken))]
-    fn try_commit<'b>(
+    /// Does a TCOMMIT. Answers the place behind it, or none where it found that the transaction was overtaken, and has
+    /// begun it anew.
+    #[tactic(auto, using(crate::proofs::GoingOn::was_overtaken))]
+    pub(crate) fn try_commit<'b>(
         &mut self,
         run: &mut JobRun<B>,
         job: Job,

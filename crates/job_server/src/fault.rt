@@ -1,5 +1,6 @@
 //! Why a run ended early, and the exit status of one.
 ghost use Rattle.std.specs.Prelude.{◌≡◌, true, false, IfOk, OnErr};
+ghost use Rattle.job_server.specs.Faults.{fault_text};
 
 use listing::{InputFault, ListingFault, WriteFault};
 use loading::LoadFault;
@@ -11,9 +12,11 @@ use std::fmt;
 #[derive(Clone, Copy, Debug, PartialEq, Eq)]
 pub enum ServerFault {
     /// Memory was refused where no reply could say so: for a worker, a session, a job's replies or its report, a serial
-    /// run, or the HALT after a job's last line.
+    /// run, the HALT after a job's last line; or a HALT or the end of a block was refused, and the transaction that stayed
+    /// open was overtaken.
     Memory,
-    /// A job's report didn't come, or wasn't whole, or the numbers of its receipts didn't rise.
+    /// A job's report didn't come, or hasn't one reply for each line; or a session's pass didn't come, or isn't behind the
+    /// job's one before; or a load's units aren't the journal's first.
     Missing,
 }
 
@@ -92,7 +95,8 @@ pub enum JobsFault {
     Write,
     /// Memory was refused where no reply could say so.
     Memory,
-    /// A job's report didn't come.
+    /// A job's report didn't come, or hasn't one reply for each line; or a session's pass didn't come, or isn't behind the
+    /// job's one before; or a load's units aren't the journal's first.
     Missing,
     /// The listing isn't loaded. Nothing was done or written.
     Load(LoadFault),
@@ -100,7 +104,9 @@ pub enum JobsFault {
 
 impl JobsFault {
     /// The text that is printed.
-    pub fn text(self) -> &'static str {
+    pub fn text(self) -> &'static str
+        ensures { result.now ≡ fault_text self }
+    {
         match self {
             JobsFault::Read => "cannot read input",
             JobsFault::Write => "cannot write output",
@@ -112,6 +118,11 @@ impl JobsFault {
 }
 
 impl fmt::Display for JobsFault {
+    ghost use Rattle.std.specs.Prelude.{Some};
+    ghost use Rattle.job_server.specs.Faults.{fault_text};
+
+    ghost output = { λ fault. Some (fault_text fault) };
+
     fn fmt<W: fmt::Write>(&self, f: &mut fmt::Formatter<W>) -> fmt::Result {
         f.write_str(self.text())
     }

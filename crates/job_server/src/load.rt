@@ -1,11 +1,10 @@
 //! The listing that is loaded before the first job.
-ghost use Rattle.std.specs.Prelude.{◌≡◌, ◌<◌, ◌-◌, ◌∷◌, ◌++◌, [], List, None, Ok, true, get_or, length, IfOk, IfErr, IfSome, IfNone, OnOk};
+ghost use Rattle.std.specs.Prelude.{◌≡◌, ◌<◌, ◌-◌, ◌∷◌, ◌++◌, ℕ, [], List, None, Ok, true, get_or, length, IfOk, IfErr, IfSome, IfNone, OnOk};
 ghost use Rattle.job_core.specs.Sessions.{idle};
 ghost use Rattle.loading.specs.Settings.{Setting, before};
 ghost use Rattle.loading.specs.Pending.{asked_of};
-ghost use Rattle.shared_engine.specs.Receipts.{book};
 ghost use Rattle.shared_engine.specs.Sessions.{held};
-ghost use Rattle.job_server.specs.Loads.{claims_from, HasSet, HasSetAll, IsBookOf, IsLoaded, IsOfAnyLoad, IsUnservedOf, IsUnservedBy};
+ghost use Rattle.job_server.specs.Loads.{load_book, HasSet, HasSetAll, IsBookOf, IsLoaded, IsOfAnyLoad, IsUnservedOf, IsUnservedBy};
 
 use crate::{ServerFault, Unserved};
 use collation::Text;
@@ -44,7 +43,7 @@ fn open<B: BoardName, R: Wait>(
     alloc: Global,
     engine: &Shared<B>,
 ) -> Result<Session<B>, Unserved>
-    ensures session { IfOk result (λ session. session ≡ held (idle 1) None []) }
+    ensures session { IfOk result (λ session. session ≡ held (idle 1) None [] []) }
     ensures fault { IfErr result IsOfAnyLoad }
 {
     match engine.open(rt, alloc, loading_job()) {
@@ -106,7 +105,7 @@ fn close<B: BoardName, R: Wait>(
     engine: &Shared<B>,
     session: Session<B>,
 ) -> Result<Pass<B>, Unserved>
-    ensures booked { IfOk result (λ pass. (first : Setting) (more : List Setting) → HasSet (first ∷ more) session → pass ≡ book 1 (claims_from 1 (first ∷ more))) }
+    ensures booked { IfOk result (λ pass. (first : Setting) (more : List Setting) → HasSet (first ∷ more) session → (ended : ℕ) × (pass ≡ load_book ended (first ∷ more))) }
     ensures fault { IfErr result IsOfAnyLoad }
 {
     if !ends_at_count(session.numbers()) {

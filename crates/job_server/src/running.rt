@@ -4,7 +4,7 @@ ghost use Rattle.command.specs.declared.request.Command.{Command};
 ghost use Rattle.command.specs.declared.request.Reply.{Reply};
 ghost use Rattle.shared_engine.specs.Receipts.{Book};
 ghost use Rattle.shared_engine.specs.Engines.{OnOkThat, OnOkNot};
-ghost use Rattle.job_server.specs.Telling.{is_open as is_open_in, GoesOnUntold, GoesOnBy, GoesOnAt, IsAsked, Keeps, HasAnswered, Advances, sessions_so_far, not_begun};
+ghost use Rattle.job_server.specs.Telling.{is_open as is_open_in, GoesOnUntold, GoesOnBy, MayGoOnAt, HasStopped, IsAsked, IsNoCommit, Keeps, HasAnswered, Advances, sessions_so_far, not_begun};
 
 use crate::ServerFault;
 use crate::cursor::{Cursor, Line};
@@ -127,8 +127,16 @@ fn is_halt(command: &Command) -> bool
     matches!(command, Command::Halt)
 }
 
+// Whether the HALT at the end was done.
+fn is_finished(reply: Reply) -> bool
+    ensures { result ≡ true → reply ≡ Reply.Finished }
+{
+    matches!(reply, Reply::Finished)
+}
+
 fn is_restarted(reply: &Reply) -> bool
-    ensures { result ≡ true → (restarts : ℕ) × (reply.now ≡ Reply.Restarted restarts) }
+    ensures anew { result ≡ true → (restarts : ℕ) × (reply.now ≡ Reply.Restarted restarts) }
+    ensures kept { result ≡ false → (restarts : ℕ) → reply.now ≢ Reply.Restarted restarts }
 {
     matches!(reply, Reply::Restarted(_))
 }
@@ -138,7 +146,7 @@ pub(crate) fn push_unless_restarted(
     replies: &mut Vec<Reply>,
     reply: Reply,
 ) -> Result<bool, AllocError>
-    ensures kept { OnOkThat result (replies.new.items ≡ replies.old.items ++ reply ∷ []) }
+    ensures kept { OnOkThat result ((replies.new.items ≡ replies.old.items ++ reply ∷ []) × ((restarts : ℕ) → reply ≢ Reply.Restarted restarts)) }
     ensures again { OnOkNot result ((replies.new.items ≡ replies.old.items) × (restarts : ℕ) × (reply ≡ Reply.Restarted restarts)) }
 {
     if is_restarted(&reply) {
@@ -168,36 +176,51 @@ impl<'a, B: BoardName, R: Wait, G: Gate> Worker<'a, B, R, G> {
         }
     }
 
-    /// HALT. Where it is refused the session goes on.
-    pub(crate) fn halt(&self, sessions: &mut Sessions<B>) -> Result<Reply, ServerFault>
+    // HALT of the session that is there. Where it is refused the session goes on.
+    fn halt(&self, sessions: &mut Sessions<B>) -> Result<Reply, ServerFault>
         ensures told { IfOk result (λ reply. (job : ℕ) → GoesOnBy job Command.Halt reply sessions.old sessions.new) }
         ensures over { IfOk result (λ reply. reply ≡ Reply.Finished → sessions.new.session ≡ None) }
     {
-        if sessions.open.is_none() {
-            return Ok(Reply::Finished);
-        }
         sessions.passes.reserve(1)?;
-        Ok(self.halt_reserved(&mut sessions.open, &mut sessions.passes))
+        self.halt_reserved(&mut sessions.open, &mut sessions.passes)
+    }
+
+    /// The HALT at the end of a job's lines, where a session is there.
+    pub(crate) fn stop(&self, sessions: &mut Sessions<B>) -> Result<(), ServerFault>
+        ensures { OnOk result ((job : ℕ) → HasStopped job sessions.old sessions.new) }
+    {
+        if sessions.open.is_none() {
+            return Ok(());
+        }
+        let reply = self.halt(sessions)?;
+        if is_finished(reply) {
+            return Ok(());
+        }
+        Err(ServerFault::Memory)
     }
 
     // The same, with room for the pass.
     #[tactic(auto, using(crate::proofs::GoingOn::halt_refused))]
-    fn halt_reserved(&self, session: &mut Option<Session<B>>, passes: &mut Vec<Pass<B>>) -> Reply
+    fn halt_reserved(
+        &self,
+        session: &mut Option<Session<B>>,
+        passes: &mut Vec<Pass<B>>,
+    ) -> Result<Reply, ServerFault>
         requires { length passes.old.items < vec_capacity passes.old }
-        ensures told { (job : ℕ) → GoesOnBy job Command.Halt result (sessions_so_far passes.old.items session.old) (sessions_so_far passes.new.items session.new) }
-        ensures over { result ≡ Reply.Finished → session.new ≡ None }
+        ensures told { IfOk result (λ reply. (job : ℕ) → GoesOnBy job Command.Halt reply (sessions_so_far passes.old.items session.old) (sessions_so_far passes.new.items session.new)) }
+        ensures over { IfOk result (λ reply. reply ≡ Reply.Finished → session.new ≡ None) }
     {
         let Some(begun) = session.take() else {
-            return Reply::Finished;
+            return Err(ServerFault::Missing);
         };
         match self.calls.engine.halt(self.calls.rt, begun) {
             Ok(pass) => {
                 passes.push_reserved(pass);
-                Reply::Finished
+                Ok(Reply::Finished)
             }
             Err((begun, refusal)) => {
                 *session = Some(begun);
-                Reply::Refused(refusal)
+                Ok(Reply::Refused(refusal))
             }
         }
     }
@@ -267,7 +290,7 @@ impl<'a, B: BoardName, R: Wait, G: Gate> Worker<'a, B, R, G> {
         asked: Result<Command, Refusal>,
     ) -> Result<Reply, ServerFault>
         requires { IsAsked job line.now asked }
-        ensures { IfOk result (λ reply. GoesOnAt job line.now reply sessions.old sessions.new) }
+        ensures { IfOk result (λ reply. MayGoOnAt job line.now asked reply sessions.old sessions.new) }
     {
         match asked {
             Ok(command) => self.reply_to(sessions, job, command, line),
@@ -284,7 +307,7 @@ impl<'a, B: BoardName, R: Wait, G: Gate> Worker<'a, B, R, G> {
         asked: Result<Command, Refusal>,
     ) -> Result<Reply, ServerFault>
         requires { IsAsked job line.text.now asked }
-        ensures { IfOk result (λ reply. GoesOnAt job line.entry.text.now reply sessions.old sessions.new) }
+        ensures { IfOk result (λ reply. MayGoOnAt job line.entry.text.now asked reply sessions.old sessions.new) }
     {
         let writes = writes_of(&asked);
         self.calls.gate.before(job, line.number);
@@ -298,7 +321,7 @@ impl<'a, B: BoardName, R: Wait, G: Gate> Worker<'a, B, R, G> {
         }
     }
 
-    /// Does a line, and takes its reply in.
+    /// Does a line that is no TCOMMIT, and takes its reply in.
     #[tactic(auto, using(crate::proofs::GoingOn::has_answered))]
     pub(crate) fn answer_line<'b>(
         &mut self,
@@ -307,7 +330,8 @@ impl<'a, B: BoardName, R: Wait, G: Gate> Worker<'a, B, R, G> {
         line: Line<'b>,
         asked: Result<Command, Refusal>,
     ) -> Result<(), ServerFault>
-        requires { IsAsked job line.text.now asked }
+        requires asks { IsAsked job line.text.now asked }
+        requires other { IsNoCommit asked }
         ensures { OnOk result (HasAnswered job line.entry run.old run.new) }
     {
         let reply = self.do_line(&mut run.sessions, job, line, asked)?;
@@ -324,7 +348,8 @@ impl<'a, B: BoardName, R: Wait, G: Gate> Worker<'a, B, R, G> {
         line: Line<'b>,
         asked: Result<Command, Refusal>,
     ) -> Result<Cursor<'b>, ServerFault>
-        requires { IsAsked job line.text.now asked }
+        requires asks { IsAsked job line.text.now asked }
+        requires other { IsNoCommit asked }
         ensures on { IfOk result (λ behind. Advances job line.entry behind run.old run.new) }
         ensures keeps { OnOk result (Keeps run.old run.new) }
     {

@@ -243,8 +243,8 @@ fn serve_on<B: BoardName + Batch + Send + Sync, R: Threads + Wait + Sync, G: Gat
     gate: &G,
 ) -> Result<Served, ServerFault>
     requires { map wanted scripts.items ≡ B.scripts }
-    ensures begins { IfOk result (λ served. (settings : List Setting) → loaded.items ≡ load_books settings → BeginsWith settings served.closed.core.units) }
-    ensures booked { IfOk result (λ served. (settings : List Setting) → loaded.items ≡ load_books settings → ∥ AreBooked settings (map wanted scripts.items) served.reports.items served.closed.core.units served.closed.sessions ∥₁) }
+    ensures begins { IfOk result (λ served. (ended : ℕ) (settings : List Setting) → loaded.items ≡ load_books ended settings → BeginsWith settings served.closed.core.units) }
+    ensures booked { IfOk result (λ served. (ended : ℕ) (settings : List Setting) → loaded.items ≡ load_books ended settings → ∥ AreBooked settings (map wanted scripts.items) served.reports.items served.closed.core.units served.closed.sessions ∥₁) }
 {
     let count = scripts.len();
     let gathered = share_out(rt, alloc, &engine, scripts, workers, gate)?;
@@ -315,12 +315,14 @@ fn load_and_serve<
 /// A script is one job's alone, and its lines are as many as it says. With no worker nothing is done, and each report is
 /// missing.
 ///
-/// A report's replies tell the units of its job's books, which are in the closed journal; a LOCK that no reply tells may stand
-/// among them: a first try of one that waited, or one of a try of a block that was overtaken.
+/// A report's replies tell the units of its job's books, which are in the closed journal; a LOCK that no reply tells may
+/// stand among them: a first try of one that waited, or one of a try of a block that was overtaken. Each book ends where a
+/// HALT was replied `ok`, the last one with the lines. No TCOMMIT is replied with a restart.
 ///
 /// After a fault no report is handed out: `Load` where the listing isn't loaded, as of `loading::load`, and no job was begun;
-/// `Memory` where memory was refused and no reply could say so, also where a worker couldn't be started, a session begun or
-/// its last HALT done; `Missing` where a report didn't come, or isn't one reply for each line of its script, or where a
+/// `Memory` where memory was refused and no reply could say so, also where a worker couldn't be started, a session begun
+/// or its last HALT done, or where a HALT or the end of a block was refused and the transaction that stayed open is
+/// overtaken at its TCOMMIT; `Missing` where a report didn't come, or isn't one reply for each line of its script, or where a
 /// session's pass didn't come.
 pub fn serve<R: Threads + Wait + Sync, L: LoadLog, G: Gate + Sync>(
     rt: &R,

@@ -1,7 +1,6 @@
 //! The lines of one job, and of one job after the other.
 ghost use Rattle.std.specs.Prelude.{◌≡◌, ◌∷◌, ℕ, List, [], None, Some, true, slice_get, IfOk, OnOk};
 ghost use Rattle.command.specs.declared.request.Command.{Command};
-ghost use Rattle.command.specs.declared.request.Reply.{Reply};
 ghost use Rattle.job_scripts.specs.Blocks.{Asks};
 ghost use Rattle.job_scripts.specs.Lines.{lines_of_script};
 ghost use Rattle.std.proofs.Props.{props};
@@ -118,13 +117,6 @@ fn ran_to_end<B: BoardName>(
     ran_of(alloc, script, replies, passes)
 }
 
-// Whether the last HALT was done.
-fn finished(reply: Reply) -> bool
-    ensures { result ≡ true → reply ≡ Reply.Finished }
-{
-    matches!(reply, Reply::Finished)
-}
-
 // The refusal of a line in a script without a job: its own, or `BadJob` where it can be read.
 #[tactic(auto, using(crate::proofs::Refusing::none_read, crate::proofs::Refusing::none_fault))]
 fn refusal_of(read: Result<(Job, Command), LineFault>) -> Refusal
@@ -237,6 +229,23 @@ impl<'a, B: BoardName, R: Wait, G: Gate> Worker<'a, B, R, G> {
         self.serve_block(run, job, line)
     }
 
+    // Does a TCOMMIT outside a block: of no transaction, or of one that stayed open behind its block, since a HALT or the
+    // end of the block was refused. Where that was overtaken its lines can't be done again.
+    fn serve_commit<'b>(
+        &mut self,
+        run: &mut JobRun<B>,
+        job: Job,
+        line: Line<'b>,
+    ) -> Result<Cursor<'b>, ServerFault>
+        requires { Asks line.text.now Command.Commit }
+        ensures { IfOk result (λ behind. Advances job line.entry behind run.old run.new) }
+    {
+        match self.try_commit(run, job, line)? {
+            Some(behind) => Ok(behind),
+            None => Err(ServerFault::Memory),
+        }
+    }
+
     // Does a command of a line, and perhaps those behind it.
     fn serve_command<'b>(
         &mut self,
@@ -250,6 +259,7 @@ impl<'a, B: BoardName, R: Wait, G: Gate> Worker<'a, B, R, G> {
     {
         match command {
             Command::Start => self.serve_start(run, job, line),
+            Command::Commit => self.serve_commit(run, job, line),
             Command::Access(first) => self.serve_access(run, job, first, line),
             command => self.pass_line(run, job, line, Ok(command)),
         }
@@ -293,11 +303,7 @@ impl<'a, B: BoardName, R: Wait, G: Gate> Worker<'a, B, R, G> {
         ensures { OnOk result (IsTold (Some job) lines.now run.new.replies run.new.sessions.books) }
     {
         self.serve_lines(run, job, lines)?;
-        let reply = self.halt(&mut run.sessions)?;
-        if finished(reply) {
-            return Ok(());
-        }
-        Err(ServerFault::Memory)
+        self.stop(&mut run.sessions)
     }
 
     // Runs the lines of a job.

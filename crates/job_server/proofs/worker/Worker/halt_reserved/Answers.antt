@@ -1,9 +1,6 @@
 use Rattle.std.proofs.Common.{sym, ◌∙◌}
-use Rattle.job_server.proofs.Ending.{none_halted, some_halted}
+use Rattle.job_server.proofs.Ending.{some_halted}
 use Rattle.job_server.proofs.worker.Worker.halt_reserved.Goals as goal
-
-pub returns-in_default-clause-told : goal.returns-in_default-clause-told
-returns-in_default-clause-told g c = λ job. none_halted job c.args.passes.now.items c.args.session.now c.take.new.self (cc) c.take.ensures.after
 
 pub returns-in-Ok-clause-told : goal.returns-in-Ok-clause-told
 returns-in-Ok-clause-told g c = λ job.
