@@ -7,6 +7,8 @@ pub use crossing::{engine_is_shared, session_is_sent};
 
 #[cfg(test)]
 mod beside;
+#[cfg(test)]
+mod blocks;
 mod crossing;
 #[cfg(test)]
 mod many;

@@ -3,7 +3,7 @@ ghost use Rattle.std.specs.Prelude.{◌≡◌};
 
 use journal::{Journal, Unit};
 use pin_board::{Blank, BoardName, SEATS};
-use session_acts::{data_of, is_replied, opened};
+use session_acts::{data_of, is_replied, opened, reply_to_line};
 use shared_engine::{Pass, Session, Shared};
 use std::alloc::{AllocError, Global};
 use std::marker::Brand;
@@ -130,21 +130,119 @@ fn four_threads_write_and_their_passes_close_the_engine(rt: HostRuntime) -> Resu
     Ok(())
 }
 
-// Sets a reference, begins a transaction, reads it back, and rolls back, many times. How often it wasn't as it should be;
-// a start that a horizon passed is tried again at the next turn.
+// How a reader's turn went.
+#[derive(Clone, Copy, PartialEq, Eq)]
+enum Outcome {
+    Right,
+    // A horizon passed the start as it was taken.
+    Again,
+    Wrong,
+}
+
+// Sets a reference alone.
+fn sets<B: BoardName, R: Wait>(
+    rt: &R,
+    alloc: Global,
+    engine: &Shared<B>,
+    session: &mut Session<B>,
+    name: &str,
+    value: u64,
+) -> bool {
+    match format!(in alloc; "1 SET ^{name}={value}") {
+        Ok(line) => lone(rt, alloc, engine, session, line.as_str()),
+        Err(AllocError) => false,
+    }
+}
+
+// Whether a $GET of the reference answers the value.
+fn reads<B: BoardName, R: Wait>(
+    rt: &R,
+    alloc: Global,
+    engine: &Shared<B>,
+    session: &mut Session<B>,
+    name: &str,
+    value: u64,
+) -> bool {
+    match (
+        format!(in alloc; "1 $GET(^{name})"),
+        format!(in alloc; "0 {value}\n"),
+    ) {
+        (Ok(line), Ok(want)) => {
+            is_replied(rt, alloc, engine, session, line.as_str(), want.as_str())
+        }
+        _ => false,
+    }
+}
+
+// Whether the reference that all set is answered alike twice, while the others go on.
+fn is_steady<B: BoardName, R: Wait>(
+    rt: &R,
+    alloc: Global,
+    engine: &Shared<B>,
+    session: &mut Session<B>,
+) -> bool {
+    let first = reply_to_line(rt, alloc, engine, session, "1 $GET(^R)");
+    thread::yield_now();
+    let second = reply_to_line(rt, alloc, engine, session, "1 $GET(^R)");
+    first.is_some() && first == second
+}
+
+// Whether a transaction that has begun sees what its session set alone, and the same of what all set as long as it is open.
+fn sees<B: BoardName, R: Wait>(
+    rt: &R,
+    alloc: Global,
+    engine: &Shared<B>,
+    session: &mut Session<B>,
+    own: &str,
+    value: u64,
+) -> bool {
+    let is_own = reads(rt, alloc, engine, session, own, value);
+    let is_steady = is_steady(rt, alloc, engine, session);
+    is_replied(rt, alloc, engine, session, "1 TROLLBACK", "0 ok\n") && is_own && is_steady
+}
+
+// One turn of a reader: it sets a reference of its own and one that all set, and looks at both in a transaction.
+fn turn<B: BoardName, R: Wait>(
+    rt: &R,
+    alloc: Global,
+    engine: &Shared<B>,
+    session: &mut Session<B>,
+    own: &str,
+    value: u64,
+) -> Outcome {
+    let are_set = sets(rt, alloc, engine, session, own, value)
+        && sets(rt, alloc, engine, session, "R", value);
+    if !are_set || session.tlevel() != 0 {
+        return Outcome::Wrong;
+    }
+    if engine.tstart(session).is_err() {
+        return Outcome::Again;
+    }
+    if sees(rt, alloc, engine, session, own, value) {
+        Outcome::Right
+    } else {
+        Outcome::Wrong
+    }
+}
+
+// Many turns. How many were wrong, and one more if no transaction ever began.
 fn turns<B: BoardName, R: Wait>(
     rt: &R,
     alloc: Global,
     engine: &Shared<B>,
     session: &mut Session<B>,
+    own: &str,
 ) -> u64 {
+    let mut right = 0u64;
     let mut wrong = 0u64;
-    for _ in 0..100 {
-        if !turn(rt, alloc, engine, session) {
-            wrong = wrong.wrapping_add(1);
+    for value in 0..10_000u64 {
+        match turn(rt, alloc, engine, session, own, value) {
+            Outcome::Right => right = right.wrapping_add(1),
+            Outcome::Again => {}
+            Outcome::Wrong => wrong = wrong.wrapping_add(1),
         }
     }
-    wrong
+    wrong.wrapping_add((right == 0) as u64)
 }
 
 fn reader<B: BoardName, R: Wait>(
@@ -154,38 +252,26 @@ fn reader<B: BoardName, R: Wait>(
     number: u64,
 ) -> Option<u64> {
     let mut session = opened(rt, alloc, engine, number)?;
-    Some(turns(rt, alloc, engine, &mut session))
+    match format!(in alloc; "R({number})") {
+        Ok(own) => Some(turns(rt, alloc, engine, &mut session, own.as_str())),
+        Err(AllocError) => None,
+    }
 }
 
-// One turn of a reader.
-fn turn<B: BoardName, R: Wait>(
-    rt: &R,
-    alloc: Global,
-    engine: &Shared<B>,
-    session: &mut Session<B>,
-) -> bool {
-    if !lone(rt, alloc, engine, session, "1 SET ^R=8") {
-        return false;
-    }
-    if session.tlevel() != 0 || engine.tstart(session).is_err() {
-        return true;
-    }
-    let is_read = is_replied(rt, alloc, engine, session, "1 $GET(^R)", "0 8\n");
-    is_replied(rt, alloc, engine, session, "1 TROLLBACK", "0 ok\n") && is_read
-}
-
-// The collector's turns.
-fn collector<B: BoardName, R: Wait>(rt: &R, engine: &Shared<B>) -> Option<u64> {
+// Turns of the collector, and a checkpoint after each hundred of them. How many were refused.
+fn tidier<B: BoardName, R: Wait>(rt: &R, engine: &Shared<B>) -> Option<u64> {
     let mut failed = 0u64;
-    for _ in 0..10_000 {
-        if engine.collect(rt, 1).is_err() {
+    for turn in 0..10_000u64 {
+        let is_collected = engine.collect(rt, 1).is_ok();
+        let is_moved = turn % 100 != 99 || engine.checkpoint(rt).is_ok();
+        if !(is_collected && is_moved) {
             failed = failed.wrapping_add(1);
         }
     }
     Some(failed)
 }
 
-// Four readers and a collector. How much was wrong.
+// Four readers, and one that collects and checkpoints. How much was wrong.
 fn four_and_one<B: BoardName + Send + Sync, R: Threads + Wait + Sync>(
     rt: &R,
     alloc: Global,
@@ -199,7 +285,7 @@ fn four_and_one<B: BoardName + Send + Sync, R: Threads + Wait + Sync>(
             if i < 4 {
                 reader(rt, alloc, engine, i as u64 + 2)
             } else {
-                collector(rt, engine)
+                tidier(rt, engine)
             }
         },
     )
@@ -211,8 +297,8 @@ fn four_and_one<B: BoardName + Send + Sync, R: Threads + Wait + Sync>(
     Some(wrong)
 }
 
-// A transaction is open while others write and a collector goes round. Whether it sees its start at the end, and how much
-// was wrong.
+// A transaction is open while others write, a collector goes round and checkpoints are made. Whether it sees its start
+// before and after, and how much was wrong.
 fn sees_its_start<B: BoardName + Send + Sync, R: Threads + Wait + Sync>(
     rt: &R,
     alloc: Global,
@@ -221,9 +307,10 @@ fn sees_its_start<B: BoardName + Send + Sync, R: Threads + Wait + Sync>(
 ) -> (bool, Option<u64>) {
     let is_set = is_replied(rt, alloc, engine, session, "1 SET ^R=1", "0 ok\n");
     let is_begun = is_replied(rt, alloc, engine, session, "1 TSTART", "0 level 1\n");
+    let is_first = is_replied(rt, alloc, engine, session, "1 $GET(^R)", "0 1\n");
     let wrong = four_and_one(rt, alloc, engine);
-    let is_read = is_replied(rt, alloc, engine, session, "1 $GET(^R)", "0 1\n");
-    (is_set && is_begun && is_read, wrong)
+    let is_last = is_replied(rt, alloc, engine, session, "1 $GET(^R)", "0 1\n");
+    (is_set && is_begun && is_first && is_last, wrong)
 }
 
 fn one_sees<B: BoardName + Send + Sync, R: Threads + Wait + Sync>(
