@@ -1,6 +1,7 @@
-//! Random scripts of jobs that run at the same time, each on a worker. It prints `alike` for a seed where a plain map that
-//! replays the closed journal gives every answer in it and the listing; where the journal's lines, run one after the other,
-//! leave the same listing; and where jobs whose globals are their own are answered as each of them is alone.
+//! Random scripts of jobs that run at the same time, each on a worker. It prints `alike` for a seed where a plain map and a
+//! plain lock table that replay the closed journal give every answer in it and the listing, and no lock is left; where the
+//! journal's lines, run one after the other, leave the same listing; and where jobs whose globals and lock names are their
+//! own are answered as each of them is alone.
 //!
 //! The words are the first seed, how many there are, how many jobs from 1 to 16, and how many lines a job has: 1 8 4 150
 //! where none are said.
@@ -22,8 +23,10 @@ use std::sync::Wait;
 use std::thread::Threads;
 use std::{env, io, thread};
 
+mod beyond;
 mod lines;
 mod plain;
+mod plain_locks;
 
 // What is run where no word says it: the first seed, how many, jobs, lines of each.
 const USUAL: [u64; 4] = [1, 8, 4, 150];
@@ -63,8 +66,10 @@ enum Outcome {
     Alike,
     AnotherAnswer,
     AnotherListing,
+    AnotherLock,
     AnotherReply,
     AnotherRun,
+    LocksAreLeft,
     NoMemory,
 }
 
@@ -74,8 +79,10 @@ impl Outcome {
             Outcome::Alike => "alike",
             Outcome::AnotherAnswer => "an answer isn't the plain map's",
             Outcome::AnotherListing => "the listing isn't the plain map's",
+            Outcome::AnotherLock => "a LOCK isn't the plain table's",
             Outcome::AnotherReply => "a job is answered otherwise than alone",
             Outcome::AnotherRun => "the journal's lines leave another listing",
+            Outcome::LocksAreLeft => "the plain table's locks are left at the end",
             Outcome::NoMemory => "no memory",
         }
     }
@@ -170,22 +177,19 @@ fn compared(alloc: Global, served: &Served, want: &[u8]) -> Result<Outcome, Outc
     Ok(Outcome::Alike)
 }
 
-// The listing of a plain map that does the journal, if it gives every answer in it.
-fn plain_listing(alloc: Global, served: &Served) -> Result<Option<Vec<u8>>, AllocError> {
+// The listing of a plain map that does the journal, if every answer in it is the map's or the plain lock table's.
+fn plain_listing(alloc: Global, served: &Served) -> Result<Vec<u8>, Outcome> {
     let mut plain = Plain::new(alloc);
-    if plain.replays(alloc, served.journal())? {
-        Ok(Some(plain.listing(alloc)?))
-    } else {
-        Ok(None)
+    match plain.replays(alloc, served.journal())? {
+        Outcome::Alike => Ok(plain.listing(alloc)?),
+        outcome => Err(outcome),
     }
 }
 
-// Whether the plain map gives every answer of the journal, and the listing, and the journal's lines give the listing too.
+// What a replay of the journal comes to.
 fn replayed(alloc: Global, served: &Served) -> Result<Outcome, Outcome> {
-    match plain_listing(alloc, served)? {
-        Some(want) => compared(alloc, served, &want),
-        None => Ok(Outcome::AnotherAnswer),
-    }
+    let want = plain_listing(alloc, served)?;
+    compared(alloc, served, &want)
 }
 
 // What a job's lines alone are answered, without the listing.

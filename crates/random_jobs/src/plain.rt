@@ -1,5 +1,8 @@
-//! A plain map from the bytes of keys to values: the model that a journal is replayed on. Each key of a node begins with
-//! those of the nodes above it.
+//! A plain map from the bytes of keys to values, and a plain lock table: the model that a journal is replayed on. The map's
+//! order is the order of references, and each key of a node begins with those of the nodes above it.
+use crate::Outcome;
+use crate::beyond::Search;
+use crate::plain_locks::PlainLocks;
 use command::{Answer, DataCommand, Look};
 use journal::{Exchange, Journal, Unit};
 use key_codec::{Key, decode};
@@ -7,16 +10,18 @@ use m_text::{write_key, write_literal};
 use std::alloc::{AllocError, Global};
 use std::collections::BTreeMap;
 
-/// The map.
+/// The map, and the locks.
 #[derive(Drop)]
 pub struct Plain {
     nodes: BTreeMap<Vec<u8>, Vec<u8>>,
+    locks: PlainLocks,
 }
 
 impl Plain {
     pub fn new(alloc: Global) -> Plain {
         Plain {
             nodes: BTreeMap::new(alloc),
+            locks: PlainLocks::new(alloc),
         }
     }
 
@@ -74,14 +79,68 @@ impl Plain {
         Ok(data)
     }
 
-    fn is_value(&self, key: &[u8], answer: &Answer) -> bool {
-        let value = match self.nodes.get(key) {
-            Some(value) => value.as_slice(),
-            None => b"",
-        };
+    // What $GET answers.
+    fn get(&self, key: &[u8], default: &[u8], answer: &Answer) -> bool {
+        match self.nodes.get(key) {
+            Some(value) => is_value(answer, value.as_slice()),
+            None => is_value(answer, default),
+        }
+    }
+
+    // The key that is looked for, or nothing where there is none.
+    fn nearest(&self, alloc: Global, search: &Search) -> Result<Vec<u8>, AllocError> {
+        let mut nearest = Vec::new(alloc);
+        for (key, _) in &self.nodes {
+            if search.meets(key) && (nearest.is_empty() || !search.is_forward()) {
+                nearest.clear();
+                nearest.extend_from_slice(key)?;
+            }
+        }
+        Ok(nearest)
+    }
+
+    // Whether $ORDER answers so: the nearest key's subscript at the level of the place's last one.
+    fn is_order(
+        &self,
+        alloc: Global,
+        search: &Search,
+        answer: &Answer,
+    ) -> Result<bool, AllocError> {
+        let nearest = self.nearest(alloc, search)?;
+        is_subscript(alloc, &nearest, search.level(), answer)
+    }
+
+    // Whether $QUERY answers so.
+    fn is_query(
+        &self,
+        alloc: Global,
+        search: &Search,
+        answer: &Answer,
+    ) -> Result<bool, AllocError> {
+        let nearest = self.nearest(alloc, search)?;
         match answer {
-            Answer::Value(answer) => answer.as_slice() == value,
-            _ => false,
+            Answer::Found(key) => Ok(key.as_slice() == nearest.as_slice()),
+            _ => Ok(nearest.is_empty() && is_value(answer, b"")),
+        }
+    }
+
+    // Whether a command that only looks is answered so.
+    fn is_look(&self, alloc: Global, look: &Look, answer: &Answer) -> Result<bool, AllocError> {
+        match look {
+            Look::Get(key, None) => Ok(self.get(key.as_slice(), b"", answer)),
+            Look::Get(key, Some(default)) => {
+                Ok(self.get(key.as_slice(), default.as_slice(), answer))
+            }
+            Look::Data(key) => {
+                let data = self.data(alloc, key.as_slice())?;
+                Ok(*answer == Answer::Number(data))
+            }
+            Look::Order(place, direction) => {
+                self.is_order(alloc, &Search::order(place, *direction), answer)
+            }
+            Look::Query(place, direction) => {
+                self.is_query(alloc, &Search::query(place, *direction), answer)
+            }
         }
     }
 
@@ -96,13 +155,7 @@ impl Plain {
             DataCommand::Set(key, value) => self.set(alloc, key.as_slice(), value.as_slice())?,
             DataCommand::Kill(key) => self.kill(alloc, key.as_slice())?,
             DataCommand::Merge(to, from) => self.merge(alloc, to.as_slice(), from.as_slice())?,
-            DataCommand::Look(Look::Get(key, None)) => {
-                return Ok(self.is_value(key.as_slice(), answer));
-            }
-            DataCommand::Look(Look::Data(key)) => {
-                return Ok(*answer == Answer::Number(self.data(alloc, key.as_slice())?));
-            }
-            DataCommand::Look(_) => return Ok(false),
+            DataCommand::Look(look) => return self.is_look(alloc, look, answer),
         }
         Ok(*answer == Answer::Done)
     }
@@ -116,12 +169,30 @@ impl Plain {
         Ok(true)
     }
 
-    // Does a unit. Whether each answer in it is the map's at its place.
-    fn does_unit(&mut self, alloc: Global, unit: &Unit) -> Result<bool, AllocError> {
+    // Does a unit. Whether each answer in it is the map's at its place, or the table's.
+    fn does_unit(&mut self, alloc: Global, unit: &Unit) -> Result<Outcome, AllocError> {
         match unit {
-            Unit::Lone(_, command, answer) => self.does(alloc, command, answer),
-            Unit::Whole(_, exchanges) => self.does_all(alloc, exchanges.as_slice()),
-            Unit::Lock(_, _, _, _) | Unit::Back(_) | Unit::End(_) => Ok(true),
+            Unit::Lone(_, command, answer) => {
+                let is_alike = self.does(alloc, command, answer)?;
+                Ok(alike_or(Outcome::AnotherAnswer, is_alike))
+            }
+            Unit::Whole(job, exchanges) => {
+                self.locks.commit(*job);
+                let is_alike = self.does_all(alloc, exchanges.as_slice())?;
+                Ok(alike_or(Outcome::AnotherAnswer, is_alike))
+            }
+            Unit::Lock(job, is_inside, command, is_had) => {
+                let is_free = self.locks.lock(alloc, *job, *is_inside, command)?;
+                Ok(alike_or(Outcome::AnotherLock, is_free == *is_had))
+            }
+            Unit::Back(job) => {
+                self.locks.go_back(*job);
+                Ok(Outcome::Alike)
+            }
+            Unit::End(job) => {
+                self.locks.end(*job);
+                Ok(Outcome::Alike)
+            }
         }
     }
 
@@ -130,21 +201,23 @@ impl Plain {
         &mut self,
         alloc: Global,
         read: Result<Unit, AllocError>,
-    ) -> Result<bool, AllocError> {
+    ) -> Result<Outcome, AllocError> {
         match read {
             Ok(unit) => self.does_unit(alloc, &unit),
             Err(error) => Err(error),
         }
     }
 
-    /// Does the units of a journal. Whether each answer in it is the map's at its place.
-    pub fn replays(&mut self, alloc: Global, journal: &Journal) -> Result<bool, AllocError> {
+    /// Does the units of a journal. Whether each answer in it is the map's at its place, or the table's, and in the end no job
+    /// has locks.
+    pub fn replays(&mut self, alloc: Global, journal: &Journal) -> Result<Outcome, AllocError> {
         for unit in journal.units() {
-            if !self.does_read(alloc, unit)? {
-                return Ok(false);
+            let outcome = self.does_read(alloc, unit)?;
+            if outcome != Outcome::Alike {
+                return Ok(outcome);
             }
         }
-        Ok(true)
+        Ok(alike_or(Outcome::LocksAreLeft, self.locks.is_empty()))
     }
 
     /// A line for each node, in order.
@@ -154,6 +227,36 @@ impl Plain {
             push_node(alloc, key, value, &mut text)?;
         }
         Ok(text)
+    }
+}
+
+// Alike, or the other outcome.
+fn alike_or(other: Outcome, is_alike: bool) -> Outcome {
+    if is_alike { Outcome::Alike } else { other }
+}
+
+// Whether these bytes are the answer.
+fn is_value(answer: &Answer, value: &[u8]) -> bool {
+    match answer {
+        Answer::Value(text) => text.as_slice() == value,
+        _ => false,
+    }
+}
+
+// Whether the answer is the key's subscript after so many, or empty where there is no key.
+fn is_subscript(
+    alloc: Global,
+    key: &[u8],
+    before: usize,
+    answer: &Answer,
+) -> Result<bool, AllocError> {
+    match decode(alloc, key) {
+        Ok(Some(reference)) => match reference.subscripts().get(before) {
+            Some(subscript) => Ok(is_value(answer, subscript.as_slice())),
+            None => Ok(false),
+        },
+        Ok(None) => Ok(key.is_empty() && is_value(answer, b"")),
+        Err(_) => Err(AllocError),
     }
 }
 
