@@ -10,7 +10,7 @@
  *
  * Texts go by pointer and length, and may hold bytes 0; a text that is put into a buffer has no byte 0 at its end.
  * NULL may be given for an engine (VG_NO_ENGINE is returned), for a text or buffer of length 0, and for a length or
- * number that the caller doesn't need. */
+ * number that the caller doesn't need. Where a call has more than one fault, any of them may be returned. */
 #ifndef VORGUSHAN_H
 #define VORGUSHAN_H
 
@@ -48,7 +48,7 @@ enum {
     VG_NO_ENGINE = 32,        /* none was made, or it was ended */
     VG_ENGINE_THERE = 33,     /* one is there already */
     VG_BUFFER_TOO_SHORT = 34, /* the length that is needed is given; what the buffer was to hold is kept */
-    VG_REPLY_KEPT = 35,       /* the line or step is done; no memory for its reply's text or key: vg_reply copies it */
+    VG_REPLY_KEPT = 35,       /* the line or step was run; no memory for its reply's text or key: vg_reply copies it */
     VG_NO_REPLY = 36,         /* no line was run yet */
     VG_AT_END = 37,           /* no node is left, to list, for vg_query or for vg_walk */
     VG_UNKNOWN_NUMBER = 38,   /* no outcome has that number */
@@ -153,8 +153,9 @@ static inline vg_outcome vg_end(vg_engine *engine) {
  * "1 ok\n".
  *
  * The outcome is the reply's: VG_DONE, VG_RESTARTED, or its refusal. Where the reply is longer than the buffer it is
- * VG_BUFFER_TOO_SHORT: the line is done, nothing is copied, reply_length is the length that is needed, and vg_reply
- * copies the reply. */
+ * VG_BUFFER_TOO_SHORT, or VG_REPLY_KEPT where memory is refused for its text: the line was run, and may have been
+ * refused or have restarted its transaction; nothing is copied, reply_length is the length that is needed, and vg_reply
+ * copies the reply and returns its own outcome. The buffer may not overlap the line. */
 static inline vg_outcome vg_line(vg_engine *engine, const char *line, size_t line_length, char *reply,
                                  size_t reply_size, size_t *reply_length) {
     char nothing = 0;
@@ -168,7 +169,8 @@ static inline vg_outcome vg_line(vg_engine *engine, const char *line, size_t lin
     return outcome;
 }
 
-/* Copies the last line's reply, as often as it is called. VG_NO_REPLY before the first line. */
+/* Copies the reply to the last line, or to the last step of a typed call, as often as it is called, and returns that
+ * reply's outcome; VG_BUFFER_TOO_SHORT, VG_REPLY_KEPT as vg_line. VG_NO_REPLY before the first line or step. */
 static inline vg_outcome vg_reply(vg_engine *engine, char *reply, size_t reply_size, size_t *reply_length) {
     char nothing = 0;
     size_t length = 0;
@@ -198,7 +200,8 @@ static inline vg_outcome vg_list_next(vg_engine *engine, char *node, size_t node
     return outcome;
 }
 
-/* Lets the collector look at so many nodes, from where it stopped. No reply and no listing depends on it. */
+/* Lets the collector look at so many nodes, from where it stopped. No reply and no listing depends on it.
+ * VG_OUT_OF_MEMORY, and then nothing has changed. */
 static inline vg_outcome vg_collect(vg_engine *engine, size_t nodes) {
     return engine ? vorgushan_collect(engine, nodes) : (vg_outcome)VG_NO_ENGINE;
 }
@@ -258,7 +261,7 @@ static inline vg_outcome vg_key_spell(vg_key *key, const char *name, size_t name
     return vorgushan_key_spell(key, &key->draft, name ? name : &nothing, name ? name_length : 0, given, count);
 }
 
-/* Ends a key and gives its memory back. */
+/* Ends a key and gives its memory back. VG_NO_KEY where none was made. */
 static inline vg_outcome vg_key_end(vg_key *key) {
     if (!key)
         return VG_NO_KEY;
@@ -266,8 +269,8 @@ static inline vg_outcome vg_key_end(vg_key *key) {
     return vorgushan_key_end(key);
 }
 
-/* SET of a key's reference by a job from 1 to 4,096. The value's bytes are copied. VG_BAD_JOB, VG_VALUE_TOO_LONG
- * over 32,767 bytes, and the refusals of SET. */
+/* SET of a key's reference by a job from 1 to 4,096. The value's bytes are copied as they are: 1.50 stays 1.50, where a
+ * line's bare 1.50 is 1.5. VG_BAD_JOB, VG_VALUE_TOO_LONG over 32,767 bytes, and the refusals of SET. */
 static inline vg_outcome vg_set(vg_engine *engine, uint64_t job, vg_key *key, const char *value, size_t value_length) {
     char nothing = 0;
     if (!engine)
@@ -283,8 +286,9 @@ static inline vg_outcome vg_kill(vg_engine *engine, uint64_t job, vg_key *key) {
     return key ? vorgushan_kill(engine, job, key) : (vg_outcome)VG_NO_KEY;
 }
 
-/* $GET of a key's reference: the value's own bytes, none where it has none. After VG_BUFFER_TOO_SHORT vg_reply
- * copies it as the reply of a line. */
+/* $GET of a key's reference: the value's own bytes, none where it has none; an empty value is answered alike (vg_data and
+ * vg_look tell them apart). After VG_BUFFER_TOO_SHORT vg_reply copies it as the reply of a line, a literal; vg_get once
+ * more, which is one more command, copies its bytes. */
 static inline vg_outcome vg_get(vg_engine *engine, uint64_t job, vg_key *key, char *value, size_t value_size,
                                 size_t *value_length) {
     char nothing = 0;
@@ -321,7 +325,8 @@ static inline vg_outcome vg_data(vg_engine *engine, uint64_t job, vg_key *key, u
 
 /* $ORDER one level below a key: copies the subscript that comes next to `start`, which need not be there; the length
  * is 0 after the last. An empty start asks for the first, backward for the last. `start` and `subscript` may be the
- * same bytes. VG_SUBSCRIPT_TOO_LONG over 255 bytes, VG_TOO_MANY_SUBSCRIPTS below a key with 31. */
+ * same bytes. VG_SUBSCRIPT_TOO_LONG over 255 bytes, VG_TOO_MANY_SUBSCRIPTS below a key with 31; VG_BUFFER_TOO_SHORT as
+ * vg_get. */
 static inline vg_outcome vg_order(vg_engine *engine, uint64_t job, vg_key *key, const char *start, size_t start_length,
                                   uint32_t direction, char *subscript, size_t subscript_size,
                                   size_t *subscript_length) {
@@ -355,7 +360,7 @@ static inline vg_outcome vg_query(vg_engine *engine, uint64_t job, vg_key *key, 
 
 /* Copies the value that a key's reference has in the database as it is now, without a command of a job: the journal
  * gets no unit, vg_reply copies what it did before, and what a transaction does shows once it is committed.
- * VG_NO_VALUE. */
+ * VG_NO_VALUE, VG_BUFFER_TOO_SHORT. */
 static inline vg_outcome vg_look(vg_engine *engine, vg_key *key, char *value, size_t value_size, size_t *value_length) {
     char nothing = 0;
     size_t length = 0;

@@ -70,7 +70,7 @@ pub extern "C" fn vorgushan_line(
     reply: &mut [u8],
     wanted: &mut usize,
 ) -> u32
-    ensures { IsCalled engine.old.inside engine.new.inside result (reply.new ≡ reply.old)
+    ensures { IsCalled engine.old.inside engine.new.inside result ((reply.new ≡ reply.old) × (wanted.new ≡ wanted.old))
         (λ before after outcome. IsLineCall line.now before after outcome reply.old reply.new wanted.new) }
 {
     let Some(mut there) = engine.take(alloc) else {
@@ -91,7 +91,7 @@ pub extern "C" fn vorgushan_reply(
     reply: &mut [u8],
     wanted: &mut usize,
 ) -> u32
-    ensures { IsCalled engine.old.inside engine.new.inside result (reply.new ≡ reply.old)
+    ensures { IsCalled engine.old.inside engine.new.inside result ((reply.new ≡ reply.old) × (wanted.new ≡ wanted.old))
         (λ before after outcome. IsReplyCall before after outcome reply.old reply.new wanted.new) }
 {
     let Some(mut there) = engine.take(alloc) else {
@@ -126,7 +126,7 @@ pub extern "C" fn vorgushan_list_next(
     node: &mut [u8],
     wanted: &mut usize,
 ) -> u32
-    ensures { IsCalled engine.old.inside engine.new.inside result (node.new ≡ node.old)
+    ensures { IsCalled engine.old.inside engine.new.inside result ((node.new ≡ node.old) × (wanted.new ≡ wanted.old))
         (λ before after outcome. IsListCall before after outcome node.old node.new wanted.new) }
 {
     let Some(mut there) = engine.take(alloc) else {

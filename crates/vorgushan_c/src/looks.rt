@@ -22,7 +22,7 @@ pub extern "C" fn vorgushan_look(
     value: &mut [u8],
     wanted: &mut usize,
 ) -> u32
-    ensures called { IsKeyCalled engine.old.inside engine.new.inside key.old.inside result (value.new ≡ value.old) (λ reference before after outcome.
+    ensures called { IsKeyCalled engine.old.inside engine.new.inside key.old.inside result ((value.new ≡ value.old) × (wanted.new ≡ wanted.old)) (λ reference before after outcome.
         (after ≡ before) × IsLook (database before) reference outcome value.old value.new wanted.new) }
     ensures key { key.new.inside ≡ key.old.inside }
 {
@@ -53,7 +53,7 @@ pub extern "C" fn vorgushan_walk(
     nodes: &mut [u8],
     wanted: &mut usize,
 ) -> u32
-    ensures called { IsCalled engine.old.inside engine.new.inside result ((nodes.new ≡ nodes.old) × (place.new.inside ≡ place.old.inside)) (λ before after outcome.
+    ensures called { IsCalled engine.old.inside engine.new.inside result ((nodes.new ≡ nodes.old) × (wanted.new ≡ wanted.old) × (place.new.inside ≡ place.old.inside)) (λ before after outcome.
         IsWalkCall root.old.inside place.old.inside place.new.inside before after outcome nodes.old nodes.new wanted.new) }
     ensures root { root.new.inside ≡ root.old.inside }
 {

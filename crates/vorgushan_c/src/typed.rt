@@ -80,7 +80,7 @@ pub extern "C" fn vorgushan_get(
     value: &mut [u8],
     wanted: &mut usize,
 ) -> u32
-    ensures called { IsKeyCalled engine.old.inside engine.new.inside key.old.inside result (value.new ≡ value.old) (λ reference before after outcome.
+    ensures called { IsKeyCalled engine.old.inside engine.new.inside key.old.inside result ((value.new ≡ value.old) × (wanted.new ≡ wanted.old)) (λ reference before after outcome.
         IsValueCall (λ refusal. IsCauseBefore IsMemory job refusal) job (get_command reference) before after outcome value.old value.new wanted.new) }
     ensures key { key.new.inside ≡ key.old.inside }
 {
@@ -186,7 +186,7 @@ pub extern "C" fn vorgushan_order(
     subscript: &mut [u8],
     wanted: &mut usize,
 ) -> u32
-    ensures called { IsKeyCalled engine.old.inside engine.new.inside key.old.inside result (subscript.new ≡ subscript.old) (λ reference before after outcome.
+    ensures called { IsKeyCalled engine.old.inside engine.new.inside key.old.inside result ((subscript.new ≡ subscript.old) × (wanted.new ≡ wanted.old)) (λ reference before after outcome.
         IsValueCall (λ refusal. IsCauseBefore (IsPlaceCause reference start.now) job refusal) job (order_command reference start.now (spec.direction_of backward)) before after outcome subscript.old subscript.new wanted.new) }
     ensures key { key.new.inside ≡ key.old.inside }
 {
