@@ -356,7 +356,8 @@ static inline vg_outcome vg_order(vg_engine *engine, uint64_t job, vg_key *key, 
 
 /* $QUERY: moves a key to the nearest node with a value in its name, from VG_AT_KEY, or from VG_BELOW_KEY, which
  * backward is after all under the key. VG_AT_END where no node is left, VG_REPLY_KEPT where memory is refused for a
- * long key: then, and after a refusal, the key is as it was. vg_reply copies the reference as the reply of a line. */
+ * long key: after these, as after a refusal, the key is as it was. vg_reply copies the reference as the reply of a
+ * line. */
 static inline vg_outcome vg_query(vg_engine *engine, uint64_t job, vg_key *key, uint32_t from, uint32_t direction) {
     if (!engine)
         return VG_NO_ENGINE;
