@@ -66,7 +66,7 @@ M systems write them in ZWR form. They are read before the first job; if one can
 listing. FILE is emptied before the script is read, so it must not be the script.
 
 Exit status: 0, all replies are accepted; 1, a reply is an `error`; 2, input can't be read, output or the journal
-can't be written, memory ran out, a listing can't be loaded, a report is missing, or the words of the command are wrong.";
+can't be written, memory ran out, a listing can't be loaded, a report is missing, or an option or its value is wrong.";
 
 /// What the arguments of `mjobs` ask for.
 #[derive(Clone, Copy, Debug, PartialEq, Eq)]

@@ -43,7 +43,7 @@ what is held: nodes, the bytes of their keys and values, versions, and the units
 dropped and the bytes that the others take.
 
 Exit status: 0, all replies are accepted; 1, a reply is an `error`; 2, input can't be read, output or the journal
-can't be written, memory ran out, a listing can't be loaded, or the words of the command are wrong.";
+can't be written, memory ran out, a listing can't be loaded, or an option or its value is wrong.";
 
 /// What the arguments of `mrun` ask for.
 #[derive(Clone, Copy, Debug, PartialEq, Eq)]
