@@ -4,13 +4,14 @@
  * An engine does the commands of up to 4,096 jobs, one call at a time. Callers on several threads hold a mutex of
  * their own round each call; two engines have nothing in common.
  *
- * Every call returns an outcome: VG_DONE, a refusal (1 to 18), or one of the library's own (from 32). After a
- * refusal the database is as it was. A call of a job, whose number is 1 to 4,096, may return VG_BAD_JOB,
- * VG_OUT_OF_MEMORY and any refusal of its command, also where none is named below.
+ * Every call returns an outcome: VG_DONE, a refusal (1 to 15; 16 to 18 come from no call here), or one of the library's
+ * own (from 32). After a refusal the database is as it was. A call of a job, whose number is 1 to 4,096, may return
+ * VG_BAD_JOB, VG_OUT_OF_MEMORY and any refusal of its command, also where none is named below.
  *
  * Texts go by pointer and length, and may hold bytes 0; a text that is put into a buffer has no byte 0 at its end.
- * NULL may be given for an engine (VG_NO_ENGINE is returned), for a text or buffer of length 0, and for a length or
- * number that the caller doesn't need. Where a call has more than one fault, any of them may be returned. */
+ * NULL may be given for an engine (VG_NO_ENGINE is returned), for a key (VG_NO_KEY), for a text or buffer of length 0,
+ * and for a length or number that the caller doesn't need. Where a call has more than one fault, any of them may be
+ * returned. */
 #ifndef VORGUSHAN_H
 #define VORGUSHAN_H
 
@@ -47,7 +48,7 @@ enum {
     VG_AHEAD = 18,
     VG_NO_ENGINE = 32,        /* none was made, or it was ended */
     VG_ENGINE_THERE = 33,     /* one is there already */
-    VG_BUFFER_TOO_SHORT = 34, /* the length that is needed is given; what the buffer was to hold is kept */
+    VG_BUFFER_TOO_SHORT = 34, /* the length that is needed is given, nothing is copied; a reply is kept for vg_reply */
     VG_REPLY_KEPT = 35,       /* the line or step was run; no memory for its reply's text or key: vg_reply copies it */
     VG_NO_REPLY = 36,         /* no line was run yet */
     VG_AT_END = 37,           /* no node is left, to list, for vg_query or for vg_walk */
@@ -63,8 +64,9 @@ enum { VG_FORWARD = 0, VG_BACKWARD = 1 };
 /* Where vg_query starts: at the key, or at an empty subscript below it, as in ^A(1,""). */
 enum { VG_AT_KEY = 0, VG_BELOW_KEY = 1 };
 
-/* An engine. Set it to VG_ENGINE_NONE before the first call, and leave what is in it alone. It may be moved
- * between calls; of two copies only one may be used. */
+/* An engine. Begin it with VG_ENGINE_NONE, an initializer (memory set to zero is the same), before the first call, make
+ * it by vg_new, end it by vg_end, and leave what is in it alone. It may be moved between calls; of two copies only one
+ * may be used. */
 typedef struct vg_engine {
     void *own;
 } vg_engine;
@@ -77,7 +79,8 @@ typedef struct vg_draft {
 } vg_draft;
 
 /* A reference: a name and subscripts, used in any number of calls, on any engine, and made again in place. As with an
- * engine: set it to VG_KEY_NONE before the first call, and of two copies only one may be used. */
+ * engine: begin it with VG_KEY_NONE, and of two copies only one may be used. Each key, also the place of a vg_walk, is
+ * ended by vg_key_end; vg_end ends none. */
 typedef struct vg_key {
     void *own;
     vg_draft draft;
@@ -167,8 +170,8 @@ static inline vg_outcome vg_end(vg_engine *engine) {
  *
  * The outcome is the reply's: VG_DONE, VG_RESTARTED, or its refusal. Where the reply is longer than the buffer it is
  * VG_BUFFER_TOO_SHORT, or VG_REPLY_KEPT where memory is refused for its text: the line was run, and may have been
- * refused or have restarted its transaction; nothing is copied, reply_length is the length that is needed, and vg_reply
- * copies the reply and returns its own outcome. The buffer may not overlap the line. */
+ * refused or have restarted its transaction. Then nothing is copied, reply_length is the length that is needed (0 with
+ * VG_REPLY_KEPT), and vg_reply copies the reply and returns its own outcome. The buffer may not overlap the line. */
 static inline vg_outcome vg_line(vg_engine *engine, const char *line, size_t line_length, char *reply,
                                  size_t reply_size, size_t *reply_length) {
     char nothing = 0;
@@ -200,8 +203,9 @@ static inline vg_outcome vg_list_from_start(vg_engine *engine) {
     return engine ? vorgushan_list_from_start(engine) : (vg_outcome)VG_NO_ENGINE;
 }
 
-/* Copies the line of the node after the one that was listed last, in the database as it is now, with a byte 10 at
- * its end. VG_AT_END after the last. After VG_BUFFER_TOO_SHORT or VG_OUT_OF_MEMORY the node is still the next. */
+/* Copies the line of the node after the one that was listed last (at first of the first node), in the database as it is
+ * now, with a byte 10 at its end. VG_AT_END after the last. After VG_BUFFER_TOO_SHORT or VG_OUT_OF_MEMORY the node is
+ * still the next. */
 static inline vg_outcome vg_list_next(vg_engine *engine, char *node, size_t node_size, size_t *node_length) {
     char nothing = 0;
     size_t length = 0;
@@ -213,15 +217,15 @@ static inline vg_outcome vg_list_next(vg_engine *engine, char *node, size_t node
     return outcome;
 }
 
-/* Lets the collector look at so many nodes, from where it stopped. No reply and no listing depends on it.
- * VG_OUT_OF_MEMORY, and then nothing has changed. */
+/* Lets the collector, which drops old versions of values, look at this number of nodes, from where it stopped. No reply
+ * and no listing depends on it. VG_OUT_OF_MEMORY, and then nothing has changed. */
 static inline vg_outcome vg_collect(vg_engine *engine, size_t nodes) {
     return engine ? vorgushan_collect(engine, nodes) : (vg_outcome)VG_NO_ENGINE;
 }
 
-/* Lets the journal drop what it has of commands before the start of the first transaction that is open, or of all where
- * none is open: what they leave is kept in their place. No reply and no listing depends on it. VG_OUT_OF_MEMORY, and then
- * nothing has changed. */
+/* Lets the journal, which keeps each command, drop those before the start of the oldest open transaction, or all where
+ * none is open: what they leave is kept in their place. No reply and no listing depends on it. VG_OUT_OF_MEMORY, and
+ * then nothing has changed. */
 static inline vg_outcome vg_checkpoint(vg_engine *engine) {
     return engine ? vorgushan_checkpoint(engine) : (vg_outcome)VG_NO_ENGINE;
 }
@@ -239,8 +243,9 @@ static inline vg_outcome vg_key_name(vg_key *key, const char *name, size_t name_
     return key ? vorgushan_key_name(key, name ? name : &nothing, name ? name_length : 0) : (vg_outcome)VG_NO_KEY;
 }
 
-/* Adds one subscript at the end of a key: its bytes, a number in canonic form. VG_TOO_MANY_SUBSCRIPTS over 31,
- * VG_EMPTY_SUBSCRIPT, VG_SUBSCRIPT_TOO_LONG over 255 bytes, VG_OUT_OF_MEMORY: then the key is as it was. */
+/* Adds one subscript at the end of a key, its bytes as they are: 1.5 is a number; 1.50, which a line would read as 1.5,
+ * is a string. VG_TOO_MANY_SUBSCRIPTS over 31, VG_EMPTY_SUBSCRIPT, VG_SUBSCRIPT_TOO_LONG over 255 bytes,
+ * VG_OUT_OF_MEMORY: then the key is as it was. */
 static inline vg_outcome vg_key_subscript(vg_key *key, const char *subscript, size_t subscript_length) {
     char nothing = 0;
     return key ? vorgushan_key_subscript(key, subscript ? subscript : &nothing, subscript ? subscript_length : 0)
@@ -299,9 +304,9 @@ static inline vg_outcome vg_kill(vg_engine *engine, uint64_t job, vg_key *key) {
     return key ? vorgushan_kill(engine, job, key) : (vg_outcome)VG_NO_KEY;
 }
 
-/* $GET of a key's reference: the value's own bytes, none where it has none; an empty value is answered alike (vg_data and
- * vg_look tell them apart). After VG_BUFFER_TOO_SHORT vg_reply copies it as the reply of a line, a literal; vg_get once
- * more, which is one more command, copies its bytes. */
+/* $GET of a key's reference: the value's own bytes, at most 32,767; none where it has no value, and VG_DONE too. An
+ * empty value is answered alike (vg_data and vg_look tell them apart). After VG_BUFFER_TOO_SHORT vg_reply copies it as
+ * the reply of a line, a literal; vg_get once more, which is one more command, copies its bytes. */
 static inline vg_outcome vg_get(vg_engine *engine, uint64_t job, vg_key *key, char *value, size_t value_size,
                                 size_t *value_length) {
     char nothing = 0;
@@ -336,10 +341,10 @@ static inline vg_outcome vg_data(vg_engine *engine, uint64_t job, vg_key *key, u
     return outcome;
 }
 
-/* $ORDER one level below a key: copies the subscript that comes next to `start`, which need not be there; the length
- * is 0 after the last. An empty start asks for the first, backward for the last. `start` and `subscript` may be the
- * same bytes. VG_SUBSCRIPT_TOO_LONG over 255 bytes, VG_TOO_MANY_SUBSCRIPTS below a key with 31; VG_BUFFER_TOO_SHORT as
- * vg_get. */
+/* $ORDER one level below a key: copies the subscript that comes next after `start` (before it, where direction is
+ * VG_BACKWARD), which need not be there: at most 255 bytes, and none, with VG_DONE, where no other follows. An empty
+ * start asks for the first, backward for the last. `start` and `subscript` may be the same bytes.
+ * VG_SUBSCRIPT_TOO_LONG over 255 bytes, VG_TOO_MANY_SUBSCRIPTS below a key with 31; VG_BUFFER_TOO_SHORT as vg_get. */
 static inline vg_outcome vg_order(vg_engine *engine, uint64_t job, vg_key *key, const char *start, size_t start_length,
                                   uint32_t direction, char *subscript, size_t subscript_size,
                                   size_t *subscript_length) {
@@ -364,7 +369,8 @@ static inline vg_outcome vg_order(vg_engine *engine, uint64_t job, vg_key *key, 
 
 /* $QUERY: moves a key to the nearest node with a value in its name, from VG_AT_KEY, or from VG_BELOW_KEY, which
  * backward is after all under the key. VG_AT_END where no node is left, VG_REPLY_KEPT where memory is refused for a
- * long key: then, and after a refusal, the key is as it was. vg_reply copies the reference as the reply of a line. */
+ * long key: after these, as after a refusal, the key is as it was. vg_reply copies the reference as the reply of a
+ * line. */
 static inline vg_outcome vg_query(vg_engine *engine, uint64_t job, vg_key *key, uint32_t from, uint32_t direction) {
     if (!engine)
         return VG_NO_ENGINE;
@@ -391,8 +397,8 @@ static inline vg_outcome vg_look(vg_engine *engine, vg_key *key, char *value, si
  * else those after it; `place` then becomes the key of the last of them. vg_node_next reads them.
  *
  * VG_AT_END where no node is left. VG_BUFFER_TOO_SHORT where the next alone is longer than the buffer: nodes_length is
- * the length that is needed. VG_OUT_OF_MEMORY. Then nothing is copied, and `place` is as it was. VG_NO_KEY where it is
- * NULL or the same as `root`. */
+ * the length that is needed, at most 48,687. VG_OUT_OF_MEMORY. Then nothing is copied, and `place` is as it was.
+ * VG_NO_KEY where it is NULL or the same as `root`. */
 static inline vg_outcome vg_walk(vg_engine *engine, vg_key *root, vg_key *place, char *nodes, size_t nodes_size,
                                  size_t *nodes_length) {
     char nothing = 0;
@@ -478,8 +484,8 @@ static inline size_t vg_part_next(const vg_node *node, const char **at, char *pa
     return length;
 }
 
-/* LOCK of a key's name, with its caret: the job's names are released, and then this one is asked for. had is 1 where it
- * was granted, and 0 where another job is in the way. Nobody waits. */
+/* LOCK of a key's name, with its caret: the job's names are released, and then this one is asked for. Nobody waits: had
+ * is 1 where it was granted, and 0, with VG_DONE too, where another job is in the way. */
 static inline vg_outcome vg_lock(vg_engine *engine, uint64_t job, vg_key *key, uint64_t *had) {
     uint64_t told = 0;
     vg_outcome outcome = VG_NO_ENGINE;

@@ -14,6 +14,10 @@ const MOST_WORKERS: u64 = 16;
 // How many workers there are where none are asked for.
 const USUAL_WORKERS: u64 = 2;
 
+// What `--errors` does.
+const ERRORS: &str =
+    "Tell the number, column and fault of each line that can't be read on standard error";
+
 // What is said where the word for workers has another value.
 const WORKERS: &str = "'--workers <N>' takes a number from 1 to 16, or auto";
 
@@ -47,22 +51,22 @@ const LINES: &str =
   2 $GET(^Stock(\"apples\"))
 
 All input is read first. A job's lines are done in order by one worker, different jobs at the same time. A transaction
-that was overtaken is done again by itself; a LOCK waits until it has its names, with `:5` for 5 seconds at most.
-Printed are the replies by job, in order of the jobs' first lines, then `--` and the listing of the database.
-What stands in it where jobs meet depends on which was first.
+that was overtaken is done again by itself; a LOCK waits until it has its names, with `:5` for some 5 seconds at most.
+Replies are printed by job, in order of the jobs' first lines, then `--` and the listing of the database. Where jobs use
+the same nodes, replies and listing depend on which job was first.
 
   mjobs --workers auto orders.txt
   mjobs --load stock.txt orders.txt
   generate | mjobs --no-listing
 
 --load FILE starts from a listing instead of an empty database: lines ^Stock(\"apples\")=3, as they are printed or as other
-M systems write them in ZWR form. They are read before the first job; where one can't be read nothing runs.
---errors tells a line's number, the column of its fault, the refusal and what was expected there, where it wasn't read.
---journal FILE keeps what was done, in the order in which it was: after mjobs --journal done.txt orders.txt,
-mrun done.txt leaves the same listing.
+M systems write them in ZWR form. They are read before the first job; if one can't be read, nothing runs.
+--errors tells of each line that can't be read its number, the column of its fault, the refusal and what was expected there.
+--journal FILE keeps what was done, in its order: after mjobs --journal done.txt orders.txt, mrun done.txt leaves the same
+listing. FILE is emptied before the script is read, so it must not be the script.
 
 Exit status: 0, all replies are accepted; 1, a reply is an `error`; 2, input can't be read, output or the journal
-can't be written, memory ran out, a listing can't be loaded, a report is missing, or the words of the command are wrong.";
+can't be written, memory ran out, a listing can't be loaded, a report is missing, or an option or its value is wrong.";
 
 /// What the arguments of `mjobs` ask for.
 #[derive(Clone, Copy, Debug, PartialEq, Eq)]
@@ -88,7 +92,9 @@ fn command<'a>(alloc: Global) -> Result<Command<'a>, Error> {
         .value_name("N")
         .value_parser(ValueParser::string())
         .default_value("2")
-        .help("Do so many jobs at the same time, 1 to 16; auto: as many as there are processors");
+        .help(
+            "How many jobs are done at the same time, 1 to 16; auto: as many as there are processors",
+        );
     let command = Command::new(alloc, "mjobs")
         .version(VERSION)
         .about(
@@ -99,7 +105,7 @@ fn command<'a>(alloc: Global) -> Result<Command<'a>, Error> {
         .arg(load_word(alloc))?
         .arg(journal_word(alloc))?
         .arg(no_listing_word(alloc))?
-        .arg(errors_word(alloc))?
+        .arg(errors_word(alloc, ERRORS))?
         .arg(workers)?;
     Ok(command)
 }

@@ -11,6 +11,9 @@ use std::alloc::Global;
 // The most printed lines from one pass of the collector, or one checkpoint, to the next that may be asked for.
 const MOST_LINES: u64 = 1000000;
 
+// What `--errors` does.
+const ERRORS: &str = "Tell each refused line's number, column and fault on standard error";
+
 // What is said where a journal is asked for that would drop its beginning.
 const DROPPED: &str =
     "'--journal <JOURNAL>' cannot be used with '--checkpoint-every <M>' other than 0, by which the journal drops its beginning";
@@ -27,8 +30,9 @@ function: $DATA, $GET, $ORDER, $QUERY, $TLEVEL or $TRESTART:
 A reply is printed for each line that isn't empty: its job, and `ok`, a value or `error` with a number and a name.
 At the end of input follow `--` and the listing of the database, which starts empty and is kept in memory.
 --load FILE starts from a listing instead: lines ^Fruit(\"apple\",\"price\")=1.2, as they are printed or as other M systems
-write them in ZWR form. Where a line of it can't be read nothing runs.
---journal FILE keeps a run: after mrun --journal done.txt script.txt, mrun done.txt leaves the same listing.
+write them in ZWR form. If a line of it can't be read, nothing runs.
+--journal FILE keeps a run: after mrun --journal done.txt script.txt, mrun done.txt leaves the same listing. FILE is
+emptied before the script is read, so it must not be the script.
 Lines can be typed: each gets its reply at once, Enter alone shows what is committed at and below the reference that the line
 before names, or all where it names none, and Ctrl-D on an empty line ends the input.
 
@@ -39,7 +43,7 @@ what is held: nodes, the bytes of their keys and values, versions, and the units
 dropped and the bytes that the others take.
 
 Exit status: 0, all replies are accepted; 1, a reply is an `error`; 2, input can't be read, output or the journal
-can't be written, memory ran out, a listing can't be loaded, or the words of the command are wrong.";
+can't be written, memory ran out, a listing can't be loaded, or an option or its value is wrong.";
 
 /// What the arguments of `mrun` ask for.
 #[derive(Clone, Copy, Debug, PartialEq, Eq)]
@@ -96,7 +100,7 @@ fn command<'a>(alloc: Global) -> Result<Command<'a>, Error> {
         .arg(load_word(alloc))?
         .arg(journal_word(alloc))?
         .arg(no_listing_word(alloc))?
-        .arg(errors_word(alloc))?
+        .arg(errors_word(alloc, ERRORS))?
         .arg(stats_word(alloc))?
         .arg(collect_every)?
         .arg(checkpoint_every)?;

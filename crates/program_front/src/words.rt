@@ -45,7 +45,7 @@ pub(crate) fn journal_word<'a>(alloc: Global) -> Arg<'a> {
         .action(ArgAction::Set)
         .value_name("JOURNAL")
         .help(
-            "Write what was done to this file at the end, as a script that leaves the same listing",
+            "Empty this file, and at the end write to it what was done, as a script that leaves the same listing",
         )
 }
 
@@ -57,12 +57,12 @@ pub(crate) fn no_listing_word<'a>(alloc: Global) -> Arg<'a> {
         .help("Print replies only, without -- and the listing")
 }
 
-/// The word that asks for refused lines on standard error.
-pub(crate) fn errors_word<'a>(alloc: Global) -> Arg<'a> {
+/// The word that asks for refused lines on standard error, with its help.
+pub(crate) fn errors_word<'a>(alloc: Global, help: &'a str) -> Arg<'a> {
     Arg::new(alloc, "errors")
         .long("errors")
         .action(ArgAction::SetTrue)
-        .help("Tell each refused line's number, column and fault on standard error")
+        .help(help)
 }
 
 /// The word that asks for what the engine holds at the end, on standard error.
