@@ -3,3 +3,4 @@ pub mod Groups
 pub mod Lines
 pub mod Reports
 pub mod Runs
+pub mod Timeouts

@@ -7,8 +7,8 @@
 //!
 //! Of the lines `2 SET ^B=1`, `1 SET ^A=1`, `2 $GET(^B)` there are two scripts: job 2 with two lines, then job 1.
 //!
-//! Read `specs/Groups.antt`, `specs/Runs.antt`, `specs/Reports.antt`, `specs/Blocks.antt`, then `grouping.rt`, `report.rt`,
-//! `block.rt`, `timeout.rt`.
+//! Read `specs/Groups.antt`, `specs/Runs.antt`, `specs/Reports.antt`, `specs/Blocks.antt`, `specs/Timeouts.antt`, then
+//! `grouping.rt`, `report.rt`, `block.rt`, `timeout.rt`.
 #![tactic(auto)]
 
 pub use block::{Block, block_of, data_block, push_in_place};
