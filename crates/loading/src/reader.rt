@@ -1,5 +1,5 @@
 //! The settings of a text, one after the other.
-ghost use Rattle.std.specs.Prelude.{◌≡◌, ◌≢◌, ◌<◌, ◌≤◌, ◌+◌, ◌^◌, ℕ, List, [], ◌∷◌, Result, Ok, length, IfOk, IfErr, IfSome, IfNone, OnOk};
+ghost use Rattle.std.specs.Prelude.{◌≡◌, ◌≢◌, ◌<◌, ◌≤◌, ◌+◌, ◌^◌, ℕ, List, [], ◌∷◌, Result, Ok, length, IfOk, IfErr, OnErr, IfSome, IfNone, OnOk};
 ghost use Rattle.command.specs.declared.request.Command.TheVariants.{Access};
 ghost use Rattle.command.specs.declared.access.DataCommand.{DataCommand as DataCommandView};
 ghost use Rattle.command.specs.declared.access.DataCommand.TheVariants.{Set};
