@@ -1,5 +1,5 @@
 -- A block with a line more.
-use Rattle.std.proofs.Common.{◌≡◌, ◌≢◌, ◌<◌, ℕ, Bool, true, false, List, [], ◌∷◌, ◌++◌, refl, sym, ap, ◌∙◌, subst, append_assoc, true≢false}
+use Rattle.std.proofs.Common.{◌≡◌, ◌≢◌, ◌<◌, inl, inr, ℕ, Bool, true, false, List, [], ◌∷◌, ◌++◌, refl, sym, ap, ◌∙◌, subst, append_assoc, true≢false}
 use Rattle.std.specs.Prelude.{Option, Some, None, Ok}
 use Rattle.std.specs.List.{All}
 use Rattle.std.proofs.lemmas.List.Elements.{All-weaker}
@@ -8,7 +8,8 @@ use Rattle.refusal.specs.declared.Refusal.{Refusal}
 use Rattle.command.specs.declared.access.DataCommand.{DataCommand}
 use Rattle.command.specs.declared.request.Command.{Command}
 use Rattle.command.specs.declared.request.Command.TheVariants.{Access, Lock, Start, Commit, Rollback, Restart, Level, Restarts, Halt}
-use Rattle.job_scripts.specs.Blocks.{level_after, level_behind, IsOneBlock, Asks, AreAsked, AreInFront}
+use Rattle.job_scripts.specs.Lines.{lines_of_script}
+use Rattle.job_scripts.specs.Blocks.{level_after, level_behind, IsOneBlock, EndsBlock, Asks, AreAsked, AreInFront}
 
 pub level_more : (level : ℕ) (cs : List Command) (c : Command) → level_behind level (cs ++ c ∷ []) ≡ level_after c (level_behind level cs)
 level_more level [] c = refl
@@ -105,3 +106,18 @@ first_in_front all rest places commands line command same places_are commands_ar
 -- what was read of a line
 pub asks_of : (line : List ℕ) (step : ℕ × Command) → reading_of line ≡ Ok step → Asks line step.1
 asks_of line step h = (step.0, h)
+
+-- ---- where a block ends
+
+-- no line is left
+pub ends_at_the_end : (commands : List Command) (text : List ℕ) → text ≡ [] → EndsBlock commands (lines_of_script text)
+ends_at_the_end commands text none = subst (λ (t : List ℕ). EndsBlock commands (lines_of_script t)) (sym none) tt
+
+-- the next line asks for HALT
+pub ends_at_halt : (commands : List Command) (lines rest : List (List ℕ)) (line : List ℕ) → lines ≡ line ∷ rest → Asks line Halt → EndsBlock commands lines
+ends_at_halt commands lines rest line first asks = subst (λ (ls : List (List ℕ)). EndsBlock commands ls) (sym first) (inr asks)
+
+-- no transaction is open
+pub ends_closed : (commands : List Command) (lines : List (List ℕ)) → level_behind 1 commands ≡ 0 → EndsBlock commands lines
+ends_closed commands [] closed = tt
+ends_closed commands (line ∷ lines) closed = inl closed

@@ -1,5 +1,5 @@
 -- Blocks: lines that are done under one hold of the lock. Source: docs/CONCURRENCY.md, "Many jobs at the same time".
-use Rattle.std.specs.Prelude.{◌≡◌, ⊤, ℕ, ◌+◌, ◌-◌, ◌<◌, List, [], ◌∷◌, ◌++◌, Option, Some, None, Ok, min}
+use Rattle.std.specs.Prelude.{◌≡◌, ◌⊎◌, ⊤, ℕ, ◌+◌, ◌-◌, ◌<◌, List, [], ◌∷◌, ◌++◌, Option, Some, None, Ok, min}
 use Rattle.refusal.specs.declared.Refusal.{Refusal}
 use Rattle.collation.specs.Limits.{most_levels}
 use Rattle.command.specs.declared.request.Command.{Command}
@@ -57,3 +57,8 @@ pub record AreInFront (all rest : List (List ℕ)) (places : List (Option Refusa
   pub front : List (List ℕ)
   pub split : all ≡ front ++ rest
   pub asked : AreAsked front places commands
+
+-- behind these commands no transaction is open, or no line is left, or the next one asks for HALT
+abbrev pub EndsBlock : List Command → List (List ℕ) → Type 0
+EndsBlock commands [] = ⊤
+EndsBlock commands (line ∷ lines) = (level_behind 1 commands ≡ 0) ⊎ Asks line Halt

@@ -9,7 +9,7 @@ ghost use Rattle.command.specs.declared.request.Command.{Command};
 ghost use Rattle.command.specs.declared.request.Command.TheVariants.{Access};
 ghost use Rattle.script.specs.Line.{IsRefusalOf};
 ghost use Rattle.job_scripts.specs.Lines.{lines_of_script};
-ghost use Rattle.job_scripts.specs.Blocks.{level_after as level_left, IsOneBlock, in_place, Asks, AreInFront};
+ghost use Rattle.job_scripts.specs.Blocks.{level_after as level_left, IsOneBlock, EndsBlock, in_place, Asks, AreInFront};
 
 use crate::lines::next_line;
 use collation::MOST_LEVELS;
@@ -102,11 +102,12 @@ fn level_after(level: u64, command: &Command) -> u64
 }
 
 /// The block of the lines at the front of a text, in a transaction at level 1 that has done nothing. It ends with the line
-/// that leaves no transaction open, as if neither memory nor stamps were refused to a command.
+/// that leaves no transaction open, as if neither memory nor stamps were refused to a command, and not before: without one
+/// it goes on to a HALT, or to the end.
 ///
 /// `AllocError` where memory for the block is refused. A line that can't be read for want of memory has that refusal in
 /// its place.
-#[tactic(auto, using(crate::proofs::Blocks::none_in_front, crate::proofs::Blocks::asks_of))]
+#[tactic(auto, using(crate::proofs::Blocks::none_in_front, crate::proofs::Blocks::asks_of, crate::proofs::Blocks::ends_at_the_end, crate::proofs::Blocks::ends_at_halt, crate::proofs::Blocks::ends_closed))]
 pub fn block_of<'a>(
     alloc: Global,
     lines: &'a [u8],
@@ -114,6 +115,7 @@ pub fn block_of<'a>(
 ) -> Result<Block<'a>, AllocError>
     ensures goes_on { IfOk result (λ block. All (λ (c : Command). c ≢ Command.Halt) block.commands.items) }
     ensures one { IfOk result (λ block. IsOneBlock 1 block.commands.items) }
+    ensures ended { IfOk result (λ block. EndsBlock block.commands.items (lines_of_script block.rest.now)) }
     ensures rest { IfOk result (λ block. length block.rest.now ≤ length lines.now) }
     ensures asked { IfOk result (λ block. AreInFront (lines_of_script lines.now) (lines_of_script block.rest.now) block.places.items block.commands.items) }
 {

@@ -219,23 +219,28 @@ impl<'a> SettingReader<'a> {
         }
     }
 
-    /// The next setting: a reference, and its value. None behind the last.
+    /// The next setting: a reference, and its value. None behind the last, however often it is asked for.
     ///
-    /// Faults: as of `load`, where the next line that isn't empty sets nothing.
+    /// Faults, after which the reader is where it was: as of `load`, where the next line that isn't empty sets nothing. So
+    /// after `Memory` the same line may be asked for once more.
     pub fn next(&mut self) -> Result<Option<(Key, Text)>, LoadFault>
         ensures setting { IfOk result (λ next. IfSome next (λ setting. asked_of self.old ≡ before (setting ∷ []) (asked_of self.new))) }
         ensures shorter { IfOk result (λ next. IfSome next (λ setting. length self.new.text < length self.old.text)) }
         ensures end { IfOk result (λ next. IfNone next (asked_of self.old ≡ Ok [])) }
+        ensures stays { IfOk result (λ next. IfNone next (self.new ≡ self.old)) }
         ensures fault { IfErr result (IsFaultOf (asked_of self.old)) }
+        ensures kept { OnErr result (self.new ≡ self.old) }
     {
         let (number, line, rest) = next_line(self.number, self.rest);
         if line.is_empty() {
             return Ok(None);
         }
-        self.number = number + 1;
-        self.rest = rest;
         match read_setting(self.alloc, &mut self.page, number, line) {
-            Ok(setting) => Ok(Some(setting)),
+            Ok(setting) => {
+                self.number = number + 1;
+                self.rest = rest;
+                Ok(Some(setting))
+            }
             Err(fault) => Err(fault),
         }
     }

@@ -34,6 +34,7 @@ fn set(core: &mut JobCore, key: Key, value: Text) -> Result<(), LoadFault>
     requires { core.old.machine.transactions ≡ finmap.empty }
     ensures ok { OnOk result (core.new.machine ≡ with_settings ((key, value) ∷ []) core.old.machine) }
     ensures err { IfErr result (λ fault. fault ≡ LoadFault.Memory) }
+    ensures base { core.new.base ≡ core.old.base }
 {
     let set = Command::Access(DataCommand::Set(key, value));
     let reply = core.step(loading_job(), set);
@@ -55,6 +56,7 @@ fn load_settings(
     requires { core.old.machine.transactions ≡ finmap.empty }
     ensures ok { OnOk result (HasSetAll (asked_of settings.old) core.old.machine core.new.machine) }
     ensures err { IfErr result (IsFaultOf (asked_of settings.old)) }
+    ensures base { core.new.base ≡ core.old.base }
 {
     'settings: while let Some((key, value)) = settings.next()? {
         set(core, key, value)?;
@@ -68,6 +70,7 @@ pub fn load_with(alloc: Global, text: &[u8], log: &mut impl LoadLog) -> Result<J
     ensures loaded { IfOk result (λ core. IsLoaded text.now core.machine) }
     ensures legal { IfOk result (λ core. IsLegal core.machine.units initial) }
     ensures closed { IfOk result (λ core. core.machine.transactions ≡ finmap.empty) }
+    ensures whole { IfOk result (λ core. core.base ≡ 0) }
     ensures refused { IfErr result (IsFaultOf (settings_of text.now)) }
 {
     let mut settings = SettingReader::new(alloc, text);
@@ -84,7 +87,7 @@ pub fn load_with(alloc: Global, text: &[u8], log: &mut impl LoadLog) -> Result<J
 }
 
 /// A core with the database of a text: each of its lines is a SET of job 1, in order, so that of a reference's values
-/// the last stands. No transaction is open, and no lock is held.
+/// the last stands. No transaction is open, no lock is held, and the journal keeps all units.
 ///
 /// A line is a reference, `=` and a value, with blanks around them or none, as they stand after a SET; an empty line is
 /// passed over. Two lines at the front are passed over as headers where the second ends with `ZWR` and neither begins
@@ -96,6 +99,7 @@ pub fn load(alloc: Global, text: &[u8]) -> Result<JobCore, LoadFault>
     ensures loaded { IfOk result (λ core. IsLoaded text.now core.machine) }
     ensures legal { IfOk result (λ core. IsLegal core.machine.units initial) }
     ensures closed { IfOk result (λ core. core.machine.transactions ≡ finmap.empty) }
+    ensures whole { IfOk result (λ core. core.base ≡ 0) }
     ensures refused { IfErr result (IsFaultOf (settings_of text.now)) }
 {
     load_with(alloc, text, &mut NoLog)

@@ -1,7 +1,7 @@
 //! Sessions in threads.
 ghost use Rattle.std.specs.Prelude.{◌≡◌};
 
-use journal::{Journal, Unit};
+use crate::kinds::kinds_of;
 use pin_board::{Blank, BoardName, SEATS};
 use session_acts::{data_of, is_replied, opened, reply_to_line};
 use shared_engine::{Pass, Session, Shared};
@@ -82,36 +82,13 @@ fn four_write<B: BoardName + Send + Sync, R: Threads + Wait + Sync>(
     }
 }
 
-// One for a lone command, and one for an end.
-fn kind_of(unit: &Unit) -> (u64, u64) {
-    match unit {
-        Unit::Lone(_, _, _) => (1, 0),
-        Unit::End(_) => (0, 1),
-        _ => (0, 0),
-    }
-}
-
-// How many units are lone commands, and how many ends.
-fn kinds_of(journal: &Journal) -> Result<(u64, u64), AllocError> {
-    let mut lone = 0u64;
-    let mut ends = 0u64;
-    for unit in journal.units() {
-        let unit = unit?;
-        let kind = kind_of(&unit);
-        drop(unit);
-        lone = lone.wrapping_add(kind.0);
-        ends = ends.wrapping_add(kind.1);
-    }
-    Ok((lone, ends))
-}
-
-// How many sessions and units there were, how many passes have a hundred receipts, and how many units are lone commands
-// and ends.
+// How many sessions and units there were, how many passes have a hundred receipts, and how many units are lone commands,
+// transactions and ends.
 fn four_jobs<B: BoardName + Send + Sync, R: Threads + Wait + Sync>(
     rt: &R,
     alloc: Global,
     blank: Blank,
-) -> (u64, u64, usize, Option<(u64, u64)>)
+) -> (u64, u64, usize, Option<(u64, u64, u64)>)
     requires { (blank.seat.table_id ≡ B.table) × (blank.words.seats ≡ 4096) }
 {
     let engine = Shared::<B>::new(alloc, blank);
@@ -126,7 +103,7 @@ fn four_jobs<B: BoardName + Send + Sync, R: Threads + Wait + Sync>(
 fn four_threads_write_and_their_passes_close_the_engine(rt: HostRuntime) -> Result<(), Fail> {
     let blank = Blank::new(rt.alloc(), SEATS)?;
     let counts = four_jobs::<Brand, _>(&rt, rt.alloc(), blank);
-    assert_eq!(rt; counts, (4, 404, 4, Some((400, 4))));
+    assert_eq!(rt; counts, (4, 404, 4, Some((400, 0, 4))));
     Ok(())
 }
 
