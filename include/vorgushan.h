@@ -94,7 +94,8 @@ typedef struct vg_text {
     size_t length;
 } vg_text;
 
-/* A number as a text: its decimal digits, which are put into `digits` and are read there. */
+/* A number as a text: its decimal digits, which are put at the end of `digits`. The text points there, so each number
+ * of a key needs an array of its own until the key is spelled. */
 static inline vg_text vg_digits(uint64_t number, char digits[20]) {
     vg_text text;
     size_t at = 20;
