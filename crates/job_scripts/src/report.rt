@@ -1,5 +1,5 @@
 //! The replies of one job, and their text.
-ghost use Rattle.std.specs.Prelude.{◌≡◌, ◌++◌, [], IfOk, OnOk, OnErr};
+ghost use Rattle.std.specs.Prelude.{◌≡◌, ◌++◌, [], length, IfOk, OnOk, OnErr};
 ghost use Rattle.std.specs.List.{flat_map, list_any};
 ghost use Rattle.std.specs.Io.KnownBytes.{Appends};
 ghost use Rattle.listing.specs.Bytes.{WritesBeginning, IsOneMore};
@@ -13,25 +13,29 @@ use script::write_reply;
 use std::alloc::{AllocError, Global};
 use std::io::Write;
 use std::marker::Model;
+use std::snapshot::Snapshot;
 
-/// The replies to the lines of a job, or of none, in order, and their text, which is made as the report is.
-#[derive(Debug, Drop)]
+/// The replies to the lines of a job, or of none, in order, as their text. The replies themselves clauses alone see: their
+/// memory is given back as the report is made.
+#[derive(Drop)]
 pub struct Report {
     job: Option<Job>,
-    replies: Vec<Reply>,
+    replies: Snapshot<Vec<Reply>>,
+    count: usize,
     text: Vec<u8>,
     refused: bool,
 }
 
 impl Model for Report {
-    ghost use Rattle.std.specs.Prelude.{◌≡◌};
+    ghost use Rattle.std.specs.Prelude.{◌≡◌, length};
     ghost use Rattle.job_scripts.specs.Reports.{Answers, answers, report_text, some_refused};
 
     ghost Value = { Answers };
 
-    ghost view = { λ r. answers r.job r.replies.items };
+    ghost view = { λ r. answers r.job r.replies.value.items };
 
-    ghost invariant = { λ r. (r.text.items ≡ report_text (answers r.job r.replies.items)) × (r.refused ≡ some_refused (answers r.job r.replies.items)) };
+    ghost invariant = { λ r. (r.text.items ≡ report_text (answers r.job r.replies.value.items))
+        × ((r.refused ≡ some_refused (answers r.job r.replies.value.items)) × (r.count ≡ length r.replies.value.items)) };
 }
 
 fn is_refused(reply: &Reply) -> bool
@@ -67,9 +71,13 @@ impl Report {
     {
         let text = text_of(alloc, &job, replies.as_slice())?;
         let refused = any_refused(replies.as_slice());
+        let count = replies.len();
+        let told = Snapshot::of(&replies);
+        drop(replies);
         Ok(Report {
             job,
-            replies,
+            replies: told,
+            count,
             text,
             refused,
         })
@@ -82,11 +90,11 @@ impl Report {
         self.job
     }
 
-    /// The replies, in order.
-    pub fn replies(&self) -> &[Reply]
-        ensures { result.now ≡ self.now.replies }
+    /// How many replies there are.
+    pub fn count(&self) -> usize
+        ensures { result ≡ length self.now.replies }
     {
-        self.replies.as_slice()
+        self.count
     }
 
     /// A line for each reply.

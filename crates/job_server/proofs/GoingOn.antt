@@ -31,9 +31,9 @@ use Rattle.job_scripts.specs.Reports.{Answers}
 use Rattle.job_server.specs.declared.cursor.Cursor.{Cursor}
 use Rattle.job_server.specs.declared.cursor.Line.{Line}
 use Rattle.job_server.specs.Causes.{IsAllowed, IsReplyTo}
-use Rattle.job_server.specs.Told.{told_by, told_by_lines, AreRepliesTo, given, IsToldIn, IsAllTold, IsTold, units_of, units_of_book, units_in}
+use Rattle.job_server.specs.Told.{told_by, told_by_lines, AreRepliesTo, given, IsToldIn, IsAllTold, HasItsEnd, AreOf, IsTold, units_of, units_of_book, units_in}
 use Rattle.job_server.specs.Served.{Wanted, IsReport, IsReportAt}
-use Rattle.job_server.specs.Telling.{Shows, Stands, Follows, is_open, units_behind, AreOf, StandsIn, SessionsSoFar, sessions_so_far, StandsAt, GoesOn, GoesOnUntold, GoesOnBy, GoesOnAt, MayGoOnAt, IsOvertakenAs, IsNoCommit, HasStopped, IsFault, Running, running, not_begun, Leads, Serves, Keeps, HasAnswered, Advances, Reaches, ServesBlock, HasRun, HasReadAll, AreDataCommands, NoneAgain, HasJustBegun, Begins, IsStillOpen, WasOvertaken, IsBack, GoesOnFrom}
+use Rattle.job_server.specs.Telling.{Shows, Stands, Follows, is_open, units_behind, StandsIn, SessionsSoFar, sessions_so_far, StandsAt, GoesOn, GoesOnUntold, GoesOnBy, GoesOnAt, MayGoOnAt, IsOvertakenAs, IsNoCommit, HasStopped, IsFault, Running, running, not_begun, Leads, Serves, Keeps, HasAnswered, Advances, Reaches, ServesBlock, HasRun, HasReadAll, AreDataCommands, NoneAgain, HasJustBegun, Begins, IsStillOpen, WasOvertaken, IsBack, GoesOnFrom}
 use Rattle.job_server.proofs.Units.{both_more, one_given}
 use Rattle.job_server.proofs.Causes.{asked_may}
 use Rattle.job_server.proofs.Levels.{none_again, none_again_of_data}
@@ -123,7 +123,7 @@ halt_refused job books more session later refusal same_books same_session room =
 pub halted_some : (job n : ℕ) (books : List Book) (h : Held) → GoesOnBy job Halt Finished (sessions_so_far books (Some h)) (sessions_so_far (books ++ halted n h ∷ []) None)
 halted_some job n books h = record {
   stands = λ s stands. (
-    All-push (λ (b : Book). b.job ≡ job) books (halted n h) stands.0 stands.1.0,
+    All-push (λ (b : Book). (b.job ≡ job) × HasItsEnd b) books (halted n h) stands.0 (stands.1.0, (h.others, (n, refl))),
     (
       gone_here s.transactions job,
       subst (λ (us : List JournalUnit). IsToldIn us (units_in (books ++ halted n h ∷ []))) (sym (one_given s.units (End job) refl))

@@ -7,7 +7,7 @@ use Rattle.std.specs.List.{All}
 use Rattle.journal.specs.declared.unit.Unit.{Unit as JournalUnit}
 use Rattle.pin_board.specs.Slips.{AreInJournal}
 use Rattle.shared_engine.specs.Receipts.{Book, IsOwn, RisesFrom}
-use Rattle.shared_engine.specs.Engines.{AreAllReceipts}
+use Rattle.shared_engine.specs.Engines.{AreAllReceipts, AreAllUnits}
 use Rattle.job_scripts.specs.Reports.{Answers}
 use Rattle.job_scripts.specs.declared.lines.Script.{Script}
 use Rattle.loading.specs.Settings.{Setting}
@@ -52,8 +52,9 @@ one_more scripts place reports more_reports books more_books own report h at rep
 -- all are handed over, behind what was loaded
 booked_of : (ended : ℕ) (settings : List Setting) (scripts : List Wanted) (n : ℕ) (reports : List Answers) (passes all_passes : List Book) (units : List JournalUnit) (sessions : ℕ) → AreHanded (take n scripts) reports passes → n ≡ length scripts
     → all_passes ≡ load_books ended settings ++ passes → length all_passes ≡ sessions → All (λ (b : Book). AreInJournal units b.receipts) all_passes
-    → All (λ (b : Book). RisesFrom 0 b.receipts) all_passes → All IsOwn all_passes → AreAllReceipts units all_passes → AreBooked settings scripts reports units sessions
-booked_of ended settings scripts n reports passes all_passes units sessions h all joined each written rising own every =
+    → All (λ (b : Book). AreInJournal units b.others) all_passes → All (λ (b : Book). RisesFrom 0 b.receipts) all_passes → All IsOwn all_passes → AreAllReceipts units all_passes → AreAllUnits units all_passes
+    → AreBooked settings scripts reports units sessions
+booked_of ended settings scripts n reports passes all_passes units sessions h all joined each written others rising own every every_unit =
     let are : all_passes ≡ with_load ended settings h.books = joined ∙ ap (λ (bs : List Book). load_books ended settings ++ bs) h.all_is in
     record {
       ended = ended;
@@ -61,9 +62,11 @@ booked_of ended settings scripts n reports passes all_passes units sessions h al
       are_told = subst (λ (ws : List Wanted). AreReports ws reports h.books) (ap (λ k. take k scripts) all ∙ take-all scripts) h.are_told;
       each = sym (ap length are) ∙ each;
       written = subst (λ (bs : List Book). All (λ (b : Book). AreInJournal units b.receipts) bs) are written;
+      others = subst (λ (bs : List Book). All (λ (b : Book). AreInJournal units b.others) bs) are others;
       rising = subst (λ (bs : List Book). All (λ (b : Book). RisesFrom 0 b.receipts) bs) are rising;
       own = subst (λ (bs : List Book). All IsOwn bs) are own;
       all = subst (AreAllReceipts units) are every;
+      all_units = subst (AreAllUnits units) are every_unit;
     }
   where
     take-all : (ws : List Wanted) → take (length ws) ws ≡ ws
@@ -76,11 +79,12 @@ same_length (s ∷ ss) = ap (λ (n : ℕ). suc n) (same_length ss)
 
 pub booked : (ended : ℕ) (settings : List Setting) (scripts : List Script) (batch : List Wanted) (n : ℕ) (reports : List Answers) (loaded passes all_passes : List Book) (units : List JournalUnit) (sessions : ℕ) → map wanted scripts ≡ batch
     → ∥ AreHanded (take n batch) reports passes ∥₁ → n ≡ length scripts → loaded ≡ load_books ended settings → all_passes ≡ loaded ++ passes → length all_passes ≡ sessions → All (λ (b : Book). AreInJournal units b.receipts) all_passes
-    → All (λ (b : Book). RisesFrom 0 b.receipts) all_passes → All IsOwn all_passes → AreAllReceipts units all_passes → ∥ AreBooked settings (map wanted scripts) reports units sessions ∥₁
-booked ended settings scripts batch n reports loaded passes all_passes units sessions same h all is joined each written rising own every =
+    → All (λ (b : Book). AreInJournal units b.others) all_passes → All (λ (b : Book). RisesFrom 0 b.receipts) all_passes → All IsOwn all_passes → AreAllReceipts units all_passes → AreAllUnits units all_passes
+    → ∥ AreBooked settings (map wanted scripts) reports units sessions ∥₁
+booked ended settings scripts batch n reports loaded passes all_passes units sessions same h all is joined each written others rising own every every_unit =
     ∥∥₁_map h
     (λ (x : AreHanded (take n batch) reports passes). booked_of ended settings (map wanted scripts) n reports passes all_passes units sessions
-    (subst (λ (ws : List Wanted). AreHanded (take n ws) reports passes) (sym same) x) (all ∙ sym (same_length scripts)) (joined ∙ ap (λ (bs : List Book). bs ++ passes) is) each written rising own every)
+    (subst (λ (ws : List Wanted). AreHanded (take n ws) reports passes) (sym same) x) (all ∙ sym (same_length scripts)) (joined ∙ ap (λ (bs : List Book). bs ++ passes) is) each written others rising own every every_unit)
 
 -- what was loaded, and what was served behind it
 pub served_of : (listing : List ℕ) (scripts : List Wanted) (reports : List Answers) (units : List JournalUnit) (sessions : ℕ) (loaded : List Book) → IsLoaded listing loaded → ((ended : ℕ) (settings : List Setting) → loaded ≡ load_books ended settings → BeginsWith settings units)

@@ -6,7 +6,7 @@ use Rattle.journal.specs.declared.unit.Unit.{Unit as JournalUnit}
 use Rattle.journal.specs.Kept.{Claim}
 use Rattle.pin_board.specs.Slips.{AreInJournal}
 use Rattle.shared_engine.specs.Receipts.{Book, IsOwn, RisesFrom}
-use Rattle.shared_engine.specs.Engines.{AreAllReceipts}
+use Rattle.shared_engine.specs.Engines.{AreAllReceipts, AreAllUnits}
 use Rattle.job_scripts.specs.declared.lines.Script.{Script}
 use Rattle.job_scripts.specs.Reports.{Answers}
 use Rattle.loading.specs.Settings.{Setting, settings_of}
@@ -69,16 +69,18 @@ abbrev pub with_load : ℕ → List Setting → List (List Book) → List Book
 with_load ended settings books = load_books ended settings ++ all_of books
 
 -- each session has a book, whose units are its job's, in the journal, at numbers that rise; the units of all books are those of the journal, each as
--- often as it was written, but for rollbacks and ends; and what the reports tell are the units of the books of their jobs, but for the loaded settings'
+-- often as it was written, and the receipts all but rollbacks and ends; and what the reports tell are the units of the books of their jobs, but for the loaded settings'
 pub record AreBooked (settings : List Setting) (scripts : List Wanted) (reports : List Answers) (units : List JournalUnit) (sessions : ℕ) : Type 0 where
   pub ended : ℕ
   pub books : List (List Book)
   pub are_told : AreReports scripts reports books
   pub each : length (with_load ended settings books) ≡ sessions
   pub written : All (λ (b : Book). AreInJournal units b.receipts) (with_load ended settings books)
+  pub others : All (λ (b : Book). AreInJournal units b.others) (with_load ended settings books)
   pub rising : All (λ (b : Book). RisesFrom 0 b.receipts) (with_load ended settings books)
   pub own : All IsOwn (with_load ended settings books)
   pub all : AreAllReceipts units (with_load ended settings books)
+  pub all_units : AreAllUnits units (with_load ended settings books)
 
 -- the settings of a listing were done, and are the journal's first units; then the scripts were served
 pub record AreServed (listing : List ℕ) (scripts : List Wanted) (reports : List Answers) (units : List JournalUnit) (sessions : ℕ) : Type 0 where

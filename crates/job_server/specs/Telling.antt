@@ -26,7 +26,7 @@ use Rattle.job_scripts.specs.Lines.{lines_of_script}
 use Rattle.job_server.specs.Causes.{HasRestarted, IsAllowed, IsReplyTo, IsReplyToNone}
 use Rattle.job_server.specs.declared.cursor.Cursor.{Cursor}
 use Rattle.job_server.specs.declared.cursor.Line.{Line}
-use Rattle.job_server.specs.Told.{told_by, given, IsToldIn, told_by_lines, AreRepliesTo, AreRepliesToNone, units_of, units_in}
+use Rattle.job_server.specs.Told.{told_by, given, IsToldIn, told_by_lines, AreOf, AreRepliesTo, AreRepliesToNone, units_of, units_in}
 
 -- ---- one session
 
@@ -88,10 +88,6 @@ is_open (Some h) = nat_lt 0 h.state.level
 abbrev pub units_behind : List Book → Option Held → List JournalUnit
 units_behind books None = units_in books
 units_behind books (Some h) = units_in books ++ units_of h.receipts
-
--- the books are the job's
-abbrev pub AreOf : ℕ → List Book → Type 0
-AreOf job books = All (λ (b : Book). b.job ≡ job) books
 
 -- the job has these books and this session, where what was told has led
 abbrev pub StandsIn : ℕ → List Book → Option Held → Machine → Type 0

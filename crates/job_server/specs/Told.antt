@@ -1,5 +1,5 @@
 -- What a job's replies tell of the units that the job wrote, and what lines may be replied. Source: docs/THEOREMS.md, "Many jobs at the same time".
--- Read told_by_lines, units_told, units_of_book, IsToldIn, IsAllTold, AreRepliesTo, AreRepliesToNone, then IsTold.
+-- Read told_by_lines, units_told, units_of_book, IsToldIn, IsAllTold, AreOf, AreRepliesTo, AreRepliesToNone, then IsTold.
 use Rattle.std.specs.Prelude.{◌≡◌, ◌⊎◌, ⊤, ℕ, Bool, true, false, not, ◌||◌, List, [], ◌∷◌, ◌++◌, map, Option, None, Some, Result, Ok, Err}
 use Rattle.std.specs.List.{All, filter, flat_map}
 use Rattle.refusal.specs.declared.Refusal.{Refusal}
@@ -10,7 +10,7 @@ use Rattle.journal.specs.declared.unit.Unit.TheVariants.{Lone, Whole, Lock, Back
 use Rattle.journal.specs.Kept.{Claim}
 use Rattle.journal.specs.Story.{Machine, nothing_done, transaction_of, told}
 use Rattle.script.specs.Line.{reading_of}
-use Rattle.shared_engine.specs.Receipts.{Book}
+use Rattle.shared_engine.specs.Receipts.{Book, claim}
 use Rattle.job_scripts.specs.Lines.{lines_of_script}
 use Rattle.job_server.specs.Causes.{IsReplyTo, IsReplyToNone}
 
@@ -68,6 +68,14 @@ units_of_book b = units_of b.receipts ++ End b.job ∷ []
 abbrev pub units_in : List Book → List JournalUnit
 units_in books = flat_map units_of_book books
 
+-- the last of the units of a book that give no receipt is its session's end
+abbrev pub HasItsEnd : Book → Type 0
+HasItsEnd b = (before : List Claim) × (n : ℕ) × (b.others ≡ before ++ claim n (End b.job) ∷ [])
+
+-- the books are the job's, each with its session's end
+abbrev pub AreOf : ℕ → List Book → Type 0
+AreOf job books = All (λ (b : Book). (b.job ≡ job) × HasItsEnd b) books
+
 -- what is told are these units; at the end of its lines a job's session ends, where it has one, which no reply tells
 abbrev pub IsAllTold : ℕ → List JournalUnit → List JournalUnit → Type 0
 IsAllTold job told units = IsToldIn told units ⊎ IsToldIn (told ++ End job ∷ []) units
@@ -88,4 +96,4 @@ AreRepliesToNone (line ∷ lines) (reply ∷ replies) = IsReplyToNone (reading_o
 abbrev pub IsTold : Option ℕ → List ℕ → List Reply → List Book → Type 0
 IsTold None text replies books = (books ≡ []) × AreRepliesToNone (lines_of_script text) replies
 IsTold (Some job) text replies books =
-    All (λ (b : Book). b.job ≡ job) books × (IsAllTold job (units_told job text replies) (units_in books) × AreRepliesTo job (lines_of_script text) replies nothing_done)
+    AreOf job books × (IsAllTold job (units_told job text replies) (units_in books) × AreRepliesTo job (lines_of_script text) replies nothing_done)

@@ -55,7 +55,7 @@ impl<B: BoardName + Batch> Gathered<B> {
     // Takes what came of a task in.
     fn take_in(&mut self, done: Done<B>) -> Result<(), ServerFault> {
         match &done.outcome {
-            Ok(ran) => self.lines = self.lines.wrapping_add(ran.report.replies().len() as u64),
+            Ok(ran) => self.lines = self.lines.wrapping_add(ran.report.count() as u64),
             Err(fault) => return Err(*fault),
         }
         fill_at(&mut self.slots, done)
@@ -317,7 +317,8 @@ fn load_and_serve<
 ///
 /// A report's replies tell the units of its job's books, which are in the closed journal; a LOCK that no reply tells may
 /// stand among them: a first try of one that waited, or one of a try of a block that was overtaken. Each book ends where a
-/// HALT was replied `ok`, the last one with the lines. No TCOMMIT is replied with a restart.
+/// HALT was replied `ok`, the last one with the lines, and has that HALT's End. All books' units are just the journal's. No
+/// TCOMMIT is replied with a restart.
 ///
 /// After a fault no report is handed out: `Load` where the listing isn't loaded, as of `loading::load`, and no job was begun;
 /// `Memory` where memory was refused and no reply could say so, also where a worker couldn't be started, a session begun

@@ -186,7 +186,7 @@ fn told(served: &Served) -> (usize, bool, u64) {
     let mut replies = 0usize;
     let mut refused = false;
     for report in &served.reports {
-        replies = report.replies().len().saturating_add(replies);
+        replies = report.count().saturating_add(replies);
         refused = refused || report.refused();
     }
     (replies, refused, served.closed.sessions)

@@ -16,6 +16,7 @@ returns g c =
     record {
       begins = λ ended settings is. begins ended settings _ c.args.loaded.items handed.items all.items is joined there;
       booked = λ ended settings is. booked ended settings scripts.items g.B.Batch.scripts (length slots.items) _ c.args.loaded.items handed.items all.items _ _ c.requires c.in_ok-handed.ensures (omega (arith, c.len.ensures, c.if-len-count.false, c.len-count.ensures, slots.ok.0, scripts.ok.0)) is joined
-          (omega (arith, same, count, all.ok.0)) there c.finish-closed.ensures.rising c.finish-closed.ensures.own
-          (c.finish-closed.ensures.all (omega (arith, same, count)) (omega (arith, same, count, all.ok, all.small)));
+          (omega (arith, same, count, all.ok.0)) there c.finish-closed.ensures.others c.finish-closed.ensures.rising c.finish-closed.ensures.own
+          (c.finish-closed.ensures.all (omega (arith, same, count)) (omega (arith, same, count, all.ok, all.small)))
+          (c.finish-closed.ensures.all_units (omega (arith, same, count)) (omega (arith, same, count, all.ok, all.small)));
     }
