@@ -4,8 +4,9 @@
 //! lines, then `--` and the listing of the database. What is served is what `job_server::serve_text` promises, what is
 //! printed of it what `write_served` does, and what is written of its journal what `journal_lines::write_journal` does: so
 //! one journal is listed and written. The exit status is `job_server::status_of` of the outcome and the text of a fault is
-//! `job_server::JobsFault::text`; what its words ask for is `program_front::mjobs_args_of`. This file only opens files, looks
-//! for a listing's fault before a journal is written over, lets time pass for LOCKs that wait, and prints what went wrong:
+//! `job_server::JobsFault::text`; what its words ask for is `program_front::mjobs_args_with`. This file only opens files,
+//! looks for a listing's fault before a journal is written over, lets time pass for LOCKs that wait, and prints what went
+//! wrong:
 //!
 //! 0, all replies are accepted; 1, a reply is an `error`; 2, a fault, or wrong arguments; standard error says which.
 #![tactic(auto)]
@@ -18,8 +19,8 @@ use listing::{Counted, read_all};
 use loading::{LoadFault, SettingReader};
 use program_front::{
     ListingFile, MjobsArgs, Piped, Progress, Ticker, Workers, arguments_of, create_named,
-    mjobs_args_of, path_of, print_bad_name, print_fault, print_help_or_error, print_journal_fault,
-    print_load_fault, print_refused, print_unopened, read_listing,
+    mjobs_args_with, path_of, print_bad_name, print_fault, print_help_or_error,
+    print_journal_fault, print_load_fault, print_refused, print_unopened, read_listing,
 };
 use script::{Drafts, read_line};
 use shared_engine::Gate;
@@ -266,7 +267,7 @@ fn run_on<P: Files + Print + Eprint + Input + AllocGlobal + Clock + Threads + Wa
 fn run_with_arguments<
     P: Files + Print + Eprint + Input + AllocGlobal + Clock + Threads + Wait + Sync,
 >(rt: &P, arguments: &[Vec<u8>], tells: bool) -> u8 {
-    let args = match mjobs_args_of(rt.alloc(), arguments) {
+    let args = match mjobs_args_with(rt, arguments) {
         Ok(args) => args,
         Err(error) => return print_help_or_error(rt, PROGRAM, error),
     };

@@ -2,7 +2,7 @@
 //!
 //! It prints a line `job reply` for each line that isn't empty, then `--` and the listing of the database.
 //! What is printed is what `script_run::run_with_core` promises, the exit status is `script_run::status_of` of its outcome
-//! and the text of a fault is `script_run::Fault::text`; what its words ask for is `program_front::mrun_args_of`, and what
+//! and the text of a fault is `script_run::Fault::text`; what its words ask for is `program_front::mrun_args_with`, and what
 //! a listing leaves that is loaded first is what `loading::load` promises, what is written of the journal what
 //! `journal_lines::write_journal` does. This program only opens files, tells on terminals what is done, and prints what went
 //! wrong:
@@ -18,7 +18,7 @@ use job_core::JobCore;
 use listing::Counted;
 use loading::load_with;
 use program_front::{
-    ListingFile, MrunArgs, NamePlace, Piped, Ticker, arguments_of, create_named, mrun_args_of,
+    ListingFile, MrunArgs, NamePlace, Piped, Ticker, arguments_of, create_named, mrun_args_with,
     path_of, print_bad_name, print_fault, print_help_or_error, print_journal_fault,
     print_load_fault, print_unopened, print_wanting, read_listing,
 };
@@ -201,7 +201,7 @@ fn run_with_arguments(
     arguments: &[Vec<u8>],
     terminals: Terminals,
 ) -> u8 {
-    let args = match mrun_args_of(rt.alloc(), arguments) {
+    let args = match mrun_args_with(rt, arguments) {
         Ok(args) => args,
         Err(error) => return print_help_or_error(rt, PROGRAM, error),
     };

@@ -25,7 +25,7 @@ pub enum Telling {
 // How refused lines of standard input are told. Where they are typed, by a mark under each.
 fn greeted(rt: &impl Eprint, args: MrunArgs, typed: bool) -> Telling {
     if typed {
-        print_greeting(rt, PROGRAM);
+        print_greeting(rt, PROGRAM, args.listed);
     }
     match (args.errors, typed) {
         (true, _) => Telling::ByNumber,

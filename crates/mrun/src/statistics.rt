@@ -46,6 +46,11 @@ impl Statistics {
     }
 }
 
+// A thing's name where there are so many: this for one of it, that for more.
+fn named<'a>(count: u64, one: &'a str, more: &'a str) -> &'a str {
+    if count == 1 { one } else { more }
+}
+
 /// Prints it in one line on standard error. What can't be printed is left out.
 pub fn print_statistics(rt: &impl Eprint, program: &str, held: &Statistics) {
     let Statistics {
@@ -56,7 +61,10 @@ pub fn print_statistics(rt: &impl Eprint, program: &str, held: &Statistics) {
         node_bytes,
         versions,
     } = *held;
+    let node = named(nodes, "node", "nodes");
+    let version = named(versions, "version", "versions");
+    let unit = named(units, "unit", "units");
     let _ = eprintln!(rt;
-        "{program}: {nodes} nodes of {node_bytes} bytes, {versions} versions; {units} units, {dropped} of them dropped; {journal_bytes} bytes of journal"
+        "{program}: {nodes} {node} of {node_bytes} bytes, {versions} {version}; {units} {unit}, {dropped} of them dropped; {journal_bytes} bytes of journal"
     );
 }

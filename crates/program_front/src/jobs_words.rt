@@ -1,4 +1,5 @@
 //! The words of `mjobs`.
+use crate::journal_file::is_file_read;
 use crate::words::{
     NamePlace, READ, VERSION, errors_word, file_of, file_place, file_word, is_read, journal_of,
     journal_word, load_of, load_word, no_listing_word, texts_of,
@@ -7,6 +8,7 @@ use clap::builder::ValueParser;
 use clap::error::ErrorKind;
 use clap::{Arg, ArgAction, ArgMatches, Command, Error};
 use std::alloc::Global;
+use std::rt::Files;
 
 // The most workers that may be asked for.
 const MOST_WORKERS: u64 = 16;
@@ -63,7 +65,7 @@ the same nodes, replies and listing depend on which job was first.
 M systems write them in ZWR form. They are read before the first job; if one can't be read, nothing runs.
 --errors tells of each line that can't be read its number, the column of its fault, the refusal and what was expected there.
 --journal FILE keeps what was done, in its order: after mjobs --journal done.txt orders.txt, mrun done.txt leaves the same
-listing. FILE is emptied before the script is read, so it must not be the script.
+listing. FILE is emptied before the script is read; where it is the script or the listing, by whatever name, nothing runs.
 
 Exit status: 0, all replies are accepted; 1, a reply is an `error`; 2, input can't be read, output or the journal
 can't be written, memory ran out, a listing can't be loaded, a report is missing, or an option or its value is wrong.";
@@ -170,6 +172,19 @@ pub fn mjobs_args_of(alloc: Global, arguments: &[Vec<u8>]) -> Result<MjobsArgs, 
     };
     if is_journal_read(arguments, args) {
         return Err(error_of(alloc, ErrorKind::ArgumentConflict, READ)?);
+    }
+    Ok(args)
+}
+
+/// What the arguments of `mjobs` ask for, as `mjobs_args_of` answers, or an error where the journal would be written to a
+/// file that is read under another name, or as standard input.
+pub fn mjobs_args_with(
+    rt: &(impl Files + AllocGlobal),
+    arguments: &[Vec<u8>],
+) -> Result<MjobsArgs, Error> {
+    let args = mjobs_args_of(rt.alloc(), arguments)?;
+    if is_file_read(rt, arguments, args.file, args.load, args.journal) {
+        return Err(error_of(rt.alloc(), ErrorKind::ArgumentConflict, READ)?);
     }
     Ok(args)
 }

@@ -5,14 +5,15 @@
 //! Arguments are bytes, since one may be of any bytes. The parser reads one that isn't UTF-8 with each bad sequence
 //! replaced; its answer says which argument is the file, so that its own bytes are kept and no other file is opened.
 //!
-//! No contract says what the arguments ask for: tests run the parser on them. One says that each print of what went
-//! wrong answers the exit status of a fault, and some say what a `Piped` holds and when it is closed.
+//! No contract says what the arguments ask for: tests run the parser on them, and whether the journal's file is read under
+//! another name is tried by hand. One says that each print of what went wrong answers the exit status of a fault, and some
+//! say what a `Piped` holds and when it is closed.
 //!
 //! Read `run_words.rt`, `jobs_words.rt`, `words.rt`, then `piped.rt`, `progress.rt`, `ticker.rt`, `printing.rt`,
 //! `listing_file.rt`, `journal_file.rt`.
 #![tactic(auto)]
 
-pub use jobs_words::{MjobsArgs, Workers, mjobs_args_of};
+pub use jobs_words::{MjobsArgs, Workers, mjobs_args_of, mjobs_args_with};
 pub use journal_file::create_named;
 pub use listing_file::{ListingFile, read_listing};
 pub use piped::Piped;
@@ -22,7 +23,7 @@ pub use printing::{
     print_uncreated, print_unloaded, print_unopened, print_unwritten, print_wanting, room_before,
 };
 pub use progress::Progress;
-pub use run_words::{MrunArgs, mrun_args_of};
+pub use run_words::{MrunArgs, mrun_args_of, mrun_args_with};
 pub use ticker::Ticker;
 pub use words::NamePlace;
 

@@ -103,10 +103,15 @@ pub fn print_mark(rt: &(impl Eprint + AllocGlobal), line: &[u8], refusal: Refusa
     }
 }
 
-/// Prints how lines are typed, on standard error.
-pub fn print_greeting(rt: &impl Eprint, program: &str) {
+/// Prints how lines are typed, on standard error, and whether the listing is printed at their end.
+pub fn print_greeting(rt: &impl Eprint, program: &str, listed: bool) {
+    let listing = if listed {
+        " and brings the listing"
+    } else {
+        ""
+    };
     let _ = eprintln!(rt;
-        "{program}: type lines such as 1 SET ^A(1)=5 and 1 $GET(^A(1)); Enter alone shows what stands there and below, Ctrl-D ends the input and brings the listing"
+        "{program}: type lines such as 1 SET ^A(1)=5 and 1 $GET(^A(1)); Enter alone shows what stands there and below, Ctrl-D ends the input{listing}"
     );
 }
 

@@ -1,4 +1,5 @@
 //! The words of `mrun`.
+use crate::journal_file::is_file_read;
 use crate::words::{
     NamePlace, READ, VERSION, errors_word, file_of, file_place, file_word, is_read, journal_of,
     journal_word, load_of, load_word, no_listing_word, stats_word, texts_of,
@@ -7,6 +8,7 @@ use clap::builder::ValueParser;
 use clap::error::ErrorKind;
 use clap::{Arg, ArgAction, ArgMatches, Command, Error};
 use std::alloc::Global;
+use std::rt::Files;
 
 // The most printed lines from one pass of the collector, or one checkpoint, to the next that may be asked for.
 const MOST_LINES: u64 = 1000000;
@@ -32,7 +34,7 @@ At the end of input follow `--` and the listing of the database, which starts em
 --load FILE starts from a listing instead: lines ^Fruit(\"apple\",\"price\")=1.2, as they are printed or as other M systems
 write them in ZWR form. If a line of it can't be read, nothing runs.
 --journal FILE keeps a run: after mrun --journal done.txt script.txt, mrun done.txt leaves the same listing. FILE is
-emptied before the script is read, so it must not be the script.
+emptied before the script is read; where it is the script or the listing, by whatever name, nothing runs.
 Lines can be typed: each gets its reply at once, Enter alone shows what is committed at and below the reference that the line
 before names, or all where it names none, and Ctrl-D on an empty line ends the input.
 
@@ -144,4 +146,17 @@ pub fn mrun_args_of(alloc: Global, arguments: &[Vec<u8>]) -> Result<MrunArgs, Er
         Some(why) => Err(conflict(alloc, why)?),
         None => Ok(args),
     }
+}
+
+/// What the arguments of `mrun` ask for, as `mrun_args_of` answers, or an error where the journal would be written to a
+/// file that is read under another name, or as standard input.
+pub fn mrun_args_with(
+    rt: &(impl Files + AllocGlobal),
+    arguments: &[Vec<u8>],
+) -> Result<MrunArgs, Error> {
+    let args = mrun_args_of(rt.alloc(), arguments)?;
+    if is_file_read(rt, arguments, args.file, args.load, args.journal) {
+        return Err(conflict(rt.alloc(), READ)?);
+    }
+    Ok(args)
 }
