@@ -18,7 +18,7 @@
 //! Not promised: which stretches are kept, and how many look-ups a view is spared.
 #![tactic(auto)]
 
-pub use scouting::scout;
+pub use scouting::{InTheWay, scout};
 pub use skipping::Skipping;
 pub use stretches_kept::Stretches;
 
