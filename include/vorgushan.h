@@ -91,6 +91,19 @@ typedef struct vg_text {
     size_t length;
 } vg_text;
 
+/* A number as a text: its decimal digits, which are put into `digits` and are read there. */
+static inline vg_text vg_digits(uint64_t number, char digits[20]) {
+    vg_text text;
+    size_t at = 20;
+    do {
+        digits[--at] = (char)('0' + number % 10);
+        number /= 10;
+    } while (number > 0);
+    text.bytes = digits + at;
+    text.length = 20 - at;
+    return text;
+}
+
 /* What an engine holds. */
 typedef struct vg_statistics {
     uint64_t units;         /* units of the journal */

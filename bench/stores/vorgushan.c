@@ -1,6 +1,5 @@
 /* The records as nodes ^Patient(NUMBER,FIELD), by the typed calls; read by vg_look and vg_walk, or, with COMMANDS, by the
  * commands of a job. */
-#include <stdio.h>
 #include <string.h>
 
 #include "store.h"
@@ -21,9 +20,8 @@ void begin_work(void) {}
 void end_work(void) {}
 
 static void make_key(uint32_t number, const char *field) {
-    char digits[16];
-    int length = snprintf(digits, sizeof digits, "%u", number);
-    const vg_text at[] = {{digits, (size_t)length}, {field, strlen(field)}};
+    char digits[20];
+    const vg_text at[] = {vg_digits(number, digits), {field, strlen(field)}};
     must(vg_key_spell(&key, "Patient", 7, at, 2) == VG_DONE, "vg_key_spell");
 }
 

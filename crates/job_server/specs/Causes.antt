@@ -16,7 +16,7 @@ use Rattle.command.specs.declared.request.Reply.TheVariants.{Answered, Finished,
 use Rattle.command.specs.Data.{data_refusal}
 use Rattle.journal.specs.History.{AreRight, all_after}
 use Rattle.journal.specs.Story.{Transaction}
-use Rattle.serial.specs.Machine.{told_had, level_of, restarted}
+use Rattle.serial.specs.Machine.{number_in, told_had, restarted}
 
 -- ---- accepted
 
@@ -55,11 +55,11 @@ IsRestartCount reply (Some t) = (restarts : ℕ) × HasRestarted t.restarts rest
 abbrev pub IsAccepted : Command → Reply → Option Transaction → Type 0
 IsAccepted (Access command) reply t = (answer : Answer) × (reply ≡ Answered answer) × IsAnswer command answer t
 IsAccepted (lock_command command) reply t = (had : Bool) × (reply ≡ told_had command had)
-IsAccepted Start reply t = (level_of t < most_levels) × (reply ≡ AtLevel (level_of t + 1))
+IsAccepted Start reply t = (number_in (λ u. u.level) t < most_levels) × (reply ≡ AtLevel (number_in (λ u. u.level) t + 1))
 IsAccepted Commit reply t = IsCommitted reply t
 IsAccepted Rollback reply t = IsRolledBack reply t
 IsAccepted Restart reply t = IsAnew reply t
-IsAccepted Level reply t = reply ≡ Count (level_of t)
+IsAccepted Level reply t = reply ≡ Count (number_in (λ u. u.level) t)
 IsAccepted Restarts reply t = IsRestartCount reply t
 IsAccepted Halt reply t = reply ≡ Finished
 

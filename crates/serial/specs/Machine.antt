@@ -1,5 +1,5 @@
 -- The machine: what each step of a job is replied, and what it leaves. Source: docs/RULES.md, "Transactions", "Locks", "Refusals".
-use Rattle.std.specs.Prelude.{◌≡◌, ◌⊎◌, ⊤, ℕ, ◌+◌, ◌-◌, ◌^◌, min, nat_lt, Bool, true, false, not, List, [], ◌∷◌, length, take, drop, Option, None, Some, if◌then◌else◌}
+use Rattle.std.specs.Prelude.{◌≡◌, ◌⊎◌, ⊤, ℕ, ◌+◌, ◌-◌, ◌^◌, min, nat_lt, Bool, true, false, not, List, [], ◌∷◌, length, take, drop, Option, None, Some, option_map, unwrap_or, if◌then◌else◌}
 use Rattle.refusal.specs.declared.Refusal.{Refusal}
 use Rattle.refusal.specs.declared.Refusal.TheVariants.{NoTransaction, LevelTooDeep, TransactionTooLong, StampsUsedUp, OutOfMemory}
 use Rattle.collation.specs.Limits.{most_commands, most_levels}
@@ -39,6 +39,14 @@ abbrev pub refused_or : Option Refusal → Reply → Reply
 refused_or (Some refusal) reply = Refused refusal
 refused_or None reply = reply
 
+-- outside a transaction there is none to end or to begin anew
+abbrev pub in_transaction : (Transaction → Reply) → Option Transaction → Reply
+in_transaction reply t = unwrap_or (option_map reply t) (Refused NoTransaction)
+
+-- a number of the job's transaction, 0 outside one
+abbrev pub number_in : (Transaction → ℕ) → Option Transaction → ℕ
+number_in number t = unwrap_or (option_map number t) 0
+
 -- a data command on a database
 abbrev pub reply_on : DataCommand → Database → Reply
 reply_on command m = refused_or (data_refusal command m) (Answered (data_reply command m))
@@ -68,36 +76,19 @@ abbrev pub restarted : Transaction → Reply
 restarted t = Restarted (min (t.restarts + 1) (2 ^ 64 - 1))
 
 -- an inner commit lowers the level; the outermost restarts the transaction exactly where it is overtaken
-abbrev pub reply_to_commit : Option Transaction → List JournalUnit → Reply
-reply_to_commit None units = Refused NoTransaction
-reply_to_commit (Some t) units = if nat_lt 1 t.level then AtLevel (t.level - 1) else (if is_overtaken t units then restarted t else Committed)
-
-abbrev pub reply_to_rollback : Option Transaction → Reply
-reply_to_rollback None = Refused NoTransaction
-reply_to_rollback (Some t) = Finished
-
-abbrev pub reply_to_restart : Option Transaction → Reply
-reply_to_restart None = Refused NoTransaction
-reply_to_restart (Some t) = restarted t
-
-abbrev pub level_of : Option Transaction → ℕ
-level_of None = 0
-level_of (Some t) = t.level
-
-abbrev pub restarts_of : Option Transaction → ℕ
-restarts_of None = 0
-restarts_of (Some t) = t.restarts
+abbrev pub reply_to_commit : List JournalUnit → Transaction → Reply
+reply_to_commit units t = if nat_lt 1 t.level then AtLevel (t.level - 1) else (if is_overtaken t units then restarted t else Committed)
 
 -- the reply to a command, were there room for any number of units
 abbrev pub reply_with_room : ℕ → Command → Machine → Reply
 reply_with_room job (Access command) s = reply_to_data command (transaction_of job s) s.units
 reply_with_room job (Lock command) s = reply_to_lock job command (after s.units initial).locks
 reply_with_room job Start s = reply_to_start (transaction_of job s)
-reply_with_room job Commit s = reply_to_commit (transaction_of job s) s.units
-reply_with_room job Rollback s = reply_to_rollback (transaction_of job s)
-reply_with_room job Restart s = reply_to_restart (transaction_of job s)
-reply_with_room job Level s = Count (level_of (transaction_of job s))
-reply_with_room job Restarts s = Count (restarts_of (transaction_of job s))
+reply_with_room job Commit s = in_transaction (reply_to_commit s.units) (transaction_of job s)
+reply_with_room job Rollback s = in_transaction (λ t. Finished) (transaction_of job s)
+reply_with_room job Restart s = in_transaction restarted (transaction_of job s)
+reply_with_room job Level s = Count (number_in (λ t. t.level) (transaction_of job s))
+reply_with_room job Restarts s = Count (number_in (λ t. t.restarts) (transaction_of job s))
 reply_with_room job Halt s = Finished
 
 -- ---- steps and runs

@@ -11,7 +11,7 @@ use Rattle.command.specs.declared.access.DataCommand.{DataCommand}
 use Rattle.command.specs.declared.access.Answer.{Answer}
 use Rattle.command.specs.declared.request.Command.{Command}
 use Rattle.command.specs.declared.request.Command.TheVariants.{Access, Lock as lock_command, Start, Commit, Rollback, Restart, Level, Restarts, Halt}
-use Rattle.command.specs.declared.request.Reply.TheVariants.{Answered, AtLevel, Committed, Refused}
+use Rattle.command.specs.declared.request.Reply.TheVariants.{Answered, Finished, AtLevel, Committed, Refused}
 use Rattle.collation.specs.Limits.{most_commands, most_levels}
 use Rattle.lock_name.specs.declared.lock.LockCommand.{LockCommand}
 use Rattle.lock_name.specs.declared.lock.LockCommand.TheVariants.{Release, Only, More, Fewer}
@@ -25,7 +25,7 @@ use Rattle.journal.specs.History.{initial, after, all_after, IsRight, AreRight, 
 use Rattle.journal.specs.laws.History.{after-append, IsLegal-append}
 use Rattle.journal.specs.Touching.{has_read}
 use Rattle.journal.specs.Story.{Transaction, Machine, nothing_done, transaction_of, add_unit, put_transaction, close, begin, told_answer, told_lock, told_level, told_commit, told_back, told}
-use Rattle.serial.specs.Machine.{state_at, seen_by, is_overtaken, refused_or, reply_on, reply_to_data, told_had, reply_to_lock, reply_to_start, restarted, reply_to_commit, reply_to_rollback, reply_to_restart, reply_with_room, step_of, run_of}
+use Rattle.serial.specs.Machine.{state_at, seen_by, is_overtaken, refused_or, in_transaction, reply_on, reply_to_data, told_had, reply_to_lock, reply_to_start, restarted, reply_to_commit, reply_with_room, step_of, run_of}
 use Rattle.serial.specs.Soundness.{IsSound, IsGood}
 use Rattle.serial.specs.laws.Rereading.{right_on_both}
 use Rattle.serial.specs.laws.Untouched.{untouched_by_units}
@@ -156,7 +156,7 @@ right_at_commit t units sound none =
     (untouched_by_units test (drop t.start units) (state_at t.start units) none)
     sound.right)
 
-pub good_commit : (job : ℕ) (s : Machine) → IsGood s → IsGood (told job Commit (reply_to_commit (transaction_of job s) s.units) s)
+pub good_commit : (job : ℕ) (s : Machine) → IsGood s → IsGood (told job Commit (in_transaction (reply_to_commit s.units) (transaction_of job s)) s)
 good_commit job s good = by_open (transaction_of job s) refl
   where
     committed : (t : Transaction) → transaction_of job s ≡ Some t → is_overtaken t s.units ≡ false → IsGood (told_commit job (transaction_of job s) s)
@@ -170,7 +170,7 @@ good_commit job s good = by_open (transaction_of job s) refl
     by_level t true is = good_level job (t.level - 1) s good
     by_level t false is = by_test t (is_overtaken t s.units) is refl
 
-    by_open : (o : Option Transaction) → transaction_of job s ≡ o → IsGood (told job Commit (reply_to_commit o s.units) s)
+    by_open : (o : Option Transaction) → transaction_of job s ≡ o → IsGood (told job Commit (in_transaction (reply_to_commit s.units) o) s)
     by_open None is = good
     by_open (Some t) is = by_level t (nat_lt 1 t.level) is
 
@@ -178,11 +178,11 @@ pub good_start : (job : ℕ) (o : Option Transaction) (s : Machine) → IsGood s
 good_start job None s good = good_level job 1 s good
 good_start job (Some t) s good = elim (nat_lt t.level most_levels) as (λ b. IsGood (told job Start (cond b (AtLevel (t.level + 1)) (Refused LevelTooDeep)) s)) [ true ↦ good_level job (t.level + 1) s good | false ↦ good ]
 
-pub good_rollback : (job : ℕ) (o : Option Transaction) (s : Machine) → IsGood s → IsGood (told job Rollback (reply_to_rollback o) s)
+pub good_rollback : (job : ℕ) (o : Option Transaction) (s : Machine) → IsGood s → IsGood (told job Rollback (in_transaction (λ t. Finished) o) s)
 good_rollback job None s good = good
 good_rollback job (Some t) s good = good_closed job (told_back job (transaction_of job s) s) (good_back job (transaction_of job s) s good)
 
-pub good_restart : (job : ℕ) (o : Option Transaction) (s : Machine) → IsGood s → IsGood (told job Restart (reply_to_restart o) s)
+pub good_restart : (job : ℕ) (o : Option Transaction) (s : Machine) → IsGood s → IsGood (told job Restart (in_transaction restarted o) s)
 good_restart job None s good = good
 good_restart job (Some t) s good = good_begun job _ (told_back job (transaction_of job s) s) (good_back job (transaction_of job s) s good)
 

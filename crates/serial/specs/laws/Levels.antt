@@ -23,7 +23,7 @@ use Rattle.journal.specs.declared.unit.Unit.TheVariants.{Whole, Lock, Back, End}
 use Rattle.journal.specs.History.{State, initial, after}
 use Rattle.journal.specs.laws.History.{after-append}
 use Rattle.journal.specs.Story.{Transaction, Machine, nothing_done, transaction_of, add_unit, put_transaction, close, begin, told_answer, told_lock, told_level, told_commit, told_back, told, story_of}
-use Rattle.serial.specs.Machine.{is_overtaken, restarted, reply_to_start, reply_to_commit, reply_to_rollback, reply_to_restart, level_of, restarts_of, reply_with_room, reply_of, step_of, IsReply, AreReplies}
+use Rattle.serial.specs.Machine.{is_overtaken, in_transaction, number_in, restarted, reply_to_start, reply_to_commit, reply_with_room, reply_of, step_of, IsReply, AreReplies}
 use Rattle.serial.specs.Levels.{BeginsNow, StartsNow, RestartsNow, BeginningsTell, IsAtLevel, LevelsTell, NoLevels, LevelsStayWithin, CommitLeaves, RollbackLeaves, HaltLeaves, HasUnitsLeft, EndsAreReplied, EndsTell}
 use Rattle.serial.specs.laws.ByJob.{same_or_not, get_here, gone_here, locks_gone, locks_changed}
 use Rattle.serial.specs.laws.Replies.{reply_within}
@@ -80,12 +80,12 @@ restarted_by_restart : (job : ℕ) (s : Machine) (t : Transaction) (n : ℕ) →
 restarted_by_restart job s t n open_is is =
     let reply = with_room job Restart (Restarted n) s is (λ e. absurd (cc)) in
     record {
-      counted = counted_restart t n (sym (ap reply_to_restart open_is) ∙ reply);
+      counted = counted_restart t n (sym (ap (in_transaction restarted) open_is) ∙ reply);
       begins = subst (λ r. BeginsNow job n (told job Restart r s)) (sym is) (begins_now job n (told_back job (transaction_of job s) s));
     }
 
-commit_replied : (job : ℕ) (s : Machine) (t : Transaction) (reply : Reply) → transaction_of job s ≡ Some t → reply_of job Commit s ≡ reply → (Refused StampsUsedUp ≡ reply → ⊥) → reply_to_commit (Some t) s.units ≡ reply
-commit_replied job s t reply open_is is other = sym (ap (λ o. reply_to_commit o s.units) open_is) ∙ with_room job Commit reply s is other
+commit_replied : (job : ℕ) (s : Machine) (t : Transaction) (reply : Reply) → transaction_of job s ≡ Some t → reply_of job Commit s ≡ reply → (Refused StampsUsedUp ≡ reply → ⊥) → reply_to_commit s.units t ≡ reply
+commit_replied job s t reply open_is is other = sym (ap (in_transaction (reply_to_commit s.units)) open_is) ∙ with_room job Commit reply s is other
 
 restarted_by_commit : (job : ℕ) (s : Machine) (t : Transaction) (n : ℕ) → transaction_of job s ≡ Some t → reply_of job Commit s ≡ Restarted n → RestartsNow job n t (step_of job Commit s)
 restarted_by_commit job s t n open_is is = record {
@@ -129,8 +129,8 @@ module _ (job : ℕ) (t : Transaction) (s : Machine) (open_is : transaction_of j
   back : 1 < t.level → IsAtLevel job (t.level - 1) Commit t s
   back more =
       let same = units_at_level job (t.level - 1) (transaction_of job s) s in
-      let room : reply_to_commit (Some t) s.units ≡ AtLevel (t.level - 1) = ap (λ b. cond b (AtLevel (t.level - 1)) (cond (is_overtaken t s.units) (restarted t) Committed)) (lt-ltb 1 t.level more) in
-      let reply = replied job Commit (AtLevel (t.level - 1)) s (ap (λ o. reply_to_commit o s.units) open_is ∙ room) same few in
+      let room : reply_to_commit s.units t ≡ AtLevel (t.level - 1) = ap (λ b. cond b (AtLevel (t.level - 1)) (cond (is_overtaken t s.units) (restarted t) Committed)) (lt-ltb 1 t.level more) in
+      let reply = replied job Commit (AtLevel (t.level - 1)) s (ap (in_transaction (reply_to_commit s.units)) open_is ∙ room) same few in
       record {
         reply = reply;
         units = ap (λ r. (told job Commit r s).units) reply ∙ same;
@@ -142,14 +142,14 @@ levels_tell job t s open_is few = record {
   deeper = deeper job t s open_is few;
   deepest = deepest job t s open_is few;
   back = back job t s open_is few;
-  level = replied job Level (Count t.level) s (ap (λ o. Count (level_of o)) open_is) refl few;
-  restarts = replied job Restarts (Count t.restarts) s (ap (λ o. Count (restarts_of o)) open_is) refl few;
+  level = replied job Level (Count t.level) s (ap (λ o. Count (number_in (λ t. t.level) o)) open_is) refl few;
+  restarts = replied job Restarts (Count t.restarts) s (ap (λ o. Count (number_in (λ t. t.restarts) o)) open_is) refl few;
 }
 
 pub no_levels : (job : ℕ) (s : Machine) → transaction_of job s ≡ None → length s.units < 2 ^ 64 → NoLevels job s
 no_levels job s none few = record {
-  level = replied job Level (Count 0) s (ap (λ o. Count (level_of o)) none) refl few;
-  restarts = replied job Restarts (Count 0) s (ap (λ o. Count (restarts_of o)) none) refl few;
+  level = replied job Level (Count 0) s (ap (λ o. Count (number_in (λ t. t.level) o)) none) refl few;
+  restarts = replied job Restarts (Count 0) s (ap (λ o. Count (number_in (λ t. t.restarts) o)) none) refl few;
 }
 
 -- ---- levels in runs
@@ -233,7 +233,7 @@ module _ (job : ℕ) where
       by_room true less is = let few : t.level < 127 = ltb-true t.level most_levels less in subst InRange (level_replied (t.level + 1) level is) (omega arith, omega arith)
       by_room false less is = absurd (cc)
 
-  commit_in_range : (o : Option Transaction) (level : ℕ) (s : Machine) → transaction_of job s ≡ o → AreInRange s → reply_to_commit o s.units ≡ AtLevel level → InRange level
+  commit_in_range : (o : Option Transaction) (level : ℕ) (s : Machine) → transaction_of job s ≡ o → AreInRange s → in_transaction (reply_to_commit s.units) o ≡ AtLevel level → InRange level
   commit_in_range None level s open_is h is = absurd (cc)
   commit_in_range (Some t) level s open_is h is = by_level (nat_lt 1 t.level) refl is
     where
@@ -354,15 +354,15 @@ commit_units : (job : ℕ) (o : Option Transaction) (s : Machine) → length (to
 commit_units job None s = omega arith
 commit_units job (Some t) s = one_unit (Whole job t.exchanges) s
 
-committed_reply : (t : Transaction) (units : List JournalUnit) → t.level ≤ 1 → is_overtaken t units ≡ false → reply_to_commit (Some t) units ≡ Committed
+committed_reply : (t : Transaction) (units : List JournalUnit) → t.level ≤ 1 → is_overtaken t units ≡ false → reply_to_commit units t ≡ Committed
 committed_reply t units low fresh =
     let outermost : nat_lt 1 t.level ≡ false = grind (arith, nat_tests) in
     ap (λ b. cond b (AtLevel (t.level - 1)) (cond (is_overtaken t units) (restarted t) Committed)) outermost ∙ ap (λ b. cond b (restarted t) Committed) fresh
 
 ends_are_replied : (job : ℕ) (s : Machine) → HasUnitsLeft s → EndsAreReplied job s
 ends_are_replied job s room = record {
-  commit = λ t open_is low fresh. replied_with_unit job Commit Committed s (ap (λ o. reply_to_commit o s.units) open_is ∙ committed_reply t s.units low fresh) (commit_units job (transaction_of job s) s) room;
-  rollback = λ t open_is. replied_with_unit job Rollback Finished s (ap reply_to_rollback open_is) (back_units job (transaction_of job s) s) room;
+  commit = λ t open_is low fresh. replied_with_unit job Commit Committed s (ap (in_transaction (reply_to_commit s.units)) open_is ∙ committed_reply t s.units low fresh) (commit_units job (transaction_of job s) s) room;
+  rollback = λ t open_is. replied_with_unit job Rollback Finished s (ap (in_transaction (λ t. Finished)) open_is) (back_units job (transaction_of job s) s) room;
   halt = replied_with_unit job Halt Finished s refl (one_unit (End job) s) room;
 }
 

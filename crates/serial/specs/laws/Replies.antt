@@ -13,11 +13,11 @@ use Rattle.command.specs.declared.access.DataCommand.TheVariants.{Set, Kill, Mer
 use Rattle.command.specs.declared.request.Command.{Command}
 use Rattle.command.specs.declared.request.Command.TheVariants.{Access, Lock, Start, Commit, Rollback, Restart, Level, Restarts, Halt}
 use Rattle.command.specs.declared.request.Reply.{Reply}
-use Rattle.command.specs.declared.request.Reply.TheVariants.{Answered, AtLevel, Refused}
+use Rattle.command.specs.declared.request.Reply.TheVariants.{Answered, Finished, AtLevel, Refused}
 use Rattle.command.specs.Data.{data_refusal, data_reply}
 use Rattle.globals.specs.Answering.{early_refusal}
 use Rattle.journal.specs.Story.{Transaction, Machine, transaction_of, told}
-use Rattle.serial.specs.Machine.{seen_by, refused_or, reply_on, reply_to_data, reply_to_start, reply_to_commit, reply_to_rollback, reply_to_restart, reply_with_room, reply_of, early_of, takes_none, IsReply}
+use Rattle.serial.specs.Machine.{seen_by, refused_or, in_transaction, reply_on, reply_to_data, reply_to_start, restarted, reply_to_commit, reply_with_room, reply_of, early_of, takes_none, IsReply}
 
 -- the machine's reply where the journal has room for its unit
 pub reply_within : (s : Machine) (job : ℕ) (command : Command) (reply : Reply) → reply_with_room job command s ≡ reply → length (told job command reply s).units < 2 ^ 64 → reply ≡ reply_of job command s
@@ -71,17 +71,17 @@ early_with_room job Start s refusal e = by_transaction (transaction_of job s) e
     by_transaction (Some t) is = by_level t (nat_lt t.level most_levels) is
 early_with_room job Commit s refusal e = by_transaction (transaction_of job s) e
   where
-    by_transaction : (o : Option Transaction) → early_of Commit o ≡ Some refusal → reply_to_commit o s.units ≡ Refused refusal
+    by_transaction : (o : Option Transaction) → early_of Commit o ≡ Some refusal → in_transaction (reply_to_commit s.units) o ≡ Refused refusal
     by_transaction None is = same_refusal NoTransaction refusal is
     by_transaction (Some t) never = absurd (cc)
 early_with_room job Rollback s refusal e = by_transaction (transaction_of job s) e
   where
-    by_transaction : (o : Option Transaction) → early_of Rollback o ≡ Some refusal → reply_to_rollback o ≡ Refused refusal
+    by_transaction : (o : Option Transaction) → early_of Rollback o ≡ Some refusal → in_transaction (λ t. Finished) o ≡ Refused refusal
     by_transaction None is = same_refusal NoTransaction refusal is
     by_transaction (Some t) never = absurd (cc)
 early_with_room job Restart s refusal e = by_transaction (transaction_of job s) e
   where
-    by_transaction : (o : Option Transaction) → early_of Restart o ≡ Some refusal → reply_to_restart o ≡ Refused refusal
+    by_transaction : (o : Option Transaction) → early_of Restart o ≡ Some refusal → in_transaction restarted o ≡ Refused refusal
     by_transaction None is = same_refusal NoTransaction refusal is
     by_transaction (Some t) never = absurd (cc)
 early_with_room job Level s refusal e = absurd (cc)
