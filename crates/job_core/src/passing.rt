@@ -1,5 +1,5 @@
 //! What lone look-ups pass over at once: stretches in which no node is left.
-ghost use Rattle.std.specs.Prelude.{◌≡◌, [], false, length};
+ghost use Rattle.std.specs.Prelude.{◌≡◌, []};
 ghost use Rattle.collation.specs.Database.{Database};
 ghost use Rattle.command.specs.Data.{data_after};
 ghost use Rattle.stretches.specs.Empty.{AreEmpty};
@@ -66,11 +66,7 @@ impl Passing {
     {
         match command {
             DataCommand::Look(look) => self.look_ahead(alloc, store, look),
-            DataCommand::Kill(_) => {
-                if oldest.is_some() {
-                    self.note_kills(store);
-                }
-            }
+            DataCommand::Kill(_) => self.note_kills(store, oldest),
             _ => self.leave(command),
         }
     }
@@ -90,19 +86,29 @@ impl Passing {
         ensures before { (m : Database) → AreEmpty self.old m → AreEmpty self.new m }
         ensures written { AreEmpty self.new work.now.layer.written }
     {
+        if work.has_killed() {
+            self.note_kills(store, oldest);
+        }
+        self.leave_for(work);
+    }
+
+    // Drops the stretches, where what a transaction has set may stand in one of them.
+    fn leave_for(&mut self, work: &Work)
+        ensures before { (m : Database) → AreEmpty self.old m → AreEmpty self.new m }
+        ensures written { AreEmpty self.new work.now.layer.written }
+    {
         if work.may_enter(&self.stretches) {
             self.stretches.clear();
         }
-        if oldest.is_some() && work.has_killed() {
-            self.note_kills(store);
-        }
     }
 
-    // Nodes are to be killed while older content is asked for: absences are left.
-    fn note_kills(&mut self, store: &KeyedStore)
+    // Nodes are to be killed: where older content is asked for absences are left.
+    fn note_kills(&mut self, store: &KeyedStore, oldest: Option<u64>)
         ensures { self.new ≡ self.old }
     {
-        self.absences.note_kills(store.now(), store.placed_count());
+        if oldest.is_some() {
+            self.absences.note_kills(store.now(), store.placed_count());
+        }
     }
 
     /// A turn of the collector at this horizon has visited so many keys.

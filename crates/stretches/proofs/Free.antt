@@ -40,6 +40,15 @@ free_to_end cut end m none x h = ap is_some (nearest_none ref_cmp ref_cmp_total 
 pub free_from_start : (start cut : Cut) (m : Database) → last_before_cut cut m ≡ None → IsFree start cut m
 free_from_start start cut m none x h = ap is_some (nearest_none ref_cmp ref_cmp_total ref_cmp-IsAntisymmetric false (stands_before cut) m none x (second_so (not (stands_before start x)) _ h))
 
+-- ---- nothing stands between a cut and itself
+
+pub free_nowhere : (cut : Cut) (m : Database) → IsFree cut cut m
+free_nowhere cut m x h = by_side (stands_before cut x) h
+  where
+    by_side : (b : Bool) → (not b && b) ≡ true → finmap.contains_key m x ≡ false
+    by_side true h = absurd (cc)
+    by_side false h = absurd (cc)
+
 -- ---- a part of what two cuts have between them
 
 pub free_part : (low middle high begin end : Cut) (s : ReadRange) (m : Database) → IsFree low middle m → IsFree middle high m → AreEarlier low begin → AreEarlier end high → ((x : Reference) → is_in s x ≡ between begin end x) → IsEmpty s m
@@ -52,10 +61,13 @@ free_part low middle high begin end s m before behind begins ends of x h =
     not_before false b f n = refl
 
     by_side : (t : Bool) → stands_before middle x ≡ t → not (stands_before low x) ≡ true → stands_before high x ≡ true → finmap.contains_key m x ≡ false
-    by_side true is l r = before x ((λ i. l i && is i))
-    by_side false is l r = behind x ((λ i. not (is i) && r i))
+    by_side true is l r = before x (λ i. l i && is i)
+    by_side false is l r = behind x (λ i. not (is i) && r i)
 
 -- ---- a stretch with its ends
+
+pub nothing_from : (s : ReadRange) (low : Cut) (m : Database) → ((x : Reference) → stands_before low x ≡ begins_after s x) → first_from_cut low m ≡ None → IsEmpty s m
+nothing_from s low m begins none x h = ap is_some (nearest_none ref_cmp ref_cmp_total ref_cmp-IsAntisymmetric true (λ x. not (stands_before low x)) m none x (ap not (begins x) ∙ first_so (not (begins_after s x)) _ h))
 
 module _ (s : ReadRange) (low high : Cut) (m : Database) (begins : (x : Reference) → stands_before low x ≡ begins_after s x) (ends : (x : Reference) → stands_before high x ≡ ends_after s x) where
   from_low : (x : Reference) → is_in s x ≡ true → not (stands_before low x) ≡ true
@@ -64,21 +76,23 @@ module _ (s : ReadRange) (low high : Cut) (m : Database) (begins : (x : Referenc
   to_high : (x : Reference) → is_in s x ≡ true → stands_before high x ≡ true
   to_high x h = ends x ∙ second_so (not (begins_after s x)) _ h
 
-  pub nothing_from : first_from_cut low m ≡ None → IsEmpty s m
-  nothing_from none x h = ap is_some (nearest_none ref_cmp ref_cmp_total ref_cmp-IsAntisymmetric true (λ x. not (stands_before low x)) m none x (from_low x h))
-
   -- the first member from its beginning on stands beyond its end
-  pub next_beyond : (e : Node) → first_from_cut low m ≡ Some e → stands_before high e.0 ≡ false → IsEmpty s m
-  next_beyond e is beyond x h = false_from_ne_true _ (λ there. by_order there (ref_cmp x e.0) refl)
+  pub next_beyond : (e : Node) (b : Bool) → first_from_cut low m ≡ Some e → b ≡ stands_before high e.0 → not b ≡ true → IsEmpty s m
+  next_beyond e b is test beyond x h = false_from_ne_true _ (λ there. by_order there (ref_cmp x e.0) refl)
     where
-      near = nearest_is ref_cmp ref_cmp_total ref_cmp-IsAntisymmetric true (λ x. not (stands_before low x)) m e is
+      never : stands_before high e.0 ≡ true → ⊥
+      never t = let no : not true ≡ true = (λ i. not (sym (test ∙ t) i)) ∙ beyond in absurd (cc)
 
       by_order : finmap.contains_key m x ≡ true → (r : Ordering) → ref_cmp x e.0 ≡ r → ⊥
-      by_order there Less l = near.none_nearer x (from_low x h) there l
-      by_order there Equal l = let same = ref_cmp-IsAntisymmetric x e.0 l in let t : stands_before high e.0 ≡ true = subst (λ y. stands_before high y ≡ true) same (to_high x h) in absurd (cc)
-      by_order there Greater l = let t : stands_before high e.0 ≡ true = stands_before-earlier high e.0 x (turned ref_cmp_total x e.0 Greater l) (to_high x h) in absurd (cc)
+      by_order there Less l = let near = nearest_is ref_cmp ref_cmp_total ref_cmp-IsAntisymmetric true (λ x. not (stands_before low x)) m e is in near.none_nearer x (from_low x h) there l
+      by_order there Equal l = never (subst (λ y. stands_before high y ≡ true) (ref_cmp-IsAntisymmetric x e.0 l) (to_high x h))
+      by_order there Greater l = never (stands_before-earlier high e.0 x (turned ref_cmp_total x e.0 Greater l) (to_high x h))
 
 -- ---- several
+
+pub true_if_not : (b : Bool) → not b ≡ false → b ≡ true
+true_if_not true h = refl
+true_if_not false h = absurd (cc)
 
 pub one_more_empty : (s : ReadRange) (rs : List ReadRange) (m : Database) → IsEmpty s m → AreEmpty rs m → AreEmpty (s ∷ rs) m
 one_more_empty s rs m is are x h = by_test (is_in s x) refl h

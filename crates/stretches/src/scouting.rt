@@ -84,11 +84,7 @@ fn scout_ahead<V: OrderedView, W: InTheWay>(
     if !is_there(way.first_from(from), from, high) {
         return None;
     }
-    let low = if stretches.have(cut) {
-        from
-    } else {
-        last_edge(view, from)
-    };
+    let low = low_edge(view, stretches, cut, from);
     narrowed(view, way, low, from, high)
 }
 
@@ -111,11 +107,7 @@ fn scout_behind<V: OrderedView, W: InTheWay>(
     if !is_there(way.last_before(to), low, to) {
         return None;
     }
-    let high = if stretches.have(cut) {
-        to
-    } else {
-        next_edge(view, to, &name)
-    };
+    let high = high_edge(view, stretches, cut, to, &name);
     narrowed(view, way, low, to, high)
 }
 
@@ -147,6 +139,40 @@ fn last_edge<'v, V: OrderedView>(view: &'v V, cut: Cut<'_>) -> Cut<'v>
     }
 }
 
+// From where on no node stands before the end of the stretch in which the cut lies: at that end, or without such a stretch
+// behind the last node.
+fn low_edge<'v, V: OrderedView>(
+    view: &'v V,
+    stretches: &Stretches,
+    cut: Cut<'_>,
+    from: Cut<'v>,
+) -> Cut<'v>
+    ensures { IsFree result from.entry (V.content view.now) }
+{
+    if stretches.have(cut) {
+        from
+    } else {
+        last_edge(view, from)
+    }
+}
+
+// As `low_edge`, on the other side.
+fn high_edge<'v, V: OrderedView>(
+    view: &'v V,
+    stretches: &Stretches,
+    cut: Cut<'_>,
+    to: Cut<'v>,
+    name: &'v Key,
+) -> Cut<'v>
+    ensures { IsFree to.entry result (V.content view.now) }
+{
+    if stretches.have(cut) {
+        to
+    } else {
+        next_edge(view, to, name)
+    }
+}
+
 // The part between two ends that has the cut in the middle and what lies in the way, where no node stands between the ends.
 fn narrowed<V: OrderedView, W: InTheWay>(
     view: &V,
@@ -155,21 +181,33 @@ fn narrowed<V: OrderedView, W: InTheWay>(
     middle: Cut<'_>,
     high: Cut<'_>,
 ) -> Option<ReadRange>
-    requires before { IsFree low.entry middle.entry (V.content view.now) }
-    requires behind { IsFree middle.entry high.entry (V.content view.now) }
+    requires before { IsFree low middle (V.content view.now) }
+    requires behind { IsFree middle high (V.content view.now) }
     ensures { IfSome result (λ stretch. IsEmpty stretch (V.content view.now)) }
 {
-    let begin = match way.first_from(low) {
-        Some(first) => later(low, earlier(Cut::Before(first), middle)),
-        None => low,
-    };
-    let end = match way.last_before(high) {
-        Some(last) => earlier(high, later(Cut::Past(last), middle)),
-        None => high,
-    };
-    match ReadRange::new(begin, end) {
+    match ReadRange::new(begin_of(way, low, middle), end_of(way, middle, high)) {
         Ok(stretch) => Some(stretch),
         Err(_) => None,
+    }
+}
+
+// Where the part begins: at the first in the way from the lower end on, or at the cut in the middle before it.
+fn begin_of<'c, W: InTheWay>(way: &'c W, low: Cut<'c>, middle: Cut<'c>) -> Cut<'c>
+    ensures { AreEarlier low.entry result }
+{
+    match way.first_from(low) {
+        Some(first) => later(low, earlier(Cut::Before(first), middle)),
+        None => low,
+    }
+}
+
+// Where the part ends: behind the last in the way before the higher end, or at the cut in the middle behind it.
+fn end_of<'c, W: InTheWay>(way: &'c W, middle: Cut<'c>, high: Cut<'c>) -> Cut<'c>
+    ensures { AreEarlier result high.entry }
+{
+    match way.last_before(high) {
+        Some(last) => earlier(high, later(Cut::Past(last), middle)),
+        None => high,
     }
 }
 
