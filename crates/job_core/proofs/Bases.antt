@@ -42,7 +42,7 @@ kept_place (Some stamp) n store units agreed asked is = record { from = omega (a
 
 -- the core whose base has moved, or hasn't
 pub core_moved : {E : Type 0} (result : Result ℕ E) (store : Stored) (units more : List JournalUnit) (base new n : ℕ) (table : LockState) (rs : List ReadRange) → IsCore store units base table rs → more ≡ units → n ≤ length units → OnOk result (new ≡ n) → OnErr result (new ≡ base) → IsCore store more new table rs
-core_moved result store units more base new n table rs is same to moved kept = record {
+core_moved {E} result store units more base new n table rs is same to moved kept = record {
   agreed = subst (Agreement store) (sym same) is.agreed;
   locks = is.locks ∙ ap (λ us. (after us initial).locks) (sym same);
   within = by_result result moved kept;

@@ -31,10 +31,10 @@ impl Absences {
         self.unvisited = placed;
     }
 
-    /// A turn of the collector at this horizon has visited so many references.
-    pub(crate) fn note_turn(&mut self, horizon: u64, visited: usize) {
+    /// A turn of the collector at this horizon visits so many references, if there are as many.
+    pub(crate) fn note_turn(&mut self, horizon: u64, limit: usize) {
         if horizon > self.since {
-            self.unvisited = self.unvisited.saturating_sub(visited);
+            self.unvisited = self.unvisited.saturating_sub(limit);
         }
     }
 

@@ -1,8 +1,8 @@
 //! What lone look-ups pass over at once: stretches in which no node is left.
-ghost use Rattle.std.specs.Prelude.{◌≡◌, []};
+ghost use Rattle.std.specs.Prelude.{◌≡◌, [], IfSome};
 ghost use Rattle.collation.specs.Database.{Database};
 ghost use Rattle.command.specs.Data.{data_after};
-ghost use Rattle.stretches.specs.Empty.{AreEmpty};
+ghost use Rattle.stretches.specs.Empty.{AreEmpty, IsEmpty};
 ghost use Rattle.version_store.specs.Versions.{content_now};
 
 use crate::absences::Absences;
@@ -10,6 +10,7 @@ use command::{DataCommand, Look};
 use globals::Cut;
 use key_codec::Key;
 use key_map::CutPoint;
+use read_ranges::ReadRange;
 use std::alloc::Global;
 use std::marker::Model;
 use stretches::{InTheWay, Stretches, scout};
@@ -86,10 +87,16 @@ impl Passing {
         ensures before { (m : Database) → AreEmpty self.old m → AreEmpty self.new m }
         ensures written { AreEmpty self.new work.now.layer.written }
     {
-        if work.has_killed() {
+        self.note_killed(store, work, oldest);
+        self.leave_for(work);
+    }
+
+    fn note_killed(&mut self, store: &KeyedStore, work: &Work, oldest: Option<u64>)
+        ensures { self.new ≡ self.old }
+    {
+        if oldest.is_some() && work.has_killed() {
             self.note_kills(store, oldest);
         }
-        self.leave_for(work);
     }
 
     // Drops the stretches, where what a transaction has set may stand in one of them.
@@ -111,11 +118,11 @@ impl Passing {
         }
     }
 
-    /// A turn of the collector at this horizon has visited so many keys.
-    pub(crate) fn note_turn(&mut self, horizon: u64, visited: usize)
+    /// A turn of the collector at this horizon visits so many keys at most.
+    pub(crate) fn note_turn(&mut self, horizon: u64, limit: usize)
         ensures { self.new ≡ self.old }
     {
-        self.absences.note_turn(horizon, visited);
+        self.absences.note_turn(horizon, limit);
     }
 
     fn look_ahead(&mut self, alloc: Global, store: &KeyedStore, look: &Look)
@@ -145,10 +152,22 @@ impl Passing {
         requires { AreEmpty self.old (content_now store.now) }
         ensures { AreEmpty self.new (content_now store.now) }
     {
+        let passed = self.passed(alloc, store, look);
+        self.note(&passed);
+    }
+
+    fn passed(&self, alloc: Global, store: &KeyedStore, look: &Look) -> Option<ReadRange>
+        ensures { IfSome result (λ stretch. IsEmpty stretch (content_now store.now)) }
+    {
         let placed = Placed { store };
-        let passed = scout(alloc, &store.view_now(), &placed, &self.stretches, look);
+        scout(alloc, &store.view_now(), &placed, &self.stretches, look)
+    }
+
+    fn note(&mut self, passed: &Option<ReadRange>)
+        ensures { (m : Database) → AreEmpty self.old m → IfSome passed.now (λ stretch. IsEmpty stretch m) → AreEmpty self.new m }
+    {
         self.absences.note_search(passed.is_some());
-        self.stretches.follow(false, &passed);
+        self.stretches.follow(false, passed);
     }
 }
 
