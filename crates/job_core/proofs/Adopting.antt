@@ -13,6 +13,9 @@ use Rattle.journal.specs.Checkpoints.{IsBehind}
 use Rattle.journal.specs.History.{State, initial, after, IsLegal}
 use Rattle.journal.specs.Story.{Machine}
 use Rattle.journal.specs.laws.Adopted.{adopted_legal, adopted_number, adopted_state, of_entries, no_entries}
+use Rattle.read_ranges.specs.declared.range.ReadRange.{ReadRange}
+use Rattle.stretches.specs.Empty.{AreEmpty}
+use Rattle.stretches.specs.laws.Entering.{none_are_empty}
 use Rattle.version_store.specs.Versions.{Stored, content_at, content_now}
 use Rattle.validate_commit.specs.Agreement.{Agreement}
 use Rattle.job_core.specs.Common.{Common, IsCore}
@@ -69,11 +72,12 @@ module _ (store new : Stored) (nodes : List (Reference × List ℕ)) (units : Li
   there : after units initial ≡ state_for store
   there = ap (λ xs. after xs initial) made ∙ adopted_there store nothing few
 
-  pub core_adopted : (table : LockState) → table ≡ finmap.empty → IsCore new units base table
-  core_adopted table none = record {
+  pub core_adopted : (table : LockState) (rs : List ReadRange) → table ≡ finmap.empty → rs ≡ [] → IsCore new units base table rs
+  core_adopted table rs none no_stretch = record {
     agreed = agreed;
     locks = none ∙ sym (ap (λ (s : State). s.locks) there);
     within = omega (arith, at_base, now, number);
+    empty = subst (λ (ss : List ReadRange). AreEmpty ss (after units initial).map) (sym no_stretch) (none_are_empty (after units initial).map);
   }
 
   pub has_adopted : HasAdopted store (record { store = new; units = units; base = base })

@@ -14,6 +14,8 @@ use Rattle.journal.specs.Checkpoints.{IsBehind, IsCheckpoint}
 use Rattle.journal.specs.History.{initial, after}
 use Rattle.journal.specs.Story.{Transaction, Machine, nothing_done, transaction_of, told}
 use Rattle.journal.specs.laws.Checkpoints.{stays_behind, moves_on, stands_behind}
+use Rattle.read_ranges.specs.declared.range.ReadRange.{ReadRange}
+use Rattle.stretches.specs.Empty.{AreEmpty}
 use Rattle.version_store.specs.Versions.{Stored, content_at}
 use Rattle.validate_commit.specs.Agreement.{Agreement}
 use Rattle.job_core.specs.declared.engine.Engine.{Engine}
@@ -39,9 +41,17 @@ kept_place None n store units agreed asked is = record { from = omega (arith, is
 kept_place (Some stamp) n store units agreed asked is = record { from = omega (arith, is, asked.0); to = omega (arith, is, asked.1) }
 
 -- the core whose base has moved, or hasn't
-pub core_moved : {E : Type 0} (result : Result ℕ E) (store : Stored) (units more : List JournalUnit) (base new n : ℕ) (table : LockState) → IsCore store units base table → more ≡ units → n ≤ length units → OnOk result (new ≡ n) → OnErr result (new ≡ base) → IsCore store more new table
-core_moved (Ok m) store units more base new n table is same to moved kept = record { agreed = subst (Agreement store) (sym same) is.agreed; locks = is.locks ∙ ap (λ us. (after us initial).locks) (sym same); within = omega (arith, moved, to, ap length same) }
-core_moved (Err e) store units more base new n table is same to moved kept = record { agreed = subst (Agreement store) (sym same) is.agreed; locks = is.locks ∙ ap (λ us. (after us initial).locks) (sym same); within = omega (arith, kept, is.within, ap length same) }
+pub core_moved : {E : Type 0} (result : Result ℕ E) (store : Stored) (units more : List JournalUnit) (base new n : ℕ) (table : LockState) (rs : List ReadRange) → IsCore store units base table rs → more ≡ units → n ≤ length units → OnOk result (new ≡ n) → OnErr result (new ≡ base) → IsCore store more new table rs
+core_moved {E} result store units more base new n table rs is same to moved kept = record {
+  agreed = subst (Agreement store) (sym same) is.agreed;
+  locks = is.locks ∙ ap (λ us. (after us initial).locks) (sym same);
+  within = by_result result moved kept;
+  empty = subst (λ us. AreEmpty rs (after us initial).map) (sym same) is.empty;
+}
+  where
+    by_result : (r : Result ℕ E) → OnOk r (new ≡ n) → OnErr r (new ≡ base) → new ≤ length more
+    by_result (Ok m) moved kept = omega (arith, moved, to, ap length same)
+    by_result (Err e) moved kept = omega (arith, kept, is.within, ap length same)
 
 -- ---- where it may stand among the open transactions
 

@@ -6,67 +6,95 @@ use crate::counting::{Counting, kill, thousand};
 use crate::keys::{key_of, text};
 use collation::{Direction, Text};
 use command::{Answer, DataCommand, Look};
-use globals::OrderedView;
+use globals::{Cut, OrderedView};
 use key_codec::{Key, Place};
 use key_map::KeyMap;
 use overlay_view::Overlay;
 use refusal::Refusal;
 use std::alloc::Global;
 use std::test::*;
-use stretches::{Skipping, Stretches, scout};
+use stretches::{InTheWay, Skipping, Stretches, scout};
 use workspace::Workspace;
 
+// What is killed lies in the way.
+#[derive(Drop)]
+struct Killed<'w> {
+    own: &'w Workspace,
+}
+
+impl<'w> InTheWay for Killed<'w> {
+    fn first_from(&self, cut: Cut<'_>) -> Option<&Key> {
+        match self.own.killed().first_from(cut) {
+            Some((root, _)) => Some(root),
+            None => None,
+        }
+    }
+
+    fn last_before(&self, cut: Cut<'_>) -> Option<&Key> {
+        match self.own.killed().last_before(cut) {
+            Some((root, _)) => Some(root),
+            None => None,
+        }
+    }
+}
+
 // Notes the stretch over which a command passes, and tells whether there is one.
-fn is_scouted<V: OrderedView>(view: &V, stretches: &mut Stretches, look: &Look) -> bool
+fn is_scouted<V: OrderedView>(
+    alloc: Global,
+    view: &V,
+    own: &Workspace,
+    stretches: &mut Stretches,
+    look: &Look,
+) -> bool
     requires { AreEmpty stretches.old (V.content view.now) }
     ensures { AreEmpty stretches.new (V.content view.now) }
 {
-    let stretch = scout(view, stretches, look);
+    let stretch = scout(alloc, view, &Killed { own }, stretches, look);
     stretches.follow(false, &stretch);
     stretch.is_some()
 }
 
-// Whether a $ORDER through the stretches is answered this digit.
+// Whether a $ORDER through the stretches is answered this text.
 fn is_found<V: OrderedView>(
     alloc: Global,
     view: &V,
     stretches: &Stretches,
     look: &Look,
-    digit: u8,
+    expected: &[u8],
 ) -> bool
     requires { AreEmpty stretches.now (V.content view.now) }
 {
     let skipping = Skipping::new(view, stretches);
     match globals::look(alloc, &skipping, look) {
-        Ok(answer) => is_digit(answer, digit),
+        Ok(answer) => is_text(answer, expected),
         Err(_) => false,
     }
 }
 
-fn is_digit(answer: Answer, digit: u8) -> bool {
+fn is_text(answer: Answer, expected: &[u8]) -> bool {
     match answer {
-        Answer::Value(found) => found.as_slice() == [digit].as_slice(),
+        Answer::Value(found) => found.as_slice() == expected,
         _ => false,
     }
 }
 
-// How many look-ups of the map a $ORDER makes that is answered this digit, before its stretch is noted and after; none
+// How many look-ups of the map a $ORDER makes that is answered this text, before its stretch is noted and after; none
 // where it isn't answered so.
 fn counts_of(
     alloc: Global,
     own: &Workspace,
     map: &KeyMap<Text>,
     look: &Look,
-    digit: u8,
+    expected: &[u8],
 ) -> Option<(u64, u64)> {
     let counting = Counting::new(map);
     let overlay = Overlay::new(own, &counting);
     let mut stretches = Stretches::new(alloc);
-    let found = is_found(alloc, &overlay, &stretches, look, digit);
+    let found = is_found(alloc, &overlay, &stretches, look, expected);
     let before = counting.taken();
-    let scouted = is_scouted(&overlay, &mut stretches, look);
+    let scouted = is_scouted(alloc, &overlay, own, &mut stretches, look);
     let _scout = counting.taken();
-    let again = is_found(alloc, &overlay, &stretches, look, digit);
+    let again = is_found(alloc, &overlay, &stretches, look, expected);
     let after = counting.taken();
     if found && scouted && again {
         Some((before, after))
@@ -80,11 +108,11 @@ fn counts_toward(
     own: &Workspace,
     map: &KeyMap<Text>,
     direction: Direction,
-    digit: u8,
+    expected: &[u8],
 ) -> Result<Option<(u64, u64)>, Refusal> {
     let place = Place::new(key_of(alloc, b"A")?, true);
     let look = Look::Order(place, direction);
-    let counts = counts_of(alloc, own, map, &look, digit);
+    let counts = counts_of(alloc, own, map, &look, expected);
     drop(look);
     Ok(counts)
 }
@@ -106,8 +134,8 @@ fn end_counts(
     map: &KeyMap<Text>,
 ) -> Result<EndCounts, Refusal> {
     kill_ends(alloc, own)?;
-    let forward = counts_toward(alloc, own, map, Direction::Forward, b'5')?;
-    let backward = counts_toward(alloc, own, map, Direction::Backward, b'7')?;
+    let forward = counts_toward(alloc, own, map, Direction::Forward, b"5")?;
+    let backward = counts_toward(alloc, own, map, Direction::Backward, b"7")?;
     Ok((forward, backward))
 }
 
@@ -125,5 +153,44 @@ fn a_noted_stretch_is_passed_over_by_one_look_up(rt: HostRuntime) -> Result<(), 
     let (forward, backward) = end_counts_of_thousand(rt.alloc())?;
     assert!(rt; forward == Some((6, 1)));
     assert!(rt; backward == Some((3, 1)));
+    Ok(())
+}
+
+fn kill_ten(alloc: Global, own: &mut Workspace) -> Result<(), Refusal> {
+    let all: [&[u8]; 10] = [
+        b"A0", b"A1", b"A2", b"A3", b"A4", b"A5", b"A6", b"A7", b"A8", b"A9",
+    ];
+    for spelled in all {
+        kill(alloc, own, spelled)?;
+    }
+    Ok(())
+}
+
+// The counts of $ORDERs from both ends of the thousand, of which all are killed.
+fn counts_of_none(
+    alloc: Global,
+    own: &mut Workspace,
+    map: &KeyMap<Text>,
+) -> Result<EndCounts, Refusal> {
+    kill_ten(alloc, own)?;
+    let forward = counts_toward(alloc, own, map, Direction::Forward, b"")?;
+    let backward = counts_toward(alloc, own, map, Direction::Backward, b"")?;
+    Ok((forward, backward))
+}
+
+fn counts_of_killed_thousand(alloc: Global) -> Result<EndCounts, Refusal> {
+    let map = thousand(alloc)?;
+    let mut own = Workspace::new(alloc);
+    let counts = counts_of_none(alloc, &mut own, &map);
+    drop(own);
+    drop(map);
+    counts
+}
+
+#[test]
+fn a_level_that_is_empty_is_passed_over_by_one_look_up(rt: HostRuntime) -> Result<(), Fail> {
+    let (forward, backward) = counts_of_killed_thousand(rt.alloc())?;
+    assert!(rt; forward == Some((11, 1)));
+    assert!(rt; backward == Some((11, 1)));
     Ok(())
 }

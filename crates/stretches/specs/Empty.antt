@@ -6,7 +6,7 @@ use Rattle.collation.specs.Database.{Database}
 use Rattle.globals.specs.declared.cut.Cut.{Cut}
 use Rattle.globals.specs.Cuts.{stands_before}
 use Rattle.read_ranges.specs.declared.range.ReadRange.{ReadRange}
-use Rattle.read_ranges.specs.Ranges.{begins_after, ends_after, is_in, is_in_one}
+use Rattle.read_ranges.specs.Ranges.{begins_after, between, ends_after, is_in, is_in_one}
 
 -- no member stands in the stretch
 abbrev pub IsEmpty : ReadRange → Database → Type 0
@@ -28,3 +28,7 @@ PartAlike a b m = (x : Reference) → finmap.contains_key m x ≡ true → stand
 pub record LiesIn (cut : Cut) (stretch : ReadRange) : Type 0 where
   pub begun : (x : Reference) → begins_after stretch x ≡ true → stands_before cut x ≡ true
   pub ended : (x : Reference) → stands_before cut x ≡ true → ends_after stretch x ≡ true
+
+-- no member stands between two cuts
+abbrev pub IsFree : Cut → Cut → Database → Type 0
+IsFree low high m = (x : Reference) → between low high x ≡ true → finmap.contains_key m x ≡ false

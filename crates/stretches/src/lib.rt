@@ -7,18 +7,18 @@
 //! A `Skipping` is a view over another view and its empty stretches: an ordered view with the same content. Where a
 //! look-up begins in a stretch it goes on from that stretch's end.
 //!
-//! A stretch is found by a scout: the look-up that a $ORDER or $QUERY makes tells that nothing stands between the cut
-//! from which it begins and the node that it finds.
+//! A stretch is found by a scout: look-ups from where a $ORDER or $QUERY begins tell that nothing stands up to the next
+//! nodes on both sides. What lies in the way there, killed nodes, is what makes it worth while (`InTheWay`).
 //!
 //! Where ^A(1) to ^A(5000) were killed of ^A(1) to ^A(9000), $ORDER(^A("")) passes over 5,000 killed nodes to ^A(5001).
-//! Its scout finds the stretch from after ^A to before ^A(5001); once that is noted the next $ORDER(^A("")) begins at
-//! ^A(5001), and after KILL ^A(5001) its scout's stretch, to before ^A(5002), becomes one with it.
+//! Its scout finds the stretch from after ^A to past ^A(5000); once that is noted the next $ORDER(^A("")) begins there, and
+//! after KILL ^A(5001) its scout's stretch, from there to past ^A(5001), becomes one with it.
 //!
 //! Read `specs/Empty.antt`, then `stretches_kept.rt`, `skipping.rt`, `scouting.rt`.
 //! Not promised: which stretches are kept, and how many look-ups a view is spared.
 #![tactic(auto)]
 
-pub use scouting::scout;
+pub use scouting::{InTheWay, scout};
 pub use skipping::Skipping;
 pub use stretches_kept::Stretches;
 

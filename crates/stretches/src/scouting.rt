@@ -1,28 +1,49 @@
 //! Scouts: the stretch over which a command passes.
-ghost use Rattle.std.specs.Prelude.{IfSome};
-ghost use Rattle.stretches.specs.Empty.{AreEmpty, IsEmpty};
+ghost use Rattle.std.specs.Prelude.{◌≡◌, IfSome};
+ghost use Rattle.read_ranges.specs.Ranges.{AreEarlier};
+ghost use Rattle.stretches.specs.Empty.{IsEmpty, IsFree};
 
-use crate::{Skipping, Stretches};
+use crate::Stretches;
 use collation::Direction;
 use command::Look;
-use globals::{Cut, OrderedView};
-use key_codec::Place;
-use read_ranges::ReadRange;
+use globals::{Cut, OrderedView, stands_before};
+use key_codec::{Key, Place};
+use read_ranges::{ReadRange, is_at_most};
+use std::alloc::Global;
 
-/// The stretch over which a $ORDER or $QUERY passes on a view: from where it begins to the node that it finds. None where it
-/// finds none, for other commands, and where memory is refused, which is asked for only where a key has over 38 bytes.
-pub fn scout<V: OrderedView>(view: &V, stretches: &Stretches, look: &Look) -> Option<ReadRange>
-    requires { AreEmpty stretches.now (V.content view.now) }
+/// What may lie in the way of look-ups: references in order, most without a value. Advice, on which no contract rests.
+pub trait InTheWay {
+    /// The first that doesn't stand before the cut.
+    fn first_from(&self, cut: Cut<'_>) -> Option<&Key>;
+
+    /// The last that stands before the cut.
+    fn last_before(&self, cut: Cut<'_>) -> Option<&Key>;
+}
+
+/// The stretch in which a $ORDER or $QUERY begins, or that begins where one ends in which it begins, if something lies in the
+/// way there. It takes in what lies in the way up to the next nodes on both sides, and no more, so that a node set beside it
+/// leaves it empty; beyond the last node of all it goes to the end of the global. None for other commands, and where memory
+/// is refused, which is asked for only where a key has over 38 bytes.
+pub fn scout<V: OrderedView, W: InTheWay>(
+    alloc: Global,
+    view: &V,
+    way: &W,
+    stretches: &Stretches,
+    look: &Look,
+) -> Option<ReadRange>
     ensures { IfSome result (λ stretch. IsEmpty stretch (V.content view.now)) }
 {
-    let view = Skipping::new(view, stretches);
     match look {
         Look::Data(_) => None,
         Look::Get(_, _) => None,
-        Look::Order(place, Direction::Forward) => empty_from(&view, behind_sibling(place)),
-        Look::Query(place, Direction::Forward) => empty_from(&view, Cut::After(place.key())),
-        Look::Order(place, Direction::Backward) => empty_before(&view, before_place(place)),
-        Look::Query(place, Direction::Backward) => empty_before(&view, before_place(place)),
+        Look::Order(place, Direction::Forward) => {
+            scout_ahead(alloc, view, way, stretches, behind_sibling(place), place)
+        }
+        Look::Query(place, Direction::Forward) => {
+            scout_ahead(alloc, view, way, stretches, Cut::After(place.key()), place)
+        }
+        Look::Order(place, Direction::Backward) => scout_behind(alloc, view, way, stretches, place),
+        Look::Query(place, Direction::Backward) => scout_behind(alloc, view, way, stretches, place),
     }
 }
 
@@ -44,28 +65,170 @@ fn before_place(place: &Place) -> Cut<'_> {
     }
 }
 
-// The stretch from a cut to the first node from there on.
-fn empty_from<V: OrderedView>(view: &V, cut: Cut<'_>) -> Option<ReadRange>
+// The stretch of a look-up forward from the cut.
+fn scout_ahead<V: OrderedView, W: InTheWay>(
+    alloc: Global,
+    view: &V,
+    way: &W,
+    stretches: &Stretches,
+    cut: Cut<'_>,
+    place: &Place,
+) -> Option<ReadRange>
     ensures { IfSome result (λ stretch. IsEmpty stretch (V.content view.now)) }
 {
-    let Some((found, _)) = view.next(cut) else {
+    let Ok(name) = place.key().root(alloc) else {
         return None;
     };
-    match ReadRange::new(cut, Cut::Before(found)) {
+    let from = stretches.end_from(cut);
+    let high = next_edge(view, from, &name);
+    if !is_there(way.first_from(from), from, high) {
+        return None;
+    }
+    let low = low_edge(view, stretches, cut, from);
+    narrowed(view, way, low, from, high)
+}
+
+// The stretch of a look-up backward from before the place.
+fn scout_behind<V: OrderedView, W: InTheWay>(
+    alloc: Global,
+    view: &V,
+    way: &W,
+    stretches: &Stretches,
+    place: &Place,
+) -> Option<ReadRange>
+    ensures { IfSome result (λ stretch. IsEmpty stretch (V.content view.now)) }
+{
+    let Ok(name) = place.key().root(alloc) else {
+        return None;
+    };
+    let cut = before_place(place);
+    let to = stretches.start_before(cut);
+    let low = last_edge(view, to);
+    if !is_there(way.last_before(to), low, to) {
+        return None;
+    }
+    let high = high_edge(view, stretches, cut, to, &name);
+    narrowed(view, way, low, to, high)
+}
+
+// Whether there is a reference, and it stands between two cuts. Advice.
+fn is_there(found: Option<&Key>, low: Cut<'_>, high: Cut<'_>) -> bool {
+    match found {
+        Some(key) => !stands_before(low, key) && stands_before(high, key),
+        None => false,
+    }
+}
+
+// Up to where no node stands from the cut on; to the end of the global where none follows.
+fn next_edge<'v, V: OrderedView>(view: &'v V, cut: Cut<'_>, name: &'v Key) -> Cut<'v>
+    ensures { IsFree cut.entry result (V.content view.now) }
+{
+    match view.next(cut) {
+        Some((found, _)) => Cut::Before(found),
+        None => Cut::Past(name),
+    }
+}
+
+// From where on no node stands before the cut.
+fn last_edge<'v, V: OrderedView>(view: &'v V, cut: Cut<'_>) -> Cut<'v>
+    ensures { IsFree result cut.entry (V.content view.now) }
+{
+    match view.prev(cut) {
+        Some((found, _)) => Cut::After(found),
+        None => Cut::Start,
+    }
+}
+
+// From where on no node stands before the end of the stretch in which the cut lies: at that end, or without such a stretch
+// behind the last node.
+fn low_edge<'v, V: OrderedView>(
+    view: &'v V,
+    stretches: &Stretches,
+    cut: Cut<'_>,
+    from: Cut<'v>,
+) -> Cut<'v>
+    ensures { IsFree result from.entry (V.content view.now) }
+{
+    if stretches.have(cut) {
+        from
+    } else {
+        last_edge(view, from)
+    }
+}
+
+// As `low_edge`, on the other side.
+fn high_edge<'v, V: OrderedView>(
+    view: &'v V,
+    stretches: &Stretches,
+    cut: Cut<'_>,
+    to: Cut<'v>,
+    name: &'v Key,
+) -> Cut<'v>
+    ensures { IsFree to.entry result (V.content view.now) }
+{
+    if stretches.have(cut) {
+        to
+    } else {
+        next_edge(view, to, name)
+    }
+}
+
+// The part between two ends that has the cut in the middle and what lies in the way, where no node stands between the ends.
+fn narrowed<V: OrderedView, W: InTheWay>(
+    view: &V,
+    way: &W,
+    low: Cut<'_>,
+    middle: Cut<'_>,
+    high: Cut<'_>,
+) -> Option<ReadRange>
+    requires before { IsFree low middle (V.content view.now) }
+    requires behind { IsFree middle high (V.content view.now) }
+    ensures { IfSome result (λ stretch. IsEmpty stretch (V.content view.now)) }
+{
+    match ReadRange::new(begin_of(way, low, middle), end_of(way, middle, high)) {
         Ok(stretch) => Some(stretch),
         Err(_) => None,
     }
 }
 
-// The stretch from the last node before a cut to that cut.
-fn empty_before<V: OrderedView>(view: &V, cut: Cut<'_>) -> Option<ReadRange>
-    ensures { IfSome result (λ stretch. IsEmpty stretch (V.content view.now)) }
+// Where the part begins: at the first in the way from the lower end on, or at the cut in the middle before it.
+fn begin_of<'c, W: InTheWay>(way: &'c W, low: Cut<'c>, middle: Cut<'c>) -> Cut<'c>
+    ensures { AreEarlier low.entry result }
 {
-    let Some((found, _)) = view.prev(cut) else {
-        return None;
-    };
-    match ReadRange::new(Cut::After(found), cut) {
-        Ok(stretch) => Some(stretch),
-        Err(_) => None,
+    match way.first_from(low) {
+        Some(first) => later(low, earlier(Cut::Before(first), middle)),
+        None => low,
+    }
+}
+
+// Where the part ends: behind the last in the way before the higher end, or at the cut in the middle behind it.
+fn end_of<'c, W: InTheWay>(way: &'c W, middle: Cut<'c>, high: Cut<'c>) -> Cut<'c>
+    ensures { AreEarlier result high.entry }
+{
+    match way.last_before(high) {
+        Some(last) => earlier(high, later(Cut::Past(last), middle)),
+        None => high,
+    }
+}
+
+// The first of two cuts, or the second where that stands after it.
+fn later<'c>(first: Cut<'c>, second: Cut<'c>) -> Cut<'c>
+    ensures { AreEarlier first.entry result }
+{
+    if is_at_most(first, second) {
+        second
+    } else {
+        first
+    }
+}
+
+// The first of two cuts, or the second where that stands before it.
+fn earlier<'c>(first: Cut<'c>, second: Cut<'c>) -> Cut<'c>
+    ensures { AreEarlier result first.entry }
+{
+    if is_at_most(first, second) {
+        first
+    } else {
+        second
     }
 }

@@ -1,11 +1,11 @@
 //! What is kept of stretches in which nothing stands.
-ghost use Rattle.std.specs.Prelude.{◌≡◌, true, false, [], IfSome};
+ghost use Rattle.std.specs.Prelude.{◌≡◌, true, false, [], length, nat_eq, IfSome};
 ghost use Rattle.collation.specs.Database.{Database};
 ghost use Rattle.command.specs.Data.{data_after};
 ghost use Rattle.stretches.specs.Empty.{AreEmpty, AreNoMore, IsEmpty, LiesIn, PartAlike};
 
 use command::DataCommand;
-use globals::Cut;
+use globals::{Cut, OrderedView, stands_before};
 use read_ranges::{Ranges, ReadRange, is_at_most};
 use std::alloc::{AllocError, Global};
 use std::marker::Model;
@@ -38,6 +38,13 @@ impl Stretches {
         }
     }
 
+    /// Whether there is none. Takes no memory.
+    pub fn are_none(&self) -> bool
+        ensures { result ≡ nat_eq (length self.now) 0 }
+    {
+        self.ranges.len() == 0
+    }
+
     /// Drops all stretches. Takes no memory.
     pub fn clear(&mut self)
         ensures { self.new ≡ [] }
@@ -56,6 +63,13 @@ impl Stretches {
             DataCommand::Kill(_) => false,
             DataCommand::Look(_) => false,
         }
+    }
+
+    /// Whether no member of a view stands in one of the stretches. One look-up for each; takes no memory.
+    pub fn are_empty_on<V: OrderedView>(&self, view: &V) -> bool
+        ensures { result ≡ true → AreEmpty self.now (V.content view.now) }
+    {
+        are_all_empty(self.ranges.ranges(), view)
     }
 
     /// Puts in a stretch: it grows one that it joins, or is kept as one more. Where there would be five all are dropped;
@@ -92,6 +106,14 @@ impl Stretches {
         }
     }
 
+    // Whether the cut lies in one of the stretches. Advice, on which no contract rests.
+    pub(crate) fn have(&self, cut: Cut<'_>) -> bool {
+        self.ranges
+            .ranges()
+            .iter()
+            .any(|stretch| has_cut(stretch, cut))
+    }
+
     // Where a look-up forward from the cut begins: at the end of a stretch in which the cut lies.
     pub(crate) fn end_from<'c>(&'c self, cut: Cut<'c>) -> Cut<'c>
         ensures { (m : Database) → AreEmpty self.now m → PartAlike cut.entry result m }
@@ -116,6 +138,28 @@ impl Stretches {
             }
         }
         cut
+    }
+}
+
+// Whether no member of the view stands in one of these.
+fn are_all_empty<V: OrderedView>(stretches: &[ReadRange], view: &V) -> bool
+    ensures { result ≡ true → AreEmpty stretches.now (V.content view.now) }
+{
+    for stretch in stretches {
+        if !is_empty_on(stretch, view) {
+            return false;
+        }
+    }
+    true
+}
+
+// Whether no member of the view stands in the stretch.
+fn is_empty_on<V: OrderedView>(stretch: &ReadRange, view: &V) -> bool
+    ensures { result ≡ true → IsEmpty stretch.now (V.content view.now) }
+{
+    match view.next(stretch.low()) {
+        Some((found, _)) => !stands_before(stretch.high(), found),
+        None => true,
     }
 }
 

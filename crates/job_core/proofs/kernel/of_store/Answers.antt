@@ -13,7 +13,7 @@ adopt-requires-clause-nothing c = λ z. none_at_zero c.args.store c.args.nodes.i
 pub invariant_of-result : goal.invariant_of-result
 invariant_of-result c =
     core_adopted c.args.store c.raise_cut.new.self c.args.nodes.items c.adopt.result.units c.adopt.result.base c.now-number.result c.now-number.ensures.nothing c.now-number.type_inv c.now-number.ensures.present
-    c.now-number.ensures.cut c.in-Ok.ensures.ok c.requires c.adopt.ensures.units c.adopt.ensures.base c.new.result c.new.ensures
+    c.now-number.ensures.cut c.in-Ok.ensures.ok c.requires c.adopt.ensures.units c.adopt.ensures.base c.new.result c.new-in-Ok.result c.new.ensures c.new-in-Ok.ensures
 
 pub returns : goal.returns
 returns c =

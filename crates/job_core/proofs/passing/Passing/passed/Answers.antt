@@ -1,0 +1,7 @@
+use Rattle.std.proofs.Common.{subst}
+use Rattle.std.specs.Prelude.{IfSome}
+use Rattle.stretches.specs.Empty.{IsEmpty}
+use Rattle.job_core.proofs.passing.Passing.passed.Goals as goal
+
+pub returns : goal.returns
+returns c = subst (λ m. IfSome c.scout.result (λ s. IsEmpty s m)) c.view_now.ensures c.scout.ensures

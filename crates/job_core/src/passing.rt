@@ -1,0 +1,196 @@
+//! What lone look-ups pass over at once: stretches in which no node is left.
+ghost use Rattle.std.specs.Prelude.{◌≡◌, [], IfSome};
+ghost use Rattle.collation.specs.Database.{Database};
+ghost use Rattle.command.specs.Data.{data_after};
+ghost use Rattle.stretches.specs.Empty.{AreEmpty, IsEmpty};
+ghost use Rattle.version_store.specs.Versions.{content_now};
+
+use crate::absences::Absences;
+use command::{DataCommand, Look};
+use globals::Cut;
+use key_codec::Key;
+use key_map::CutPoint;
+use read_ranges::ReadRange;
+use std::alloc::Global;
+use std::marker::Model;
+use stretches::{InTheWay, Stretches, scout};
+use validate_commit::Work;
+use version_store::KeyedStore;
+
+/// Stretches in which no node of the database stands, and whether it is worth while to look for more. They are seen as a
+/// list of ranges.
+#[derive(Drop)]
+pub(crate) struct Passing {
+    stretches: Stretches,
+    absences: Absences,
+}
+
+impl Model for Passing {
+    ghost use Rattle.std.specs.Prelude.{List};
+    ghost use Rattle.read_ranges.specs.declared.range.ReadRange.{ReadRange};
+
+    ghost Value = { List ReadRange };
+
+    ghost view = { λ p. p.stretches };
+}
+
+impl Passing {
+    /// No stretch. Takes no memory.
+    pub(crate) fn new(alloc: Global) -> Passing
+        ensures { result ≡ [] }
+    {
+        Passing {
+            stretches: Stretches::new(alloc),
+            absences: Absences::new(),
+        }
+    }
+
+    /// The stretches.
+    pub(crate) fn stretches(&self) -> &Stretches
+        ensures { result.now ≡ self.now }
+    {
+        &self.stretches
+    }
+
+    /// Before a lone data command: a $ORDER or $QUERY looks for the stretch over which it will pass; where another may put a
+    /// node into one of them, all are dropped.
+    pub(crate) fn make_ready(
+        &mut self,
+        alloc: Global,
+        store: &KeyedStore,
+        command: &DataCommand,
+        oldest: Option<u64>,
+    )
+        requires { AreEmpty self.old (content_now store.now) }
+        ensures before { AreEmpty self.new (content_now store.now) }
+        ensures behind { AreEmpty self.new (data_after command.now (content_now store.now)) }
+    {
+        match command {
+            DataCommand::Look(look) => self.look_ahead(alloc, store, look),
+            DataCommand::Kill(_) => self.note_kills(store, oldest),
+            _ => self.leave(command),
+        }
+    }
+
+    // Drops the stretches, where a command may put a node into one of them.
+    fn leave(&mut self, command: &DataCommand)
+        ensures before { (m : Database) → AreEmpty self.old m → AreEmpty self.new m }
+        ensures behind { (m : Database) → AreEmpty self.old m → AreEmpty self.new (data_after command.now m) }
+    {
+        if self.stretches.are_entered_by(command) {
+            self.stretches.clear();
+        }
+    }
+
+    /// Before a commit: where what it has set may stand in one of the stretches all are dropped.
+    pub(crate) fn make_way(&mut self, store: &KeyedStore, work: &Work, oldest: Option<u64>)
+        ensures before { (m : Database) → AreEmpty self.old m → AreEmpty self.new m }
+        ensures written { AreEmpty self.new work.now.layer.written }
+    {
+        self.note_killed(store, work, oldest);
+        self.leave_for(work);
+    }
+
+    fn note_killed(&mut self, store: &KeyedStore, work: &Work, oldest: Option<u64>)
+        ensures { self.new ≡ self.old }
+    {
+        if oldest.is_some() && work.has_killed() {
+            self.note_kills(store, oldest);
+        }
+    }
+
+    // Drops the stretches, where what a transaction has set may stand in one of them.
+    fn leave_for(&mut self, work: &Work)
+        ensures before { (m : Database) → AreEmpty self.old m → AreEmpty self.new m }
+        ensures written { AreEmpty self.new work.now.layer.written }
+    {
+        if work.may_enter(&self.stretches) {
+            self.stretches.clear();
+        }
+    }
+
+    // Nodes are to be killed: where older content is asked for absences are left.
+    fn note_kills(&mut self, store: &KeyedStore, oldest: Option<u64>)
+        ensures { self.new ≡ self.old }
+    {
+        if oldest.is_some() {
+            self.absences.note_kills(store.now(), store.placed_count());
+        }
+    }
+
+    /// A turn of the collector at this horizon visits so many keys at most.
+    pub(crate) fn note_turn(&mut self, horizon: u64, limit: usize)
+        ensures { self.new ≡ self.old }
+    {
+        self.absences.note_turn(horizon, limit);
+    }
+
+    fn look_ahead(&mut self, alloc: Global, store: &KeyedStore, look: &Look)
+        requires { AreEmpty self.old (content_now store.now) }
+        ensures { AreEmpty self.new (content_now store.now) }
+    {
+        match look {
+            Look::Data(_) => {}
+            Look::Get(_, _) => {}
+            Look::Order(_, _) => self.seek(alloc, store, look),
+            Look::Query(_, _) => self.seek(alloc, store, look),
+        }
+    }
+
+    fn seek(&mut self, alloc: Global, store: &KeyedStore, look: &Look)
+        requires { AreEmpty self.old (content_now store.now) }
+        ensures { AreEmpty self.new (content_now store.now) }
+    {
+        if self.absences.are_sought() {
+            self.note_ahead(alloc, store, look);
+        }
+    }
+
+    // Notes the stretch over which a look-up will pass, if killed nodes lie there.
+    #[inline(never)]
+    fn note_ahead(&mut self, alloc: Global, store: &KeyedStore, look: &Look)
+        requires { AreEmpty self.old (content_now store.now) }
+        ensures { AreEmpty self.new (content_now store.now) }
+    {
+        let passed = self.passed(alloc, store, look);
+        self.note(&passed);
+    }
+
+    fn passed(&self, alloc: Global, store: &KeyedStore, look: &Look) -> Option<ReadRange>
+        ensures { IfSome result (λ stretch. IsEmpty stretch (content_now store.now)) }
+    {
+        let placed = Placed { store };
+        scout(alloc, &store.view_now(), &placed, &self.stretches, look)
+    }
+
+    fn note(&mut self, passed: &Option<ReadRange>)
+        ensures { (m : Database) → AreEmpty self.old m → IfSome passed.now (λ stretch. IsEmpty stretch m) → AreEmpty self.new m }
+    {
+        self.absences.note_search(passed.is_some());
+        self.stretches.follow(false, passed);
+    }
+}
+
+// All placed references lie in the way of look-ups.
+#[derive(Drop)]
+struct Placed<'s> {
+    store: &'s KeyedStore,
+}
+
+impl<'s> InTheWay for Placed<'s> {
+    fn first_from(&self, cut: Cut<'_>) -> Option<&Key> {
+        let (tree, _) = self.store.tree_and_chains();
+        match tree.first_from(&CutPoint { cut }).0 {
+            Some((key, _)) => Some(key),
+            None => None,
+        }
+    }
+
+    fn last_before(&self, cut: Cut<'_>) -> Option<&Key> {
+        let (tree, _) = self.store.tree_and_chains();
+        match tree.last_before(&CutPoint { cut }).0 {
+            Some((key, _)) => Some(key),
+            None => None,
+        }
+    }
+}
