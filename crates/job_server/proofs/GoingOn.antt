@@ -123,7 +123,7 @@ halt_refused job books more session later refusal same_books same_session room =
 pub halted_some : (job n : ℕ) (books : List Book) (h : Held) → GoesOnBy job Halt Finished (sessions_so_far books (Some h)) (sessions_so_far (books ++ halted n h ∷ []) None)
 halted_some job n books h = record {
   stands = λ s stands. (
-    All-push (λ (b : Book). (b.job ≡ job) × HasItsEnd b) books (halted n h) stands.0 (stands.1.0, (h.others, (n, refl))),
+    All-push (λ (b : Book). (b.job ≡ job) × HasItsEnd b) books (halted n h) stands.0 (stands.1.0, (h.others, n, refl)),
     (
       gone_here s.transactions job,
       subst (λ (us : List JournalUnit). IsToldIn us (units_in (books ++ halted n h ∷ []))) (sym (one_given s.units (End job) refl))
