@@ -27,6 +27,7 @@ use Rattle.version_store.proofs.near.Near.TheSendSync as near
 use Rattle.version_store.specs.contracts.store.KeyedStore as KeyedStore
 use Rattle.version_store.specs.contracts.store.KeyedStore.TheInside as StoreInside
 use Rattle.job_core.specs.contracts.kernel.Core as Core
+use Rattle.job_core.specs.contracts.passing.Passing as Passing
 use Rattle.job_core.specs.contracts.state.JobState as JobState
 use Rattle.shared_engine.specs.contracts.session.Session as Session
 use Rattle.shared_engine.specs.contracts.session.Session.TheInside as SessionInside
@@ -83,14 +84,20 @@ journal_send = search (heap.crosses, past.crosses, adopted.the_send, adopted.the
 pub journal_sync : IsSync Journal.the_row
 journal_sync = search (heap.crosses, past.crosses, before.the_send, before.the_sync, base_sync, log.the_sync, sendable) depth 60 fits 20000
 
+passing_send : IsSend Passing.the_row
+passing_send = search (heap.crosses, key.the_send, sendable) depth 60 fits 20000
+
+passing_sync : IsSync Passing.the_row
+passing_sync = search (heap.crosses, key.the_sync, sendable) depth 60 fits 20000
+
 pub core_send : IsSend Core.the_row
 core_send =
-    let c = struct_send (shape Inside.the_type) (search (heap.crosses, sendable) depth 60, (store_send, (journal_send, (locks_send, tt)))) in
+    let c = struct_send (shape Inside.the_type) (search (heap.crosses, sendable) depth 60, (store_send, (journal_send, (locks_send, (passing_send, tt))))) in
     record { owned = λ d vs x. (c.owned (Inside.the_type.to x.0) vs, tt); leaving = λ k d w. tt }
 
 pub core_sync : IsSync Core.the_row
 core_sync =
-    let c = struct_sync (shape Inside.the_type) (search (heap.crosses, sendable) depth 60, (store_sync, (journal_sync, (locks_sync, tt)))) in
+    let c = struct_sync (shape Inside.the_type) (search (heap.crosses, sendable) depth 60, (store_sync, (journal_sync, (locks_sync, (passing_sync, tt))))) in
     record { shared = λ d b o κ x. (c.shared (Inside.the_type.to x.0) b o κ, tt) }
 
 pub state_send : IsSend JobState.the_row
