@@ -11,6 +11,7 @@ pub mod Loads
 pub mod Outputs
 pub mod Reading
 pub mod Refusing
+pub mod Sent
 pub mod Standing
 pub mod Turning
 pub mod Units
