@@ -13,7 +13,7 @@
 //! What the answers and changes say in the words of references and values: `laws.rt`, with `specs/AnswerStatements.antt`
 //! and `specs/ChangeStatements.antt`.
 //!
-//! Read `specs/Cuts.antt`, then `view.rt`, `run.rt`, `sibling.rt`, `ahead.rt`, `walk.rt`. Laws for those who write a
+//! Read `specs/Cuts.antt`, then `view.rt`, `run.rt`, `starts.rt`, `sibling.rt`, `ahead.rt`, `walk.rt`. Laws for those who write a
 //! view: `specs/laws/Runs.antt`, `specs/laws/Steps.antt`. The proofs go by lists in lexicographic order:
 //! `specs/laws/Sequences.antt`, `specs/laws/Seeks.antt`.
 //! Not promised: how long a view takes for a look-up, and how many look-ups a function makes (`private_tests` counts
@@ -31,6 +31,7 @@ pub use merge::merge_list;
 pub use node::data;
 pub use run::Run;
 pub use sibling::order;
+pub use starts::{order_start, query_start};
 pub use traversal::query;
 pub use view::OrderedView;
 pub use walk::{SubtreeWalk, Walk, subtree, walk_from};
@@ -44,6 +45,7 @@ mod merge;
 mod node;
 mod run;
 mod sibling;
+mod starts;
 mod traversal;
 mod view;
 mod walk;

@@ -1,42 +1,19 @@
 //! `$ORDER`.
 ghost use Rattle.std.specs.Prelude.{◌≡◌, ◌⊎◌, true, false, Some, None, [], unwrap_or, IfOk, IfSome, IsErrOf, MatchResult};
-ghost use Rattle.collation.specs.Reference.{Reference};
 ghost use Rattle.collation.specs.Levels.{below, has_level as has_level_spec, parent_of};
 ghost use Rattle.collation.specs.Answers.{is_forward, order_of};
 ghost use Rattle.key_codec.specs.Key.{IsFaultless};
 ghost use Rattle.command.specs.Data.{look_refusal};
 ghost use Rattle.command.specs.declared.access.Look.TheVariants.{Order as order_command};
-ghost use Rattle.globals.specs.Cuts.{stands_before, order_start};
 
+use crate::OrderedView;
 use crate::levels::has_level;
+use crate::starts::order_start;
 use crate::view::key_at;
-use crate::{Cut, OrderedView};
 use collation::{Direction, Text};
 use key_codec::Place;
 use refusal::Refusal;
 use std::alloc::{AllocError, Global};
-
-// Where the search starts: an open place's descendants are its level, a closed one's are passed over.
-fn cut_of(place: &Place, direction: Direction) -> Cut<'_>
-    ensures { (x : Reference) → stands_before result x ≡ order_start (is_forward direction) place.now x }
-{
-    match direction {
-        Direction::Forward => {
-            if place.is_open() {
-                Cut::After(place.key())
-            } else {
-                Cut::Past(place.key())
-            }
-        }
-        Direction::Backward => {
-            if place.is_open() {
-                Cut::Past(place.key())
-            } else {
-                Cut::Before(place.key())
-            }
-        }
-    }
-}
 
 // The nearest subscript at the level of the place's last one, from the place on.
 fn nearest_sibling<V: OrderedView>(
@@ -49,7 +26,7 @@ fn nearest_sibling<V: OrderedView>(
     ensures answer { IfOk result (λ answer. unwrap_or answer [] ≡ order_of (is_forward direction) place.now (V.content view.now)) }
     ensures fits { IfOk result (λ answer. IfSome answer (λ s. IsFaultless (below (parent_of place.now) s))) }
 {
-    match key_at(view, cut_of(place, direction), direction) {
+    match key_at(view, order_start(place, direction), direction) {
         Some(key) => place.child_toward(alloc, key),
         None => Ok(None),
     }

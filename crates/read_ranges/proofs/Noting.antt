@@ -75,13 +75,14 @@ siblings_backward old new p direction t low high back level starts ends more x =
 pub named : (p : Spot) (answer : Answer) (r : Reference) → answer ≡ Found r → IsQueryAnswer p answer → has_name p.reference r ≡ true
 named p answer r is fits = subst (λ (a : Answer). IsQueryAnswer p a) is fits
 
-pub up_to_forward : (old new : List ReadRange) (p : Spot) (direction : Direction) (start r : Reference) → direction ≡ Forward → has_name p.reference r ≡ true → start ≡ p.reference
-    → ((x : Reference) → is_in_one new x ≡ (is_in_one old x || (not (not (is_after false start x)) && not (is_after false r x))))
+pub up_to_forward : (old new : List ReadRange) (p : Spot) (direction : Direction) (low : Cut) (r : Reference) → direction ≡ Forward → has_name p.reference r ≡ true
+    → ((x : Reference) → stands_before low x ≡ not (is_after false p.reference x))
+    → ((x : Reference) → is_in_one new x ≡ (is_in_one old x || (not (stands_before low x) && not (is_after false r x))))
     → (x : Reference) → is_in_one new x ≡ (is_in_one old x || query_read (is_forward direction) p (Found r) x)
-up_to_forward old new p direction start r ahead name starts more x =
+up_to_forward old new p direction low r ahead name starts more x =
     let law = reads_range (λ _. false) x in
     more x ∙ ap (λ b. is_in_one old x || b) (
-    ap (λ b. b && not (is_after false r x)) (not-not (is_after false start x)) ∙ (λ i. is_after false (starts i) x && not (is_after false r x)) ∙ sym (law.query_forward p r name)
+    ap (λ b. not b && not (is_after false r x)) (starts x) ∙ ap (λ b. b && not (is_after false r x)) (not-not (is_after false p.reference x)) ∙ sym (law.query_forward p r name)
     ∙ (λ i. query_read (is_forward (sym ahead i)) p (Found r) x)
     )
 
@@ -93,13 +94,14 @@ up_to_backward old new p direction high r back name ends more x =
     let law = reads_range (λ _. false) x in
     more x ∙ ap (λ b. is_in_one old x || b) ((λ i. not (is_before false r x) && ends x i) ∙ sym (law.query_backward p r name) ∙ (λ i. query_read (is_forward (sym back i)) p (Found r) x))
 
-pub rest_forward : (old new : List ReadRange) (p : Spot) (direction : Direction) (start name : Reference) → direction ≡ Forward → start ≡ p.reference → name ≡ root_of p.reference
-    → ((x : Reference) → is_in_one new x ≡ (is_in_one old x || (not (not (is_after false start x)) && is_before true name x)))
+pub rest_forward : (old new : List ReadRange) (p : Spot) (direction : Direction) (low : Cut) (name : Reference) → direction ≡ Forward → name ≡ root_of p.reference
+    → ((x : Reference) → stands_before low x ≡ not (is_after false p.reference x))
+    → ((x : Reference) → is_in_one new x ≡ (is_in_one old x || (not (stands_before low x) && is_before true name x)))
     → (x : Reference) → is_in_one new x ≡ (is_in_one old x || follows (is_forward direction) p x)
-rest_forward old new p direction start name ahead starts ends more x =
+rest_forward old new p direction low name ahead ends starts more x =
     let law = reads_range (λ _. false) x in
     more x ∙ ap (λ b. is_in_one old x || b) (
-    ap (λ b. b && is_before true name x) (not-not (is_after false start x)) ∙ (λ i. is_after false (starts i) x && is_before true (ends i) x) ∙ sym (law.none_forward p [])
+    ap (λ b. not b && is_before true name x) (starts x) ∙ ap (λ b. b && is_before true name x) (not-not (is_after false p.reference x)) ∙ (λ i. is_after false p.reference x && is_before true (ends i) x) ∙ sym (law.none_forward p [])
     ∙ (λ i. follows (is_forward (sym ahead i)) p x)
     )
 

@@ -12,11 +12,11 @@ ghost use Rattle.serial.specs.ReadRanges.{level_end as level_end_spec, root_of};
 ghost use Rattle.read_ranges.specs.declared.range.ReadRange.TheVariants.{One};
 ghost use Rattle.read_ranges.specs.Ranges.{between, is_in, is_in_one, IsNoted, KeepsFormerRanges};
 
-use crate::level::{after_place, before_place, level_end, level_start};
+use crate::level::{level_end, level_start};
 use crate::range::ReadRange;
 use collation::{Direction, Text};
 use command::{Answer, DataCommand, Look};
-use globals::Cut;
+use globals::{Cut, order_start, query_start};
 use key_codec::{Key, Place};
 use std::alloc::{AllocError, Global};
 use std::marker::Model;
@@ -165,12 +165,12 @@ impl Ranges {
     {
         match direction {
             Direction::Forward => {
-                let low = after_place(place);
+                let low = order_start(place, Direction::Forward);
                 self.add(low, Cut::Past(end))
             }
             Direction::Backward => {
                 let low = level_start(end, answer);
-                self.add(low, before_place(place))
+                self.add(low, order_start(place, Direction::Backward))
             }
         }
     }
@@ -210,8 +210,14 @@ impl Ranges {
         ensures err { OnErr result (self.new ≡ self.old) }
     {
         match direction {
-            Direction::Forward => self.add(Cut::After(place.key()), Cut::After(found)),
-            Direction::Backward => self.add(Cut::Before(found), before_place(place)),
+            Direction::Forward => self.add(
+                query_start(place, Direction::Forward),
+                Cut::After(found),
+            ),
+            Direction::Backward => self.add(
+                Cut::Before(found),
+                query_start(place, Direction::Backward),
+            ),
         }
     }
 
@@ -228,8 +234,11 @@ impl Ranges {
         ensures err { OnErr result (self.new ≡ self.old) }
     {
         match direction {
-            Direction::Forward => self.add(Cut::After(place.key()), Cut::Past(name)),
-            Direction::Backward => self.add(Cut::Before(name), before_place(place)),
+            Direction::Forward => self.add(query_start(place, Direction::Forward), Cut::Past(name)),
+            Direction::Backward => self.add(
+                Cut::Before(name),
+                query_start(place, Direction::Backward),
+            ),
         }
     }
 

@@ -6,7 +6,7 @@ ghost use Rattle.stretches.specs.Empty.{IsEmpty, IsFree};
 use crate::Stretches;
 use collation::Direction;
 use command::Look;
-use globals::{Cut, OrderedView, stands_before};
+use globals::{Cut, OrderedView, order_start, query_start, stands_before};
 use key_codec::{Key, Place};
 use read_ranges::{ReadRange, is_at_most};
 use std::alloc::Global;
@@ -37,31 +37,21 @@ pub fn scout<V: OrderedView, W: InTheWay>(
         Look::Data(_) => None,
         Look::Get(_, _) => None,
         Look::Order(place, Direction::Forward) => {
-            scout_ahead(alloc, view, way, stretches, behind_sibling(place), place)
+            let cut = order_start(place, Direction::Forward);
+            scout_ahead(alloc, view, way, stretches, cut, place)
         }
         Look::Query(place, Direction::Forward) => {
-            scout_ahead(alloc, view, way, stretches, Cut::After(place.key()), place)
+            let cut = query_start(place, Direction::Forward);
+            scout_ahead(alloc, view, way, stretches, cut, place)
         }
-        Look::Order(place, Direction::Backward) => scout_behind(alloc, view, way, stretches, place),
-        Look::Query(place, Direction::Backward) => scout_behind(alloc, view, way, stretches, place),
-    }
-}
-
-// Directly after an open place's reference, past all under a closed one's.
-fn behind_sibling(place: &Place) -> Cut<'_> {
-    if place.is_open() {
-        Cut::After(place.key())
-    } else {
-        Cut::Past(place.key())
-    }
-}
-
-// Past all under an open place's reference, directly before a closed one's.
-fn before_place(place: &Place) -> Cut<'_> {
-    if place.is_open() {
-        Cut::Past(place.key())
-    } else {
-        Cut::Before(place.key())
+        Look::Order(place, Direction::Backward) => {
+            let cut = order_start(place, Direction::Backward);
+            scout_behind(alloc, view, way, stretches, cut, place)
+        }
+        Look::Query(place, Direction::Backward) => {
+            let cut = query_start(place, Direction::Backward);
+            scout_behind(alloc, view, way, stretches, cut, place)
+        }
     }
 }
 
@@ -88,12 +78,13 @@ fn scout_ahead<V: OrderedView, W: InTheWay>(
     narrowed(view, way, low, from, high)
 }
 
-// The stretch of a look-up backward from before the place.
+// The stretch of a look-up backward from the cut.
 fn scout_behind<V: OrderedView, W: InTheWay>(
     alloc: Global,
     view: &V,
     way: &W,
     stretches: &Stretches,
+    cut: Cut<'_>,
     place: &Place,
 ) -> Option<ReadRange>
     ensures { IfSome result (λ stretch. IsEmpty stretch (V.content view.now)) }
@@ -101,7 +92,6 @@ fn scout_behind<V: OrderedView, W: InTheWay>(
     let Ok(name) = place.key().root(alloc) else {
         return None;
     };
-    let cut = before_place(place);
     let to = stretches.start_before(cut);
     let low = last_edge(view, to);
     if !is_there(way.last_before(to), low, to) {

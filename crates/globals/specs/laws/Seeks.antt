@@ -195,7 +195,8 @@ kept_key N (Some e) = elim (N e.0) as (λ b. option_map (λ e. e.0) (cond b (Som
 
 -- ---- the same, from a cut
 
-after_order_start : (p : Spot) (x : Reference) → not (order_start true p x) ≡ seek true p x
+-- what doesn't stand before the start of $ORDER forward
+pub after_order_start : (p : Spot) (x : Reference) → not (order_start true p x) ≡ seek true p x
 after_order_start p x =
     elim p.is_open as (λ b. not (cond b (not (is_lt (ref_cmp p.reference x))) (is_before true p.reference x)) ≡ is_after (not b) p.reference x) [
       | true ↦ not-not (is_lt (ref_cmp p.reference x))
