@@ -1,5 +1,5 @@
 -- Where the base may stand, and where a checkpoint moves it.
-use Rattle.std.proofs.Common.{◌≡◌, ◌≤◌, ℕ, List, ◌∷◌, [], length, take, refl, sym, ap, subst, ◌∙◌, arith, inl, inr, Result, Ok, Err, IfOk, OnOk, OnErr}
+use Rattle.std.proofs.Common.{◌≡◌, ◌≤◌, ℕ, List, ◌∷◌, [], length, refl, sym, ap, subst, ◌∙◌, arith, inl, inr, Result, Ok, Err, IfOk, OnOk, OnErr}
 use Rattle.std.specs.Prelude.{not, min, max, filter, Option, Some, None, IfSome, unwrap_or}
 use Rattle.std.specs.Ordering.{nat_cmp}
 use Rattle.std.specs.FinMap as finmap
@@ -16,7 +16,7 @@ use Rattle.journal.specs.Story.{Transaction, Machine, nothing_done, transaction_
 use Rattle.journal.specs.laws.Checkpoints.{stays_behind, moves_on, stands_behind}
 use Rattle.read_ranges.specs.declared.range.ReadRange.{ReadRange}
 use Rattle.stretches.specs.Empty.{AreEmpty}
-use Rattle.version_store.specs.Versions.{Stored, content_at}
+use Rattle.version_store.specs.Versions.{Stored}
 use Rattle.validate_commit.specs.Agreement.{Agreement}
 use Rattle.job_core.specs.declared.engine.Engine.{Engine}
 use Rattle.job_core.specs.Common.{Common, IsCore}

@@ -1,5 +1,5 @@
 -- A block of lines, done under one hold of the lock.
-use Rattle.std.proofs.Common.{◌≡◌, ◌≢◌, ◌⊎◌, inl, inr, ℕ, zero, suc, ◌+◌, ◌-◌, ◌≤◌, ◌<◌, nat_lt, Bool, true, false, List, [], ◌∷◌, ◌++◌, length, refl, sym, ap, ◌∙◌, subst, arith, true≢false}
+use Rattle.std.proofs.Common.{◌≡◌, ◌≢◌, inl, inr, ℕ, zero, suc, ◌+◌, ◌-◌, ◌≤◌, ◌<◌, nat_lt, Bool, true, false, List, [], ◌∷◌, ◌++◌, length, refl, sym, ap, ◌∙◌, subst, arith}
 use Rattle.std.specs.Prelude.{Option, Some, None, Result, Ok, Err, if◌then◌else◌}
 use Rattle.std.specs.List.{All}
 use Rattle.std.proofs.lemmas.List.Elements.{All-rest}
@@ -7,25 +7,24 @@ use Rattle.refusal.specs.declared.Refusal.{Refusal}
 use Rattle.refusal.specs.declared.Refusal.TheVariants.{NoTransaction, Again}
 use Rattle.lock_name.specs.Locks.{lock_reply}
 use Rattle.lock_name.specs.declared.lock.LockCommand.{LockCommand}
-use Rattle.lock_name.specs.declared.lock.LockCommand.TheVariants.{Release}
 use Rattle.command.specs.declared.access.DataCommand.{DataCommand}
 use Rattle.command.specs.declared.access.Answer.{Answer}
 use Rattle.command.specs.declared.request.Command.{Command}
 use Rattle.command.specs.declared.request.Command.TheVariants.{Access, Lock as lock_command, Start, Commit, Rollback, Restart, Level, Restarts, Halt}
 use Rattle.command.specs.declared.request.Reply.{Reply}
-use Rattle.command.specs.declared.request.Reply.TheVariants.{Answered, Finished, Had, Count, AtLevel, Committed as committed_reply, Restarted as restarted_reply, Refused}
+use Rattle.command.specs.declared.request.Reply.TheVariants.{Answered, Finished, Count, AtLevel, Committed as committed_reply, Restarted as restarted_reply, Refused}
 use Rattle.journal.specs.declared.unit.Unit.{Unit as JournalUnit}
 use Rattle.journal.specs.History.{initial, after}
 use Rattle.journal.specs.Story.{Transaction, Machine, transaction_of, told}
 use Rattle.script.specs.Line.{reading_of}
 use Rattle.serial.specs.Machine.{told_had}
-use Rattle.job_core.specs.Sessions.{Session as JobSession, IsAnsweredOrRefused}
+use Rattle.job_core.specs.Sessions.{Session as JobSession}
 use Rattle.validate_commit.specs.laws.Working.{work_nothing}
-use Rattle.shared_engine.specs.Sessions.{Held, held, IsBegun}
-use Rattle.shared_engine.specs.Blocks.{said, IsLone, IsReadAt, IsInside, IsTried, IsOpened, IsDeeper, IsNone, IsCommitted, IsLower, IsRolledBack, IsRestarted, HasDone, AreDone, IsReady, moved, moved_open}
+use Rattle.shared_engine.specs.Sessions.{Held, IsBegun}
+use Rattle.shared_engine.specs.Blocks.{said, IsLone, IsReadAt, IsTried, IsOpened, IsDeeper, IsNone, IsCommitted, IsLower, IsRolledBack, IsRestarted, HasDone, AreDone, IsReady, moved, moved_open}
 use Rattle.job_scripts.specs.Blocks.{in_place, AreAsked}
 use Rattle.job_server.specs.Causes.{IsAllowed, IsReplyTo}
-use Rattle.job_server.specs.Told.{told_by, told_by_lines, AreRepliesTo, units_of, IsToldIn, given}
+use Rattle.job_server.specs.Told.{told_by, told_by_lines, AreRepliesTo}
 use Rattle.job_server.specs.Telling.{Shows, Stands, IsOvertaken, MayReply, Follows, NoneAgain}
 use Rattle.job_server.proofs.Causes.{lone_may, lock_may, deeper_may, commit_may, rollback_may, restart_may, no_commit_may, no_rollback_may, no_restart_may, room_of, room_at_commit, fault_of, asked_may}
 use Rattle.job_server.proofs.Following.{refused_follows, level_counted, restarts_counted, lone_follows, read_at_follows, tried_follows, begun_follows, deeper_follows, lower_follows, committed_follows, restarted_follows, rolled_back_follows}

@@ -1,6 +1,6 @@
 -- A session goes on as its reply tells, call by call.
-use Rattle.std.proofs.Common.{◌≡◌, ◌≢◌, ◌⊎◌, inl, inr, ℕ, zero, suc, ◌+◌, ◌-◌, ◌≤◌, ◌<◌, Bool, true, false, List, [], ◌∷◌, ◌++◌, length, refl, sym, ap, ◌∙◌, subst, arith, true≢false}
-use Rattle.std.specs.Prelude.{Option, Some, None, Result, Ok, Err, IfSome, IsSome, nat_lt, ◌^◌, min}
+use Rattle.std.proofs.Common.{◌≡◌, ◌≢◌, inl, inr, ℕ, ◌+◌, ◌-◌, ◌≤◌, ◌<◌, Bool, true, false, List, [], ◌∷◌, ◌++◌, length, refl, sym, ap, ◌∙◌, subst, arith, true≢false}
+use Rattle.std.specs.Prelude.{Option, Some, None, Result, Ok, Err, nat_lt, ◌^◌, min}
 use Rattle.refusal.specs.declared.Refusal.{Refusal}
 use Rattle.collation.specs.Limits.{most_levels}
 use Rattle.lock_name.specs.declared.lock.LockCommand.{LockCommand}
@@ -9,19 +9,19 @@ use Rattle.command.specs.declared.access.DataCommand.{DataCommand}
 use Rattle.command.specs.declared.access.Answer.{Answer}
 use Rattle.command.specs.declared.access.Answer.TheVariants.{Done}
 use Rattle.command.specs.declared.request.Command.{Command}
-use Rattle.command.specs.declared.request.Command.TheVariants.{Access, Lock as lock_command, Start, Commit, Rollback, Restart, Level, Restarts, Halt}
+use Rattle.command.specs.declared.request.Command.TheVariants.{Access, Lock as lock_command, Start, Commit, Rollback, Restart, Level, Restarts}
 use Rattle.command.specs.declared.request.Reply.{Reply}
-use Rattle.command.specs.declared.request.Reply.TheVariants.{Answered, Finished, Had, Count, AtLevel, Committed as committed_reply, Restarted as restarted_reply, Refused}
+use Rattle.command.specs.declared.request.Reply.TheVariants.{Answered, Finished, Count, AtLevel, Committed as committed_reply, Restarted as restarted_reply, Refused}
 use Rattle.journal.specs.declared.unit.Unit.{Unit as JournalUnit}
 use Rattle.journal.specs.declared.unit.Unit.TheVariants.{Lone}
 use Rattle.journal.specs.Kept.{Claim}
 use Rattle.journal.specs.History.{initial, after}
-use Rattle.journal.specs.Story.{Machine, transaction_of, told, told_lock, told_back, told_level, told_commit, begin, close}
+use Rattle.journal.specs.Story.{Machine, transaction_of, told, told_lock, told_back, told_level, begin, close}
 use Rattle.serial.specs.Machine.{told_had}
 use Rattle.validate_commit.specs.laws.Working.{work_nothing}
-use Rattle.job_core.specs.Sessions.{Session as JobSession, at_level, just_opened, anew, IsAnswered, IsRefused, IsAnsweredOrRefused, HasWritten}
+use Rattle.job_core.specs.Sessions.{Session as JobSession, at_level, just_opened, anew, IsAnsweredOrRefused, HasWritten}
 use Rattle.shared_engine.specs.Sessions.{Held, held, IsAt, IsBegun, and_receipt, begun_anew, rolled_back, HasBegun}
-use Rattle.shared_engine.specs.Engines.{HasEnded, HasItsNames, WasBlocked, after_try, lock_unit, whole_of}
+use Rattle.shared_engine.specs.Engines.{HasEnded, after_try, lock_unit}
 use Rattle.shared_engine.specs.declared.locked.Ended.TheVariants.{Committed, Restarted}
 use Rattle.shared_engine.specs.Blocks.{said, IsReadAt}
 use Rattle.job_server.specs.Told.{given, IsToldIn, units_of}
@@ -29,8 +29,7 @@ use Rattle.job_server.specs.Causes.{IsAllowed}
 use Rattle.job_server.specs.Telling.{Shows, Stands, AreStillTold, MayReply, Follows, names_some, IsLockRefusal, HasLocked}
 use Rattle.job_server.proofs.Units.{lock_receipt_more}
 use Rattle.job_server.proofs.Causes.{inside_may, alone_may, answered_may, done_may, lock_may, had_may, begun_may, inner_may, lower_may, committed_may, anew_may, rolled_back_may, level_may, restarts_may}
-use Rattle.job_server.proofs.Standing.{shown_none, still_shows, noted_at, with_open, with_none, with_closed, told_lone, told_inside, tried_untold, blocked_untold, inside_untold, tried_told, tried_job, tried_level, back_given, told_begun, told_at, told_whole}
-
+use Rattle.job_server.proofs.Standing.{shown_none, still_shows, noted_at, with_closed, told_lone, told_inside, tried_untold, blocked_untold, inside_untold, tried_told, tried_job, tried_level, back_given, told_begun, told_at, told_whole}
 -- the receipts are the same
 same_told : (old new : Held) (front : List JournalUnit) → new.receipts ≡ old.receipts → AreStillTold (front ++ units_of old.receipts) (front ++ units_of new.receipts)
 same_told old new front same ts h = subst (λ (cs : List Claim). IsToldIn ts (front ++ units_of cs)) (sym same) h

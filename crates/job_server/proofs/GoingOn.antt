@@ -1,9 +1,9 @@
 -- A job goes on, line by line.
-use Rattle.std.proofs.Common.{◌≡◌, ◌≢◌, ◌⊎◌, inl, inr, ℕ, zero, suc, ◌≤◌, ◌<◌, nat_lt, Bool, true, false, List, [], ◌∷◌, ◌++◌, length, take, refl, sym, ap, ◌∙◌, subst, arith, true≢false, append_assoc, append-nil}
+use Rattle.std.proofs.Common.{◌≡◌, ◌≢◌, ◌⊎◌, inl, inr, ℕ, zero, suc, ◌≤◌, ◌<◌, nat_lt, true, false, List, [], ◌∷◌, ◌++◌, length, take, refl, sym, ap, ◌∙◌, subst, arith, true≢false, append_assoc, append-nil}
 use Rattle.std.specs.FinMap as finmap
 use Rattle.std.specs.Ordering.{nat_cmp}
 use Rattle.std.specs.Prelude.{Option, Some, None, Result, Ok, Err, IfOk, is_some, slice_get}
-use Rattle.std.specs.List.{All, flat_map}
+use Rattle.std.specs.List.{All}
 use Rattle.std.proofs.lemmas.Bool.{ltb-true, lt-ltb}
 use Rattle.std.proofs.lemmas.Grind.{flat_map-append}
 use Rattle.std.proofs.lemmas.List.Elements.{All-push}
@@ -20,7 +20,7 @@ use Rattle.journal.specs.Kept.{Claim}
 use Rattle.journal.specs.Story.{Transaction, Machine, nothing_done, transaction_of, told, told_level, told_back}
 use Rattle.serial.specs.laws.ByJob.{get_here, gone_here}
 use Rattle.script.specs.Line.{reading_of}
-use Rattle.job_core.specs.Sessions.{Session as JobSession, idle}
+use Rattle.job_core.specs.Sessions.{idle}
 use Rattle.shared_engine.specs.Receipts.{Book}
 use Rattle.shared_engine.specs.Sessions.{Held, held, halted}
 use Rattle.shared_engine.specs.Blocks.{AreDone, IsReady, moved_open}
@@ -33,7 +33,7 @@ use Rattle.job_server.specs.declared.cursor.Line.{Line}
 use Rattle.job_server.specs.Causes.{IsAllowed, IsReplyTo}
 use Rattle.job_server.specs.Told.{told_by, told_by_lines, AreRepliesTo, given, IsToldIn, IsAllTold, HasItsEnd, AreOf, IsTold, units_of, units_of_book, units_in}
 use Rattle.job_server.specs.Served.{Wanted, IsReport, IsReportAt}
-use Rattle.job_server.specs.Telling.{Shows, Stands, Follows, is_open, units_behind, StandsIn, SessionsSoFar, sessions_so_far, StandsAt, GoesOn, GoesOnUntold, GoesOnBy, GoesOnAt, MayGoOnAt, IsOvertakenAs, IsNoCommit, HasStopped, IsFault, Running, running, not_begun, Leads, Serves, Keeps, HasAnswered, Advances, Reaches, ServesBlock, HasRun, HasReadAll, AreDataCommands, NoneAgain, HasJustBegun, Begins, IsStillOpen, WasOvertaken, IsBack, GoesOnFrom}
+use Rattle.job_server.specs.Telling.{Shows, Stands, Follows, is_open, units_behind, StandsIn, SessionsSoFar, sessions_so_far, StandsAt, GoesOnUntold, GoesOnBy, MayGoOnAt, IsOvertakenAs, IsNoCommit, HasStopped, IsFault, Running, running, not_begun, Leads, Serves, Keeps, HasAnswered, Advances, Reaches, ServesBlock, HasRun, HasReadAll, AreDataCommands, NoneAgain, HasJustBegun, Begins, IsStillOpen, WasOvertaken, IsBack, GoesOnFrom}
 use Rattle.job_server.proofs.Units.{both_more, one_given}
 use Rattle.job_server.proofs.Causes.{asked_may}
 use Rattle.job_server.proofs.Levels.{none_again, none_again_of_data}

@@ -1,20 +1,19 @@
 -- Where a session stands as a step is told.
-use Rattle.std.proofs.Common.{◌≡◌, ◌⊎◌, inl, inr, ℕ, zero, suc, ◌+◌, ◌-◌, ◌≤◌, ◌<◌, nat_lt, Bool, true, false, List, [], ◌∷◌, ◌++◌, length, refl, sym, ap, ◌∙◌, subst, arith}
+use Rattle.std.proofs.Common.{◌≡◌, ℕ, ◌+◌, ◌-◌, ◌≤◌, nat_lt, Bool, true, false, List, [], ◌∷◌, ◌++◌, length, refl, sym, ap, ◌∙◌, subst, arith}
 use Rattle.std.specs.Prelude.{Option, Some, None, not, ◌||◌, if◌then◌else◌}
-use Rattle.std.specs.List.{filter}
 use Rattle.std.proofs.lemmas.Bool.{lt-ltb}
 use Rattle.command.specs.declared.access.DataCommand.{DataCommand}
 use Rattle.command.specs.declared.access.Answer.{Answer}
 use Rattle.lock_name.specs.declared.lock.LockCommand.{LockCommand}
 use Rattle.journal.specs.declared.unit.Exchange.{Exchange}
 use Rattle.journal.specs.declared.unit.Unit.{Unit as JournalUnit}
-use Rattle.journal.specs.declared.unit.Unit.TheVariants.{Lone, Whole, Lock, Back, End}
+use Rattle.journal.specs.declared.unit.Unit.TheVariants.{Lone, Whole, Lock, Back}
 use Rattle.journal.specs.Kept.{Claim}
 use Rattle.journal.specs.Story.{Transaction, Machine, transaction_of, add_unit, put_transaction, close, begin, told_answer, told_lock, told_level, told_commit, told_back}
 use Rattle.serial.specs.laws.ByJob.{get_here, gone_here}
 use Rattle.job_core.specs.Sessions.{Session as JobSession, idle, after_lock}
 use Rattle.shared_engine.specs.Receipts.{claim}
-use Rattle.shared_engine.specs.Sessions.{Held, held, IsAt, IsBegun, and_receipt, noted_lock}
+use Rattle.shared_engine.specs.Sessions.{Held, IsAt, IsBegun, and_receipt, noted_lock}
 use Rattle.shared_engine.specs.Engines.{lock_unit, after_try, whole_of}
 use Rattle.job_server.specs.Causes.{HasRestarted}
 use Rattle.job_server.specs.Told.{given, may_be_untold, IsToldIn, units_of}

@@ -1,6 +1,6 @@
 -- The listing that is loaded before the first job, and why jobs weren't served.
 -- Read claims_from, load_books, BeginsWith, then IsUnservedBy.
-use Rattle.std.specs.Prelude.{◌≡◌, ⊤, ℕ, ◌+◌, List, [], ◌∷◌, length, take, None, Result, Ok, Err}
+use Rattle.std.specs.Prelude.{◌≡◌, ⊤, ℕ, ◌+◌, List, [], ◌∷◌, length, take, None, Result, Ok}
 use Rattle.command.specs.declared.access.DataCommand.TheVariants.{Set}
 use Rattle.command.specs.declared.access.Answer.TheVariants.{Done}
 use Rattle.journal.specs.declared.unit.Unit.{Unit as JournalUnit}

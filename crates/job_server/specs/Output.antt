@@ -1,6 +1,6 @@
 -- What a run of many jobs writes. Source: docs/FORMATS.md, "Replies".
 -- Read IsJobsOutput, Wrote and IsBegun; the contracts of run_text and run_jobs cite these.
-use Rattle.std.specs.Prelude.{◌≡◌, ◌⊎◌, ℕ, Bool, true, false, List, [], ◌++◌, map, length, unwrap_or, Option, codes}
+use Rattle.std.specs.Prelude.{◌≡◌, ◌⊎◌, ℕ, Bool, true, false, List, [], ◌++◌, map, unwrap_or, Option, codes}
 use Rattle.std.specs.List.{list_any}
 use Rattle.std.specs.Io.KnownBytes.{Appends}
 use Rattle.listing.specs.Bytes.{WritesBeginning}

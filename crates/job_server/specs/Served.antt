@@ -1,6 +1,6 @@
 -- What is known of jobs that were served.
 -- Read IsReport, AreReports, AreBooked and AreServed; the contract of serve cites these.
-use Rattle.std.specs.Prelude.{◌≡◌, ⊤, ℕ, ◌<◌, List, [], ◌∷◌, ◌++◌, length, map, slice_get, Option, Some, Ok}
+use Rattle.std.specs.Prelude.{◌≡◌, ⊤, ℕ, ◌<◌, List, [], ◌∷◌, ◌++◌, length, slice_get, Option, Some, Ok}
 use Rattle.std.specs.List.{All, flat_map}
 use Rattle.journal.specs.declared.unit.Unit.{Unit as JournalUnit}
 use Rattle.journal.specs.Kept.{Claim}
