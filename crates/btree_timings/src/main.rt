@@ -1,5 +1,5 @@
-//! Times of the B+tree: inserts of rising and of shuffled keys, look-ups, walks and removals. Standard output has checksums
-//! alone, which another program with the same keys must print too; times go to standard error.
+//! Times of the B+tree: inserts of rising and of shuffled keys, look-ups, walks and removals. Standard output has
+//! checksums alone, which another program with the same keys must print too; times go to standard error.
 //!
 //! The argument is how many keys there are. A key has 12 to 38 bytes: a number in ten digits, and as many bytes more as
 //! its last digits say, so that keys of near numbers have different lengths.

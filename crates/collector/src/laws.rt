@@ -12,8 +12,8 @@ pub fn large_turns_are_passes()
     ensures { LargeTurnsArePasses }
 {}
 
-/// Where the part of a row after the horizon is the same list, a version after the horizon stands in the one row exactly
-/// where it stands in the other.
+/// Where the part of a row after the horizon is the same list, a version after the horizon stands in the one row
+/// exactly where it stands in the other.
 pub fn versions_after_the_horizon_stand()
     ensures { LateVersionsStand }
 {}

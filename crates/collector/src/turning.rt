@@ -25,8 +25,8 @@ pub struct Progress {
     pub left: usize,
 }
 
-// Drops what nobody at or after the horizon sees of a key, takes it out where nothing is left, and marks it. Answers how
-// many versions went, and whether the key did.
+// Drops what nobody at or after the horizon sees of a key, takes it out where nothing is left, and marks it. Answers
+// how many versions went, and whether the key did.
 fn visit(store: &mut KeyedStore, horizon: u64, key: Key) -> (usize, bool)
     requires placed { finmap.contains_key store.old.versions key ≡ true }
     requires horizon { horizon ≤ store.old.cut }
@@ -75,14 +75,15 @@ fn visit_all(store: &mut KeyedStore, horizon: u64, keys: Vec<Key>) -> Progress
     }
 }
 
-/// Visits the next keys in turn, at most so many: of each, all that nobody at or after the horizon sees is dropped, and it is
-/// taken out where nothing is left. The cut is raised to the horizon, where it is below, and the mark is the key visited last.
+/// Visits the next keys in turn, at most so many: of each, all that nobody at or after the horizon sees is dropped, and
+/// it is taken out where nothing is left. The cut is raised to the horizon, where it is below, and the mark is the key
+/// visited last.
 ///
-/// What stays: now; the content at each stamp from the new cut on; each version after the horizon; the rows of keys that aren't
-/// visited.
+/// What stays: now; the content at each stamp from the new cut on; each version after the horizon; the rows of keys
+/// that aren't visited.
 ///
-/// Refusals: `Ahead` where the horizon is after now; `OutOfMemory` where there is no memory for copies of the keys to be
-/// visited. After either nothing has changed.
+/// Refusals: `Ahead` where the horizon is after now; `OutOfMemory` where there is no memory for copies of the keys to
+/// be visited. After either nothing has changed.
 pub fn turn(
     alloc: Global,
     store: &mut KeyedStore,
@@ -120,7 +121,8 @@ pub fn turn(
     }
 }
 
-/// Visits each key once: a turn over all of them. Where the horizon is now, each row that is left holds one version, a value.
+/// Visits each key once: a turn over all of them. Where the horizon is now, each row that is left holds one version, a
+/// value.
 ///
 /// What stays, and the refusals, are those of `turn`.
 pub fn pass(alloc: Global, store: &mut KeyedStore, horizon: u64) -> Result<Progress, Refusal>

@@ -293,8 +293,8 @@ impl RunLog for Told {
     }
 }
 
-// Asks to be shown the core at an empty line. How many bytes were written then, how many units there were, and which line
-// was done last.
+// Asks to be shown the core at an empty line. How many bytes were written then, how many units there were, and which
+// line was done last.
 #[derive(Drop)]
 struct Looking<'a> {
     written: &'a Cell<usize>,

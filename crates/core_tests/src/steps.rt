@@ -1,5 +1,5 @@
-//! Lists of steps, from docs/RULES.md: their replies, the journal and the content that they leave; and long lists, which
-//! end within the runner's limit.
+//! Lists of steps, from docs/RULES.md: their replies, the journal and the content that they leave; and long lists,
+//! which end within the runner's limit.
 use crate::answers::answers;
 use command::Reply;
 use job_core::{JobCore, Step, run_from_nothing};
@@ -106,7 +106,8 @@ fn is_set_and_got(alloc: Global, core: &mut JobCore, n: u32) -> Result<bool, Ref
 
 const MANY: u32 = 100_000;
 
-// The first of many subscripts that isn't set and got; or none. An odd factor, so that no number below 2^20 comes twice.
+// The first of many subscripts that isn't set and got; or none. An odd factor, so that no number below 2^20 comes
+// twice.
 fn first_lost(alloc: Global, core: &mut JobCore, factor: u32) -> Result<Option<u32>, Refusal> {
     for i in 0..MANY {
         let n = i.wrapping_mul(factor) & 0xf_ffff;

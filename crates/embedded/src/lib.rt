@@ -7,9 +7,9 @@
 //!
 //! (1) a line is run once, whether or not its reply fits into the buffer: where it doesn't, the reply is kept, its
 //!     length is told, and `copy_reply` copies it into a longer one;
-//! (2) nothing is written into a buffer that is too short, and nothing behind what is copied;
-//! (3) a refusal is told by its own number;
-//! (4) a look at the database, one value or the nodes of a walk, is no command: no unit, no reply, and the machine stays
+//! (2) nothing is written into a buffer that is too short, and nothing behind what is copied; (3) a refusal is told by
+//! its own number; (4) a look at the database, one value or the nodes of a walk, is no command: no unit, no reply, and
+//! the machine stays
 //!     (`specs/Looks.antt`). A walk's place is a key of the caller's.
 //!
 //! A C program reaches these calls through `vorgushan_c`.

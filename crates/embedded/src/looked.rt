@@ -56,8 +56,8 @@ fn push_record(key: &Key, value: &Text, text: &mut Vec<u8>) -> Result<(), AllocE
     Ok(())
 }
 
-// The records of the nodes that are left, as many as there is room for, behind what stands in `text`; and the last of their
-// keys, or this one, where there is none.
+// The records of the nodes that are left, as many as there is room for, behind what stands in `text`; and the last of
+// their keys, or this one, where there is none.
 fn push_fitting<'v, V: OrderedView>(
     walk: Walk<'v, V>,
     root: &Option<Box<Key>>,
@@ -198,20 +198,21 @@ fn copy_walked<V: OrderedView>(
 }
 
 impl Embedded {
-    /// Copies the value that the reference has in the database as it is now, and tells how long it is. It is no command:
-    /// the journal gets no unit, and the last reply stays.
+    /// Copies the value that the reference has in the database as it is now, and tells how long it is. It is no
+    /// command: the journal gets no unit, and the last reply stays.
     ///
-    /// `NoValue` where it has none, `BufferTooShort` where the buffer is shorter than the value: then nothing is copied.
+    /// `NoValue` where it has none, `BufferTooShort` where the buffer is shorter than the value: then nothing is
+    /// copied.
     pub fn look(&self, key: &Key, buffer: &mut [u8], wanted: &mut usize) -> Outcome
         ensures { IsLook (database self.now) key.now result buffer.old buffer.new wanted.new }
     {
         copy_value(&self.core.content(), key, buffer, wanted)
     }
 
-    /// Copies the next nodes of a walk over the database as it is now, as many as the buffer has room for, and tells how
-    /// long their records are together. The walk goes over what is at and under `root`, or over all where that is none,
-    /// from behind `place` on, or from the first where that is none; and `place` moves to the last node copied. Both are
-    /// in boxes, as C keeps keys. It is no command: the journal gets no unit, and the last reply stays.
+    /// Copies the next nodes of a walk over the database as it is now, as many as the buffer has room for, and tells
+    /// how long their records are together. The walk goes over what is at and under `root`, or over all where that is
+    /// none, from behind `place` on, or from the first where that is none; and `place` moves to the last node copied.
+    /// Both are in boxes, as C keeps keys. It is no command: the journal gets no unit, and the last reply stays.
     ///
     /// `AtEnd` where no node is left; `BufferTooShort` where the next alone is longer than the buffer, and then its
     /// length is told; `OutOfMemory`: then nothing is copied, and `place` stays.

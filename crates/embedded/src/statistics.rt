@@ -53,8 +53,8 @@ impl Embedded {
         }
     }
 
-    /// Lets the journal drop its units up to the least start of an open transaction, or all where none is open: what they
-    /// leave is kept in their place. No reply and no listing depends on it.
+    /// Lets the journal drop its units up to the least start of an open transaction, or all where none is open: what
+    /// they leave is kept in their place. No reply and no listing depends on it.
     ///
     /// `OutOfMemory`, after which nothing has changed.
     pub fn checkpoint(&mut self) -> Outcome

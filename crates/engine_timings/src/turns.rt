@@ -284,8 +284,8 @@ fn ended<B: BoardName, R: Wait>(rt: &R, engine: &Shared<B>, session: Session<B>,
     }
 }
 
-/// Transactions of so many reads, of a session of the job's own. All commit, or are rolled back but for each so many-th,
-/// 0 for none, which also sets a node and commits.
+/// Transactions of so many reads, of a session of the job's own. All commit, or are rolled back but for each so
+/// many-th, 0 for none, which also sets a node and commits.
 pub fn transactions<B: BoardName, R: Wait>(
     rt: &R,
     alloc: Global,

@@ -10,14 +10,13 @@
 //! Over ^A(1,5), ^A(3), ^B the place ^A(1) forward starts past ^A(1) and finds ^A(3): $ORDER answers 3. Backward
 //! ^A("") starts past ^A and finds ^A(3).
 //!
-//! What the answers and changes say in the words of references and values: `laws.rt`, with `specs/AnswerStatements.antt`
-//! and `specs/ChangeStatements.antt`.
+//! What the answers and changes say in the words of references and values: `laws.rt`, with
+//! `specs/AnswerStatements.antt` and `specs/ChangeStatements.antt`.
 //!
-//! Read `specs/Cuts.antt`, then `view.rt`, `run.rt`, `starts.rt`, `sibling.rt`, `ahead.rt`, `walk.rt`. Laws for those who write a
-//! view: `specs/laws/Runs.antt`, `specs/laws/Steps.antt`. The proofs go by lists in lexicographic order:
-//! `specs/laws/Sequences.antt`, `specs/laws/Seeks.antt`.
-//! Not promised: how long a view takes for a look-up, and how many look-ups a function makes (`private_tests` counts
-//! them).
+//! Read `specs/Cuts.antt`, then `view.rt`, `run.rt`, `starts.rt`, `sibling.rt`, `ahead.rt`, `walk.rt`. Laws for those
+//! who write a view: `specs/laws/Runs.antt`, `specs/laws/Steps.antt`. The proofs go by lists in lexicographic order:
+//! `specs/laws/Sequences.antt`, `specs/laws/Seeks.antt`. Not promised: how long a view takes for a look-up, and how
+//! many look-ups a function makes (`private_tests` counts them).
 #![tactic(auto)]
 
 pub use answering::{answer, look};

@@ -6,8 +6,8 @@ use collation::Text;
 use key_codec::Key;
 use std::marker::Model;
 
-/// Some nodes of a view, in order, at most 32: each lends its key and its value. It is seen as the list of the nodes, and
-/// takes no memory.
+/// Some nodes of a view, in order, at most 32: each lends its key and its value. It is seen as the list of the nodes,
+/// and takes no memory.
 #[derive(Drop)]
 pub struct Run<'v> {
     places: ArrayVec<Option<(&'v Key, &'v Text)>, 32>,

@@ -30,8 +30,8 @@ pub trait OrderedView {
         ensures { MatchOption result (first_from_cut cut.entry (content self.now) ≡ None)
             (λ e. first_from_cut cut.entry (content self.now) ≡ Some (e.0.now, e.1.now)) };
 
-    /// Some of the first members that don't stand before the cut, in order, each with its value: at most `most`, which is 1
-    /// to 32, and none only where there is none. A view may give fewer than it is asked for. Takes no memory.
+    /// Some of the first members that don't stand before the cut, in order, each with its value: at most `most`, which
+    /// is 1 to 32, and none only where there is none. A view may give fewer than it is asked for. Takes no memory.
     fn gather(&self, cut: Cut<'_>, most: usize) -> Run<'_>
         requires some { 1 ≤ most }
         requires few { most ≤ 32 }

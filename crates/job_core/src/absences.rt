@@ -4,8 +4,8 @@
 const LONGEST_PAUSE: u8 = 16;
 
 /// Nodes that are killed while older content is asked for stay as absences, until a collector has visited them. What is
-/// kept here tells whether there may be some, and is advice, which no contract trusts: each search in vain in turn doubles
-/// the pause before the next, so that look-ups elsewhere pay for one in seventeen.
+/// kept here tells whether there may be some, and is advice, which no contract trusts: each search in vain in turn
+/// doubles the pause before the next, so that look-ups elsewhere pay for one in seventeen.
 #[derive(Clone, Copy)]
 pub(crate) struct Absences {
     since: u64,

@@ -17,8 +17,8 @@ use stretches::{InTheWay, Stretches, scout};
 use validate_commit::Work;
 use version_store::KeyedStore;
 
-/// Stretches in which no node of the database stands, and whether it is worth while to look for more. They are seen as a
-/// list of ranges.
+/// Stretches in which no node of the database stands, and whether it is worth while to look for more. They are seen as
+/// a list of ranges.
 #[derive(Drop)]
 pub(crate) struct Passing {
     stretches: Stretches,
@@ -52,8 +52,8 @@ impl Passing {
         &self.stretches
     }
 
-    /// Before a lone data command: a $ORDER or $QUERY looks for the stretch over which it will pass; where another may put a
-    /// node into one of them, all are dropped.
+    /// Before a lone data command: a $ORDER or $QUERY looks for the stretch over which it will pass; where another may
+    /// put a node into one of them, all are dropped.
     pub(crate) fn make_ready(
         &mut self,
         alloc: Global,

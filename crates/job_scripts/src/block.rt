@@ -101,9 +101,9 @@ fn level_after(level: u64, command: &Command) -> u64
     }
 }
 
-/// The block of the lines at the front of a text, in a transaction at level 1 that has done nothing. It ends with the line
-/// that leaves no transaction open, as if neither memory nor stamps were refused to a command, and not before: without one
-/// it goes on to a HALT, or to the end.
+/// The block of the lines at the front of a text, in a transaction at level 1 that has done nothing. It ends with the
+/// line that leaves no transaction open, as if neither memory nor stamps were refused to a command, and not before:
+/// without one it goes on to a HALT, or to the end.
 ///
 /// `AllocError` where memory for the block is refused. A line that can't be read for want of memory has that refusal in
 /// its place.

@@ -1,9 +1,9 @@
 //! Scripts of many jobs as text: lines by job on the way in, replies by job on the way out. No engine and no thread.
 //!
 //! Callers see the scripts of a text as the groups of its lines (`groups_in` of `specs/Groups.antt`): a job's lines in
-//! order, jobs by the first line of each, and the lines without a job as a group of their own, numbered 0. A refused line
-//! keeps its place, since lines are grouped by the job that stands before their reply. A report is seen as its job and its
-//! replies, and its text is made where it is: `report_text` of `specs/Reports.antt`.
+//! order, jobs by the first line of each, and the lines without a job as a group of their own, numbered 0. A refused
+//! line keeps its place, since lines are grouped by the job that stands before their reply. A report is seen as its job
+//! and its replies, and its text is made where it is: `report_text` of `specs/Reports.antt`.
 //!
 //! Of the lines `2 SET ^B=1`, `1 SET ^A=1`, `2 $GET(^B)` there are two scripts: job 2 with two lines, then job 1.
 //!

@@ -15,8 +15,8 @@ use std::io::Write;
 use std::marker::Model;
 use std::snapshot::Snapshot;
 
-/// The replies to the lines of a job, or of none, in order, as their text. The replies themselves clauses alone see: their
-/// memory is given back as the report is made.
+/// The replies to the lines of a job, or of none, in order, as their text. The replies themselves clauses alone see:
+/// their memory is given back as the report is made.
 #[derive(Drop)]
 pub struct Report {
     job: Option<Job>,

@@ -61,9 +61,9 @@ fn seconds_at(text: &[u8]) -> Option<u64>
     Some(number_of(digits))
 }
 
-/// How many seconds a line with a LOCK waits for its names at most, where it has a timeout: the number of the one to nine
-/// digits behind a colon which nothing but blanks follows. The line is one that was read; one without a timeout has no such
-/// colon.
+/// How many seconds a line with a LOCK waits for its names at most, where it has a timeout: the number of the one to
+/// nine digits behind a colon which nothing but blanks follows. The line is one that was read; one without a timeout
+/// has no such colon.
 pub fn timeout_of(line: &[u8]) -> Option<u64>
     ensures { result ≡ timeout_in line.now }
 {

@@ -30,6 +30,7 @@ use Rattle.shared_engine.specs.Sessions.{Held, IsAt, IsBegun}
 use Rattle.job_scripts.specs.Blocks.{Asks}
 use Rattle.job_server.specs.Causes.{IsAnswer, IsAllowed, IsReplyTo}
 use Rattle.job_server.specs.Telling.{Shows, MayReply, IsLockRefusal, IsFault}
+
 -- ---- outside a transaction or inside
 
 -- where none is open none is shown

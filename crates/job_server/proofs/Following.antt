@@ -30,6 +30,7 @@ use Rattle.job_server.specs.Telling.{Shows, Stands, AreStillTold, MayReply, Foll
 use Rattle.job_server.proofs.Units.{lock_receipt_more}
 use Rattle.job_server.proofs.Causes.{inside_may, alone_may, answered_may, done_may, lock_may, had_may, begun_may, inner_may, lower_may, committed_may, anew_may, rolled_back_may, level_may, restarts_may}
 use Rattle.job_server.proofs.Standing.{shown_none, still_shows, noted_at, with_closed, told_lone, told_inside, tried_untold, blocked_untold, inside_untold, tried_told, tried_job, tried_level, back_given, told_begun, told_at, told_whole}
+
 -- the receipts are the same
 same_told : (old new : Held) (front : List JournalUnit) → new.receipts ≡ old.receipts → AreStillTold (front ++ units_of old.receipts) (front ++ units_of new.receipts)
 same_told old new front same ts h = subst (λ (cs : List Claim). IsToldIn ts (front ++ units_of cs)) (sym same) h

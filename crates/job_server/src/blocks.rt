@@ -73,8 +73,8 @@ impl<'a, B: BoardName, R: Wait, G: Gate> Worker<'a, B, R, G> {
         }
     }
 
-    // Tries the lines of a block behind its TSTART. Answers the place behind it, or none where its TCOMMIT found that the
-    // transaction was overtaken, and has begun it anew.
+    // Tries the lines of a block behind its TSTART. Answers the place behind it, or none where its TCOMMIT found that
+    // the transaction was overtaken, and has begun it anew.
     #[tactic(auto, using(crate::proofs::GoingOn::reaches_none, crate::proofs::GoingOn::reaches_on, crate::proofs::GoingOn::still_none, crate::proofs::GoingOn::still_on, crate::proofs::GoingOn::tried_replies, crate::proofs::GoingOn::reaches_replies))]
     fn try_block<'b>(
         &mut self,

@@ -22,8 +22,8 @@ const WRITES_PER_HOLD: usize = 64;
 const READS_PER_HOLD: usize = 16;
 
 impl<'a, B: BoardName, R: Wait, G: Gate> Worker<'a, B, R, G> {
-    // Whether a data command may be done under one hold of the engine's lock with those right behind it: no line is watched,
-    // and it takes the lock, as SET and KILL in a transaction don't.
+    // Whether a data command may be done under one hold of the engine's lock with those right behind it: no line is
+    // watched, and it takes the lock, as SET and KILL in a transaction don't.
     fn may_go_on(&self, run: &JobRun<B>, command: &DataCommand) -> bool {
         let takes_lock = match command {
             DataCommand::Set(..) | DataCommand::Kill(_) => !run.is_open(),

@@ -32,8 +32,8 @@ impl<'a, B: BoardName, R, G> Drop for Calls<'a, B, R, G> {
 }
 
 impl<'a, B: BoardName, R: Wait, G: Gate> Calls<'a, B, R, G> {
-    /// The reply to a command of a session, but for HALT. `seconds` is a LOCK's timeout. The session goes on as the reply
-    /// tells, and a refusal has its cause.
+    /// The reply to a command of a session, but for HALT. `seconds` is a LOCK's timeout. The session goes on as the
+    /// reply tells, and a refusal has its cause.
     #[tactic(auto, using(crate::proofs::Answering::follows_as, crate::proofs::Following::level_counted, crate::proofs::Following::restarts_counted))]
     pub(crate) fn reply_to(
         &self,

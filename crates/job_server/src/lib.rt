@@ -1,16 +1,16 @@
 //! The job server: scripts of many jobs run at the same time on one engine.
 //!
-//! A job's lines are done in order by one worker. Jobs wait in a queue, in order of their first lines; a worker takes the
-//! next one whole, and hands its report back whole. What workers share is the engine and two channels, and no line.
+//! A job's lines are done in order by one worker. Jobs wait in a queue, in order of their first lines; a worker takes
+//! the next one whole, and hands its report back whole. What workers share is the engine and two channels, and no line.
 //!
-//! A block is a TSTART outside a transaction and the lines after it, up to the one that leaves no transaction open, the one
-//! before a HALT, or the job's last. Where its TCOMMIT finds that the transaction was overtaken, its lines after the TSTART
-//! are done again, and only the replies of the last try are kept. After the third such restart they are done by
-//! `Shared::run_serial`, under one hold of the engine's lock, which no TCOMMIT restarts. So only a TRESTART line is
+//! A block is a TSTART outside a transaction and the lines after it, up to the one that leaves no transaction open, the
+//! one before a HALT, or the job's last. Where its TCOMMIT finds that the transaction was overtaken, its lines after
+//! the TSTART are done again, and only the replies of the last try are kept. After the third such restart they are done
+//! by `Shared::run_serial`, under one hold of the engine's lock, which no TCOMMIT restarts. So only a TRESTART line is
 //! replied with a restart.
 //!
-//! A LOCK that is kept off waits: it tries again after each `Gate::between_tries`, and where it has a timeout after each
-//! `Gate::second`, for so many times.
+//! A LOCK that is kept off waits: it tries again after each `Gate::between_tries`, and where it has a timeout after
+//! each `Gate::second`, for so many times.
 //!
 //! | File | Does |
 //! |---|---|

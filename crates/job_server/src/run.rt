@@ -71,12 +71,12 @@ impl Served {
     }
 }
 
-/// Loads a listing, runs the jobs of a text at the same time, and answers their reports, in order of the jobs' first lines,
-/// with the closed engine. Its journal is legal, begins with the SETs of the listing, and tells what the reports tell, as
-/// `serve` says. An empty listing sets nothing.
+/// Loads a listing, runs the jobs of a text at the same time, and answers their reports, in order of the jobs' first
+/// lines, with the closed engine. Its journal is legal, begins with the SETs of the listing, and tells what the reports
+/// tell, as `serve` says. An empty listing sets nothing.
 ///
-/// Nothing is written, so `write_served` and whoever reads `Served::journal` see one journal. Faults: `Load`, `Memory` and
-/// `Missing`, as of `serve`, and never `Write`.
+/// Nothing is written, so `write_served` and whoever reads `Served::journal` see one journal. Faults: `Load`, `Memory`
+/// and `Missing`, as of `serve`, and never `Write`.
 pub fn serve_text<R: Threads + Wait + Sync, L: LoadLog, G: Gate + Sync>(
     rt: &R,
     alloc: Global,
@@ -116,14 +116,14 @@ pub fn write_served<W: Write>(
     write_ending(alloc, listed, &served.closed.core, writer)
 }
 
-/// Loads a listing, runs the jobs of a text at the same time, and writes their replies, by job in order of the jobs' first
-/// lines, then, where it is asked for, `--` and the listing of the database that they leave: `serve_text`, then
+/// Loads a listing, runs the jobs of a text at the same time, and writes their replies, by job in order of the jobs'
+/// first lines, then, where it is asked for, `--` and the listing of the database that they leave: `serve_text`, then
 /// `write_served`. Answers whether a reply is a refusal.
 ///
 /// A job's replies tell the units that it wrote, as `serve` says; the listing is of the map that all units leave.
 ///
-/// After a fault a beginning of that was written: nothing but after `Write` and `Memory`, so nothing where the listing isn't
-/// loaded or jobs weren't served to their end; `Write` only where a call of the writer failed.
+/// After a fault a beginning of that was written: nothing but after `Write` and `Memory`, so nothing where the listing
+/// isn't loaded or jobs weren't served to their end; `Write` only where a call of the writer failed.
 pub fn run_text<R: Threads + Wait + Sync, W: Write, G: Gate + Sync>(
     rt: &R,
     alloc: Global,

@@ -36,8 +36,8 @@ impl Turns {
         Some(self.keys)
     }
 
-    /// Takes in a turn that dropped so many versions: after one that found none the next looks at half as many keys, else
-    /// at twice as many.
+    /// Takes in a turn that dropped so many versions: after one that found none the next looks at half as many keys,
+    /// else at twice as many.
     pub(crate) fn note_dropped(&mut self, dropped: usize) {
         self.keys = if dropped == 0 {
             (self.keys / 2).max(FEWEST_KEYS)

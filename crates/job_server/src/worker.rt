@@ -203,8 +203,8 @@ impl<'a, B: BoardName, R, G> Drop for Worker<'a, B, R, G> {
 }
 
 impl<'a, B: BoardName, R: Wait, G: Gate> Worker<'a, B, R, G> {
-    /// Counts lines that write, once they are done, and lets the collector look at some keys where a turn is due. One that
-    /// finds no memory is passed over.
+    /// Counts lines that write, once they are done, and lets the collector look at some keys where a turn is due. One
+    /// that finds no memory is passed over.
     pub(crate) fn note_writes(&mut self, count: u64) {
         if let Some(keys) = self.turns.note_writes(count)
             && let Ok(turn) = self.calls.engine.collect(self.calls.rt, keys)
@@ -229,8 +229,8 @@ impl<'a, B: BoardName, R: Wait, G: Gate> Worker<'a, B, R, G> {
         self.serve_block(run, job, line)
     }
 
-    // Does a TCOMMIT outside a block: of no transaction, or of one that stayed open behind its block, since a HALT or the
-    // end of the block was refused. Where that was overtaken its lines can't be done again.
+    // Does a TCOMMIT outside a block: of no transaction, or of one that stayed open behind its block, since a HALT or
+    // the end of the block was refused. Where that was overtaken its lines can't be done again.
     fn serve_commit<'b>(
         &mut self,
         run: &mut JobRun<B>,

@@ -25,8 +25,8 @@
 //!
 //! Proved: what is written, or a beginning of it after a fault; and that each step's text is one line and read as just
 //! that step, where its command has no fault, so that this holds for each line of a journal of such commands
-//! (`steps_are_read_again`). Only tested, by the program `journal_replays`: that the lines leave the same database, lone
-//! commands and transactions, and that none of them is refused or restarts.
+//! (`steps_are_read_again`). Only tested, by the program `journal_replays`: that the lines leave the same database,
+//! lone commands and transactions, and that none of them is refused or restarts.
 //!
 //! Read `specs/Steps.antt`, `specs/Journals.antt`, `specs/Statements.antt`, then `step.rt`, `pending.rt`,
 //! `done_again.rt`, `whole.rt`.

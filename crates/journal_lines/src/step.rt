@@ -51,11 +51,11 @@ fn push_step(job: Job, command: &Command, out: &mut Vec<u8>) -> Result<(), Alloc
 }
 
 /// Writes a step at the end of `out` as a line of a script, without its end: the job, a blank, and the command in
-/// capitals, in the one way in which it is written. A script reads it as just this step, where the command has no fault:
-/// `steps_are_read_again`.
+/// capitals, in the one way in which it is written. A script reads it as just this step, where the command has no
+/// fault: `steps_are_read_again`.
 ///
-/// A LOCK with no names in its list, which no line asks for, is written without any, and is not read again. Where memory
-/// is refused `out` is as it was.
+/// A LOCK with no names in its list, which no line asks for, is written without any, and is not read again. Where
+/// memory is refused `out` is as it was.
 #[tactic(auto, using(key_codec::specs::laws::Grown::back_to))]
 pub fn write_step(job: Job, command: &Command, out: &mut Vec<u8>) -> Result<(), AllocError>
     ensures ok { OnOk result (out.new.items ≡ out.old.items ++ steps.step_text job command.now) }

@@ -1,7 +1,7 @@
-//! Journals written as scripts. For each worked script it prints `alike` where its journal is written as the lines beside
-//! it (`worked.rt`). For each seed, of a script of 300 random lines of each of four jobs, where its journal's lines leave
-//! the same listing, the same lone commands, transactions and LOCKs outside of them, each with its answers, and none of
-//! them is refused or restarts a TCOMMIT.
+//! Journals written as scripts. For each worked script it prints `alike` where its journal is written as the lines
+//! beside it (`worked.rt`). For each seed, of a script of 300 random lines of each of four jobs, where its journal's
+//! lines leave the same listing, the same lone commands, transactions and LOCKs outside of them, each with its answers,
+//! and none of them is refused or restarts a TCOMMIT.
 //!
 //! It ends with status 1 where something differs.
 #![tactic(auto)]

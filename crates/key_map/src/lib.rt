@@ -1,8 +1,7 @@
 //! An ordered map from keys: what a transaction keeps its writes in.
 //!
-//! Callers see a finite map from references, in their order. It is kept in a B+tree (`btree`), so a look-up, a change and
-//! the step to the next key each take the logarithm of its size.
-//! (1) The tree's keys rise.
+//! Callers see a finite map from references, in their order. It is kept in a B+tree (`btree`), so a look-up, a change
+//! and the step to the next key each take the logarithm of its size. (1) The tree's keys rise.
 //!
 //! A `KeyMap` whose values are texts is an `OrderedView`.
 //!

@@ -66,8 +66,8 @@ impl<X> KeyMap<X> {
         self.tree.last_before(&CutPoint { cut }).0
     }
 
-    /// The keys with their values in order, where they stand side by side in memory: few mostly do. A key without a value is
-    /// hidden.
+    /// The keys with their values in order, where they stand side by side in memory: few mostly do. A key without a
+    /// value is hidden.
     pub fn as_row(&self) -> Option<&[(Key, Option<X>)]>
         ensures row { IfSome result (λ row. shown row.now ≡ finmap.entries self.now) }
     {
@@ -103,8 +103,8 @@ impl<X: Drop> KeyMap<X> {
         Ok(before)
     }
 
-    /// Sets the value of a key that is there, and gives the one before. Takes no memory. Where the key isn't there nothing
-    /// has changed, and the value comes back.
+    /// Sets the value of a key that is there, and gives the one before. Takes no memory. Where the key isn't there
+    /// nothing has changed, and the value comes back.
     pub fn replace(&mut self, key: &Key, value: X) -> Result<X, X>
         ensures before { IfOk result (λ before. finmap.get self.old key.now ≡ Some before) }
         ensures map { IfOk result (λ _. self.new ≡ finmap.insert self.old key.now value) }

@@ -76,8 +76,8 @@ impl<W: Write> Counted<W> {
         }
     }
 
-    /// Writes a text. After a fault a beginning of it was written, and one more failure is counted. For an empty text no
-    /// call is made, so it has none.
+    /// Writes a text. After a fault a beginning of it was written, and one more failure is counted. For an empty text
+    /// no call is made, so it has none.
     pub fn write_text(&mut self, text: &[u8]) -> Result<(), WriteFault>
         ensures ok { OnOk result (Appends (W.contents self.old.inner) (W.contents self.new.inner) text.now) }
         ensures err { OnErr result (WritesBeginning (W.contents self.old.inner) (W.contents self.new.inner) text.now) }

@@ -182,8 +182,8 @@ fn read_setting(
 
 /// The settings that a text asks for, read one after the other.
 ///
-/// Contracts see the text that is left, and the number of its first line: `asked_of` in `specs/Pending.antt` says what it
-/// asks for.
+/// Contracts see the text that is left, and the number of its first line: `asked_of` in `specs/Pending.antt` says what
+/// it asks for.
 #[derive(Drop)]
 pub struct SettingReader<'a> {
     alloc: Global,
@@ -221,8 +221,8 @@ impl<'a> SettingReader<'a> {
 
     /// The next setting: a reference, and its value. None behind the last, however often it is asked for.
     ///
-    /// Faults, after which the reader is where it was: as of `load`, where the next line that isn't empty sets nothing. So
-    /// after `Memory` the same line may be asked for once more.
+    /// Faults, after which the reader is where it was: as of `load`, where the next line that isn't empty sets nothing.
+    /// So after `Memory` the same line may be asked for once more.
     pub fn next(&mut self) -> Result<Option<(Key, Text)>, LoadFault>
         ensures setting { IfOk result (λ next. IfSome next (λ setting. asked_of self.old ≡ before (setting ∷ []) (asked_of self.new))) }
         ensures shorter { IfOk result (λ next. IfSome next (λ setting. length self.new.text < length self.old.text)) }

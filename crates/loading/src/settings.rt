@@ -91,10 +91,10 @@ pub fn load_with(alloc: Global, text: &[u8], log: &mut impl LoadLog) -> Result<J
 ///
 /// A line is a reference, `=` and a value, with blanks around them or none, as they stand after a SET; an empty line is
 /// passed over. Two lines at the front are passed over as headers where the second ends with `ZWR` and neither begins
-/// with `^`.
-/// Faults: `Line`, the first line that sets nothing, with its number and the column of its fault; its causes are those
-/// of a SET's line: `BadLine`, `BadName`, `TooManySubscripts`, `EmptySubscript`, `SubscriptTooLong`, `ValueTooLong`. And
-/// `Memory`, where memory was refused before one was found. After a fault there is no core: nothing of the text is kept.
+/// with `^`. Faults: `Line`, the first line that sets nothing, with its number and the column of its fault; its causes
+/// are those of a SET's line: `BadLine`, `BadName`, `TooManySubscripts`, `EmptySubscript`, `SubscriptTooLong`,
+/// `ValueTooLong`. And `Memory`, where memory was refused before one was found. After a fault there is no core: nothing
+/// of the text is kept.
 pub fn load(alloc: Global, text: &[u8]) -> Result<JobCore, LoadFault>
     ensures loaded { IfOk result (λ core. IsLoaded text.now core.machine) }
     ensures legal { IfOk result (λ core. IsLegal core.machine.units initial) }

@@ -1,12 +1,12 @@
 //! `mjobs`: runs the jobs of a script at the same time, from a file or standard input.
 //!
-//! It reads a listing, where one is asked for, and all input, and prints the replies by job, in order of the jobs' first
-//! lines, then `--` and the listing of the database. What is served is what `job_server::serve_text` promises, what is
-//! printed of it what `write_served` does, and what is written of its journal what `journal_lines::write_journal` does: so
-//! one journal is listed and written. The exit status is `job_server::status_of` of the outcome and the text of a fault is
-//! `job_server::JobsFault::text`; what its words ask for is `program_front::mjobs_args_with`. This file only opens files,
-//! looks for a listing's fault before a journal is written over, lets time pass for LOCKs that wait, and prints what went
-//! wrong:
+//! It reads a listing, where one is asked for, and all input, and prints the replies by job, in order of the jobs'
+//! first lines, then `--` and the listing of the database. What is served is what `job_server::serve_text` promises,
+//! what is printed of it what `write_served` does, and what is written of its journal what
+//! `journal_lines::write_journal` does: so one journal is listed and written. The exit status is
+//! `job_server::status_of` of the outcome and the text of a fault is `job_server::JobsFault::text`; what its words ask
+//! for is `program_front::mjobs_args_with`. This file only opens files, looks for a listing's fault before a journal is
+//! written over, lets time pass for LOCKs that wait, and prints what went wrong:
 //!
 //! 0, all replies are accepted; 1, a reply is an `error`; 2, a fault, or wrong arguments; standard error says which.
 #![tactic(auto)]
@@ -52,8 +52,8 @@ fn tell_progress(
     }
 }
 
-// Lets other threads go on between two tries of a LOCK, and a second pass where it has a timeout; on a terminal it tells
-// how many jobs are done.
+// Lets other threads go on between two tries of a LOCK, and a second pass where it has a timeout; on a terminal it
+// tells how many jobs are done.
 struct Patience<'a, P> {
     rt: &'a P,
     progress: Option<Progress>,

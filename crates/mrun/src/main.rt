@@ -1,13 +1,13 @@
 //! `mrun`: runs a script of numbered jobs' commands, from a file or standard input.
 //!
 //! It prints a line `job reply` for each line that isn't empty, then `--` and the listing of the database.
-//! What is printed is what `script_run::run_with_core` promises, the exit status is `script_run::status_of` of its outcome
-//! and the text of a fault is `script_run::Fault::text`; what its words ask for is `program_front::mrun_args_with`, and what
-//! a listing leaves that is loaded first is what `loading::load` promises, what is written of the journal what
-//! `journal_lines::write_journal` does. This program only opens files, tells on terminals what is done, and prints what went
-//! wrong:
+//! `script_run::run_with_core` promises what is printed, `script_run::status_of` the exit status, and
+//! `script_run::Fault::text` the text of a fault. `program_front::mrun_args_with` reads the options,
+//! `loading::load_with` a listing that is loaded first, and `journal_lines::write_journal` writes the journal. This
+//! program only opens files, shows on terminals what is done, and prints what went wrong.
 //!
-//! 0, all replies are accepted; 1, a reply is an `error`; 2, a fault, or wrong arguments; standard error says which.
+//! Exit status: 0, all replies are accepted; 1, a reply is an `error`; 2, a fault or wrong options; standard error says
+//! which.
 #![tactic(auto)]
 
 ghost use Rattle.std.specs.Prelude.{◌≡◌, IfOk};
@@ -37,8 +37,8 @@ mod statistics;
 // The program's name, before what it prints on standard error.
 const PROGRAM: &str = "mrun";
 
-// What is told on a terminal beside what is asked for: how lines are typed and what stands there, or how far a load and a
-// script from a file are. Progress isn't told where replies are seen on a terminal.
+// What is told on a terminal beside what is asked for: how lines are typed and what stands there, or how far a load and
+// a script from a file are. Progress isn't told where replies are seen on a terminal.
 #[derive(Clone, Copy, Debug, PartialEq, Eq)]
 struct Terminals {
     // Standard input and standard error are terminals: lines of standard input are typed.

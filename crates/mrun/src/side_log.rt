@@ -45,9 +45,9 @@ pub struct Source<'a> {
     pub tells: bool,
 }
 
-/// Tells on standard error of refused lines, of what stands there where Enter alone is typed, of progress, and at the end of
-/// what the engine holds, and writes the journal then, where it is asked for. What can't be printed there is left out; what
-/// the journal's writing came to is kept.
+/// Tells on standard error of refused lines, of what stands there where Enter alone is typed, of progress, and at the
+/// end of what the engine holds, and writes the journal then, where it is asked for. What can't be printed there is
+/// left out; what the journal's writing came to is kept.
 pub struct SideLog<'a, P, F> {
     rt: &'a P,
     telling: Telling,

@@ -45,8 +45,8 @@ fn behind<'v>(workspace: &'v Workspace, key: &'v Key) -> Cut<'v>
     }
 }
 
-// The first nodes of a view from the cut on that aren't killed: at most so many, and none only where there is none. Of a
-// killed range it asks the view for one run, and then for what stands after the range.
+// The first nodes of a view from the cut on that aren't killed: at most so many, and none only where there is none. Of
+// a killed range it asks the view for one run, and then for what stands after the range.
 pub fn gather_left<'v, V: OrderedView>(
     workspace: &'v Workspace,
     view: &'v V,

@@ -409,8 +409,8 @@ impl<B: BoardName> Board<B> {
         self.words.learn(&mut tally.seat);
     }
 
-    /// Moves the session's start to now, and answers it; shows what `meet` does of the session before. The slot keeps its
-    /// stamp, which isn't after it. Takes no memory.
+    /// Moves the session's start to now, and answers it; shows what `meet` does of the session before. The slot keeps
+    /// its stamp, which isn't after it. Takes no memory.
     pub fn restart<R: Wait>(&self, rt: &R, desk: &Desk<B>, pin: &mut Pin<B>) -> u64
         requires { pin.old.settled ≡ true }
         ensures pin { pin.new ≡ rebased desk.now pin.old }
@@ -426,8 +426,8 @@ impl<B: BoardName> Board<B> {
         now
     }
 
-    /// Settles the session at now, and answers it; shows what `meet` does of the session before. It is never refused: no
-    /// draw goes on meanwhile. Takes no memory.
+    /// Settles the session at now, and answers it; shows what `meet` does of the session before. It is never refused:
+    /// no draw goes on meanwhile. Takes no memory.
     pub fn settle_now<R: Wait>(&self, rt: &R, desk: &Desk<B>, pin: &mut Pin<B>) -> u64
         ensures pin { pin.new ≡ settled_now desk.now pin.old }
         ensures start { result ≡ length desk.now.log }
@@ -444,8 +444,8 @@ impl<B: BoardName> Board<B> {
     }
 
     /// Shows that no horizon is above the session's stamp, that its base begins the journal, that its units are in the
-    /// journal, and that the floor isn't above the number of all units. Sessions that share the lock may meet the desk in
-    /// turn. It changes nothing. Takes no memory.
+    /// journal, and that the floor isn't above the number of all units. Sessions that share the lock may meet the desk
+    /// in turn. It changes nothing. Takes no memory.
     pub fn meet<R: Wait>(&self, rt: &R, desk: &Desk<B>, pin: &mut Pin<B>)
         ensures pin { pin.new ≡ pin.old }
         ensures met { Met desk.now pin.old }
@@ -457,8 +457,8 @@ impl<B: BoardName> Board<B> {
         let _ = desk.perch.give(seat, 1, 2);
     }
 
-    /// Draws a horizon: the least of the clock and of the stamps in the slots of all seats dealt. The floor is raised to
-    /// the clock, and no farther. Takes no memory.
+    /// Draws a horizon: the least of the clock and of the stamps in the slots of all seats dealt. The floor is raised
+    /// to the clock, and no farther. Takes no memory.
     ///
     /// It is not above the stamp of any session that is settled, nor above that of any that will settle.
     pub fn draw<R: Wait>(&self, rt: &R, desk: &mut Desk<B>) -> u64

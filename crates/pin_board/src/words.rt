@@ -279,7 +279,8 @@ impl Words {
         ensures same { (seat.new.table_id ≡ seat.old.table_id) × (seat.new.id ≡ seat.old.id) }
         ensures view { seat.new.me ≡ (pin_with_desk (desk_in seat.old.me.0) (settled_now (desk_in seat.old.me.0) (pin_in seat.old.me.0)), []) }
     {
-        // Nobody else stores this slot. Who has the desk draws horizons, and that is this seat: none is above the clock.
+        // Nobody else stores this slot. Who has the desk draws horizons, and that is this seat: none is above the
+        // clock.
         self.table
             .shared
             .store::<SettleNow>(seat, place * STRIDE + STRIDE, stamp);

@@ -325,8 +325,8 @@ fn overlay_of_a_thousand_looks_up_one_node_in_32(rt: HostRuntime) -> Result<(), 
     Ok(())
 }
 
-// Whether an overlay finds the nodes next to a reference, at and under which all is killed, and by how many look-ups of what is
-// below: the one after, and the one before.
+// Whether an overlay finds the nodes next to a reference, at and under which all is killed, and by how many look-ups of
+// what is below: the one after, and the one before.
 fn beside_counts(
     own: &Workspace,
     start: &KeyMap<Text>,

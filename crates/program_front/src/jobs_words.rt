@@ -157,8 +157,8 @@ fn is_journal_read(arguments: &[Vec<u8>], args: MjobsArgs) -> bool {
     }
 }
 
-/// What the arguments of `mjobs` ask for; the first is the program's name. An error's text is for the user: help and the
-/// version too.
+/// What the arguments of `mjobs` ask for; the first is the program's name. An error's text is for the user: help and
+/// the version too.
 pub fn mjobs_args_of(alloc: Global, arguments: &[Vec<u8>]) -> Result<MjobsArgs, Error> {
     let texts = texts_of(alloc, arguments)?;
     let matches = command(alloc)?.try_get_matches_from(&texts)?;
@@ -176,8 +176,8 @@ pub fn mjobs_args_of(alloc: Global, arguments: &[Vec<u8>]) -> Result<MjobsArgs, 
     Ok(args)
 }
 
-/// What the arguments of `mjobs` ask for, as `mjobs_args_of` answers, or an error where the journal would be written to a
-/// file that is read under another name, or as standard input.
+/// What the arguments of `mjobs` ask for, as `mjobs_args_of` answers, or an error where the journal would be written to
+/// a file that is read under another name, or as standard input.
 pub fn mjobs_args_with(
     rt: &(impl Files + AllocGlobal),
     arguments: &[Vec<u8>],

@@ -47,8 +47,9 @@ fn is_same_file(kept: &Metadata, read: &Option<Metadata>) -> bool {
     }
 }
 
-/// Whether the file for the journal is there and is the script or the listing, by whatever name, a link of any kind too.
-/// Where no script is named it is standard input. It is looked at once: what becomes of the names later isn't seen.
+/// Whether the file for the journal is there and is the script or the listing, by whatever name, a link of any kind
+/// too. Where no script is named it is standard input. It is looked at once: what becomes of the names later isn't
+/// seen.
 pub(crate) fn is_file_read(
     rt: &impl Files,
     arguments: &[Vec<u8>],

@@ -1,13 +1,13 @@
 //! The front of the programs `mrun` and `mjobs`: what the words after a program's name ask for, and what is printed
-//! where they are wrong, a file can't be opened, a line is refused or a run ends early. A writer knows whether its reader
-//! has gone, so that a closed pipe ends a run without a line.
+//! where they are wrong, a file can't be opened, a line is refused or a run ends early. A writer knows whether its
+//! reader has gone, so that a closed pipe ends a run without a line.
 //!
 //! Arguments are bytes, since one may be of any bytes. The parser reads one that isn't UTF-8 with each bad sequence
 //! replaced; its answer says which argument is the file, so that its own bytes are kept and no other file is opened.
 //!
-//! No contract says what the arguments ask for: tests run the parser on them, and whether the journal's file is read under
-//! another name is tried by hand. One says that each print of what went wrong answers the exit status of a fault, and some
-//! say what a `Piped` holds and when it is closed.
+//! No contract says what the arguments ask for: tests run the parser on them, and whether the journal's file is read
+//! under another name is tried by hand. One says that each print of what went wrong answers the exit status of a fault,
+//! and some say what a `Piped` holds and when it is closed.
 //!
 //! Read `run_words.rt`, `jobs_words.rt`, `words.rt`, then `piped.rt`, `progress.rt`, `ticker.rt`, `printing.rt`,
 //! `listing_file.rt`, `journal_file.rt`.

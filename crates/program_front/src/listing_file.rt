@@ -37,8 +37,8 @@ fn read_file<P: Files + Eprint + AllocGlobal>(
     }
 }
 
-/// Reads the listing whose name stands there among the arguments, where one is asked for. Where it can't be read a line on
-/// standard error says why, and the exit status is answered.
+/// Reads the listing whose name stands there among the arguments, where one is asked for. Where it can't be read a line
+/// on standard error says why, and the exit status is answered.
 pub fn read_listing<'a, P: Files + Eprint + AllocGlobal>(
     rt: &P,
     program: &str,

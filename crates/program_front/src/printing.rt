@@ -79,8 +79,8 @@ pub fn print_refused(
     );
 }
 
-/// What takes as much room on a terminal as the bytes of a line before a column: a tab for a tab, a blank for each other
-/// character.
+/// What takes as much room on a terminal as the bytes of a line before a column: a tab for a tab, a blank for each
+/// other character.
 pub fn room_before(alloc: Global, line: &[u8], column: usize) -> Result<String, AllocError> {
     let mut room = String::new(alloc);
     for byte in line.iter().take(column.saturating_sub(1)) {
@@ -202,8 +202,8 @@ pub fn print_bad_name(rt: &impl Eprint, program: &str) -> u8
     FAULT_STATUS
 }
 
-/// Prints help, the version or what is wrong with the words, and answers the exit status. Where nobody reads it, no line
-/// says so.
+/// Prints help, the version or what is wrong with the words, and answers the exit status. Where nobody reads it, no
+/// line says so.
 pub fn print_help_or_error(rt: &(impl Print + Eprint), program: &str, error: clap::Error) -> u8 {
     if error.kind() == ErrorKind::OutOfMemory {
         return print_fault(rt, program, NO_MEMORY);

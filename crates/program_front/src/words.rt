@@ -84,8 +84,8 @@ pub(crate) fn texts_of(alloc: Global, arguments: &[Vec<u8>]) -> Result<Vec<Strin
     Ok(texts)
 }
 
-// The first argument of this text. The program's name comes before it, and only options and their values can have the same
-// text; they are of ASCII, so then their bytes are the file's too.
+// The first argument of this text. The program's name comes before it, and only options and their values can have the
+// same text; they are of ASCII, so then their bytes are the file's too.
 fn place_of(arguments: &[String], text: &str) -> Option<usize> {
     for i in 1..arguments.len() {
         if arguments[i].as_str() == text {

@@ -48,7 +48,8 @@ impl<'a> Search<'a> {
         self.level
     }
 
-    // Whether the key stands beyond the place: an open one stands directly after its key, and backward after all under it.
+    // Whether the key stands beyond the place: an open one stands directly after its key, and backward after all under
+    // it.
     fn is_beyond(&self, key: &[u8]) -> bool {
         let start = self.place.key().as_slice();
         let (is_under, is_open) = (key.starts_with(start), self.place.is_open());

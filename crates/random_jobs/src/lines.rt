@@ -17,8 +17,9 @@ pub enum Names {
     Own,
 }
 
-// The commands, by kinds: n stands for a name, i for a subscript, v for a digit; nB is the next name, which n begins. Each
-// LOCK that asks for names has the timeout 0, which is one try: jobs that wait for each other's names wait for ever.
+// The commands, by kinds: n stands for a name, i for a subscript, v for a digit; nB is the next name, which n begins.
+// Each LOCK that asks for names has the timeout 0, which is one try: jobs that wait for each other's names wait for
+// ever.
 const WRITES: [&str; 8] = [
     "SET ^n(i)=1vv",
     "SET ^n(i)=1vv",

@@ -1,10 +1,10 @@
-//! Random scripts of jobs that run at the same time, each on a worker. It prints `alike` for a seed where a plain map and a
-//! plain lock table that replay the closed journal give every answer in it and the listing, and no lock is left; where the
-//! journal's lines, run one after the other, leave the same listing; and where jobs whose globals and lock names are their
-//! own are answered as each of them is alone.
+//! Random scripts of jobs that run at the same time, each on a worker. It prints `alike` for a seed where a plain map
+//! and a plain lock table that replay the closed journal give every answer in it and the listing, and no lock is left;
+//! where the journal's lines, run one after the other, leave the same listing; and where jobs whose globals and lock
+//! names are their own are answered as each of them is alone.
 //!
-//! The words are the first seed, how many there are, how many jobs from 1 to 16, and how many lines a job has: 1 8 4 150
-//! where none are said.
+//! The words are the first seed, how many there are, how many jobs from 1 to 16, and how many lines a job has: 1 8 4
+//! 150 where none are said.
 #![tactic(auto)]
 
 use job_scripts::{Report, Script, scripts_of};

@@ -1,5 +1,5 @@
-//! A plain map from the bytes of keys to values, and a plain lock table: the model that a journal is replayed on. The map's
-//! order is the order of references, and each key of a node begins with those of the nodes above it.
+//! A plain map from the bytes of keys to values, and a plain lock table: the model that a journal is replayed on. The
+//! map's order is the order of references, and each key of a node begins with those of the nodes above it.
 use crate::Outcome;
 use crate::beyond::Search;
 use crate::plain_locks::PlainLocks;
@@ -208,8 +208,8 @@ impl Plain {
         }
     }
 
-    /// Does the units of a journal. Whether each answer in it is the map's at its place, or the table's, and in the end no job
-    /// has locks.
+    /// Does the units of a journal. Whether each answer in it is the map's at its place, or the table's, and in the end
+    /// no job has locks.
     pub fn replays(&mut self, alloc: Global, journal: &Journal) -> Result<Outcome, AllocError> {
         for unit in journal.units() {
             let outcome = self.does_read(alloc, unit)?;

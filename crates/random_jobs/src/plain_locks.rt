@@ -1,10 +1,11 @@
-//! A plain lock table, by the rules of docs/RULES.md, "Locks". A name is its caret and its key: the keys of the names above
-//! it are beginnings of its own.
+//! A plain lock table, by the rules of docs/RULES.md, "Locks". A name is its caret and its key: the keys of the names
+//! above it are beginnings of its own.
 use collation::Job;
 use lock_name::{LockCommand, LockName};
 use std::alloc::{AllocError, Global};
 
-// How often a job wants and holds a name; once it took a LOCK in its transaction, how often it wanted it before the first.
+// How often a job wants and holds a name; once it took a LOCK in its transaction, how often it wanted it before the
+// first.
 #[derive(Drop)]
 struct Count {
     job: Job,

@@ -66,8 +66,8 @@ impl Ranges {
         self.list.len()
     }
 
-    /// Forgets all ranges but the first `count`, which takes back a MERGE that was noted when they were so many. Takes no
-    /// memory.
+    /// Forgets all ranges but the first `count`, which takes back a MERGE that was noted when they were so many. Takes
+    /// no memory.
     pub fn back_to(&mut self, count: usize)
         ensures { self.new ≡ take count self.old }
     {
@@ -77,8 +77,8 @@ impl Ranges {
     /// Notes what an answered command has read. `decided` tells whether the transaction's own writes decide what a
     /// $GET's reference has; of other commands it says nothing.
     ///
-    /// A command that changes the database reads nothing, or a range that is put after the others, so that it can be taken
-    /// back, unless one of the last has it. What a command that looks has read may lie in one of the last ranges.
+    /// A command that changes the database reads nothing, or a range that is put after the others, so that it can be
+    /// taken back, unless one of the last has it. What a command that looks has read may lie in one of the last ranges.
     ///
     /// Where memory is refused nothing has changed.
     pub fn note(
@@ -163,15 +163,10 @@ impl Ranges {
         ensures few { length self.new ≤ length self.old + 1 }
         ensures err { OnErr result (self.new ≡ self.old) }
     {
+        let start = order_start(place, direction);
         match direction {
-            Direction::Forward => {
-                let low = order_start(place, Direction::Forward);
-                self.add(low, Cut::Past(end))
-            }
-            Direction::Backward => {
-                let low = level_start(end, answer);
-                self.add(low, order_start(place, Direction::Backward))
-            }
+            Direction::Forward => self.add(start, Cut::Past(end)),
+            Direction::Backward => self.add(level_start(end, answer), start),
         }
     }
 
@@ -209,15 +204,10 @@ impl Ranges {
         ensures few { length self.new ≤ length self.old + 1 }
         ensures err { OnErr result (self.new ≡ self.old) }
     {
+        let start = query_start(place, direction);
         match direction {
-            Direction::Forward => self.add(
-                query_start(place, Direction::Forward),
-                Cut::After(found),
-            ),
-            Direction::Backward => self.add(
-                Cut::Before(found),
-                query_start(place, Direction::Backward),
-            ),
+            Direction::Forward => self.add(start, Cut::After(found)),
+            Direction::Backward => self.add(Cut::Before(found), start),
         }
     }
 
@@ -233,16 +223,15 @@ impl Ranges {
         ensures few { length self.new ≤ length self.old + 1 }
         ensures err { OnErr result (self.new ≡ self.old) }
     {
+        let start = query_start(place, direction);
         match direction {
-            Direction::Forward => self.add(query_start(place, Direction::Forward), Cut::Past(name)),
-            Direction::Backward => self.add(
-                Cut::Before(name),
-                query_start(place, Direction::Backward),
-            ),
+            Direction::Forward => self.add(start, Cut::Past(name)),
+            Direction::Backward => self.add(Cut::Before(name), start),
         }
     }
 
-    /// Puts in what lies between two cuts: into one of the last four ranges that it joins, or else as a range of its own.
+    /// Puts in what lies between two cuts: into one of the last four ranges that it joins, or else as a range of its
+    /// own.
     ///
     /// Refusals, after which nothing has changed: `AllocError`.
     pub fn add(&mut self, low: Cut<'_>, high: Cut<'_>) -> Result<(), AllocError>

@@ -1,6 +1,6 @@
 //! A refused commit leaves all as it was. Two sides, each a store, a journal, a lock table and an open transaction, are
-//! made with the same lines: units at many stamps whose versions are kept, locks of three jobs, and a transaction that has
-//! read, has locks, and writes 40 keys, 20 of them new. The first commits.
+//! made with the same lines: units at many stamps whose versions are kept, locks of three jobs, and a transaction that
+//! has read, has locks, and writes 40 keys, 20 of them new. The first commits.
 //!
 //! Where that is refused both sides are compared: now and cut, the content at each stamp between, the newest stamp of
 //! each key, the journals' units and bytes, who would have which lock, the counts of the other jobs, and what the

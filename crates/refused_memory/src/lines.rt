@@ -11,7 +11,8 @@ pub const LISTS: [&str; 6] = [
     KILLS,
 ];
 
-// Units of all kinds, the base held back by job 2's transaction and let go, locks that it keeps, and nodes that come and go.
+// Units of all kinds, the base held back by job 2's transaction and let go, locks that it keeps, and nodes that come
+// and go.
 const CHECKPOINTS: &str = concat!(
     "1 SET ^A(1)=\"\"\n",
     "1 LOCK +^B(\"a text that is too long to lie inline\")\n",

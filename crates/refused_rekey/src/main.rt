@@ -1,8 +1,8 @@
 //! A refused rekey leaves all as it was, and so does a refused taking over but for the form of the keys. Stores of old
 //! keys are filled (`old_stores`). One is rekeyed, at the second try where memory was refused: between them it has old
-//! keys still, its stamps and its cells. Then it has to show what was written at each stamp. The other is taken over by a
-//! core, at the second try where memory was refused: between them it has its stamps. Then the core has to show what was
-//! written last. It prints `alike`, or what differs.
+//! keys still, its stamps and its cells. Then it has to show what was written at each stamp. The other is taken over by
+//! a core, at the second try where memory was refused: between them it has its stamps. Then the core has to show what
+//! was written last. It prints `alike`, or what differs.
 //!
 //! Standard input may ask for part 1, the rekey, or 2, the core, and for allocations that are taken before
 //! (`allocation_turns`); so `tests/refused_allocations` has each allocation refused in turn.

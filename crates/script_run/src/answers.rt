@@ -19,8 +19,8 @@ use std::alloc::Global;
 use std::io::Write;
 
 // The machine, the open jobs, the references of the line that is read, the text that is gathered and not yet written,
-// how it went so far, how many lines came, empty ones too, and when the collector passes and a checkpoint is taken next.
-// The number of lines saturates.
+// how it went so far, how many lines came, empty ones too, and when the collector passes and a checkpoint is taken
+// next. The number of lines saturates.
 #[derive(Drop)]
 pub(crate) struct Script {
     pub(crate) core: JobCore,

@@ -15,12 +15,12 @@
 //! on from one piece to the next. The room that a long one took is given back when it is done.
 //!
 //! After each so many replies as the caller says the collector passes over the store, and a checkpoint is taken
-//! (`upkeep.rt`). Both leave the machine, so no clause names them. Nor does one name a log, which is told of lines and may
-//! ask to be shown the core after one (`log.rt`): what is written is promised alike for each.
+//! (`upkeep.rt`). Both leave the machine, so no clause names them. Nor does one name a log, which is told of lines and
+//! may ask to be shown the core after one (`log.rt`): what is written is promised alike for each.
 //!
-//! Read `specs/Lines.antt`, `specs/OpenJobs.antt`, `specs/Output.antt`, then `outcome.rt`, `answers.rt`, `open_jobs.rt`,
-//! `upkeep.rt`, `lines.rt`, `run.rt`.
-//! Not promised: that memory is there; how the text is cut into writes; what a log is told.
+//! Read `specs/Lines.antt`, `specs/OpenJobs.antt`, `specs/Output.antt`, then `outcome.rt`, `answers.rt`,
+//! `open_jobs.rt`, `upkeep.rt`, `lines.rt`, `run.rt`. Not promised: that memory is there; how the text is cut into
+//! writes; what a log is told.
 #![tactic(auto)]
 
 pub use fault::{Fault, status_of};

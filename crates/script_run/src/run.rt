@@ -218,8 +218,8 @@ fn run_whole<R: Read, W: Write>(
     }
 }
 
-/// Runs a script as `run_with` does, from what a core holds, in which no transaction is open: its database and its journal
-/// go on. What is promised of `run_with` is the case of a core that has done nothing.
+/// Runs a script as `run_with` does, from what a core holds, in which no transaction is open: its database and its
+/// journal go on. What is promised of `run_with` is the case of a core that has done nothing.
 pub fn run_with_core<R: Read, W: Write>(
     alloc: Global,
     core: JobCore,
@@ -266,8 +266,8 @@ pub fn run_with_core<R: Read, W: Write>(
 }
 
 /// Runs a script as `run_script` does. Without `listed` neither `--` nor the listing is written. `log` is told of each
-/// refused line and of each line that is done, after which it may ask to be shown the core; then all replies are written
-/// first. It is told once of what the core holds when the run is over.
+/// refused line and of each line that is done, after which it may ask to be shown the core; then all replies are
+/// written first. It is told once of what the core holds when the run is over.
 ///
 /// The clauses name no `upkeep`: what is written is promised alike for each.
 pub fn run_with<R: Read, W: Write>(
@@ -303,23 +303,22 @@ pub fn run_with<R: Read, W: Write>(
     )
 }
 
-/// Runs a script: reads lines to the end of input, does each in its turn, and writes a reply to each, then halts
-/// the open jobs in order of first appearance, and writes the listing. A job is open from its first line until a HALT
-/// that is done; a HALT at the end that a full journal refuses (`StampsUsedUp`) is passed over. Replies are written before the next read, and earlier where 16,384 bytes of them are gathered.
+/// Runs a script: reads lines to the end of input, does each in its turn and writes a reply to each. Then it halts the
+/// open jobs, in order of first appearance, and writes the listing. A job is open from its first line until a HALT that
+/// is done; a HALT at the end that a full journal refuses (`StampsUsedUp`) is passed over. Replies are written before
+/// the next read, and earlier where 16,384 bytes of them are gathered.
 ///
-/// After each so many replies as `upkeep` says the collector passes over all keys, and a checkpoint lets go of the
-/// journal's beginning. No reply and no listing depends on them, but for what fits into memory, and one that finds no
-/// memory is passed over.
+/// After as many replies as `upkeep` says the collector passes over all keys, and a checkpoint drops the journal's
+/// beginning. No reply and no listing depends on them, but for what fits into memory; one that finds none is left out.
 ///
-/// On `Ok` the text is whole and all input was read; where the outcome isn't `wanting`, it is a function of the bytes
-/// read (`output_of`). After a fault the text is a beginning of a whole one, without a
-/// listing unless the fault came while that was written; after `Read` it is the replies of the lines that had ended;
-/// after `Memory` it is the replies of the lines before one of them, each whole, or of all lines and then `--` and whole lines
-/// of the listing. What was done is then just those lines and at most one more: where memory is refused for a reply's own text,
-/// that line's step is done and its reply is lost. No reply that was gathered is lost, unless its write fails, which is `Write`.
-/// `Read` and `Write` are answered only where a call of the reader or the writer failed, `Memory` where none did, but
-/// memory was refused and no reply could say so: for the buffer and the list of open jobs, before the first line, for a
-/// line longer than a piece, for a reply or a listing's line, or for an open job's HALT at the end of input.
+/// On `Ok` the text is whole and all input was read; where the outcome isn't `wanting`, the text is a function of the
+/// bytes read (`output_of`). After a fault it is a beginning of a whole text, and has of the listing something only if
+/// the fault came while that was written. After `Read` it has just the replies of the lines that had ended. After
+/// `Memory` it has the whole replies of the lines before one of them, or of all lines and then `--` and whole lines of
+/// the listing; at most one line more was done, whose reply found no memory. No reply that was gathered is lost, unless
+/// its write fails, which is `Write`. `Read` and `Write` come only where a call of the reader or the writer failed,
+/// `Memory` only where none did and no reply could say that memory was refused: for the buffer and the list of open
+/// jobs, a line longer than a piece, a reply, a line of the listing, an open job's HALT; or after 2^64 - 1 reads.
 pub fn run_script<R: Read, W: Write>(
     alloc: Global,
     upkeep: Upkeep,

@@ -3,8 +3,8 @@ ghost use Rattle.std.specs.Prelude.{◌≡◌, ◌==◌, ◌-◌, if◌then◌el
 
 use job_core::JobCore;
 
-/// After how many printed lines, again and again, the collector passes over all keys, and after how many a checkpoint is
-/// taken; 0 is never.
+/// After how many printed lines, again and again, the collector passes over all keys, and after how many a checkpoint
+/// is taken; 0 is never.
 #[derive(Clone, Copy, Debug, PartialEq, Eq)]
 pub struct Upkeep {
     /// For the collector's pass.

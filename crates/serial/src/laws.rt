@@ -22,8 +22,9 @@ pub fn untouched_references_keep_their_values()
     ensures { (u : JournalUnit) → (s : State) → (x : Reference) → touched u s x ≡ false → Agree s.map (after_unit u s).map x }
 {}
 
-/// What commands don't write they don't touch, and what they touch has a value before them or after. Of those that write a
-/// reference the last decides: one that sets it touches it, one that kills it does where it had a value at first.
+/// What commands don't write they don't touch, and what they touch has a value before them or after. Of those that
+/// write a reference the last decides: one that sets it touches it, one that kills it does where it had a value at
+/// first.
 pub fn commands_touch_what_they_write()
     ensures { (es : List Exchange) → (m : Database) → (x : Reference) → TouchesWhatItWrites es m x }
 {}

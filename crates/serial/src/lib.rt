@@ -1,20 +1,20 @@
 //! The machine of all jobs, and the laws of serial transactions: what any run of it gives is legal.
 //!
-//! `specs/Machine.antt` defines what each step of a job is replied and what it leaves. There is no code here: each law is
-//! a public function that does nothing, and its clause is the law.
+//! `specs/Machine.antt` defines what each step of a job is replied and what it leaves. There is no code here: each law
+//! is a public function that does nothing, and its clause is the law.
 //!
 //! The heart: a transaction's answers are those on the database at its start. A command's answer is fixed by the values
-//! of what it read; what a unit doesn't touch keeps its value; so where no unit after the start touched what was read, the
-//! answers are those at the commit too, and the transaction may stand among the units there, whole and in its turn.
+//! of what it read; what a unit doesn't touch keeps its value; so where no unit after the start touched what was read,
+//! the answers are those at the commit too, and the transaction may stand among the units there, whole and in its turn.
 //!
 //! With `^A` at 1: job 1 begins and reads `^A`, job 2 sets `^A` to 2. Job 1's commit restarts it, since what it read
 //! was touched. Had job 2 set `^B`, job 1 would be committed, and 1 would be the value of `^A` there too.
 //!
-//! Read `specs/Machine.antt`, `specs/Touches.antt`, `specs/Overtaking.antt`, `specs/Soundness.antt`, `specs/Committing.antt`,
-//! `specs/Standing.antt`, `specs/Traces.antt`, `specs/Levels.antt`, `specs/Locking.antt`, `specs/Memory.antt` and
-//! `specs/ReadRanges.antt`; then `laws.rt`, `commits.rt`, `transactions.rt`, `runs.rt` and `locks.rt`. Laws for callers:
-//! `specs/laws`.
-//! Not promised: that a transaction is ever committed, where others go on touching what it reads.
+//! Read `specs/Machine.antt`, `specs/Touches.antt`, `specs/Overtaking.antt`, `specs/Soundness.antt`,
+//! `specs/Committing.antt`, `specs/Standing.antt`, `specs/Traces.antt`, `specs/Levels.antt`, `specs/Locking.antt`,
+//! `specs/Memory.antt` and `specs/ReadRanges.antt`; then `laws.rt`, `commits.rt`, `transactions.rt`, `runs.rt` and
+//! `locks.rt`. Laws for callers: `specs/laws`. Not promised: that a transaction is ever committed, where others go on
+//! touching what it reads.
 #![tactic(auto)]
 
 pub use commits::{

@@ -23,8 +23,8 @@ pub fn jobs_hold_nothing_in_common()
     ensures { (us : List JournalUnit) → AreApart (after us initial).locks }
 {}
 
-/// Two lock names conflict exactly where both have a caret or neither has one, and one of the two references is the other
-/// with any subscripts more.
+/// Two lock names conflict exactly where both have a caret or neither has one, and one of the two references is the
+/// other with any subscripts more.
 pub fn names_conflict_where_one_begins_the_other()
     ensures { ConflictTells }
 {}
@@ -34,8 +34,9 @@ pub fn locks_are_granted_where_no_name_is_blocked()
     ensures { (job : ℕ) → (s : LockState) → GrantTells job s }
 {}
 
-/// LOCK without a sign gives all back and then counts its list, if it is granted; with `+` it adds the list, or nothing;
-/// with `-` it takes the list away. In a transaction nothing that is held is given back. Other jobs keep their locks.
+/// LOCK without a sign gives all back and then counts its list, if it is granted; with `+` it adds the list, or
+/// nothing; with `-` it takes the list away. In a transaction nothing that is held is given back. Other jobs keep their
+/// locks.
 pub fn locks_are_counted_by_command()
     ensures { (job : ℕ) → (in_transaction : Bool) → (s : LockState) → (n : Resource) → LockTells job in_transaction s n }
 {}

@@ -49,8 +49,8 @@ pub fn steps_without_memory_leave_nothing()
         → replies_done replies ≡ replies_of (steps_done steps replies) s }
 {}
 
-/// Want of memory hides no refusal that is looked at before memory is asked for (the law speaks of fewer than 2^64 units,
-/// and no journal has more), and what takes no memory has the machine's reply.
+/// Want of memory hides no refusal that is looked at before memory is asked for (the law speaks of fewer than 2^64
+/// units, and no journal has more), and what takes no memory has the machine's reply.
 pub fn memory_is_wanting_only_where_it_is_taken()
     ensures early { (job : ℕ) → (command : Command) → (reply : Reply) → (s : Machine) → (refusal : Refusal) → IsReply job command reply s
         → length s.units < 2 ^ 64 → early_of command (transaction_of job s) ≡ Some refusal → reply ≡ Reply.Refused refusal }

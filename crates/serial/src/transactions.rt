@@ -17,9 +17,9 @@ pub fn levels_rise_and_fall_by_one()
     ensures within { LevelsStayWithin }
 {}
 
-/// A TCOMMIT at level 1 that isn't overtaken commits: one unit with all that was done, and the job holds what it wants; a
-/// rollback leaves the database; a HALT is one unit, and leaves the job no locks. Each is done while the journal has room,
-/// each leaves no transaction, and nothing else ends one.
+/// A TCOMMIT at level 1 that isn't overtaken commits: one unit with all that was done, and the job holds what it wants;
+/// a rollback leaves the database; a HALT is one unit, and leaves the job no locks. Each is done while the journal has
+/// room, each leaves no transaction, and nothing else ends one.
 pub fn ended_transactions_are_closed()
     ensures { (job : ℕ) → (s : Machine) → EndsTell job s }
 {}

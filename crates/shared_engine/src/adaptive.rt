@@ -8,9 +8,9 @@ use std::hint::spin_loop;
 use std::sync::atomic::{AtomicU64, Ordering};
 use std::sync::{RwLock, RwLockReadGuard, RwLockWriteGuard, Wait};
 
-// How often a thread tries before it sleeps, and how often it looks at `wanted` between two tries: together some hundred
-// microseconds. A look costs next to nothing while nobody changes the word; a try takes the lock's word, and what lies beside
-// it, from whoever has it.
+// How often a thread tries before it sleeps, and how often it looks at `wanted` between two tries: together some
+// hundred microseconds. A look costs next to nothing while nobody changes the word; a try takes the lock's word, and
+// what lies beside it, from whoever has it.
 const TRIES: u32 = 1_000;
 
 const LOOKS: u32 = 256;
@@ -23,11 +23,11 @@ const PATIENT_LOOKS: u32 = 2_048;
 /// How a thread waits for the lock alone.
 #[derive(Clone, Copy)]
 pub(crate) enum Patience {
-    /// It tries often, and from its first try in vain on those who would share the lock hold back. For a commit, say, which
-    /// takes less time than the next reads of the others.
+    /// It tries often, and from its first try in vain on those who would share the lock hold back. For a commit, say,
+    /// which takes less time than the next reads of the others.
     Short,
-    /// It tries seldom, and for a while nobody holds back for it. For lone commands: whoever has the lock does many of them
-    /// one after the other then, before all that they touch goes to another core.
+    /// It tries seldom, and for a while nobody holds back for it. For lone commands: whoever has the lock does many of
+    /// them one after the other then, before all that they touch goes to another core.
     Long,
 }
 

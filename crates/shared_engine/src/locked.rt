@@ -467,8 +467,8 @@ impl<B: BoardName> Locked<B> {
         Ok(turn)
     }
 
-    /// Draws a horizon, and moves the journal's base on to it; answers where the base is then. Where the horizon is before
-    /// the base, or before the store's cut, the base stays.
+    /// Draws a horizon, and moves the journal's base on to it; answers where the base is then. Where the horizon is
+    /// before the base, or before the store's cut, the base stays.
     ///
     /// Refusals, after which what all jobs share is as it was: `OutOfMemory`.
     pub(crate) fn checkpoint<R: Wait>(&mut self, rt: &R, board: &Board<B>) -> Result<u64, Refusal>
@@ -492,8 +492,8 @@ impl<B: BoardName> Locked<B> {
         self.sweep.is_done()
     }
 
-    /// The core at the end. Where all passes are in, their units are all units in the journal, and their receipts those of
-    /// all, but for rollbacks and ends. Takes no memory.
+    /// The core at the end. Where all passes are in, their units are all units in the journal, and their receipts those
+    /// of all, but for rollbacks and ends. Takes no memory.
     pub(crate) fn finish<R: Wait>(self, rt: &R, board: &Board<B>, passes: Vec<Pass<B>>) -> Closed
         ensures core { result.core.units ≡ self.common.units }
         ensures sessions { result.sessions ≡ min self.opened (2 ^ 64 - 1) }

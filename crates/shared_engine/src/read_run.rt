@@ -16,8 +16,8 @@ use std::alloc::{AllocError, Global};
 use std::sync::Wait;
 
 impl<B: BoardName> Locked<B> {
-    /// Does data commands of an open transaction, each as `read` does it. The lock may be shared. A command's refusal is
-    /// its reply.
+    /// Does data commands of an open transaction, each as `read` does it. The lock may be shared. A command's refusal
+    /// is its reply.
     ///
     /// `AllocError` where there is no room for the replies, and nothing has changed.
     pub(crate) fn read_all<R: Wait>(

@@ -190,8 +190,8 @@ impl<B: BoardName> Shared<B> {
     /// `Gate::between_tries`, until it has them, which is another unit. Tries between write nothing. Takes the
     /// exclusive lock for each try.
     ///
-    /// Refusals: those of `Core::lock`, on some journal, and `OutOfMemory` for the receipt. Nothing has changed then, but
-    /// for the unit of a first try in vain and its receipt.
+    /// Refusals: those of `Core::lock`, on some journal, and `OutOfMemory` for the receipt. Nothing has changed then,
+    /// but for the unit of a first try in vain and its receipt.
     pub fn lock<R: Wait, G: Gate>(
         &self,
         rt: &R,
@@ -342,9 +342,9 @@ impl<B: BoardName> Shared<B> {
     }
 
     /// TRESTART: nothing of the transaction is left but its LOCKs' units, and it begins anew at level 1, at the present
-    /// moment, on a journal that goes on from its start before and has the units of the session's receipts. Where it took
-    /// a LOCK the last unit of that says so, one of the session's others. Answers how often it has. Takes the exclusive
-    /// lock.
+    /// moment, on a journal that goes on from its start before and has the units of the session's receipts. Where it
+    /// took a LOCK the last unit of that says so, one of the session's others. Answers how often it has. Takes the
+    /// exclusive lock.
     ///
     /// Refusals, after which nothing has changed, and only where it took a LOCK: `StampsUsedUp`, `OutOfMemory`.
     pub fn trestart<R: Wait>(&self, rt: &R, session: &mut Session<B>) -> Result<u64, Refusal>
@@ -400,8 +400,9 @@ impl<B: BoardName> Shared<B> {
         locked.run_serial(rt, &self.board, alloc, session, block)
     }
 
-    /// A turn of the collector over so many keys, at a horizon that is above no open transaction's start. Where all keys were
-    /// visited since the last write, and nothing is left that could go, it visits none. Takes the exclusive lock.
+    /// A turn of the collector over so many keys, at a horizon that is above no open transaction's start. Where all
+    /// keys were visited since the last write, and nothing is left that could go, it visits none. Takes the exclusive
+    /// lock.
     ///
     /// Refusals, after which no content is gone: `OutOfMemory`.
     pub fn collect<R: Wait>(&self, rt: &R, limit: usize) -> Result<Progress, Refusal>
@@ -420,10 +421,10 @@ impl<B: BoardName> Shared<B> {
         locked.collect(rt, &self.board, limit)
     }
 
-    /// Moves the journal's base on to a horizon that is above no open transaction's start: what the units up to it leave is
-    /// kept in their place, and their bytes are given back. Answers where the base is then, which is where it was if no
-    /// horizon after it can be had. Takes the exclusive lock, for as long as it takes to read these units back and to merge
-    /// what they changed.
+    /// Moves the journal's base on to a horizon that is above no open transaction's start: what the units up to it
+    /// leave is kept in their place, and their bytes are given back. Answers where the base is then, which is where it
+    /// was if no horizon after it can be had. Takes the exclusive lock, for as long as it takes to read these units
+    /// back and to merge what they changed.
     ///
     /// Refusals, after which the base is where it was: `OutOfMemory`.
     pub fn checkpoint<R: Wait>(&self, rt: &R) -> Result<u64, Refusal>
@@ -448,9 +449,9 @@ impl<B: BoardName> Shared<B> {
         }
     }
 
-    /// Closes the engine. Each unit of a pass is in its journal at its number, and is its job's; and where as many passes
-    /// are in as there were sessions, their units are all units, and their receipts those of all but rollbacks and ends;
-    /// more can't be in. Takes no memory.
+    /// Closes the engine. Each unit of a pass is in its journal at its number, and is its job's; and where as many
+    /// passes are in as there were sessions, their units are all units, and their receipts those of all but rollbacks
+    /// and ends; more can't be in. Takes no memory.
     pub fn finish<R: Wait>(self, rt: &R, passes: Vec<Pass<B>>) -> Closed
         ensures in_journal { All (λ (p : Book). AreInJournal result.core.units p.receipts) passes.items }
         ensures others { All (λ (p : Book). AreInJournal result.core.units p.others) passes.items }

@@ -7,8 +7,8 @@ pub(crate) fn looks(command: &DataCommand) -> bool {
     matches!(command, DataCommand::Look(_))
 }
 
-/// The keys that were visited one after the other since the last unit that wrote, at horizons that aren't before it: each
-/// has one version left, or none. Once they are all, a further turn would find nothing.
+/// The keys that were visited one after the other since the last unit that wrote, at horizons that aren't before it:
+/// each has one version left, or none. Once they are all, a further turn would find nothing.
 #[derive(Clone, Copy, Debug, PartialEq, Eq, Drop)]
 pub(crate) struct Sweep {
     written_at: u64,
@@ -42,8 +42,8 @@ impl Sweep {
         }
     }
 
-    /// Takes in a turn at this horizon, which has left so many keys. One at a horizon before the last write leaves versions
-    /// that an open transaction sees, so it counts for nothing.
+    /// Takes in a turn at this horizon, which has left so many keys. One at a horizon before the last write leaves
+    /// versions that an open transaction sees, so it counts for nothing.
     pub(crate) fn note_turn(&mut self, horizon: u64, turn: Progress, keys: usize) {
         if horizon < self.written_at {
             self.visited = 0;

@@ -32,7 +32,8 @@ fn begins<B: BoardName, R: Wait>(
     false
 }
 
-// A transaction that counts one up in a node which no other job sets, and sets one which all do. Each fifth is rolled back.
+// A transaction that counts one up in a node which no other job sets, and sets one which all do. Each fifth is rolled
+// back.
 fn block<B: BoardName, R: Wait>(
     rt: &R,
     alloc: Global,

@@ -104,8 +104,8 @@ fn turns<B: BoardName, R: Wait>(
     both(rt, alloc, &engine)
 }
 
-// Three keys are visited by two turns, and then none until something is written; beside a transaction that began before that
-// they are visited again and again, and once more after its end.
+// Three keys are visited by two turns, and then none until something is written; beside a transaction that began before
+// that they are visited again and again, and once more after its end.
 #[test]
 fn a_collector_that_has_gone_round_waits_for_a_write(rt: HostRuntime) -> Result<(), Fail> {
     let blank = Blank::new(rt.alloc(), SEATS)?;

@@ -82,8 +82,8 @@ fn four_write<B: BoardName + Send + Sync, R: Threads + Wait + Sync>(
     }
 }
 
-// How many sessions and units there were, how many passes have a hundred receipts, and how many units are lone commands,
-// transactions and ends.
+// How many sessions and units there were, how many passes have a hundred receipts, and how many units are lone
+// commands, transactions and ends.
 fn four_jobs<B: BoardName + Send + Sync, R: Threads + Wait + Sync>(
     rt: &R,
     alloc: Global,
@@ -164,7 +164,8 @@ fn is_steady<B: BoardName, R: Wait>(
     first.is_some() && first == second
 }
 
-// Whether a transaction that has begun sees what its session set alone, and the same of what all set as long as it is open.
+// Whether a transaction that has begun sees what its session set alone, and the same of what all set as long as it is
+// open.
 fn sees<B: BoardName, R: Wait>(
     rt: &R,
     alloc: Global,

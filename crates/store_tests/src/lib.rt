@@ -1,5 +1,5 @@
-//! Tests of the version store and its collector: what no clause says, that calls succeed one after the other where there
-//! is memory.
+//! Tests of the version store and its collector: what no clause says, that calls succeed one after the other where
+//! there is memory.
 #![tactic(auto)]
 
 #[cfg(test)]

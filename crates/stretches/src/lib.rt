@@ -1,8 +1,8 @@
 //! Stretches of the order in which nothing stands, so that a look-up needn't pass again over what was killed there.
 //!
-//! `Stretches` are up to four ranges of references. They say nothing by themselves: who has them knows of which database
-//! that no member stands in them (`AreEmpty` of `specs/Empty.antt`). They are advice: any may be dropped at any time, for
-//! want of memory too, and then a look-up takes longer and answers the same.
+//! `Stretches` are up to four ranges of references. They say nothing by themselves: who has them knows of which
+//! database that no member stands in them (`AreEmpty` of `specs/Empty.antt`). They are advice: any may be dropped at
+//! any time, for want of memory too, and then a look-up takes longer and answers the same.
 //!
 //! A `Skipping` is a view over another view and its empty stretches: an ordered view with the same content. Where a
 //! look-up begins in a stretch it goes on from that stretch's end.
@@ -11,8 +11,8 @@
 //! nodes on both sides. What lies in the way there, killed nodes, is what makes it worth while (`InTheWay`).
 //!
 //! Where ^A(1) to ^A(5000) were killed of ^A(1) to ^A(9000), $ORDER(^A("")) passes over 5,000 killed nodes to ^A(5001).
-//! Its scout finds the stretch from after ^A to past ^A(5000); once that is noted the next $ORDER(^A("")) begins there, and
-//! after KILL ^A(5001) its scout's stretch, from there to past ^A(5001), becomes one with it.
+//! Its scout finds the stretch from after ^A to past ^A(5000); once that is noted the next $ORDER(^A("")) begins there,
+//! and after KILL ^A(5001) its scout's stretch, from there to past ^A(5001), becomes one with it.
 //!
 //! Read `specs/Empty.antt`, then `stretches_kept.rt`, `skipping.rt`, `scouting.rt`.
 //! Not promised: which stretches are kept, and how many look-ups a view is spared.

@@ -20,10 +20,10 @@ pub trait InTheWay {
     fn last_before(&self, cut: Cut<'_>) -> Option<&Key>;
 }
 
-/// The stretch in which a $ORDER or $QUERY begins, or that begins where one ends in which it begins, if something lies in the
-/// way there. It takes in what lies in the way up to the next nodes on both sides, and no more, so that a node set beside it
-/// leaves it empty; beyond the last node of all it goes to the end of the global. None for other commands, and where memory
-/// is refused, which is asked for only where a key has over 38 bytes.
+/// The stretch in which a $ORDER or $QUERY begins, or that begins where one ends in which it begins, if something lies
+/// in the way there. It takes in what lies in the way up to the next nodes on both sides, and no more, so that a node
+/// set beside it leaves it empty; beyond the last node of all it goes to the end of the global. None for other
+/// commands, and where memory is refused, which is asked for only where a key has over 38 bytes.
 pub fn scout<V: OrderedView, W: InTheWay>(
     alloc: Global,
     view: &V,
@@ -129,8 +129,8 @@ fn last_edge<'v, V: OrderedView>(view: &'v V, cut: Cut<'_>) -> Cut<'v>
     }
 }
 
-// From where on no node stands before the end of the stretch in which the cut lies: at that end, or without such a stretch
-// behind the last node.
+// From where on no node stands before the end of the stretch in which the cut lies: at that end, or without such a
+// stretch behind the last node.
 fn low_edge<'v, V: OrderedView>(
     view: &'v V,
     stretches: &Stretches,
@@ -163,7 +163,8 @@ fn high_edge<'v, V: OrderedView>(
     }
 }
 
-// The part between two ends that has the cut in the middle and what lies in the way, where no node stands between the ends.
+// The part between two ends that has the cut in the middle and what lies in the way, where no node stands between the
+// ends.
 fn narrowed<V: OrderedView, W: InTheWay>(
     view: &V,
     way: &W,

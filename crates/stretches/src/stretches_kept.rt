@@ -52,8 +52,8 @@ impl Stretches {
         self.ranges.clear();
     }
 
-    /// Whether the command may put a node into one of the stretches. Where it doesn't, they are as empty after it as they
-    /// were before. Takes no memory.
+    /// Whether the command may put a node into one of the stretches. Where it doesn't, they are as empty after it as
+    /// they were before. Takes no memory.
     pub fn are_entered_by(&self, command: &DataCommand) -> bool
         ensures { result ≡ false → (m : Database) → AreEmpty self.now m → AreEmpty self.now (data_after command.now m) }
     {
@@ -72,8 +72,8 @@ impl Stretches {
         are_all_empty(self.ranges.ranges(), view)
     }
 
-    /// Puts in a stretch: it grows one that it joins, or is kept as one more. Where there would be five all are dropped;
-    /// where memory is refused it isn't kept.
+    /// Puts in a stretch: it grows one that it joins, or is kept as one more. Where there would be five all are
+    /// dropped; where memory is refused it isn't kept.
     pub fn note(&mut self, stretch: &ReadRange)
         ensures { AreNoMore stretch.now self.old self.new }
     {
@@ -86,8 +86,9 @@ impl Stretches {
         }
     }
 
-    /// What is kept after a command: none of the former stretches where it may have put a node into one, and that over which
-    /// it has passed, if it has. Then all are empty on whatever database the former ones, if they are kept, and that one are.
+    /// What is kept after a command: none of the former stretches where it may have put a node into one, and that over
+    /// which it has passed, if it has. Then all are empty on whatever database the former ones, if they are kept, and
+    /// that one are.
     pub fn follow(&mut self, are_entered: bool, passed: &Option<ReadRange>)
         ensures { (m : Database) → (are_entered ≡ false → AreEmpty self.old m) → IfSome passed.now (λ stretch. IsEmpty stretch m) → AreEmpty self.new m }
     {

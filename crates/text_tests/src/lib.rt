@@ -1,6 +1,6 @@
 //! Tests of the language and its texts: refusals, canonic numbers, the order, literals and references as text, key
-//! bytes, what a line is read as and where it is at fault, lines and replies by job, the words of the programs. Tests of
-//! scripts and steps stand in `conformance`.
+//! bytes, what a line is read as and where it is at fault, lines and replies by job, the words of the programs. Tests
+//! of scripts and steps stand in `conformance`.
 //!
 //! Expected values come from docs/RULES.md and docs/FORMATS.md, never from the program. A test owns at most one or two
 //! values, and a table's row is one call (docs/PROVING.md).

@@ -1,4 +1,5 @@
-//! Canonic numbers and numeric literals, from docs/RULES.md, "Canonic numbers", and docs/FORMATS.md, "Grammar of lines".
+//! Canonic numbers and numeric literals, from docs/RULES.md, "Canonic numbers", and docs/FORMATS.md, "Grammar of
+//! lines".
 use canonic_number::{
     Numeral, canonic_of, cmp_numerals, is_canonic, is_numeric, parts, read_numeral,
 };

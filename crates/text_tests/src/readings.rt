@@ -1,6 +1,6 @@
-//! What a line asks, as `read_line` reads it: LOCK in all its forms, and the commands that are their word alone; and the
-//! texts of their replies. From docs/FORMATS.md, "Grammar of lines", "Which refusal a line gets", "Doubtful lines" and
-//! "Replies".
+//! What a line asks, as `read_line` reads it: LOCK in all its forms, and the commands that are their word alone; and
+//! the texts of their replies. From docs/FORMATS.md, "Grammar of lines", "Which refusal a line gets", "Doubtful lines"
+//! and "Replies".
 use command::{Command, Reply};
 use lock_name::{LockCommand, LockName, LockNames};
 use script::{Drafts, read_line, write_reply};

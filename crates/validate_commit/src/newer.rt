@@ -1,12 +1,13 @@
 //! Whether a version after a stamp stands in one of many ranges.
 //!
 //! Ranges that were read overlap where a transaction reads the same nodes again and again: m MERGEs of n nodes note m
-//! ranges of them all. Walked one by one these would take m times n steps, while each other job waits. So where there are
-//! more than a few, those that have to be walked are put in the order of their beginnings, and each is looked through
-//! only from where those before it end: no node is passed twice. A range of one reference is looked up, without a walk.
+//! ranges of them all. Walked one by one these would take m times n steps, while each other job waits. So where there
+//! are more than a few, those that have to be walked are put in the order of their beginnings, and each is looked
+//! through only from where those before it end: no node is passed twice. A range of one reference is looked up, without
+//! a walk.
 //!
-//! The answer doesn't rest on that order, nor on memory: what is passed over is seen to lie in a range that has no newer
-//! version, and where the list of ranges is refused memory each is looked through by itself.
+//! The answer doesn't rest on that order, nor on memory: what is passed over is seen to lie in a range that has no
+//! newer version, and where the list of ranges is refused memory each is looked through by itself.
 ghost use Rattle.std.specs.Prelude.{◌≡◌, ◌&&◌, true, false, IfOk};
 ghost use Rattle.std.specs.List.{list_any};
 ghost use Rattle.collation.specs.Reference.{Reference};

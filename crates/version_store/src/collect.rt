@@ -51,7 +51,8 @@ impl KeyedStore {
         }
     }
 
-    /// Drops the versions of a placed reference that nobody at or after the horizon sees, and counts them. Takes no memory.
+    /// Drops the versions of a placed reference that nobody at or after the horizon sees, and counts them. Takes no
+    /// memory.
     pub fn cut_key(&mut self, key: &Key, horizon: u64) -> usize
         requires placed { finmap.contains_key self.old.versions key.now ≡ true }
         requires horizon { horizon ≤ self.old.cut }
@@ -92,9 +93,9 @@ impl KeyedStore {
         }
     }
 
-    /// Drops the versions of a placed reference that nobody at or after the horizon sees, and the reference where nothing is
-    /// left: `cut_key` and `drop_key` in one look-up. Tells how many versions went, and whether the reference did. Takes no
-    /// memory.
+    /// Drops the versions of a placed reference that nobody at or after the horizon sees, and the reference where
+    /// nothing is left: `cut_key` and `drop_key` in one look-up. Tells how many versions went, and whether the
+    /// reference did. Takes no memory.
     pub fn cut_and_drop(&mut self, key: &Key, horizon: u64) -> (usize, bool)
         requires placed { finmap.contains_key self.old.versions key.now ≡ true }
         requires horizon { horizon ≤ self.old.cut }

@@ -79,9 +79,10 @@ fn take_under(tree: &mut SteadyMap<Key, ChainId>, root: &Key, placed: Placed)
 }
 
 impl KeyedStore {
-    /// Takes out all placed references at and under this one, with all their versions, and reserves their cells. The stamp is
-    /// now from here on, and the oldest one at which content is kept: as if an absence were written at each of them and nobody
-    /// asked for older content. No list of them is made. It takes no memory but for copies of keys, and is never refused.
+    /// Takes out all placed references at and under this one, with all their versions, and reserves their cells. The
+    /// stamp is now from here on, and the oldest one at which content is kept: as if an absence were written at each of
+    /// them and nobody asked for older content. No list of them is made. It takes no memory but for copies of keys, and
+    /// is never refused.
     pub fn kill(&mut self, stamp: u64, root: &Key)
         requires { self.old.present < stamp }
         ensures content { content_at self.new.versions stamp ≡ finmap.retain_keys (content_at self.old.versions self.old.present) (λ x. not (is_under root.now x)) }

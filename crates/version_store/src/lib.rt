@@ -12,10 +12,10 @@
 //!
 //! With `^A` at 4 "x" and 2 absent, and `^B` at 3 "y": content at 2 is empty, at 3 `^B`, at 4 both.
 //!
-//! Read `specs/Versions.antt`, then `store.rt`, `place.rt`, `near.rt`, `write.rt`, `set.rt`, `kill.rt`, `seek.rt`, `range.rt`,
-//! `collect.rt`, `turn.rt` and `snapshot.rt`; of old keys `kept.rt` and `short.rt`. Laws for callers:
-//! `specs/laws/Content.antt`, `Cutting.antt`, `Turning.antt`.
-//! Not promised: how many nodes a look-up visits. A walk passes over references without a value one by one.
+//! Read `specs/Versions.antt`, then `store.rt`, `place.rt`, `near.rt`, `write.rt`, `set.rt`, `kill.rt`, `seek.rt`,
+//! `range.rt`, `collect.rt`, `turn.rt` and `snapshot.rt`; of old keys `kept.rt` and `short.rt`. Laws for callers:
+//! `specs/laws/Content.antt`, `Cutting.antt`, `Turning.antt`. Not promised: how many nodes a look-up visits. A walk
+//! passes over references without a value one by one.
 #![tactic(auto)]
 
 pub use kept::Store;

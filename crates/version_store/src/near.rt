@@ -4,8 +4,8 @@ use btree::Trail;
 // For how many new references the place isn't tried, at most.
 const LONGEST_PAUSE: u8 = 15;
 
-/// The trail to the last new reference, and how long it isn't tried after tries in vain: each one in turn doubles the pause, so
-/// that references in no order pay for one try in sixteen. It is advice, which no contract trusts.
+/// The trail to the last new reference, and how long it isn't tried after tries in vain: each one in turn doubles the
+/// pause, so that references in no order pay for one try in sixteen. It is advice, which no contract trusts.
 #[derive(Clone, Copy)]
 pub(crate) struct Near {
     trail: Trail,

@@ -61,7 +61,8 @@ impl KeyedStore {
         }
     }
 
-    // Where a reference goes that has no chain, told by the place of the last new one. Where it answers `None` it may have one.
+    // Where a reference goes that has no chain, told by the place of the last new one. Where it answers `None` it may
+    // have one.
     pub(crate) fn place_beside(&mut self, key: &Key) -> Option<Trail>
         ensures missed { IsSome result → finmap.get self.old.versions key.now ≡ None }
         ensures same { self.new ≡ self.old }
@@ -152,7 +153,8 @@ impl KeyedStore {
     /// Gives the reference of each change a chain, if it has none, and reserves a cell for each change. A chain without
     /// versions is in no content.
     ///
-    /// Refusals: `AllocError`. After it some may be placed, and cells be reserved; no content and no version has changed.
+    /// Refusals: `AllocError`. After it some may be placed, and cells be reserved; no content and no version has
+    /// changed.
     pub fn place_keys(
         &mut self,
         alloc: Global,

@@ -78,8 +78,8 @@ fn newest_left(walk: Walk<'_, Key, ChainId>, high: Cut<'_>, chains: &Chains<Text
     newest
 }
 
-// The newest stamp of the references that are left and stand before a cut. A row whose last key stands before it is passed
-// with that one comparison.
+// The newest stamp of the references that are left and stand before a cut. A row whose last key stands before it is
+// passed with that one comparison.
 fn newest_before(walk: Walk<'_, Key, ChainId>, high: Cut<'_>, chains: &Chains<Text>) -> Option<u64>
     requires opened { AreOpen chains.now walk }
     requires sorted { is_sorted ref_cmp walk ≡ true }
@@ -111,9 +111,9 @@ impl KeyedStore {
         }
     }
 
-    /// The newest stamp of any version of a reference that doesn't stand before `low` and stands before `high`; none where
-    /// no such reference has a version. Absences count. Takes no memory. Who asks for one reference asks `newest_of`, without
-    /// a walk.
+    /// The newest stamp of any version of a reference that doesn't stand before `low` and stands before `high`; none
+    /// where no such reference has a version. Absences count. Takes no memory. Who asks for one reference asks
+    /// `newest_of`, without a walk.
     #[inline(never)]
     pub fn newest_in(&self, low: Cut<'_>, high: Cut<'_>) -> Option<u64>
         ensures stamp { result ≡ newest_between low.entry high.entry self.now.versions }

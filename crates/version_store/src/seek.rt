@@ -72,8 +72,8 @@ fn gather_valued<'v>(
 }
 
 impl KeyedStore {
-    // The first reference that has a value at the stamp and doesn't stand before the cut, with the value. Mostly that is
-    // the first of all, which is found without a walk.
+    // The first reference that has a value at the stamp and doesn't stand before the cut, with the value. Mostly that
+    // is the first of all, which is found without a walk.
     pub(crate) fn next_at(&self, cut: Cut<'_>, stamp: u64) -> Option<(&Key, &Text)>
         ensures { option_map (λ e. (e.0.now, e.1.now)) result ≡ first_from_cut cut.entry (content_at self.now.versions stamp) }
     {
@@ -87,7 +87,8 @@ impl KeyedStore {
         }
     }
 
-    // As `next_at`, by a walk from the cut on. It stands apart since a walk's half kilobyte is cleared where a function begins.
+    // As `next_at`, by a walk from the cut on. It stands apart since a walk's half kilobyte is cleared where a function
+    // begins.
     #[inline(never)]
     fn walk_next_at(&self, cut: Cut<'_>, stamp: u64) -> Option<(&Key, &Text)>
         ensures { option_map (λ e. (e.0.now, e.1.now)) result ≡ first_from_cut cut.entry (content_at self.now.versions stamp) }
@@ -95,7 +96,8 @@ impl KeyedStore {
         first_valued(self.tree.from(&CutPoint { cut }), &self.chains, stamp)
     }
 
-    // The last reference that has a value at the stamp and stands before the cut, with the value; found as in `next_at`.
+    // The last reference that has a value at the stamp and stands before the cut, with the value; found as in
+    // `next_at`.
     pub(crate) fn prev_at(&self, cut: Cut<'_>, stamp: u64) -> Option<(&Key, &Text)>
         ensures { option_map (λ e. (e.0.now, e.1.now)) result ≡ last_before_cut cut.entry (content_at self.now.versions stamp) }
     {
@@ -117,7 +119,8 @@ impl KeyedStore {
         last_valued(self.tree.back_from(&CutPoint { cut }), &self.chains, stamp)
     }
 
-    // The first references that have a value at the stamp and don't stand before the cut, with the values; at most so many.
+    // The first references that have a value at the stamp and don't stand before the cut, with the values; at most so
+    // many.
     pub(crate) fn gather_at(&self, cut: Cut<'_>, stamp: u64, most: usize) -> Run<'_>
         requires some { 1 ≤ most }
         requires few { most ≤ 32 }

@@ -118,11 +118,11 @@ impl KeyedStore {
     }
 
     /// Sets one reference at a stamp, which is now from here on, and raises the cut to the horizon, where it is below:
-    /// as `write_and_cut` of this one change, but the reference need not be placed. One look-up, or none where it goes beside
-    /// the last new reference; where it isn't placed the key then goes in by the trail of either.
+    /// as `write_and_cut` of this one change, but the reference need not be placed. One look-up, or none where it goes
+    /// beside the last new reference; where it isn't placed the key then goes in by the trail of either.
     ///
-    /// Refusals: `AllocError`. After it a cell may be reserved; nothing else has changed. Cells are reserved only where none is,
-    /// and then a page of 64.
+    /// Refusals: `AllocError`. After it a cell may be reserved; nothing else has changed. Cells are reserved only where
+    /// none is, and then a page of 64.
     pub fn set_and_cut(
         &mut self,
         alloc: Global,

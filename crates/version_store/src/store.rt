@@ -85,8 +85,8 @@ impl KeyedStore {
         }
     }
 
-    /// The newest stamp. No version is after it, and the stamps of each reference's versions fall; where it is 0 there is
-    /// no version.
+    /// The newest stamp. No version is after it, and the stamps of each reference's versions fall; where it is 0 there
+    /// is no version.
     pub fn now(&self) -> u64
         ensures present { result ≡ self.now.present }
         ensures settled { (r : Reference) → IsAbove (suc self.now.present) (versions_of self.now.versions r) }

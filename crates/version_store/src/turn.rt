@@ -69,9 +69,9 @@ impl KeyedStore {
         }
     }
 
-    /// Copies of the keys that a collector visits next: those after the mark, and then, from the first on, the others; at
-    /// most so many. They are the caller's, so that each can be cut and dropped. Takes memory for the list, and for each key
-    /// of over 38 bytes.
+    /// Copies of the keys that a collector visits next: those after the mark, and then, from the first on, the others;
+    /// at most so many. They are the caller's, so that each can be cut and dropped. Takes memory for the list, and for
+    /// each key of over 38 bytes.
     ///
     /// Refusals: `AllocError`.
     pub fn next_keys(&self, alloc: Global, limit: usize) -> Result<Vec<Key>, AllocError>

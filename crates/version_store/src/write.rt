@@ -53,9 +53,9 @@ impl KeyedStore {
         }
     }
 
-    /// Does the changes: one version for each, at one stamp, which is now from here on. The content at the stamp is that at
-    /// the old now with the changes done; at each stamp before it is as it was. With no changes only now moves. Takes no
-    /// memory.
+    /// Does the changes: one version for each, at one stamp, which is now from here on. The content at the stamp is
+    /// that at the old now with the changes done; at each stamp before it is as it was. With no changes only now moves.
+    /// Takes no memory.
     pub fn write_reserved(&mut self, stamp: u64, changes: Vec<(Key, Option<Text>)>)
         requires stamp { self.old.present < stamp }
         requires placed { ArePlaced self.old.versions changes.items }
@@ -75,8 +75,8 @@ impl KeyedStore {
         self.push_all(stamp, changes);
     }
 
-    // Adds the newest version of a reference, drops what nobody at or after the horizon sees of it, and the reference where
-    // nothing is left.
+    // Adds the newest version of a reference, drops what nobody at or after the horizon sees of it, and the reference
+    // where nothing is left.
     fn push_and_cut(&mut self, stamp: u64, horizon: u64, key: &Key, value: Option<Text>)
         requires placed { finmap.contains_key self.old.versions key.now ≡ true }
         requires newest { IsAbove stamp (versions_of self.old.versions key.now) }

@@ -152,8 +152,8 @@ pub extern "C" fn vorgushan_collect(alloc: Global, engine: &mut VgEngine, limit:
     outcome.number()
 }
 
-/// Lets the journal drop its units up to the least start of an open transaction, or all where none is open. No reply and
-/// no listing depends on it.
+/// Lets the journal drop its units up to the least start of an open transaction, or all where none is open. No reply
+/// and no listing depends on it.
 ///
 /// Outcomes: as of `Embedded::checkpoint`; `NoEngine`.
 #[unsafe(no_mangle)]

@@ -14,7 +14,8 @@ use refusal::Refusal;
 use std::alloc::Global;
 use typed_calls::{LentText, key_below, key_of_name, spell_key};
 
-// Puts a key in the place of what was there. Takes memory only where none was; where that is refused there is none still.
+// Puts a key in the place of what was there. Takes memory only where none was; where that is refused there is none
+// still.
 fn replace_key(alloc: Global, key: &mut VgKey, made: Key) -> Result<(), Refusal>
     ensures ok { IfOk result (λ _. key.new.inside ≡ Some made) }
     ensures err { IfErr result (λ refusal. (refusal ≡ Refusal.OutOfMemory) × (key.new.inside ≡ key.old.inside)) }

@@ -63,8 +63,8 @@ pub extern "C" fn vorgushan_tstart(
     step(alloc, engine, job, Command::Start, number)
 }
 
-/// TCOMMIT: commits, and tells 0; above level 1 it lowers the level, and tells that; or `Restarted`, where another job was
-/// quicker, and tells how often the transaction was restarted.
+/// TCOMMIT: commits, and tells 0; above level 1 it lowers the level, and tells that; or `Restarted`, where another job
+/// was quicker, and tells how often the transaction was restarted.
 ///
 /// Outcomes: as of `typed_calls::run_numbered`; `NoEngine`, and nothing has changed.
 #[unsafe(no_mangle)]

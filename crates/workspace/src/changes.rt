@@ -39,7 +39,8 @@ fn push_walked(
     Ok(())
 }
 
-// Each of the written values, to be set. Few of them stand in one row: a walk, of half a kilobyte, isn't begun for these.
+// Each of the written values, to be set. Few of them stand in one row: a walk, of half a kilobyte, isn't begun for
+// these.
 fn push_written(
     changes: &mut Vec<(Key, Option<Text>)>,
     written: &KeyMap<Text>,

@@ -11,11 +11,11 @@
 //! After SET ^A(1)=x, KILL ^A, SET ^A(2)=y there is ^A(2)=y written and ^A killed. Over ^A(1)=a, ^A(3)=c, ^B=b that is
 //! ^A(2)=y, ^B=b, and its changes are: ^A(2) gets y, ^A(1) and ^A(3) are removed.
 //!
-//! Both are kept in trees (`key_map`), so each look-up and each change takes the logarithm of what is there. MERGE's copies
-//! are set one by one, and taken back where memory is refused: all of them are set, or none.
+//! Both are kept in trees (`key_map`), so each look-up and each change takes the logarithm of what is there. MERGE's
+//! copies are set one by one, and taken back where memory is refused: all of them are set, or none.
 //!
-//! Read `specs/Layers.antt`, `specs/Changes.antt`, then `writes.rt`, `kills.rt`, `copies.rt`, `changes.rt`. Laws for the crates above:
-//! `specs/laws/Layering.antt`, `specs/laws/Changing.antt`.
+//! Read `specs/Layers.antt`, `specs/Changes.antt`, then `writes.rt`, `kills.rt`, `copies.rt`, `changes.rt`. Laws for
+//! the crates above: `specs/laws/Layering.antt`, `specs/laws/Changing.antt`.
 #![tactic(auto)]
 
 pub use writes::Workspace;

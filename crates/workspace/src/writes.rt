@@ -104,7 +104,8 @@ impl Workspace {
         }
     }
 
-    /// Whether what this reference has doesn't depend on the database below: it is written, or at or under a killed one.
+    /// Whether what this reference has doesn't depend on the database below: it is written, or at or under a killed
+    /// one.
     pub fn decides(&self, key: &Key) -> bool
         ensures { result ≡ decides_spec self.now key.now }
     {
@@ -146,8 +147,8 @@ impl Workspace {
         Ok(())
     }
 
-    /// Kills what is at and under a reference: what was written there, and whatever the database below has there. Takes memory
-    /// for this reference alone, and none where it is at or under a killed one.
+    /// Kills what is at and under a reference: what was written there, and whatever the database below has there. Takes
+    /// memory for this reference alone, and none where it is at or under a killed one.
     ///
     /// Refused where there is no memory, and then nothing has changed.
     #[inline(never)]
@@ -167,8 +168,9 @@ impl Workspace {
         Ok(())
     }
 
-    /// What the writes change in what a view contains, so that it becomes the writes laid over it: each reference that is
-    /// written, with its value, and each that is killed and has a value below, removed. Takes memory for the list alone.
+    /// What the writes change in what a view contains, so that it becomes the writes laid over it: each reference that
+    /// is written, with its value, and each that is killed and has a value below, removed. Takes memory for the list
+    /// alone.
     ///
     /// Refused where there is no memory.
     pub fn changes_over<V: OrderedView>(
