@@ -35,7 +35,9 @@ pub(crate) fn load_word<'a>(alloc: Global) -> Arg<'a> {
         .long("load")
         .action(ArgAction::Set)
         .value_name("LISTING")
-        .help("Start from this listing, ours or in ZWR form; a line that sets nothing ends the run")
+        .help(
+            "Start from this listing, ours or in ZWR form; if a line of it is refused, nothing runs",
+        )
 }
 
 /// The word for the file that the journal is written to.

@@ -9,7 +9,8 @@
 //!     its start. A rollback or restart adds one other unit exactly where the transaction took a LOCK, the end of a
 //!     session one more, no other call any;
 //! (2) a read answers what the machine would, on the map of the transaction's start followed by its own commands; a
-//!     transaction restarts exactly where a unit since its start touched what it had read;
+//!     transaction restarts exactly where a unit since its start touched what it had read, as the calls of `Shared`
+//!     tell it on some journal;
 //! (3) once the engine is closed its journal is legal, its content is what that leaves, each unit of a pass is in it at
 //!     its number, and where all passes are in, their units are all of it.
 //!

@@ -293,9 +293,10 @@ impl<B: BoardName> Shared<B> {
         locked.read_all(rt, &self.board, alloc, session, block)
     }
 
-    /// The outermost TCOMMIT: the transaction is a unit with a receipt, or it begins anew, exactly where another unit
-    /// touched what it had read. One that did SETs and KILLs alone never does. The journal that it is judged on goes on
-    /// from its start and has the units of the session's receipts. Takes the exclusive lock.
+    /// The outermost TCOMMIT: the transaction is a unit with a receipt, or, where another unit touched what it had read,
+    /// it begins anew. One that did SETs and KILLs alone never does. The clause speaks of some journal that goes on from
+    /// the start and has the units of the session's receipts; under the lock, at `Locked::tcommit`, it is the engine's.
+    /// Takes the exclusive lock.
     ///
     /// Refusals, after which nothing has changed: `StampsUsedUp`, `OutOfMemory`.
     pub fn tcommit<R: Wait>(&self, rt: &R, session: &mut Session<B>) -> Result<Ended, Refusal>
