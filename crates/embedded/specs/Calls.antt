@@ -1,6 +1,6 @@
 -- What the calls of an embedded engine answer, leave and copy.
 -- Read IsAnswer, told_by, copied_onto, outcome_of_copy, then IsLineCall, IsReplyCall and IsListCall.
-use Rattle.std.specs.Prelude.{◌≡◌, ◌⊎◌, ℕ, ◌-◌, ◌^◌, min, Bool, true, false, not, nat_le, if◌then◌else◌, List, ◌++◌, length, drop, Option, None, Some, Result, Ok, Err}
+use Rattle.std.specs.Prelude.{◌≡◌, ◌≢◌, ◌⊎◌, ℕ, ◌-◌, ◌^◌, min, Bool, true, false, not, nat_le, if◌then◌else◌, List, ◌++◌, length, drop, Option, None, Some, Result, Ok, Err}
 use Rattle.std.specs.List.{find, flat_map}
 use Rattle.std.specs.Option.{MatchOption, is_some}
 use Rattle.std.specs.Ordering.{is_lt}
@@ -176,6 +176,10 @@ pub record IsNameOf (number : ℕ) (result : Outcome) (old new : List ℕ) (want
   pub numbered : outcome_number named ≡ number
   pub copied : IsCopied (outcome_name named) Done result old new wanted
 
--- the name of the outcome with this number was copied, or it is told that none has it
+-- no outcome has this number
+abbrev pub IsOfNone : ℕ → Type 0
+IsOfNone number = (outcome : Outcome) → outcome_number outcome ≢ number
+
+-- the name of the outcome with this number was copied; or none has it, which is told
 abbrev pub IsNamed : ℕ → Outcome → List ℕ → List ℕ → ℕ → Type 0
-IsNamed number result old new wanted = IsNameOf number result old new wanted ⊎ IsLeft UnknownNumber result old new wanted
+IsNamed number result old new wanted = IsNameOf number result old new wanted ⊎ (IsOfNone number × IsLeft UnknownNumber result old new wanted)

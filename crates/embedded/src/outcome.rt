@@ -1,5 +1,6 @@
 //! What a call answers.
-ghost use Rattle.std.specs.Prelude.{◌≡◌, IfSome};
+ghost use Rattle.std.specs.Prelude.{◌≡◌, Some, IfSome};
+ghost use Rattle.refusal.specs.Refusal.{refusal_number};
 ghost use Rattle.embedded.specs.Outcomes.{outcome_number, outcome_name, outcome_of as outcome_of_reply};
 
 use command::Reply;
@@ -89,7 +90,8 @@ impl Outcome {
 
     /// The one with this number, where there is one.
     pub fn of_number(number: u32) -> Option<Outcome>
-        ensures { IfSome result (λ outcome. outcome_number outcome ≡ number) }
+        ensures number { IfSome result (λ outcome. outcome_number outcome ≡ number) }
+        ensures known { (outcome : Outcome) → outcome_number outcome ≡ number → result ≡ Some outcome }
     {
         match number {
             0 => Some(Outcome::Done),
@@ -113,7 +115,8 @@ impl Outcome {
 
 // The refusal with this number.
 fn refusal_of(number: u32) -> Option<Refusal>
-    ensures { IfSome result (λ refusal. outcome_number (Outcome.Refused refusal) ≡ number) }
+    ensures number { IfSome result (λ refusal. refusal_number refusal ≡ number) }
+    ensures known { (refusal : Refusal) → refusal_number refusal ≡ number → result ≡ Some refusal }
 {
     match number {
         1 => Some(Refusal::BadLine),
