@@ -1,24 +1,22 @@
 -- The bounds that separators set: between those next to a kid its pairs stand, and a key that goes there goes nowhere else.
-use Rattle.std.proofs.Common.{◌≡◌, ◌⊎◌, inl, inr, ℕ, zero, suc, ◌+◌, ◌-◌, ◌<◌, ◌≤◌, Bool, true, false, Option, Some, None, Ok, Err, IfSome, IsSome, IfOk, OnErr, List, [], ◌∷◌, ◌++◌, length, take, drop, slice_set, get_or, refl, sym, ap, subst, ◌∙◌, arith, append-nil, length-append}
-use Rattle.std.specs.Prelude.{Result}
-use Rattle.std.specs.Option.{option_map, option_or}
+use Rattle.std.proofs.Common.{◌≡◌, inr, ℕ, zero, suc, ◌+◌, ◌-◌, ◌<◌, ◌≤◌, Bool, true, false, Option, Some, None, IfSome, IsSome, List, [], ◌∷◌, ◌++◌, length, take, drop, slice_set, get_or, refl, sym, ap, subst, ◌∙◌, arith, length-append}
+use Rattle.std.specs.Option.{option_or}
 use Rattle.std.specs.List.{slice_get}
 use Rattle.std.specs.Cmp.{IsTotalOrder}
 use Rattle.std.specs.Ordering.{ordering_reverse}
 use Rattle.std.specs.declared.cmp.Ordering.{Ordering}
-use Rattle.std.specs.declared.cmp.Ordering.TheVariants.{Less, Greater}
-use Rattle.std.specs.FinMap.Entries.{find, put}
+use Rattle.std.specs.declared.cmp.Ordering.TheVariants.{Less}
+use Rattle.std.specs.FinMap.Entries.{find}
 use Rattle.btree.specs.Order.{Each, Ascends, IsBefore, IsAfter, last_of}
 use Rattle.btree.specs.Branch.{Branch}
 use Rattle.btree.specs.Parts.{IsFrom, IsWithin, Rises, flat, AreParted}
 use Rattle.btree.specs.Gap.{IsPutIn}
-use Rattle.btree.specs.Rows.{height_of, branch_of, IsKid, IsInner, IsNode}
-use Rattle.btree.proofs.Order.{each_map, each_at, each_front, each_back, last_taken}
-use Rattle.btree.proofs.Parting.{from_under, from_down, rise_down, rises_of, flat_cut, each_flat_at}
-use Rattle.btree.proofs.Shapes.{inner_kid, inner_height, kids_some}
+use Rattle.btree.specs.Rows.{branch_of, IsKid, IsInner, IsNode}
+use Rattle.btree.proofs.Order.{each_map, each_front, each_back, last_taken}
+use Rattle.btree.proofs.Parting.{from_under, from_down, rises_of, flat_cut, each_flat_at}
+use Rattle.btree.proofs.Shapes.{kids_some}
 use Rattle.btree.proofs.Places.{all_before, all_after}
-use Rattle.btree.proofs.Growth.{grown_inner, grown_pairs}
-use Rattle.btree.proofs.Leaves.{each_at_end, if_some_on, last_kept}
+use Rattle.btree.proofs.Leaves.{each_at_end, last_kept}
 use Rattle.btree.proofs.Nodes.{inner, inner_pairs, inner_low, kid_found, kid_put, kid_put_pairs, same_here, set_same}
 
 pub last_separator : {A : Type 0} (i : ℕ) (xs : List A) (d : A) (o : Option A) → 0 < i → i ≤ length xs → Some (get_or xs (i - 1) d) ≡ option_or (last_of (take i xs)) o

@@ -1,12 +1,12 @@
 -- Two inner nodes of given rows, joined into one or cut anew.
-use Rattle.std.proofs.Common.{◌≡◌, inl, inr, ℕ, zero, suc, ◌+◌, ◌<◌, ◌≤◌, Option, Some, None, List, [], ◌∷◌, ◌++◌, length, refl, sym, ap, subst, ◌∙◌, arith, append_assoc, length-append}
+use Rattle.std.proofs.Common.{◌≡◌, suc, ◌<◌, ◌≤◌, Some, None, List, [], ◌∷◌, ◌++◌, length, sym, ap, subst, ◌∙◌, arith}
 use Rattle.std.specs.Cmp.{IsTotalOrder}
 use Rattle.std.specs.declared.cmp.Ordering.{Ordering}
 use Rattle.btree.specs.Branch.{Branch}
 use Rattle.btree.specs.Parts.{Parts, flat}
-use Rattle.btree.specs.Rows.{height_of, branch_of, IsKid, IsInner, IsNode, HasBecome}
+use Rattle.btree.specs.Rows.{height_of, branch_of, IsInner, IsNode, HasBecome}
 use Rattle.btree.proofs.Parting.{flat_append}
-use Rattle.btree.proofs.Shapes.{inner_kid, inner_height}
+use Rattle.btree.proofs.Shapes.{inner_kid}
 use Rattle.btree.proofs.Growth.{IsCut, cut_become}
 use Rattle.btree.proofs.Mending.{merged, recut}
 use Rattle.btree.proofs.Nodes.{inner, inner_pairs, inner_levels, inner_made, inner_node}

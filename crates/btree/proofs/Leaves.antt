@@ -1,19 +1,19 @@
 -- A key's place in a leaf's row, and what is found and changed there.
-use Rattle.std.proofs.Common.{◌≡◌, inl, inr, ℕ, zero, suc, ◌+◌, ◌-◌, ◌<◌, ◌≤◌, Option, Some, None, Ok, Err, IfOk, IfSome, List, [], ◌∷◌, ◌++◌, length, take, drop, slice_set, get_or, refl, sym, ap, subst, ◌∙◌, arith, append_assoc, append-nil, length-append}
+use Rattle.std.proofs.Common.{◌≡◌, inl, inr, ℕ, zero, suc, ◌+◌, ◌-◌, ◌<◌, ◌≤◌, Option, Some, None, Ok, Err, IfOk, IfSome, List, [], ◌∷◌, ◌++◌, length, take, drop, slice_set, get_or, refl, sym, ap, subst, ◌∙◌, arith, append-nil, length-append}
 use Rattle.std.specs.Prelude.{Result}
 use Rattle.std.specs.List.{insert, remove}
-use Rattle.std.specs.Option.{option_or, option_map}
-use Rattle.std.specs.Cmp.{IsTotalOrder, tied_itself}
+use Rattle.std.specs.Option.{option_or}
+use Rattle.std.specs.Cmp.{IsTotalOrder}
 use Rattle.std.specs.Ordering.{ordering_reverse}
 use Rattle.std.specs.declared.cmp.Ordering.{Ordering}
-use Rattle.std.specs.declared.cmp.Ordering.TheVariants.{Less, Equal, Greater}
+use Rattle.std.specs.declared.cmp.Ordering.TheVariants.{Less, Equal}
 use Rattle.std.specs.FinMap.Entries.{find, put}
 use Rattle.btree.specs.Order.{Each, Ascends, IsBefore, IsAfter, last_of, without}
 use Rattle.btree.specs.Parts.{IsFrom, Parts, IsWithin}
 use Rattle.btree.specs.Gap.{IsPutIn, IsAbove, IsBelow}
 use Rattle.btree.specs.Rows.{branch_of, HasBecome}
 use Rattle.btree.proofs.Shapes.{leaf_kid}
-use Rattle.btree.proofs.Order.{each_map, each_append, each_front, each_back, each_at, ascends_front, ascends_back, below_later, before_down, after_up, find_between, find_tied, put_between, put_tied, without_between, taken_out, last_taken}
+use Rattle.btree.proofs.Order.{each_map, each_at, ascends_front, ascends_back, before_down, after_up, find_between, find_tied, put_between, put_tied, without_between, taken_out, last_taken}
 use Rattle.btree.proofs.Parting.{from_under}
 
 pub last_kept : {A : Type 0} (a : Option A) (x y : A) → option_or (option_or a (Some x)) (Some y) ≡ option_or a (Some x)

@@ -1,23 +1,20 @@
 -- A node of given rows: what it is as a leaf, and as an inner node.
-use Rattle.std.proofs.lemmas.List.{length-set}
-use Rattle.std.proofs.Common.{◌≡◌, inl, inr, ℕ, zero, suc, ◌+◌, ◌<◌, ◌≤◌, Option, Some, None, Ok, Err, IfSome, IfOk, OnErr, List, [], ◌∷◌, ◌++◌, length, take, drop, slice_set, get_or, refl, sym, ap, subst, ◌∙◌, arith, append-nil}
+use Rattle.std.proofs.Common.{◌≡◌, inl, inr, ℕ, zero, suc, ◌+◌, ◌<◌, ◌≤◌, Option, None, Ok, Err, IfOk, OnErr, List, [], ◌∷◌, ◌++◌, length, take, drop, slice_set, get_or, refl, sym, ap, subst, ◌∙◌, arith, append-nil}
 use Rattle.std.specs.Prelude.{Result}
-use Rattle.std.specs.Option.{option_or}
-use Rattle.std.specs.List.{slice_get, insert, remove}
-use Rattle.std.proofs.lemmas.List.Edits.{length-remove, length-insert}
+use Rattle.std.specs.List.{insert, remove}
+use Rattle.std.proofs.lemmas.List.Edits.{length-remove}
 use Rattle.std.specs.Cmp.{IsTotalOrder}
 use Rattle.std.specs.declared.cmp.Ordering.{Ordering}
 use Rattle.std.specs.declared.cmp.Ordering.TheVariants.{Less}
 use Rattle.std.specs.FinMap.Entries.{find, put}
-use Rattle.btree.specs.Order.{Each, Ascends, last_of, without}
+use Rattle.btree.specs.Order.{Each, Ascends}
 use Rattle.btree.specs.Branch.{Branch}
-use Rattle.btree.specs.Parts.{IsFrom, IsWithin, Parts, Rises, flat}
-use Rattle.btree.specs.Gap.{IsPutIn}
+use Rattle.btree.specs.Parts.{IsFrom, Parts, Rises, flat}
 use Rattle.btree.specs.Rows.{height_of, branch_of, IsKid, IsFull, IsInner, IsNode, HasBecome, HasShrunk, with_separator, with_kid}
-use Rattle.btree.proofs.Order.{each_map, each_at, each_append, last_taken}
-use Rattle.btree.proofs.Parting.{rises_of, flat_cut, each_flat_at}
+use Rattle.btree.proofs.Order.{each_append}
+use Rattle.btree.proofs.Parting.{rises_of, each_flat_at}
 use Rattle.btree.proofs.Shapes.{no_kids, leaf_is, inner_is, leaf_pairs, leaf_count, kid_at, below_kids, inner_kid, leaf_kid, leaf_full, node_full}
-use Rattle.btree.proofs.Places.{kid_sorted, found_below, put_below, without_below}
+use Rattle.btree.proofs.Places.{kid_sorted, found_below}
 use Rattle.btree.proofs.Growth.{grown_inner, grown_pairs, become_from}
 use Rattle.btree.proofs.Leaves.{insert_removed}
 

@@ -1,15 +1,15 @@
 -- Separators and the pairs that they part.
-use Rattle.std.proofs.Common.{◌≡◌, ◌⊎◌, inl, inr, ℕ, zero, suc, ◌+◌, ◌<◌, ◌≤◌, Bool, true, false, Option, Some, None, List, [], ◌∷◌, ◌++◌, length, take, drop, slice_set, get_or, refl, sym, ap, subst, ◌∙◌, arith, append_assoc, append-nil, length-append}
+use Rattle.std.proofs.Common.{◌≡◌, inl, inr, ℕ, zero, suc, ◌<◌, ◌≤◌, Option, Some, None, List, [], ◌∷◌, ◌++◌, length, take, drop, slice_set, get_or, refl, sym, ap, subst, ◌∙◌, arith, append_assoc}
 use Rattle.std.specs.List.{insert, remove}
 use Rattle.std.specs.Cmp.{IsTotalOrder}
 use Rattle.std.specs.Ordering.{ordering_reverse}
 use Rattle.std.specs.declared.cmp.Ordering.{Ordering}
-use Rattle.std.specs.declared.cmp.Ordering.TheVariants.{Less, Equal, Greater}
-use Rattle.btree.specs.Order.{Each, Ascends, IsBefore, IsAfter}
+use Rattle.std.specs.declared.cmp.Ordering.TheVariants.{Less, Greater}
+use Rattle.btree.specs.Order.{Each}
 use Rattle.btree.specs.Branch.{Branch}
 use Rattle.btree.specs.Parts.{IsFrom, Parts, Rises, flat, AreParted}
 use Rattle.btree.specs.Rows.{with_separator, with_kid}
-use Rattle.btree.proofs.Order.{each_map, each_append, each_front, each_back, each_at, each_insert, ascends_front, ascends_back}
+use Rattle.btree.proofs.Order.{each_map, each_append, each_front, each_back, each_at, each_insert}
 
 -- ---- lists
 

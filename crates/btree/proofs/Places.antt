@@ -1,17 +1,14 @@
 -- What stands before, in and after a kid, and what is found there.
-use Rattle.std.specs.Option.{option_or}
-use Rattle.std.proofs.Common.{◌≡◌, inl, inr, ℕ, zero, suc, ◌+◌, ◌<◌, ◌≤◌, Bool, true, false, not, cond, Option, Some, None, List, [], ◌∷◌, ◌++◌, length, take, drop, slice_set, get_or, refl, sym, ap, subst, ◌∙◌, arith, append_assoc, append-nil}
-use Rattle.std.specs.List.{slice_get, filter}
-use Rattle.std.proofs.lemmas.List.Elements.{filter-append}
+use Rattle.std.proofs.Common.{◌≡◌, ℕ, suc, ◌<◌, ◌≤◌, List, ◌++◌, length, take, drop, get_or, ap, subst, ◌∙◌}
 use Rattle.std.specs.Cmp.{IsTotalOrder}
 use Rattle.std.specs.declared.cmp.Ordering.{Ordering}
-use Rattle.std.specs.declared.cmp.Ordering.TheVariants.{Less, Equal, Greater}
+use Rattle.std.specs.declared.cmp.Ordering.TheVariants.{Less}
 use Rattle.std.specs.FinMap.Entries.{find, put}
-use Rattle.btree.specs.Order.{Each, Ascends, IsBefore, IsAfter, first_from, last_before, last_of, without}
+use Rattle.btree.specs.Order.{Each, Ascends, IsBefore, IsAfter, without}
 use Rattle.btree.specs.Branch.{Branch}
-use Rattle.btree.specs.Parts.{IsFrom, flat, AreParted}
-use Rattle.btree.specs.Rows.{branch_of, IsInner}
-use Rattle.btree.proofs.Order.{ascends_front, ascends_back, find_between, put_between, without_between, not_before_up}
+use Rattle.btree.specs.Parts.{IsFrom, flat}
+use Rattle.btree.specs.Rows.{IsInner}
+use Rattle.btree.proofs.Order.{ascends_front, ascends_back, find_between, put_between, without_between}
 use Rattle.btree.proofs.Parting.{flat_cut, lower_each, upper_each, before_sep, after_sep}
 
 module _ {K V : Type 0} (R : K → K → Ordering) (o : IsTotalOrder R) (ss : List K) (ks : List (Branch K V)) (inner : IsInner R ss ks) where

@@ -1,8 +1,7 @@
 -- A row without the elements between two places.
-use Rattle.std.proofs.lemmas.List.{take_at, drop_at, length-take-le, length-drop}
-use Rattle.std.proofs.lemmas.List.Folds.{drop_split}
-use Rattle.std.proofs.Common.{◌≡◌, ℕ, ◌+◌, ◌-◌, ◌≤◌, List, ◌++◌, length, take, drop, refl, sym, ap, ◌∙◌, arith, append_assoc, length-append}
-use Rattle.std.specs.List.{between, remove_range}
+use Rattle.std.proofs.lemmas.List.{length-take-le, length-drop}
+use Rattle.std.proofs.Common.{◌≡◌, ℕ, ◌+◌, ◌-◌, ◌≤◌, List, length, take, drop, arith, length-append}
+use Rattle.std.specs.List.{remove_range}
 use Rattle.btree.specs.Order.{Each}
 use Rattle.btree.proofs.Order.{each_append}
 use Rattle.btree.proofs.Leaves.{each_at_end}

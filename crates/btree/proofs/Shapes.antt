@@ -1,10 +1,10 @@
 -- The shape of a node: leaves and inner nodes, and how many pairs there are at least.
 use Rattle.std.proofs.Math.Nat.{pow-succ', suc-mul, mul-le-mul_right}
-use Rattle.std.proofs.Common.{◌≡◌, ◌⊎◌, inl, inr, ℕ, zero, suc, ◌+◌, ◌*◌, ◌^◌, ◌<◌, ◌≤◌, Option, Some, None, List, [], ◌∷◌, ◌++◌, length, take, drop, slice_set, get_or, refl, sym, ap, subst, ◌∙◌, arith, length-append, append-nil}
+use Rattle.std.proofs.Common.{◌≡◌, inl, inr, ℕ, zero, suc, ◌+◌, ◌*◌, ◌^◌, ◌<◌, ◌≤◌, List, [], ◌∷◌, length, get_or, refl, sym, ap, subst, ◌∙◌, arith, length-append, append-nil}
 use Rattle.std.specs.declared.cmp.Ordering.{Ordering}
 use Rattle.btree.specs.Order.{Each}
 use Rattle.btree.specs.Branch.{Branch}
-use Rattle.btree.specs.Parts.{flat, AreParted}
+use Rattle.btree.specs.Parts.{flat}
 use Rattle.btree.specs.Rows.{height_of, sizes_of, branch_of, fewest_pairs, IsSize, IsFull, IsKid, IsInner, IsNode, HasShrunk}
 use Rattle.btree.proofs.Order.{each_append, each_map, each_at}
 

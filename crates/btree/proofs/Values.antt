@@ -6,12 +6,12 @@ use Rattle.std.specs.declared.cmp.Ordering.{Ordering}
 use Rattle.std.specs.declared.cmp.Ordering.TheVariants.{Less}
 use Rattle.btree.specs.Order.{Each, Ascends, last_of}
 use Rattle.btree.specs.Branch.{Branch}
-use Rattle.btree.specs.Parts.{IsFrom, Parts, AreParted, flat}
-use Rattle.btree.specs.Rows.{height_of, sizes_of, branch_of, fewest_pairs, IsKid, IsInner, IsNode}
+use Rattle.btree.specs.Parts.{IsFrom, AreParted, flat}
+use Rattle.btree.specs.Rows.{height_of, sizes_of, branch_of, fewest_pairs, IsKid, IsNode}
 use Rattle.btree.specs.Stretch.{is_in_run}
 use Rattle.btree.specs.Tree.{IsRoot}
 use Rattle.btree.specs.Values.{emptied, without_values}
-use Rattle.btree.proofs.Order.{each_map, each_append, each_front, each_back, ascends_front, ascends_back, not_before_up}
+use Rattle.btree.proofs.Order.{each_map, ascends_front, ascends_back, not_before_up}
 use Rattle.btree.proofs.Shapes.{inner_height}
 use Rattle.btree.proofs.Stretches.{before_last, outside_after, outside_ahead}
 

@@ -1,17 +1,16 @@
 -- What a walk passes: what is left of the nodes on its way, and the rows of leaves.
-use denote.Param.Weighed.{most}
-use Rattle.std.proofs.Common.{◌≡◌, inl, inr, ℕ, zero, suc, ◌+◌, ◌-◌, ◌<◌, ◌≤◌, Bool, true, false, not, Option, Some, None, List, [], ◌∷◌, ◌++◌, length, reverse, take, drop, get_or, refl, sym, ap, subst, ◌∙◌, arith, append_assoc, append-nil, length-append}
+use Rattle.std.proofs.Common.{◌≡◌, inl, inr, ℕ, zero, suc, ◌+◌, ◌-◌, ◌<◌, ◌≤◌, Bool, true, false, not, List, [], ◌∷◌, ◌++◌, length, reverse, take, drop, get_or, refl, sym, ap, subst, ◌∙◌, arith, append_assoc, append-nil}
 use Rattle.std.specs.List.{filter}
 use Rattle.std.proofs.lemmas.List.{reverse-append, take_all, take_more}
 use Rattle.std.proofs.lemmas.List.Elements.{filter-append}
 use Rattle.std.specs.Cmp.{IsTotalOrder}
 use Rattle.std.specs.Ordering.{ordering_reverse}
 use Rattle.std.specs.declared.cmp.Ordering.{Ordering}
-use Rattle.std.specs.declared.cmp.Ordering.TheVariants.{Less, Equal, Greater}
-use Rattle.btree.specs.Order.{Each, Ascends}
+use Rattle.std.specs.declared.cmp.Ordering.TheVariants.{Less, Equal}
+use Rattle.btree.specs.Order.{Each}
 use Rattle.btree.specs.Branch.{Branch}
-use Rattle.btree.specs.Parts.{IsFrom, flat, AreParted}
-use Rattle.btree.specs.Rows.{height_of, branch_of, IsKid, IsInner, IsNode}
+use Rattle.btree.specs.Parts.{IsFrom, flat}
+use Rattle.btree.specs.Rows.{branch_of, IsInner, IsNode}
 use Rattle.btree.specs.Walk.{left_of, left_back_of, HaveRoomBelow, IsPath}
 use Rattle.btree.specs.declared.forward.Left.{Left}
 use Rattle.btree.proofs.Order.{each_map, each_at, not_before_up}

@@ -1,5 +1,5 @@
 -- Pairs that lose their values.
-use Rattle.std.specs.Prelude.{ℕ, Bool, cond, map, List}
+use Rattle.std.specs.Prelude.{Bool, cond, map}
 use Rattle.btree.specs.Branch.{Branch}
 use Rattle.btree.specs.Stretch.{is_in_run}
 

@@ -6,7 +6,7 @@ use Rattle.canonic_number.specs.Place.{digits_of}
 use Rattle.key_codec.specs.Key.{long_form, two_bytes, subscript_key, subscripts_key, escaped, IsSubscriptWithin, AreSubscriptsWithin}
 use Rattle.key_codec.specs.laws.Back.{no_end, escaped_free}
 use Rattle.key_codec.specs.Reading.{tag_of, digit_byte, number_end}
-use Rattle.key_codec.proofs.Reading.{HasNumber, has_number, HasText, has_text, tails, word_rest}
+use Rattle.key_codec.proofs.Reading.{HasNumber, has_number, HasText, has_text, word_rest}
 
 -- what the test of a first end byte says of the bytes after it
 abbrev pub IsPast : ℕ → List ℕ → Option (Bor (List ℕ)) → Type 0

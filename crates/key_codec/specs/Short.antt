@@ -2,7 +2,6 @@
 -- Read short_key_of, then lengthened; that the one leads to the other: specs/laws/Short.antt.
 use Rattle.std.specs.Prelude.{◌≡◌, ℕ, Bool, ◌+◌, ◌==◌, if◌then◌else◌, nat_le, true, List, [], ◌∷◌, ◌++◌, length}
 use Rattle.std.specs.List.{list_all}
-use Rattle.std.specs.declared.cmp.Ordering.{Ordering}
 use Rattle.std.specs.Ordering.{nat_cmp}
 use Rattle.std.specs.Cmp.Lexicographic.{slice_cmp}
 use Rattle.collation.specs.Reference.{Reference}

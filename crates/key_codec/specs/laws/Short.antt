@@ -1,28 +1,27 @@
 -- Old keys: their order, and that the bytes that stand for one are the key of its reference.
-use Rattle.std.proofs.Common.{◌≡◌, ℕ, ◌+◌, ◌-◌, ◌*◌, ◌/◌, ◌%◌, ◌<◌, ◌≤◌, Bool, List, [], ◌∷◌, ◌++◌, length, map, not, true, false, refl, ap, sym, subst, ◌∙◌, arith, append_assoc}
-use Rattle.std.proofs.lemmas.Bool.{and_from}
+use Rattle.std.proofs.Common.{◌≡◌, ℕ, ◌+◌, ◌-◌, ◌*◌, ◌/◌, ◌%◌, ◌≤◌, List, [], ◌∷◌, ◌++◌, length, map, not, true, false, refl, ap, sym, subst, ◌∙◌, arith, append_assoc}
 use Rattle.std.proofs.lemmas.Bool.Decides.{nat_tests}
 use Rattle.std.specs.Prelude.{◌==◌, nat_eq, nat_le, None}
 use Rattle.std.specs.List.{list_all}
 use Rattle.std.specs.Cmp.{first_so, second_so}
 use Rattle.std.specs.Cmp.Lexicographic.{slice_cmp}
 use Rattle.std.specs.Ordering.{nat_cmp, int_cmp, ordering_then}
-use Rattle.canonic_number.specs.Number.{is_canonic, is_zero, is_negative, value_at, value_of, scale}
+use Rattle.canonic_number.specs.Number.{is_canonic, is_zero, value_at, scale}
 use Rattle.canonic_number.specs.Place.{point_at, digits_of}
 use Rattle.canonic_number.specs.laws.Canonic.{IsPlaced, is_placed, fraction_short}
 use Rattle.canonic_number.specs.laws.Classes.{IsOfClass, Zero, Below, Above, class_of_text, zero_zero, zero_below, zero_above, below_zero, above_zero, below_above, above_below, above_cmp, below_cmp}
 use Rattle.collation.specs.Reference.{Reference}
 use Rattle.collation.specs.Order.{ref_cmp}
 use Rattle.collation.specs.Faults.{subscripts_fault}
-use Rattle.key_codec.specs.Key.{short_form, long_form, two_bytes, subscript_key, subscripts_key, key_in, key_of, falling, rising, escaped, text_key, IsSubscriptWithin, AreSubscriptsWithin, IsFaultless}
+use Rattle.key_codec.specs.Key.{short_form, long_form, two_bytes, subscript_key, subscripts_key, key_of, escaped, IsSubscriptWithin, AreSubscriptsWithin}
 use Rattle.key_codec.specs.Form.{IsKeyForm}
 use Rattle.key_codec.specs.Reading.{digit_byte}
 use Rattle.key_codec.specs.Back.{reference_of}
 use Rattle.key_codec.specs.laws.Bytes.{same_cmp, word_back}
 use Rattle.key_codec.specs.laws.Subscripts.{zero_key, key_below, key_above, key_text}
-use Rattle.key_codec.specs.laws.Key.{FitsForm, HasFaultless, subscripts_of, not_too_many, name_above, keys_cmp, one_key}
+use Rattle.key_codec.specs.laws.Key.{FitsForm, subscripts_of, not_too_many, name_above, keys_cmp, one_key}
 use Rattle.key_codec.specs.laws.Back.{no_end, no_zero, escaped_free, reference_of_key}
-use Rattle.key_codec.specs.Short.{are_short, short_limit, IsShortReference, short_key_of, KeepsShort, KeepsShortOrder, lengthened, lengthened_from, new_bytes, next_stage, after_tag, short_reference_of}
+use Rattle.key_codec.specs.Short.{are_short, short_limit, IsShortReference, short_key_of, KeepsShort, KeepsShortOrder, lengthened, lengthened_from, next_stage, after_tag, short_reference_of}
 use Rattle.key_codec.specs.declared.lengthen.Stage.{Stage}
 use Rattle.key_codec.specs.declared.lengthen.Stage.TheVariants.{Tag, Place, Before}
 

@@ -1,11 +1,7 @@
-use Rattle.std.proofs.Common.{◌≡◌, ◌<◌, ◌≤◌, ◌+◌, ◌-◌, ◌∙◌, ◌++◌, ◌∷◌, [], suc, not, ap, sym, subst, arith, rules, length, reverse, take, drop, get_or, append_assoc, append-nil, length-append}
-use borrow.Author.Tests.{eqb-true, eqb-false}
-use Rattle.std.specs.List.{filter}
-use Rattle.std.specs.Option.{option_to_list}
-use Rattle.std.proofs.lemmas.List.{reverse-append, take_rest}
-use Rattle.btree.specs.Order.{Ascends}
+use Rattle.std.proofs.Common.{◌≡◌, ◌<◌, ◌+◌, ◌-◌, ◌∙◌, ◌++◌, ap, sym, subst, arith, rules, length, reverse, take, append_assoc}
+use Rattle.std.proofs.lemmas.List.{reverse-append}
 use Rattle.btree.specs.Parts.{flat}
-use Rattle.btree.specs.Walk.{left_of, left_back_of, HaveRoomBelow, IsPath}
+use Rattle.btree.specs.Walk.{left_back_of}
 use Rattle.btree.proofs.Nodes.{leaf_row, inner_pairs, inner_level}
 use Rattle.btree.proofs.Walks.{room_in, room_taken, room_at, flat_last}
 use Rattle.btree.proofs.backward.+enter_back.Goals as goal

@@ -1,7 +1,6 @@
-use Rattle.std.proofs.Common.{◌≡◌, ◌<◌, ◌+◌, ◌-◌, ◌∙◌, ◌++◌, ◌∷◌, [], ap, sym, subst, arith, length, reverse, take, drop, get_or, append_assoc}
+use Rattle.std.proofs.Common.{◌∙◌, ◌++◌, ap, sym, length, reverse}
 use borrow.Author.Tests.{eqb-true}
-use Rattle.std.proofs.lemmas.List.{reverse-append}
-use Rattle.btree.specs.Walk.{left_of, left_back_of}
+use Rattle.btree.specs.Walk.{left_back_of}
 use Rattle.btree.proofs.Walks.{none_left}
 use Rattle.btree.proofs.backward.row_or_before.Goals as goal
 

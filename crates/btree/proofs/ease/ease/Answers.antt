@@ -1,4 +1,4 @@
-use Rattle.std.proofs.Common.{◌+◌, ap, arith}
+use Rattle.std.proofs.Common.{ap, arith}
 use Rattle.btree.proofs.Mending.{full_before, full_after}
 use Rattle.btree.proofs.ease.ease.Goals as goal
 

@@ -1,4 +1,4 @@
-use Rattle.std.proofs.Common.{◌≡◌, ◌<◌, ap, arith, refl}
+use Rattle.std.proofs.Common.{ap, arith, refl}
 use Rattle.btree.proofs.Shapes.{kid_at}
 use Rattle.btree.proofs.Mending.{loose_node}
 use Rattle.btree.proofs.ease.rejoin.Goals as goal

@@ -1,11 +1,11 @@
-use Rattle.std.proofs.Common.{◌≡◌, ◌<◌, ◌≤◌, ◌+◌, ◌-◌, ◌∙◌, ◌++◌, ◌∷◌, [], suc, not, ap, sym, subst, arith, rules, length, reverse, take, drop, get_or, append_assoc, append-nil, length-append}
+use Rattle.std.proofs.Common.{◌≡◌, ◌<◌, ◌+◌, ◌∙◌, ◌++◌, suc, not, ap, sym, subst, arith, rules, length, drop, append_assoc}
 use borrow.Author.Tests.{eqb-true, eqb-false}
 use Rattle.std.specs.List.{filter}
-use Rattle.std.proofs.lemmas.List.{reverse-append, take_rest}
+use Rattle.std.proofs.lemmas.List.{take_rest}
 use Rattle.btree.specs.Order.{Ascends}
 use Rattle.btree.specs.Parts.{flat}
-use Rattle.btree.specs.Walk.{left_of, left_back_of, HaveRoomBelow, IsPath}
-use Rattle.btree.proofs.Nodes.{leaf_row, leaf_sorted, inner, inner_pairs, inner_sorted, inner_rises, inner_low, inner_level, kid_ascends}
+use Rattle.btree.specs.Walk.{left_of, HaveRoomBelow}
+use Rattle.btree.proofs.Nodes.{leaf_row, leaf_sorted, inner, inner_pairs, inner_rises, inner_low, inner_level, kid_ascends}
 use Rattle.btree.proofs.Walks.{room_in, room_dropped, kept_from, leaf_from}
 use Rattle.btree.proofs.forward.+enter_from.Goals as goal
 

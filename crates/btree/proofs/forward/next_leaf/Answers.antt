@@ -1,8 +1,7 @@
-use Rattle.std.proofs.Common.{◌≡◌, ◌<◌, ◌≤◌, ◌+◌, ◌-◌, ◌∙◌, ◌++◌, ◌∷◌, [], suc, not, ap, sym, subst, arith, rules, length, reverse, take, drop, get_or, append_assoc, append-nil, length-append}
+use Rattle.std.proofs.Common.{◌≡◌, ◌<◌, ◌+◌, ◌∙◌, ◌++◌, ◌∷◌, [], ap, sym, subst, arith, length, drop, append_assoc}
 use Rattle.std.specs.Option.{option_to_list}
-use Rattle.std.proofs.lemmas.List.{reverse-append, take_rest}
 use Rattle.btree.specs.Parts.{flat}
-use Rattle.btree.specs.Walk.{left_of, left_back_of, HaveRoomBelow, IsPath}
+use Rattle.btree.specs.Walk.{left_of, HaveRoomBelow, IsPath}
 use Rattle.btree.proofs.Walks.{later_all, left_push, path_pop, room_dropped, room_at, flat_first}
 use Rattle.btree.proofs.forward.next_leaf.Goals as goal
 

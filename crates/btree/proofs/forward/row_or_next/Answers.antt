@@ -1,7 +1,6 @@
-use Rattle.std.proofs.Common.{◌≡◌, ◌<◌, ◌+◌, ◌-◌, ◌∙◌, ◌++◌, ◌∷◌, [], ap, sym, subst, arith, length, reverse, take, drop, get_or, append_assoc}
+use Rattle.std.proofs.Common.{◌∙◌, ◌++◌, ap, sym, length}
 use borrow.Author.Tests.{eqb-true}
-use Rattle.std.proofs.lemmas.List.{reverse-append}
-use Rattle.btree.specs.Walk.{left_of, left_back_of}
+use Rattle.btree.specs.Walk.{left_of}
 use Rattle.btree.proofs.Walks.{none_left}
 use Rattle.btree.proofs.forward.row_or_next.Goals as goal
 

@@ -1,7 +1,6 @@
-use Rattle.std.proofs.Common.{◌∙◌, ◌-◌, sym, ap, length, arith}
+use Rattle.std.proofs.Common.{◌∙◌, ◌-◌, ap, length, arith}
 use Rattle.std.proofs.lemmas.List.Edits.{length-insert}
 use Rattle.std.specs.List.{insert}
-use Rattle.btree.specs.Rows.{HasBecome, branch_of}
 use Rattle.btree.proofs.Leaves.{leaf_split}
 use Rattle.btree.proofs.leaf.insert_full.Goals as goal
 

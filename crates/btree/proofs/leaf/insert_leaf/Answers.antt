@@ -1,6 +1,5 @@
-use Rattle.std.proofs.Common.{◌∙◌, ◌≡◌, sym, ap, subst, length, arith, append-nil, Some, []}
+use Rattle.std.proofs.Common.{◌∙◌, sym, ap, subst, length, arith, append-nil, Some, []}
 use Rattle.std.proofs.lemmas.List.{length-set}
-use Rattle.std.specs.List.{insert}
 use Rattle.btree.specs.Order.{Ascends}
 use Rattle.btree.specs.Rows.{HasBecome, branch_of}
 use Rattle.btree.proofs.Order.{ascends_put}

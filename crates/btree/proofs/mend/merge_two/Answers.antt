@@ -1,5 +1,4 @@
 use Rattle.std.proofs.Common.{◌≡◌, ◌<◌, ℕ, zero, suc, refl, length, arith}
-use Rattle.std.specs.Vec.{vec_len}
 use Rattle.btree.proofs.Shapes.{kids_many}
 use Rattle.btree.proofs.mend.merge_two.Goals as goal
 

@@ -1,9 +1,8 @@
-use Rattle.std.proofs.Common.{◌<◌, ◌+◌, suc, length, slice_set, get_or, add-one, ap, subst, sym, ◌∙◌, arith}
-use Rattle.std.specs.List.{remove}
+use Rattle.std.proofs.Common.{suc, length, slice_set, get_or, add-one, ap, subst, sym, ◌∙◌, arith}
 use Rattle.btree.specs.Parts.{flat, Parts}
-use Rattle.btree.specs.Rows.{height_of, IsKid, IsParting, HasBecome, with_separator, with_kid}
+use Rattle.btree.specs.Rows.{height_of, IsKid, with_separator, with_kid}
 use Rattle.btree.proofs.Parting.{parts_at}
-use Rattle.btree.proofs.Mending.{low, low_kid, kept_below, but_kid, but_enough, but_height, mended_pairs, mended_node, mended_height, mended_most, mended_least, mended_kept, both_enough, two_sorted, two_each, beside_counts}
+use Rattle.btree.proofs.Mending.{low, low_kid, kept_below, but_kid, but_enough, but_height, mended_pairs, mended_node, mended_height, mended_most, mended_least, mended_kept, both_enough}
 use Rattle.btree.proofs.mend.rejoin_inner.Goals as goal
 
 pub rejoin_inner-beside-requires-clause-lower : goal.rejoin_inner-beside-requires-clause-lower

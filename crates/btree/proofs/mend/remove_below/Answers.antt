@@ -1,10 +1,9 @@
-use Rattle.std.proofs.Common.{◌≡◌, ◌<◌, ◌≤◌, ◌+◌, ◌∙◌, ◌++◌, suc, true, Some, None, ap, sym, subst, arith, length, slice_set, get_or}
-use Rattle.std.proofs.lemmas.List.{length-set}
+use Rattle.std.proofs.Common.{◌∙◌, ap, sym, subst, arith, slice_set}
 use Rattle.std.specs.FinMap.Entries.{find}
 use Rattle.btree.specs.Order.{Ascends, Each, without}
 use Rattle.btree.specs.Branch.{Branch}
 use Rattle.btree.specs.Parts.{flat, IsSure}
-use Rattle.btree.specs.Rows.{height_of, HasShrunk, IsInner}
+use Rattle.btree.specs.Rows.{HasShrunk, IsInner}
 use Rattle.btree.proofs.Shapes.{kid_at, below_kids}
 use Rattle.btree.proofs.Places.{kid_sorted, found_below}
 use Rattle.btree.proofs.Removal.{loose_of, loose_height, without_set, each_without, ascends_without, restored}

@@ -1,5 +1,5 @@
 use Rattle.std.proofs.Common.{add-one, inl, inr, sym, subst, ◌≡◌, ◌∙◌, arith}
-use Rattle.std.specs.declared.cmp.Ordering.TheVariants.{Less, Equal, Greater}
+use Rattle.std.specs.declared.cmp.Ordering.TheVariants.{Less}
 use Rattle.btree.specs.Parts.{IsFrom}
 use Rattle.btree.proofs.Parting.{rise_down, rise_up, from_down}
 use Rattle.btree.proofs.search.kid_of.Goals as goal

@@ -1,4 +1,4 @@
-use Rattle.std.proofs.Common.{◌≡◌, ◌<◌, ◌+◌, true, false, ◌++◌, suc, length, slice_set, get_or, add-one, ap, subst, sym, ◌∙◌, arith}
+use Rattle.std.proofs.Common.{◌≡◌, ◌<◌, true, false, ◌++◌, suc, length, slice_set, get_or, add-one, ap, subst, sym, ◌∙◌, arith}
 use Rattle.std.proofs.lemmas.List.Edits.{get_or-remove_below}
 use Rattle.btree.specs.Branch.{Branch}
 use Rattle.btree.specs.Order.{Ascends, Each}

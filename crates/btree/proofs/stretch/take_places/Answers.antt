@@ -1,4 +1,4 @@
-use Rattle.std.proofs.Common.{◌≡◌, ◌<◌, ◌≤◌, ◌+◌, ◌-◌, ◌++◌, OnOk, suc, length, slice_set, get_or, ap, subst, sym, ◌∙◌, arith}
+use Rattle.std.proofs.Common.{◌≡◌, ◌<◌, ◌≤◌, ◌+◌, ◌-◌, OnOk, suc, length, slice_set, get_or, ap, subst, sym, ◌∙◌, arith}
 use Rattle.btree.specs.Branch.{Branch}
 use Rattle.btree.specs.Parts.{flat}
 use Rattle.btree.specs.Rows.{IsKid}

@@ -1,4 +1,4 @@
-use Rattle.std.proofs.Common.{◌∙◌, sym, ap}
+use Rattle.std.proofs.Common.{◌∙◌}
 use Rattle.key_codec.proofs.OldKeys.{found_form, found_key, none_found}
 use Rattle.key_codec.proofs.short.decode_short.Goals as goal
 

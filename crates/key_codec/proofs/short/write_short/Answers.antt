@@ -1,4 +1,4 @@
-use Rattle.std.proofs.Common.{ap, sym, ◌∙◌}
+use Rattle.std.proofs.Common.{ap, ◌∙◌}
 use Rattle.key_codec.specs.Short.{are_short}
 use Rattle.key_codec.specs.laws.Short.{short_within}
 use Rattle.key_codec.specs.laws.Key.{not_too_many}

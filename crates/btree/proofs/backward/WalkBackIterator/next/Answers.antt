@@ -1,4 +1,4 @@
-use Rattle.std.proofs.Common.{◌≡◌, ◌+◌, ◌-◌, ◌∷◌, ◌++◌, [], length, reverse, take, drop, ap, sym, ◌∙◌, arith}
+use Rattle.std.proofs.Common.{◌-◌, ◌∷◌, ◌++◌, length, reverse, take, ap, sym, ◌∙◌, arith}
 use Rattle.btree.specs.Walk.{left_back_of}
 use Rattle.btree.proofs.Walks.{last_reversed, none_left, both_none, shorter}
 use Rattle.btree.proofs.backward.WalkBackIterator.next.Goals as goal

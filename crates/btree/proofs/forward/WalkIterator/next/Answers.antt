@@ -1,4 +1,4 @@
-use Rattle.std.proofs.Common.{◌≡◌, ◌+◌, ◌-◌, ◌∷◌, ◌++◌, [], length, take, drop, ap, sym, ◌∙◌, arith}
+use Rattle.std.proofs.Common.{◌-◌, ◌∷◌, ◌++◌, length, take, drop, ap, sym, ◌∙◌, arith}
 use Rattle.btree.specs.Walk.{left_of}
 use Rattle.btree.proofs.Walks.{first_split, none_left, both_none, shorter}
 use Rattle.btree.proofs.forward.WalkIterator.next.Goals as goal

@@ -1,8 +1,8 @@
 use Rattle.std.specs.Option.{option_or, option_map}
-use Rattle.std.proofs.Common.{◌≡◌, ◌<◌, ◌≤◌, ◌+◌, ◌*◌, ◌-◌, ◌∙◌, suc, None, Some, length, take, drop, ap, sym, subst, add-one, arith, rules}
+use Rattle.std.proofs.Common.{◌≡◌, ◌<◌, ◌≤◌, ◌+◌, ◌*◌, ◌∙◌, suc, length, drop, ap, sym, subst, add-one, arith, rules}
 use borrow.Author.Tests.{eqb-true, eqb-false, ltb-true, ltb-false}
 use Rattle.std.specs.List.{slice_get}
-use Rattle.btree.specs.Order.{Ascends, first_from, last_before, last_of}
+use Rattle.btree.specs.Order.{Ascends, first_from}
 use Rattle.btree.specs.Parts.{flat}
 use Rattle.btree.proofs.Order.{each_at}
 use Rattle.btree.proofs.Nodes.{leaf_row, inner, inner_pairs, inner_rises, inner_low, inner_level, kid_ascends}

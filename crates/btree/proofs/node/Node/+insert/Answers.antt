@@ -1,16 +1,15 @@
-use Rattle.std.proofs.Common.{◌≡◌, ◌<◌, ◌≤◌, ◌∙◌, ◌++◌, [], suc, Option, Some, None, IfOk, OnErr, IsSome, append-nil, ap, sym, subst, arith, rules, refl, length, slice_set, get_or}
+use Rattle.std.proofs.Common.{◌≡◌, ◌≤◌, ◌∙◌, [], suc, Some, None, IfOk, IsSome, ap, sym, subst, arith, rules, refl, length, slice_set, get_or}
 use Rattle.std.specs.Vec.{vec_len}
-use Rattle.std.proofs.lemmas.List.{length-set}
 use borrow.Author.Tests.{eqb-true, eqb-false}
 use Rattle.std.specs.FinMap.Entries.{find, put}
 use Rattle.btree.specs.Order.{Ascends}
 use Rattle.btree.specs.Parts.{flat}
 use Rattle.btree.specs.Branch.{Branch}
-use Rattle.btree.specs.Rows.{branch_of, height_of, HasBecome, IsInner, with_separator, with_kid}
+use Rattle.btree.specs.Rows.{branch_of, height_of, HasBecome, with_separator, with_kid}
 use Rattle.btree.proofs.Order.{ascends_put}
 use Rattle.btree.proofs.Growth.{become_from, longer, one_longer, full_at}
 use Rattle.btree.proofs.Leaves.{if_ok_on}
-use Rattle.btree.proofs.Nodes.{leaf_row, leaf_size, leaf_height, leaf_made, leaf_node, leaf_sorted, inner_pairs, inner_size, inner_low, inner_rises, inner_level, inner_kid_at, inner_node, kid_ascends, kid_found, beside_node, beside_pairs, same_become, split_become}
+use Rattle.btree.proofs.Nodes.{leaf_row, leaf_size, leaf_height, leaf_made, leaf_node, leaf_sorted, inner_size, inner_low, inner_rises, inner_level, inner_kid_at, kid_ascends, kid_found, beside_node, beside_pairs, same_become, split_become}
 use Rattle.btree.proofs.node.Node.+insert.Goals as goal
 
 pub insert_leaf-requires : goal.insert_leaf-requires

@@ -1,8 +1,7 @@
 use Rattle.std.specs.Option.{option_or, option_map}
-use Rattle.std.proofs.Common.{◌≡◌, ◌<◌, ◌≤◌, ◌+◌, ◌*◌, ◌-◌, ◌∙◌, suc, None, Some, length, take, drop, ap, sym, subst, add-one, arith, rules}
-use borrow.Author.Tests.{eqb-true, eqb-false, ltb-true, ltb-false}
-use Rattle.std.specs.List.{slice_get}
-use Rattle.btree.specs.Order.{Ascends, first_from, last_before, last_of}
+use Rattle.std.proofs.Common.{◌≡◌, ◌<◌, ◌+◌, ◌*◌, ◌-◌, ◌∙◌, length, take, ap, sym, subst, arith, rules}
+use borrow.Author.Tests.{eqb-true, eqb-false}
+use Rattle.btree.specs.Order.{Ascends, last_before, last_of}
 use Rattle.btree.specs.Parts.{flat}
 use Rattle.btree.proofs.Order.{each_at}
 use Rattle.btree.proofs.Nodes.{leaf_row, inner, inner_pairs, inner_rises, inner_low, inner_level, kid_ascends}

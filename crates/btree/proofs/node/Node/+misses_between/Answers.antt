@@ -1,18 +1,12 @@
-use Rattle.std.proofs.Common.{◌≡◌, ◌<◌, ◌≤◌, ◌∙◌, ◌++◌, [], suc, true, false, Some, None, IfSome, IsSome, append-nil, ap, sym, subst, arith, rules, refl, length, take, slice_set, get_or}
+use Rattle.std.proofs.Common.{◌≡◌, ◌≤◌, ◌∙◌, suc, IsSome, ap, sym, subst, arith, rules, refl, length, take, get_or}
 use Rattle.std.specs.Option.{option_map, option_or}
-use Rattle.std.specs.List.{slice_get}
 use Rattle.std.specs.Vec.{vec_len}
-use Rattle.std.proofs.lemmas.List.{length-set}
 use borrow.Author.Tests.{eqb-true, eqb-false}
-use Rattle.std.specs.FinMap.Entries.{find, put}
+use Rattle.std.specs.FinMap.Entries.{find}
 use Rattle.btree.specs.Order.{Ascends, Each, last_of}
 use Rattle.btree.specs.Parts.{IsWithin}
-use Rattle.btree.specs.Gap.{IsPutIn}
-use Rattle.btree.specs.Branch.{Branch}
-use Rattle.btree.specs.Rows.{branch_of, IsKid}
-use Rattle.btree.proofs.Leaves.{if_some_on}
-use Rattle.btree.proofs.Nodes.{leaf_row, leaf_size, leaf_made, leaf_node, leaf_sorted, leaf_each, leaf_same_size, same_here, inner_low, inner_level, inner_kid_at, inner_node, kid_ascends}
-use Rattle.btree.proofs.Gaps.{kid_inside, key_within, key_missed, put_case, put_up}
+use Rattle.btree.proofs.Nodes.{leaf_row, leaf_sorted, leaf_each, inner_low, inner_level, inner_kid_at, kid_ascends}
+use Rattle.btree.proofs.Gaps.{kid_inside, key_within, key_missed}
 use Rattle.btree.proofs.node.Node.+misses_between.Goals as goal
 
 pub gap_beside-requires : goal.gap_beside-requires

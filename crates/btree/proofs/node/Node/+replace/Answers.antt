@@ -1,4 +1,4 @@
-use Rattle.std.proofs.Common.{◌≡◌, ◌<◌, ◌≤◌, ◌∙◌, ◌++◌, [], suc, Some, None, Ok, Err, IfOk, OnErr, inl, inr, append-nil, ap, sym, subst, arith, rules, length, slice_set, get_or}
+use Rattle.std.proofs.Common.{◌≡◌, ◌≤◌, ◌∙◌, suc, Some, None, Ok, Err, IfOk, OnErr, append-nil, ap, sym, subst, arith, rules, length, slice_set}
 use Rattle.std.specs.Prelude.{Result}
 use Rattle.std.specs.Vec.{vec_len}
 use Rattle.std.proofs.lemmas.List.{length-set}
@@ -6,7 +6,7 @@ use borrow.Author.Tests.{eqb-true, eqb-false}
 use Rattle.std.specs.FinMap.Entries.{find, put}
 use Rattle.btree.specs.Order.{Ascends}
 use Rattle.btree.specs.Branch.{Branch}
-use Rattle.btree.specs.Rows.{branch_of, IsKid}
+use Rattle.btree.specs.Rows.{IsKid}
 use Rattle.btree.proofs.Leaves.{if_ok_on}
 use Rattle.btree.proofs.Nodes.{leaf_row, leaf_size, leaf_made, leaf_node, leaf_sorted, leaf_same_size, inner_low, inner_rises, inner_level, inner_kid_at, inner_node, kid_ascends, kid_found, kid_replaced, kid_put_pairs}
 use Rattle.btree.proofs.node.Node.+replace.Goals as goal

@@ -1,4 +1,4 @@
-use Rattle.std.proofs.Common.{◌≡◌, ◌<◌, ◌≤◌, ◌∙◌, sym, length, length-append, arith}
+use Rattle.std.proofs.Common.{◌≡◌, ◌<◌, ◌∙◌, sym, length, length-append, arith}
 use borrow.Author.Tests.{eqb-false}
 use Rattle.std.specs.Vec.{vec_len}
 use Rattle.btree.proofs.Shapes.{kid_high}

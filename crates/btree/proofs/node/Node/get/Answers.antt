@@ -1,9 +1,9 @@
-use Rattle.std.proofs.Common.{◌≡◌, ◌<◌, ◌≤◌, ◌+◌, ◌∙◌, Some, None, suc, refl, ap, sym, subst, arith, length, get_or}
+use Rattle.std.proofs.Common.{◌≡◌, ◌+◌, ◌∙◌, refl, ap, sym, subst, arith, length}
 use borrow.Author.Tests.{eqb-true, eqb-false}
 use Rattle.std.specs.FinMap.Entries.{find}
 use Rattle.btree.specs.Order.{Ascends}
 use Rattle.btree.proofs.Leaves.{find_at, find_gap}
-use Rattle.btree.proofs.Nodes.{leaf_row, leaf_sorted, leaf_height, inner_rises, inner_low, inner_level, kid_ascends, kid_found}
+use Rattle.btree.proofs.Nodes.{leaf_row, leaf_sorted, inner_rises, inner_low, inner_level, kid_ascends, kid_found}
 use Rattle.btree.proofs.node.Node.get.Goals as goal
 
 pub loop-separators-init : goal.loop-separators-init

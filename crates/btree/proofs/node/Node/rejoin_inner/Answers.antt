@@ -1,4 +1,4 @@
-use Rattle.std.proofs.Common.{◌≡◌, ◌∙◌, ◌++◌, ◌∷◌, ◌+◌, [], suc, ap, sym, subst, arith, length, append_assoc, length-append}
+use Rattle.std.proofs.Common.{◌≡◌, ◌∙◌, ◌++◌, ◌∷◌, ◌+◌, [], suc, ap, sym, arith, length, append_assoc, length-append}
 use Rattle.btree.proofs.Nodes.{inner_size}
 use Rattle.btree.proofs.Joins.{high_some, one_node, one_become, lower_node, upper_node, two_become, fits_both}
 use Rattle.btree.proofs.node.Node.rejoin_inner.Goals as goal

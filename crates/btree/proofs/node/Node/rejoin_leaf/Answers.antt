@@ -1,5 +1,4 @@
-use Rattle.std.proofs.Common.{◌≡◌, ◌∙◌, ◌++◌, [], Some, ap, sym, subst, arith, length, length-append, take, drop}
-use Rattle.btree.specs.Branch.{Branch}
+use Rattle.std.proofs.Common.{◌≡◌, ◌∙◌, ◌++◌, [], Some, ap, sym, subst}
 use Rattle.btree.specs.Rows.{branch_of, IsParting, HasBecome}
 use Rattle.btree.proofs.Leaves.{leaf_two}
 use Rattle.btree.proofs.Nodes.{leaf_none, leaf_row, leaf_made}

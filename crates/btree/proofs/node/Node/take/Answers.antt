@@ -1,4 +1,4 @@
-use Rattle.std.proofs.Common.{◌≡◌, ◌∙◌, ◌++◌, [], Some, append-nil, ap, sym, subst, arith, length, get_or}
+use Rattle.std.proofs.Common.{◌∙◌, Some, append-nil, ap, sym}
 use Rattle.std.specs.FinMap.Entries.{find}
 use Rattle.btree.specs.Order.{without}
 use Rattle.btree.proofs.Leaves.{find_gap, find_at, without_at, without_gap}

@@ -1,5 +1,5 @@
 use Rattle.std.proofs.lemmas.List.{take_at, length-map}
-use Rattle.std.proofs.Common.{rules, arith, ◌≡◌, ◌^◌, ◌<◌, ◌+◌, ◌*◌, ◌++◌, suc, map, true, IfSome, length, take, drop, get_or, slice_set, ap, sym, subst, ◌∙◌, add-one}
+use Rattle.std.proofs.Common.{rules, arith, ◌≡◌, ◌^◌, ◌<◌, ◌+◌, ◌*◌, ◌++◌, suc, map, IfSome, length, take, drop, get_or, slice_set, ap, sym, subst, ◌∙◌, add-one}
 use Rattle.btree.specs.Branch.{Branch}
 use Rattle.btree.specs.Order.{Ascends, Each, last_of}
 use Rattle.btree.specs.Rows.{height_of, branch_of}

@@ -1,8 +1,7 @@
-use Rattle.std.proofs.Common.{◌≡◌, ◌<◌, true, false, sym, length, ap, subst, ◌∙◌, arith}
-use borrow.Author.Tests.{eqb-true, eqb-false}
+use Rattle.std.proofs.Common.{◌≡◌, sym, length, ap, ◌∙◌}
+use borrow.Author.Tests.{eqb-true}
 use Rattle.btree.specs.Tree.{Content}
-use Rattle.btree.proofs.Nodes.{leaf_row, inner_levels}
-use Rattle.btree.proofs.Shapes.{height_kids}
+use Rattle.btree.proofs.Nodes.{leaf_row}
 use Rattle.btree.proofs.root.Tree.as_row.Goals as goal
 
 pub returns-then-is_empty-clause-row : goal.returns-then-is_empty-clause-row

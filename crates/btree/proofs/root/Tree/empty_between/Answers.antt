@@ -1,5 +1,5 @@
 use Rattle.std.proofs.lemmas.List.{length-map}
-use Rattle.std.proofs.Common.{◌≡◌, ◌<◌, length, ap, sym, subst, ◌∙◌}
+use Rattle.std.proofs.Common.{◌<◌, length, ap, sym, subst, ◌∙◌}
 use Rattle.btree.specs.Branch.{Branch}
 use Rattle.btree.specs.Tree.{IsRoot}
 use Rattle.btree.specs.Values.{emptied}
