@@ -5,8 +5,8 @@
 //! what is printed of it what `write_served` does, and what is written of its journal what
 //! `journal_lines::write_journal` does: so one journal is listed and written. The exit status is
 //! `job_server::status_of` of the outcome and the text of a fault is `job_server::JobsFault::text`; what its words ask
-//! for is `program_front::mjobs_args_with`. This file only opens files, looks for a listing's fault before a journal is
-//! written over, lets time pass for LOCKs that wait, and prints what went wrong:
+//! for is `program_front::mjobs_args_with`. This file only opens files, lets time pass for LOCKs that wait, and prints
+//! what went wrong:
 //!
 //! 0, all replies are accepted; 1, a reply is an `error`; 2, a fault, or wrong arguments; standard error says which.
 #![tactic(auto)]
@@ -14,17 +14,16 @@
 use bstr::ByteSlice;
 use collation::Job;
 use job_server::{JobsFault, Served, serve_text, status_of, write_served};
-use journal_lines::write_journal;
 use listing::{Counted, read_all};
-use loading::{LoadFault, SettingReader};
 use program_front::{
-    ListingFile, MjobsArgs, Piped, Progress, Ticker, Workers, arguments_of, create_named,
-    mjobs_args_with, path_of, print_bad_name, print_fault, print_help_or_error,
-    print_journal_fault, print_load_fault, print_refused, print_unopened, read_listing,
+    ListingFile, MjobsArgs, Piped, Progress, Ticker, Workers, arguments_of, mjobs_args_with,
+    open_named, path_of, print_bad_name, print_fault, print_help_or_error, print_journal_fault,
+    print_load_fault, print_refused, print_unopened, read_listing, write_over,
 };
 use script::{Drafts, read_line};
 use shared_engine::Gate;
-use std::alloc::{AllocError, Global};
+use std::alloc::AllocError;
+use std::fs::OpenFile;
 use std::io::{IsTerminal, Read, Write};
 use std::process::ExitCode;
 use std::rt::{Clock, Files};
@@ -159,7 +158,7 @@ fn tell_fault(rt: &impl Eprint, fault: JobsFault, is_closed: bool) {
 }
 
 // Writes the journal, where a file is there for it, and answers the exit status; this one, where nothing fails.
-fn write_kept<F: Write + Drop>(
+fn write_kept<F: Write + OpenFile + Drop>(
     rt: &(impl Eprint + AllocGlobal),
     served: &Served,
     journal: Option<F>,
@@ -168,14 +167,14 @@ fn write_kept<F: Write + Drop>(
     let Some(file) = journal else {
         return status;
     };
-    match write_journal(rt.alloc(), served.journal(), &mut Counted::new(file)) {
+    match write_over(rt.alloc(), served.journal(), &mut Counted::new(file)) {
         Ok(()) => status,
         Err(fault) => print_journal_fault(rt, PROGRAM, fault),
     }
 }
 
 // Writes what was served, prints a fault, and answers the exit status.
-fn write_and_tell<P: Print + Eprint + AllocGlobal, F: Write + Drop>(
+fn write_and_tell<P: Print + Eprint + AllocGlobal, F: Write + OpenFile + Drop>(
     rt: &P,
     args: MjobsArgs,
     served: &Served,
@@ -192,32 +191,7 @@ fn write_and_tell<P: Print + Eprint + AllocGlobal, F: Write + Drop>(
     write_kept(rt, served, journal, status_of(&outcome))
 }
 
-// Whether there is a setting more.
-fn has_setting(settings: &mut SettingReader<'_>) -> Result<bool, LoadFault> {
-    match settings.next() {
-        Ok(Some((key, value))) => {
-            drop(key);
-            drop(value);
-            Ok(true)
-        }
-        Ok(None) => Ok(false),
-        Err(fault) => Err(fault),
-    }
-}
-
-// Looks for a fault of a listing. It has no more settings than bytes.
-fn check_listing(alloc: Global, listing: &[u8]) -> Result<(), LoadFault> {
-    let mut settings = SettingReader::new(alloc, listing);
-    for _ in 0..listing.len() {
-        if !has_setting(&mut settings)? {
-            return Ok(());
-        }
-    }
-    Ok(())
-}
-
-// Runs the script, once the journal's file is there, if one is asked for, and answers the exit status. That file isn't
-// written over where the listing has a fault.
+// Runs the script, once the journal's file is there, if one is asked for, and answers the exit status.
 fn run_and_tell<
     P: Files + Print + Eprint + AllocGlobal + Clock + Threads + Wait + Sync,
     R: Read + Drop,
@@ -229,12 +203,7 @@ fn run_and_tell<
     tells: bool,
     input: R,
 ) -> u8 {
-    if args.journal.is_some() {
-        if let Err(fault) = check_listing(rt.alloc(), &file.text) {
-            return print_load_fault(rt, PROGRAM, file.name, fault);
-        }
-    }
-    let journal = match create_named(rt, PROGRAM, arguments, args.journal) {
+    let journal = match open_named(rt, PROGRAM, arguments, args.journal) {
         Ok(journal) => journal,
         Err(status) => return status,
     };

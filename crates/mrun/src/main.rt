@@ -18,13 +18,14 @@ use job_core::JobCore;
 use listing::Counted;
 use loading::load_with;
 use program_front::{
-    ListingFile, MrunArgs, NamePlace, Piped, Ticker, arguments_of, create_named, mrun_args_with,
+    ListingFile, MrunArgs, NamePlace, Piped, Ticker, arguments_of, mrun_args_with, open_named,
     path_of, print_bad_name, print_fault, print_help_or_error, print_journal_fault,
     print_load_fault, print_unopened, print_wanting, read_listing,
 };
 use script_run::{Fault, Outcome, Upkeep, run_with_core, status_of};
 use side_log::{SideLog, Source, Telling};
 use std::alloc::AllocError;
+use std::fs::OpenFile;
 use std::io::{IsTerminal, Read, Write};
 use std::process::ExitCode;
 use std::rt::{Clock, Files};
@@ -103,7 +104,7 @@ fn tell_outcome(
     }
 }
 
-fn run_from<R: Read + Drop, F: Write + Drop>(
+fn run_from<R: Read + Drop, F: Write + OpenFile + Drop>(
     rt: &(impl Print + Eprint + AllocGlobal + Clock),
     args: MrunArgs,
     source: Source<'_>,
@@ -148,7 +149,7 @@ fn run_into<R: Read + Drop>(
     requires legal { IsLegal core.machine.units initial }
     requires closed { core.machine.transactions ≡ finmap.empty }
 {
-    match create_named(rt, PROGRAM, arguments, args.journal) {
+    match open_named(rt, PROGRAM, arguments, args.journal) {
         Ok(journal) => run_from(rt, args, source, core, input, journal),
         Err(status) => {
             drop(core);

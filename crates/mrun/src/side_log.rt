@@ -3,11 +3,12 @@ use crate::PROGRAM;
 use crate::look::print_look;
 use crate::statistics::{Statistics, print_statistics};
 use job_core::JobCore;
-use journal_lines::{JournalFault, write_journal};
+use journal_lines::JournalFault;
 use listing::Counted;
-use program_front::{MrunArgs, Ticker, print_greeting, print_mark, print_refused};
+use program_front::{MrunArgs, Ticker, print_greeting, print_mark, print_refused, write_over};
 use refusal::Refusal;
 use script_run::RunLog;
+use std::fs::OpenFile;
 use std::io::Write;
 use std::rt::Clock;
 
@@ -122,7 +123,7 @@ fn keep_line(last: &mut Vec<u8>, line: &[u8]) {
     }
 }
 
-impl<'a, P: Eprint + AllocGlobal + Clock, F: Write + Drop> RunLog for SideLog<'a, P, F> {
+impl<'a, P: Eprint + AllocGlobal + Clock, F: Write + OpenFile + Drop> RunLog for SideLog<'a, P, F> {
     fn refused(&mut self, number: u64, line: &[u8], refusal: Refusal) {
         match self.telling {
             Telling::Nothing => {}
@@ -149,7 +150,7 @@ impl<'a, P: Eprint + AllocGlobal + Clock, F: Write + Drop> RunLog for SideLog<'a
             print_statistics(self.rt, PROGRAM, &Statistics::of(core));
         }
         if let Some(journal) = &mut self.journal {
-            self.unwritten = write_journal(self.rt.alloc(), core.journal(), journal).err();
+            self.unwritten = write_over(self.rt.alloc(), core.journal(), journal).err();
         }
     }
 }

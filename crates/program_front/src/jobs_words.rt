@@ -1,7 +1,7 @@
 //! The words of `mjobs`.
-use crate::journal_file::is_file_read;
+use crate::journal_file::is_file_in_use;
 use crate::words::{
-    NamePlace, READ, VERSION, errors_word, file_of, file_place, file_word, is_read, journal_of,
+    IN_USE, NamePlace, VERSION, errors_word, file_of, file_place, file_word, is_read, journal_of,
     journal_word, load_of, load_word, no_listing_word, texts_of,
 };
 use clap::builder::ValueParser;
@@ -65,7 +65,7 @@ the same nodes, replies and listing depend on which job was first.
 M systems write them in ZWR form. They are read before the first job; if one can't be read, nothing runs.
 --errors tells of each line that can't be read its number, the column of its fault, the refusal and what was expected there.
 --journal FILE keeps what was done, in its order: after mjobs --journal done.txt orders.txt, mrun done.txt leaves the same
-listing. FILE is emptied before the script is read; where it is the script or the listing, by whatever name, nothing runs.
+listing. FILE is written over at the end; where it is the script, the listing or what is printed to, nothing runs.
 
 Exit status: 0, all replies are accepted; 1, a reply is an `error`; 2, input can't be read, output or the journal
 can't be written, memory ran out, a listing can't be loaded, a report is missing, or an option or its value is wrong.";
@@ -171,7 +171,7 @@ pub fn mjobs_args_of(alloc: Global, arguments: &[Vec<u8>]) -> Result<MjobsArgs, 
         workers: workers_of(alloc, &matches)?,
     };
     if is_journal_read(arguments, args) {
-        return Err(error_of(alloc, ErrorKind::ArgumentConflict, READ)?);
+        return Err(error_of(alloc, ErrorKind::ArgumentConflict, IN_USE)?);
     }
     Ok(args)
 }
@@ -183,8 +183,8 @@ pub fn mjobs_args_with(
     arguments: &[Vec<u8>],
 ) -> Result<MjobsArgs, Error> {
     let args = mjobs_args_of(rt.alloc(), arguments)?;
-    if is_file_read(rt, arguments, args.file, args.load, args.journal) {
-        return Err(error_of(rt.alloc(), ErrorKind::ArgumentConflict, READ)?);
+    if is_file_in_use(rt, arguments, args.file, args.load, args.journal) {
+        return Err(error_of(rt.alloc(), ErrorKind::ArgumentConflict, IN_USE)?);
     }
     Ok(args)
 }

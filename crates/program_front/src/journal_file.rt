@@ -3,14 +3,20 @@ ghost use Rattle.std.specs.Prelude.{◌≡◌, IfErr};
 
 use crate::printing::{FAULT_STATUS, path_of, print_uncreated, print_unwritten};
 use crate::words::{NamePlace, file_place};
-use std::fs;
-use std::fs::Metadata;
+use journal::Journal;
+use journal_lines::{JournalFault, write_journal};
+use listing::Counted;
+use std::alloc::Global;
+use std::fs::{Metadata, OpenFile, OpenOptions};
+use std::io::Write;
 use std::os::unix::fs::MetadataExt;
 use std::rt::Files;
+use std::{fs, io};
 
-/// Creates the file whose name stands there among the arguments, where one is asked for. Where it can't be created a
-/// line on standard error says why, and the exit status is answered.
-pub fn create_named<P: Files + Eprint>(
+/// Opens the file whose name stands there among the arguments, where one is asked for, or creates it. What it holds
+/// stays until `write_over`. Where it can't be opened a line on standard error says why, and the exit status is
+/// answered.
+pub fn open_named<P: Files + Eprint>(
     rt: &P,
     program: &str,
     arguments: &[Vec<u8>],
@@ -24,14 +30,40 @@ pub fn create_named<P: Files + Eprint>(
     let Some(path) = place.name_in(arguments).and_then(path_of) else {
         return Err(print_unwritten(rt, program, "its name isn't UTF-8"));
     };
-    match fs::create(rt, path) {
+    match OpenOptions::new().write(true).create(true).open(rt, path) {
         Ok(file) => Ok(Some(file)),
         Err(why) => Err(print_uncreated(rt, program, path, why)),
     }
 }
 
-// Where the system says what standard input is.
+// Takes away what the file holds. Devices and pipes keep nothing.
+fn empty(file: &impl OpenFile) -> io::Result<()> {
+    if file.metadata()?.is_file() {
+        return file.set_len(0);
+    }
+    Ok(())
+}
+
+/// Writes the journal in place of what the file held.
+///
+/// Refusals: `Write` where the file can't be emptied, which leaves it as it was; those of `write_journal`.
+pub fn write_over<F: Write + OpenFile + Drop>(
+    alloc: Global,
+    journal: &Journal,
+    file: &mut Counted<F>,
+) -> Result<(), JournalFault> {
+    match empty(file.inner()) {
+        Ok(()) => write_journal(alloc, journal, file),
+        Err(_) => Err(JournalFault::Write),
+    }
+}
+
+// Where the system says what the standard streams are.
 const STANDARD_INPUT: &str = "/dev/stdin";
+
+const STANDARD_OUTPUT: &str = "/dev/stdout";
+
+const STANDARD_ERROR: &str = "/dev/stderr";
 
 // What the system knows of the file whose name stands there among the arguments, if it is there.
 fn known_of(rt: &impl Files, arguments: &[Vec<u8>], place: Option<NamePlace>) -> Option<Metadata> {
@@ -40,17 +72,23 @@ fn known_of(rt: &impl Files, arguments: &[Vec<u8>], place: Option<NamePlace>) ->
 }
 
 // Whether these are one file that bytes are kept in. Devices and pipes keep none, so emptying them loses nothing.
-fn is_same_file(kept: &Metadata, read: &Option<Metadata>) -> bool {
-    match read {
-        Some(read) => kept.is_file() && kept.dev() == read.dev() && kept.ino() == read.ino(),
+fn is_same_file(kept: &Metadata, used: &Option<Metadata>) -> bool {
+    match used {
+        Some(used) => kept.is_file() && kept.dev() == used.dev() && kept.ino() == used.ino(),
         None => false,
     }
 }
 
-/// Whether the file for the journal is there and is the script or the listing, by whatever name, a link of any kind
-/// too. Where no script is named it is standard input. It is looked at once: what becomes of the names later isn't
-/// seen.
-pub(crate) fn is_file_read(
+// Whether replies or faults are printed to this file.
+fn is_printed_to(rt: &impl Files, kept: &Metadata) -> bool {
+    is_same_file(kept, &fs::metadata(rt, STANDARD_OUTPUT).ok())
+        || is_same_file(kept, &fs::metadata(rt, STANDARD_ERROR).ok())
+}
+
+/// Whether the file for the journal is there and is the script, the listing, or what is printed to, by whatever name, a
+/// link of any kind too. Where no script is named it is standard input. It is looked at once: what becomes of the names
+/// later isn't seen.
+pub(crate) fn is_file_in_use(
     rt: &impl Files,
     arguments: &[Vec<u8>],
     file: Option<usize>,
@@ -64,5 +102,7 @@ pub(crate) fn is_file_read(
         Some(_) => known_of(rt, arguments, file_place(file)),
         None => fs::metadata(rt, STANDARD_INPUT).ok(),
     };
-    is_same_file(&kept, &script) || is_same_file(&kept, &known_of(rt, arguments, load))
+    is_same_file(&kept, &script)
+        || is_same_file(&kept, &known_of(rt, arguments, load))
+        || is_printed_to(rt, &kept)
 }

@@ -5,7 +5,7 @@
 //! Arguments are bytes, since one may be of any bytes. The parser reads one that isn't UTF-8 with each bad sequence
 //! replaced; its answer says which argument is the file, so that its own bytes are kept and no other file is opened.
 //!
-//! No contract says what the arguments ask for: tests run the parser on them, and whether the journal's file is read
+//! No contract says what the arguments ask for: tests run the parser on them, and whether the journal's file is in use
 //! under another name is tried by hand. One says that each print of what went wrong answers the exit status of a fault,
 //! and some say what a `Piped` holds and when it is closed.
 //!
@@ -14,7 +14,7 @@
 #![tactic(auto)]
 
 pub use jobs_words::{MjobsArgs, Workers, mjobs_args_of, mjobs_args_with};
-pub use journal_file::create_named;
+pub use journal_file::{open_named, write_over};
 pub use listing_file::{ListingFile, read_listing};
 pub use piped::Piped;
 pub use printing::{

@@ -1,7 +1,7 @@
 //! The words of `mrun`.
-use crate::journal_file::is_file_read;
+use crate::journal_file::is_file_in_use;
 use crate::words::{
-    NamePlace, READ, VERSION, errors_word, file_of, file_place, file_word, is_read, journal_of,
+    IN_USE, NamePlace, VERSION, errors_word, file_of, file_place, file_word, is_read, journal_of,
     journal_word, load_of, load_word, no_listing_word, stats_word, texts_of,
 };
 use clap::builder::ValueParser;
@@ -34,7 +34,7 @@ At the end of input follow `--` and the listing of the database, which starts em
 --load FILE starts from a listing instead: lines ^Fruit(\"apple\",\"price\")=1.2, as they are printed or as other M systems
 write them in ZWR form. If a line of it can't be read, nothing runs.
 --journal FILE keeps a run: after mrun --journal done.txt script.txt, mrun done.txt leaves the same listing. FILE is
-emptied before the script is read; where it is the script or the listing, by whatever name, nothing runs.
+written over at the end; where it is the script, the listing or what is printed to, by whatever name, nothing runs.
 Lines can be typed: each gets its reply at once, Enter alone shows what is committed at and below the reference that the line
 before names, or all where it names none, and Ctrl-D on an empty line ends the input.
 
@@ -122,7 +122,7 @@ fn journal_conflict(arguments: &[Vec<u8>], args: MrunArgs) -> Option<&'static st
         return Some(DROPPED);
     }
     if is_read(arguments, file_place(args.file), name) || is_read(arguments, args.load, name) {
-        return Some(READ);
+        return Some(IN_USE);
     }
     None
 }
@@ -155,8 +155,8 @@ pub fn mrun_args_with(
     arguments: &[Vec<u8>],
 ) -> Result<MrunArgs, Error> {
     let args = mrun_args_of(rt.alloc(), arguments)?;
-    if is_file_read(rt, arguments, args.file, args.load, args.journal) {
-        return Err(conflict(rt.alloc(), READ)?);
+    if is_file_in_use(rt, arguments, args.file, args.load, args.journal) {
+        return Err(conflict(rt.alloc(), IN_USE)?);
     }
     Ok(args)
 }

@@ -131,8 +131,8 @@ pub(crate) fn journal_of(matches: &ArgMatches<'_>, arguments: &[String]) -> Opti
     value_place(arguments, "--journal", "--journal=", name)
 }
 
-/// What is said where the journal would be written to a file that is read.
-pub(crate) const READ: &str = "'--journal <JOURNAL>' cannot be the file that is read";
+/// What is said where the journal would be written to a file that is read or printed to.
+pub(crate) const IN_USE: &str = "'--journal <JOURNAL>' cannot be a file that is read or printed to";
 
 /// Where the name of the script's file stands, or none for standard input.
 pub(crate) fn file_place(file: Option<usize>) -> Option<NamePlace> {
