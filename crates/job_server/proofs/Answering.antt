@@ -1,5 +1,5 @@
 -- A session goes on as what a call of the engine answered tells.
-use Rattle.std.proofs.Common.{◌≡◌, ◌≢◌, ◌⊎◌, ℕ, ◌+◌, ◌≤◌, ◌<◌, Bool, true, false, List, refl, sym, subst, length, true≢false}
+use Rattle.std.proofs.Common.{◌≡◌, ◌⊎◌, ℕ, ◌+◌, ◌≤◌, ◌<◌, Bool, true, false, List, refl, sym, subst, length, true≢false}
 use Rattle.std.specs.Prelude.{Option, Some, None, Result, Ok, Err, IfSome, IsSome, IfOk, IfErr, OnOk, OnErr, is_ok}
 use Rattle.refusal.specs.declared.Refusal.{Refusal}
 use Rattle.refusal.specs.declared.Refusal.TheVariants.{NoTransaction, LevelTooDeep, OutOfMemory, StampsUsedUp}
@@ -36,20 +36,20 @@ pub lone_told : (command : DataCommand) (result : Result Answer Refusal) (old ne
 lone_told command (Ok answer) old new level receipt refused cause = lone_follows command answer receipt.0 old new level receipt.1
 lone_told command (Err refusal) old new level receipt refused cause = refused_follows (Access command) refusal old new refused (lone_may command refusal cause.0 old level cause.1)
 
-pub written_told : (command : DataCommand) (done : Result (Unit {0}) Refusal) (result : Result Answer Refusal) (old new : Held) → 1 ≤ old.state.level → OnOk done (HasWritten command old.state new.state) → (new.start ≡ old.start) × (new.receipts ≡ old.receipts) → OnErr done (new ≡ old)
+pub written_told : (command : DataCommand) (done : Result (Unit {0}) Refusal) (result : Result Answer Refusal) (old new : Held) → 1 ≤ old.state.level → OnOk done (HasWritten command old.state new.state) → (new.start ≡ old.start) × (new.receipts ≡ old.receipts) → new.others ≡ old.others → OnErr done (new ≡ old)
     → IfErr done (λ refusal. IsCauseAlone refusal old.state.work) → result ≡ written_as done → Follows (Access command) (said Answered result) old new
-written_told command (Ok u) result old new one written same refused cause is = subst (λ (r : Result Answer Refusal). Follows (Access command) (said Answered r) old new) (sym is) (written_follows command old new one written same.0 same.1)
-written_told command (Err refusal) result old new one written same refused cause is =
+written_told command (Ok u) result old new one written same others refused cause is = subst (λ (r : Result Answer Refusal). Follows (Access command) (said Answered r) old new) (sym is) (written_follows command old new one written same.0 same.1 others)
+written_told command (Err refusal) result old new one written same others refused cause is =
     subst (λ (r : Result Answer Refusal). Follows (Access command) (said Answered r) old new) (sym is) (refused_follows (Access command) refusal old new refused (written_may command refusal old one cause))
 
 read_from : (start : Option (List JournalUnit)) (command : DataCommand) (result : Result Answer Refusal) (old new : Held) → old.start ≡ start → 1 ≤ old.state.level → IfSome start (λ base. IsAnsweredOrRefused command result (after base initial).map old.state new.state)
-    → IsSome start → (new.start ≡ old.start) × (new.receipts ≡ old.receipts) → Follows (Access command) (said Answered result) old new
-read_from None command result old new is one answered some same = absurd (true≢false (sym some))
-read_from (Some base) command result old new is one answered some same = read_follows base command result old new is one answered same.0 same.1
+    → IsSome start → (new.start ≡ old.start) × (new.receipts ≡ old.receipts) → new.others ≡ old.others → Follows (Access command) (said Answered result) old new
+read_from None command result old new is one answered some same others = absurd (true≢false (sym some))
+read_from (Some base) command result old new is one answered some same others = read_follows base command result old new is one answered same.0 same.1 others
 
 pub read_told : (command : DataCommand) (result : Result Answer Refusal) (old new : Held) → 1 ≤ old.state.level → IfSome old.start (λ base. IsAnsweredOrRefused command result (after base initial).map old.state new.state)
-    → IsSome old.start → (new.start ≡ old.start) × (new.receipts ≡ old.receipts) → Follows (Access command) (said Answered result) old new
-read_told command result old new one answered some same = read_from old.start command result old new refl one answered some same
+    → IsSome old.start → (new.start ≡ old.start) × (new.receipts ≡ old.receipts) → new.others ≡ old.others → Follows (Access command) (said Answered result) old new
+read_told command result old new one answered some same others = read_from old.start command result old new refl one answered some same others
 
 pub within_locked : (command : LockCommand) (result : Result Bool Refusal) (old new : Held) → names_some command ≡ true → OnOkThat result (HasItsNames command old new) → OnOkNot result (WasBlocked command old new)
     → OnErr result ((new ≡ old) ⊎ WasBlocked command old new) → IfErr result (λ refusal. IsLockRefusal old.state.work.job command refusal) → HasLocked command result old new

@@ -22,13 +22,15 @@ use Rattle.job_core.specs.Sessions.{Session as JobSession}
 use Rattle.validate_commit.specs.laws.Working.{work_nothing}
 use Rattle.shared_engine.specs.Sessions.{Held, IsBegun}
 use Rattle.shared_engine.specs.Blocks.{said, IsLone, IsReadAt, IsTried, IsOpened, IsDeeper, IsNone, IsCommitted, IsLower, IsRolledBack, IsRestarted, HasDone, AreDone, IsReady, moved, moved_open}
-use Rattle.job_scripts.specs.Blocks.{in_place, AreAsked}
+use Rattle.job_scripts.specs.Blocks.{in_place, Asks, AreAsked}
 use Rattle.job_server.specs.Causes.{IsAllowed, IsReplyTo}
-use Rattle.job_server.specs.Told.{told_by, told_by_lines, AreRepliesTo}
-use Rattle.job_server.specs.Telling.{Shows, Stands, IsOvertaken, MayReply, Follows, NoneAgain}
+use Rattle.job_server.specs.Told.{told_by, told_by_lines, OneAsksFor, AreRepliesTo, units_of, backs}
+use Rattle.job_server.specs.Telling.{Shows, Stands, HasGoneBack, AreStillAsked, IsOvertaken, MayReply, Follows, NoneAgain}
 use Rattle.job_server.proofs.Causes.{lone_may, lock_may, deeper_may, commit_may, rollback_may, restart_may, no_commit_may, no_rollback_may, no_restart_may, room_of, room_at_commit, fault_of, asked_may}
 use Rattle.job_server.proofs.Following.{refused_follows, level_counted, restarts_counted, lone_follows, read_at_follows, tried_follows, begun_follows, deeper_follows, lower_follows, committed_follows, restarted_follows, rolled_back_follows}
 use Rattle.job_server.proofs.Answering.{follows_as}
+use Rattle.job_server.proofs.Asking.{same_asked}
+use Rattle.job_server.proofs.GoingBack.{same_count}
 
 -- ---- one command
 
@@ -82,7 +84,7 @@ in_or_out (suc n) none one = one (omega arith)
 pub done_follows : (command : Command) (reply : Reply) (units more : List JournalUnit) (old new : Held) → (command ≡ Start → reply ≢ Refused Again) → HasDone command reply units more old new → Follows command reply old new
 done_follows (Access command) reply units more old new never h =
     follows_as (Access command) (said Answered h.0) reply old new
-    (in_or_out old.state.level (λ none. lone_done command h.0 units more old new none (h.2 none)) (λ one. read_at_follows old.start command h.0 old new refl one (h.3 one).0 (h.3 one).1.1.0 (h.3 one).1.1.1.0)) h.1
+    (in_or_out old.state.level (λ none. lone_done command h.0 units more old new none (h.2 none)) (λ one. read_at_follows old.start command h.0 old new refl one (h.3 one).0 (h.3 one).1.1.0 (h.3 one).1.1.1.0 (h.3 one).1.1.1.1)) h.1
 done_follows (lock_command command) reply units more old new never h = follows_as (lock_command command) (said (told_had command) h.0) reply old new (tried_done command h.0 units more old new h.2) h.1
 done_follows Start reply units more old new never h =
     follows_as Start (said AtLevel h.0) reply old new
@@ -133,50 +135,84 @@ refused_tells job (Ok step) refusal s = refl
 refused_tells job (Err fault) refusal s = refl
 
 -- a block's lines were told, and lead on to the lines behind them
-pub record HasTold (job : ℕ) (front : List JournalUnit) (lines : List (List ℕ)) (replies : List Reply) (s : Machine) (new : Held) : Type 0 where
+pub record HasTold (job n : ℕ) (front : List JournalUnit) (lines : List (List ℕ)) (replies : List Reply) (s : Machine) (new : Held) : Type 0 where
   pub machine : Machine
   pub led : (left : List (List ℕ)) (later : List Reply) → told_by_lines job (lines ++ left) (replies ++ later) s ≡ told_by_lines job left later machine
   pub replies_are : (left : List (List ℕ)) (later : List Reply) → AreRepliesTo job left later machine → AreRepliesTo job (lines ++ left) (replies ++ later) s
   pub whose : new.state.work.job ≡ job
   pub stands : Stands front machine new
+  pub gone : HasGoneBack n machine new
 
 -- a line more in front
-line_before : (job : ℕ) (front : List JournalUnit) (line : List ℕ) (lines : List (List ℕ)) (reply : Reply) (replies : List Reply) (s middle : Machine) (new : Held) → IsReplyTo job (reading_of line) reply (transaction_of job s) → told_by job (reading_of line) reply s ≡ middle
-    → HasTold job front lines replies middle new → HasTold job front (line ∷ lines) (reply ∷ replies) s new
-line_before job front line lines reply replies s middle new may is h = record {
+line_before : (job n : ℕ) (front : List JournalUnit) (line : List ℕ) (lines : List (List ℕ)) (reply : Reply) (replies : List Reply) (s middle : Machine) (new : Held) → IsReplyTo job (reading_of line) reply (transaction_of job s) → told_by job (reading_of line) reply s ≡ middle
+    → HasTold job n front lines replies middle new → HasTold job n front (line ∷ lines) (reply ∷ replies) s new
+line_before job n front line lines reply replies s middle new may is h = record {
   machine = h.machine;
   led = λ left later. ap (λ (m : Machine). told_by_lines job (lines ++ left) (replies ++ later) m) is ∙ h.led left later;
   replies_are = λ left later rest. (may, subst (λ (m : Machine). AreRepliesTo job (lines ++ left) (replies ++ later) m) (sym is) (h.replies_are left later rest));
   whose = h.whose;
   stands = h.stands;
+  gone = h.gone;
 }
 
-pub block_told : (job : ℕ) (front : List JournalUnit) (lines : List (List ℕ)) (places : List (Option Refusal)) (commands : List Command) (replies : List Reply) (units more : List JournalUnit) (old new : Held) (s : Machine)
-    → AreAsked lines places commands → AreDone commands replies units more old new → NoneAgain commands replies → old.state.work.job ≡ job → Stands front s old → HasTold job front lines (in_place places replies) s new
-block_told job front [] [] [] [] units more old new s asked done never whose stands = record {
+pub block_told : (job n : ℕ) (front : List JournalUnit) (lines : List (List ℕ)) (places : List (Option Refusal)) (commands : List Command) (replies : List Reply) (units more : List JournalUnit) (old new : Held) (s : Machine)
+    → AreAsked lines places commands → AreDone commands replies units more old new → NoneAgain commands replies → old.state.work.job ≡ job → Stands front s old → HasGoneBack n s old → HasTold job n front lines (in_place places replies) s new
+block_told job n front [] [] [] [] units more old new s asked done never whose stands gone = record {
   machine = s;
   led = λ left later. refl;
   replies_are = λ left later rest. rest;
   whose = ap (λ (h : Held). h.state.work.job) done.1 ∙ whose;
   stands = subst (λ (h : Held). Stands front s h) (sym done.1) stands;
+  gone = subst (λ (h : Held). HasGoneBack n s h) (sym done.1) gone;
 }
-block_told job front [] [] [] (reply ∷ replies) units more old new s asked done never whose stands = absurd done
-block_told job front [] [] (command ∷ commands) replies units more old new s asked done never whose stands = absurd asked
-block_told job front [] (place ∷ places) commands replies units more old new s asked done never whose stands = absurd asked
-block_told job front (line ∷ lines) [] commands replies units more old new s asked done never whose stands = absurd asked
-block_told job front (line ∷ lines) (Some refusal ∷ places) commands replies units more old new s asked done never whose stands =
-    line_before job front line lines (Refused refusal) (in_place places replies) s s new (fault_of job line refusal asked.0 (transaction_of job s)) (refused_tells job (reading_of line) refusal s)
-    (block_told job front lines places commands replies units more old new s asked.1 done never whose stands)
-block_told job front (line ∷ lines) (None ∷ places) [] replies units more old new s asked done never whose stands = absurd asked
-block_told job front (line ∷ lines) (None ∷ places) (command ∷ commands) [] units more old new s asked done never whose stands = absurd done
-block_told job front (line ∷ lines) (None ∷ places) (command ∷ commands) (reply ∷ replies) units more old new s asked done never whose stands =
+block_told job n front [] [] [] (reply ∷ replies) units more old new s asked done never whose stands gone = absurd done
+block_told job n front [] [] (command ∷ commands) replies units more old new s asked done never whose stands gone = absurd asked
+block_told job n front [] (place ∷ places) commands replies units more old new s asked done never whose stands gone = absurd asked
+block_told job n front (line ∷ lines) [] commands replies units more old new s asked done never whose stands gone = absurd asked
+block_told job n front (line ∷ lines) (Some refusal ∷ places) commands replies units more old new s asked done never whose stands gone =
+    line_before job n front line lines (Refused refusal) (in_place places replies) s s new (fault_of job line refusal asked.0 (transaction_of job s)) (refused_tells job (reading_of line) refusal s)
+    (block_told job n front lines places commands replies units more old new s asked.1 done never whose stands gone)
+block_told job n front (line ∷ lines) (None ∷ places) [] replies units more old new s asked done never whose stands gone = absurd asked
+block_told job n front (line ∷ lines) (None ∷ places) (command ∷ commands) [] units more old new s asked done never whose stands gone = absurd done
+block_told job n front (line ∷ lines) (None ∷ places) (command ∷ commands) (reply ∷ replies) units more old new s asked done never whose stands gone =
     let follows : Follows command reply old done.1 = done_follows command reply units done.0 old done.1 never.0 done.2 in
-    line_before job front line lines reply (in_place places replies) s (told job command reply s) new
+    line_before job n front line lines reply (in_place places replies) s (told job command reply s) new
     (asked_may job line command reply (transaction_of job s) asked.0
     (subst (λ (j : ℕ). IsAllowed j command reply (transaction_of j s)) whose (follows.may (never_overtaken command reply units done.0 old done.1 done.2) (transaction_of old.state.work.job s) stands.shows stands.begun)))
     (ap (λ (r : Result (ℕ × Command) Refusal). told_by job r reply s) asked.0.1)
-    (block_told job front lines places commands replies done.0 more done.1 new (told job command reply s) asked.1 done.3 never.1 (follows.whose ∙ whose)
-    (subst (λ (j : ℕ). Stands front (told j command reply s) done.1) whose (follows.stands front s stands)))
+    (block_told job n front lines places commands replies done.0 more done.1 new (told job command reply s) asked.1 done.3 never.1 (follows.whose ∙ whose)
+    (subst (λ (j : ℕ). Stands front (told j command reply s) done.1) whose (follows.stands front s stands))
+    (subst (λ (j : ℕ). HasGoneBack n (told j command reply s) done.1) whose (follows.went n front s stands gone)))
+
+-- no rollback or restart is lost in a block
+pub block_grows : (commands : List Command) (replies : List Reply) (units more : List JournalUnit) (old new : Held) → AreDone commands replies units more old new → NoneAgain commands replies → backs (units_of old.others) ≤ backs (units_of new.others)
+block_grows [] [] units more old new done never = same_count old new (ap (λ (h : Held). h.others) done.1)
+block_grows [] (reply ∷ replies) units more old new done never = absurd done
+block_grows (command ∷ commands) [] units more old new done never = absurd done
+block_grows (command ∷ commands) (reply ∷ replies) units more old new done never =
+    let follows : Follows command reply old done.1 = done_follows command reply units done.0 old done.1 never.0 done.2 in
+    grows_then (backs (units_of old.others)) (backs (units_of done.1.others)) (backs (units_of new.others)) follows.grows (block_grows commands replies done.0 more done.1 new done.3 never.1)
+  where
+    grows_then : (a b c : ℕ) → a ≤ b → b ≤ c → a ≤ c
+    grows_then a b c first second = omega (arith, first, second)
+
+-- the LOCKs that a block writes are asked for
+pub block_asks : (front : List JournalUnit) (lines : List (List ℕ)) (places : List (Option Refusal)) (commands : List Command) (replies : List Reply) (units more : List JournalUnit) (old new : Held)
+    → AreAsked lines places commands → AreDone commands replies units more old new → NoneAgain commands replies → AreStillAsked (OneAsksFor lines) (front ++ units_of old.receipts) (front ++ units_of new.receipts)
+block_asks front [] [] [] [] units more old new asked done never =
+    same_asked (OneAsksFor []) (front ++ units_of old.receipts) (front ++ units_of new.receipts) (ap (λ (h : Held). front ++ units_of h.receipts) done.1)
+block_asks front [] [] [] (reply ∷ replies) units more old new asked done never = absurd done
+block_asks front [] [] (command ∷ commands) replies units more old new asked done never = absurd asked
+block_asks front [] (place ∷ places) commands replies units more old new asked done never = absurd asked
+block_asks front (line ∷ lines) [] commands replies units more old new asked done never = absurd asked
+block_asks front (line ∷ lines) (Some refusal ∷ places) commands replies units more old new asked done never =
+    λ all each h. block_asks front lines places commands replies units more old new asked.1 done never all (λ c asks. each c (inr asks)) h
+block_asks front (line ∷ lines) (None ∷ places) [] replies units more old new asked done never = absurd asked
+block_asks front (line ∷ lines) (None ∷ places) (command ∷ commands) [] units more old new asked done never = absurd done
+block_asks front (line ∷ lines) (None ∷ places) (command ∷ commands) (reply ∷ replies) units more old new asked done never =
+    let follows : Follows command reply old done.1 = done_follows command reply units done.0 old done.1 never.0 done.2 in
+    λ all each h. block_asks front lines places commands replies done.0 more done.1 new asked.1 done.3 never.1 all (λ c asks. each c (inr asks))
+    (follows.asks front all (λ c is. each c (inl (subst (λ (x : Command). Asks line x) is asked.0))) h)
 
 -- ---- before a block
 
@@ -198,6 +234,13 @@ pub moved_job : (units : List JournalUnit) (h : Held) → (moved_open units h).s
 moved_job units h = by_test (nat_lt 0 h.state.level)
   where
     by_test : (b : Bool) → (if b then moved units h else h).state.work.job ≡ h.state.work.job
+    by_test true = refl
+    by_test false = refl
+
+pub moved_receipts : (units : List JournalUnit) (h : Held) → (moved_open units h).receipts ≡ h.receipts
+moved_receipts units h = by_test (nat_lt 0 h.state.level)
+  where
+    by_test : (b : Bool) → (if b then moved units h else h).receipts ≡ h.receipts
     by_test true = refl
     by_test false = refl
 

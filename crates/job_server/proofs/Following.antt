@@ -1,5 +1,5 @@
 -- A session goes on as its reply tells, call by call.
-use Rattle.std.proofs.Common.{◌≡◌, ◌≢◌, inl, inr, ℕ, ◌+◌, ◌-◌, ◌≤◌, ◌<◌, Bool, true, false, List, [], ◌∷◌, ◌++◌, length, refl, sym, ap, ◌∙◌, subst, arith, true≢false}
+use Rattle.std.proofs.Common.{◌≡◌, inl, inr, ℕ, ◌+◌, ◌-◌, ◌≤◌, ◌<◌, Bool, true, false, List, [], ◌∷◌, ◌++◌, length, refl, sym, ap, ◌∙◌, subst, arith, true≢false}
 use Rattle.std.specs.Prelude.{Option, Some, None, Result, Ok, Err, nat_lt, ◌^◌, min}
 use Rattle.refusal.specs.declared.Refusal.{Refusal}
 use Rattle.collation.specs.Limits.{most_levels}
@@ -16,18 +16,20 @@ use Rattle.journal.specs.declared.unit.Unit.{Unit as JournalUnit}
 use Rattle.journal.specs.declared.unit.Unit.TheVariants.{Lone}
 use Rattle.journal.specs.Kept.{Claim}
 use Rattle.journal.specs.History.{initial, after}
-use Rattle.journal.specs.Story.{Machine, transaction_of, told, told_lock, told_back, told_level, begin, close}
+use Rattle.journal.specs.Story.{Machine, transaction_of, told, told_answer, told_lock, told_commit, told_back, told_level, begin, close}
 use Rattle.serial.specs.Machine.{told_had}
 use Rattle.validate_commit.specs.laws.Working.{work_nothing}
 use Rattle.job_core.specs.Sessions.{Session as JobSession, at_level, just_opened, anew, IsAnsweredOrRefused, HasWritten}
-use Rattle.shared_engine.specs.Sessions.{Held, held, IsAt, IsBegun, and_receipt, begun_anew, rolled_back, HasBegun}
-use Rattle.shared_engine.specs.Engines.{HasEnded, after_try, lock_unit}
+use Rattle.shared_engine.specs.Sessions.{Held, held, IsAt, IsBegun, and_receipt, ended, begun_anew, rolled_back, HasBegun}
+use Rattle.shared_engine.specs.Engines.{HasEnded, after_try, lock_unit, whole_of}
 use Rattle.shared_engine.specs.declared.locked.Ended.TheVariants.{Committed, Restarted}
 use Rattle.shared_engine.specs.Blocks.{said, IsReadAt}
 use Rattle.job_server.specs.Told.{given, IsToldIn, units_of}
 use Rattle.job_server.specs.Causes.{IsAllowed}
-use Rattle.job_server.specs.Telling.{Shows, Stands, AreStillTold, MayReply, Follows, names_some, IsLockRefusal, HasLocked}
+use Rattle.job_server.specs.Telling.{Shows, Stands, HasGoneBack, AreStillTold, AreStillAsked, IsLockOf, MayReply, Follows, names_some, IsLockRefusal, HasLocked}
 use Rattle.job_server.proofs.Units.{lock_receipt_more}
+use Rattle.job_server.proofs.Asking.{held_asked, more_asked}
+use Rattle.job_server.proofs.GoingBack.{same_count, went_count, same_back, begun_back, answer_back, level_back, commit_back, rolled_has_gone, anew_has_gone, tried_has_gone, lock_has_gone}
 use Rattle.job_server.proofs.Causes.{inside_may, alone_may, answered_may, done_may, lock_may, had_may, begun_may, inner_may, lower_may, committed_may, anew_may, rolled_back_may, level_may, restarts_may}
 use Rattle.job_server.proofs.Standing.{shown_none, still_shows, noted_at, with_closed, told_lone, told_inside, tried_untold, blocked_untold, inside_untold, tried_told, tried_job, tried_level, back_given, told_begun, told_at, told_whole}
 
@@ -42,6 +44,9 @@ refused_follows command refusal old new same may = record {
   whose = ap (λ (h : Held). h.state.work.job) same;
   stands = λ front s stands. subst (λ (h : Held). Stands front s h) (sym same) stands;
   keeps = λ before later front. same_told old new front (ap (λ (h : Held). h.receipts) same);
+  asks = λ front. held_asked (IsLockOf command) front old new (ap (λ (h : Held). h.receipts) same);
+  went = λ n front s stands gone. subst (λ (h : Held). HasGoneBack n s h) (sym same) gone;
+  grows = same_count old new (ap (λ (h : Held). h.others) same);
   may = may;
 }
 
@@ -50,6 +55,9 @@ counted_follows command n old new same may = record {
   whose = ap (λ (h : Held). h.state.work.job) same;
   stands = λ front s stands. subst (λ (h : Held). Stands front s h) (sym same) stands;
   keeps = λ before later front. same_told old new front (ap (λ (h : Held). h.receipts) same);
+  asks = λ front. held_asked (IsLockOf command) front old new (ap (λ (h : Held). h.receipts) same);
+  went = λ n front s stands gone. subst (λ (h : Held). HasGoneBack n s h) (sym same) gone;
+  grows = same_count old new (ap (λ (h : Held). h.others) same);
   may = may;
 }
 
@@ -66,21 +74,34 @@ lone_follows command answer n old new level is = record {
   whose = ap (λ (h : Held). h.state.work.job) is;
   stands = λ front s stands. subst (λ (h : Held). Stands front (told old.state.work.job (Access command) (Answered answer) s) h) (sym is) (told_lone front s old command answer n level stands);
   keeps = λ before later front. absurd (omega (arith, before, level));
+  asks = λ front.
+      subst (λ (h : Held). AreStillAsked (IsLockOf (Access command)) (front ++ units_of old.receipts) (front ++ units_of h.receipts)) (sym is)
+      (more_asked (IsLockOf (Access command)) front old.receipts n (Lone old.state.work.job command answer) (λ lines each. tt));
+  went = λ k front s stands gone.
+      subst (λ (h : Held). HasGoneBack k (told old.state.work.job (Access command) (Answered answer) s) h) (sym is)
+      (answer_back k s (and_receipt n (Lone old.state.work.job command answer) old) command answer (transaction_of old.state.work.job s) refl gone);
+  grows = same_count old new (ap (λ (h : Held). h.others) is);
   may = alone_may command answer old level;
 }
 
 pub inside_follows : (command : DataCommand) (answer : Answer) (old new : Held) → 1 ≤ old.state.level → new.state.level ≡ old.state.level → new.state.work.exchanges ≡ old.state.work.exchanges ++ record { command = command; answer = answer } ∷ []
-    → new.state.work.job ≡ old.state.work.job → new.state.restarts ≡ old.state.restarts → (IsAt old.start old.state → IsAt new.start new.state) → new.receipts ≡ old.receipts → MayReply (Access command) (Answered answer) old → Follows (Access command) (Answered answer) old new
-inside_follows command answer old new one level exchanges job restarts at receipts may = record {
+    → new.state.work.job ≡ old.state.work.job → new.state.restarts ≡ old.state.restarts → (IsAt old.start old.state → IsAt new.start new.state) → new.receipts ≡ old.receipts → new.state.took_lock ≡ old.state.took_lock → new.others ≡ old.others → MayReply (Access command) (Answered answer) old
+    → Follows (Access command) (Answered answer) old new
+inside_follows command answer old new one level exchanges job restarts at receipts took others may = record {
   whose = job;
   stands = λ front s stands. told_inside front s old new command answer one stands level exchanges job restarts (at stands.begun) receipts;
   keeps = λ before later front. same_told old new front receipts;
+  asks = λ front. held_asked (IsLockOf (Access command)) front old new receipts;
+  went = λ n front s stands gone.
+      subst (λ (j : ℕ). HasGoneBack n (told_answer j command answer (transaction_of old.state.work.job s) s) new) job
+      (answer_back n s new command answer (transaction_of old.state.work.job s) (ap (λ (j : ℕ). transaction_of j s) job) (same_back n s old new job (λ is. took ∙ is) others gone));
+  grows = same_count old new others;
   may = may;
 }
 
 -- nothing of a session has changed but what isn't seen of it
-pub unchanged_follows : (command : Command) (refusal : Refusal) (old new : Held) → new.state ≡ old.state → new.start ≡ old.start → new.receipts ≡ old.receipts → MayReply command (Refused refusal) old → Follows command (Refused refusal) old new
-unchanged_follows command refusal old new state start receipts may = record {
+pub unchanged_follows : (command : Command) (refusal : Refusal) (old new : Held) → new.state ≡ old.state → new.start ≡ old.start → new.receipts ≡ old.receipts → new.others ≡ old.others → MayReply command (Refused refusal) old → Follows command (Refused refusal) old new
+unchanged_follows command refusal old new state start receipts others may = record {
   whose = ap (λ (x : JobSession). x.work.job) state;
   stands = λ front s stands. record {
     shows = subst (λ (x : JobSession). Shows x (transaction_of x.work.job s)) (sym state) stands.shows;
@@ -88,25 +109,28 @@ unchanged_follows command refusal old new state start receipts may = record {
     is_told = subst (λ (cs : List Claim). IsToldIn (given s) (front ++ units_of cs)) (sym receipts) stands.is_told;
   };
   keeps = λ before later front. same_told old new front receipts;
+  asks = λ front. held_asked (IsLockOf command) front old new receipts;
+  went = λ n front s stands gone. same_back n s old new (ap (λ (x : JobSession). x.work.job) state) (λ is. ap (λ (x : JobSession). x.took_lock) state ∙ is) others gone;
+  grows = same_count old new others;
   may = may;
 }
 
 pub read_follows : (base : List JournalUnit) (command : DataCommand) (result : Result Answer Refusal) (old new : Held) → old.start ≡ Some base → 1 ≤ old.state.level → IsAnsweredOrRefused command result (after base initial).map old.state new.state → new.start ≡ old.start
-    → new.receipts ≡ old.receipts → Follows (Access command) (said Answered result) old new
-read_follows base command (Ok answer) old new start one h same receipts =
+    → new.receipts ≡ old.receipts → new.others ≡ old.others → Follows (Access command) (said Answered result) old new
+read_follows base command (Ok answer) old new start one h same receipts others =
     inside_follows command answer old new one h.level h.exchanges h.job h.restarts
     (λ at. subst (λ (o : Option (List JournalUnit)). IsAt o new.state) (sym (same ∙ start)) (record {
       level = omega (arith, one, h.level);
       start = h.start ∙ (subst (λ (o : Option (List JournalUnit)). IsAt o old.state) start at).start;
       work = h.work;
     }))
-    receipts (answered_may command answer (after base initial).map old new.state.work one h.short h.exchanges h.work.right)
-read_follows base command (Err refusal) old new start one h same receipts = unchanged_follows (Access command) refusal old new h.same same receipts (inside_may command refusal base old start one h.cause)
+    receipts h.took_lock others (answered_may command answer (after base initial).map old new.state.work one h.short h.exchanges h.work.right)
+read_follows base command (Err refusal) old new start one h same receipts others = unchanged_follows (Access command) refusal old new h.same same receipts others (inside_may command refusal base old start one h.cause)
 
 pub read_at_follows : (start : Option (List JournalUnit)) (command : DataCommand) (result : Result Answer Refusal) (old new : Held) → old.start ≡ start → 1 ≤ old.state.level → IsReadAt start command result old.state new.state → new.start ≡ old.start → new.receipts ≡ old.receipts
-    → Follows (Access command) (said Answered result) old new
-read_at_follows None command result old new is one h same receipts = absurd h
-read_at_follows (Some base) command result old new is one h same receipts = read_follows base command result old new is one h same receipts
+    → new.others ≡ old.others → Follows (Access command) (said Answered result) old new
+read_at_follows None command result old new is one h same receipts others = absurd h
+read_at_follows (Some base) command result old new is one h same receipts others = read_follows base command result old new is one h same receipts others
 
 -- it is right where it began
 written_at : (command : DataCommand) (start : Option (List JournalUnit)) (old new : JobSession) → 1 ≤ old.level → HasWritten command old new → IsAt start old → IsAt start new
@@ -117,10 +141,10 @@ written_at command (Some base) old new one h at = record {
   work = h.kept.work (after base initial).map at.work;
 }
 
-pub written_follows : (command : DataCommand) (old new : Held) → 1 ≤ old.state.level → HasWritten command old.state new.state → new.start ≡ old.start → new.receipts ≡ old.receipts → Follows (Access command) (Answered Done) old new
-written_follows command old new one h same receipts =
+pub written_follows : (command : DataCommand) (old new : Held) → 1 ≤ old.state.level → HasWritten command old.state new.state → new.start ≡ old.start → new.receipts ≡ old.receipts → new.others ≡ old.others → Follows (Access command) (Answered Done) old new
+written_follows command old new one h same receipts others =
     inside_follows command Done old new one h.level h.kept.exchanges h.kept.job h.restarts (λ at. subst (λ (o : Option (List JournalUnit)). IsAt o new.state) (sym same) (written_at command old.start old.state new.state one h at))
-    receipts (done_may command old new.state.work one h.kept)
+    receipts h.took_lock others (done_may command old new.state.work one h.kept)
 
 -- ---- LOCK
 
@@ -131,6 +155,10 @@ lock_told job (Only names) had s is = refl
 lock_told job (More names) had s is = refl
 lock_told job (Fewer names) had s is = refl
 
+-- the LOCK is the command
+try_asked : (command : LockCommand) (had : Bool) (n : ℕ) (old : Held) (front : List JournalUnit) → AreStillAsked (IsLockOf (lock_command command)) (front ++ units_of old.receipts) (front ++ units_of (after_try n command had old).receipts)
+try_asked command had n old front = more_asked (IsLockOf (lock_command command)) front old.receipts n (lock_unit old.state command had) (λ lines each. each command refl)
+
 pub tried_follows : (command : LockCommand) (had : Bool) (n : ℕ) (old new : Held) → ((command ≡ Release) → had ≡ true) → new ≡ after_try n command had old → Follows (lock_command command) (told_had command had) old new
 tried_follows command had n old new frees is = record {
   whose = ap (λ (h : Held). h.state.work.job) is ∙ tried_job n command had old;
@@ -138,6 +166,13 @@ tried_follows command had n old new frees is = record {
       subst (λ (m : Machine). Stands front m new) (sym (lock_told old.state.work.job command had s frees))
       (subst (λ (h : Held). Stands front (told_lock old.state.work.job command had (transaction_of old.state.work.job s) s) h) (sym is) (tried_told front s old command had n (transaction_of old.state.work.job s) refl stands));
   keeps = λ before later front ts h. subst (λ (x : Held). IsToldIn ts (front ++ units_of x.receipts)) (sym is) (lock_receipt_more ts front old.receipts n (lock_unit old.state command had) (inside_untold old command had before) h);
+  asks = λ front.
+      subst (λ (x : Held). AreStillAsked (IsLockOf (lock_command command)) (front ++ units_of old.receipts) (front ++ units_of x.receipts)) (sym is)
+      (try_asked command had n old front);
+  went = λ k front s stands gone.
+      subst (λ (m : Machine). HasGoneBack k m new) (sym (lock_told old.state.work.job command had s frees))
+      (subst (λ (h : Held). HasGoneBack k (told_lock old.state.work.job command had (transaction_of old.state.work.job s) s) h) (sym is) (lock_has_gone k n s old command had (tried_job n command had old) stands.shows gone));
+  grows = same_count old new (ap (λ (h : Held). h.others) is);
   may = had_may command had old;
 }
 
@@ -150,6 +185,11 @@ blocked_then command reply n old new then = record {
       (then.stands front s (tried_untold front s old command n stands));
   keeps = λ before later front ts h.
       then.keeps (omega (arith, before, tried_level n command false old)) later front ts (lock_receipt_more ts front old.receipts n (lock_unit old.state command false) (blocked_untold old command) h);
+  asks = λ front lines each h. then.asks front lines each (try_asked command false n old front lines each h);
+  went = λ k front s stands gone.
+      subst (λ (j : ℕ). HasGoneBack k (told j (lock_command command) reply s) new) (tried_job n command false old)
+      (then.went k front s (tried_untold front s old command n stands) (tried_has_gone k n s old command (tried_job n command false old) gone));
+  grows = then.grows;
   may = λ never t shows at.
       subst (λ (j : ℕ). IsAllowed j (lock_command command) reply t) (tried_job n command false old) (then.may never t (still_shows (nat_lt 0 old.state.level) old.state t shows) (noted_at old.start old.state at));
 }
@@ -187,6 +227,13 @@ begun_follows base old new level h = record {
       (subst (λ o. Stands front (told_level old.state.work.job 1 o s) (held (just_opened old.state.work.job (length base)) (Some base) old.receipts old.others)) (sym none)
       (told_begun front s (held (just_opened old.state.work.job (length base)) (Some base) old.receipts old.others) 0 refl refl (inl refl) (just_begun_at base old.state.work.job) stands.is_told));
   keeps = λ before later front. absurd (omega (arith, before, level));
+  asks = λ front. held_asked (IsLockOf Start) front old new (ap (λ (x : Held). x.receipts) h.is);
+  went = λ n front s stands gone.
+      let now : Held = held (just_opened old.state.work.job (length base)) (Some base) old.receipts old.others in
+      let none : transaction_of old.state.work.job s ≡ None = shown_none old.state (transaction_of old.state.work.job s) stands.shows level in
+      subst (λ (x : Held). HasGoneBack n (told old.state.work.job Start (AtLevel 1) s) x) (sym h.is)
+      (subst (λ o. HasGoneBack n (told_level old.state.work.job 1 o s) now) (sym none) (begun_back n 0 s now gone.0));
+  grows = same_count old new (ap (λ (x : Held). x.others) h.is);
   may = begun_may old level;
 }
 
@@ -198,6 +245,13 @@ level_follows command level old new tells one some is may = record {
       subst (λ (m : Machine). Stands front m new) (sym (tells s))
       (told_at front s old new level one stands some (ap (λ (x : Held). x.state.level) is) (ap (λ (x : Held). x.state.work.exchanges) is) (ap (λ (x : Held). x.state.work.job) is) (ap (λ (x : Held). x.state.restarts) is) (subst (λ (x : Held). IsAt x.start x.state) (sym is) (level_at level old.start old.state one some stands.begun)) (ap (λ (x : Held). x.receipts) is));
   keeps = λ before later front. same_told old new front (ap (λ (x : Held). x.receipts) is);
+  asks = λ front. held_asked (IsLockOf command) front old new (ap (λ (x : Held). x.receipts) is);
+  went = λ n front s stands gone.
+      let now : Held = held (at_level level old.state) old.start old.receipts old.others in
+      subst (λ (m : Machine). HasGoneBack n m new) (sym (tells s))
+      (subst (λ (x : Held). HasGoneBack n (told_level old.state.work.job level (transaction_of old.state.work.job s) s) x) (sym is)
+      (level_back n s now level (transaction_of old.state.work.job s) refl (same_back n s old now refl (λ took. took) refl gone)));
+  grows = same_count old new (ap (λ (x : Held). x.others) is);
   may = may;
 }
 
@@ -214,6 +268,13 @@ committed_follows units more old new one h = record {
   stands = λ front s stands.
       told_whole front s old new (length units + 1) (omega (arith, one)) stands (ap (λ (x : Held). x.state.level) h.1.1) (ap (λ (x : Held). x.state.restarts) h.1.1) (subst (λ (x : Held). IsAt x.start x.state) (sym h.1.1) refl) (ap (λ (x : Held). x.state.work.job) h.1.1) (ap (λ (x : Held). x.receipts) h.1.1);
   keeps = λ before later front. absurd (omega (arith, later, ap (λ (x : Held). x.state.level) h.1.1));
+  asks = λ front.
+      subst (λ (x : Held). AreStillAsked (IsLockOf Commit) (front ++ units_of old.receipts) (front ++ units_of x.receipts)) (sym h.1.1)
+      (more_asked (IsLockOf Commit) front old.receipts (length units + 1) (whole_of old.state) (λ lines each. tt));
+  went = λ n front s stands gone.
+      subst (λ (x : Held). HasGoneBack n (told_commit old.state.work.job (transaction_of old.state.work.job s) s) x) (sym h.1.1)
+      (commit_back n s (ended (and_receipt (length units + 1) (whole_of old.state) old)) (transaction_of old.state.work.job s) refl gone.0);
+  grows = same_count old new (ap (λ (x : Held). x.others) h.1.1);
   may = committed_may old one;
 }
 
@@ -235,6 +296,11 @@ anew_follows command restarts units old new tells is counted may = record {
       (told_begun front (told_back old.state.work.job (transaction_of old.state.work.job s) s) (begun_anew units old) restarts refl refl (inr (sym (anew_count restarts units old new is counted))) (anew_at units old.state)
       (subst (λ (us : List JournalUnit). IsToldIn us (front ++ units_of old.receipts)) (sym (back_given old.state.work.job (transaction_of old.state.work.job s) s)) stands.is_told)));
   keeps = λ before later front. same_told old new front (ap (λ (x : Held). x.receipts) is);
+  asks = λ front. held_asked (IsLockOf command) front old new (ap (λ (x : Held). x.receipts) is);
+  went = λ n front s stands gone.
+      subst (λ (m : Machine). HasGoneBack n m new) (sym (tells s))
+      (subst (λ (x : Held). HasGoneBack n (begin old.state.work.job restarts (told_back old.state.work.job (transaction_of old.state.work.job s) s)) x) (sym is) (anew_has_gone n restarts units s old gone));
+  grows = went_count (length units) old new (ap (λ (x : Held). x.others) is);
   may = may;
 }
 
@@ -252,5 +318,9 @@ rolled_back_follows n old new one is = record {
       (with_closed front (told_back old.state.work.job (transaction_of old.state.work.job s) s) (rolled_back n old) refl refl refl
       (subst (λ (us : List JournalUnit). IsToldIn us (front ++ units_of old.receipts)) (sym (back_given old.state.work.job (transaction_of old.state.work.job s) s)) stands.is_told));
   keeps = λ before later front. absurd (omega (arith, later, ap (λ (x : Held). x.state.level) is));
+  asks = λ front. held_asked (IsLockOf Rollback) front old new (ap (λ (x : Held). x.receipts) is);
+  went = λ k front s stands gone.
+      subst (λ (x : Held). HasGoneBack k (close old.state.work.job (told_back old.state.work.job (transaction_of old.state.work.job s) s)) x) (sym is) (rolled_has_gone k n s old gone);
+  grows = went_count n old new (ap (λ (x : Held). x.others) is);
   may = rolled_back_may old one;
 }

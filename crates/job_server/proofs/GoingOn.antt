@@ -1,23 +1,22 @@
 -- A job goes on, line by line.
 use Rattle.std.proofs.Common.{◌≡◌, ◌≢◌, ◌⊎◌, inl, inr, ℕ, zero, suc, ◌≤◌, ◌<◌, nat_lt, true, false, List, [], ◌∷◌, ◌++◌, length, take, refl, sym, ap, ◌∙◌, subst, arith, true≢false, append_assoc, append-nil}
-use Rattle.std.specs.FinMap as finmap
-use Rattle.std.specs.Ordering.{nat_cmp}
 use Rattle.std.specs.Prelude.{Option, Some, None, Result, Ok, Err, IfOk, is_some, slice_get}
 use Rattle.std.specs.List.{All}
 use Rattle.std.proofs.lemmas.Bool.{ltb-true, lt-ltb}
 use Rattle.std.proofs.lemmas.Grind.{flat_map-append}
 use Rattle.std.proofs.lemmas.List.Elements.{All-push}
 use Rattle.refusal.specs.declared.Refusal.{Refusal}
+use Rattle.lock_name.specs.declared.lock.LockCommand.{LockCommand}
 use Rattle.command.specs.declared.access.DataCommand.{DataCommand}
 use Rattle.refusal.specs.declared.Refusal.TheVariants.{BadJob, OutOfMemory, StampsUsedUp}
 use Rattle.command.specs.declared.request.Command.{Command}
-use Rattle.command.specs.declared.request.Command.TheVariants.{Access, Start, Commit, Halt}
+use Rattle.command.specs.declared.request.Command.TheVariants.{Access, Lock as lock_command, Start, Commit, Halt}
 use Rattle.command.specs.declared.request.Reply.{Reply}
 use Rattle.command.specs.declared.request.Reply.TheVariants.{Answered, Finished, Had, Count, AtLevel, Committed, Restarted, Refused}
 use Rattle.journal.specs.declared.unit.Unit.{Unit as JournalUnit}
 use Rattle.journal.specs.declared.unit.Unit.TheVariants.{End}
 use Rattle.journal.specs.Kept.{Claim}
-use Rattle.journal.specs.Story.{Transaction, Machine, nothing_done, transaction_of, told, told_level, told_back}
+use Rattle.journal.specs.Story.{Transaction, Machine, transaction_of, told, told_level, told_back}
 use Rattle.serial.specs.laws.ByJob.{get_here, gone_here}
 use Rattle.script.specs.Line.{reading_of}
 use Rattle.job_core.specs.Sessions.{idle}
@@ -31,14 +30,16 @@ use Rattle.job_scripts.specs.Reports.{Answers}
 use Rattle.job_server.specs.declared.cursor.Cursor.{Cursor}
 use Rattle.job_server.specs.declared.cursor.Line.{Line}
 use Rattle.job_server.specs.Causes.{IsAllowed, IsReplyTo}
-use Rattle.job_server.specs.Told.{told_by, told_by_lines, AreRepliesTo, given, IsToldIn, IsAllTold, HasItsEnd, AreOf, IsTold, units_of, units_of_book, units_in}
+use Rattle.job_server.specs.Told.{told_by, told_by_lines, AreRepliesTo, given, IsToldIn, HasItsEnd, OneAsksFor, IsAskedFor, AreAskedFor, units_of, units_of_book, units_in, backs, others_of}
 use Rattle.job_server.specs.Served.{Wanted, IsReport, IsReportAt}
-use Rattle.job_server.specs.Telling.{Shows, Stands, Follows, is_open, units_behind, StandsIn, SessionsSoFar, sessions_so_far, StandsAt, GoesOnUntold, GoesOnBy, MayGoOnAt, IsOvertakenAs, IsNoCommit, HasStopped, IsFault, Running, running, not_begun, Leads, Serves, Keeps, HasAnswered, Advances, Reaches, ServesBlock, HasRun, HasReadAll, AreDataCommands, NoneAgain, HasJustBegun, Begins, IsStillOpen, WasOvertaken, IsBack, GoesOnFrom}
+use Rattle.job_server.specs.Telling.{Shows, Stands, HasItsLock, HasGoneBack, IsNoLock, Follows, is_open, units_behind, backs_behind, StandsIn, SessionsSoFar, sessions_so_far, StandsAt, GoesOnUntold, GoesOnBy, MayGoOnAt, IsOvertakenAs, IsNoCommit, IsFault, Running, running, Leads, Serves, Keeps, HasAnswered, Advances, Reaches, ServesBlock, HasRun, HasReadAll, AreDataCommands, NoneAgain, HasJustBegun, Begins, IsStillOpen, WasOvertaken, IsBack, GoesOnFrom}
 use Rattle.job_server.proofs.Units.{both_more, one_given}
 use Rattle.job_server.proofs.Causes.{asked_may}
 use Rattle.job_server.proofs.Levels.{none_again, none_again_of_data}
 use Rattle.job_server.proofs.Standing.{shown_none}
-use Rattle.job_server.proofs.Doing.{refused_tells, HasTold, block_told, moved_stands, moved_job, reads_keep}
+use Rattle.job_server.proofs.Doing.{refused_tells, HasTold, block_told, block_asks, block_grows, moved_stands, moved_job, moved_receipts, reads_keep}
+use Rattle.job_server.proofs.GoingBack.{same_backs, backs_then, told_then, step_backs, opened_backs, opened_grows, halted_grows, halted_count, moved_has_gone, moved_others}
+use Rattle.job_server.proofs.Asking.{same_asked, one_command, asks_front, asks_behind}
 
 positive : (n : ℕ) → nat_lt 0 n ≡ true → 1 ≤ n
 positive n h = omega (arith, ltb-true 0 n h)
@@ -51,10 +52,14 @@ same_goes job books more session later same_books same_session = record {
   stands = λ s stands. subst (λ (bs : List Book). StandsIn job bs later s) (sym same_books) (subst (λ (h : Option Held). StandsIn job books h s) (sym same_session) stands);
   keeps = λ before after ts h. subst (λ (bs : List Book). IsToldIn ts (units_behind bs later)) (sym same_books) (subst (λ (x : Option Held). IsToldIn ts (units_behind books x)) (sym same_session) h);
   allowed = λ s stands. tt;
+  asks = same_asked IsNoLock (units_behind books session) (units_behind more later)
+      (ap (λ (bs : List Book). units_behind bs later) same_books ∙ ap (λ (x : Option Held). units_behind books x) same_session);
+  grows = same_backs (sessions_so_far books session) (sessions_so_far more later)
+      (ap (λ (bs : List Book). backs_behind bs later) same_books ∙ ap (λ (x : Option Held). backs_behind books x) same_session);
 }
 
 pub none_goes : (job : ℕ) (now : SessionsSoFar) → GoesOnUntold job now now
-none_goes job now = record { stands = λ s stands. stands; keeps = λ before after ts h. h; allowed = λ s stands. tt }
+none_goes job now = record { stands = λ s stands. stands; keeps = λ before after ts h. h; allowed = λ s stands. tt; asks = λ lines each h. h; grows = same_backs now now refl }
 
 -- from the same sessions
 pub goes_from : (job : ℕ) (command : Command) (reply : Reply) (same old new : SessionsSoFar) → same ≡ old → GoesOnBy job command reply same new → GoesOnBy job command reply old new
@@ -69,6 +74,8 @@ refused_goes job line refusal old new fault h = record {
   stands = λ s stands. subst (λ (m : Machine). StandsIn job new.books new.session m) (sym (refused_tells job (reading_of line) refusal s)) (h.stands s stands);
   keeps = h.keeps;
   allowed = λ s stands never. fault (transaction_of job s);
+  asks = λ lines each asked. h.asks lines (λ c none. absurd none) asked;
+  grows = h.grows;
 }
 
 -- what a line tells is what its command tells
@@ -77,6 +84,8 @@ asked_goes job line command reply old new asks h = record {
   stands = λ s stands. subst (λ (r : Result (ℕ × Command) Refusal). StandsIn job new.books new.session (told_by job r reply s)) (sym asks.1) (h.stands s stands);
   keeps = h.keeps;
   allowed = λ s stands never. asked_may job line command reply (transaction_of job s) asks (h.allowed s stands never);
+  asks = λ lines each asked. h.asks lines (λ c is. each c (subst (λ (x : Command). Asks line x) is asks)) asked;
+  grows = h.grows;
 }
 
 -- a session begins
@@ -86,24 +95,39 @@ opened_goes job books = record {
     stands.0,
     (
       refl,
-      record {
-        shows = subst (λ (o : Option Transaction). Shows (idle job) o) (sym stands.1.0) (refl, refl);
-        begun = refl;
-        is_told = subst (λ (us : List JournalUnit). IsToldIn (given s) us) (sym (append-nil (units_in books))) stands.1.1;
-      },
+      (
+        record {
+          shows = subst (λ (o : Option Transaction). Shows (idle job) o) (sym stands.1.0) (refl, refl);
+          begun = refl;
+          is_told = subst (λ (us : List JournalUnit). IsToldIn (given s) us) (sym (append-nil (units_in books))) stands.1.1.0;
+        },
+        (opened_backs books (backs s.units) stands.1.1.1, subst (λ (o : Option Transaction). HasItsLock (idle job) o) (sym stands.1.0) tt),
+      ),
     ),
   );
   keeps = λ before after. absurd (true≢false (sym before));
   allowed = λ s stands. tt;
+  asks = same_asked IsNoLock (units_in books) (units_in books ++ []) (append-nil (units_in books));
+  grows = opened_grows books;
 }
 
 -- a step of a session
 pub step_goes : (job : ℕ) (books : List Book) (command : Command) (reply : Reply) (old new : Held) → Follows command reply old new → GoesOnBy job command reply (sessions_so_far books (Some old)) (sessions_so_far books (Some new))
 step_goes job books command reply old new h = record {
-  stands = λ s stands.
-      (stands.0, (h.whose ∙ stands.1.0, subst (λ (j : ℕ). Stands (units_in books) (told j command reply s) new) stands.1.0 (h.stands (units_in books) s stands.1.1)));
+  stands = λ s stands. (
+    stands.0,
+    (
+      h.whose ∙ stands.1.0,
+      (
+        subst (λ (j : ℕ). Stands (units_in books) (told j command reply s) new) stands.1.0 (h.stands (units_in books) s stands.1.1.0),
+        subst (λ (j : ℕ). HasGoneBack (backs (others_of books)) (told j command reply s) new) stands.1.0 (h.went (backs (others_of books)) (units_in books) s stands.1.1.0 stands.1.1.1),
+      ),
+    ),
+  );
   keeps = λ before after. h.keeps (positive old.state.level before) (positive new.state.level after) (units_in books);
-  allowed = λ s stands never. subst (λ (j : ℕ). IsAllowed j command reply (transaction_of j s)) stands.1.0 (h.may never (transaction_of old.state.work.job s) stands.1.1.shows stands.1.1.begun);
+  allowed = λ s stands never. subst (λ (j : ℕ). IsAllowed j command reply (transaction_of j s)) stands.1.0 (h.may never (transaction_of old.state.work.job s) stands.1.1.0.shows stands.1.1.0.begun);
+  asks = h.asks (units_in books);
+  grows = step_backs books old new h.grows;
 }
 
 -- one step behind another that tells nothing
@@ -112,13 +136,15 @@ then_goes job command reply old middle new first stays second = record {
   stands = λ s stands. second.stands s (first.stands s stands);
   keeps = λ before after ts h. second.keeps (stays before) after ts (first.keeps before (stays before) ts h);
   allowed = λ s stands. second.allowed s (first.stands s stands);
+  asks = λ lines each asked. second.asks lines each (first.asks lines (λ c none. absurd none) asked);
+  grows = backs_then old middle new first.grows second.grows;
 }
 
 -- HALT
 pub halt_refused : (job : ℕ) (books more : List Book) (session later : Option Held) (refusal : Refusal) → more ≡ books → later ≡ session → (refusal ≡ OutOfMemory) ⊎ (refusal ≡ StampsUsedUp) → GoesOnBy job Halt (Refused refusal) (sessions_so_far books session) (sessions_so_far more later)
 halt_refused job books more session later refusal same_books same_session room =
     let h : GoesOnUntold job (sessions_so_far books session) (sessions_so_far more later) = same_goes job books more session later same_books same_session in
-    record { stands = h.stands; keeps = h.keeps; allowed = λ s stands never. room }
+    record { stands = h.stands; keeps = h.keeps; allowed = λ s stands never. room; asks = λ lines each asked. h.asks lines (λ c none. absurd none) asked; grows = h.grows }
 
 pub halted_some : (job n : ℕ) (books : List Book) (h : Held) → GoesOnBy job Halt Finished (sessions_so_far books (Some h)) (sessions_so_far (books ++ halted n h ∷ []) None)
 halted_some job n books h = record {
@@ -126,13 +152,19 @@ halted_some job n books h = record {
     All-push (λ (b : Book). (b.job ≡ job) × HasItsEnd b) books (halted n h) stands.0 (stands.1.0, (h.others, n, refl)),
     (
       gone_here s.transactions job,
-      subst (λ (us : List JournalUnit). IsToldIn us (units_in (books ++ halted n h ∷ []))) (sym (one_given s.units (End job) refl))
-          (subst (λ (us : List JournalUnit). IsToldIn (given s ++ End job ∷ []) us) (sym all_units)
-          (subst (λ (j : ℕ). IsToldIn (given s ++ End job ∷ []) ((units_in books ++ units_of h.receipts) ++ End j ∷ [])) (sym stands.1.0) (both_more (given s) (units_in books ++ units_of h.receipts) (End job) stands.1.1.is_told))),
+      (
+        subst (λ (us : List JournalUnit). IsToldIn us (units_in (books ++ halted n h ∷ []))) (sym (one_given s.units (End job) refl))
+            (subst (λ (us : List JournalUnit). IsToldIn (given s ++ End job ∷ []) us) (sym all_units)
+            (subst (λ (j : ℕ). IsToldIn (given s ++ End job ∷ []) ((units_in books ++ units_of h.receipts) ++ End j ∷ [])) (sym stands.1.0) (both_more (given s) (units_in books ++ units_of h.receipts) (End job) stands.1.1.0.is_told))),
+        halted_count n job books h s.units stands.1.1.1.0,
+      ),
     ),
   );
   keeps = λ before after. absurd (true≢false (sym after));
   allowed = λ s stands never. refl;
+  asks = λ lines each asked.
+      subst (λ (us : List JournalUnit). AreAskedFor lines us) (sym all_units) (All-push (IsAskedFor lines) (units_in books ++ units_of h.receipts) (End h.state.work.job) asked tt);
+  grows = halted_grows n books h;
 }
   where
     all_units : units_in (books ++ halted n h ∷ []) ≡ (units_in books ++ units_of h.receipts) ++ End h.state.work.job ∷ []
@@ -165,6 +197,9 @@ serves_then job lines middle rest old between new h k = record {
   replied = k.replied ∙ (ap (λ (rs : List Reply). rs ++ k.their_replies) h.replied ∙ append_assoc old.replies h.their_replies k.their_replies);
   leads = λ s stands. (let first : Leads job h.lines_done h.their_replies s between.sessions = h.leads s stands in
       leads_then job h.lines_done k.lines_done h.their_replies k.their_replies s between.sessions new.sessions first (k.leads first.machine first.stands));
+  asks = λ all each asked.
+      k.asks all (λ c later. each c (subst (λ (ls : List (List ℕ)). OneAsksFor ls c) (sym h.split) (asks_behind h.lines_done middle c later))) (h.asks all each asked);
+  grows = backs_then old.sessions between.sessions new.sessions h.grows k.grows;
 }
 
 -- no line
@@ -175,6 +210,8 @@ serves_none job lines now = record {
   split = refl;
   replied = sym (append-nil now.replies);
   leads = λ s stands. record { machine = s; led = λ left later. refl; replies_are = λ left later rest. rest; stands = stands };
+  asks = λ all each asked. asked;
+  grows = same_backs now.sessions now.sessions refl;
 }
 
 pub reaches_none : (job : ℕ) (text : List ℕ) (place : Cursor) (now : Running) → place.lines.now ≡ text → Reaches job text place now now
@@ -210,6 +247,8 @@ answered_serves job line rest old new h = record {
   split = refl;
   replied = h.replied;
   leads = λ s stands. answered_leads job line.text.now h.reply s new.sessions (h.goes.stands s stands) (h.goes.allowed s stands);
+  asks = λ all each asked. h.goes.asks all (λ c asks. each c (inl asks)) asked;
+  grows = h.goes.grows;
 }
 
 pub answered_advances : (job : ℕ) (line : Line) (old new : Running) → HasAnswered job line old new → Advances job line line.next old new
@@ -223,7 +262,7 @@ pub has_answered_as : (job : ℕ) (line : Line) (asked : Result Command Refusal)
 has_answered_as job line asked reply old new replied goes never = record {
   reply = reply;
   replied = replied;
-  goes = record { stands = goes.stands; keeps = goes.keeps; allowed = λ s stands. goes.allowed s stands never };
+  goes = record { stands = goes.stands; keeps = goes.keeps; allowed = λ s stands. goes.allowed s stands never; asks = goes.asks; grows = goes.grows };
 }
 
 -- one that is no TCOMMIT
@@ -252,6 +291,8 @@ was_overtaken job line reply old new asks goes again = (
         (subst (λ (r : Result (ℕ × Command) Refusal). StandsAt job new.sessions (told_by job r reply s)) asks.1 (goes.stands s stands));
     keeps = goes.keeps;
     allowed = λ s stands never. absurd (never (refl, again.1, refl));
+    asks = λ lines each asked. goes.asks lines (λ c lock. each c (one_command line Commit (lock_command c) asks lock)) asked;
+    grows = goes.grows;
   },
 )
 
@@ -259,34 +300,43 @@ was_overtaken job line reply old new asks goes again = (
 
 -- done from a session that stands so
 block_from : (job : ℕ) (before rest : List (List ℕ)) (places : List (Option Refusal)) (commands : List Command) (served replies more_replies : List Reply) (books : List Book) (units more : List JournalUnit) (old start new : Held)
-    → AreInFront before rest places commands → ((s : Machine) → StandsIn job books (Some old) s → StandsIn job books (Some start) s) → AreDone commands served units more start new → NoneAgain commands served → more_replies ≡ replies ++ in_place places served
+    → AreInFront before rest places commands → start.receipts ≡ old.receipts → start.others ≡ old.others → ((s : Machine) → StandsIn job books (Some old) s → StandsIn job books (Some start) s) → AreDone commands served units more start new → NoneAgain commands served → more_replies ≡ replies ++ in_place places served
     → Serves job before rest (running replies (sessions_so_far books (Some old))) (running more_replies (sessions_so_far books (Some new)))
-block_from job before rest places commands served replies more_replies books units more old start new in_front moves done never is = record {
+block_from job before rest places commands served replies more_replies books units more old start new in_front same others moves done never is = record {
   lines_done = in_front.front;
   their_replies = in_place places served;
   split = in_front.split;
   replied = is;
   leads = λ s stands. (let from : StandsIn job books (Some start) s = moves s stands in
-      let h : HasTold job (units_in books) in_front.front (in_place places served) s new = block_told job (units_in books) in_front.front places commands served units more start new s in_front.asked done never from.1.0 from.1.1 in
-      record { machine = h.machine; led = h.led; replies_are = h.replies_are; stands = (from.0, (h.whose, h.stands)) });
+      let n : ℕ = backs (others_of books) in
+      let h : HasTold job n (units_in books) in_front.front (in_place places served) s new = block_told job n (units_in books) in_front.front places commands served units more start new s in_front.asked done never from.1.0 from.1.1.0 from.1.1.1 in
+      record { machine = h.machine; led = h.led; replies_are = h.replies_are; stands = (from.0, (h.whose, (h.stands, h.gone))) });
+  asks = λ all each asked.
+      block_asks (units_in books) in_front.front places commands served units more start new in_front.asked done never all
+      (λ c asks. each c (subst (λ (ls : List (List ℕ)). OneAsksFor ls c) (sym in_front.split) (asks_front in_front.front rest c asks)))
+      (subst (λ (cs : List Claim). AreAskedFor all (units_in books ++ units_of cs)) (sym same) asked);
+  grows = step_backs books old new (subst (λ (cs : List Claim). backs (units_of cs) ≤ backs (units_of new.others)) others (block_grows commands served units more start new done never));
 }
 
 moved_on : (job : ℕ) (books : List Book) (units : List JournalUnit) (old : Held) (s : Machine) → IsReady old → StandsIn job books (Some old) s → StandsIn job books (Some (moved_open units old)) s
-moved_on job books units old s ready stands = (stands.0, (moved_job units old ∙ stands.1.0, moved_stands (units_in books) units s old ready stands.1.1))
+moved_on job books units old s ready stands = (
+  stands.0,
+  (moved_job units old ∙ stands.1.0, (moved_stands (units_in books) units s old ready stands.1.1.0, moved_has_gone (backs (others_of books)) units s old stands.1.1.1)),
+)
 
 pub run_serves : (job : ℕ) (before rest : List (List ℕ)) (places : List (Option Refusal)) (commands : List Command) (served replies more_replies : List Reply) (books : List Book) (session later : Option Held) → AreInFront before rest places commands
     → HasRun commands served session later → more_replies ≡ replies ++ in_place places served → Serves job before rest (running replies (sessions_so_far books session)) (running more_replies (sessions_so_far books later))
 run_serves job before rest places commands served replies more_replies books None later in_front run is = absurd run
 run_serves job before rest places commands served replies more_replies books (Some old) None in_front run is = absurd run
 run_serves job before rest places commands served replies more_replies books (Some old) (Some new) in_front run is =
-    block_from job before rest places commands served replies more_replies books run.2 run.3 old (moved_open run.2 old) new in_front (λ s stands. moved_on job books run.2 old s run.0 stands) run.5 (none_again commands served run.2 run.3 old new run.1 run.5) is
+    block_from job before rest places commands served replies more_replies books run.2 run.3 old (moved_open run.2 old) new in_front (moved_receipts run.2 old) (moved_others run.2 old) (λ s stands. moved_on job books run.2 old s run.0 stands) run.5 (none_again commands served run.2 run.3 old new run.1 run.5) is
 
 pub reads_serve : (job : ℕ) (before rest : List (List ℕ)) (places : List (Option Refusal)) (commands : List Command) (served replies more_replies : List Reply) (books : List Book) (session later : Option Held) → AreDataCommands commands → AreInFront before rest places commands
     → HasReadAll commands served session later → more_replies ≡ replies ++ in_place places served → Serves job before rest (running replies (sessions_so_far books session)) (running more_replies (sessions_so_far books later))
 reads_serve job before rest places commands served replies more_replies books None later all in_front reads is = absurd reads
 reads_serve job before rest places commands served replies more_replies books (Some old) None all in_front reads is = absurd reads
 reads_serve job before rest places commands served replies more_replies books (Some old) (Some new) all in_front reads is =
-    block_from job before rest places commands served replies more_replies books reads.1 reads.1 old old new in_front (λ s stands. stands) reads.3 (none_again_of_data commands served all) is
+    block_from job before rest places commands served replies more_replies books reads.1 reads.1 old old new in_front refl refl (λ s stands. stands) reads.3 (none_again_of_data commands served all) is
 
 -- reads of a transaction leave the receipts as they are
 pub reads_keep_all : (commands : List Command) (served replies more_replies : List Reply) (books : List Book) (session later : Option Held) → All (λ (c : Command). (d : DataCommand) × (c ≡ Access d)) commands → HasReadAll commands served session later
@@ -325,6 +375,8 @@ opened_advances job line behind same old middle new is replied opened h = subst 
     split = h.serves.split;
     replied = h.serves.replied ∙ ap (λ (rs : List Reply). rs ++ h.serves.their_replies) replied;
     leads = λ s stands. h.serves.leads s (opened.stands s stands);
+    asks = λ all each asked. h.serves.asks all each (opened.asks all (λ c none. absurd none) asked);
+    grows = backs_then same.sessions middle.sessions new.sessions opened.grows h.serves.grows;
   };
 })
 
@@ -337,13 +389,13 @@ opened_keeps job same old middle new is opened stays keeps = subst (λ (x : Runn
 open_level : (job : ℕ) (books : List Book) (session : Option Held) (s : Machine) → StandsIn job books session s → is_open session ≡ true → transaction_of job s ≡ None → ⊥
 open_level job books None s stands open_now none = true≢false (sym open_now)
 open_level job books (Some h) s stands open_now none =
-    let level : h.state.level ≡ 0 = (subst (λ (o : Option Transaction). Shows h.state o) (ap (λ (j : ℕ). transaction_of j s) stands.1.0 ∙ none) stands.1.1.shows).0 in
+    let level : h.state.level ≡ 0 = (subst (λ (o : Option Transaction). Shows h.state o) (ap (λ (j : ℕ). transaction_of j s) stands.1.0 ∙ none) stands.1.1.0.shows).0 in
     true≢false (sym open_now ∙ ap (λ (n : ℕ). nat_lt 0 n) level)
 
 closed_none : (job : ℕ) (books : List Book) (session : Option Held) (s : Machine) → StandsIn job books session s → is_open session ≡ false → transaction_of job s ≡ None
 closed_none job books None s stands closed = stands.1.0
 closed_none job books (Some h) s stands closed =
-    sym (ap (λ (j : ℕ). transaction_of j s) stands.1.0) ∙ shown_none h.state (transaction_of h.state.work.job s) stands.1.1.shows (by_test h.state.level closed)
+    sym (ap (λ (j : ℕ). transaction_of j s) stands.1.0) ∙ shown_none h.state (transaction_of h.state.work.job s) stands.1.1.0.shows (by_test h.state.level closed)
   where
     by_test : (n : ℕ) → nat_lt 0 n ≡ false → n ≡ 0
     by_test zero e = refl
@@ -356,7 +408,7 @@ begun_by job (Had had) s none some = absurd (some none)
 begun_by job (Count n) s none some = absurd (some none)
 begun_by job (AtLevel level) s none some =
     subst (λ (o : Option Transaction). HasJustBegun (transaction_of job (told_level job level o s))) (sym none)
-    (subst (λ (o : Option Transaction). HasJustBegun o) (sym (get_here s.transactions job (record { level = 1; restarts = 0; start = length s.units; exchanges = []; took_lock = false }))) (refl, (refl, refl)))
+    (subst (λ (o : Option Transaction). HasJustBegun o) (sym (get_here s.transactions job (record { level = 1; restarts = 0; start = length s.units; exchanges = []; took_lock = false }))) (refl, (refl, (refl, refl))))
 begun_by job Committed s none some = absurd (some none)
 begun_by job (Restarted restarts) s none some = absurd (some none)
 begun_by job (Refused refusal) s none some = absurd (some none)
@@ -367,23 +419,26 @@ just_begun job reply old new s stands closed now open_now =
 
 -- a TCOMMIT that has begun it anew: the session stands as behind the TSTART
 pub begun_again : (job : ℕ) (restarts : ℕ) (books : List Book) (session : Option Held) (s first : Machine) → StandsIn job books session (told job Commit (Restarted restarts) s) → HasJustBegun (transaction_of job first) → IsToldIn (given first) (units_behind books session)
-    → StandsIn job books session first
-begun_again job restarts books None s first stands begun is_told =
+    → backs first.units ≤ backs_behind books session → StandsIn job books session first
+begun_again job restarts books None s first stands begun is_told count =
     let some : transaction_of job (told job Commit (Restarted restarts) s) ≡ Some (record { level = 1; restarts = restarts; start = length (told_back job (transaction_of job s) s).units; exchanges = []; took_lock = false }) =
     get_here (told_back job (transaction_of job s) s).transactions job (record { level = 1; restarts = restarts; start = length (told_back job (transaction_of job s) s).units; exchanges = []; took_lock = false }) in
     absurd (is_none (sym stands.1.0 ∙ some))
   where
     is_none : {t : Transaction} → None ≡ Some t → ⊥
     is_none {t} e = true≢false (sym (ap is_some e))
-begun_again job restarts books (Some h) s first stands begun is_told = (
+begun_again job restarts books (Some h) s first stands begun is_told count = (
   stands.0,
   (
     stands.1.0,
-    record {
-      shows = subst (λ (j : ℕ). Shows h.state (transaction_of j first)) (sym stands.1.0) (shows_begun (transaction_of job first) begun);
-      begun = stands.1.1.begun;
-      is_told = is_told;
-    },
+    (
+      record {
+        shows = subst (λ (j : ℕ). Shows h.state (transaction_of j first)) (sym stands.1.0) (shows_begun (transaction_of job first) begun);
+        begun = stands.1.1.0.begun;
+        is_told = is_told;
+      },
+      (count, subst (λ (j : ℕ). HasItsLock h.state (transaction_of j first)) (sym stands.1.0) (lock_begun (transaction_of job first) begun)),
+    ),
   ),
 )
   where
@@ -392,21 +447,30 @@ begun_again job restarts books (Some h) s first stands begun is_told = (
 
     now : Shows h.state (Some t)
     now = subst (λ (o : Option Transaction). Shows h.state o) (get_here (told_back job (transaction_of job s) s).transactions job t)
-        (subst (λ (j : ℕ). Shows h.state (transaction_of j (told job Commit (Restarted restarts) s))) stands.1.0 stands.1.1.shows)
+        (subst (λ (j : ℕ). Shows h.state (transaction_of j (told job Commit (Restarted restarts) s))) stands.1.0 stands.1.1.0.shows)
 
     shows_begun : (o : Option Transaction) → HasJustBegun o → Shows h.state o
     shows_begun None b = absurd b
-    shows_begun (Some x) b = (now.0, (now.1.0 ∙ sym b.0, (now.1.1.0 ∙ sym b.1.0, inl b.1.1)))
+    shows_begun (Some x) b = (now.0, (now.1.0 ∙ sym b.0, (now.1.1.0 ∙ sym b.1.0, inl b.1.1.0)))
+
+    lock_begun : (o : Option Transaction) → HasJustBegun o → HasItsLock h.state o
+    lock_begun None b = absurd b
+    lock_begun (Some x) b = λ took. absurd (true≢false (sym took ∙ b.1.1.1))
 
 -- what is told where the job stands
 told_in : (job : ℕ) (books : List Book) (session : Option Held) (s : Machine) → StandsIn job books session s → IsToldIn (given s) (units_behind books session)
-told_in job books None s stands = stands.1.1
-told_in job books (Some h) s stands = stands.1.1.is_told
+told_in job books None s stands = stands.1.1.0
+told_in job books (Some h) s stands = stands.1.1.0.is_told
+
+-- and went back
+gone_in : (job : ℕ) (books : List Book) (session : Option Held) (s : Machine) → StandsIn job books session s → backs s.units ≤ backs_behind books session
+gone_in job books None s stands = stands.1.1.1
+gone_in job books (Some h) s stands = stands.1.1.1.0
 
 some_open : (job : ℕ) (books : List Book) (session : Option Held) (s : Machine) (t : Transaction) → StandsIn job books session s → transaction_of job s ≡ Some t → is_open session ≡ true
 some_open job books None s t stands some = absurd (true≢false (sym (ap is_some (sym stands.1.0 ∙ some))))
 some_open job books (Some h) s t stands some =
-    let shows : Shows h.state (Some t) = subst (λ (o : Option Transaction). Shows h.state o) (ap (λ (j : ℕ). transaction_of j s) stands.1.0 ∙ some) stands.1.1.shows in
+    let shows : Shows h.state (Some t) = subst (λ (o : Option Transaction). Shows h.state o) (ap (λ (j : ℕ). transaction_of j s) stands.1.0 ∙ some) stands.1.1.0.shows in
     lt-ltb 0 h.state.level (omega (arith, shows.0))
 
 open_where_begun : (job : ℕ) (books : List Book) (session : Option Held) (s : Machine) → StandsIn job books session s → HasJustBegun (transaction_of job s) → is_open session ≡ true
@@ -416,13 +480,15 @@ open_where_begun job books session s stands just = by_case (transaction_of job s
     by_case None is begun = absurd begun
     by_case (Some t) is begun = some_open job books session s t stands is
 
-pub begins : (job : ℕ) (line : Line) (old new : Running) → Asks line.text.now Start → HasAnswered job line old new → is_open old.sessions.session ≡ false → is_open new.sessions.session ≡ true → Begins job old new
+pub begins : (job : ℕ) (line : Line) (old new : Running) → Asks line.text.now Start → HasAnswered job line old new → is_open old.sessions.session ≡ false → is_open new.sessions.session ≡ true → Begins job line old new
 begins job line old new asks h closed now = record {
   reply = h.reply;
   replied = h.replied;
   stands = λ s stands. (on s stands, just_begun job h.reply old.sessions new.sessions s stands closed (on s stands) now);
   allowed = λ s stands.
       by_reply s stands (subst (λ (r : Result (ℕ × Command) Refusal). IsReplyTo job r h.reply (transaction_of job s)) asks.1 (h.goes.allowed s stands));
+  asks = λ all each asked. h.goes.asks all (λ c lock. each c (inl lock)) asked;
+  grows = h.goes.grows;
 }
   where
     on : (s : Machine) → StandsAt job old.sessions s → StandsAt job new.sessions (told job Start h.reply s)
@@ -435,43 +501,60 @@ begins job line old new asks h closed now = record {
         absurd (subst (λ (o : Option Transaction). HasJustBegun o) (closed_none job old.sessions.books old.sessions.session s stands closed)
         (subst (λ (r : Reply). HasJustBegun (transaction_of job (told job Start r s))) other.0 (just_begun job h.reply old.sessions new.sessions s stands closed (on s stands) now)))
 
-begins_serves : (job : ℕ) (line : List ℕ) (rest : List (List ℕ)) (old new : Running) → Asks line Start → Begins job old new → Serves job (line ∷ rest) rest old new
-begins_serves job line rest old new asks h = record {
-  lines_done = line ∷ [];
+begins_serves : (job : ℕ) (line : Line) (old new : Running) → Asks line.text.now Start → Begins job line old new → Serves job (line.text.now ∷ lines_of_script line.next.lines.now) (lines_of_script line.next.lines.now) old new
+begins_serves job line old new asks h = record {
+  lines_done = line.text.now ∷ [];
   their_replies = h.reply ∷ [];
   split = refl;
   replied = h.replied;
-  leads = λ s stands. answered_leads job line h.reply s new.sessions
+  leads = λ s stands. answered_leads job line.text.now h.reply s new.sessions
       (subst (λ (r : Result (ℕ × Command) Refusal). StandsIn job new.sessions.books new.sessions.session (told_by job r h.reply s)) (sym asks.1) (h.stands s stands).0)
-      (asked_may job line Start h.reply (transaction_of job s) asks (h.allowed s stands));
+      (asked_may job line.text.now Start h.reply (transaction_of job s) asks (h.allowed s stands));
+  asks = h.asks;
+  grows = h.grows;
 }
 
 -- the same behind a try
-pub begins_again : (job : ℕ) (old middle tried new : Running) → Begins job old middle → IsBack job middle tried → new.sessions ≡ tried.sessions → new.replies ≡ middle.replies → Begins job old new
-begins_again job old middle tried new h back kept same = record {
+pub begins_again : (job : ℕ) (line : Line) (old middle tried new : Running) → Begins job line old middle → IsBack job line.next.lines.now middle tried → new.sessions ≡ tried.sessions → new.replies ≡ middle.replies → Begins job line old new
+begins_again job line old middle tried new h back kept same = record {
   reply = h.reply;
   replied = same ∙ h.replied;
-  stands = λ s stands. (subst (λ (x : SessionsSoFar). StandsIn job x.books x.session (told job Start h.reply s)) (sym kept) (back (told job Start h.reply s) (h.stands s stands).0 (h.stands s stands).1), (h.stands s stands).1);
+  stands = λ s stands. (subst (λ (x : SessionsSoFar). StandsIn job x.books x.session (told job Start h.reply s)) (sym kept) (back.0 (told job Start h.reply s) (h.stands s stands).0 (h.stands s stands).1), (h.stands s stands).1);
   allowed = h.allowed;
+  asks = λ all each asked.
+      subst (λ (x : SessionsSoFar). AreAskedFor all (units_behind x.books x.session)) (sym kept) (back.1.0 all (λ c later. each c (inr later)) (h.asks all each asked));
+  grows = subst (λ (x : SessionsSoFar). backs_behind old.sessions.books old.sessions.session ≤ backs_behind x.books x.session) (sym kept) (backs_then old.sessions middle.sessions tried.sessions h.grows back.1.1);
 }
 
 -- the lines behind the TSTART were done
-pub begins_advances : (job : ℕ) (line : Line) (behind : Cursor) (old middle new : Running) → Asks line.text.now Start → Begins job old middle → Reaches job line.next.lines.now behind middle new → Advances job line behind old new
+pub begins_advances : (job : ℕ) (line : Line) (behind : Cursor) (old middle new : Running) → Asks line.text.now Start → Begins job line old middle → Reaches job line.next.lines.now behind middle new → Advances job line behind old new
 begins_advances job line behind old middle new asks h reached = record {
   fewer = reached.fewer;
-  serves = serves_then job (line.text.now ∷ lines_of_script line.next.lines.now) (lines_of_script line.next.lines.now) (lines_of_script behind.lines.now) old middle new (begins_serves job line.text.now (lines_of_script line.next.lines.now) old middle asks h) reached.serves;
+  serves = serves_then job (line.text.now ∷ lines_of_script line.next.lines.now) (lines_of_script line.next.lines.now) (lines_of_script behind.lines.now) old middle new (begins_serves job line old middle asks h) reached.serves;
 }
 
 -- the TCOMMIT of a try found that it was overtaken
-pub is_back : (job : ℕ) (text : List ℕ) (place : Cursor) (old middle new : Running) → Reaches job text place old middle → IsStillOpen old middle → WasOvertaken job middle new → IsBack job old new
-is_back job text place old middle new h still over first stands just =
+stands_back : (job : ℕ) (text : List ℕ) (place : Cursor) (old middle new : Running) → Reaches job text place old middle → IsStillOpen old middle → WasOvertaken job middle new → (first : Machine) → StandsAt job old.sessions first → HasJustBegun (transaction_of job first)
+    → StandsAt job new.sessions first
+stands_back job text place old middle new h still over first stands just =
     let led : Leads job h.serves.lines_done h.serves.their_replies first middle.sessions = h.serves.leads first stands in
     let now : is_open old.sessions.session ≡ true = open_where_begun job old.sessions.books old.sessions.session first stands just in
     let s : Machine = led.machine in
     let after : StandsIn job new.sessions.books new.sessions.session (told job Commit (Restarted over.1) s) = over.2.stands s led.stands in
     let begun : Transaction = record { level = 1; restarts = over.1; start = length (told_back job (transaction_of job s) s).units; exchanges = []; took_lock = false } in
     let later : is_open new.sessions.session ≡ true = some_open job new.sessions.books new.sessions.session (told job Commit (Restarted over.1) s) begun after (get_here (told_back job (transaction_of job s) s).transactions job begun) in
+    let kept : backs_behind old.sessions.books old.sessions.session ≤ backs_behind new.sessions.books new.sessions.session = backs_then old.sessions middle.sessions new.sessions h.serves.grows over.2.grows in
     begun_again job over.1 new.sessions.books new.sessions.session s first after just (over.2.keeps (still now).0 later (given first) ((still now).1 (given first) (told_in job old.sessions.books old.sessions.session first stands)))
+    (told_then (backs first.units) old.sessions new.sessions (gone_in job old.sessions.books old.sessions.session first stands) kept)
+
+pub is_back : (job : ℕ) (text : List ℕ) (place : Cursor) (old middle new : Running) → Reaches job text place old middle → IsStillOpen old middle → WasOvertaken job middle new → IsBack job text old new
+is_back job text place old middle new h still over = (
+  (λ first stands just. stands_back job text place old middle new h still over first stands just),
+  ((λ all each asked. over.2.asks all (λ c is. absurd (is_no_lock c is)) (h.serves.asks all each asked)), backs_then old.sessions middle.sessions new.sessions h.serves.grows over.2.grows),
+)
+  where
+    is_no_lock : (c : LockCommand) → Commit ≡ lock_command c → ⊥
+    is_no_lock c is = absurd (cc)
 
 pub tried_replies : (job : ℕ) (text : List ℕ) (place : Cursor) (old middle new : Running) → Reaches job text place old middle → WasOvertaken job middle new → GoesOnFrom old.replies new.replies
 tried_replies job text place old middle new h over = (h.serves.their_replies, over.0 ∙ h.serves.replied)
@@ -497,28 +580,7 @@ cut_back old tried now kept more is cut = cut ∙ (ap (λ (k : ℕ). take k trie
 pub reaches_replies : (job : ℕ) (text : List ℕ) (place : Cursor) (old new : Running) → Reaches job text place old new → GoesOnFrom old.replies new.replies
 reaches_replies job text place old new h = (h.serves.their_replies, h.serves.replied)
 
--- ---- the end
-
--- the job's session has ended, where it had one
-all_told : (job : ℕ) (s : Machine) (old new : SessionsSoFar) → StandsAt job old s → HasStopped job old new → AreOf job new.books × IsAllTold job (given s) (units_in new.books)
-all_told job s old new stands (inl same) =
-    let now : StandsIn job new.books None s = subst (λ (x : SessionsSoFar). StandsIn job x.books None s) (sym same.0) (subst (λ (o : Option Held). StandsIn job old.books o s) same.1 stands) in
-    (now.0, inl now.1.1)
-all_told job s old new stands (inr halted) =
-    let now : StandsIn job new.books None (told job Halt Finished s) = subst (λ (o : Option Held). StandsIn job new.books o (told job Halt Finished s)) halted.1 (halted.0.stands s stands) in
-    (now.0, inr (subst (λ (us : List JournalUnit). IsToldIn us (units_in new.books)) (one_given s.units (End job) refl) now.1.1))
-
-pub run_told : (job : ℕ) (text : List ℕ) (old new : Running) (later : SessionsSoFar) → old ≡ not_begun → Serves job (lines_of_script text) [] old new → HasStopped job new.sessions later → IsTold (Some job) text new.replies later.books
-run_told job text old new later first serves stopped =
-    let h : Serves job (lines_of_script text) [] not_begun new = subst (λ (x : Running). Serves job (lines_of_script text) [] x new) first serves in
-    let led : Leads job h.lines_done h.their_replies nothing_done new.sessions = h.leads nothing_done ((λ k d lt. absurd (omega (arith, lt))), (finmap.get-empty nat_cmp job, tt)) in
-    let s : Machine = led.machine in
-    let over : AreOf job later.books × IsAllTold job (given s) (units_in later.books) = all_told job s new.sessions later led.stands stopped in
-    let machine : told_by_lines job (lines_of_script text) new.replies nothing_done ≡ s = ap (λ (ls : List (List ℕ)). told_by_lines job ls new.replies nothing_done) h.split
-    ∙ (ap (λ (rs : List Reply). told_by_lines job (h.lines_done ++ []) rs nothing_done) (h.replied ∙ sym (append-nil h.their_replies)) ∙ led.led [] []) in
-    let replies : AreRepliesTo job (lines_of_script text) new.replies nothing_done = subst (λ (ls : List (List ℕ)). AreRepliesTo job ls new.replies nothing_done) (sym h.split)
-    (subst (λ (rs : List Reply). AreRepliesTo job (h.lines_done ++ []) rs nothing_done) (sym (h.replied ∙ sym (append-nil h.their_replies))) (led.replies_are [] [] tt)) in
-    (over.0, (subst (λ (us : List JournalUnit). IsAllTold job us (units_in later.books)) (sym (ap given machine)) over.1, replies))
+-- ---- answers and reports
 
 -- what holds of an answer, where another does
 pub ok_weaker : {A E : Type 0} {P Q : A → Type 0} (r : Result A E) → IfOk r P → ((a : A) → P a → Q a) → IfOk r Q

@@ -1,9 +1,11 @@
 pub mod Answering
+pub mod Asking
 pub mod Causes
 pub mod Doing
 pub mod Ending
 pub mod Faulting
 pub mod Following
+pub mod GoingBack
 pub mod GoingOn
 pub mod Handing
 pub mod Levels

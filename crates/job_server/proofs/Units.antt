@@ -25,7 +25,7 @@ lock_more (t ∷ ts) (x ∷ units) u l (inl h) = inl (h.0, lock_more ts units u 
 lock_more (t ∷ ts) (x ∷ units) u l (inr h) = inr (h.0, lock_more (t ∷ ts) units u l h.1)
 
 -- the units behind a receipt more
-units_more : (front : List JournalUnit) (receipts : List Claim) (n : ℕ) (u : JournalUnit) → front ++ units_of (receipts ++ claim n u ∷ []) ≡ (front ++ units_of receipts) ++ u ∷ []
+pub units_more : (front : List JournalUnit) (receipts : List Claim) (n : ℕ) (u : JournalUnit) → front ++ units_of (receipts ++ claim n u ∷ []) ≡ (front ++ units_of receipts) ++ u ∷ []
 units_more front receipts n u =
     ap (λ (l : List JournalUnit). front ++ l) (map-append (λ (c : Claim). c.unit) receipts (claim n u ∷ [])) ∙ sym (append_assoc front (units_of receipts) (u ∷ []))
 

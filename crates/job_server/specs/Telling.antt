@@ -1,6 +1,6 @@
 -- How a job stands while its lines are done: what its replies told so far, its session and its books.
 -- Read Stands, MayReply, Follows, StandsIn, GoesOn, Running, Serves and Begins.
-use Rattle.std.specs.Prelude.{◌≡◌, ◌≢◌, ◌⊎◌, ⊤, ℕ, ◌≤◌, nat_lt, Bool, true, false, List, [], ◌∷◌, ◌++◌, length, Option, None, Some, Result, Ok, Err}
+use Rattle.std.specs.Prelude.{◌≡◌, ◌≢◌, ◌⊎◌, ⊤, ℕ, ◌+◌, ◌≤◌, nat_lt, Bool, true, false, List, [], ◌∷◌, ◌++◌, length, Option, None, Some, Result, Ok, Err}
 use Rattle.std.specs.List.{All}
 use Rattle.refusal.specs.declared.Refusal.{Refusal}
 use Rattle.refusal.specs.declared.Refusal.TheVariants.{Again}
@@ -8,7 +8,7 @@ use Rattle.lock_name.specs.declared.lock.LockCommand.{LockCommand}
 use Rattle.lock_name.specs.declared.lock.LockCommand.TheVariants.{Release, Only, More, Fewer}
 use Rattle.command.specs.declared.access.DataCommand.{DataCommand}
 use Rattle.command.specs.declared.request.Command.{Command}
-use Rattle.command.specs.declared.request.Command.TheVariants.{Access, Start, Commit, Halt}
+use Rattle.command.specs.declared.request.Command.TheVariants.{Access, Lock as lock_command, Start, Commit, Halt}
 use Rattle.command.specs.declared.request.Reply.{Reply}
 use Rattle.command.specs.declared.request.Reply.TheVariants.{Finished, Restarted, Refused}
 use Rattle.journal.specs.declared.unit.Unit.{Unit as JournalUnit}
@@ -26,7 +26,7 @@ use Rattle.job_scripts.specs.Lines.{lines_of_script}
 use Rattle.job_server.specs.Causes.{HasRestarted, IsAllowed, IsReplyTo, IsReplyToNone}
 use Rattle.job_server.specs.declared.cursor.Cursor.{Cursor}
 use Rattle.job_server.specs.declared.cursor.Line.{Line}
-use Rattle.job_server.specs.Told.{told_by, given, IsToldIn, told_by_lines, AreOf, AreRepliesTo, AreRepliesToNone, units_of, units_in}
+use Rattle.job_server.specs.Told.{told_by, given, IsToldIn, told_by_lines, AreOf, OneAsksFor, AreAskedFor, AreRepliesTo, AreRepliesToNone, units_of, units_in, backs, others_of}
 
 -- ---- one session
 
@@ -41,9 +41,34 @@ pub record Stands (front : List JournalUnit) (s : Machine) (h : Held) : Type 0 w
   pub begun : IsAt h.start h.state
   pub is_told : IsToldIn (given s) (front ++ units_of h.receipts)
 
+-- where the machine's transaction took a LOCK the session's did
+abbrev pub HasItsLock : JobSession → Option Transaction → Type 0
+HasItsLock state None = ⊤
+HasItsLock state (Some t) = t.took_lock ≡ true → state.took_lock ≡ true
+
+-- behind so many rollbacks and restarts of earlier sessions there are as many as were told
+abbrev pub HasGoneBack : ℕ → Machine → Held → Type 0
+HasGoneBack n s h = (backs s.units ≤ n + backs (units_of h.others)) × HasItsLock h.state (transaction_of h.state.work.job s)
+
 -- what was told in the first units is told in the others
 abbrev pub AreStillTold : List JournalUnit → List JournalUnit → Type 0
 AreStillTold old new = (ts : List JournalUnit) → IsToldIn ts old → IsToldIn ts new
+
+-- lines that ask for these LOCKs, and for those in the first units, ask for those in the others
+abbrev pub AreStillAsked : (LockCommand → Type 0) → List JournalUnit → List JournalUnit → Type 0
+AreStillAsked locks old new = (lines : List (List ℕ)) → ((c : LockCommand) → locks c → OneAsksFor lines c) → AreAskedFor lines old → AreAskedFor lines new
+
+-- no LOCK
+abbrev pub IsNoLock : LockCommand → Type 0
+IsNoLock c = ⊥
+
+-- the LOCK that the command is
+abbrev pub IsLockOf : Command → LockCommand → Type 0
+IsLockOf command c = command ≡ lock_command c
+
+-- a LOCK that the line asks for
+abbrev pub AsksFor : List ℕ → LockCommand → Type 0
+AsksFor line c = Asks line (lock_command c)
 
 -- a TCOMMIT found that its transaction was overtaken, and has begun it anew, which is replied to no line
 abbrev pub IsOvertaken : Command → Reply → Type 0
@@ -53,11 +78,15 @@ IsOvertaken command reply = (command ≡ Commit) × (restarts : ℕ) × (reply �
 abbrev pub MayReply : Command → Reply → Held → Type 0
 MayReply command reply h = (IsOvertaken command reply → ⊥) → (t : Option Transaction) → Shows h.state t → IsAt h.start h.state → IsAllowed h.state.work.job command reply t
 
--- the session goes on as the reply tells, which is allowed; while its transaction stays open all that it writes is LOCKs
+-- the session goes on as the reply tells, which is allowed, and writes no LOCK but the command; while its transaction
+-- stays open all that it writes is LOCKs, and rollbacks and restarts
 pub record Follows (command : Command) (reply : Reply) (old new : Held) : Type 0 where
   pub whose : new.state.work.job ≡ old.state.work.job
   pub stands : (front : List JournalUnit) (s : Machine) → Stands front s old → Stands front (told old.state.work.job command reply s) new
   pub keeps : 1 ≤ old.state.level → 1 ≤ new.state.level → (front : List JournalUnit) → AreStillTold (front ++ units_of old.receipts) (front ++ units_of new.receipts)
+  pub asks : (front : List JournalUnit) → AreStillAsked (IsLockOf command) (front ++ units_of old.receipts) (front ++ units_of new.receipts)
+  pub went : (n : ℕ) (front : List JournalUnit) (s : Machine) → Stands front s old → HasGoneBack n s old → HasGoneBack n (told old.state.work.job command reply s) new
+  pub grows : backs (units_of old.others) ≤ backs (units_of new.others)
   pub may : MayReply command reply old
 
 -- whether a LOCK has names
@@ -89,10 +118,15 @@ abbrev pub units_behind : List Book → Option Held → List JournalUnit
 units_behind books None = units_in books
 units_behind books (Some h) = units_in books ++ units_of h.receipts
 
+-- how many rollbacks and restarts the books and the session have
+abbrev pub backs_behind : List Book → Option Held → ℕ
+backs_behind books None = backs (others_of books)
+backs_behind books (Some h) = backs (others_of books) + backs (units_of h.others)
+
 -- the job has these books and this session, where what was told has led
 abbrev pub StandsIn : ℕ → List Book → Option Held → Machine → Type 0
-StandsIn job books None s = AreOf job books × ((transaction_of job s ≡ None) × IsToldIn (given s) (units_in books))
-StandsIn job books (Some h) s = AreOf job books × ((h.state.work.job ≡ job) × Stands (units_in books) s h)
+StandsIn job books None s = AreOf job books × ((transaction_of job s ≡ None) × (IsToldIn (given s) (units_in books) × (backs s.units ≤ backs (others_of books))))
+StandsIn job books (Some h) s = AreOf job books × ((h.state.work.job ≡ job) × (Stands (units_in books) s h × HasGoneBack (backs (others_of books)) s h))
 
 -- the sessions so far: the books of those that ended, and the one that is there
 pub record SessionsSoFar : Type 0 where
@@ -106,27 +140,37 @@ sessions_so_far books session = record { books = books; session = session }
 abbrev pub AreToldOn : SessionsSoFar → SessionsSoFar → Type 0
 AreToldOn old new = AreStillTold (units_behind old.books old.session) (units_behind new.books new.session)
 
+-- lines that ask for these LOCKs, and for those in these sessions, ask for those in those
+abbrev pub AreAskedOn : (LockCommand → Type 0) → SessionsSoFar → SessionsSoFar → Type 0
+AreAskedOn locks old new = AreStillAsked locks (units_behind old.books old.session) (units_behind new.books new.session)
+
+-- no rollback or restart is lost
+abbrev pub KeepBacks : SessionsSoFar → SessionsSoFar → Type 0
+KeepBacks old new = backs_behind old.books old.session ≤ backs_behind new.books new.session
+
 -- the job has these sessions, where what was told has led
 abbrev pub StandsAt : ℕ → SessionsSoFar → Machine → Type 0
 StandsAt job now s = StandsIn job now.books now.session s
 
--- the job goes on as is told, which is allowed
-pub record GoesOn (tell : Machine → Machine) (is_allowed : Machine → Type 0) (job : ℕ) (old new : SessionsSoFar) : Type 0 where
+-- the job goes on as is told, which is allowed, and writes no LOCKs but these
+pub record GoesOn (tell : Machine → Machine) (is_allowed : Machine → Type 0) (locks : LockCommand → Type 0) (job : ℕ) (old new : SessionsSoFar) : Type 0 where
   pub stands : (s : Machine) → StandsAt job old s → StandsAt job new (tell s)
   pub keeps : is_open old.session ≡ true → is_open new.session ≡ true → AreToldOn old new
   pub allowed : (s : Machine) → StandsAt job old s → is_allowed s
+  pub asks : AreAskedOn locks old new
+  pub grows : KeepBacks old new
 
 -- nothing is told
 abbrev pub GoesOnUntold : ℕ → SessionsSoFar → SessionsSoFar → Type 0
-GoesOnUntold job old new = GoesOn (λ s. s) (λ s. ⊤) job old new
+GoesOnUntold job old new = GoesOn (λ s. s) (λ s. ⊤) IsNoLock job old new
 
 -- a command is replied, or was overtaken
 abbrev pub GoesOnBy : ℕ → Command → Reply → SessionsSoFar → SessionsSoFar → Type 0
-GoesOnBy job command reply old new = GoesOn (told job command reply) (λ s. (IsOvertaken command reply → ⊥) → IsAllowed job command reply (transaction_of job s)) job old new
+GoesOnBy job command reply old new = GoesOn (told job command reply) (λ s. (IsOvertaken command reply → ⊥) → IsAllowed job command reply (transaction_of job s)) (IsLockOf command) job old new
 
 -- a line is replied
 abbrev pub GoesOnAt : ℕ → List ℕ → Reply → SessionsSoFar → SessionsSoFar → Type 0
-GoesOnAt job line reply old new = GoesOn (told_by job (reading_of line) reply) (λ s. IsReplyTo job (reading_of line) reply (transaction_of job s)) job old new
+GoesOnAt job line reply old new = GoesOn (told_by job (reading_of line) reply) (λ s. IsReplyTo job (reading_of line) reply (transaction_of job s)) (AsksFor line) job old new
 
 -- what was read of a line was overtaken
 abbrev pub IsOvertakenAs : Result Command Refusal → Reply → Type 0
@@ -136,7 +180,7 @@ IsOvertakenAs (Err refusal) reply = ⊥
 -- a line, of which this was read, is replied, or was overtaken
 abbrev pub MayGoOnAt : ℕ → List ℕ → Result Command Refusal → Reply → SessionsSoFar → SessionsSoFar → Type 0
 MayGoOnAt job line asked reply old new =
-    GoesOn (told_by job (reading_of line) reply) (λ s. (IsOvertakenAs asked reply → ⊥) → IsReplyTo job (reading_of line) reply (transaction_of job s)) job old new
+    GoesOn (told_by job (reading_of line) reply) (λ s. (IsOvertakenAs asked reply → ⊥) → IsReplyTo job (reading_of line) reply (transaction_of job s)) (AsksFor line) job old new
 
 -- it is no TCOMMIT
 abbrev pub IsNoCommit : Result Command Refusal → Type 0
@@ -187,13 +231,16 @@ pub record Leads (job : ℕ) (lines : List (List ℕ)) (replies : List Reply) (s
   pub replies_are : (left : List (List ℕ)) (later : List Reply) → AreRepliesTo job left later machine → AreRepliesTo job (lines ++ left) (replies ++ later) s
   pub stands : StandsAt job sessions machine
 
--- the lines in front of the rest were done: their replies are behind those before, and lead on from wherever the job stood
+-- the lines in front of the rest were done: their replies are behind those before, and lead on from wherever the job
+-- stood; no LOCK was written but those that lines ask for, also those of the rest, which may have been tried
 pub record Serves (job : ℕ) (lines rest : List (List ℕ)) (old new : Running) : Type 0 where
   pub lines_done : List (List ℕ)
   pub their_replies : List Reply
   pub split : lines ≡ lines_done ++ rest
   pub replied : new.replies ≡ old.replies ++ their_replies
   pub leads : (s : Machine) → StandsAt job old.sessions s → Leads job lines_done their_replies s new.sessions
+  pub asks : AreAskedOn (OneAsksFor lines) old.sessions new.sessions
+  pub grows : KeepBacks old.sessions new.sessions
 
 -- while a transaction is open from here to there all that is written is LOCKs
 abbrev pub Keeps : Running → Running → Type 0
@@ -254,14 +301,16 @@ HasReadAll commands replies (Some old) (Some new) = (1 ≤ old.state.level) × (
 -- a transaction has just begun
 abbrev pub HasJustBegun : Option Transaction → Type 0
 HasJustBegun None = ⊥
-HasJustBegun (Some t) = (t.level ≡ 1) × ((t.exchanges ≡ []) × (t.restarts ≡ 0))
+HasJustBegun (Some t) = (t.level ≡ 1) × ((t.exchanges ≡ []) × ((t.restarts ≡ 0) × (t.took_lock ≡ false)))
 
--- a TSTART was answered, and its transaction has just begun
-pub record Begins (job : ℕ) (old new : Running) : Type 0 where
+-- a TSTART was answered, and its transaction has just begun, perhaps anew, behind tries of the lines
+pub record Begins (job : ℕ) (line : Line) (old new : Running) : Type 0 where
   pub reply : Reply
   pub replied : new.replies ≡ old.replies ++ reply ∷ []
   pub stands : (s : Machine) → StandsAt job old.sessions s → StandsAt job new.sessions (told job Start reply s) × HasJustBegun (transaction_of job (told job Start reply s))
   pub allowed : (s : Machine) → StandsAt job old.sessions s → IsAllowed job Start reply (transaction_of job s)
+  pub asks : AreAskedOn (OneAsksFor (line.text.now ∷ lines_of_script line.next.lines.now)) old.sessions new.sessions
+  pub grows : KeepBacks old.sessions new.sessions
 
 -- the outermost TCOMMIT began the transaction anew, and no reply was kept
 abbrev pub WasOvertaken : ℕ → Running → Running → Type 0
@@ -276,9 +325,11 @@ HasTried job line (Some behind) old new = Advances job line behind old new × Ke
 abbrev pub IsStillOpen : Running → Running → Type 0
 IsStillOpen old new = is_open old.sessions.session ≡ true → (is_open new.sessions.session ≡ true) × AreToldOn old.sessions new.sessions
 
--- the job stands again as behind its TSTART
-abbrev pub IsBack : ℕ → Running → Running → Type 0
-IsBack job old new = (first : Machine) → StandsAt job old.sessions first → HasJustBegun (transaction_of job first) → StandsAt job new.sessions first
+-- the job stands again as behind its TSTART, behind a try of the text's lines
+abbrev pub IsBack : ℕ → List ℕ → Running → Running → Type 0
+IsBack job text old new =
+    ((first : Machine) → StandsAt job old.sessions first → HasJustBegun (transaction_of job first) → StandsAt job new.sessions first)
+    × (AreAskedOn (OneAsksFor (lines_of_script text)) old.sessions new.sessions × KeepBacks old.sessions new.sessions)
 
 -- the replies are those before and more
 abbrev pub GoesOnFrom : List Reply → List Reply → Type 0

@@ -1,9 +1,12 @@
 -- What a job's replies tell of the units that the job wrote, and what lines may be replied. Source: docs/THEOREMS.md, "Many jobs at the same time".
--- Read told_by_lines, units_told, units_of_book, IsToldIn, IsAllTold, AreOf, AreRepliesTo, AreRepliesToNone, then IsTold.
-use Rattle.std.specs.Prelude.{◌≡◌, ◌⊎◌, ⊤, ℕ, Bool, true, false, not, ◌||◌, List, [], ◌∷◌, ◌++◌, map, Option, None, Some, Result, Ok, Err}
+-- Read told_by_lines, units_told, units_of_book, IsToldIn, IsAllTold, AreOf, AreAskedFor, AreBack,
+-- AreRepliesTo, AreRepliesToNone, then IsTold.
+use Rattle.std.specs.Prelude.{◌≡◌, ◌⊎◌, ⊤, ℕ, ◌≤◌, Bool, true, false, not, ◌||◌, List, [], ◌∷◌, ◌++◌, length, map, Option, None, Some, Result, Ok, Err}
 use Rattle.std.specs.List.{All, filter, flat_map}
 use Rattle.refusal.specs.declared.Refusal.{Refusal}
+use Rattle.lock_name.specs.declared.lock.LockCommand.{LockCommand}
 use Rattle.command.specs.declared.request.Command.{Command}
+use Rattle.command.specs.declared.request.Command.TheVariants.{Lock as lock_command}
 use Rattle.command.specs.declared.request.Reply.{Reply}
 use Rattle.journal.specs.declared.unit.Unit.{Unit as JournalUnit}
 use Rattle.journal.specs.declared.unit.Unit.TheVariants.{Lone, Whole, Lock, Back, End}
@@ -11,6 +14,7 @@ use Rattle.journal.specs.Kept.{Claim}
 use Rattle.journal.specs.Story.{Machine, nothing_done, transaction_of, told}
 use Rattle.script.specs.Line.{reading_of}
 use Rattle.shared_engine.specs.Receipts.{Book, claim}
+use Rattle.job_scripts.specs.Blocks.{Asks}
 use Rattle.job_scripts.specs.Lines.{lines_of_script}
 use Rattle.job_server.specs.Causes.{IsReplyTo, IsReplyToNone}
 
@@ -80,6 +84,43 @@ AreOf job books = All (λ (b : Book). (b.job ≡ job) × HasItsEnd b) books
 abbrev pub IsAllTold : ℕ → List JournalUnit → List JournalUnit → Type 0
 IsAllTold job told units = IsToldIn told units ⊎ IsToldIn (told ++ End job ∷ []) units
 
+-- one of the lines asks for this LOCK
+abbrev pub OneAsksFor : List (List ℕ) → LockCommand → Type 0
+OneAsksFor [] command = ⊥
+OneAsksFor (line ∷ lines) command = Asks line (lock_command command) ⊎ OneAsksFor lines command
+
+-- where the unit is a LOCK, one of the lines asks for it
+abbrev pub IsAskedFor : List (List ℕ) → JournalUnit → Type 0
+IsAskedFor lines (Lone job command answer) = ⊤
+IsAskedFor lines (Whole job exchanges) = ⊤
+IsAskedFor lines (Lock job inside command had) = OneAsksFor lines command
+IsAskedFor lines (Back job) = ⊤
+IsAskedFor lines (End job) = ⊤
+
+-- each LOCK among the units, told or not, is one that one of the lines asks for
+abbrev pub AreAskedFor : List (List ℕ) → List JournalUnit → Type 0
+AreAskedFor lines units = All (IsAskedFor lines) units
+
+-- whether the unit says that a transaction which took a LOCK was rolled back, or began anew
+abbrev pub goes_back : JournalUnit → Bool
+goes_back (Lone job command answer) = false
+goes_back (Whole job exchanges) = false
+goes_back (Lock job inside command had) = false
+goes_back (Back job) = true
+goes_back (End job) = false
+
+-- how many of the units say so
+abbrev pub backs : List JournalUnit → ℕ
+backs units = length (filter goes_back units)
+
+-- the units of books that give no receipt, one behind the other
+abbrev pub others_of : List Book → List JournalUnit
+others_of books = flat_map (λ (b : Book). units_of b.others) books
+
+-- at least as many units of the books say so as are told; those beyond are of tries that were overtaken
+abbrev pub AreBack : List JournalUnit → List Book → Type 0
+AreBack told books = backs told ≤ backs (others_of books)
+
 -- each reply is one to its line, in the transaction that the replies so far tell
 abbrev pub AreRepliesTo : ℕ → List (List ℕ) → List Reply → Machine → Type 0
 AreRepliesTo job [] replies s = ⊤
@@ -92,8 +133,12 @@ AreRepliesToNone [] replies = ⊤
 AreRepliesToNone (line ∷ lines) [] = ⊤
 AreRepliesToNone (line ∷ lines) (reply ∷ replies) = IsReplyToNone (reading_of line) reply × AreRepliesToNone lines replies
 
--- the replies to a job's lines are such, and tell the units of its books, each up to the HALT that ended its session; without a job there is no book
+-- the replies to a job's lines are such, and tell the units of its books, each up to the HALT that ended its session,
+-- in which each LOCK is asked for and all that went back is there; without a job there is no book
 abbrev pub IsTold : Option ℕ → List ℕ → List Reply → List Book → Type 0
 IsTold None text replies books = (books ≡ []) × AreRepliesToNone (lines_of_script text) replies
 IsTold (Some job) text replies books =
-    AreOf job books × (IsAllTold job (units_told job text replies) (units_in books) × AreRepliesTo job (lines_of_script text) replies nothing_done)
+    AreOf job books
+    × (IsAllTold job (units_told job text replies) (units_in books)
+    × (AreAskedFor (lines_of_script text) (units_in books)
+    × (AreBack (told_by_lines job (lines_of_script text) replies nothing_done).units books × AreRepliesTo job (lines_of_script text) replies nothing_done)))

@@ -83,7 +83,7 @@ impl<'a, B: BoardName, R: Wait, G: Gate> Worker<'a, B, R, G> {
         begin: Cursor<'b>,
     ) -> Result<Option<Cursor<'b>>, ServerFault>
         ensures over { IfOk result (λ ended. IfSome ended (λ behind. Reaches job begin.entry.lines.now behind run.old run.new)) }
-        ensures again { IfOk result (λ ended. IfNone ended (IsBack job run.old run.new)) }
+        ensures again { IfOk result (λ ended. IfNone ended (IsBack job begin.entry.lines.now run.old run.new)) }
         ensures replies { IfOk result (λ ended. IfNone ended (GoesOnFrom run.old.replies run.new.replies)) }
     {
         let mut place = begin;

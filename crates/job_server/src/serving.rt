@@ -316,9 +316,10 @@ fn load_and_serve<
 /// is missing.
 ///
 /// A report's replies tell the units of its job's books, which are in the closed journal; a LOCK that no reply tells
-/// may stand among them: a first try of one that waited, or one of a try of a block that was overtaken. Each book ends
-/// where a HALT was replied `ok`, the last one with the lines, and has that HALT's End. All books' units are just the
-/// journal's. No TCOMMIT is replied with a restart.
+/// may stand among them: a first try of one that waited, or one of a try of a block that was overtaken. Each LOCK in
+/// the books is one that a line of the script asks for, and they have as many rollbacks and restarts of transactions
+/// that took a LOCK as are told. Each book ends where a HALT was replied `ok`, the last one with the lines, and has
+/// that HALT's End. All books' units are just the journal's. No TCOMMIT is replied with a restart.
 ///
 /// After a fault no report is handed out: `Load` where the listing isn't loaded, as of `loading::load`, and no job was
 /// begun; `Memory` where memory was refused and no reply could say so, also where a worker couldn't be started, a

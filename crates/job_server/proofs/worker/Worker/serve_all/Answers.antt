@@ -2,7 +2,7 @@ use Rattle.std.proofs.Common.{[], sym, subst}
 use Rattle.std.proofs.lemmas.Result.{on_ok_weaker}
 use Rattle.job_scripts.specs.Lines.{lines_of_script}
 use Rattle.job_server.specs.Telling.{Running, running, Serves}
-use Rattle.job_server.proofs.GoingOn.{run_told}
+use Rattle.job_server.proofs.Ending.{run_told}
 use Rattle.job_server.proofs.worker.Worker.serve_all.Goals as goal
 
 pub returns : goal.returns

@@ -22,7 +22,7 @@ tries-preserved g c =
     let same = cut_back before.replies tried.replies cut c.len-kept.result (where_none c.in_ok-place.field-0 c.in_ok-place.ensures.replies none) c.tries.invariant.kept (c.truncate.ensures.items ∙ ap (λ (r : Running). take c.len-kept.result r.replies) view) in
     record {
       kept = c.tries.invariant.kept ∙ ap length (sym same);
-      began = begins_again c.args.job c.args.run.now before tried (running cut c.run-in-tries.inside.sessions) c.tries.invariant.began (where_none c.in_ok-place.field-0 c.in_ok-place.ensures.again none) (ap (λ (r : Running). r.sessions) view) same;
+      began = begins_again c.args.job c.args.line c.args.run.now before tried (running cut c.run-in-tries.inside.sessions) c.tries.invariant.began (where_none c.in_ok-place.field-0 c.in_ok-place.ensures.again none) (ap (λ (r : Running). r.sessions) view) same;
     }
 
 pub returns : goal.returns

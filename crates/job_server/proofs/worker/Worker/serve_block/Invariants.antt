@@ -6,5 +6,5 @@ use Rattle.job_server.proofs.worker.Worker.serve_block.Given as goal
 abbrev pub invariant-tries : goal.invariant-tries
 invariant-tries g l = record {
   kept : l.kept ≡ length l.run.replies;
-  began : Begins l.fn.job l.fn.run l.run;
+  began : Begins l.fn.job l.fn.line l.fn.run l.run;
 }
