@@ -1,5 +1,7 @@
 //! The file that a journal is written to.
-ghost use Rattle.std.specs.Prelude.{◌≡◌, IfErr};
+ghost use Rattle.std.specs.Prelude.{◌≡◌, IfErr, OnOk};
+ghost use Rattle.std.specs.Io.KnownBytes.{Appends};
+ghost use Rattle.journal_lines.specs.Journals.{journal_text};
 
 use crate::printing::{FAULT_STATUS, path_of, print_uncreated, print_unwritten};
 use crate::words::{NamePlace, file_place};
@@ -51,7 +53,9 @@ pub fn write_over<F: Write + OpenFile + Drop>(
     alloc: Global,
     journal: &Journal,
     file: &mut Counted<F>,
-) -> Result<(), JournalFault> {
+) -> Result<(), JournalFault>
+    ensures ok { OnOk result (Appends (F.contents file.old.inner) (F.contents file.new.inner) (journal_text journal.now.units)) }
+{
     match empty(file.inner()) {
         Ok(()) => write_journal(alloc, journal, file),
         Err(_) => Err(JournalFault::Write),
