@@ -1,3 +1,4 @@
 mod Nodes
 mod Starts
 mod Walked
+pub mod Refused

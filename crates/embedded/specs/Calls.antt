@@ -18,7 +18,7 @@ use Rattle.journal.specs.Format.{unit_bytes}
 use Rattle.journal.specs.History.{initial, after as left_by}
 use Rattle.journal.specs.Story.{Machine, told}
 use Rattle.serial.specs.Machine.{IsReply}
-use Rattle.script.specs.Line.{reading_of, job_of_line}
+use Rattle.script.specs.Line.{reading_of, job_of_line, HasOperands}
 use Rattle.script.specs.Text.{reply_text}
 use Rattle.listing.specs.Listing.{node_text}
 use Rattle.embedded.specs.Outcomes.{outcome_number, outcome_name, outcome_of}
@@ -29,10 +29,14 @@ use Rattle.embedded.specs.declared.engine.Embedded.{Embedded}
 
 -- ---- a line's reply
 
--- what a line asks gets the machine's reply, and one that asks nothing its refusal; either may get that of memory
-abbrev pub IsAnswer : Machine → Result (ℕ × Command) Refusal → Reply → Type 0
-IsAnswer s (Ok step) reply = IsReply step.0 step.1 reply s ⊎ (reply ≡ Refused OutOfMemory)
-IsAnswer s (Err refusal) reply = (reply ≡ Refused refusal) ⊎ (reply ≡ Refused OutOfMemory)
+-- what asks something gets a reply of the machine, what asks nothing its refusal
+abbrev pub IsReplyDue : Machine → Result (ℕ × Command) Refusal → Reply → Type 0
+IsReplyDue s (Ok step) reply = IsReply step.0 step.1 reply s
+IsReplyDue s (Err refusal) reply = reply ≡ Refused refusal
+
+-- a line gets that, or, only where it has operands to be read, the refusal of memory
+abbrev pub IsAnswer : Machine → List ℕ → Reply → Type 0
+IsAnswer s line reply = IsReplyDue s (reading_of line) reply ⊎ ((reply ≡ Refused OutOfMemory) × HasOperands line)
 
 -- what a line and its reply change
 abbrev pub told_by : Result (ℕ × Command) Refusal → Reply → Machine → Machine
@@ -76,7 +80,7 @@ pub record IsLineCall (line : List ℕ) (before after : Embedded) (outcome : Out
   pub last : Answered
   pub kept : after.last ≡ Some last
   pub job : last.job ≡ job_of_line line
-  pub answer : IsAnswer before.core.machine (reading_of line) last.reply
+  pub answer : IsAnswer before.core.machine line last.reply
   pub machine : after.core.machine ≡ told_by (reading_of line) last.reply before.core.machine
   pub listed : after.listed ≡ before.listed
   pub copied : IsReplyCopied (Some last) outcome old new wanted

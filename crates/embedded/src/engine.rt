@@ -38,6 +38,7 @@ pub struct Embedded {
 }
 
 // Reads a line and does it: the job that its reply is printed with, and the reply.
+#[tactic(auto, using(crate::proofs::Refused::refused_answer))]
 fn answer_line(
     alloc: Global,
     core: &mut JobCore,
@@ -45,7 +46,7 @@ fn answer_line(
     line: &[u8],
 ) -> (Option<Job>, Reply)
     ensures job { result.0 ≡ job_of_line line.now }
-    ensures answer { IsAnswer core.old.machine (reading_of line.now) result.1 }
+    ensures answer { IsAnswer core.old.machine line.now result.1 }
     ensures machine { core.new.machine ≡ told_by (reading_of line.now) result.1 core.old.machine }
 {
     match read_line(alloc, line, drafts) {

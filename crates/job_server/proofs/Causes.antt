@@ -21,7 +21,7 @@ use Rattle.journal.specs.History.{initial, after, AreRight, all_after}
 use Rattle.journal.specs.Kept.{HasNoRoom}
 use Rattle.journal.specs.Story.{Transaction}
 use Rattle.serial.specs.Machine.{told_had}
-use Rattle.script.specs.Line.{reading_of, IsRefusalOf}
+use Rattle.script.specs.Line.{reading_of, IsRefusalOf, HasOperands}
 use Rattle.validate_commit.specs.Working.{Working, IsCauseInside, IsCauseAlone, IsKept}
 use Rattle.validate_commit.specs.Verdicts.{IsCauseAtCommit}
 use Rattle.job_core.specs.Causes.{IsCauseOf}
@@ -195,15 +195,15 @@ room_at_commit refusal h units (inr room) = room_of refusal 1 (length units) roo
 pub fault_of : (job : ℕ) (line : List ℕ) (refusal : Refusal) → IsRefusalOf line refusal → IsFault job line refusal
 fault_of job line OutOfMemory h t = by_reading (reading_of line)
   where
-    by_reading : (read : Result (ℕ × Command) Refusal) → IsReplyTo job read (Refused OutOfMemory) t
+    by_reading : (read : Result (ℕ × Command) Refusal) → IsReplyTo (HasOperands line) job read (Refused OutOfMemory) t
     by_reading (Ok step) = inl (inl refl)
-    by_reading (Err fault) = inr refl
-fault_of job line refusal h t = subst (λ (read : Result (ℕ × Command) Refusal). IsReplyTo job read (Refused refusal) t) (sym h) (inl refl)
+    by_reading (Err fault) = inr (refl, h)
+fault_of job line refusal h t = subst (λ (read : Result (ℕ × Command) Refusal). IsReplyTo (HasOperands line) job read (Refused refusal) t) (sym h) (inl refl)
 
 -- one of another job
 pub other_job : (job : ℕ) (line : List ℕ) (step : ℕ × Command) → reading_of line ≡ Ok step → step.0 ≢ job → IsFault job line BadJob
-other_job job line step is other t = subst (λ (read : Result (ℕ × Command) Refusal). IsReplyTo job read (Refused BadJob) t) (sym is) (inr (refl, other))
+other_job job line step is other t = subst (λ (read : Result (ℕ × Command) Refusal). IsReplyTo (HasOperands line) job read (Refused BadJob) t) (sym is) (inr (refl, other))
 
 -- what its command may be replied
-pub asked_may : (job : ℕ) (line : List ℕ) (command : Command) (reply : Reply) (t : Option Transaction) → Asks line command → IsAllowed job command reply t → IsReplyTo job (reading_of line) reply t
-asked_may job line command reply t asks allowed = subst (λ (read : Result (ℕ × Command) Refusal). IsReplyTo job read reply t) (sym asks.1) (inl allowed)
+pub asked_may : (job : ℕ) (line : List ℕ) (command : Command) (reply : Reply) (t : Option Transaction) → Asks line command → IsAllowed job command reply t → IsReplyTo (HasOperands line) job (reading_of line) reply t
+asked_may job line command reply t asks allowed = subst (λ (read : Result (ℕ × Command) Refusal). IsReplyTo (HasOperands line) job read reply t) (sym asks.1) (inl allowed)

@@ -16,7 +16,7 @@ use Rattle.command.specs.declared.request.Reply.TheVariants.{Answered, Finished,
 use Rattle.journal.specs.declared.unit.Unit.{Unit as JournalUnit}
 use Rattle.journal.specs.History.{initial, after}
 use Rattle.journal.specs.Story.{Transaction, Machine, transaction_of, told}
-use Rattle.script.specs.Line.{reading_of}
+use Rattle.script.specs.Line.{reading_of, HasOperands}
 use Rattle.serial.specs.Machine.{told_had}
 use Rattle.job_core.specs.Sessions.{Session as JobSession}
 use Rattle.validate_commit.specs.laws.Working.{work_nothing}
@@ -144,7 +144,7 @@ pub record HasTold (job n : ℕ) (front : List JournalUnit) (lines : List (List 
   pub gone : HasGoneBack n machine new
 
 -- a line more in front
-line_before : (job n : ℕ) (front : List JournalUnit) (line : List ℕ) (lines : List (List ℕ)) (reply : Reply) (replies : List Reply) (s middle : Machine) (new : Held) → IsReplyTo job (reading_of line) reply (transaction_of job s) → told_by job (reading_of line) reply s ≡ middle
+line_before : (job n : ℕ) (front : List JournalUnit) (line : List ℕ) (lines : List (List ℕ)) (reply : Reply) (replies : List Reply) (s middle : Machine) (new : Held) → IsReplyTo (HasOperands line) job (reading_of line) reply (transaction_of job s) → told_by job (reading_of line) reply s ≡ middle
     → HasTold job n front lines replies middle new → HasTold job n front (line ∷ lines) (reply ∷ replies) s new
 line_before job n front line lines reply replies s middle new may is h = record {
   machine = h.machine;

@@ -18,7 +18,7 @@ use Rattle.journal.specs.declared.unit.Unit.TheVariants.{End}
 use Rattle.journal.specs.Kept.{Claim}
 use Rattle.journal.specs.Story.{Transaction, Machine, transaction_of, told, told_level, told_back}
 use Rattle.serial.specs.laws.ByJob.{get_here, gone_here}
-use Rattle.script.specs.Line.{reading_of}
+use Rattle.script.specs.Line.{reading_of, HasOperands}
 use Rattle.job_core.specs.Sessions.{idle}
 use Rattle.shared_engine.specs.Receipts.{Book}
 use Rattle.shared_engine.specs.Sessions.{Held, held, halted}
@@ -232,7 +232,7 @@ reaches_end job text place old new h none = subst (λ (ls : List (List ℕ)). Se
 
 -- ---- one line
 
-answered_leads : (job : ℕ) (line : List ℕ) (reply : Reply) (s : Machine) (new : SessionsSoFar) → StandsIn job new.books new.session (told_by job (reading_of line) reply s) → IsReplyTo job (reading_of line) reply (transaction_of job s) → Leads job (line ∷ []) (reply ∷ []) s new
+answered_leads : (job : ℕ) (line : List ℕ) (reply : Reply) (s : Machine) (new : SessionsSoFar) → StandsIn job new.books new.session (told_by job (reading_of line) reply s) → IsReplyTo (HasOperands line) job (reading_of line) reply (transaction_of job s) → Leads job (line ∷ []) (reply ∷ []) s new
 answered_leads job line reply s new stands may = record {
   machine = told_by job (reading_of line) reply s;
   led = λ left later. refl;
@@ -486,7 +486,7 @@ begins job line old new asks h closed now = record {
   replied = h.replied;
   stands = λ s stands. (on s stands, just_begun job h.reply old.sessions new.sessions s stands closed (on s stands) now);
   allowed = λ s stands.
-      by_reply s stands (subst (λ (r : Result (ℕ × Command) Refusal). IsReplyTo job r h.reply (transaction_of job s)) asks.1 (h.goes.allowed s stands));
+      by_reply s stands (subst (λ (r : Result (ℕ × Command) Refusal). IsReplyTo (HasOperands line.text.now) job r h.reply (transaction_of job s)) asks.1 (h.goes.allowed s stands));
   asks = λ all each asked. h.goes.asks all (λ c lock. each c (inl lock)) asked;
   grows = h.goes.grows;
 }

@@ -6,7 +6,7 @@ use Rattle.refusal.specs.declared.Refusal.TheVariants.{BadJob, OutOfMemory}
 use Rattle.command.specs.declared.request.Command.{Command}
 use Rattle.command.specs.declared.request.Reply.{Reply}
 use Rattle.command.specs.declared.request.Reply.TheVariants.{Refused}
-use Rattle.script.specs.Line.{reading_of, IsRefusalOf}
+use Rattle.script.specs.Line.{reading_of, IsRefusalOf, HasOperands}
 use Rattle.shared_engine.specs.Receipts.{Book}
 use Rattle.job_scripts.specs.Lines.{lines_of_script}
 use Rattle.job_server.specs.Causes.{IsReplyToNone}
@@ -15,16 +15,16 @@ use Rattle.job_server.specs.Telling.{Refuses, IsFaultOfNone}
 
 -- a line that can be read
 pub none_read : (line : List ℕ) (step : ℕ × Command) → reading_of line ≡ Ok step → IsFaultOfNone line BadJob
-none_read line step is = subst (λ (read : Result (ℕ × Command) Refusal). IsReplyToNone read (Refused BadJob)) (sym is) (inl refl)
+none_read line step is = subst (λ (read : Result (ℕ × Command) Refusal). IsReplyToNone (HasOperands line) read (Refused BadJob)) (sym is) (inl refl)
 
 -- one that can't
 pub none_fault : (line : List ℕ) (refusal : Refusal) → IsRefusalOf line refusal → IsFaultOfNone line refusal
 none_fault line OutOfMemory h = by_reading (reading_of line)
   where
-    by_reading : (read : Result (ℕ × Command) Refusal) → IsReplyToNone read (Refused OutOfMemory)
-    by_reading (Ok step) = inr refl
-    by_reading (Err fault) = inr refl
-none_fault line refusal h = subst (λ (read : Result (ℕ × Command) Refusal). IsReplyToNone read (Refused refusal)) (sym h) (inl refl)
+    by_reading : (read : Result (ℕ × Command) Refusal) → IsReplyToNone (HasOperands line) read (Refused OutOfMemory)
+    by_reading (Ok step) = inr (refl, h)
+    by_reading (Err fault) = inr (refl, h)
+none_fault line refusal h = subst (λ (read : Result (ℕ × Command) Refusal). IsReplyToNone (HasOperands line) read (Refused refusal)) (sym h) (inl refl)
 
 -- no line
 pub refuses_none : (lines : List (List ℕ)) (replies : List Reply) → Refuses lines lines replies replies

@@ -111,16 +111,16 @@ abbrev pub IsAllowed : ℕ → Command → Reply → Option Transaction → Type
 IsAllowed job command (Refused refusal) t = (refusal ≡ OutOfMemory) ⊎ IsCauseFor job command refusal t
 IsAllowed job command reply t = IsAccepted command reply t
 
--- a line is refused for its own fault, or for memory
-abbrev pub IsRefusedFor : Refusal → Reply → Type 0
-IsRefusedFor fault reply = (reply ≡ Refused fault) ⊎ (reply ≡ Refused OutOfMemory)
+-- a line is refused for its own fault, or, only where it has operands to be read, for memory
+abbrev pub IsRefusedFor : Type 0 → Refusal → Reply → Type 0
+IsRefusedFor operands fault reply = (reply ≡ Refused fault) ⊎ ((reply ≡ Refused OutOfMemory) × operands)
 
--- the reply to a line, by what is read of it; one of another job may be refused for that
-abbrev pub IsReplyTo : ℕ → Result (ℕ × Command) Refusal → Reply → Option Transaction → Type 0
-IsReplyTo job (Ok step) reply t = IsAllowed job step.1 reply t ⊎ ((reply ≡ Refused BadJob) × (step.0 ≢ job))
-IsReplyTo job (Err fault) reply t = IsRefusedFor fault reply
+-- the reply to a line, by whether it has operands and what is read of it; one of another job may be refused for that
+abbrev pub IsReplyTo : Type 0 → ℕ → Result (ℕ × Command) Refusal → Reply → Option Transaction → Type 0
+IsReplyTo operands job (Ok step) reply t = IsAllowed job step.1 reply t ⊎ ((reply ≡ Refused BadJob) × (step.0 ≢ job))
+IsReplyTo operands job (Err fault) reply t = IsRefusedFor operands fault reply
 
 -- the reply to a line under which there is no job; one that can be read has another
-abbrev pub IsReplyToNone : Result (ℕ × Command) Refusal → Reply → Type 0
-IsReplyToNone (Ok step) reply = IsRefusedFor BadJob reply
-IsReplyToNone (Err fault) reply = IsRefusedFor fault reply
+abbrev pub IsReplyToNone : Type 0 → Result (ℕ × Command) Refusal → Reply → Type 0
+IsReplyToNone operands (Ok step) reply = IsRefusedFor operands BadJob reply
+IsReplyToNone operands (Err fault) reply = IsRefusedFor operands fault reply

@@ -13,7 +13,7 @@ use Rattle.command.specs.declared.request.Reply.{Reply}
 use Rattle.command.specs.declared.request.Reply.TheVariants.{Finished, Restarted, Refused}
 use Rattle.journal.specs.declared.unit.Unit.{Unit as JournalUnit}
 use Rattle.journal.specs.Story.{Transaction, Machine, transaction_of, told}
-use Rattle.script.specs.Line.{reading_of}
+use Rattle.script.specs.Line.{reading_of, HasOperands}
 use Rattle.job_core.specs.Common.{IsCauseOfLock}
 use Rattle.job_core.specs.Sessions.{Session as JobSession}
 use Rattle.shared_engine.specs.Receipts.{Book}
@@ -170,7 +170,7 @@ GoesOnBy job command reply old new = GoesOn (told job command reply) (λ s. (IsO
 
 -- a line is replied
 abbrev pub GoesOnAt : ℕ → List ℕ → Reply → SessionsSoFar → SessionsSoFar → Type 0
-GoesOnAt job line reply old new = GoesOn (told_by job (reading_of line) reply) (λ s. IsReplyTo job (reading_of line) reply (transaction_of job s)) (AsksFor line) job old new
+GoesOnAt job line reply old new = GoesOn (told_by job (reading_of line) reply) (λ s. IsReplyTo (HasOperands line) job (reading_of line) reply (transaction_of job s)) (AsksFor line) job old new
 
 -- what was read of a line was overtaken
 abbrev pub IsOvertakenAs : Result Command Refusal → Reply → Type 0
@@ -180,7 +180,7 @@ IsOvertakenAs (Err refusal) reply = ⊥
 -- a line, of which this was read, is replied, or was overtaken
 abbrev pub MayGoOnAt : ℕ → List ℕ → Result Command Refusal → Reply → SessionsSoFar → SessionsSoFar → Type 0
 MayGoOnAt job line asked reply old new =
-    GoesOn (told_by job (reading_of line) reply) (λ s. (IsOvertakenAs asked reply → ⊥) → IsReplyTo job (reading_of line) reply (transaction_of job s)) (AsksFor line) job old new
+    GoesOn (told_by job (reading_of line) reply) (λ s. (IsOvertakenAs asked reply → ⊥) → IsReplyTo (HasOperands line) job (reading_of line) reply (transaction_of job s)) (AsksFor line) job old new
 
 -- it is no TCOMMIT
 abbrev pub IsNoCommit : Result Command Refusal → Type 0
@@ -193,7 +193,7 @@ HasStopped job old new = ((new ≡ old) × (old.session ≡ None)) ⊎ (GoesOnBy
 
 -- the line may be refused so, whatever transaction the job has
 abbrev pub IsFault : ℕ → List ℕ → Refusal → Type 0
-IsFault job line refusal = (t : Option Transaction) → IsReplyTo job (reading_of line) (Refused refusal) t
+IsFault job line refusal = (t : Option Transaction) → IsReplyTo (HasOperands line) job (reading_of line) (Refused refusal) t
 
 -- the line asks for what was read of it, or may be refused so
 abbrev pub IsAsked : ℕ → List ℕ → Result Command Refusal → Type 0
@@ -210,7 +210,7 @@ pub record Refuses (lines rest : List (List ℕ)) (old new : List Reply) : Type 
 
 -- the line is refused so, where it has no job
 abbrev pub IsFaultOfNone : List ℕ → Refusal → Type 0
-IsFaultOfNone line refusal = IsReplyToNone (reading_of line) (Refused refusal)
+IsFaultOfNone line refusal = IsReplyToNone (HasOperands line) (reading_of line) (Refused refusal)
 
 -- the replies so far, and the sessions
 pub record Running : Type 0 where

@@ -12,7 +12,7 @@ use Rattle.journal.specs.declared.unit.Unit.{Unit as JournalUnit}
 use Rattle.journal.specs.declared.unit.Unit.TheVariants.{Lone, Whole, Lock, Back, End}
 use Rattle.journal.specs.Kept.{Claim}
 use Rattle.journal.specs.Story.{Machine, nothing_done, transaction_of, told}
-use Rattle.script.specs.Line.{reading_of}
+use Rattle.script.specs.Line.{reading_of, HasOperands}
 use Rattle.shared_engine.specs.Receipts.{Book, claim}
 use Rattle.job_scripts.specs.Blocks.{Asks}
 use Rattle.job_scripts.specs.Lines.{lines_of_script}
@@ -125,13 +125,13 @@ AreBack told books = backs told ≤ backs (others_of books)
 abbrev pub AreRepliesTo : ℕ → List (List ℕ) → List Reply → Machine → Type 0
 AreRepliesTo job [] replies s = ⊤
 AreRepliesTo job (line ∷ lines) [] s = ⊤
-AreRepliesTo job (line ∷ lines) (reply ∷ replies) s = IsReplyTo job (reading_of line) reply (transaction_of job s) × AreRepliesTo job lines replies (told_by job (reading_of line) reply s)
+AreRepliesTo job (line ∷ lines) (reply ∷ replies) s = IsReplyTo (HasOperands line) job (reading_of line) reply (transaction_of job s) × AreRepliesTo job lines replies (told_by job (reading_of line) reply s)
 
 -- the same of lines without a job
 abbrev pub AreRepliesToNone : List (List ℕ) → List Reply → Type 0
 AreRepliesToNone [] replies = ⊤
 AreRepliesToNone (line ∷ lines) [] = ⊤
-AreRepliesToNone (line ∷ lines) (reply ∷ replies) = IsReplyToNone (reading_of line) reply × AreRepliesToNone lines replies
+AreRepliesToNone (line ∷ lines) (reply ∷ replies) = IsReplyToNone (HasOperands line) (reading_of line) reply × AreRepliesToNone lines replies
 
 -- the replies to a job's lines are such, and tell the units of its books, each up to the HALT that ended its session,
 -- in which each LOCK is asked for and all that went back is there; without a job there is no book

@@ -10,14 +10,14 @@ use Rattle.m_text.specs.Literal.{front_digits, past_digits, number_from}
 use Rattle.m_text.specs.Place.{unless}
 use Rattle.m_text.specs.laws.Faults.{unless_err, unless_ok}
 use Rattle.script.specs.Commands.{begins_blank, past_blank, command_at, command_fault}
-use Rattle.script.specs.Line.{is_job, end_of, spelled_by, judged, reading_of, job_of_line, IsRefusalOf}
+use Rattle.script.specs.Line.{is_job, end_of, spelled_by, judged, reading_of, job_of_line, HasOperands, IsRefusalOf}
 
 -- a line that isn't of the grammar
-pub bad_line : (line : List ℕ) (refusal : Refusal) → IsUnread refusal (spelled_by line) → IsRefusalOf line refusal
+pub bad_line : (line : List ℕ) (refusal : Refusal) → IsUnread refusal (spelled_by line) → (refusal ≡ OutOfMemory → HasOperands line) → IsRefusalOf line refusal
 unfolding reading_of
-bad_line line BadLine h = ap (judged (number_from 0 (front_digits line))) h
-bad_line line OutOfMemory h = tt
-bad_line line refusal h = absurd h
+bad_line line BadLine h some = ap (judged (number_from 0 (front_digits line))) h
+bad_line line OutOfMemory h some = some refl
+bad_line line refusal h some = absurd h
 
 abbrev job_number : List ℕ → ℕ
 job_number line = number_from 0 (front_digits line)
@@ -57,8 +57,8 @@ read line c d n e some good =
     let p = unless_ok (command_fault c) c d good in
     judged_is line c n e some ∙ ap (λ (f : Option Refusal). unless {A = ℕ × Command} f (n, c)) p.0 ∙ ap (λ (x : Command). Ok (n, x)) p.1
 
-pub faulty : (line : List ℕ) (c : Command) (n : ℕ) (refusal : Refusal) → spelled_by line ≡ Some c → job_of_line line ≡ Some n → IsDue refusal (unless (command_fault c) c) → IsRefusalOf line refusal
-faulty line c n OutOfMemory e some h = tt
-faulty line c n refusal e some h = judged_is line c n e some ∙ ap (λ (f : Option Refusal). unless {A = ℕ × Command} f (n, c)) (unless_err (command_fault c) c refusal h)
+pub faulty : (line : List ℕ) (c : Command) (n : ℕ) (refusal : Refusal) → spelled_by line ≡ Some c → job_of_line line ≡ Some n → IsDue refusal (unless (command_fault c) c) → (refusal ≡ OutOfMemory → HasOperands line) → IsRefusalOf line refusal
+faulty line c n OutOfMemory e some h operands = operands refl
+faulty line c n refusal e some h operands = judged_is line c n e some ∙ ap (λ (f : Option Refusal). unless {A = ℕ × Command} f (n, c)) (unless_err (command_fault c) c refusal h)
 
 pub ruleset of_lines = (bad_line, bad_job, read, faulty)

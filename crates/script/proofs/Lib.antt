@@ -4,3 +4,4 @@ pub mod Judging
 pub mod Naming
 pub mod Sentences
 pub mod Words
+pub mod Operands

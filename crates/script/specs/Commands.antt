@@ -1,6 +1,6 @@
 -- Commands at the front of a text, and the first fault of a command. Source: docs/FORMATS.md, "Lines".
--- Read command_at first, then behind_act, tail_at, then command_fault.
-use Rattle.std.specs.Prelude.{ℕ, Bool, false, not, ◌||◌, ◌==◌, nat_eq, nat_lt, if◌then◌else◌, List, [], ◌∷◌, length, drop, Option, None, Some, codes}
+-- Read command_at first, then behind_act, tail_at, then command_fault, and ComesToOperands.
+use Rattle.std.specs.Prelude.{◌≡◌, ◌<◌, ℕ, Bool, true, false, not, ◌||◌, ◌==◌, nat_eq, nat_lt, if◌then◌else◌, List, [], ◌∷◌, length, drop, Option, None, Some, IsSomeAnd, codes}
 use Rattle.std.specs.List.{position_or_len}
 use Rattle.std.specs.Option.{option_map, option_and_then, option_or}
 use Rattle.std.specs.Cmp.Lexicographic.{pointwise}
@@ -151,6 +151,35 @@ functions_at text = do
 -- a command, whatever faults it has
 unfoldable pub command_at : List ℕ → Option (Command × List ℕ)
 command_at text = if begins_with_byte byte.dollar text then functions_at (drop 1 text) else acts_at text
+
+-- ---- operands: references, values and lock names. Reading these takes memory, and nothing else of a line does
+
+-- a command is read as far as its operands: an act's are behind a blank, where LOCK may end too
+abbrev pub AreBehindAct : Word → List ℕ → Type 0
+AreBehindAct (words.Access word) text = begins_blank text ≡ true
+AreBehindAct words.Lock text = (begins_blank text ≡ true) × (0 < length (past_blank text))
+AreBehindAct (words.Alone word) text = ⊥
+
+-- a function's are behind a parenthesis
+abbrev pub AreBehindFunction : Word → List ℕ → Type 0
+AreBehindFunction (words.Access word) text = begins_with_byte byte.opening text ≡ true
+AreBehindFunction words.Lock text = ⊥
+AreBehindFunction (words.Alone word) text = ⊥
+
+-- an act, or a function without its '$', is read so far
+unfoldable pub ActComesToOperands : List ℕ → Type 0
+ActComesToOperands text = IsSomeAnd (act_of (front_letters text)) (λ word. AreBehindAct word (past_letters text))
+
+unfoldable pub FunctionComesToOperands : List ℕ → Type 0
+FunctionComesToOperands text = IsSomeAnd (function_of (front_letters text)) (λ word. AreBehindFunction word (past_letters text))
+
+-- a command, with a '$' or without
+abbrev pub SignedComesToOperands : Bool → List ℕ → Type 0
+SignedComesToOperands true text = FunctionComesToOperands (drop 1 text)
+SignedComesToOperands false text = ActComesToOperands text
+
+unfoldable pub ComesToOperands : List ℕ → Type 0
+ComesToOperands text = SignedComesToOperands (begins_with_byte byte.dollar text) text
 
 -- a value over 32,767 bytes
 abbrev pub value_fault : List ℕ → Option Refusal

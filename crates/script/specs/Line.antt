@@ -1,13 +1,13 @@
 -- What a line asks. Source: docs/FORMATS.md, "Lines" and "Which refusal a line gets".
 -- Read reading_of and job_of_line, then IsReading; what a command is stands in Commands.
-use Rattle.std.specs.Prelude.{◌≡◌, ⊤, ℕ, Bool, ◌&&◌, ◌||◌, ◌==◌, if◌then◌else◌, List, length, Option, None, Some, Result, Ok, Err}
+use Rattle.std.specs.Prelude.{◌≡◌, ◌<◌, ℕ, Bool, true, ◌&&◌, ◌||◌, ◌==◌, if◌then◌else◌, List, length, Option, None, Some, Result, Ok, Err}
 use Rattle.refusal.specs.declared.Refusal.{Refusal}
 use Rattle.refusal.specs.declared.Refusal.TheVariants.{BadLine, BadJob, OutOfMemory}
 use Rattle.command.specs.declared.request.Command.{Command}
 use Rattle.m_text.specs.Reading.{◌>>=◌}
 use Rattle.m_text.specs.Literal.{front_digits, past_digits, number_from}
 use Rattle.m_text.specs.Place.{unless}
-use Rattle.script.specs.Commands.{begins_blank, past_blank, blank_at, command_at, command_fault}
+use Rattle.script.specs.Commands.{begins_blank, past_blank, blank_at, command_at, command_fault, ComesToOperands}
 pub use Rattle.collation.specs.Limits.{is_job}
 use Rattle.script.specs.declared.line.LineFault.{LineFault}
 
@@ -43,9 +43,14 @@ unfoldable pub job_of_line : List ℕ → Option ℕ
 job_of_line line =
     if ends_digits (past_digits line) && is_job (number_from 0 (front_digits line)) then Some (number_from 0 (front_digits line)) else None
 
--- the refusal of the line, or that of memory
+-- the line is read as far as its command's operands: a reference, a value, lock names
+abbrev pub HasOperands : List ℕ → Type 0
+HasOperands line =
+    (0 < length (front_digits line)) × (begins_blank (past_digits line) ≡ true) × ComesToOperands (past_blank (past_digits line))
+
+-- the refusal of the line, or that of memory, which only reading operands takes
 abbrev pub IsRefusalOf : List ℕ → Refusal → Type 0
-IsRefusalOf line OutOfMemory = ⊤
+IsRefusalOf line OutOfMemory = HasOperands line
 IsRefusalOf line refusal = reading_of line ≡ Err refusal
 
 -- what a function answered is what the line asks, unless memory ran out

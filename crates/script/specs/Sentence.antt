@@ -1,7 +1,8 @@
 -- Sentences, and the commands that they say with the references and lock names of drafts.
-use Rattle.std.specs.Prelude.{◌≡◌, ℕ, List, [], Option, None, Some, Result, Ok, Err, vec_capacity}
+use Rattle.std.specs.Prelude.{◌≡◌, ⊤, ℕ, List, [], Option, None, Some, Result, Ok, Err, vec_capacity}
 use Rattle.std.specs.Borrow.{Bor}
 use Rattle.refusal.specs.declared.Refusal.{Refusal}
+use Rattle.refusal.specs.declared.Refusal.TheVariants.{OutOfMemory}
 use Rattle.collation.specs.Reference.{Reference, Resource}
 use Rattle.lock_name.specs.declared.lock.LockCommand.{LockCommand}
 use Rattle.lock_name.specs.declared.lock.LockCommand.TheVariants.{Release}
@@ -98,6 +99,23 @@ Finds drafts (Err refusal) read = IsUnread refusal read
 abbrev pub FindsAll : Drafts → Result Sentence Refusal → Option Command → Type 0
 FindsAll drafts (Ok sentence) read = (c : Command) × (read ≡ Some c) × Spells drafts sentence c
 FindsAll drafts (Err refusal) read = IsUnread refusal read
+
+-- the sentence has operands
+abbrev pub IsOfOperands : Sentence → Type 0
+IsOfOperands (sentences.Access sentence) = ⊤
+IsOfOperands sentences.Release = ⊥
+IsOfOperands (sentences.Lock form) = ⊤
+IsOfOperands (sentences.Alone word) = ⊥
+
+-- there are operands where the sentence has some, and where memory was refused
+abbrev pub ReadsOperands : Type 0 → Result Sentence Refusal → Type 0
+ReadsOperands are_there (Ok sentence) = IsOfOperands sentence → are_there
+ReadsOperands are_there (Err refusal) = refusal ≡ OutOfMemory → are_there
+
+-- the same, before what follows
+abbrev pub ReadsOperandsAt : Type 0 → Result (Sentence × Bor (List ℕ)) Refusal → Type 0
+ReadsOperandsAt are_there (Ok x) = IsOfOperands x.0 → are_there
+ReadsOperandsAt are_there (Err refusal) = refusal ≡ OutOfMemory → are_there
 
 -- the sentence is that of some command
 pub record SpellsSome (drafts : Drafts) (sentence : Sentence) : Type 0 where

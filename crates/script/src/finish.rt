@@ -1,5 +1,6 @@
 //! Commands of sentences, or the first fault of one.
-ghost use Rattle.std.specs.Prelude.{◌≡◌, None, Some};
+ghost use Rattle.std.specs.Prelude.{◌≡◌, None, Some, IsErrOf};
+ghost use Rattle.refusal.specs.declared.Refusal.{Refusal};
 ghost use Rattle.collation.specs.Reference.{Reference};
 ghost use Rattle.key_codec.specs.Draft.{IsDraft, IsSpelled};
 ghost use Rattle.command.specs.declared.access.DataCommand.{DataCommand as DataView};
@@ -7,7 +8,7 @@ ghost use Rattle.command.specs.declared.request.Command.{Command as CommandView}
 ghost use Rattle.m_text.specs.Reading.{Answers};
 ghost use Rattle.m_text.specs.Place.{ref_fault, spot_fault, spot_of, unless};
 ghost use Rattle.script.specs.Commands.{command_of as command_of_spec, value_fault, data_fault, command_fault};
-ghost use Rattle.script.specs.Sentence.{Spells, SpellsData, SpellsSome, SomeData};
+ghost use Rattle.script.specs.Sentence.{IsOfOperands, Spells, SpellsData, SpellsSome, SomeData};
 
 use crate::lock::locking;
 use crate::sentence::{DataSentence, Drafts, Sentence};
@@ -153,14 +154,16 @@ fn command_of(word: AloneWord) -> Command
     }
 }
 
-// The command, or its first fault from left to right. Lock names and a value are taken out of the drafts.
+// The command, or its first fault from left to right. Lock names and a value are taken out of the drafts. A command
+// without operands takes no memory.
 pub(crate) fn finish(
     alloc: Global,
     sentence: Sentence,
     drafts: &mut Drafts,
 ) -> Result<Command, Refusal>
     requires { SpellsSome drafts.old sentence }
-    ensures { (c : CommandView) → Spells drafts.old sentence c → Answers (λ x. x) result (unless (command_fault c) c) }
+    ensures command { (c : CommandView) → Spells drafts.old sentence c → Answers (λ x. x) result (unless (command_fault c) c) }
+    ensures operands { IsErrOf result Refusal.OutOfMemory → IsOfOperands sentence }
 {
     match sentence {
         Sentence::Access(sentence) => match finish_data(alloc, sentence, drafts) {

@@ -1,8 +1,8 @@
 //! Lines.
 ghost use Rattle.std.specs.Prelude.{◌≡◌, ℕ, List, Some, None, OnErr, if◌then◌else◌};
 ghost use Rattle.m_text.specs.Literal.{front_digits, past_digits, number_from};
-ghost use Rattle.script.specs.Sentence.{FindsAll, HasNoNames, HasNoValue};
-ghost use Rattle.script.specs.Line.{IsReading, IsRefusalOf, is_job, ends_digits as ends_digits_spec, spelled_by, reading_of, job_of_line as job_of_line_spec};
+ghost use Rattle.script.specs.Sentence.{FindsAll, HasNoNames, HasNoValue, ReadsOperands};
+ghost use Rattle.script.specs.Line.{HasOperands, IsReading, IsRefusalOf, is_job, ends_digits as ends_digits_spec, spelled_by, reading_of, job_of_line as job_of_line_spec};
 
 use crate::blank::{begins_blank, past_blank, skip_blank};
 use crate::finish::finish;
@@ -60,14 +60,15 @@ pub fn job_of_line(line: &[u8]) -> Option<Job>
 }
 
 // The sentence of a line that begins with these digits.
-#[tactic(auto, unfolding(crate::specs::Line::spelled_by))]
+#[tactic(auto, using(crate::proofs::Operands::of_lines), unfolding(crate::specs::Line::spelled_by))]
 fn read_spelled(
     alloc: Global,
     digits: &[u8],
     rest: &[u8],
     drafts: &mut Drafts,
 ) -> Result<Sentence, Refusal>
-    ensures { (line : List ℕ) → front_digits line ≡ digits.now → past_digits line ≡ rest.now → FindsAll drafts.new result (spelled_by line) }
+    ensures reading { (line : List ℕ) → front_digits line ≡ digits.now → past_digits line ≡ rest.now → FindsAll drafts.new result (spelled_by line) }
+    ensures operands { (line : List ℕ) → front_digits line ≡ digits.now → past_digits line ≡ rest.now → ReadsOperands (HasOperands line) result }
 {
     if digits.is_empty() {
         return Err(Refusal::BadLine);
@@ -98,7 +99,8 @@ fn refuse(alloc: Global, drafts: &mut Drafts, refusal: Refusal, job: Option<Job>
 /// nor lock names. A LOCK's timeout isn't returned.
 /// Refusals, in this order: `BadLine` where the line isn't of the grammar; `BadJob` where its job isn't 1 to 4,096; then
 /// the first fault of the command's references, lock names and values from left to right: `BadName`,
-/// `TooManySubscripts`, `EmptySubscript`, `SubscriptTooLong`, `ValueTooLong`. And `OutOfMemory`, which may hide another.
+/// `TooManySubscripts`, `EmptySubscript`, `SubscriptTooLong`, `ValueTooLong`. And `OutOfMemory`, which may hide another,
+/// only of a line that is read as far as its operands (`HasOperands`): nothing else takes memory.
 /// The job that is printed stands in the fault.
 #[tactic(auto, using(crate::proofs::Judging::of_lines))]
 pub fn read_line(

@@ -6,7 +6,8 @@ ghost use Rattle.m_text.specs.Drafts.{DraftsSpelled};
 ghost use Rattle.m_text.specs.Literal.{literal_at};
 ghost use Rattle.m_text.specs.Reading.{GivesUnlessMemory, GivesExactly, after_byte as after_of};
 ghost use Rattle.script.specs.Commands as commands;
-ghost use Rattle.script.specs.Sentence.{Finds, FindsData, Tells};
+ghost use Rattle.script.specs.Commands.{AreBehindAct, AreBehindFunction, ActComesToOperands, FunctionComesToOperands, ComesToOperands};
+ghost use Rattle.script.specs.Sentence.{Finds, FindsData, ReadsOperandsAt, Tells};
 
 use crate::blank::{past_blank, skip_blank};
 use crate::lock::{Form, read_locking};
@@ -195,13 +196,14 @@ fn read_operands<'a>(
 }
 
 // What stands after LOCK's word: nothing but a blank, or a blank and names.
-#[tactic(auto, unfolding(crate::specs::Commands::lock_at))]
+#[tactic(auto, using(crate::proofs::Operands::only_there), unfolding(crate::specs::Commands::lock_at))]
 fn read_lock<'a>(
     alloc: Global,
     text: &'a [u8],
     drafts: &mut Drafts,
 ) -> Result<(Sentence, &'a [u8]), Refusal>
-    ensures { Finds drafts.new result (commands.lock_at text.now) }
+    ensures reading { Finds drafts.new result (commands.lock_at text.now) }
+    ensures operands { ReadsOperandsAt (AreBehindAct Word.Lock text.now) result }
 {
     if past_blank(text).is_empty() {
         return Ok((Sentence::Release, text));
@@ -214,13 +216,15 @@ fn read_lock<'a>(
 }
 
 // What stands after the word of a data command that is an act.
+#[tactic(auto, using(crate::proofs::Operands::only_there))]
 fn read_change<'a>(
     alloc: Global,
     word: DataWord,
     text: &'a [u8],
     drafts: &mut Drafts,
 ) -> Result<(Sentence, &'a [u8]), Refusal>
-    ensures { Finds drafts.new result (commands.behind_act (Word.Access word) text.now) }
+    ensures reading { Finds drafts.new result (commands.behind_act (Word.Access word) text.now) }
+    ensures operands { ReadsOperandsAt (AreBehindAct (Word.Access word) text.now) result }
 {
     let rest = skip_blank(text)?;
     match read_operands(alloc, word, rest, drafts) {
@@ -230,13 +234,15 @@ fn read_change<'a>(
 }
 
 // What stands after the word of a data command that is a function.
+#[tactic(auto, using(crate::proofs::Operands::only_there))]
 fn read_look<'a>(
     alloc: Global,
     word: DataWord,
     text: &'a [u8],
     drafts: &mut Drafts,
 ) -> Result<(Sentence, &'a [u8]), Refusal>
-    ensures { Finds drafts.new result (commands.behind_function (Word.Access word) text.now) }
+    ensures reading { Finds drafts.new result (commands.behind_function (Word.Access word) text.now) }
+    ensures operands { ReadsOperandsAt (AreBehindFunction (Word.Access word) text.now) result }
 {
     let rest = past(b'(', text)?;
     let (sentence, rest) = read_operands(alloc, word, rest, drafts)?;
@@ -244,13 +250,14 @@ fn read_look<'a>(
     Ok((Sentence::Access(sentence), rest))
 }
 
-#[tactic(auto, unfolding(crate::specs::Commands::acts_at))]
+#[tactic(auto, unfolding(crate::specs::Commands::acts_at, crate::specs::Commands::ActComesToOperands))]
 fn read_acts<'a>(
     alloc: Global,
     text: &'a [u8],
     drafts: &mut Drafts,
 ) -> Result<(Sentence, &'a [u8]), Refusal>
-    ensures { Finds drafts.new result (commands.acts_at text.now) }
+    ensures reading { Finds drafts.new result (commands.acts_at text.now) }
+    ensures operands { ReadsOperandsAt (ActComesToOperands text.now) result }
 {
     let (letters, rest) = split_letters(text);
     match act_of(letters) {
@@ -261,13 +268,14 @@ fn read_acts<'a>(
     }
 }
 
-#[tactic(auto, unfolding(crate::specs::Commands::functions_at))]
+#[tactic(auto, unfolding(crate::specs::Commands::functions_at, crate::specs::Commands::FunctionComesToOperands))]
 fn read_functions<'a>(
     alloc: Global,
     text: &'a [u8],
     drafts: &mut Drafts,
 ) -> Result<(Sentence, &'a [u8]), Refusal>
-    ensures { Finds drafts.new result (commands.functions_at text.now) }
+    ensures reading { Finds drafts.new result (commands.functions_at text.now) }
+    ensures operands { ReadsOperandsAt (FunctionComesToOperands text.now) result }
 {
     let (letters, rest) = split_letters(text);
     match function_of(letters) {
@@ -279,13 +287,14 @@ fn read_functions<'a>(
 }
 
 // The sentence of the command at the front of a text, and what follows it.
-#[tactic(auto, unfolding(crate::specs::Commands::command_at))]
+#[tactic(auto, unfolding(crate::specs::Commands::command_at, crate::specs::Commands::ComesToOperands))]
 pub(crate) fn read_sentence<'a>(
     alloc: Global,
     text: &'a [u8],
     drafts: &mut Drafts,
 ) -> Result<(Sentence, &'a [u8]), Refusal>
-    ensures { Finds drafts.new result (commands.command_at text.now) }
+    ensures reading { Finds drafts.new result (commands.command_at text.now) }
+    ensures operands { ReadsOperandsAt (ComesToOperands text.now) result }
 {
     match after(b'$', text) {
         Some(function) => read_functions(alloc, function, drafts),

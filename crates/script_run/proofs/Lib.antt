@@ -5,3 +5,4 @@ pub mod Outcomes
 pub mod Runs
 pub mod Stands
 pub mod Stopped
+pub mod Refused

@@ -4,6 +4,7 @@ use Rattle.std.proofs.lemmas.List.{append-nil, map-append}
 use Rattle.std.proofs.lemmas.Grind.{flat_map-append}
 use Rattle.command.specs.declared.request.Command.{Command}
 use Rattle.command.specs.declared.request.Reply.{Reply}
+use Rattle.command.specs.declared.request.Reply.TheVariants.{Refused}
 use Rattle.journal.specs.History.{initial, after as after_units}
 use Rattle.journal.specs.Story.{Machine}
 use Rattle.serial.specs.Machine.{run_of}
@@ -12,7 +13,8 @@ use Rattle.serial.specs.laws.Good.{good_step, good_run}
 use Rattle.serial.specs.laws.Runs.{good_reply}
 use Rattle.script_run.specs.OpenJobs.{open_after}
 use Rattle.refusal.specs.declared.Refusal.{Refusal}
-use Rattle.script.specs.Line.{job_of_line}
+use Rattle.refusal.specs.declared.Refusal.TheVariants.{OutOfMemory}
+use Rattle.script.specs.Line.{reading_of, job_of_line}
 use Rattle.script.specs.Text.{reply_text}
 use Rattle.std.specs.Prelude.{Some, None}
 use Rattle.std.specs.Io.BufRead.{strip_last}
@@ -22,7 +24,7 @@ use Rattle.std.specs.Io.KnownBytes.{Appends}
 use Rattle.bstr.specs.Find.{IsFirstByte, is_byte}
 use Rattle.script_run.specs.Lines.{nonempty_line, lines_of, has_no_end, AreLinesBefore}
 use Rattle.script_run.proofs.Cut.{end_of, first_line, no_end, joined_line, has_no_end-append, none_before, line_before, lines_before}
-use Rattle.script_run.specs.Output.{Answer, asked_by, IsAnswer, AreAnswers, told_by, left_by, exact_reply, exact_answers, ends_session, left_open, halts_of, left_at_end, text_of, with_reply, noted, ending}
+use Rattle.script_run.specs.Output.{Answer, IsReplyDue, IsAnswer, AreAnswers, told_by, left_by, exact_reply, exact_answers, ends_session, left_open, halts_of, left_at_end, text_of, with_reply, noted, ending}
 use Rattle.script_run.proofs.Outcomes.{noted-none, noted-one, noted-then}
 use Rattle.script_run.specs.Runs.{Ran, Broke, RanFront, BrokeFront, RanEnd, BrokeEnd}
 use Rattle.script_run.specs.declared.answers.Script.{Script}
@@ -31,13 +33,20 @@ one-text : (line : List ℕ) (reply : Reply) (job : Option ℕ) (old : Script) (
 one-text line reply job old out j t = t ∙ ap (λ (k : Option ℕ). old.out.items ++ reply_text k reply) j ∙ ap (λ (ts : List ℕ). old.out.items ++ ts) (sym (append-nil _))
 
 -- a line's answer keeps the machine good
-answered-good : (s t : Machine) (asked : Result (ℕ × Command) Refusal) (reply : Reply) → IsAnswer s asked reply → t ≡ told_by asked reply s → IsGood s → IsGood t
-answered-good s t (Ok step) reply (inl is) left good = subst IsGood (sym left) (good_reply step reply s is good)
-answered-good s t (Ok step) reply (inr memory) left good = subst IsGood (sym (left ∙ ap (λ r. told_by (Ok step) r s) memory)) good
-answered-good s t (Err refusal) reply is left good = subst IsGood (sym left) good
+due-good : (s t : Machine) (asked : Result (ℕ × Command) Refusal) (reply : Reply) → IsReplyDue s asked reply → t ≡ told_by asked reply s → IsGood s → IsGood t
+due-good s t (Ok step) reply is left good = subst IsGood (sym left) (good_reply step reply s is good)
+due-good s t (Err refusal) reply is left good = subst IsGood (sym left) good
+
+none-told : (s t : Machine) (asked : Result (ℕ × Command) Refusal) (reply : Reply) → reply ≡ Refused OutOfMemory → t ≡ told_by asked reply s → IsGood s → IsGood t
+none-told s t (Ok step) reply memory left good = subst IsGood (sym (left ∙ ap (λ r. told_by (Ok step) r s) memory)) good
+none-told s t (Err refusal) reply memory left good = subst IsGood (sym left) good
+
+answered-good : (s t : Machine) (line : List ℕ) (reply : Reply) → IsAnswer s line reply → t ≡ told_by (reading_of line) reply s → IsGood s → IsGood t
+answered-good s t line reply (inl due) left good = due-good s t (reading_of line) reply due left good
+answered-good s t line reply (inr memory) left good = none-told s t (reading_of line) reply memory.0 left good
 
 -- one line was answered, and its reply gathered
-pub Ran-one : (line : List ℕ) (reply : Reply) (job : Option ℕ) (old new : Script) (before now : Option (List ℕ)) (out : List ℕ) → job ≡ job_of_line line → IsAnswer old.core.machine (asked_by line) reply → new.core.machine ≡ told_by (asked_by line) reply old.core.machine
+pub Ran-one : (line : List ℕ) (reply : Reply) (job : Option ℕ) (old new : Script) (before now : Option (List ℕ)) (out : List ℕ) → job ≡ job_of_line line → IsAnswer old.core.machine line reply → new.core.machine ≡ told_by (reading_of line) reply old.core.machine
     → out ≡ old.out.items ++ reply_text job reply → WritesFront before now out new.out.items → new.outcome ≡ with_reply reply old.outcome → new.jobs ≡ open_after job (ends_session line reply) old.jobs → Ran (line ∷ []) old new before now
 Ran-one line reply job old new before now out j a u t p r o = record {
   answers = (line, reply) ∷ [];
@@ -47,17 +56,17 @@ Ran-one line reply job old new before now out j a u t p r o = record {
   passes = subst (λ (ts : List ℕ). WritesFront before now ts new.out.items) (one-text line reply job old out j t) p;
   outcome = r ∙ noted-one (line, reply) old.outcome;
   jobs = o ∙ ap (λ (k : Option ℕ). open_after k (ends_session line reply) old.jobs) j;
-  good = answered-good old.core.machine new.core.machine (asked_by line) reply a u;
+  good = answered-good old.core.machine new.core.machine line reply a u;
 }
 
 -- a line was answered, and of its reply's text a beginning was written
-pub Broke-one : (line : List ℕ) (reply : Reply) (job : Option ℕ) (old : Script) (core : Machine) (before now : Option (List ℕ)) (out : List ℕ) → job ≡ job_of_line line → IsAnswer old.core.machine (asked_by line) reply
-    → core ≡ told_by (asked_by line) reply old.core.machine → out ≡ old.out.items ++ reply_text job reply → WritesBeginning before now out → Broke (line ∷ []) old before now
+pub Broke-one : (line : List ℕ) (reply : Reply) (job : Option ℕ) (old : Script) (core : Machine) (before now : Option (List ℕ)) (out : List ℕ) → job ≡ job_of_line line → IsAnswer old.core.machine line reply
+    → core ≡ told_by (reading_of line) reply old.core.machine → out ≡ old.out.items ++ reply_text job reply → WritesBeginning before now out → Broke (line ∷ []) old before now
 Broke-one line reply job old core before now out j a u t w = record {
   answers = (line, reply) ∷ [];
   of_lines = refl;
   each = (a, tt);
-  good = answered-good old.core.machine (told_by (asked_by line) reply old.core.machine) (asked_by line) reply a refl;
+  good = answered-good old.core.machine (told_by (reading_of line) reply old.core.machine) line reply a refl;
   begun = subst (WritesBeginning before now) (one-text line reply job old out j t) w;
 }
 
@@ -85,7 +94,7 @@ Ran-empty (b ∷ bs) old new a lt u o r j = absurd (omega (arith, lt))
 -- answers at their places, and then answers after them
 pub AreAnswers-append : (s t : Machine) (xs ys : List Answer) → AreAnswers s xs → t ≡ left_by xs s → AreAnswers t ys → AreAnswers s (xs ++ ys)
 AreAnswers-append s t [] ys h e k = subst (λ (m : Machine). AreAnswers m ys) e k
-AreAnswers-append s t (x ∷ xs) ys h e k = (h.0, AreAnswers-append (told_by (asked_by x.0) x.1 s) t xs ys h.1 e k)
+AreAnswers-append s t (x ∷ xs) ys h e k = (h.0, AreAnswers-append (told_by (reading_of x.0) x.1 s) t xs ys h.1 e k)
 
 -- the text of answers and of those after them
 text-then : (out : List ℕ) (xs ys : List Answer) → (out ++ text_of xs) ++ text_of ys ≡ out ++ text_of (xs ++ ys)
@@ -94,7 +103,7 @@ text-then out xs ys = append_assoc out (text_of xs) (text_of ys) ∙ ap (λ (ts 
 -- what answers leave, and then those after them
 pub left-append : (xs ys : List Answer) (s : Machine) → left_by (xs ++ ys) s ≡ left_by ys (left_by xs s)
 left-append [] ys s = refl
-left-append (x ∷ xs) ys s = left-append xs ys (told_by (asked_by x.0) x.1 s)
+left-append (x ∷ xs) ys s = left-append xs ys (told_by (reading_of x.0) x.1 s)
 
 pub left-then : (s t : Machine) (xs ys : List Answer) → t ≡ left_by xs s → left_by ys t ≡ left_by (xs ++ ys) s
 left-then s t xs ys e = ap (left_by ys) e ∙ sym (left-append xs ys s)
@@ -164,15 +173,15 @@ Ran-and-none ls a b c p q r h k = subst (λ (l : List (List ℕ)). Ran l a c p r
 -- each line has the machine's reply, were there memory for all that is left
 pub exact-lines : (ls : List (List ℕ)) (s : Machine) → map (λ (x : Answer). x.0) (exact_answers ls s) ≡ ls
 exact-lines [] s = refl
-exact-lines (l ∷ ls) s = ap (λ (m : List (List ℕ)). l ∷ m) (exact-lines ls (told_by (asked_by l) (exact_reply (asked_by l) s) s))
+exact-lines (l ∷ ls) s = ap (λ (m : List (List ℕ)). l ∷ m) (exact-lines ls (told_by (reading_of l) (exact_reply (reading_of l) s) s))
 
-exact-answer : (s : Machine) (r : Result (ℕ × Command) Refusal) → IsAnswer s r (exact_reply r s)
-exact-answer s (Ok step) = inl (inl refl)
-exact-answer s (Err e) = inl refl
+exact-due : (s : Machine) (r : Result (ℕ × Command) Refusal) → IsReplyDue s r (exact_reply r s)
+exact-due s (Ok step) = inl refl
+exact-due s (Err e) = refl
 
 pub exact-each : (ls : List (List ℕ)) (s : Machine) → AreAnswers s (exact_answers ls s)
 exact-each [] s = tt
-exact-each (l ∷ ls) s = (exact-answer s (asked_by l), exact-each ls (told_by (asked_by l) (exact_reply (asked_by l) s) s))
+exact-each (l ∷ ls) s = (inl (exact-due s (reading_of l)), exact-each ls (told_by (reading_of l) (exact_reply (reading_of l) s) s))
 
 exact-told : (r : Result (ℕ × Command) Refusal) (s : Machine) → IsGood s → IsGood (told_by r (exact_reply r s) s)
 exact-told (Ok step) s good = good_step step.0 step.1 s good
@@ -180,7 +189,7 @@ exact-told (Err e) s good = good
 
 pub exact-good : (ls : List (List ℕ)) (s : Machine) → IsGood s → IsGood (left_by (exact_answers ls s) s)
 exact-good [] s good = good
-exact-good (l ∷ ls) s good = exact-good ls (told_by (asked_by l) (exact_reply (asked_by l) s) s) (exact-told (asked_by l) s good)
+exact-good (l ∷ ls) s good = exact-good ls (told_by (reading_of l) (exact_reply (reading_of l) s) s) (exact-told (reading_of l) s good)
 
 -- the run broke off before these lines
 pub Broke-before : (ls : List (List ℕ)) (a : Script) (p : Option (List ℕ)) → Broke ls a p p

@@ -24,7 +24,8 @@ use Rattle.script_run.specs.declared.fault.Fault.{Fault}
 use Rattle.script_run.specs.declared.fault.Fault.TheVariants.{Memory}
 use Rattle.script_run.specs.Faults.{fault_of}
 use Rattle.script_run.specs.Lines.{nonempty_line, lines_of, has_no_end}
-use Rattle.script_run.specs.Output.{Answer, asked_by, IsAnswer, AreAnswers, told_by, left_by, left_open, left_at_end, halts_of, text_of, outcome_of, ending, IsBegun, IsEndingFront, HasKept}
+use Rattle.script.specs.Line.{reading_of}
+use Rattle.script_run.specs.Output.{Answer, IsAnswer, AreAnswers, told_by, left_by, left_open, left_at_end, halts_of, text_of, outcome_of, ending, IsBegun, IsEndingFront, HasKept}
 use Rattle.script_run.specs.Runs.{Ran, RanFront, HasRead, Stopped, StoppedFront, EndedFront, StoppedEnd, HasGathered}
 use Rattle.script_run.specs.declared.answers.Script.{Script}
 use Rattle.script_run.specs.laws.Lines.{last_line}
@@ -54,7 +55,7 @@ is_memory {T = T} (Err f) e h k = of_memory e (sym h ∙ error_is {T = T} f Memo
 -- ---- lines
 
 -- a line was done, and its reply found no memory
-pub Stopped-one : (line : List ℕ) (reply : Reply) (old new : Script) (a : Option (List ℕ)) → IsAnswer old.core.machine (asked_by line) reply → new.core.machine ≡ told_by (asked_by line) reply old.core.machine → new.out.items ≡ old.out.items
+pub Stopped-one : (line : List ℕ) (reply : Reply) (old new : Script) (a : Option (List ℕ)) → IsAnswer old.core.machine line reply → new.core.machine ≡ told_by (reading_of line) reply old.core.machine → new.out.items ≡ old.out.items
     → Stopped (line ∷ []) old new a a
 Stopped-one line reply old new a h u o = record {
   answers = [];
@@ -309,7 +310,7 @@ gathered_end start listed (Some bytes) left left' old new last begun piece a b h
 
 each-front : (s : Machine) (xs ys : List Answer) → AreAnswers s (xs ++ ys) → AreAnswers s xs
 each-front s [] ys h = tt
-each-front s (x ∷ xs) ys h = (h.0, each-front (told_by (asked_by x.0) x.1 s) xs ys h.1)
+each-front s (x ∷ xs) ys h = (h.0, each-front (told_by (reading_of x.0) x.1 s) xs ys h.1)
 
 kept_known : (start : Machine) (listed : Bool) (bytes : List ℕ) (script : Script) (old new last : Option (List ℕ)) → HasGathered start listed bytes script old new → Appends new last script.out.items → HasKept start listed bytes old last
 kept_known start listed bytes script old new last h w = record {

@@ -14,7 +14,7 @@ use Rattle.journal.specs.History.{initial, after, IsLegal}
 use Rattle.journal.specs.Story.{Machine, told}
 use Rattle.serial.specs.Machine.{IsReply, reply_of, run_of}
 use Rattle.serial.specs.Memory.{is_out_of_memory}
-use Rattle.script.specs.Line.{reading_of, job_of_line}
+use Rattle.script.specs.Line.{reading_of, job_of_line, HasOperands}
 use Rattle.script.specs.Text.{reply_text}
 use Rattle.listing.specs.Listing.{listing_text, IsListedFront}
 use Rattle.listing.specs.Bytes.{WritesBeginning}
@@ -26,14 +26,14 @@ use Rattle.script_run.specs.declared.outcome.Outcome.{Outcome}
 abbrev pub Answer : Type 0
 Answer = List ℕ × Reply
 
--- what a line asks of the machine, or its refusal
-abbrev pub asked_by : List ℕ → Result (ℕ × Command) Refusal
-asked_by line = reading_of line
+-- what asks something gets a reply of the machine, what asks nothing its refusal
+abbrev pub IsReplyDue : Machine → Result (ℕ × Command) Refusal → Reply → Type 0
+IsReplyDue s (Ok step) reply = IsReply step.0 step.1 reply s
+IsReplyDue s (Err refusal) reply = reply ≡ Refused refusal
 
--- a line that asks nothing gets its refusal, or that of memory; another gets a reply of the machine, or that of memory
-abbrev pub IsAnswer : Machine → Result (ℕ × Command) Refusal → Reply → Type 0
-IsAnswer s (Ok step) reply = IsReply step.0 step.1 reply s ⊎ (reply ≡ Refused OutOfMemory)
-IsAnswer s (Err refusal) reply = (reply ≡ Refused refusal) ⊎ (reply ≡ Refused OutOfMemory)
+-- a line gets that, or, only where it has operands to be read, the refusal of memory
+abbrev pub IsAnswer : Machine → List ℕ → Reply → Type 0
+IsAnswer s line reply = IsReplyDue s (reading_of line) reply ⊎ ((reply ≡ Refused OutOfMemory) × HasOperands line)
 
 -- what a line and its reply change
 abbrev pub told_by : Result (ℕ × Command) Refusal → Reply → Machine → Machine
@@ -43,12 +43,12 @@ told_by (Err refusal) reply s = s
 -- what lines and their replies leave, each in its turn
 abbrev pub left_by : List Answer → Machine → Machine
 left_by [] s = s
-left_by (a ∷ answers) s = left_by answers (told_by (asked_by a.0) a.1 s)
+left_by (a ∷ answers) s = left_by answers (told_by (reading_of a.0) a.1 s)
 
 -- each line has its answer at its place
 abbrev pub AreAnswers : Machine → List Answer → Type 0
 AreAnswers s [] = ⊤
-AreAnswers s (a ∷ answers) = IsAnswer s (asked_by a.0) a.1 × AreAnswers (told_by (asked_by a.0) a.1 s) answers
+AreAnswers s (a ∷ answers) = IsAnswer s a.0 a.1 × AreAnswers (told_by (reading_of a.0) a.1 s) answers
 
 abbrev pub text_of : List Answer → List ℕ
 text_of answers = flat_map (λ a. reply_text (job_of_line a.0) a.1) answers
@@ -103,7 +103,7 @@ asks_halt (Err refusal) = false
 
 -- the session of a line's job ended with it: HALT was done
 abbrev pub ends_session : List ℕ → Reply → Bool
-ends_session line reply = asks_halt (asked_by line) && not (is_refused reply)
+ends_session line reply = asks_halt (reading_of line) && not (is_refused reply)
 
 -- the jobs that are open after lines and their replies, those before them given
 abbrev pub left_open : List Answer → List ℕ → List ℕ
@@ -142,7 +142,7 @@ exact_reply (Err refusal) s = Refused refusal
 -- each line with its reply, in its turn
 abbrev pub exact_answers : List (List ℕ) → Machine → List Answer
 exact_answers [] s = []
-exact_answers (line ∷ lines) s = (line, exact_reply (asked_by line) s) ∷ exact_answers lines (told_by (asked_by line) (exact_reply (asked_by line) s) s)
+exact_answers (line ∷ lines) s = (line, exact_reply (reading_of line) s) ∷ exact_answers lines (told_by (reading_of line) (exact_reply (reading_of line) s) s)
 
 -- these answers, and what follows them
 abbrev pub text_with_ending : Machine → Bool → List Answer → List ℕ

@@ -1,9 +1,9 @@
 //! A line, its reply, and the reply's text.
 ghost use Rattle.std.specs.Prelude.{◌≡◌, ◌++◌, ◌∷◌, [], OnOk, OnErr, IsErrOf, ◌&&◌, not};
-ghost use Rattle.script.specs.Line.{job_of_line};
+ghost use Rattle.script.specs.Line.{reading_of, job_of_line};
 ghost use Rattle.listing.specs.Bytes.{IsOneMore, WritesBeginning};
 ghost use Rattle.script_run.specs.Lines.{nonempty_line};
-ghost use Rattle.script_run.specs.Output.{asked_by, ends_session, is_halt as is_halt_command, IsAnswer, told_by};
+ghost use Rattle.script_run.specs.Output.{ends_session, is_halt as is_halt_command, IsAnswer, told_by};
 ghost use Rattle.script_run.specs.Runs.{Ran, Broke, Stopped};
 
 use crate::open_jobs::OpenJobs;
@@ -45,6 +45,7 @@ fn is_done(halts: bool, refused: bool) -> bool
 }
 
 // Reads a line and does it. Answers its job, whether the job's session ended, and the reply.
+#[tactic(auto, using(crate::proofs::Refused::refused_answer))]
 fn answer_line(
     alloc: Global,
     core: &mut JobCore,
@@ -53,8 +54,8 @@ fn answer_line(
 ) -> (Option<Job>, bool, Reply)
     ensures job { result.0 ≡ job_of_line line.now }
     ensures ended { result.1 ≡ ends_session line.now result.2 }
-    ensures answer { IsAnswer core.old.machine (asked_by line.now) result.2 }
-    ensures machine { core.new.machine ≡ told_by (asked_by line.now) result.2 core.old.machine }
+    ensures answer { IsAnswer core.old.machine line.now result.2 }
+    ensures machine { core.new.machine ≡ told_by (reading_of line.now) result.2 core.old.machine }
 {
     match read_line(alloc, line, drafts) {
         Ok((job, command)) => {

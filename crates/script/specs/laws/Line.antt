@@ -351,15 +351,15 @@ line_read blank text tail c parted spelled ended =
     ∙ ap (λ (t : List ℕ). cond (length t == 0) (Some c) None) (tail_read tail ended)
 
 -- the digits and the command of a line
-record IsSplit (line : List ℕ) (job : ℕ) (c : Command) : Type 0 where
-  number : number_from 0 (front_digits line) ≡ job
-  command : spelled_by line ≡ Some c
+pub record IsSplit (line : List ℕ) (job : ℕ) (c : Command) : Type 0 where
+  pub number : number_from 0 (front_digits line) ≡ job
+  pub command : spelled_by line ≡ Some c
 
 spelled_by_parts : (line digits rest : List ℕ) (c : Command) → front_digits line ≡ digits → past_digits line ≡ rest → (length digits == 0) ≡ false → (blank_at rest >>= λ rest. command_at rest >>= λ command. end_of command) ≡ Some c → spelled_by line ≡ Some c
 unfolding spelled_by
 spelled_by_parts line digits rest c e f some h = rw (e, f, some) h
 
-spelled_read : (line : List ℕ) (job : ℕ) (c : Command) → IsLine line job c → IsSplit line job c
+pub spelled_read : (line : List ℕ) (job : ℕ) (c : Command) → IsLine line job c → IsSplit line job c
 spelled_read line job c h =
     let rest : List ℕ = h.blank ++ (h.command ++ h.tail) in
     let p = run_is digits_end is_ascii_digit digits_kind h.digits rest h.numbered (blank_ends h.blank (h.command ++ h.tail) h.parted).1 in
