@@ -1,6 +1,6 @@
 //! What stands at the front of a text.
-ghost use Rattle.std.specs.Prelude.{◌≡◌, ◌<◌, ◌≤◌, ◌-◌, true, false, drop, MatchOption};
-ghost use Rattle.std.specs.List.{position};
+ghost use Rattle.std.specs.Prelude.{◌≡◌, ◌<◌, ◌≤◌, ◌-◌, true, false, length, drop, MatchOption};
+ghost use Rattle.std.specs.List.{position, position_or_len};
 ghost use Rattle.m_text.specs.Reading.{begins_with_byte};
 ghost use Rattle.m_text.specs.Literal as literal;
 ghost use Rattle.m_text.specs.Place as place;
@@ -97,13 +97,30 @@ fn word_end(text: &[u8]) -> Option<usize>
     })
 }
 
+// How many letters, digits and `%` stand at the front.
+fn run_len(text: &[u8]) -> usize
+    ensures value { result ≡ position_or_len place.ends_word text.now }
+    ensures within { result ≤ length text.now }
+{
+    match word_end(text) {
+        Some(n) => n,
+        None => text.len(),
+    }
+}
+
+// The same. Letters are counted by themselves first: that is less work, and most words are letters alone.
+fn word_len(text: &[u8]) -> usize
+    ensures value { result ≡ position_or_len place.ends_word text.now }
+    ensures within { result ≤ length text.now }
+{
+    let (letters, rest) = split_letters(text);
+    letters.len() + run_len(rest)
+}
+
 /// The name word at the front, and what follows it.
 pub fn split_word(text: &[u8]) -> (&[u8], &[u8])
     ensures word { result.0.now ≡ place.front_word text.now }
     ensures rest { result.1.now ≡ place.past_word text.now }
 {
-    match word_end(text) {
-        Some(n) => text.split_at(n),
-        None => text.split_at(text.len()),
-    }
+    text.split_at(word_len(text))
 }
