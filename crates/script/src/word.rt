@@ -125,6 +125,7 @@ fn transaction_act_of(letters: &[u8]) -> Option<Word>
 }
 
 // The act that letters name: one of those that begin as they do.
+#[inline(always)]
 pub(crate) fn act_of(letters: &[u8]) -> Option<Word>
     ensures { result ≡ words.act_of letters.now }
 {
@@ -140,6 +141,7 @@ pub(crate) fn act_of(letters: &[u8]) -> Option<Word>
 }
 
 // The function that letters name, after its `$`: one of those that begin as they do.
+#[inline(always)]
 pub(crate) fn function_of(letters: &[u8]) -> Option<Word>
     ensures { result ≡ words.function_of letters.now }
 {
