@@ -30,6 +30,7 @@ fn digit_of(n: u64) -> Option<u8>
     }
 }
 
+#[inline(always)]
 fn write_number(n: u64, out: &mut Vec<u8>) -> Result<(), AllocError>
     ensures ok { OnOk result (out.new.items ≡ out.old.items ++ decimal n) }
     ensures kept { GoesOnFrom out.old.items out.new.items }

@@ -147,6 +147,7 @@ fn read_direction(alloc: Global, text: &[u8]) -> Result<(Direction, &[u8]), Refu
 }
 
 // What a word wants after its reference.
+#[inline(always)]
 fn read_tail<'a>(
     alloc: Global,
     word: DataWord,
