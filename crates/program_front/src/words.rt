@@ -47,7 +47,7 @@ pub(crate) fn journal_word<'a>(alloc: Global) -> Arg<'a> {
         .action(ArgAction::Set)
         .value_name("JOURNAL")
         .help(
-            "Empty this file, and at the end write to it what was done, as a script that leaves the same listing",
+            "At the end write to this file, over what it held, what was done, as a script that leaves the same listing",
         )
 }
 
