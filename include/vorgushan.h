@@ -50,7 +50,7 @@ enum {
     VG_ENGINE_THERE = 33,     /* one is there already */
     VG_BUFFER_TOO_SHORT = 34, /* the length that is needed is given, nothing is copied; a reply is kept for vg_reply */
     VG_REPLY_KEPT = 35,       /* the line or step was run; no memory for its reply's text or key: vg_reply copies it */
-    VG_NO_REPLY = 36,         /* no line was run yet */
+    VG_NO_REPLY = 36,         /* no line or step was run yet */
     VG_AT_END = 37,           /* no node is left, to list, for vg_query or for vg_walk */
     VG_UNKNOWN_NUMBER = 38,   /* no outcome has that number */
     VG_NO_KEY = 39,           /* none was made, or it was ended */

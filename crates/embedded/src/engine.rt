@@ -28,7 +28,7 @@ pub struct Answered {
 pub struct Embedded {
     /// The machine of all jobs.
     pub core: JobCore,
-    /// The last line's reply, from the first line on.
+    /// The reply of the last line or step, from the first on.
     pub last: Option<Answered>,
     /// The reference that was listed last; none where the next is the first.
     pub listed: Option<Key>,
@@ -120,8 +120,8 @@ impl Embedded {
     /// stays kept, so it can be copied as often as one likes.
     ///
     /// Answers the reply's own outcome: `Done`, `Restarted`, or its refusal. `BufferTooShort` where the buffer is
-    /// shorter than the line, `ReplyKept` where memory was refused for its text, `NoReply` before the first line: then
-    /// nothing is copied.
+    /// shorter than the line, `ReplyKept` where memory was refused for its text, `NoReply` before the first line or
+    /// step: then nothing is copied.
     pub fn copy_reply(&mut self, buffer: &mut [u8], wanted: &mut usize) -> Outcome
         ensures { IsReplyCall self.old self.new result buffer.old buffer.new wanted.new }
     {

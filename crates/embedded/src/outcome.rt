@@ -22,7 +22,7 @@ pub enum Outcome {
     /// Memory was refused for a reply's text, or for the key that $QUERY found. The line or step is done, and its reply
     /// is kept. Number 35.
     ReplyKept,
-    /// No line was run yet. Number 36.
+    /// No line or step was run yet. Number 36.
     NoReply,
     /// No node is left, to list, for $QUERY or for a walk. Number 37.
     AtEnd,

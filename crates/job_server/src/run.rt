@@ -54,7 +54,7 @@ fn any_refused(reports: &[Report]) -> bool
 }
 
 impl Served {
-    /// What was done: all units, of which a legal story is made.
+    /// What was done: the journal of all units, which is legal.
     pub fn journal(&self) -> &Journal
         ensures units { result.now.units ≡ self.now.closed.core.units }
         ensures base { result.now.base ≡ self.now.closed.core.base }

@@ -6,11 +6,12 @@
 //! in `specs/Touching.antt`; which units one reads off steps and replies, without any map, in `specs/Story.antt`.
 //!
 //! (1) Units are numbered from 1, and unit n keeps number n;
-//! (2) a unit, once in the journal, never changes, and none is taken out;
+//! (2) a unit, once in the journal, never changes, and none is taken out; a checkpoint drops the bytes of the first
+//! ones, and keeps what they leave as the journal's base;
 //! (3) a unit's number is the stamp of its writes;
 //! (4) a receipt is made only by the push of its unit, and can't be copied;
-//! (5) the bytes are `unit_bytes` of each unit in turn (`specs/Format.antt`), and read back as these units; no other
-//! bytes read as a unit (`specs/Statements.antt`).
+//! (5) the bytes are `unit_bytes` of each unit after the base in turn (`specs/Format.antt`), and read back as these
+//! units; no other bytes read as a unit (`specs/Statements.antt`).
 //!
 //! A `prepare_..` writes a unit at the end of the bytes, behind those of the units, and may be refused; `push_prepared`
 //! then counts it among them, copies nothing and can't be refused. A unit that is prepared and not pushed leaves nothing

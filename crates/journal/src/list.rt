@@ -115,14 +115,14 @@ impl Journal {
         self.log.len()
     }
 
-    /// How many bytes they take.
+    /// How many bytes the units after the base take.
     pub fn size(&self) -> usize
         ensures { result ≡ length (flat_map unit_bytes (since self.now)) }
     {
         self.log.as_slice().len()
     }
 
-    /// The bytes of the units, one after the other, in the format of docs/FORMATS.md, "Units".
+    /// The bytes of the units after the base, one after the other, in the format of docs/FORMATS.md, "Units".
     pub fn as_slice(&self) -> &[u8]
         ensures bytes { result.now ≡ flat_map unit_bytes (since self.now) }
         ensures fit { Each FitsUnit (since self.now) }

@@ -24,7 +24,8 @@ pub enum InputFault {
 
 /// All that a reader gives.
 ///
-/// After a fault nothing is kept: `Read` where a call of the reader failed, else `Memory`.
+/// After a fault nothing is kept, nor are the pieces that were read: `Read` where a call of the reader failed, else
+/// `Memory`.
 pub fn read_all<R: Read>(alloc: Global, reader: &mut Counted<R>) -> Result<Vec<u8>, InputFault>
     ensures all { IfOk result (λ text. IfSome (R.remaining reader.old.inner) (λ bytes. text.items ≡ bytes)) }
     ensures at_end { OnOk result (IsAtEnd (R.remaining reader.new.inner)) }

@@ -2,7 +2,7 @@
 //!
 //! A refusal has a number and a name, and is printed as both: `7 NeedSubscript`.
 //! Callers see these as `refusal_number`, `name_of` and `refusal_text` of `specs/Refusal.antt`.
-//! After every refusal the state is what it was before the call.
+//! After a refusal the state is what it was before the call, but where a call says otherwise.
 #![tactic(auto)]
 
 ghost use Rattle.std.specs.Prelude.{◌≡◌};
@@ -37,7 +37,7 @@ pub enum Refusal {
     LevelTooDeep = 10,
     /// A lock's count would pass 65,535.
     LockCountFull = 11,
-    /// A job isn't 1 to 4,096.
+    /// A job isn't 1 to 4,096, or has a session already.
     BadJob = 12,
     /// A transaction would hold more than 65,535 data commands.
     TransactionTooLong = 13,

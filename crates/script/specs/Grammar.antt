@@ -93,7 +93,7 @@ pub data IsTimeout : List ℕ → Type 0 where
   no_timeout : IsTimeout []
   timeout : {digits : List ℕ} → list_all is_ascii_digit digits ≡ true → 0 < length digits → length digits ≤ 9 → IsTimeout (byte.colon ∷ digits)
 
--- a sign, lock names and a timeout, which means nothing
+-- a sign, lock names and a timeout, which the command doesn't have
 pub record IsLocking (text : List ℕ) (c : LockCommand) : Type 0 where
   pub sign : List ℕ
   pub listed : List ℕ

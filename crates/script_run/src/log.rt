@@ -15,7 +15,8 @@ pub trait RunLog {
     /// written.
     fn shown(&mut self, core: &JobCore);
 
-    /// The run is over, well or not. This is what the core holds then; after a fault no open job was halted.
+    /// The run is over, well or not; not told where memory was refused for the run's buffer. This is what the core
+    /// holds then. Where the run ended before the last line was done, no open job was halted.
     fn ended(&mut self, core: &JobCore);
 }
 

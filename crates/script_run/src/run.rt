@@ -267,7 +267,8 @@ pub fn run_with_core<R: Read, W: Write>(
 
 /// Runs a script as `run_script` does. Without `listed` neither `--` nor the listing is written. `log` is told of each
 /// refused line and of each line that is done, after which it may ask to be shown the core; then all replies are
-/// written first. It is told once of what the core holds when the run is over.
+/// written first. It is told once of what the core holds when the run is over, but not where memory was refused for the
+/// run's buffer.
 ///
 /// The clauses name no `upkeep`: what is written is promised alike for each.
 pub fn run_with<R: Read, W: Write>(
@@ -318,7 +319,8 @@ pub fn run_with<R: Read, W: Write>(
 /// the listing; at most one line more was done, whose reply found no memory. No reply that was gathered is lost, unless
 /// its write fails, which is `Write`. `Read` and `Write` come only where a call of the reader or the writer failed,
 /// `Memory` only where none did and no reply could say that memory was refused: for the buffer and the list of open
-/// jobs, a line longer than a piece, a reply, a line of the listing, an open job's HALT; or after 2^64 - 1 reads.
+/// jobs, a line that goes on in the next piece, a reply, a line of the listing, an open job's HALT; or after 2^64 - 1
+/// reads.
 pub fn run_script<R: Read, W: Write>(
     alloc: Global,
     upkeep: Upkeep,

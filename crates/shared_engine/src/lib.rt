@@ -5,9 +5,9 @@
 //! transaction, its receipts, each a unit with its number, and the other units that it wrote. What they learn:
 //!
 //! (1) each accepted lone command and each commit adds one receipt, whose unit is just this command with this answer; a
-//!     LOCK one or two; no other call any. Their numbers rise, and as a transaction begins they are in the journal of
-//!     its start. A rollback or restart adds one other unit exactly where the transaction took a LOCK, the end of a
-//!     session one more, no other call any;
+//!     LOCK one or two, `run_serial` those of its block; no other call any. Their numbers rise, and as a transaction
+//!     begins they are in the journal of its start. A rollback or restart adds one other unit exactly where the
+//!     transaction took a LOCK, the end of a session one more, no other call any;
 //! (2) a read answers what the machine would, on the map of the transaction's start followed by its own commands; a
 //!     transaction restarts exactly where a unit since its start touched what it had read, as the calls of `Shared`
 //!     tell it on some journal;

@@ -76,8 +76,8 @@ impl<B: BoardName> Pass<B> {
         self.job
     }
 
-    /// The numbers of the job's units, but those of rollbacks and of its end, in order. The first unit of a journal is
-    /// 1.
+    /// The numbers of the session's units, but those of rollbacks and of its end, in order. The first unit of a journal
+    /// is 1.
     pub fn numbers(&self) -> &[u64]
         ensures all { map number_of self.now.receipts ≡ result.now }
         ensures rising { RisesFrom 0 self.now.receipts }
@@ -94,7 +94,7 @@ impl<B: BoardName> Session<B> {
         self.state.job()
     }
 
-    /// The numbers of the job's units so far, but those of rollbacks, in order. The first unit of a journal is 1.
+    /// The numbers of the session's units so far, but those of rollbacks, in order. The first unit of a journal is 1.
     pub fn numbers(&self) -> &[u64]
         ensures all { map number_of self.now.receipts ≡ result.now }
         ensures rising { RisesFrom 0 self.now.receipts }

@@ -423,8 +423,8 @@ impl<B: BoardName> Shared<B> {
     }
 
     /// Moves the journal's base on to a horizon that is above no open transaction's start: what the units up to it
-    /// leave is kept in their place, and their bytes are given back. Answers where the base is then, which is where it
-    /// was if no horizon after it can be had. Takes the exclusive lock, for as long as it takes to read these units
+    /// leave is kept in their place, and their bytes leave the journal. Answers where the base is then, which is where
+    /// it was if no horizon after it can be had. Takes the exclusive lock, for as long as it takes to read these units
     /// back and to merge what they changed.
     ///
     /// Refusals, after which the base is where it was: `OutOfMemory`.
@@ -451,8 +451,8 @@ impl<B: BoardName> Shared<B> {
     }
 
     /// Closes the engine. Each unit of a pass is in its journal at its number, and is its job's; and where as many
-    /// passes are in as there were sessions, their units are all units, and their receipts those of all but rollbacks
-    /// and ends; more can't be in. Takes no memory.
+    /// passes are in as there were sessions, fewer than 2^64 - 1, their units are all units, and their receipts those
+    /// of all but rollbacks and ends; more can't be in. Takes no memory.
     pub fn finish<R: Wait>(self, rt: &R, passes: Vec<Pass<B>>) -> Closed
         ensures in_journal { All (λ (p : Book). AreInJournal result.core.units p.receipts) passes.items }
         ensures others { All (λ (p : Book). AreInJournal result.core.units p.others) passes.items }
