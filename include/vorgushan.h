@@ -167,7 +167,7 @@ static inline vg_outcome vg_end(vg_engine *engine) {
 }
 
 /* Runs a line, as "1 SET ^A(1)=5", and copies its reply with a byte 10 at its end, as "1 ok\n". The line comes without
- * its end: with it, or empty, it is VG_BAD_LINE.
+ * its end: with it, or empty, it is refused.
  *
  * The outcome is the reply's: VG_DONE, VG_RESTARTED, or its refusal. Where the reply is longer than the buffer it is
  * VG_BUFFER_TOO_SHORT, or VG_REPLY_KEPT where memory is refused for its text: the line was run, and may have been
