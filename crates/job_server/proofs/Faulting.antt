@@ -1,5 +1,5 @@
 -- Faults of a run, by the faults of its parts.
-use Rattle.std.proofs.Common.{◌≡◌, List, ℕ, Result, Ok, Err, IfErr, sym, subst, ◌∙◌}
+use Rattle.std.proofs.Common.{◌≡◌, List, ℕ, Result, Ok, Err, IfErr, refl, sym, subst, ◌∙◌}
 use Rattle.std.specs.Prelude.{IsErrOf}
 use Rattle.std.specs.Result.{IsErrAnd}
 use Rattle.listing.specs.declared.nodes.ListingFault.{ListingFault}
@@ -13,7 +13,7 @@ use Rattle.job_server.specs.declared.fault.JobsFault.{JobsFault}
 use Rattle.job_server.specs.declared.fault.JobsFault.TheVariants.{Read, Write, Memory, Missing, Load}
 use Rattle.job_server.specs.Faults.{fault_of, fault_of_input, fault_of_unserved, IsJobsFault, IsOfWriting}
 use Rattle.job_server.specs.Loads.{IsUnservedBy}
-use Rattle.job_server.proofs.Reading.{error_is}
+use Rattle.job_server.proofs.Reading.{error_is, is_error}
 
 -- what holds of a fault, where it is passed on
 pub on_fault : {T : Type 0} (r : Result T JobsFault) (fault : JobsFault) (P : JobsFault → Type 0) → IsErrAnd r (λ f. f ≡ fault) → P fault → IfErr r P
@@ -43,6 +43,16 @@ pub unserved_unwritten : {T : Type 0} (r : Result T JobsFault) (f : Unserved) �
 unserved_unwritten (Ok x) f is w = absurd is
 unserved_unwritten {T = T} (Err g) f is w = unserved_writes f (sym is ∙ error_is {T = T} g Write w)
 
+unserved_reads : (f : Unserved) → fault_of_unserved f ≡ Read → ⊥
+unserved_reads (UnservedLoad fault) e = cc
+unserved_reads (UnservedJobs ServerMemory) e = cc
+unserved_reads (UnservedJobs ServerMissing) e = cc
+
+-- no fault of the server is the reader's
+pub unserved_unread : {T : Type 0} (r : Result T JobsFault) (f : Unserved) → IsErrAnd r (λ g. g ≡ fault_of_unserved f) → IsErrOf r Read → ⊥
+unserved_unread (Ok x) f is w = absurd is
+unserved_unread {T = T} (Err g) f is w = unserved_reads f (sym is ∙ error_is {T = T} g Read w)
+
 input_writes : (f : InputFault) → fault_of_input f ≡ Write → ⊥
 input_writes InputRead e = cc
 input_writes InputMemory e = cc
@@ -51,6 +61,27 @@ input_writes InputMemory e = cc
 pub input_unwritten : {T : Type 0} (r : Result T JobsFault) (f : InputFault) → IsErrAnd r (λ g. g ≡ fault_of_input f) → IsErrOf r Write → ⊥
 input_unwritten (Ok x) f is w = absurd is
 input_unwritten {T = T} (Err g) f is w = input_writes f (sym is ∙ error_is {T = T} g Write w)
+
+input_reads : (f : InputFault) → fault_of_input f ≡ Read → f ≡ InputRead
+input_reads InputRead e = refl
+input_reads InputMemory e = cc
+
+-- the reader's fault is that of the input
+pub input_read : {T U : Type 0} (r : Result T JobsFault) (f : InputFault) → IsErrAnd r (λ g. g ≡ fault_of_input f) → IsErrOf r Read → IsErrOf {T = U} (Err f) InputRead
+input_read (Ok x) f is w = absurd is
+input_read {T = T} (Err g) f is w = is_error f InputRead (input_reads f (sym is ∙ error_is {T = T} g Read w))
+
+writing_reads : (f : JobsFault) → IsOfWriting f → f ≡ Read → ⊥
+writing_reads Read h e = absurd h
+writing_reads Write h e = cc
+writing_reads Memory h e = cc
+writing_reads Missing h e = absurd h
+writing_reads (Load fault) h e = absurd h
+
+-- no fault of writing is the reader's
+pub writing_unread : {T : Type 0} (r : Result T JobsFault) (f : JobsFault) → IsErrAnd r (λ g. g ≡ f) → IsOfWriting f → IsErrOf r Read → ⊥
+writing_unread (Ok x) f is h w = absurd is
+writing_unread {T = T} (Err g) f is h w = writing_reads f h (sym is ∙ error_is {T = T} g Read w)
 
 pub writing_is : (listing : List ℕ) (f : JobsFault) → IsOfWriting f → IsJobsFault listing f
 writing_is listing Read h = absurd h

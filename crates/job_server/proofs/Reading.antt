@@ -15,7 +15,7 @@ begun_then (Err v) a b c x w y e h k = subst (λ (t : List ℕ). WritesBeginning
 pub error_is : {T E : Type 0} (f m : E) → IsErrOf {T = T} (Err f) m → f ≡ m
 error_is f m k = cc
 
-is_error : {T E : Type 0} (f m : E) → f ≡ m → IsErrOf {T = T} (Err f) m
+pub is_error : {T E : Type 0} (f m : E) → f ≡ m → IsErrOf {T = T} (Err f) m
 is_error f m h = cc
 
 -- a fault that is passed on is the callee's

@@ -76,7 +76,7 @@ impl Served {
 /// tell, as `serve` says. An empty listing sets nothing.
 ///
 /// Nothing is written, so `write_served` and whoever reads `Served::journal` see one journal. Faults: `Load`, `Memory`
-/// and `Missing`, as of `serve`, and never `Write`.
+/// and `Missing`, as of `serve`, and never `Read` or `Write`.
 pub fn serve_text<R: Threads + Wait + Sync, L: LoadLog, G: Gate + Sync>(
     rt: &R,
     alloc: Global,
@@ -88,6 +88,7 @@ pub fn serve_text<R: Threads + Wait + Sync, L: LoadLog, G: Gate + Sync>(
 ) -> Result<Served, JobsFault>
     ensures served { IfOk result (λ served. IsServed listing.now text.items served.reports.items served.closed.core.units served.closed.sessions) }
     ensures unwritten { IsErrOf result JobsFault.Write → ⊥ }
+    ensures unread { IsErrOf result JobsFault.Read → ⊥ }
     ensures unloaded { IfErr result (IsJobsFault listing.now) }
 {
     let scripts = scripts_of(alloc, &text)?;
@@ -123,7 +124,7 @@ pub fn write_served<W: Write>(
 /// A job's replies tell the units that it wrote, as `serve` says; the listing is of the map that all units leave.
 ///
 /// After a fault a beginning of that was written: nothing but after `Write` and `Memory`, so nothing where the listing
-/// isn't loaded or jobs weren't served to their end; `Write` only where a call of the writer failed.
+/// isn't loaded or jobs weren't served to their end; `Write` only where a call of the writer failed, and never `Read`.
 pub fn run_text<R: Threads + Wait + Sync, W: Write, G: Gate + Sync>(
     rt: &R,
     alloc: Global,
@@ -139,6 +140,7 @@ pub fn run_text<R: Threads + Wait + Sync, W: Write, G: Gate + Sync>(
     ensures unloaded { IfErr result (IsJobsFault listing.now) }
     ensures nothing { IfErr result (λ fault. IsOfWriting fault ⊎ (W.contents writer.old.inner ≡ W.contents writer.new.inner)) }
     ensures counted { IsErrOf result JobsFault.Write → IsOneMore writer.old.failures writer.new.failures }
+    ensures unread { IsErrOf result JobsFault.Read → ⊥ }
 {
     let served = serve_text(rt, alloc, listing, &mut NoLog, text, workers, gate)?;
     write_served(alloc, listed, &served, writer)?;
@@ -147,7 +149,8 @@ pub fn run_text<R: Threads + Wait + Sync, W: Write, G: Gate + Sync>(
 
 /// Reads all input, and runs its jobs as `run_text` does, with the listing.
 ///
-/// After `Read` nothing was done or written. `Write` comes only where a call of the writer failed.
+/// After `Read`, which comes only where a call of the reader failed, nothing was done or written. `Write` comes only
+/// where a call of the writer failed.
 pub fn run_jobs<R: Threads + Wait + Sync, I: Read, W: Write, G: Gate + Sync>(
     rt: &R,
     alloc: Global,
@@ -165,6 +168,7 @@ pub fn run_jobs<R: Threads + Wait + Sync, I: Read, W: Write, G: Gate + Sync>(
     ensures unloaded { IfErr result (IsJobsFault listing.now) }
     ensures nothing { IfErr result (λ fault. IsOfWriting fault ⊎ (W.contents writer.old.inner ≡ W.contents writer.new.inner)) }
     ensures counted { IsErrOf result JobsFault.Write → IsOneMore writer.old.failures writer.new.failures }
+    ensures read { IsErrOf result JobsFault.Read → IsOneMore reader.old.failures reader.new.failures }
 {
     let text = read_all(alloc, reader)?;
     run_text(rt, alloc, listing, true, text, writer, workers, gate)

@@ -1,6 +1,6 @@
 use Rattle.std.proofs.Common.{refl, inl, inr}
 use Rattle.listing.specs.laws.Bytes.{on_err}
-use Rattle.job_server.proofs.Faulting.{on_fault, writing_is}
+use Rattle.job_server.proofs.Faulting.{on_fault, writing_is, writing_unread}
 use Rattle.job_server.proofs.Outputs.{made, begun}
 use Rattle.job_server.proofs.Reading.{passed_on}
 use Rattle.job_server.proofs.run.run_text.Goals as goal
@@ -29,3 +29,9 @@ returns-in_err-write_served-clause-unloaded g c = on_fault _ _ _ c.from_residual
 
 pub returns-in_err-write_served-clause-nothing : goal.returns-in_err-write_served-clause-nothing
 returns-in_err-write_served-clause-nothing g c = on_fault _ _ _ c.from_residual-in_err-write_served.ensures.1 (inl c.in_err-write_served.ensures.kind)
+
+pub returns-in_err-served-clause-unread : goal.returns-in_err-served-clause-unread
+returns-in_err-served-clause-unread g c = λ w. absurd (c.in_err-served.ensures.unread (passed_on _ _ _ c.from_residual.ensures.1 w))
+
+pub returns-in_err-write_served-clause-unread : goal.returns-in_err-write_served-clause-unread
+returns-in_err-write_served-clause-unread g c = writing_unread _ c.in_err-write_served.field-0.0 c.from_residual-in_err-write_served.ensures.1 c.in_err-write_served.ensures.kind
