@@ -1,12 +1,12 @@
 -- Blocks: lines that are done under one hold of the lock. Source: docs/CONCURRENCY.md, "Many jobs at the same time".
-use Rattle.std.specs.Prelude.{◌≡◌, ◌⊎◌, ⊤, ℕ, ◌+◌, ◌-◌, ◌<◌, List, [], ◌∷◌, ◌++◌, Option, Some, None, Ok, min}
+use Rattle.std.specs.Prelude.{◌≡◌, ◌⊎◌, ⊤, ℕ, ◌+◌, ◌-◌, ◌<◌, List, [], ◌∷◌, ◌++◌, Option, Some, None, min}
 use Rattle.refusal.specs.declared.Refusal.{Refusal}
 use Rattle.collation.specs.Limits.{most_levels}
 use Rattle.command.specs.declared.request.Command.{Command}
 use Rattle.command.specs.declared.request.Command.TheVariants.{Access, Lock, Start, Commit, Rollback, Restart, Level, Restarts, Halt}
 use Rattle.command.specs.declared.request.Reply.{Reply}
 use Rattle.command.specs.declared.request.Reply.TheVariants.{Refused}
-use Rattle.script.specs.Line.{reading_of, IsRefusalOf}
+use Rattle.job_scripts.specs.Lines.{Asks, IsRefusedAs}
 
 -- the level of a transaction after a command in it, as if memory and stamps were there
 abbrev pub level_after : Command → ℕ → ℕ
@@ -38,27 +38,23 @@ in_place (Some refusal ∷ places) replies = Refused refusal ∷ in_place places
 in_place (None ∷ places) [] = []
 in_place (None ∷ places) (reply ∷ replies) = reply ∷ in_place places replies
 
--- the line asks for this command, of some job
-abbrev pub Asks : List ℕ → Command → Type 0
-Asks line command = (job : ℕ) × (reading_of line ≡ Ok (job, command))
-
--- each line is refused so, or asks for the next command
-abbrev pub AreAsked : List (List ℕ) → List (Option Refusal) → List Command → Type 0
-AreAsked [] [] [] = ⊤
-AreAsked [] [] (command ∷ commands) = ⊥
-AreAsked [] (place ∷ places) commands = ⊥
-AreAsked (line ∷ lines) [] commands = ⊥
-AreAsked (line ∷ lines) (Some refusal ∷ places) commands = IsRefusalOf line refusal × AreAsked lines places commands
-AreAsked (line ∷ lines) (None ∷ places) [] = ⊥
-AreAsked (line ∷ lines) (None ∷ places) (command ∷ commands) = Asks line command × AreAsked lines places commands
+-- each of a job's lines is refused so, or asks for the next command
+abbrev pub AreAsked : ℕ → List (List ℕ) → List (Option Refusal) → List Command → Type 0
+AreAsked job [] [] [] = ⊤
+AreAsked job [] [] (command ∷ commands) = ⊥
+AreAsked job [] (place ∷ places) commands = ⊥
+AreAsked job (line ∷ lines) [] commands = ⊥
+AreAsked job (line ∷ lines) (Some refusal ∷ places) commands = IsRefusedAs job line refusal × AreAsked job lines places commands
+AreAsked job (line ∷ lines) (None ∷ places) [] = ⊥
+AreAsked job (line ∷ lines) (None ∷ places) (command ∷ commands) = Asks job line command × AreAsked job lines places commands
 
 -- lines stand at the front of a text's lines, before those of the rest, and these places and commands are theirs
-pub record AreInFront (all rest : List (List ℕ)) (places : List (Option Refusal)) (commands : List Command) : Type 0 where
+pub record AreInFront (job : ℕ) (all rest : List (List ℕ)) (places : List (Option Refusal)) (commands : List Command) : Type 0 where
   pub front : List (List ℕ)
   pub split : all ≡ front ++ rest
-  pub asked : AreAsked front places commands
+  pub asked : AreAsked job front places commands
 
 -- behind these commands no transaction is open, or no line is left, or the next one asks for HALT
-abbrev pub EndsBlock : List Command → List (List ℕ) → Type 0
-EndsBlock commands [] = ⊤
-EndsBlock commands (line ∷ lines) = (level_behind 1 commands ≡ 0) ⊎ Asks line Halt
+abbrev pub EndsBlock : ℕ → List Command → List (List ℕ) → Type 0
+EndsBlock job commands [] = ⊤
+EndsBlock job commands (line ∷ lines) = (level_behind 1 commands ≡ 0) ⊎ Asks job line Halt

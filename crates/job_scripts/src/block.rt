@@ -7,15 +7,14 @@ ghost use Rattle.collation.specs.Limits.{most_levels};
 ghost use Rattle.command.specs.declared.access.DataCommand.{DataCommand};
 ghost use Rattle.command.specs.declared.request.Command.{Command};
 ghost use Rattle.command.specs.declared.request.Command.TheVariants.{Access};
-ghost use Rattle.script.specs.Line.{IsRefusalOf};
-ghost use Rattle.job_scripts.specs.Lines.{lines_of_script};
-ghost use Rattle.job_scripts.specs.Blocks.{level_after as level_left, IsOneBlock, EndsBlock, in_place, Asks, AreInFront};
+ghost use Rattle.job_scripts.specs.Lines.{lines_of_script, Asks, IsRefusedAs};
+ghost use Rattle.job_scripts.specs.Blocks.{level_after as level_left, IsOneBlock, EndsBlock, in_place, AreInFront};
 
-use crate::lines::next_line;
-use collation::MOST_LEVELS;
+use crate::lines::{next_line, read_for};
+use collation::{Job, MOST_LEVELS};
 use command::{Command, DataCommand, Reply};
 use refusal::Refusal;
-use script::{Drafts, read_line};
+use script::Drafts;
 use std::alloc::{AllocError, Global};
 use std::vec::IntoIter;
 
@@ -49,7 +48,7 @@ impl<'a> Block<'a> {
         ensures commands { OnOk result (self.new.commands.items ≡ command ∷ []) }
         ensures places { OnOk result (self.new.places.items ≡ None ∷ []) }
         ensures rest { self.new.rest.now ≡ self.old.rest.now }
-        ensures asked { OnOk result ((line : List ℕ) → Asks line command → AreInFront (line ∷ lines_of_script self.old.rest.now) (lines_of_script self.new.rest.now) self.new.places.items self.new.commands.items) }
+        ensures asked { OnOk result ((job : ℕ) (line : List ℕ) → Asks job line command → AreInFront job (line ∷ lines_of_script self.old.rest.now) (lines_of_script self.new.rest.now) self.new.places.items self.new.commands.items) }
     {
         self.commands.push(command)?;
         self.places.push(None)?;
@@ -62,8 +61,8 @@ impl<'a> Block<'a> {
         ensures commands { OnOk result (self.new.commands.items ≡ self.old.commands.items ++ command ∷ []) }
         ensures places { OnOk result (self.new.places.items ≡ self.old.places.items ++ None ∷ []) }
         ensures rest { OnOk result (self.new.rest.now ≡ rest.entry.now) }
-        ensures asked { OnOk result ((all : List (List ℕ)) → AreInFront all (lines_of_script self.old.rest.now) self.old.places.items self.old.commands.items → lines_of_script self.old.rest.now ≡ line.now ∷ lines_of_script rest.entry.now
-            → Asks line.now command → AreInFront all (lines_of_script self.new.rest.now) self.new.places.items self.new.commands.items) }
+        ensures asked { OnOk result ((job : ℕ) (all : List (List ℕ)) → AreInFront job all (lines_of_script self.old.rest.now) self.old.places.items self.old.commands.items → lines_of_script self.old.rest.now ≡ line.now ∷ lines_of_script rest.entry.now
+            → Asks job line.now command → AreInFront job all (lines_of_script self.new.rest.now) self.new.places.items self.new.commands.items) }
     {
         self.commands.push(command)?;
         self.places.push(None)?;
@@ -72,13 +71,12 @@ impl<'a> Block<'a> {
     }
 
     // One line more, which is refused.
-    #[tactic(auto, using(crate::proofs::Blocks::refusal_in_front))]
     fn refuse(&mut self, refusal: Refusal, line: &[u8], rest: &'a [u8]) -> Result<(), AllocError>
         ensures commands { self.new.commands.items ≡ self.old.commands.items }
         ensures places { OnOk result (self.new.places.items ≡ self.old.places.items ++ Some refusal ∷ []) }
         ensures rest { OnOk result (self.new.rest.now ≡ rest.entry.now) }
-        ensures asked { OnOk result ((all : List (List ℕ)) → AreInFront all (lines_of_script self.old.rest.now) self.old.places.items self.old.commands.items → lines_of_script self.old.rest.now ≡ line.now ∷ lines_of_script rest.entry.now
-            → IsRefusalOf line.now refusal → AreInFront all (lines_of_script self.new.rest.now) self.new.places.items self.new.commands.items) }
+        ensures asked { OnOk result ((job : ℕ) (all : List (List ℕ)) → AreInFront job all (lines_of_script self.old.rest.now) self.old.places.items self.old.commands.items → lines_of_script self.old.rest.now ≡ line.now ∷ lines_of_script rest.entry.now
+            → IsRefusedAs job line.now refusal → AreInFront job all (lines_of_script self.new.rest.now) self.new.places.items self.new.commands.items) }
     {
         self.places.push(Some(refusal))?;
         self.rest = rest;
@@ -101,23 +99,24 @@ fn level_after(level: u64, command: &Command) -> u64
     }
 }
 
-/// The block of the lines at the front of a text, in a transaction at level 1 that has done nothing. It ends with the
+/// The block of a job's lines at the front of a text, in a transaction at level 1 that has done nothing. It ends with the
 /// line that leaves no transaction open, as if neither memory nor stamps were refused to a command, and not before:
 /// without one it goes on to a HALT, or to the end.
 ///
-/// `AllocError` where memory for the block is refused. A line that can't be read for want of memory has that refusal in
-/// its place.
-#[tactic(auto, using(crate::proofs::Blocks::none_in_front, crate::proofs::Blocks::asks_of, crate::proofs::Blocks::ends_at_the_end, crate::proofs::Blocks::ends_at_halt, crate::proofs::Blocks::ends_closed))]
+/// `AllocError` where memory for the block is refused. A line that can't be read, also for want of memory, or that is
+/// another job's, has its refusal in its place.
+#[tactic(auto, using(crate::proofs::Blocks::none_in_front, crate::proofs::Blocks::ends_at_the_end, crate::proofs::Blocks::ends_at_halt, crate::proofs::Blocks::ends_closed))]
 pub fn block_of<'a>(
     alloc: Global,
+    job: Job,
     lines: &'a [u8],
     drafts: &mut Drafts,
 ) -> Result<Block<'a>, AllocError>
     ensures goes_on { IfOk result (λ block. All (λ (c : Command). c ≢ Command.Halt) block.commands.items) }
     ensures one { IfOk result (λ block. IsOneBlock 1 block.commands.items) }
-    ensures ended { IfOk result (λ block. EndsBlock block.commands.items (lines_of_script block.rest.now)) }
+    ensures ended { IfOk result (λ block. EndsBlock job block.commands.items (lines_of_script block.rest.now)) }
     ensures rest { IfOk result (λ block. length block.rest.now ≤ length lines.now) }
-    ensures asked { IfOk result (λ block. AreInFront (lines_of_script lines.now) (lines_of_script block.rest.now) block.places.items block.commands.items) }
+    ensures asked { IfOk result (λ block. AreInFront job (lines_of_script lines.now) (lines_of_script block.rest.now) block.places.items block.commands.items) }
 {
     let mut block = Block::new(alloc, lines);
     let mut level = 1;
@@ -125,25 +124,26 @@ pub fn block_of<'a>(
         let Some((line, rest)) = next_line(block.rest) else {
             return Ok(block);
         };
-        match read_line(alloc, line, drafts) {
-            Ok((_, Command::Halt)) => return Ok(block),
-            Ok((_, command)) => {
+        match read_for(alloc, job, line, drafts) {
+            Ok(Command::Halt) => return Ok(block),
+            Ok(command) => {
                 level = level_after(level, &command);
                 block.add(command, line, rest)?;
             }
-            Err(fault) => block.refuse(fault.refusal, line, rest)?,
+            Err(refusal) => block.refuse(refusal, line, rest)?,
         }
     }
     Ok(block)
 }
 
-/// A data command, and those of the lines at the front of a text: up to the line that asks for something else, or to so
+/// A data command, and those of a job's lines at the front of a text: up to the line that asks for something else, or to so
 /// many lines in all.
 ///
-/// `AllocError` as `block_of`; a line that can't be read has its refusal in its place.
-#[tactic(auto, using(crate::proofs::Blocks::none_in_front, crate::proofs::Blocks::asks_of))]
+/// `AllocError` as `block_of`; a line that can't be read, or is another job's, has its refusal in its place.
+#[tactic(auto, using(crate::proofs::Blocks::none_in_front))]
 pub fn data_block<'a>(
     alloc: Global,
+    job: Job,
     first: DataCommand,
     lines: &'a [u8],
     most: usize,
@@ -153,7 +153,7 @@ pub fn data_block<'a>(
     ensures accesses { IfOk result (λ block. All (λ (c : Command). (d : DataCommand) × (c ≡ Command.Access d)) block.commands.items) }
     ensures few { IfOk result (λ block. length block.places.items ≤ max 1 most) }
     ensures rest { IfOk result (λ block. length block.rest.now ≤ length lines.now) }
-    ensures asked { IfOk result (λ block. (line : List ℕ) → Asks line (Access first) → AreInFront (line ∷ lines_of_script lines.now) (lines_of_script block.rest.now) block.places.items block.commands.items) }
+    ensures asked { IfOk result (λ block. (line : List ℕ) → Asks job line (Access first) → AreInFront job (line ∷ lines_of_script lines.now) (lines_of_script block.rest.now) block.places.items block.commands.items) }
 {
     let mut block = Block::new(alloc, lines);
     block.begin(Command::Access(first))?;
@@ -161,10 +161,10 @@ pub fn data_block<'a>(
         let Some((line, rest)) = next_line(block.rest) else {
             break;
         };
-        match read_line(alloc, line, drafts) {
-            Ok((_, Command::Access(command))) => block.add(Command::Access(command), line, rest)?,
+        match read_for(alloc, job, line, drafts) {
+            Ok(Command::Access(command)) => block.add(Command::Access(command), line, rest)?,
             Ok(_) => break,
-            Err(fault) => block.refuse(fault.refusal, line, rest)?,
+            Err(refusal) => block.refuse(refusal, line, rest)?,
         }
     }
     Ok(block)

@@ -13,7 +13,7 @@
 
 pub use block::{Block, block_of, data_block, push_in_place};
 pub use grouping::scripts_of;
-pub use lines::{Script, next_line};
+pub use lines::{Script, next_line, read_for};
 pub use report::{Report, write_reports};
 pub use timeout::timeout_of;
 

@@ -1,10 +1,14 @@
 //! The lines of one job.
 ghost use Rattle.std.specs.Prelude.{◌≡◌, ◌⊎◌, ◌<◌, ◌++◌, ◌∷◌, [], length, IfSome, IfNone};
 ghost use Rattle.collation.specs.Bytes as byte;
-ghost use Rattle.job_scripts.specs.Lines.{lines_of_script};
+ghost use Rattle.job_scripts.specs.Lines.{lines_of_script, IsReadFor};
 
 use bstr::ByteSlice;
 use collation::Job;
+use command::Command;
+use refusal::Refusal;
+use script::{Drafts, read_line};
+use std::alloc::Global;
 
 /// The lines of a job, or of none, in order.
 #[derive(Debug, Drop)]
@@ -33,5 +37,28 @@ pub fn next_line(text: &[u8]) -> Option<(&[u8], &[u8])>
             Some((line, &text[end + 1..]))
         }
         None => Some((text, &text[text.len()..])),
+    }
+}
+
+/// What one of a job's lines asks for, read into these drafts, or its refusal: as of `script::read_line`, or `BadJob`
+/// where it is another job's.
+#[tactic(auto, using(crate::proofs::Asked::own_refusal, crate::proofs::Asked::other_job))]
+pub fn read_for(
+    alloc: Global,
+    job: Job,
+    line: &[u8],
+    drafts: &mut Drafts,
+) -> Result<Command, Refusal>
+    ensures { IsReadFor job line.now result }
+{
+    match read_line(alloc, line, drafts) {
+        Ok((named, command)) => {
+            if named == job {
+                return Ok(command);
+            }
+            drop(command);
+            Err(Refusal::BadJob)
+        }
+        Err(fault) => Err(fault.refusal),
     }
 }

@@ -1,6 +1,7 @@
 -- A reply of the engine is one that a line may have.
-use Rattle.std.proofs.Common.{◌≡◌, ◌≢◌, ◌⊎◌, inl, inr, ℕ, ◌+◌, ◌-◌, ◌^◌, ◌≤◌, ◌<◌, Bool, List, [], ◌∷◌, ◌++◌, length, refl, sym, ap, ◌∙◌, subst, arith}
-use Rattle.std.specs.Prelude.{Option, Some, None, Result, Ok, Err, min}
+use Rattle.std.proofs.Common.{◌≡◌, ◌≢◌, ◌⊎◌, inl, inr, ℕ, ◌+◌, ◌-◌, ◌^◌, ◌≤◌, ◌<◌, Bool, true, false, List, [], ◌∷◌, ◌++◌, length, refl, sym, ap, ◌∙◌, subst, arith}
+use Rattle.std.specs.Prelude.{◌==◌, Option, Some, None, Result, Ok, Err, min}
+use Rattle.std.proofs.lemmas.Bool.Decides.{eqb_tells}
 use Rattle.refusal.specs.declared.Refusal.{Refusal}
 use Rattle.refusal.specs.declared.Refusal.TheVariants.{BadJob, NoTransaction, LevelTooDeep, OutOfMemory, StampsUsedUp}
 use Rattle.collation.specs.Limits.{most_commands, most_levels}
@@ -27,9 +28,9 @@ use Rattle.validate_commit.specs.Verdicts.{IsCauseAtCommit}
 use Rattle.job_core.specs.Causes.{IsCauseOf}
 use Rattle.job_core.specs.Sessions.{Session as JobSession}
 use Rattle.shared_engine.specs.Sessions.{Held, IsAt, IsBegun}
-use Rattle.job_scripts.specs.Blocks.{Asks}
+use Rattle.job_scripts.specs.Lines.{Asks, AsksAnother, IsRefusedAs}
 use Rattle.job_server.specs.Causes.{IsAnswer, IsAllowed, IsReplyTo}
-use Rattle.job_server.specs.Telling.{Shows, MayReply, IsLockRefusal, IsFault}
+use Rattle.job_server.specs.Telling.{Shows, MayReply, IsLockRefusal}
 
 -- ---- outside a transaction or inside
 
@@ -192,18 +193,27 @@ room_at_commit refusal h units (inr room) = room_of refusal 1 (length units) roo
 -- ---- lines
 
 -- a line that can't be read
-pub fault_of : (job : ℕ) (line : List ℕ) (refusal : Refusal) → IsRefusalOf line refusal → IsFault job line refusal
-fault_of job line OutOfMemory h t = by_reading (reading_of line)
+own_fault : (job : ℕ) (line : List ℕ) (refusal : Refusal) (t : Option Transaction) → IsRefusalOf line refusal → IsReplyTo (HasOperands line) job (reading_of line) (Refused refusal) t
+own_fault job line OutOfMemory t h = by_reading (reading_of line)
   where
+    by_job : (step : ℕ × Command) → (((step.0 == job) ≡ true) × (step.0 ≡ job)) ⊎ (((step.0 == job) ≡ false) × (step.0 ≢ job)) → IsReplyTo (HasOperands line) job (Ok step) (Refused OutOfMemory) t
+    by_job step (inl own) = inl (own.1, inl refl)
+    by_job step (inr other) = inr (other.1, inr (refl, h))
+
     by_reading : (read : Result (ℕ × Command) Refusal) → IsReplyTo (HasOperands line) job read (Refused OutOfMemory) t
-    by_reading (Ok step) = inl (inl refl)
+    by_reading (Ok step) = by_job step (eqb_tells step.0 job)
     by_reading (Err fault) = inr (refl, h)
-fault_of job line refusal h t = subst (λ (read : Result (ℕ × Command) Refusal). IsReplyTo (HasOperands line) job read (Refused refusal) t) (sym h) (inl refl)
+own_fault job line refusal t h = subst (λ (read : Result (ℕ × Command) Refusal). IsReplyTo (HasOperands line) job read (Refused refusal) t) (sym h) (inl refl)
 
 -- one of another job
-pub other_job : (job : ℕ) (line : List ℕ) (step : ℕ × Command) → reading_of line ≡ Ok step → step.0 ≢ job → IsFault job line BadJob
-other_job job line step is other t = subst (λ (read : Result (ℕ × Command) Refusal). IsReplyTo (HasOperands line) job read (Refused BadJob) t) (sym is) (inr (refl, other))
+other_job : (job : ℕ) (line : List ℕ) (t : Option Transaction) → AsksAnother job line → IsReplyTo (HasOperands line) job (reading_of line) (Refused BadJob) t
+other_job job line t (step, is, other) = subst (λ (read : Result (ℕ × Command) Refusal). IsReplyTo (HasOperands line) job read (Refused BadJob) t) (sym is) (inr (other, inl refl))
+
+-- whatever transaction the job has
+pub fault_of : (job : ℕ) (line : List ℕ) (refusal : Refusal) (t : Option Transaction) → IsRefusedAs job line refusal → IsReplyTo (HasOperands line) job (reading_of line) (Refused refusal) t
+fault_of job line refusal t (inl own) = own_fault job line refusal t own
+fault_of job line refusal t (inr (is, another)) = subst (λ (r : Refusal). IsReplyTo (HasOperands line) job (reading_of line) (Refused r) t) (sym is) (other_job job line t another)
 
 -- what its command may be replied
-pub asked_may : (job : ℕ) (line : List ℕ) (command : Command) (reply : Reply) (t : Option Transaction) → Asks line command → IsAllowed job command reply t → IsReplyTo (HasOperands line) job (reading_of line) reply t
-asked_may job line command reply t asks allowed = subst (λ (read : Result (ℕ × Command) Refusal). IsReplyTo (HasOperands line) job read reply t) (sym asks.1) (inl allowed)
+pub asked_may : (job : ℕ) (line : List ℕ) (command : Command) (reply : Reply) (t : Option Transaction) → Asks job line command → IsAllowed job command reply t → IsReplyTo (HasOperands line) job (reading_of line) reply t
+asked_may job line command reply t asks allowed = subst (λ (read : Result (ℕ × Command) Refusal). IsReplyTo (HasOperands line) job read reply t) (sym asks) (inl (refl, allowed))

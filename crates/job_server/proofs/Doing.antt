@@ -22,10 +22,11 @@ use Rattle.job_core.specs.Sessions.{Session as JobSession}
 use Rattle.validate_commit.specs.laws.Working.{work_nothing}
 use Rattle.shared_engine.specs.Sessions.{Held, IsBegun}
 use Rattle.shared_engine.specs.Blocks.{said, IsLone, IsReadAt, IsTried, IsOpened, IsDeeper, IsNone, IsCommitted, IsLower, IsRolledBack, IsRestarted, HasDone, AreDone, IsReady, moved, moved_open}
-use Rattle.job_scripts.specs.Blocks.{in_place, Asks, AreAsked}
+use Rattle.job_scripts.specs.Blocks.{in_place, AreAsked}
+use Rattle.job_scripts.specs.Lines.{Asks}
 use Rattle.job_server.specs.Causes.{IsAllowed, IsReplyTo}
 use Rattle.job_server.specs.Told.{told_by, told_by_lines, OneAsksFor, AreRepliesTo, units_of, backs}
-use Rattle.job_server.specs.Telling.{Shows, Stands, HasGoneBack, AreStillAsked, IsOvertaken, MayReply, Follows, NoneAgain}
+use Rattle.job_server.specs.Telling.{Shows, Stands, HasGoneBack, HasGranted, AreStillAsked, IsOvertaken, MayReply, Follows, NoneAgain}
 use Rattle.job_server.proofs.Causes.{lone_may, lock_may, deeper_may, commit_may, rollback_may, restart_may, no_commit_may, no_rollback_may, no_restart_may, room_of, room_at_commit, fault_of, asked_may}
 use Rattle.job_server.proofs.Following.{refused_follows, level_counted, restarts_counted, lone_follows, read_at_follows, tried_follows, begun_follows, deeper_follows, lower_follows, committed_follows, restarted_follows, rolled_back_follows}
 use Rattle.job_server.proofs.Answering.{follows_as}
@@ -141,7 +142,7 @@ pub record HasTold (job n : ℕ) (front : List JournalUnit) (lines : List (List 
   pub replies_are : (left : List (List ℕ)) (later : List Reply) → AreRepliesTo job left later machine → AreRepliesTo job (lines ++ left) (replies ++ later) s
   pub whose : new.state.work.job ≡ job
   pub stands : Stands front machine new
-  pub gone : HasGoneBack n machine new
+  pub gone : HasGoneBack n machine new × HasGranted n front machine new
 
 -- a line more in front
 line_before : (job n : ℕ) (front : List JournalUnit) (line : List ℕ) (lines : List (List ℕ)) (reply : Reply) (replies : List Reply) (s middle : Machine) (new : Held) → IsReplyTo (HasOperands line) job (reading_of line) reply (transaction_of job s) → told_by job (reading_of line) reply s ≡ middle
@@ -156,21 +157,21 @@ line_before job n front line lines reply replies s middle new may is h = record 
 }
 
 pub block_told : (job n : ℕ) (front : List JournalUnit) (lines : List (List ℕ)) (places : List (Option Refusal)) (commands : List Command) (replies : List Reply) (units more : List JournalUnit) (old new : Held) (s : Machine)
-    → AreAsked lines places commands → AreDone commands replies units more old new → NoneAgain commands replies → old.state.work.job ≡ job → Stands front s old → HasGoneBack n s old → HasTold job n front lines (in_place places replies) s new
+    → AreAsked job lines places commands → AreDone commands replies units more old new → NoneAgain commands replies → old.state.work.job ≡ job → Stands front s old → HasGoneBack n s old × HasGranted n front s old → HasTold job n front lines (in_place places replies) s new
 block_told job n front [] [] [] [] units more old new s asked done never whose stands gone = record {
   machine = s;
   led = λ left later. refl;
   replies_are = λ left later rest. rest;
   whose = ap (λ (h : Held). h.state.work.job) done.1 ∙ whose;
   stands = subst (λ (h : Held). Stands front s h) (sym done.1) stands;
-  gone = subst (λ (h : Held). HasGoneBack n s h) (sym done.1) gone;
+  gone = subst (λ (h : Held). HasGoneBack n s h × HasGranted n front s h) (sym done.1) gone;
 }
 block_told job n front [] [] [] (reply ∷ replies) units more old new s asked done never whose stands gone = absurd done
 block_told job n front [] [] (command ∷ commands) replies units more old new s asked done never whose stands gone = absurd asked
 block_told job n front [] (place ∷ places) commands replies units more old new s asked done never whose stands gone = absurd asked
 block_told job n front (line ∷ lines) [] commands replies units more old new s asked done never whose stands gone = absurd asked
 block_told job n front (line ∷ lines) (Some refusal ∷ places) commands replies units more old new s asked done never whose stands gone =
-    line_before job n front line lines (Refused refusal) (in_place places replies) s s new (fault_of job line refusal asked.0 (transaction_of job s)) (refused_tells job (reading_of line) refusal s)
+    line_before job n front line lines (Refused refusal) (in_place places replies) s s new (fault_of job line refusal (transaction_of job s) asked.0) (refused_tells job (reading_of line) refusal s)
     (block_told job n front lines places commands replies units more old new s asked.1 done never whose stands gone)
 block_told job n front (line ∷ lines) (None ∷ places) [] replies units more old new s asked done never whose stands gone = absurd asked
 block_told job n front (line ∷ lines) (None ∷ places) (command ∷ commands) [] units more old new s asked done never whose stands gone = absurd done
@@ -179,10 +180,10 @@ block_told job n front (line ∷ lines) (None ∷ places) (command ∷ commands)
     line_before job n front line lines reply (in_place places replies) s (told job command reply s) new
     (asked_may job line command reply (transaction_of job s) asked.0
     (subst (λ (j : ℕ). IsAllowed j command reply (transaction_of j s)) whose (follows.may (never_overtaken command reply units done.0 old done.1 done.2) (transaction_of old.state.work.job s) stands.shows stands.begun)))
-    (ap (λ (r : Result (ℕ × Command) Refusal). told_by job r reply s) asked.0.1)
+    (ap (λ (r : Result (ℕ × Command) Refusal). told_by job r reply s) asked.0)
     (block_told job n front lines places commands replies done.0 more done.1 new (told job command reply s) asked.1 done.3 never.1 (follows.whose ∙ whose)
     (subst (λ (j : ℕ). Stands front (told j command reply s) done.1) whose (follows.stands front s stands))
-    (subst (λ (j : ℕ). HasGoneBack n (told j command reply s) done.1) whose (follows.went n front s stands gone)))
+    (subst (λ (j : ℕ). HasGoneBack n (told j command reply s) done.1) whose (follows.went n front s stands gone.0), subst (λ (j : ℕ). HasGranted n front (told j command reply s) done.1) whose (follows.granted n front s gone.0 gone.1)))
 
 -- no rollback or restart is lost in a block
 pub block_grows : (commands : List Command) (replies : List Reply) (units more : List JournalUnit) (old new : Held) → AreDone commands replies units more old new → NoneAgain commands replies → backs (units_of old.others) ≤ backs (units_of new.others)
@@ -197,22 +198,22 @@ block_grows (command ∷ commands) (reply ∷ replies) units more old new done n
     grows_then a b c first second = omega (arith, first, second)
 
 -- the LOCKs that a block writes are asked for
-pub block_asks : (front : List JournalUnit) (lines : List (List ℕ)) (places : List (Option Refusal)) (commands : List Command) (replies : List Reply) (units more : List JournalUnit) (old new : Held)
-    → AreAsked lines places commands → AreDone commands replies units more old new → NoneAgain commands replies → AreStillAsked (OneAsksFor lines) (front ++ units_of old.receipts) (front ++ units_of new.receipts)
-block_asks front [] [] [] [] units more old new asked done never =
-    same_asked (OneAsksFor []) (front ++ units_of old.receipts) (front ++ units_of new.receipts) (ap (λ (h : Held). front ++ units_of h.receipts) done.1)
-block_asks front [] [] [] (reply ∷ replies) units more old new asked done never = absurd done
-block_asks front [] [] (command ∷ commands) replies units more old new asked done never = absurd asked
-block_asks front [] (place ∷ places) commands replies units more old new asked done never = absurd asked
-block_asks front (line ∷ lines) [] commands replies units more old new asked done never = absurd asked
-block_asks front (line ∷ lines) (Some refusal ∷ places) commands replies units more old new asked done never =
-    λ all each h. block_asks front lines places commands replies units more old new asked.1 done never all (λ c asks. each c (inr asks)) h
-block_asks front (line ∷ lines) (None ∷ places) [] replies units more old new asked done never = absurd asked
-block_asks front (line ∷ lines) (None ∷ places) (command ∷ commands) [] units more old new asked done never = absurd done
-block_asks front (line ∷ lines) (None ∷ places) (command ∷ commands) (reply ∷ replies) units more old new asked done never =
+pub block_asks : (job : ℕ) (front : List JournalUnit) (lines : List (List ℕ)) (places : List (Option Refusal)) (commands : List Command) (replies : List Reply) (units more : List JournalUnit) (old new : Held)
+    → AreAsked job lines places commands → AreDone commands replies units more old new → NoneAgain commands replies → AreStillAsked (OneAsksFor job lines) (front ++ units_of old.receipts) (front ++ units_of new.receipts)
+block_asks job front [] [] [] [] units more old new asked done never =
+    same_asked (OneAsksFor job []) (front ++ units_of old.receipts) (front ++ units_of new.receipts) (ap (λ (h : Held). front ++ units_of h.receipts) done.1)
+block_asks job front [] [] [] (reply ∷ replies) units more old new asked done never = absurd done
+block_asks job front [] [] (command ∷ commands) replies units more old new asked done never = absurd asked
+block_asks job front [] (place ∷ places) commands replies units more old new asked done never = absurd asked
+block_asks job front (line ∷ lines) [] commands replies units more old new asked done never = absurd asked
+block_asks job front (line ∷ lines) (Some refusal ∷ places) commands replies units more old new asked done never =
+    λ j all each h. block_asks job front lines places commands replies units more old new asked.1 done never j all (λ c asks. each c (inr asks)) h
+block_asks job front (line ∷ lines) (None ∷ places) [] replies units more old new asked done never = absurd asked
+block_asks job front (line ∷ lines) (None ∷ places) (command ∷ commands) [] units more old new asked done never = absurd done
+block_asks job front (line ∷ lines) (None ∷ places) (command ∷ commands) (reply ∷ replies) units more old new asked done never =
     let follows : Follows command reply old done.1 = done_follows command reply units done.0 old done.1 never.0 done.2 in
-    λ all each h. block_asks front lines places commands replies done.0 more done.1 new asked.1 done.3 never.1 all (λ c asks. each c (inr asks))
-    (follows.asks front all (λ c is. each c (inl (subst (λ (x : Command). Asks line x) is asked.0))) h)
+    λ j all each h. block_asks job front lines places commands replies done.0 more done.1 new asked.1 done.3 never.1 j all (λ c asks. each c (inr asks))
+    (follows.asks front j all (λ c is. each c (inl (subst (λ (x : Command). Asks job line x) is asked.0))) h)
 
 -- ---- before a block
 
@@ -254,10 +255,16 @@ same_level None command result old new h = absurd h
 same_level (Some base) command (Ok answer) old new h = h.level
 same_level (Some base) command (Err refusal) old new h = ap (λ (x : JobSession). x.level) h.same
 
+same_took : (start : Option (List JournalUnit)) (command : DataCommand) (result : Result Answer Refusal) (old new : JobSession) → IsReadAt start command result old new → new.took_lock ≡ old.took_lock
+same_took None command result old new h = absurd h
+same_took (Some base) command (Ok answer) old new h = h.took_lock
+same_took (Some base) command (Err refusal) old new h = ap (λ (x : JobSession). x.took_lock) h.same
+
 -- they write nothing
 pub reads_keep : (commands : List Command) (replies : List Reply) (units more : List JournalUnit) (old new : Held) → All IsAccess commands → AreDone commands replies units more old new → 1 ≤ old.state.level
-    → (new.state.level ≡ old.state.level) × (new.receipts ≡ old.receipts)
-reads_keep [] [] units more old new all done one = (ap (λ (h : Held). h.state.level) done.1, ap (λ (h : Held). h.receipts) done.1)
+    → ((new.state.level ≡ old.state.level) × (new.state.took_lock ≡ old.state.took_lock)) × ((new.receipts ≡ old.receipts) × (new.others ≡ old.others))
+reads_keep [] [] units more old new all done one =
+    ((ap (λ (h : Held). h.state.level) done.1, ap (λ (h : Held). h.state.took_lock) done.1), (ap (λ (h : Held). h.receipts) done.1, ap (λ (h : Held). h.others) done.1))
 reads_keep [] (reply ∷ replies) units more old new all done one = absurd done
 reads_keep (command ∷ commands) [] units more old new all done one = absurd done
 reads_keep (command ∷ commands) (reply ∷ replies) units more old new all done one =
@@ -265,4 +272,4 @@ reads_keep (command ∷ commands) (reply ∷ replies) units more old new all don
     let access : HasDone (Access first.0) reply units done.0 old done.1 = subst (λ (c : Command). HasDone c reply units done.0 old done.1) first.1 done.2 in
     let level : done.1.state.level ≡ old.state.level = same_level old.start first.0 access.0 old.state done.1.state (access.3 one).0 in
     let later = reads_keep commands replies done.0 more done.1 new (All-rest IsAccess command commands (command ∷ commands) refl all) done.3 (omega (arith, one, level)) in
-    (later.0 ∙ level, later.1 ∙ (access.3 one).1.1.1.0)
+    ((later.0.0 ∙ level, later.0.1 ∙ same_took old.start first.0 access.0 old.state done.1.state (access.3 one).0), (later.1.0 ∙ (access.3 one).1.1.1.0, later.1.1 ∙ (access.3 one).1.1.1.1))

@@ -15,11 +15,12 @@ use Rattle.shared_engine.specs.Receipts.{Book}
 use Rattle.shared_engine.specs.Sessions.{Held, held, halted}
 use Rattle.shared_engine.specs.Engines.{OnOkThat, OnOkNot}
 use Rattle.job_scripts.specs.Lines.{lines_of_script}
-use Rattle.job_server.specs.Told.{told_by_lines, AreRepliesTo, given, IsToldIn, IsAllTold, AreOf, AreAskedFor, IsTold, units_in, backs, others_of, AreBack}
+use Rattle.job_server.specs.Told.{told_by_lines, AreRepliesTo, given, IsToldIn, IsAllTold, AreOf, AreAskedFor, IsTold, units_in, backs, others_of, AreBack, grants, AreGranted}
 use Rattle.job_server.specs.Telling.{units_behind, StandsIn, StandsAt, SessionsSoFar, sessions_so_far, GoesOnUntold, GoesOnBy, HasStopped, Running, not_begun, Leads, Serves}
 use Rattle.job_server.proofs.Units.{one_given}
 use Rattle.job_server.proofs.Asking.{none_asked}
 use Rattle.job_server.proofs.GoingBack.{end_count}
+use Rattle.job_server.proofs.Granting.{end_granted}
 use Rattle.job_server.proofs.GoingOn.{opened_goes, halted_some}
 
 -- a test found none
@@ -51,20 +52,25 @@ stopped_none job same now is none = inl (refl, sym (ap (λ (x : SessionsSoFar). 
 -- ---- the end of a job's lines
 
 -- the job's session has ended, where it had one
-all_told : (job : ℕ) (s : Machine) (old new : SessionsSoFar) → StandsAt job old s → HasStopped job old new → AreOf job new.books × (IsAllTold job (given s) (units_in new.books) × AreBack s.units new.books)
+all_told : (job : ℕ) (s : Machine) (old new : SessionsSoFar) → StandsAt job old s → HasStopped job old new → AreOf job new.books × (IsAllTold job (given s) (units_in new.books) × (AreBack s.units new.books × AreGranted s.units new.books))
 all_told job s old new stands (inl same) =
     let now : StandsIn job new.books None s = subst (λ (x : SessionsSoFar). StandsIn job x.books None s) (sym same.0) (subst (λ (o : Option Held). StandsIn job old.books o s) same.1 stands) in
     (now.0, (inl now.1.1.0, now.1.1.1))
 all_told job s old new stands (inr halted) =
-    let now : StandsIn job new.books None (told job Halt Finished s) = subst (λ (o : Option Held). StandsIn job new.books o (told job Halt Finished s)) halted.1 (halted.0.stands s stands) in
-    (now.0, (inr (subst (λ (us : List JournalUnit). IsToldIn us (units_in new.books)) (one_given s.units (End job) refl) now.1.1.0), end_count job s.units new.books now.1.1.1))
+    let now : StandsIn job new.books None (told job Halt Finished s) = subst (λ (o : Option Held). StandsIn job new.books o (told job Halt Finished s)) halted.1 (halted.0.stands s stands) in (
+      now.0,
+      (
+        inr (subst (λ (us : List JournalUnit). IsToldIn us (units_in new.books)) (one_given s.units (End job) refl) now.1.1.0),
+        (end_count job s.units new.books now.1.1.1.0, end_granted job s.units new.books now.1.1.1.1),
+      ),
+    )
 
 -- its LOCKs are asked for still
-all_asked : (job : ℕ) (lines : List (List ℕ)) (old new : SessionsSoFar) → AreAskedFor lines (units_behind old.books old.session) → HasStopped job old new → AreAskedFor lines (units_in new.books)
+all_asked : (job : ℕ) (lines : List (List ℕ)) (old new : SessionsSoFar) → AreAskedFor job lines (units_behind old.books old.session) → HasStopped job old new → AreAskedFor job lines (units_in new.books)
 all_asked job lines old new asked (inl same) =
-    subst (λ (x : SessionsSoFar). AreAskedFor lines (units_in x.books)) (sym same.0) (subst (λ (o : Option Held). AreAskedFor lines (units_behind old.books o)) same.1 asked)
+    subst (λ (x : SessionsSoFar). AreAskedFor job lines (units_in x.books)) (sym same.0) (subst (λ (o : Option Held). AreAskedFor job lines (units_behind old.books o)) same.1 asked)
 all_asked job lines old new asked (inr halted) =
-    subst (λ (o : Option Held). AreAskedFor lines (units_behind new.books o)) halted.1 (halted.0.asks lines (λ c is. absurd (is_no_lock c is)) asked)
+    subst (λ (o : Option Held). AreAskedFor job lines (units_behind new.books o)) halted.1 (halted.0.asks job lines (λ c is. absurd (is_no_lock c is)) asked)
   where
     is_no_lock : (c : LockCommand) → Halt ≡ lock_command c → ⊥
     is_no_lock c is = absurd (cc)
@@ -72,18 +78,29 @@ all_asked job lines old new asked (inr halted) =
 pub run_told : (job : ℕ) (text : List ℕ) (old new : Running) (later : SessionsSoFar) → old ≡ not_begun → Serves job (lines_of_script text) [] old new → HasStopped job new.sessions later → IsTold (Some job) text new.replies later.books
 run_told job text old new later first serves stopped =
     let h : Serves job (lines_of_script text) [] not_begun new = subst (λ (x : Running). Serves job (lines_of_script text) [] x new) first serves in
-    let led : Leads job h.lines_done h.their_replies nothing_done new.sessions = h.leads nothing_done ((λ k d lt. absurd (omega (arith, lt))), (finmap.get-empty nat_cmp job, (tt, none_gone))) in
+    let led : Leads job h.lines_done h.their_replies nothing_done new.sessions = h.leads nothing_done ((λ k d lt. absurd (omega (arith, lt))), (finmap.get-empty nat_cmp job, (tt, (none_gone, inl none_granted)))) in
     let s : Machine = led.machine in
-    let over : AreOf job later.books × (IsAllTold job (given s) (units_in later.books) × AreBack s.units later.books) = all_told job s new.sessions later led.stands stopped in
+    let over : AreOf job later.books × (IsAllTold job (given s) (units_in later.books) × (AreBack s.units later.books × AreGranted s.units later.books)) = all_told job s new.sessions later led.stands stopped in
     let machine : told_by_lines job (lines_of_script text) new.replies nothing_done ≡ s = ap (λ (ls : List (List ℕ)). told_by_lines job ls new.replies nothing_done) h.split
     ∙ (ap (λ (rs : List Reply). told_by_lines job (h.lines_done ++ []) rs nothing_done) (h.replied ∙ sym (append-nil h.their_replies)) ∙ led.led [] []) in
     let replies : AreRepliesTo job (lines_of_script text) new.replies nothing_done = subst (λ (ls : List (List ℕ)). AreRepliesTo job ls new.replies nothing_done) (sym h.split)
     (subst (λ (rs : List Reply). AreRepliesTo job (h.lines_done ++ []) rs nothing_done) (sym (h.replied ∙ sym (append-nil h.their_replies))) (led.replies_are [] [] tt)) in
-    let asked : AreAskedFor (lines_of_script text) (units_in later.books) = all_asked job (lines_of_script text) new.sessions later (h.asks (lines_of_script text) (λ c asks. asks) (none_asked (lines_of_script text))) stopped in
-    (over.0, (subst (λ (us : List JournalUnit). IsAllTold job us (units_in later.books)) (sym (ap given machine)) over.1.0, (asked, (subst (λ (m : Machine). AreBack m.units later.books) (sym machine) over.1.1, replies))))
+    let asked : AreAskedFor job (lines_of_script text) (units_in later.books) = all_asked job (lines_of_script text) new.sessions later (h.asks job (lines_of_script text) (λ c one. one) (none_asked job (lines_of_script text))) stopped in (
+      over.0,
+      (
+        subst (λ (us : List JournalUnit). IsAllTold job us (units_in later.books)) (sym (ap given machine)) over.1.0,
+        (
+          asked,
+          (subst (λ (m : Machine). AreBack m.units later.books) (sym machine) over.1.1.0, (subst (λ (m : Machine). AreGranted m.units later.books) (sym machine) over.1.1.1, replies)),
+        ),
+      ),
+    )
   where
     none_gone : backs [] ≤ backs (others_of [])
     none_gone = omega arith
+
+    none_granted : grants (units_in []) ≤ grants []
+    none_granted = omega arith
 
 -- ---- answers
 

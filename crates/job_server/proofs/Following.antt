@@ -1,5 +1,5 @@
 -- A session goes on as its reply tells, call by call.
-use Rattle.std.proofs.Common.{◌≡◌, inl, inr, ℕ, ◌+◌, ◌-◌, ◌≤◌, ◌<◌, Bool, true, false, List, [], ◌∷◌, ◌++◌, length, refl, sym, ap, ◌∙◌, subst, arith, true≢false}
+use Rattle.std.proofs.Common.{◌≡◌, ◌⊎◌, inl, inr, ℕ, ◌+◌, ◌-◌, ◌≤◌, ◌<◌, Bool, true, false, List, [], ◌∷◌, ◌++◌, length, refl, sym, ap, ◌∙◌, subst, arith, true≢false}
 use Rattle.std.specs.Prelude.{Option, Some, None, Result, Ok, Err, nat_lt, ◌^◌, min}
 use Rattle.refusal.specs.declared.Refusal.{Refusal}
 use Rattle.collation.specs.Limits.{most_levels}
@@ -24,12 +24,13 @@ use Rattle.shared_engine.specs.Sessions.{Held, held, IsAt, IsBegun, and_receipt,
 use Rattle.shared_engine.specs.Engines.{HasEnded, after_try, lock_unit, whole_of}
 use Rattle.shared_engine.specs.declared.locked.Ended.TheVariants.{Committed, Restarted}
 use Rattle.shared_engine.specs.Blocks.{said, IsReadAt}
-use Rattle.job_server.specs.Told.{given, IsToldIn, units_of}
+use Rattle.job_server.specs.Told.{given, IsToldIn, units_of, backs, grants}
 use Rattle.job_server.specs.Causes.{IsAllowed}
-use Rattle.job_server.specs.Telling.{Shows, Stands, HasGoneBack, AreStillTold, AreStillAsked, IsLockOf, MayReply, Follows, names_some, IsLockRefusal, HasLocked}
+use Rattle.job_server.specs.Telling.{Shows, Stands, HasGoneBack, HasGranted, AreStillWithin, AreStillTold, AreStillAsked, IsLockOf, MayReply, Follows, names_some, IsLockRefusal, HasLocked}
 use Rattle.job_server.proofs.Units.{lock_receipt_more}
 use Rattle.job_server.proofs.Asking.{held_asked, more_asked}
 use Rattle.job_server.proofs.GoingBack.{same_count, went_count, same_back, begun_back, answer_back, level_back, commit_back, rolled_has_gone, anew_has_gone, tried_has_gone, lock_has_gone}
+use Rattle.job_server.proofs.Granting.{lone_granted, answer_granted, level_granted, commit_granted, lock_granted, tried_granted, back_granted, same_within, held_within, lock_within, anew_within, not_anew, had_anew}
 use Rattle.job_server.proofs.Causes.{inside_may, alone_may, answered_may, done_may, lock_may, had_may, begun_may, inner_may, lower_may, committed_may, anew_may, rolled_back_may, level_may, restarts_may}
 use Rattle.job_server.proofs.Standing.{shown_none, still_shows, noted_at, with_closed, told_lone, told_inside, tried_untold, blocked_untold, inside_untold, tried_told, tried_job, tried_level, back_given, told_begun, told_at, told_whole}
 
@@ -48,6 +49,9 @@ refused_follows command refusal old new same may = record {
   went = λ n front s stands gone. subst (λ (h : Held). HasGoneBack n s h) (sym same) gone;
   grows = same_count old new (ap (λ (h : Held). h.others) same);
   may = may;
+  granted = λ n front s gone granted. subst (λ (h : Held). HasGranted n front s h) (sym same) granted;
+  within = λ before later n front. held_within n front old new same;
+  no_lock = not_anew (Refused refusal) refl;
 }
 
 counted_follows : (command : Command) (n : ℕ) (old new : Held) → new ≡ old → MayReply command (Count n) old → Follows command (Count n) old new
@@ -59,6 +63,9 @@ counted_follows command n old new same may = record {
   went = λ n front s stands gone. subst (λ (h : Held). HasGoneBack n s h) (sym same) gone;
   grows = same_count old new (ap (λ (h : Held). h.others) same);
   may = may;
+  granted = λ n front s gone granted. subst (λ (h : Held). HasGranted n front s h) (sym same) granted;
+  within = λ before later n front. held_within n front old new same;
+  no_lock = not_anew (Count n) refl;
 }
 
 pub level_counted : (n : ℕ) (old new : Held) → n ≡ old.state.level → new ≡ old → Follows Level (Count n) old new
@@ -76,12 +83,16 @@ lone_follows command answer n old new level is = record {
   keeps = λ before later front. absurd (omega (arith, before, level));
   asks = λ front.
       subst (λ (h : Held). AreStillAsked (IsLockOf (Access command)) (front ++ units_of old.receipts) (front ++ units_of h.receipts)) (sym is)
-      (more_asked (IsLockOf (Access command)) front old.receipts n (Lone old.state.work.job command answer) (λ lines each. tt));
+      (more_asked (IsLockOf (Access command)) front old.receipts n (Lone old.state.work.job command answer) (λ j all each. tt));
   went = λ k front s stands gone.
       subst (λ (h : Held). HasGoneBack k (told old.state.work.job (Access command) (Answered answer) s) h) (sym is)
       (answer_back k s (and_receipt n (Lone old.state.work.job command answer) old) command answer (transaction_of old.state.work.job s) refl gone);
   grows = same_count old new (ap (λ (h : Held). h.others) is);
   may = alone_may command answer old level;
+  granted = λ k front s gone granted.
+      subst (λ (h : Held). HasGranted k front (told old.state.work.job (Access command) (Answered answer) s) h) (sym is) (lone_granted k n front s old command answer granted);
+  within = λ before. absurd (omega (arith, before, level));
+  no_lock = not_anew (Answered answer) refl;
 }
 
 pub inside_follows : (command : DataCommand) (answer : Answer) (old new : Held) → 1 ≤ old.state.level → new.state.level ≡ old.state.level → new.state.work.exchanges ≡ old.state.work.exchanges ++ record { command = command; answer = answer } ∷ []
@@ -97,6 +108,9 @@ inside_follows command answer old new one level exchanges job restarts at receip
       (answer_back n s new command answer (transaction_of old.state.work.job s) (ap (λ (j : ℕ). transaction_of j s) job) (same_back n s old new job (λ is. took ∙ is) others gone));
   grows = same_count old new others;
   may = may;
+  granted = λ n front s gone granted. answer_granted n front s old new old.state.work.job command answer (transaction_of old.state.work.job s) receipts others granted;
+  within = λ before later n front. same_within n front old new receipts others took;
+  no_lock = not_anew (Answered answer) refl;
 }
 
 -- nothing of a session has changed but what isn't seen of it
@@ -113,6 +127,11 @@ unchanged_follows command refusal old new state start receipts others may = reco
   went = λ n front s stands gone. same_back n s old new (ap (λ (x : JobSession). x.work.job) state) (λ is. ap (λ (x : JobSession). x.took_lock) state ∙ is) others gone;
   grows = same_count old new others;
   may = may;
+  granted = λ n front s gone granted.
+      subst (λ (cs : List Claim). (grants (front ++ units_of cs) ≤ grants s.units) ⊎ (backs s.units < n + backs (units_of new.others))) (sym receipts)
+      (subst (λ (cs : List Claim). (grants (front ++ units_of old.receipts) ≤ grants s.units) ⊎ (backs s.units < n + backs (units_of cs))) (sym others) granted);
+  within = λ before later n front. same_within n front old new receipts others (ap (λ (x : JobSession). x.took_lock) state);
+  no_lock = not_anew (Refused refusal) refl;
 }
 
 pub read_follows : (base : List JournalUnit) (command : DataCommand) (result : Result Answer Refusal) (old new : Held) → old.start ≡ Some base → 1 ≤ old.state.level → IsAnsweredOrRefused command result (after base initial).map old.state new.state → new.start ≡ old.start
@@ -157,7 +176,7 @@ lock_told job (Fewer names) had s is = refl
 
 -- the LOCK is the command
 try_asked : (command : LockCommand) (had : Bool) (n : ℕ) (old : Held) (front : List JournalUnit) → AreStillAsked (IsLockOf (lock_command command)) (front ++ units_of old.receipts) (front ++ units_of (after_try n command had old).receipts)
-try_asked command had n old front = more_asked (IsLockOf (lock_command command)) front old.receipts n (lock_unit old.state command had) (λ lines each. each command refl)
+try_asked command had n old front = more_asked (IsLockOf (lock_command command)) front old.receipts n (lock_unit old.state command had) (λ j all each. each command refl)
 
 pub tried_follows : (command : LockCommand) (had : Bool) (n : ℕ) (old new : Held) → ((command ≡ Release) → had ≡ true) → new ≡ after_try n command had old → Follows (lock_command command) (told_had command had) old new
 tried_follows command had n old new frees is = record {
@@ -174,6 +193,13 @@ tried_follows command had n old new frees is = record {
       (subst (λ (h : Held). HasGoneBack k (told_lock old.state.work.job command had (transaction_of old.state.work.job s) s) h) (sym is) (lock_has_gone k n s old command had (tried_job n command had old) stands.shows gone));
   grows = same_count old new (ap (λ (h : Held). h.others) is);
   may = had_may command had old;
+  granted = λ k front s gone granted.
+      subst (λ (m : Machine). HasGranted k front m new) (sym (lock_told old.state.work.job command had s frees))
+      (subst (λ (h : Held). HasGranted k front (told_lock old.state.work.job command had (transaction_of old.state.work.job s) s) h) (sym is) (lock_granted k n front s old command had granted));
+  within = λ before later k front.
+      subst (λ (x : Held). AreStillWithin (front ++ units_of old.receipts) (k + backs (units_of old.others)) old.state.took_lock (front ++ units_of x.receipts) (k + backs (units_of x.others)) x.state.took_lock) (sym is)
+      (lock_within k n front old command had before);
+  no_lock = not_anew (told_had command had) (had_anew command had);
 }
 
 -- a first try in vain, and then another step
@@ -185,13 +211,18 @@ blocked_then command reply n old new then = record {
       (then.stands front s (tried_untold front s old command n stands));
   keeps = λ before later front ts h.
       then.keeps (omega (arith, before, tried_level n command false old)) later front ts (lock_receipt_more ts front old.receipts n (lock_unit old.state command false) (blocked_untold old command) h);
-  asks = λ front lines each h. then.asks front lines each (try_asked command false n old front lines each h);
+  asks = λ front j all each h. then.asks front j all each (try_asked command false n old front j all each h);
   went = λ k front s stands gone.
       subst (λ (j : ℕ). HasGoneBack k (told j (lock_command command) reply s) new) (tried_job n command false old)
       (then.went k front s (tried_untold front s old command n stands) (tried_has_gone k n s old command (tried_job n command false old) gone));
   grows = then.grows;
   may = λ never t shows at.
       subst (λ (j : ℕ). IsAllowed j (lock_command command) reply t) (tried_job n command false old) (then.may never t (still_shows (nat_lt 0 old.state.level) old.state t shows) (noted_at old.start old.state at));
+  granted = λ k front s gone granted.
+      subst (λ (j : ℕ). HasGranted k front (told j (lock_command command) reply s) new) (tried_job n command false old)
+      (then.granted k front s (tried_has_gone k n s old command (tried_job n command false old) gone) (tried_granted k n front s old command granted));
+  within = λ before later k front most least h. then.within (omega (arith, before, tried_level n command false old)) later k front most least (lock_within k n front old command false before most least h);
+  no_lock = then.no_lock;
 }
 
 -- why it was refused, behind a first try
@@ -235,6 +266,9 @@ begun_follows base old new level h = record {
       (subst (λ o. HasGoneBack n (told_level old.state.work.job 1 o s) now) (sym none) (begun_back n 0 s now gone.0));
   grows = same_count old new (ap (λ (x : Held). x.others) h.is);
   may = begun_may old level;
+  granted = λ n front s gone granted. level_granted n front s old new old.state.work.job 1 (transaction_of old.state.work.job s) (ap (λ (x : Held). x.receipts) h.is) (ap (λ (x : Held). x.others) h.is) granted;
+  within = λ before. absurd (omega (arith, before, level));
+  no_lock = not_anew (AtLevel 1) refl;
 }
 
 pub level_follows : (command : Command) (level : ℕ) (old new : Held) → ((s : Machine) → told old.state.work.job command (AtLevel level) s ≡ told_level old.state.work.job level (transaction_of old.state.work.job s) s) → 1 ≤ old.state.level → 1 ≤ level
@@ -253,6 +287,11 @@ level_follows command level old new tells one some is may = record {
       (level_back n s now level (transaction_of old.state.work.job s) refl (same_back n s old now refl (λ took. took) refl gone)));
   grows = same_count old new (ap (λ (x : Held). x.others) is);
   may = may;
+  granted = λ n front s gone granted.
+      subst (λ (m : Machine). HasGranted n front m new) (sym (tells s))
+      (level_granted n front s old new old.state.work.job level (transaction_of old.state.work.job s) (ap (λ (x : Held). x.receipts) is) (ap (λ (x : Held). x.others) is) granted);
+  within = λ before later n front. same_within n front old new (ap (λ (x : Held). x.receipts) is) (ap (λ (x : Held). x.others) is) (ap (λ (x : Held). x.state.took_lock) is);
+  no_lock = not_anew (AtLevel level) refl;
 }
 
 pub deeper_follows : (level : ℕ) (old new : Held) → 1 ≤ old.state.level → old.state.level < most_levels → level ≡ old.state.level + 1 → new ≡ held (at_level level old.state) old.start old.receipts old.others → Follows Start (AtLevel level) old new
@@ -270,12 +309,16 @@ committed_follows units more old new one h = record {
   keeps = λ before later front. absurd (omega (arith, later, ap (λ (x : Held). x.state.level) h.1.1));
   asks = λ front.
       subst (λ (x : Held). AreStillAsked (IsLockOf Commit) (front ++ units_of old.receipts) (front ++ units_of x.receipts)) (sym h.1.1)
-      (more_asked (IsLockOf Commit) front old.receipts (length units + 1) (whole_of old.state) (λ lines each. tt));
+      (more_asked (IsLockOf Commit) front old.receipts (length units + 1) (whole_of old.state) (λ j all each. tt));
   went = λ n front s stands gone.
       subst (λ (x : Held). HasGoneBack n (told_commit old.state.work.job (transaction_of old.state.work.job s) s) x) (sym h.1.1)
       (commit_back n s (ended (and_receipt (length units + 1) (whole_of old.state) old)) (transaction_of old.state.work.job s) refl gone.0);
   grows = same_count old new (ap (λ (x : Held). x.others) h.1.1);
   may = committed_may old one;
+  granted = λ n front s gone granted.
+      commit_granted n (length units + 1) front s old new old.state.work.job (transaction_of old.state.work.job s) (whole_of old.state) refl (ap (λ (x : Held). x.receipts) h.1.1) (ap (λ (x : Held). x.others) h.1.1) granted;
+  within = λ before later. absurd (omega (arith, later, ap (λ (x : Held). x.state.level) h.1.1));
+  no_lock = not_anew committed_reply refl;
 }
 
 -- how often it has begun anew
@@ -302,6 +345,13 @@ anew_follows command restarts units old new tells is counted may = record {
       (subst (λ (x : Held). HasGoneBack n (begin old.state.work.job restarts (told_back old.state.work.job (transaction_of old.state.work.job s) s)) x) (sym is) (anew_has_gone n restarts units s old gone));
   grows = went_count (length units) old new (ap (λ (x : Held). x.others) is);
   may = may;
+  granted = λ n front s gone granted.
+      subst (λ (m : Machine). HasGranted n front m new) (sym (tells s))
+      (subst (λ (x : Held). HasGranted n front (begin old.state.work.job restarts (told_back old.state.work.job (transaction_of old.state.work.job s) s)) x) (sym is) (back_granted n (length units) front s old gone granted));
+  within = λ before later n front.
+      subst (λ (x : Held). AreStillWithin (front ++ units_of old.receipts) (n + backs (units_of old.others)) old.state.took_lock (front ++ units_of x.receipts) (n + backs (units_of x.others)) x.state.took_lock) (sym is)
+      (anew_within n front units old);
+  no_lock = λ again. ap (λ (x : Held). x.state.took_lock) is;
 }
 
 pub overtaken_follows : (restarts : ℕ) (units more : List JournalUnit) (old new : Held) → HasEnded (Restarted restarts) units more old new → Follows Commit (restarted_reply restarts) old new
@@ -323,4 +373,8 @@ rolled_back_follows n old new one is = record {
       subst (λ (x : Held). HasGoneBack k (close old.state.work.job (told_back old.state.work.job (transaction_of old.state.work.job s) s)) x) (sym is) (rolled_has_gone k n s old gone);
   grows = went_count n old new (ap (λ (x : Held). x.others) is);
   may = rolled_back_may old one;
+  granted = λ k front s gone granted.
+      subst (λ (x : Held). HasGranted k front (close old.state.work.job (told_back old.state.work.job (transaction_of old.state.work.job s) s)) x) (sym is) (back_granted k n front s old gone granted);
+  within = λ before later. absurd (omega (arith, later, ap (λ (x : Held). x.state.level) is));
+  no_lock = not_anew Finished refl;
 }

@@ -45,7 +45,7 @@ none_more a b x count same = omega (arith, count, same)
 none_fewer : (a b x : ℕ) → x ≤ b → x ≡ a + 0 → a ≤ b
 none_fewer a b x count same = omega (arith, count, same)
 
-plus_none : (a b : ℕ) → a ≡ b + 0 → a ≡ b
+pub plus_none : (a b : ℕ) → a ≡ b + 0 → a ≡ b
 plus_none a b same = omega (arith, same)
 
 or_none : (a b : ℕ) → a ≤ b → a ≤ b + 0
@@ -58,7 +58,7 @@ backs_append : (front back : List JournalUnit) → backs (front ++ back) ≡ bac
 backs_append front back = ap length (filter-append goes_back front back) ∙ length-append (filter goes_back front) (filter goes_back back)
 
 -- a unit more
-backs_more : (units : List JournalUnit) (u : JournalUnit) (k : ℕ) → backs (u ∷ []) ≡ k → backs (units ++ u ∷ []) ≡ backs units + k
+pub backs_more : (units : List JournalUnit) (u : JournalUnit) (k : ℕ) → backs (u ∷ []) ≡ k → backs (units ++ u ∷ []) ≡ backs units + k
 backs_more units u k is = backs_append units (u ∷ []) ∙ ap (λ (n : ℕ). backs units + n) is
 
 -- one that doesn't go back
@@ -74,11 +74,11 @@ pub same_count : (old new : Held) → new.others ≡ old.others → backs (units
 same_count old new same = at_least (backs (units_of old.others)) (backs (units_of new.others)) (ap (λ (cs : List Claim). backs (units_of cs)) same)
 
 -- a transaction that goes back is one more, if it took a LOCK
-went_more : (k : ℕ) (h : Held) → h.state.took_lock ≡ true → backs (units_of (went_back k h).others) ≡ backs (units_of h.others) + 1
+pub went_more : (k : ℕ) (h : Held) → h.state.took_lock ≡ true → backs (units_of (went_back k h).others) ≡ backs (units_of h.others) + 1
 went_more k h took =
     ap (λ (b : Bool). backs (units_of (if b then h.others ++ claim k (Back h.state.work.job) ∷ [] else h.others))) took ∙ others_more h.others k (Back h.state.work.job) 1 refl
 
-went_grows : (k : ℕ) (h : Held) → backs (units_of h.others) ≤ backs (units_of (went_back k h).others)
+pub went_grows : (k : ℕ) (h : Held) → backs (units_of h.others) ≤ backs (units_of (went_back k h).others)
 went_grows k h = by_test h.state.took_lock
   where
     longer : (a b : ℕ) → b ≡ a + 1 → a ≤ b
@@ -177,7 +177,7 @@ lock_back n s h command had None is took went =
 lock_back n s h command had (Some t) is took went =
     put_back n (add_unit (Lock h.state.work.job true command had) s) (record t { took_lock = true }) h (no_back s.units (Lock h.state.work.job true command had) (n + backs (units_of h.others)) refl went.0) (λ locked. took t refl)
 
-noted_inside : (level : ℕ) (state : JobSession) → 1 ≤ level → (if nat_lt 0 level then after_lock state else state).took_lock ≡ true
+pub noted_inside : (level : ℕ) (state : JobSession) → 1 ≤ level → (if nat_lt 0 level then after_lock state else state).took_lock ≡ true
 noted_inside level state one = ap (λ (b : Bool). (if b then after_lock state else state).took_lock) (lt-ltb 0 level (omega (arith, one)))
 
 pub lock_has_gone : (n k : ℕ) (s : Machine) (h : Held) (command : LockCommand) (had : Bool) → (after_try k command had h).state.work.job ≡ h.state.work.job → Shows h.state (transaction_of h.state.work.job s) → HasGoneBack n s h

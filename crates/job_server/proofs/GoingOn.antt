@@ -1,45 +1,39 @@
 -- A job goes on, line by line.
 use Rattle.std.proofs.Common.{◌≡◌, ◌≢◌, ◌⊎◌, inl, inr, ℕ, zero, suc, ◌≤◌, ◌<◌, nat_lt, true, false, List, [], ◌∷◌, ◌++◌, length, take, refl, sym, ap, ◌∙◌, subst, arith, true≢false, append_assoc, append-nil}
 use Rattle.std.specs.Prelude.{Option, Some, None, Result, Ok, Err, IfOk, is_some, slice_get}
-use Rattle.std.specs.List.{All}
 use Rattle.std.proofs.lemmas.Bool.{ltb-true, lt-ltb}
 use Rattle.std.proofs.lemmas.Grind.{flat_map-append}
 use Rattle.std.proofs.lemmas.List.Elements.{All-push}
 use Rattle.refusal.specs.declared.Refusal.{Refusal}
 use Rattle.lock_name.specs.declared.lock.LockCommand.{LockCommand}
-use Rattle.command.specs.declared.access.DataCommand.{DataCommand}
-use Rattle.refusal.specs.declared.Refusal.TheVariants.{BadJob, OutOfMemory, StampsUsedUp}
+use Rattle.refusal.specs.declared.Refusal.TheVariants.{OutOfMemory, StampsUsedUp}
 use Rattle.command.specs.declared.request.Command.{Command}
-use Rattle.command.specs.declared.request.Command.TheVariants.{Access, Lock as lock_command, Start, Commit, Halt}
+use Rattle.command.specs.declared.request.Command.TheVariants.{Lock as lock_command, Start, Commit, Halt}
 use Rattle.command.specs.declared.request.Reply.{Reply}
 use Rattle.command.specs.declared.request.Reply.TheVariants.{Answered, Finished, Had, Count, AtLevel, Committed, Restarted, Refused}
 use Rattle.journal.specs.declared.unit.Unit.{Unit as JournalUnit}
 use Rattle.journal.specs.declared.unit.Unit.TheVariants.{End}
-use Rattle.journal.specs.Kept.{Claim}
 use Rattle.journal.specs.Story.{Transaction, Machine, transaction_of, told, told_level, told_back}
 use Rattle.serial.specs.laws.ByJob.{get_here, gone_here}
 use Rattle.script.specs.Line.{reading_of, HasOperands}
 use Rattle.job_core.specs.Sessions.{idle}
 use Rattle.shared_engine.specs.Receipts.{Book}
 use Rattle.shared_engine.specs.Sessions.{Held, held, halted}
-use Rattle.shared_engine.specs.Blocks.{AreDone, IsReady, moved_open}
-use Rattle.job_scripts.specs.declared.block.Block.{Block}
-use Rattle.job_scripts.specs.Blocks.{in_place, Asks, AreInFront}
-use Rattle.job_scripts.specs.Lines.{lines_of_script}
+use Rattle.job_scripts.specs.Lines.{lines_of_script, Asks, IsRefusedAs}
 use Rattle.job_scripts.specs.Reports.{Answers}
 use Rattle.job_server.specs.declared.cursor.Cursor.{Cursor}
 use Rattle.job_server.specs.declared.cursor.Line.{Line}
 use Rattle.job_server.specs.Causes.{IsAllowed, IsReplyTo}
 use Rattle.job_server.specs.Told.{told_by, told_by_lines, AreRepliesTo, given, IsToldIn, HasItsEnd, OneAsksFor, IsAskedFor, AreAskedFor, units_of, units_of_book, units_in, backs, others_of}
 use Rattle.job_server.specs.Served.{Wanted, IsReport, IsReportAt}
-use Rattle.job_server.specs.Telling.{Shows, Stands, HasItsLock, HasGoneBack, IsNoLock, Follows, is_open, units_behind, backs_behind, StandsIn, SessionsSoFar, sessions_so_far, StandsAt, GoesOnUntold, GoesOnBy, MayGoOnAt, IsOvertakenAs, IsNoCommit, IsFault, Running, running, Leads, Serves, Keeps, HasAnswered, Advances, Reaches, ServesBlock, HasRun, HasReadAll, AreDataCommands, NoneAgain, HasJustBegun, Begins, IsStillOpen, WasOvertaken, IsBack, GoesOnFrom}
+use Rattle.job_server.specs.Telling.{Shows, Stands, HasItsLock, HasGoneBack, HasGranted, IsNoLock, Follows, is_open, units_behind, backs_behind, StandsIn, SessionsSoFar, sessions_so_far, AreKeptOn, StandsAt, GoesOnUntold, GoesOnBy, MayGoOnAt, IsOvertakenAs, IsNoCommit, Running, Leads, Serves, Keeps, HasAnswered, Advances, Reaches, HasJustBegun, Begins, IsStillOpen, WasOvertaken, IsBack, GoesOnFrom}
 use Rattle.job_server.proofs.Units.{both_more, one_given}
-use Rattle.job_server.proofs.Causes.{asked_may}
-use Rattle.job_server.proofs.Levels.{none_again, none_again_of_data}
+use Rattle.job_server.proofs.Causes.{fault_of, asked_may}
 use Rattle.job_server.proofs.Standing.{shown_none}
-use Rattle.job_server.proofs.Doing.{refused_tells, HasTold, block_told, block_asks, block_grows, moved_stands, moved_job, moved_receipts, reads_keep}
-use Rattle.job_server.proofs.GoingBack.{same_backs, backs_then, told_then, step_backs, opened_backs, opened_grows, halted_grows, halted_count, moved_has_gone, moved_others}
-use Rattle.job_server.proofs.Asking.{same_asked, one_command, asks_front, asks_behind}
+use Rattle.job_server.proofs.Doing.{refused_tells}
+use Rattle.job_server.proofs.GoingBack.{same_backs, backs_then, told_then, step_backs, opened_backs, opened_grows, halted_grows, halted_count}
+use Rattle.job_server.proofs.Granting.{not_anew, AreGrantedIn, none_kept, same_kept, kept_then, opened_granted, halted_granted, still_granted}
+use Rattle.job_server.proofs.Asking.{same_asked, one_command, asks_behind}
 
 positive : (n : ℕ) → nat_lt 0 n ≡ true → 1 ≤ n
 positive n h = omega (arith, ltb-true 0 n h)
@@ -50,16 +44,17 @@ positive n h = omega (arith, ltb-true 0 n h)
 pub same_goes : (job : ℕ) (books more : List Book) (session later : Option Held) → more ≡ books → later ≡ session → GoesOnUntold job (sessions_so_far books session) (sessions_so_far more later)
 same_goes job books more session later same_books same_session = record {
   stands = λ s stands. subst (λ (bs : List Book). StandsIn job bs later s) (sym same_books) (subst (λ (h : Option Held). StandsIn job books h s) (sym same_session) stands);
-  keeps = λ before after ts h. subst (λ (bs : List Book). IsToldIn ts (units_behind bs later)) (sym same_books) (subst (λ (x : Option Held). IsToldIn ts (units_behind books x)) (sym same_session) h);
+  keeps = λ before after. same_kept books more session later same_books same_session;
   allowed = λ s stands. tt;
   asks = same_asked IsNoLock (units_behind books session) (units_behind more later)
       (ap (λ (bs : List Book). units_behind bs later) same_books ∙ ap (λ (x : Option Held). units_behind books x) same_session);
   grows = same_backs (sessions_so_far books session) (sessions_so_far more later)
       (ap (λ (bs : List Book). backs_behind bs later) same_books ∙ ap (λ (x : Option Held). backs_behind books x) same_session);
+  no_lock = λ none. absurd none;
 }
 
 pub none_goes : (job : ℕ) (now : SessionsSoFar) → GoesOnUntold job now now
-none_goes job now = record { stands = λ s stands. stands; keeps = λ before after ts h. h; allowed = λ s stands. tt; asks = λ lines each h. h; grows = same_backs now now refl }
+none_goes job now = record { stands = λ s stands. stands; keeps = λ before after. none_kept now; allowed = λ s stands. tt; asks = λ j all each h. h; grows = same_backs now now refl; no_lock = λ none. absurd none }
 
 -- from the same sessions
 pub goes_from : (job : ℕ) (command : Command) (reply : Reply) (same old new : SessionsSoFar) → same ≡ old → GoesOnBy job command reply same new → GoesOnBy job command reply old new
@@ -69,23 +64,25 @@ pub untold_from : (job : ℕ) (same old new : SessionsSoFar) → same ≡ old �
 untold_from job same old new is h = subst (λ (x : SessionsSoFar). GoesOnUntold job x new) is h
 
 -- a refusal tells nothing
-pub refused_goes : (job : ℕ) (line : List ℕ) (refusal : Refusal) (old new : SessionsSoFar) → IsFault job line refusal → GoesOnUntold job old new → MayGoOnAt job line (Err refusal) (Refused refusal) old new
+pub refused_goes : (job : ℕ) (line : List ℕ) (refusal : Refusal) (old new : SessionsSoFar) → IsRefusedAs job line refusal → GoesOnUntold job old new → MayGoOnAt job line (Err refusal) (Refused refusal) old new
 refused_goes job line refusal old new fault h = record {
   stands = λ s stands. subst (λ (m : Machine). StandsIn job new.books new.session m) (sym (refused_tells job (reading_of line) refusal s)) (h.stands s stands);
   keeps = h.keeps;
-  allowed = λ s stands never. fault (transaction_of job s);
-  asks = λ lines each asked. h.asks lines (λ c none. absurd none) asked;
+  allowed = λ s stands never. fault_of job line refusal (transaction_of job s) fault;
+  asks = λ j all each asked. h.asks j all (λ c none. absurd none) asked;
   grows = h.grows;
+  no_lock = not_anew (Refused refusal) refl;
 }
 
 -- what a line tells is what its command tells
-pub asked_goes : (job : ℕ) (line : List ℕ) (command : Command) (reply : Reply) (old new : SessionsSoFar) → Asks line command → GoesOnBy job command reply old new → MayGoOnAt job line (Ok command) reply old new
+pub asked_goes : (job : ℕ) (line : List ℕ) (command : Command) (reply : Reply) (old new : SessionsSoFar) → Asks job line command → GoesOnBy job command reply old new → MayGoOnAt job line (Ok command) reply old new
 asked_goes job line command reply old new asks h = record {
-  stands = λ s stands. subst (λ (r : Result (ℕ × Command) Refusal). StandsIn job new.books new.session (told_by job r reply s)) (sym asks.1) (h.stands s stands);
+  stands = λ s stands. subst (λ (r : Result (ℕ × Command) Refusal). StandsIn job new.books new.session (told_by job r reply s)) (sym asks) (h.stands s stands);
   keeps = h.keeps;
   allowed = λ s stands never. asked_may job line command reply (transaction_of job s) asks (h.allowed s stands never);
-  asks = λ lines each asked. h.asks lines (λ c is. each c (subst (λ (x : Command). Asks line x) is asks)) asked;
+  asks = λ j all each asked. h.asks j all (λ c is. each c (subst (λ (x : Command). Asks job line x) is asks)) asked;
   grows = h.grows;
+  no_lock = h.no_lock;
 }
 
 -- a session begins
@@ -101,7 +98,7 @@ opened_goes job books = record {
           begun = refl;
           is_told = subst (λ (us : List JournalUnit). IsToldIn (given s) us) (sym (append-nil (units_in books))) stands.1.1.0;
         },
-        (opened_backs books (backs s.units) stands.1.1.1, subst (λ (o : Option Transaction). HasItsLock (idle job) o) (sym stands.1.0) tt),
+        ((opened_backs books (backs s.units) stands.1.1.1.0, subst (λ (o : Option Transaction). HasItsLock (idle job) o) (sym stands.1.0) tt), opened_granted job books s stands.1.1.1.1),
       ),
     ),
   );
@@ -109,6 +106,7 @@ opened_goes job books = record {
   allowed = λ s stands. tt;
   asks = same_asked IsNoLock (units_in books) (units_in books ++ []) (append-nil (units_in books));
   grows = opened_grows books;
+  no_lock = λ none. absurd none;
 }
 
 -- a step of a session
@@ -120,31 +118,37 @@ step_goes job books command reply old new h = record {
       h.whose ∙ stands.1.0,
       (
         subst (λ (j : ℕ). Stands (units_in books) (told j command reply s) new) stands.1.0 (h.stands (units_in books) s stands.1.1.0),
-        subst (λ (j : ℕ). HasGoneBack (backs (others_of books)) (told j command reply s) new) stands.1.0 (h.went (backs (others_of books)) (units_in books) s stands.1.1.0 stands.1.1.1),
+        (
+          subst (λ (j : ℕ). HasGoneBack (backs (others_of books)) (told j command reply s) new) stands.1.0 (h.went (backs (others_of books)) (units_in books) s stands.1.1.0 stands.1.1.1.0),
+          subst (λ (j : ℕ). HasGranted (backs (others_of books)) (units_in books) (told j command reply s) new) stands.1.0 (h.granted (backs (others_of books)) (units_in books) s stands.1.1.1.0 stands.1.1.1.1),
+        ),
       ),
     ),
   );
-  keeps = λ before after. h.keeps (positive old.state.level before) (positive new.state.level after) (units_in books);
+  keeps = λ before after.
+      (h.keeps (positive old.state.level before) (positive new.state.level after) (units_in books), h.within (positive old.state.level before) (positive new.state.level after) (backs (others_of books)) (units_in books));
   allowed = λ s stands never. subst (λ (j : ℕ). IsAllowed j command reply (transaction_of j s)) stands.1.0 (h.may never (transaction_of old.state.work.job s) stands.1.1.0.shows stands.1.1.0.begun);
   asks = h.asks (units_in books);
   grows = step_backs books old new h.grows;
+  no_lock = h.no_lock;
 }
 
 -- one step behind another that tells nothing
 pub then_goes : (job : ℕ) (command : Command) (reply : Reply) (old middle new : SessionsSoFar) → GoesOnUntold job old middle → (is_open old.session ≡ true → is_open middle.session ≡ true) → GoesOnBy job command reply middle new → GoesOnBy job command reply old new
 then_goes job command reply old middle new first stays second = record {
   stands = λ s stands. second.stands s (first.stands s stands);
-  keeps = λ before after ts h. second.keeps (stays before) after ts (first.keeps before (stays before) ts h);
+  keeps = λ before after. kept_then old middle new (first.keeps before (stays before)) (second.keeps (stays before) after);
   allowed = λ s stands. second.allowed s (first.stands s stands);
-  asks = λ lines each asked. second.asks lines each (first.asks lines (λ c none. absurd none) asked);
+  asks = λ j all each asked. second.asks j all each (first.asks j all (λ c none. absurd none) asked);
   grows = backs_then old middle new first.grows second.grows;
+  no_lock = second.no_lock;
 }
 
 -- HALT
 pub halt_refused : (job : ℕ) (books more : List Book) (session later : Option Held) (refusal : Refusal) → more ≡ books → later ≡ session → (refusal ≡ OutOfMemory) ⊎ (refusal ≡ StampsUsedUp) → GoesOnBy job Halt (Refused refusal) (sessions_so_far books session) (sessions_so_far more later)
 halt_refused job books more session later refusal same_books same_session room =
     let h : GoesOnUntold job (sessions_so_far books session) (sessions_so_far more later) = same_goes job books more session later same_books same_session in
-    record { stands = h.stands; keeps = h.keeps; allowed = λ s stands never. room; asks = λ lines each asked. h.asks lines (λ c none. absurd none) asked; grows = h.grows }
+    record { stands = h.stands; keeps = h.keeps; allowed = λ s stands never. room; asks = λ j all each asked. h.asks j all (λ c none. absurd none) asked; grows = h.grows; no_lock = not_anew (Refused refusal) refl }
 
 pub halted_some : (job n : ℕ) (books : List Book) (h : Held) → GoesOnBy job Halt Finished (sessions_so_far books (Some h)) (sessions_so_far (books ++ halted n h ∷ []) None)
 halted_some job n books h = record {
@@ -156,24 +160,21 @@ halted_some job n books h = record {
         subst (λ (us : List JournalUnit). IsToldIn us (units_in (books ++ halted n h ∷ []))) (sym (one_given s.units (End job) refl))
             (subst (λ (us : List JournalUnit). IsToldIn (given s ++ End job ∷ []) us) (sym all_units)
             (subst (λ (j : ℕ). IsToldIn (given s ++ End job ∷ []) ((units_in books ++ units_of h.receipts) ++ End j ∷ [])) (sym stands.1.0) (both_more (given s) (units_in books ++ units_of h.receipts) (End job) stands.1.1.0.is_told))),
-        halted_count n job books h s.units stands.1.1.1.0,
+        (halted_count n job books h s.units stands.1.1.1.0.0, halted_granted n job books h s all_units stands.1.1.1.1),
       ),
     ),
   );
   keeps = λ before after. absurd (true≢false (sym after));
   allowed = λ s stands never. refl;
-  asks = λ lines each asked.
-      subst (λ (us : List JournalUnit). AreAskedFor lines us) (sym all_units) (All-push (IsAskedFor lines) (units_in books ++ units_of h.receipts) (End h.state.work.job) asked tt);
+  asks = λ j all each asked.
+      subst (λ (us : List JournalUnit). AreAskedFor j all us) (sym all_units) (All-push (IsAskedFor j all) (units_in books ++ units_of h.receipts) (End h.state.work.job) asked tt);
   grows = halted_grows n books h;
+  no_lock = λ again. refl;
 }
   where
     all_units : units_in (books ++ halted n h ∷ []) ≡ (units_in books ++ units_of h.receipts) ++ End h.state.work.job ∷ []
     all_units = flat_map-append units_of_book books (halted n h ∷ [])
         ∙ (ap (λ (us : List JournalUnit). units_in books ++ us) (append-nil (units_of h.receipts ++ End h.state.work.job ∷ [])) ∙ sym (append_assoc (units_in books) (units_of h.receipts) (End h.state.work.job ∷ [])))
-
--- what was read of a line
-pub asked_of : (line : List ℕ) (step : ℕ × Command) → reading_of line ≡ Ok step → Asks line step.1
-asked_of line step is = (step.0, is)
 
 -- ---- lines
 
@@ -197,8 +198,8 @@ serves_then job lines middle rest old between new h k = record {
   replied = k.replied ∙ (ap (λ (rs : List Reply). rs ++ k.their_replies) h.replied ∙ append_assoc old.replies h.their_replies k.their_replies);
   leads = λ s stands. (let first : Leads job h.lines_done h.their_replies s between.sessions = h.leads s stands in
       leads_then job h.lines_done k.lines_done h.their_replies k.their_replies s between.sessions new.sessions first (k.leads first.machine first.stands));
-  asks = λ all each asked.
-      k.asks all (λ c later. each c (subst (λ (ls : List (List ℕ)). OneAsksFor ls c) (sym h.split) (asks_behind h.lines_done middle c later))) (h.asks all each asked);
+  asks = λ j all each asked.
+      k.asks j all (λ c later. each c (subst (λ (ls : List (List ℕ)). OneAsksFor job ls c) (sym h.split) (asks_behind job h.lines_done middle c later))) (h.asks j all each asked);
   grows = backs_then old.sessions between.sessions new.sessions h.grows k.grows;
 }
 
@@ -210,7 +211,7 @@ serves_none job lines now = record {
   split = refl;
   replied = sym (append-nil now.replies);
   leads = λ s stands. record { machine = s; led = λ left later. refl; replies_are = λ left later rest. rest; stands = stands };
-  asks = λ all each asked. asked;
+  asks = λ j all each asked. asked;
   grows = same_backs now.sessions now.sessions refl;
 }
 
@@ -247,7 +248,7 @@ answered_serves job line rest old new h = record {
   split = refl;
   replied = h.replied;
   leads = λ s stands. answered_leads job line.text.now h.reply s new.sessions (h.goes.stands s stands) (h.goes.allowed s stands);
-  asks = λ all each asked. h.goes.asks all (λ c asks. each c (inl asks)) asked;
+  asks = λ j all each asked. h.goes.asks j all (λ c asks. each c (inl asks)) asked;
   grows = h.goes.grows;
 }
 
@@ -262,7 +263,7 @@ pub has_answered_as : (job : ℕ) (line : Line) (asked : Result Command Refusal)
 has_answered_as job line asked reply old new replied goes never = record {
   reply = reply;
   replied = replied;
-  goes = record { stands = goes.stands; keeps = goes.keeps; allowed = λ s stands. goes.allowed s stands never; asks = goes.asks; grows = goes.grows };
+  goes = record { stands = goes.stands; keeps = goes.keeps; allowed = λ s stands. goes.allowed s stands never; asks = goes.asks; grows = goes.grows; no_lock = goes.no_lock };
 }
 
 -- one that is no TCOMMIT
@@ -280,7 +281,7 @@ committed_tried job line reply old new kept goes =
     (answered_advances job line old new (has_answered_as job line (Ok Commit) reply old new kept.0 goes (λ over. kept.1 over.1 over.2)), goes.keeps)
 
 -- one that is
-pub was_overtaken : (job : ℕ) (line : List ℕ) (reply : Reply) (old new : Running) → Asks line Commit → MayGoOnAt job line (Ok Commit) reply old.sessions new.sessions → (new.replies ≡ old.replies) × (restarts : ℕ) × (reply ≡ Restarted restarts)
+pub was_overtaken : (job : ℕ) (line : List ℕ) (reply : Reply) (old new : Running) → Asks job line Commit → MayGoOnAt job line (Ok Commit) reply old.sessions new.sessions → (new.replies ≡ old.replies) × (restarts : ℕ) × (reply ≡ Restarted restarts)
     → WasOvertaken job old new
 was_overtaken job line reply old new asks goes again = (
   again.0,
@@ -288,100 +289,14 @@ was_overtaken job line reply old new asks goes again = (
   record {
     stands = λ s stands.
         subst (λ (r : Reply). StandsAt job new.sessions (told job Commit r s)) again.2
-        (subst (λ (r : Result (ℕ × Command) Refusal). StandsAt job new.sessions (told_by job r reply s)) asks.1 (goes.stands s stands));
+        (subst (λ (r : Result (ℕ × Command) Refusal). StandsAt job new.sessions (told_by job r reply s)) asks (goes.stands s stands));
     keeps = goes.keeps;
     allowed = λ s stands never. absurd (never (refl, again.1, refl));
-    asks = λ lines each asked. goes.asks lines (λ c lock. each c (one_command line Commit (lock_command c) asks lock)) asked;
+    asks = λ j all each asked. goes.asks j all (λ c lock. each c (one_command job line Commit (lock_command c) asks lock)) asked;
     grows = goes.grows;
+    no_lock = λ is. goes.no_lock (again.1, again.2);
   },
 )
-
--- ---- blocks under one hold
-
--- done from a session that stands so
-block_from : (job : ℕ) (before rest : List (List ℕ)) (places : List (Option Refusal)) (commands : List Command) (served replies more_replies : List Reply) (books : List Book) (units more : List JournalUnit) (old start new : Held)
-    → AreInFront before rest places commands → start.receipts ≡ old.receipts → start.others ≡ old.others → ((s : Machine) → StandsIn job books (Some old) s → StandsIn job books (Some start) s) → AreDone commands served units more start new → NoneAgain commands served → more_replies ≡ replies ++ in_place places served
-    → Serves job before rest (running replies (sessions_so_far books (Some old))) (running more_replies (sessions_so_far books (Some new)))
-block_from job before rest places commands served replies more_replies books units more old start new in_front same others moves done never is = record {
-  lines_done = in_front.front;
-  their_replies = in_place places served;
-  split = in_front.split;
-  replied = is;
-  leads = λ s stands. (let from : StandsIn job books (Some start) s = moves s stands in
-      let n : ℕ = backs (others_of books) in
-      let h : HasTold job n (units_in books) in_front.front (in_place places served) s new = block_told job n (units_in books) in_front.front places commands served units more start new s in_front.asked done never from.1.0 from.1.1.0 from.1.1.1 in
-      record { machine = h.machine; led = h.led; replies_are = h.replies_are; stands = (from.0, (h.whose, (h.stands, h.gone))) });
-  asks = λ all each asked.
-      block_asks (units_in books) in_front.front places commands served units more start new in_front.asked done never all
-      (λ c asks. each c (subst (λ (ls : List (List ℕ)). OneAsksFor ls c) (sym in_front.split) (asks_front in_front.front rest c asks)))
-      (subst (λ (cs : List Claim). AreAskedFor all (units_in books ++ units_of cs)) (sym same) asked);
-  grows = step_backs books old new (subst (λ (cs : List Claim). backs (units_of cs) ≤ backs (units_of new.others)) others (block_grows commands served units more start new done never));
-}
-
-moved_on : (job : ℕ) (books : List Book) (units : List JournalUnit) (old : Held) (s : Machine) → IsReady old → StandsIn job books (Some old) s → StandsIn job books (Some (moved_open units old)) s
-moved_on job books units old s ready stands = (
-  stands.0,
-  (moved_job units old ∙ stands.1.0, (moved_stands (units_in books) units s old ready stands.1.1.0, moved_has_gone (backs (others_of books)) units s old stands.1.1.1)),
-)
-
-pub run_serves : (job : ℕ) (before rest : List (List ℕ)) (places : List (Option Refusal)) (commands : List Command) (served replies more_replies : List Reply) (books : List Book) (session later : Option Held) → AreInFront before rest places commands
-    → HasRun commands served session later → more_replies ≡ replies ++ in_place places served → Serves job before rest (running replies (sessions_so_far books session)) (running more_replies (sessions_so_far books later))
-run_serves job before rest places commands served replies more_replies books None later in_front run is = absurd run
-run_serves job before rest places commands served replies more_replies books (Some old) None in_front run is = absurd run
-run_serves job before rest places commands served replies more_replies books (Some old) (Some new) in_front run is =
-    block_from job before rest places commands served replies more_replies books run.2 run.3 old (moved_open run.2 old) new in_front (moved_receipts run.2 old) (moved_others run.2 old) (λ s stands. moved_on job books run.2 old s run.0 stands) run.5 (none_again commands served run.2 run.3 old new run.1 run.5) is
-
-pub reads_serve : (job : ℕ) (before rest : List (List ℕ)) (places : List (Option Refusal)) (commands : List Command) (served replies more_replies : List Reply) (books : List Book) (session later : Option Held) → AreDataCommands commands → AreInFront before rest places commands
-    → HasReadAll commands served session later → more_replies ≡ replies ++ in_place places served → Serves job before rest (running replies (sessions_so_far books session)) (running more_replies (sessions_so_far books later))
-reads_serve job before rest places commands served replies more_replies books None later all in_front reads is = absurd reads
-reads_serve job before rest places commands served replies more_replies books (Some old) None all in_front reads is = absurd reads
-reads_serve job before rest places commands served replies more_replies books (Some old) (Some new) all in_front reads is =
-    block_from job before rest places commands served replies more_replies books reads.1 reads.1 old old new in_front refl refl (λ s stands. stands) reads.3 (none_again_of_data commands served all) is
-
--- reads of a transaction leave the receipts as they are
-pub reads_keep_all : (commands : List Command) (served replies more_replies : List Reply) (books : List Book) (session later : Option Held) → All (λ (c : Command). (d : DataCommand) × (c ≡ Access d)) commands → HasReadAll commands served session later
-    → Keeps (running replies (sessions_so_far books session)) (running more_replies (sessions_so_far books later))
-reads_keep_all commands served replies more_replies books None later all reads = absurd reads
-reads_keep_all commands served replies more_replies books (Some old) None all reads = absurd reads
-reads_keep_all commands served replies more_replies books (Some old) (Some new) all reads = λ before after ts h.
-    subst (λ (cs : List Claim). IsToldIn ts (units_in books ++ units_of cs)) (sym (reads_keep commands served reads.1 reads.1 old new all reads.3 reads.0).1) h
-
--- the lines of a block were done
-pub block_advances : (job : ℕ) (line : Line) (behind : Cursor) (block : Block) (old new : Running) → AreInFront (line.text.now ∷ lines_of_script line.next.lines.now) (lines_of_script block.rest.now) block.places.items block.commands.items → length block.rest.now ≤ length line.next.lines.now
-    → behind.lines.now ≡ block.rest.now → ServesBlock block old new → Advances job line behind old new
-block_advances job line behind block old new in_front fewer same serves = record {
-  fewer = omega (arith, fewer, ap length same);
-  serves = subst (λ (l : List ℕ). Serves job (line.text.now ∷ lines_of_script line.next.lines.now) (lines_of_script l) old new) (sym same) (serves job (line.text.now ∷ lines_of_script line.next.lines.now) in_front);
-}
-
-pub block_reaches : (job : ℕ) (text : List ℕ) (behind : Cursor) (block : Block) (old new : Running) → AreInFront (lines_of_script text) (lines_of_script block.rest.now) block.places.items block.commands.items → length block.rest.now ≤ length text → behind.lines.now ≡ block.rest.now
-    → ServesBlock block old new → Reaches job text behind old new
-block_reaches job text behind block old new in_front fewer same serves = record {
-  fewer = omega (arith, fewer, ap length same);
-  serves = subst (λ (l : List ℕ). Serves job (lines_of_script text) (lines_of_script l) old new) (sym same) (serves job (lines_of_script text) in_front);
-}
-
--- no transaction was open before it
-pub closed_keeps : (old new : Running) → is_open old.sessions.session ≡ false → Keeps old new
-closed_keeps old new closed before = absurd (true≢false (sym before ∙ closed))
-
--- a session was begun before it
-pub opened_advances : (job : ℕ) (line : Line) (behind : Cursor) (same old middle new : Running) → same ≡ old → middle.replies ≡ same.replies → GoesOnUntold job same.sessions middle.sessions → Advances job line behind middle new → Advances job line behind old new
-opened_advances job line behind same old middle new is replied opened h = subst (λ (x : Running). Advances job line behind x new) is (record {
-  fewer = h.fewer;
-  serves = record {
-    lines_done = h.serves.lines_done;
-    their_replies = h.serves.their_replies;
-    split = h.serves.split;
-    replied = h.serves.replied ∙ ap (λ (rs : List Reply). rs ++ h.serves.their_replies) replied;
-    leads = λ s stands. h.serves.leads s (opened.stands s stands);
-    asks = λ all each asked. h.serves.asks all each (opened.asks all (λ c none. absurd none) asked);
-    grows = backs_then same.sessions middle.sessions new.sessions opened.grows h.serves.grows;
-  };
-})
-
-pub opened_keeps : (job : ℕ) (same old middle new : Running) → same ≡ old → GoesOnUntold job same.sessions middle.sessions → is_open middle.sessions.session ≡ is_open same.sessions.session → Keeps middle new → Keeps old new
-opened_keeps job same old middle new is opened stays keeps = subst (λ (x : Running). Keeps x new) is (λ before after ts h. keeps (stays ∙ before) after ts (opened.keeps before (stays ∙ before) ts h))
 
 -- ---- blocks that are tried
 
@@ -419,15 +334,15 @@ just_begun job reply old new s stands closed now open_now =
 
 -- a TCOMMIT that has begun it anew: the session stands as behind the TSTART
 pub begun_again : (job : ℕ) (restarts : ℕ) (books : List Book) (session : Option Held) (s first : Machine) → StandsIn job books session (told job Commit (Restarted restarts) s) → HasJustBegun (transaction_of job first) → IsToldIn (given first) (units_behind books session)
-    → backs first.units ≤ backs_behind books session → StandsIn job books session first
-begun_again job restarts books None s first stands begun is_told count =
+    → backs first.units ≤ backs_behind books session → AreGrantedIn first.units books session → StandsIn job books session first
+begun_again job restarts books None s first stands begun is_told count granted =
     let some : transaction_of job (told job Commit (Restarted restarts) s) ≡ Some (record { level = 1; restarts = restarts; start = length (told_back job (transaction_of job s) s).units; exchanges = []; took_lock = false }) =
     get_here (told_back job (transaction_of job s) s).transactions job (record { level = 1; restarts = restarts; start = length (told_back job (transaction_of job s) s).units; exchanges = []; took_lock = false }) in
     absurd (is_none (sym stands.1.0 ∙ some))
   where
     is_none : {t : Transaction} → None ≡ Some t → ⊥
     is_none {t} e = true≢false (sym (ap is_some e))
-begun_again job restarts books (Some h) s first stands begun is_told count = (
+begun_again job restarts books (Some h) s first stands begun is_told count granted = (
   stands.0,
   (
     stands.1.0,
@@ -437,7 +352,7 @@ begun_again job restarts books (Some h) s first stands begun is_told count = (
         begun = stands.1.1.0.begun;
         is_told = is_told;
       },
-      (count, subst (λ (j : ℕ). HasItsLock h.state (transaction_of j first)) (sym stands.1.0) (lock_begun (transaction_of job first) begun)),
+      ((count, subst (λ (j : ℕ). HasItsLock h.state (transaction_of j first)) (sym stands.1.0) (lock_begun (transaction_of job first) begun)), granted),
     ),
   ),
 )
@@ -464,8 +379,13 @@ told_in job books (Some h) s stands = stands.1.1.0.is_told
 
 -- and went back
 gone_in : (job : ℕ) (books : List Book) (session : Option Held) (s : Machine) → StandsIn job books session s → backs s.units ≤ backs_behind books session
-gone_in job books None s stands = stands.1.1.1
-gone_in job books (Some h) s stands = stands.1.1.1.0
+gone_in job books None s stands = stands.1.1.1.0
+gone_in job books (Some h) s stands = stands.1.1.1.0.0
+
+-- and its LOCKs
+granted_in : (job : ℕ) (books : List Book) (session : Option Held) (s : Machine) → StandsIn job books session s → AreGrantedIn s.units books session
+granted_in job books None s stands = stands.1.1.1.1
+granted_in job books (Some h) s stands = stands.1.1.1.1
 
 some_open : (job : ℕ) (books : List Book) (session : Option Held) (s : Machine) (t : Transaction) → StandsIn job books session s → transaction_of job s ≡ Some t → is_open session ≡ true
 some_open job books None s t stands some = absurd (true≢false (sym (ap is_some (sym stands.1.0 ∙ some))))
@@ -480,35 +400,32 @@ open_where_begun job books session s stands just = by_case (transaction_of job s
     by_case None is begun = absurd begun
     by_case (Some t) is begun = some_open job books session s t stands is
 
-pub begins : (job : ℕ) (line : Line) (old new : Running) → Asks line.text.now Start → HasAnswered job line old new → is_open old.sessions.session ≡ false → is_open new.sessions.session ≡ true → Begins job line old new
+pub begins : (job : ℕ) (line : Line) (old new : Running) → Asks job line.text.now Start → HasAnswered job line old new → is_open old.sessions.session ≡ false → is_open new.sessions.session ≡ true → Begins job line old new
 begins job line old new asks h closed now = record {
   reply = h.reply;
   replied = h.replied;
   stands = λ s stands. (on s stands, just_begun job h.reply old.sessions new.sessions s stands closed (on s stands) now);
   allowed = λ s stands.
-      by_reply s stands (subst (λ (r : Result (ℕ × Command) Refusal). IsReplyTo (HasOperands line.text.now) job r h.reply (transaction_of job s)) asks.1 (h.goes.allowed s stands));
-  asks = λ all each asked. h.goes.asks all (λ c lock. each c (inl lock)) asked;
+      by_reply s (subst (λ (r : Result (ℕ × Command) Refusal). IsReplyTo (HasOperands line.text.now) job r h.reply (transaction_of job s)) asks (h.goes.allowed s stands));
+  asks = λ j all each asked. h.goes.asks j all (λ c lock. each c (inl lock)) asked;
   grows = h.goes.grows;
 }
   where
     on : (s : Machine) → StandsAt job old.sessions s → StandsAt job new.sessions (told job Start h.reply s)
-    on s stands = subst (λ (r : Result (ℕ × Command) Refusal). StandsAt job new.sessions (told_by job r h.reply s)) asks.1 (h.goes.stands s stands)
+    on s stands = subst (λ (r : Result (ℕ × Command) Refusal). StandsAt job new.sessions (told_by job r h.reply s)) asks (h.goes.stands s stands)
 
-    -- a line of another job begins nothing
-    by_reply : (s : Machine) → StandsAt job old.sessions s → IsAllowed job Start h.reply (transaction_of job s) ⊎ ((h.reply ≡ Refused BadJob) × (asks.0 ≢ job)) → IsAllowed job Start h.reply (transaction_of job s)
-    by_reply s stands (inl allowed) = allowed
-    by_reply s stands (inr other) =
-        absurd (subst (λ (o : Option Transaction). HasJustBegun o) (closed_none job old.sessions.books old.sessions.session s stands closed)
-        (subst (λ (r : Reply). HasJustBegun (transaction_of job (told job Start r s))) other.0 (just_begun job h.reply old.sessions new.sessions s stands closed (on s stands) now)))
+    by_reply : (s : Machine) → IsReplyTo (HasOperands line.text.now) job (Ok (job, Start)) h.reply (transaction_of job s) → IsAllowed job Start h.reply (transaction_of job s)
+    by_reply s (inl own) = own.1
+    by_reply s (inr other) = absurd (other.0 refl)
 
-begins_serves : (job : ℕ) (line : Line) (old new : Running) → Asks line.text.now Start → Begins job line old new → Serves job (line.text.now ∷ lines_of_script line.next.lines.now) (lines_of_script line.next.lines.now) old new
+begins_serves : (job : ℕ) (line : Line) (old new : Running) → Asks job line.text.now Start → Begins job line old new → Serves job (line.text.now ∷ lines_of_script line.next.lines.now) (lines_of_script line.next.lines.now) old new
 begins_serves job line old new asks h = record {
   lines_done = line.text.now ∷ [];
   their_replies = h.reply ∷ [];
   split = refl;
   replied = h.replied;
   leads = λ s stands. answered_leads job line.text.now h.reply s new.sessions
-      (subst (λ (r : Result (ℕ × Command) Refusal). StandsIn job new.sessions.books new.sessions.session (told_by job r h.reply s)) (sym asks.1) (h.stands s stands).0)
+      (subst (λ (r : Result (ℕ × Command) Refusal). StandsIn job new.sessions.books new.sessions.session (told_by job r h.reply s)) (sym asks) (h.stands s stands).0)
       (asked_may job line.text.now Start h.reply (transaction_of job s) asks (h.allowed s stands));
   asks = h.asks;
   grows = h.grows;
@@ -521,13 +438,13 @@ begins_again job line old middle tried new h back kept same = record {
   replied = same ∙ h.replied;
   stands = λ s stands. (subst (λ (x : SessionsSoFar). StandsIn job x.books x.session (told job Start h.reply s)) (sym kept) (back.0 (told job Start h.reply s) (h.stands s stands).0 (h.stands s stands).1), (h.stands s stands).1);
   allowed = h.allowed;
-  asks = λ all each asked.
-      subst (λ (x : SessionsSoFar). AreAskedFor all (units_behind x.books x.session)) (sym kept) (back.1.0 all (λ c later. each c (inr later)) (h.asks all each asked));
+  asks = λ j all each asked.
+      subst (λ (x : SessionsSoFar). AreAskedFor j all (units_behind x.books x.session)) (sym kept) (back.1.0 j all (λ c later. each c (inr later)) (h.asks j all each asked));
   grows = subst (λ (x : SessionsSoFar). backs_behind old.sessions.books old.sessions.session ≤ backs_behind x.books x.session) (sym kept) (backs_then old.sessions middle.sessions tried.sessions h.grows back.1.1);
 }
 
 -- the lines behind the TSTART were done
-pub begins_advances : (job : ℕ) (line : Line) (behind : Cursor) (old middle new : Running) → Asks line.text.now Start → Begins job line old middle → Reaches job line.next.lines.now behind middle new → Advances job line behind old new
+pub begins_advances : (job : ℕ) (line : Line) (behind : Cursor) (old middle new : Running) → Asks job line.text.now Start → Begins job line old middle → Reaches job line.next.lines.now behind middle new → Advances job line behind old new
 begins_advances job line behind old middle new asks h reached = record {
   fewer = reached.fewer;
   serves = serves_then job (line.text.now ∷ lines_of_script line.next.lines.now) (lines_of_script line.next.lines.now) (lines_of_script behind.lines.now) old middle new (begins_serves job line old middle asks h) reached.serves;
@@ -544,13 +461,16 @@ stands_back job text place old middle new h still over first stands just =
     let begun : Transaction = record { level = 1; restarts = over.1; start = length (told_back job (transaction_of job s) s).units; exchanges = []; took_lock = false } in
     let later : is_open new.sessions.session ≡ true = some_open job new.sessions.books new.sessions.session (told job Commit (Restarted over.1) s) begun after (get_here (told_back job (transaction_of job s) s).transactions job begun) in
     let kept : backs_behind old.sessions.books old.sessions.session ≤ backs_behind new.sessions.books new.sessions.session = backs_then old.sessions middle.sessions new.sessions h.serves.grows over.2.grows in
-    begun_again job over.1 new.sessions.books new.sessions.session s first after just (over.2.keeps (still now).0 later (given first) ((still now).1 (given first) (told_in job old.sessions.books old.sessions.session first stands)))
-    (told_then (backs first.units) old.sessions new.sessions (gone_in job old.sessions.books old.sessions.session first stands) kept)
+    let on : AreKeptOn old.sessions new.sessions = kept_then old.sessions middle.sessions new.sessions (still now).1 (over.2.keeps (still now).0 later) in
+    let gone : backs first.units ≤ backs_behind old.sessions.books old.sessions.session = gone_in job old.sessions.books old.sessions.session first stands in
+    begun_again job over.1 new.sessions.books new.sessions.session s first after just (on.0 (given first) (told_in job old.sessions.books old.sessions.session first stands))
+    (told_then (backs first.units) old.sessions new.sessions gone kept)
+    (still_granted first.units old.sessions new.sessions on (over.2.no_lock (over.1, refl)) gone (granted_in job old.sessions.books old.sessions.session first stands))
 
 pub is_back : (job : ℕ) (text : List ℕ) (place : Cursor) (old middle new : Running) → Reaches job text place old middle → IsStillOpen old middle → WasOvertaken job middle new → IsBack job text old new
 is_back job text place old middle new h still over = (
   (λ first stands just. stands_back job text place old middle new h still over first stands just),
-  ((λ all each asked. over.2.asks all (λ c is. absurd (is_no_lock c is)) (h.serves.asks all each asked)), backs_then old.sessions middle.sessions new.sessions h.serves.grows over.2.grows),
+  ((λ j all each asked. over.2.asks j all (λ c is. absurd (is_no_lock c is)) (h.serves.asks j all each asked)), backs_then old.sessions middle.sessions new.sessions h.serves.grows over.2.grows),
 )
   where
     is_no_lock : (c : LockCommand) → Commit ≡ lock_command c → ⊥
@@ -560,10 +480,10 @@ pub tried_replies : (job : ℕ) (text : List ℕ) (place : Cursor) (old middle n
 tried_replies job text place old middle new h over = (h.serves.their_replies, over.0 ∙ h.serves.replied)
 
 pub still_none : (now : Running) → IsStillOpen now now
-still_none now before = (before, λ ts h. h)
+still_none now before = (before, none_kept now.sessions)
 
 pub still_on : (old middle new : Running) → IsStillOpen old middle → Keeps middle new → is_open new.sessions.session ≡ true → IsStillOpen old new
-still_on old middle new h keeps now before = (now, λ ts told_before. keeps (h before).0 now ts ((h before).1 ts told_before))
+still_on old middle new h keeps now before = (now, kept_then old.sessions middle.sessions new.sessions (h before).1 (keeps (h before).0 now))
 
 -- the replies of a try are cut off
 pub cut_back : (old tried now : List Reply) (kept : ℕ) → GoesOnFrom old tried → kept ≡ length old → now ≡ take kept tried → now ≡ old

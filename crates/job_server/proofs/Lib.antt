@@ -1,5 +1,6 @@
 pub mod Answering
 pub mod Asking
+pub mod AtOnce
 pub mod Causes
 pub mod Doing
 pub mod Ending
@@ -7,6 +8,7 @@ pub mod Faulting
 pub mod Following
 pub mod GoingBack
 pub mod GoingOn
+pub mod Granting
 pub mod Handing
 pub mod Levels
 pub mod Loads

@@ -115,9 +115,9 @@ IsAllowed job command reply t = IsAccepted command reply t
 abbrev pub IsRefusedFor : Type 0 → Refusal → Reply → Type 0
 IsRefusedFor operands fault reply = (reply ≡ Refused fault) ⊎ ((reply ≡ Refused OutOfMemory) × operands)
 
--- the reply to a line, by whether it has operands and what is read of it; one of another job may be refused for that
+-- the reply to a line, by whether it has operands and what is read of it; one of another job is refused for that
 abbrev pub IsReplyTo : Type 0 → ℕ → Result (ℕ × Command) Refusal → Reply → Option Transaction → Type 0
-IsReplyTo operands job (Ok step) reply t = IsAllowed job step.1 reply t ⊎ ((reply ≡ Refused BadJob) × (step.0 ≢ job))
+IsReplyTo operands job (Ok step) reply t = ((step.0 ≡ job) × IsAllowed job step.1 reply t) ⊎ ((step.0 ≢ job) × IsRefusedFor operands BadJob reply)
 IsReplyTo operands job (Err fault) reply t = IsRefusedFor operands fault reply
 
 -- the reply to a line under which there is no job; one that can be read has another

@@ -1,6 +1,6 @@
 -- How a job stands while its lines are done: what its replies told so far, its session and its books.
 -- Read Stands, MayReply, Follows, StandsIn, GoesOn, Running, Serves and Begins.
-use Rattle.std.specs.Prelude.{◌≡◌, ◌≢◌, ◌⊎◌, ⊤, ℕ, ◌+◌, ◌≤◌, nat_lt, Bool, true, false, List, [], ◌∷◌, ◌++◌, length, Option, None, Some, Result, Ok, Err}
+use Rattle.std.specs.Prelude.{◌≡◌, ◌≢◌, ◌⊎◌, ⊤, ℕ, ◌+◌, ◌≤◌, ◌<◌, nat_lt, Bool, true, false, List, [], ◌∷◌, ◌++◌, length, Option, None, Some, Result, Ok, Err}
 use Rattle.std.specs.List.{All}
 use Rattle.refusal.specs.declared.Refusal.{Refusal}
 use Rattle.refusal.specs.declared.Refusal.TheVariants.{Again}
@@ -21,12 +21,12 @@ use Rattle.shared_engine.specs.Sessions.{Held, IsAt, IsJournalOf}
 use Rattle.shared_engine.specs.Engines.{HasItsNames, WasBlocked}
 use Rattle.shared_engine.specs.Blocks.{AreDone, IsReady, moved_open}
 use Rattle.job_scripts.specs.declared.block.Block.{Block}
-use Rattle.job_scripts.specs.Blocks.{Asks, AreInFront, IsOneBlock}
-use Rattle.job_scripts.specs.Lines.{lines_of_script}
+use Rattle.job_scripts.specs.Blocks.{AreInFront, IsOneBlock}
+use Rattle.job_scripts.specs.Lines.{lines_of_script, Asks}
 use Rattle.job_server.specs.Causes.{HasRestarted, IsAllowed, IsReplyTo, IsReplyToNone}
 use Rattle.job_server.specs.declared.cursor.Cursor.{Cursor}
 use Rattle.job_server.specs.declared.cursor.Line.{Line}
-use Rattle.job_server.specs.Told.{told_by, given, IsToldIn, told_by_lines, AreOf, OneAsksFor, AreAskedFor, AreRepliesTo, AreRepliesToNone, units_of, units_in, backs, others_of}
+use Rattle.job_server.specs.Told.{told_by, given, IsToldIn, told_by_lines, AreOf, OneAsksFor, AreAskedFor, AreRepliesTo, AreRepliesToNone, units_of, units_in, backs, others_of, grants, AreGranted}
 
 -- ---- one session
 
@@ -50,13 +50,26 @@ HasItsLock state (Some t) = t.took_lock ≡ true → state.took_lock ≡ true
 abbrev pub HasGoneBack : ℕ → Machine → Held → Type 0
 HasGoneBack n s h = (backs s.units ≤ n + backs (units_of h.others)) × HasItsLock h.state (transaction_of h.state.work.job s)
 
+-- behind these units and so many rollbacks and restarts of earlier sessions no more LOCKs had their names than were told, or more went back
+abbrev pub HasGranted : ℕ → List JournalUnit → Machine → Held → Type 0
+HasGranted n front s h = (grants (front ++ units_of h.receipts) ≤ grants s.units) ⊎ (backs s.units < n + backs (units_of h.others))
+
+-- so many or more went back, and no more than so many of the units are LOCKs that had their names, unless still more went back, or the
+-- transaction took a LOCK, and would
+abbrev pub IsWithin : ℕ → ℕ → List JournalUnit → ℕ → Bool → Type 0
+IsWithin most least units count took = (least ≤ count) × ((grants units ≤ most) ⊎ ((least < count) ⊎ (took ≡ true)))
+
+-- whatever the first are within the others are
+abbrev pub AreStillWithin : List JournalUnit → ℕ → Bool → List JournalUnit → ℕ → Bool → Type 0
+AreStillWithin old count took new later_count took_later = (most least : ℕ) → IsWithin most least old count took → IsWithin most least new later_count took_later
+
 -- what was told in the first units is told in the others
 abbrev pub AreStillTold : List JournalUnit → List JournalUnit → Type 0
 AreStillTold old new = (ts : List JournalUnit) → IsToldIn ts old → IsToldIn ts new
 
--- lines that ask for these LOCKs, and for those in the first units, ask for those in the others
+-- lines of a job that ask for these LOCKs, and for those in the first units, ask for those in the others
 abbrev pub AreStillAsked : (LockCommand → Type 0) → List JournalUnit → List JournalUnit → Type 0
-AreStillAsked locks old new = (lines : List (List ℕ)) → ((c : LockCommand) → locks c → OneAsksFor lines c) → AreAskedFor lines old → AreAskedFor lines new
+AreStillAsked locks old new = (job : ℕ) (lines : List (List ℕ)) → ((c : LockCommand) → locks c → OneAsksFor job lines c) → AreAskedFor job lines old → AreAskedFor job lines new
 
 -- no LOCK
 abbrev pub IsNoLock : LockCommand → Type 0
@@ -66,20 +79,24 @@ IsNoLock c = ⊥
 abbrev pub IsLockOf : Command → LockCommand → Type 0
 IsLockOf command c = command ≡ lock_command c
 
--- a LOCK that the line asks for
-abbrev pub AsksFor : List ℕ → LockCommand → Type 0
-AsksFor line c = Asks line (lock_command c)
+-- a LOCK that the line asks for, of the job
+abbrev pub AsksFor : ℕ → List ℕ → LockCommand → Type 0
+AsksFor job line c = Asks job line (lock_command c)
 
 -- a TCOMMIT found that its transaction was overtaken, and has begun it anew, which is replied to no line
 abbrev pub IsOvertaken : Command → Reply → Type 0
 IsOvertaken command reply = (command ≡ Commit) × (restarts : ℕ) × (reply ≡ Restarted restarts)
+
+-- the reply says that a transaction has begun anew
+abbrev pub IsRestart : Reply → Type 0
+IsRestart reply = (restarts : ℕ) × (reply ≡ Restarted restarts)
 
 -- the reply is allowed but for that, whatever transaction the session shows
 abbrev pub MayReply : Command → Reply → Held → Type 0
 MayReply command reply h = (IsOvertaken command reply → ⊥) → (t : Option Transaction) → Shows h.state t → IsAt h.start h.state → IsAllowed h.state.work.job command reply t
 
 -- the session goes on as the reply tells, which is allowed, and writes no LOCK but the command; while its transaction
--- stays open all that it writes is LOCKs, and rollbacks and restarts
+-- stays open all that it writes is LOCKs, and rollbacks and restarts; a transaction that has begun anew took no LOCK yet
 pub record Follows (command : Command) (reply : Reply) (old new : Held) : Type 0 where
   pub whose : new.state.work.job ≡ old.state.work.job
   pub stands : (front : List JournalUnit) (s : Machine) → Stands front s old → Stands front (told old.state.work.job command reply s) new
@@ -88,6 +105,10 @@ pub record Follows (command : Command) (reply : Reply) (old new : Held) : Type 0
   pub went : (n : ℕ) (front : List JournalUnit) (s : Machine) → Stands front s old → HasGoneBack n s old → HasGoneBack n (told old.state.work.job command reply s) new
   pub grows : backs (units_of old.others) ≤ backs (units_of new.others)
   pub may : MayReply command reply old
+  pub granted : (n : ℕ) (front : List JournalUnit) (s : Machine) → HasGoneBack n s old → HasGranted n front s old → HasGranted n front (told old.state.work.job command reply s) new
+  pub within : 1 ≤ old.state.level → 1 ≤ new.state.level → (n : ℕ) (front : List JournalUnit)
+      → AreStillWithin (front ++ units_of old.receipts) (n + backs (units_of old.others)) old.state.took_lock (front ++ units_of new.receipts) (n + backs (units_of new.others)) new.state.took_lock
+  pub no_lock : IsRestart reply → new.state.took_lock ≡ false
 
 -- whether a LOCK has names
 abbrev pub names_some : LockCommand → Bool
@@ -113,6 +134,11 @@ abbrev pub is_open : Option Held → Bool
 is_open None = false
 is_open (Some h) = nat_lt 0 h.state.level
 
+-- whether a transaction is open that took a LOCK
+abbrev pub has_taken_lock : Option Held → Bool
+has_taken_lock None = false
+has_taken_lock (Some h) = h.state.took_lock
+
 -- the units of the books and of the session
 abbrev pub units_behind : List Book → Option Held → List JournalUnit
 units_behind books None = units_in books
@@ -125,8 +151,9 @@ backs_behind books (Some h) = backs (others_of books) + backs (units_of h.others
 
 -- the job has these books and this session, where what was told has led
 abbrev pub StandsIn : ℕ → List Book → Option Held → Machine → Type 0
-StandsIn job books None s = AreOf job books × ((transaction_of job s ≡ None) × (IsToldIn (given s) (units_in books) × (backs s.units ≤ backs (others_of books))))
-StandsIn job books (Some h) s = AreOf job books × ((h.state.work.job ≡ job) × (Stands (units_in books) s h × HasGoneBack (backs (others_of books)) s h))
+StandsIn job books None s = AreOf job books × ((transaction_of job s ≡ None) × (IsToldIn (given s) (units_in books) × ((backs s.units ≤ backs (others_of books)) × AreGranted s.units books)))
+StandsIn job books (Some h) s =
+    AreOf job books × ((h.state.work.job ≡ job) × (Stands (units_in books) s h × (HasGoneBack (backs (others_of books)) s h × HasGranted (backs (others_of books)) (units_in books) s h)))
 
 -- the sessions so far: the books of those that ended, and the one that is there
 pub record SessionsSoFar : Type 0 where
@@ -140,7 +167,16 @@ sessions_so_far books session = record { books = books; session = session }
 abbrev pub AreToldOn : SessionsSoFar → SessionsSoFar → Type 0
 AreToldOn old new = AreStillTold (units_behind old.books old.session) (units_behind new.books new.session)
 
--- lines that ask for these LOCKs, and for those in these sessions, ask for those in those
+-- whatever these sessions are within those are
+abbrev pub AreWithinOn : SessionsSoFar → SessionsSoFar → Type 0
+AreWithinOn old new =
+    AreStillWithin (units_behind old.books old.session) (backs_behind old.books old.session) (has_taken_lock old.session) (units_behind new.books new.session) (backs_behind new.books new.session) (has_taken_lock new.session)
+
+-- what was told is told still, and LOCKs that no reply tells are of a transaction that went back or would
+abbrev pub AreKeptOn : SessionsSoFar → SessionsSoFar → Type 0
+AreKeptOn old new = AreToldOn old new × AreWithinOn old new
+
+-- lines of a job that ask for these LOCKs, and for those in these sessions, ask for those in those
 abbrev pub AreAskedOn : (LockCommand → Type 0) → SessionsSoFar → SessionsSoFar → Type 0
 AreAskedOn locks old new = AreStillAsked locks (units_behind old.books old.session) (units_behind new.books new.session)
 
@@ -152,25 +188,26 @@ KeepBacks old new = backs_behind old.books old.session ≤ backs_behind new.book
 abbrev pub StandsAt : ℕ → SessionsSoFar → Machine → Type 0
 StandsAt job now s = StandsIn job now.books now.session s
 
--- the job goes on as is told, which is allowed, and writes no LOCKs but these
-pub record GoesOn (tell : Machine → Machine) (is_allowed : Machine → Type 0) (locks : LockCommand → Type 0) (job : ℕ) (old new : SessionsSoFar) : Type 0 where
+-- the job goes on as is told, which is allowed, and writes no LOCKs but these; where its transaction has begun anew that took none yet
+pub record GoesOn (tell : Machine → Machine) (is_allowed : Machine → Type 0) (is_restart : Type 0) (locks : LockCommand → Type 0) (job : ℕ) (old new : SessionsSoFar) : Type 0 where
   pub stands : (s : Machine) → StandsAt job old s → StandsAt job new (tell s)
-  pub keeps : is_open old.session ≡ true → is_open new.session ≡ true → AreToldOn old new
+  pub keeps : is_open old.session ≡ true → is_open new.session ≡ true → AreKeptOn old new
   pub allowed : (s : Machine) → StandsAt job old s → is_allowed s
   pub asks : AreAskedOn locks old new
   pub grows : KeepBacks old new
+  pub no_lock : is_restart → has_taken_lock new.session ≡ false
 
 -- nothing is told
 abbrev pub GoesOnUntold : ℕ → SessionsSoFar → SessionsSoFar → Type 0
-GoesOnUntold job old new = GoesOn (λ s. s) (λ s. ⊤) IsNoLock job old new
+GoesOnUntold job old new = GoesOn (λ s. s) (λ s. ⊤) ⊥ IsNoLock job old new
 
 -- a command is replied, or was overtaken
 abbrev pub GoesOnBy : ℕ → Command → Reply → SessionsSoFar → SessionsSoFar → Type 0
-GoesOnBy job command reply old new = GoesOn (told job command reply) (λ s. (IsOvertaken command reply → ⊥) → IsAllowed job command reply (transaction_of job s)) (IsLockOf command) job old new
+GoesOnBy job command reply old new = GoesOn (told job command reply) (λ s. (IsOvertaken command reply → ⊥) → IsAllowed job command reply (transaction_of job s)) (IsRestart reply) (IsLockOf command) job old new
 
 -- a line is replied
 abbrev pub GoesOnAt : ℕ → List ℕ → Reply → SessionsSoFar → SessionsSoFar → Type 0
-GoesOnAt job line reply old new = GoesOn (told_by job (reading_of line) reply) (λ s. IsReplyTo (HasOperands line) job (reading_of line) reply (transaction_of job s)) (AsksFor line) job old new
+GoesOnAt job line reply old new = GoesOn (told_by job (reading_of line) reply) (λ s. IsReplyTo (HasOperands line) job (reading_of line) reply (transaction_of job s)) (IsRestart reply) (AsksFor job line) job old new
 
 -- what was read of a line was overtaken
 abbrev pub IsOvertakenAs : Result Command Refusal → Reply → Type 0
@@ -180,7 +217,7 @@ IsOvertakenAs (Err refusal) reply = ⊥
 -- a line, of which this was read, is replied, or was overtaken
 abbrev pub MayGoOnAt : ℕ → List ℕ → Result Command Refusal → Reply → SessionsSoFar → SessionsSoFar → Type 0
 MayGoOnAt job line asked reply old new =
-    GoesOn (told_by job (reading_of line) reply) (λ s. (IsOvertakenAs asked reply → ⊥) → IsReplyTo (HasOperands line) job (reading_of line) reply (transaction_of job s)) (AsksFor line) job old new
+    GoesOn (told_by job (reading_of line) reply) (λ s. (IsOvertakenAs asked reply → ⊥) → IsReplyTo (HasOperands line) job (reading_of line) reply (transaction_of job s)) (IsRestart reply) (AsksFor job line) job old new
 
 -- it is no TCOMMIT
 abbrev pub IsNoCommit : Result Command Refusal → Type 0
@@ -190,15 +227,6 @@ IsNoCommit (Err refusal) = ⊤
 -- the job's session has ended, where it had one
 abbrev pub HasStopped : ℕ → SessionsSoFar → SessionsSoFar → Type 0
 HasStopped job old new = ((new ≡ old) × (old.session ≡ None)) ⊎ (GoesOnBy job Halt Finished old new × (new.session ≡ None))
-
--- the line may be refused so, whatever transaction the job has
-abbrev pub IsFault : ℕ → List ℕ → Refusal → Type 0
-IsFault job line refusal = (t : Option Transaction) → IsReplyTo (HasOperands line) job (reading_of line) (Refused refusal) t
-
--- the line asks for what was read of it, or may be refused so
-abbrev pub IsAsked : ℕ → List ℕ → Result Command Refusal → Type 0
-IsAsked job line (Ok command) = Asks line command
-IsAsked job line (Err refusal) = IsFault job line refusal
 
 -- ---- lines
 
@@ -239,12 +267,12 @@ pub record Serves (job : ℕ) (lines rest : List (List ℕ)) (old new : Running)
   pub split : lines ≡ lines_done ++ rest
   pub replied : new.replies ≡ old.replies ++ their_replies
   pub leads : (s : Machine) → StandsAt job old.sessions s → Leads job lines_done their_replies s new.sessions
-  pub asks : AreAskedOn (OneAsksFor lines) old.sessions new.sessions
+  pub asks : AreAskedOn (OneAsksFor job lines) old.sessions new.sessions
   pub grows : KeepBacks old.sessions new.sessions
 
 -- while a transaction is open from here to there all that is written is LOCKs
 abbrev pub Keeps : Running → Running → Type 0
-Keeps old new = is_open old.sessions.session ≡ true → is_open new.sessions.session ≡ true → AreToldOn old.sessions new.sessions
+Keeps old new = is_open old.sessions.session ≡ true → is_open new.sessions.session ≡ true → AreKeptOn old.sessions new.sessions
 
 -- a line was answered
 pub record HasAnswered (job : ℕ) (line : Line) (old new : Running) : Type 0 where
@@ -284,7 +312,7 @@ NoneAgain (command ∷ commands) (reply ∷ replies) = (command ≡ Start → re
 
 -- the lines of a block were done, whatever lines they stand in front of
 abbrev pub ServesBlock : Block → Running → Running → Type 0
-ServesBlock block old new = (job : ℕ) (lines : List (List ℕ)) → AreInFront lines (lines_of_script block.rest.now) block.places.items block.commands.items → Serves job lines (lines_of_script block.rest.now) old new
+ServesBlock block old new = (job : ℕ) (lines : List (List ℕ)) → AreInFront job lines (lines_of_script block.rest.now) block.places.items block.commands.items → Serves job lines (lines_of_script block.rest.now) old new
 
 -- the session did a block, before which its start was moved where a transaction was open
 abbrev pub HasRun : List Command → List Reply → Option Held → Option Held → Type 0
@@ -309,7 +337,7 @@ pub record Begins (job : ℕ) (line : Line) (old new : Running) : Type 0 where
   pub replied : new.replies ≡ old.replies ++ reply ∷ []
   pub stands : (s : Machine) → StandsAt job old.sessions s → StandsAt job new.sessions (told job Start reply s) × HasJustBegun (transaction_of job (told job Start reply s))
   pub allowed : (s : Machine) → StandsAt job old.sessions s → IsAllowed job Start reply (transaction_of job s)
-  pub asks : AreAskedOn (OneAsksFor (line.text.now ∷ lines_of_script line.next.lines.now)) old.sessions new.sessions
+  pub asks : AreAskedOn (OneAsksFor job (line.text.now ∷ lines_of_script line.next.lines.now)) old.sessions new.sessions
   pub grows : KeepBacks old.sessions new.sessions
 
 -- the outermost TCOMMIT began the transaction anew, and no reply was kept
@@ -323,13 +351,13 @@ HasTried job line (Some behind) old new = Advances job line behind old new × Ke
 
 -- the transaction is still open, and what was told before is still told
 abbrev pub IsStillOpen : Running → Running → Type 0
-IsStillOpen old new = is_open old.sessions.session ≡ true → (is_open new.sessions.session ≡ true) × AreToldOn old.sessions new.sessions
+IsStillOpen old new = is_open old.sessions.session ≡ true → (is_open new.sessions.session ≡ true) × AreKeptOn old.sessions new.sessions
 
 -- the job stands again as behind its TSTART, behind a try of the text's lines
 abbrev pub IsBack : ℕ → List ℕ → Running → Running → Type 0
 IsBack job text old new =
     ((first : Machine) → StandsAt job old.sessions first → HasJustBegun (transaction_of job first) → StandsAt job new.sessions first)
-    × (AreAskedOn (OneAsksFor (lines_of_script text)) old.sessions new.sessions × KeepBacks old.sessions new.sessions)
+    × (AreAskedOn (OneAsksFor job (lines_of_script text)) old.sessions new.sessions × KeepBacks old.sessions new.sessions)
 
 -- the replies are those before and more
 abbrev pub GoesOnFrom : List Reply → List Reply → Type 0

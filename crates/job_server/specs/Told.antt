@@ -1,7 +1,7 @@
 -- What a job's replies tell of the units that the job wrote, and what lines may be replied. Source: docs/THEOREMS.md, "Many jobs at the same time".
 -- Read told_by_lines, units_told, units_of_book, IsToldIn, IsAllTold, AreOf, AreAskedFor, AreBack,
--- AreRepliesTo, AreRepliesToNone, then IsTold.
-use Rattle.std.specs.Prelude.{◌≡◌, ◌⊎◌, ⊤, ℕ, ◌≤◌, Bool, true, false, not, ◌||◌, List, [], ◌∷◌, ◌++◌, length, map, Option, None, Some, Result, Ok, Err}
+-- AreGranted, AreRepliesTo, AreRepliesToNone, then IsTold.
+use Rattle.std.specs.Prelude.{◌≡◌, ◌⊎◌, ⊤, ℕ, ◌≤◌, ◌<◌, Bool, true, false, not, ◌||◌, List, [], ◌∷◌, ◌++◌, length, map, Option, None, Some, Result, Ok, Err}
 use Rattle.std.specs.List.{All, filter, flat_map}
 use Rattle.refusal.specs.declared.Refusal.{Refusal}
 use Rattle.lock_name.specs.declared.lock.LockCommand.{LockCommand}
@@ -14,8 +14,7 @@ use Rattle.journal.specs.Kept.{Claim}
 use Rattle.journal.specs.Story.{Machine, nothing_done, transaction_of, told}
 use Rattle.script.specs.Line.{reading_of, HasOperands}
 use Rattle.shared_engine.specs.Receipts.{Book, claim}
-use Rattle.job_scripts.specs.Blocks.{Asks}
-use Rattle.job_scripts.specs.Lines.{lines_of_script}
+use Rattle.job_scripts.specs.Lines.{lines_of_script, Asks}
 use Rattle.job_server.specs.Causes.{IsReplyTo, IsReplyToNone}
 
 -- what a line and its reply change: a line that can't be read tells nothing
@@ -84,22 +83,22 @@ AreOf job books = All (λ (b : Book). (b.job ≡ job) × HasItsEnd b) books
 abbrev pub IsAllTold : ℕ → List JournalUnit → List JournalUnit → Type 0
 IsAllTold job told units = IsToldIn told units ⊎ IsToldIn (told ++ End job ∷ []) units
 
--- one of the lines asks for this LOCK
-abbrev pub OneAsksFor : List (List ℕ) → LockCommand → Type 0
-OneAsksFor [] command = ⊥
-OneAsksFor (line ∷ lines) command = Asks line (lock_command command) ⊎ OneAsksFor lines command
+-- one of the lines asks for this LOCK, of the job
+abbrev pub OneAsksFor : ℕ → List (List ℕ) → LockCommand → Type 0
+OneAsksFor job [] command = ⊥
+OneAsksFor job (line ∷ lines) command = Asks job line (lock_command command) ⊎ OneAsksFor job lines command
 
 -- where the unit is a LOCK, one of the lines asks for it
-abbrev pub IsAskedFor : List (List ℕ) → JournalUnit → Type 0
-IsAskedFor lines (Lone job command answer) = ⊤
-IsAskedFor lines (Whole job exchanges) = ⊤
-IsAskedFor lines (Lock job inside command had) = OneAsksFor lines command
-IsAskedFor lines (Back job) = ⊤
-IsAskedFor lines (End job) = ⊤
+abbrev pub IsAskedFor : ℕ → List (List ℕ) → JournalUnit → Type 0
+IsAskedFor job lines (Lone j command answer) = ⊤
+IsAskedFor job lines (Whole j exchanges) = ⊤
+IsAskedFor job lines (Lock j inside command had) = OneAsksFor job lines command
+IsAskedFor job lines (Back j) = ⊤
+IsAskedFor job lines (End j) = ⊤
 
 -- each LOCK among the units, told or not, is one that one of the lines asks for
-abbrev pub AreAskedFor : List (List ℕ) → List JournalUnit → Type 0
-AreAskedFor lines units = All (IsAskedFor lines) units
+abbrev pub AreAskedFor : ℕ → List (List ℕ) → List JournalUnit → Type 0
+AreAskedFor job lines units = All (IsAskedFor job lines) units
 
 -- whether the unit says that a transaction which took a LOCK was rolled back, or began anew
 abbrev pub goes_back : JournalUnit → Bool
@@ -121,6 +120,22 @@ others_of books = flat_map (λ (b : Book). units_of b.others) books
 abbrev pub AreBack : List JournalUnit → List Book → Type 0
 AreBack told books = backs told ≤ backs (others_of books)
 
+-- whether the unit is a LOCK that had its names
+abbrev pub is_granted : JournalUnit → Bool
+is_granted (Lone job command answer) = false
+is_granted (Whole job exchanges) = false
+is_granted (Lock job inside command had) = had
+is_granted (Back job) = false
+is_granted (End job) = false
+
+-- how many of the units are such
+abbrev pub grants : List JournalUnit → ℕ
+grants units = length (filter is_granted units)
+
+-- no more LOCKs of the books had their names than are told, unless a transaction went back of which no reply tells: a try that was overtaken
+abbrev pub AreGranted : List JournalUnit → List Book → Type 0
+AreGranted told books = (grants (units_in books) ≤ grants told) ⊎ (backs told < backs (others_of books))
+
 -- each reply is one to its line, in the transaction that the replies so far tell
 abbrev pub AreRepliesTo : ℕ → List (List ℕ) → List Reply → Machine → Type 0
 AreRepliesTo job [] replies s = ⊤
@@ -134,11 +149,13 @@ AreRepliesToNone (line ∷ lines) [] = ⊤
 AreRepliesToNone (line ∷ lines) (reply ∷ replies) = IsReplyToNone (HasOperands line) (reading_of line) reply × AreRepliesToNone lines replies
 
 -- the replies to a job's lines are such, and tell the units of its books, each up to the HALT that ended its session,
--- in which each LOCK is asked for and all that went back is there; without a job there is no book
+-- in which each LOCK is asked for, all that went back is there, and no more LOCKs had their names, but of tries that
+-- were overtaken; without a job there is no book
 abbrev pub IsTold : Option ℕ → List ℕ → List Reply → List Book → Type 0
 IsTold None text replies books = (books ≡ []) × AreRepliesToNone (lines_of_script text) replies
 IsTold (Some job) text replies books =
     AreOf job books
     × (IsAllTold job (units_told job text replies) (units_in books)
-    × (AreAskedFor (lines_of_script text) (units_in books)
-    × (AreBack (told_by_lines job (lines_of_script text) replies nothing_done).units books × AreRepliesTo job (lines_of_script text) replies nothing_done)))
+    × (AreAskedFor job (lines_of_script text) (units_in books)
+    × (AreBack (told_by_lines job (lines_of_script text) replies nothing_done).units books
+    × (AreGranted (told_by_lines job (lines_of_script text) replies nothing_done).units books × AreRepliesTo job (lines_of_script text) replies nothing_done))))

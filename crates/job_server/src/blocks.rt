@@ -1,8 +1,8 @@
 //! Blocks: a TSTART, and the lines behind it as often as they are overtaken.
 ghost use Rattle.std.specs.Prelude.{◌≡◌, false, IfOk, IfSome, IfNone, OnOk};
 ghost use Rattle.command.specs.declared.request.Command.{Command};
-ghost use Rattle.job_scripts.specs.Blocks.{Asks};
-ghost use Rattle.job_server.specs.Telling.{is_open as is_open_in, IsAsked, Advances, Reaches, HasTried, IsBack, GoesOnFrom};
+ghost use Rattle.job_scripts.specs.Lines.{Asks, IsReadFor};
+ghost use Rattle.job_server.specs.Telling.{is_open as is_open_in, Advances, Reaches, HasTried, IsBack, GoesOnFrom};
 
 use crate::ServerFault;
 use crate::cursor::{Cursor, Line};
@@ -28,7 +28,7 @@ impl<'a, B: BoardName, R: Wait, G: Gate> Worker<'a, B, R, G> {
         job: Job,
         line: Line<'b>,
     ) -> Result<Option<Cursor<'b>>, ServerFault>
-        requires { Asks line.text.now Command.Commit }
+        requires { Asks job line.text.now Command.Commit }
         ensures { IfOk result (λ ended. HasTried job line.entry ended run.old run.new) }
     {
         let reply = self.do_line(&mut run.sessions, job, line, Ok(Command::Commit))?;
@@ -46,7 +46,7 @@ impl<'a, B: BoardName, R: Wait, G: Gate> Worker<'a, B, R, G> {
         line: Line<'b>,
         command: Command,
     ) -> Result<Option<Cursor<'b>>, ServerFault>
-        requires { Asks line.text.now command }
+        requires { Asks job line.text.now command }
         ensures { IfOk result (λ ended. HasTried job line.entry ended run.old run.new) }
     {
         match command {
@@ -64,7 +64,7 @@ impl<'a, B: BoardName, R: Wait, G: Gate> Worker<'a, B, R, G> {
         line: Line<'b>,
         asked: Result<Command, Refusal>,
     ) -> Result<Option<Cursor<'b>>, ServerFault>
-        requires { IsAsked job line.text.now asked }
+        requires { IsReadFor job line.text.now asked }
         ensures { IfOk result (λ ended. HasTried job line.entry ended run.old run.new) }
     {
         match asked {
@@ -110,7 +110,7 @@ impl<'a, B: BoardName, R: Wait, G: Gate> Worker<'a, B, R, G> {
         job: Job,
         line: Line<'b>,
     ) -> Result<Cursor<'b>, ServerFault>
-        requires asks { Asks line.text.now Command.Start }
+        requires asks { Asks job line.text.now Command.Start }
         requires closed { is_open_in run.old.sessions.session ≡ false }
         ensures { IfOk result (λ behind. Advances job line.entry behind run.old run.new) }
     {

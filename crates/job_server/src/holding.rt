@@ -1,7 +1,8 @@
 //! Lines of a job that are done under one hold of the engine's lock. The gate isn't told.
 ghost use Rattle.std.specs.Prelude.{◌≡◌, ◌++◌, IfOk, OnOk};
 ghost use Rattle.command.specs.declared.request.Command.{Command};
-ghost use Rattle.job_scripts.specs.Blocks.{in_place, Asks};
+ghost use Rattle.job_scripts.specs.Blocks.{in_place};
+ghost use Rattle.job_scripts.specs.Lines.{Asks};
 ghost use Rattle.job_server.specs.Telling.{Keeps, Advances, Reaches, HaveNoHalt, AreDataCommands, BeginNone, ServesBlock, HasRun, HasReadAll};
 
 use crate::ServerFault;
@@ -157,7 +158,6 @@ impl<'a, B: BoardName, R: Wait, G: Gate> Worker<'a, B, R, G> {
     }
 
     // Does data commands in a transaction, under a hold that readers share. Answers the place behind them.
-    #[tactic(auto, using(crate::proofs::GoingOn::reads_keep_all))]
     fn read_at_once<'b>(
         &mut self,
         run: &mut JobRun<B>,
@@ -182,7 +182,7 @@ impl<'a, B: BoardName, R: Wait, G: Gate> Worker<'a, B, R, G> {
     }
 
     /// Does the lines of a block behind its TSTART, so that nobody can overtake it. The transaction is open.
-    #[tactic(auto, using(crate::proofs::GoingOn::block_reaches))]
+    #[tactic(auto, using(crate::proofs::AtOnce::block_reaches))]
     pub(crate) fn serve_serially<'b>(
         &mut self,
         run: &mut JobRun<B>,
@@ -194,12 +194,12 @@ impl<'a, B: BoardName, R: Wait, G: Gate> Worker<'a, B, R, G> {
         if !run.is_open() {
             return Err(ServerFault::Missing);
         }
-        let block = block_of(self.alloc, begin.lines, &mut run.drafts)?;
+        let block = block_of(self.alloc, job, begin.lines, &mut run.drafts)?;
         self.serve_at_once(run, begin.number, block)
     }
 
     // Does a data command of a session that is there, and those right behind it.
-    #[tactic(auto, using(crate::proofs::GoingOn::block_advances, crate::proofs::GoingOn::closed_keeps))]
+    #[tactic(auto, using(crate::proofs::AtOnce::block_advances, crate::proofs::AtOnce::closed_keeps))]
     fn serve_run<'b>(
         &mut self,
         run: &mut JobRun<B>,
@@ -207,7 +207,7 @@ impl<'a, B: BoardName, R: Wait, G: Gate> Worker<'a, B, R, G> {
         first: DataCommand,
         line: Line<'b>,
     ) -> Result<Cursor<'b>, ServerFault>
-        requires { Asks line.text.now (Command.Access first) }
+        requires { Asks job line.text.now (Command.Access first) }
         ensures on { IfOk result (λ behind. Advances job line.entry behind run.old run.new) }
         ensures keeps { OnOk result (Keeps run.old run.new) }
     {
@@ -216,7 +216,14 @@ impl<'a, B: BoardName, R: Wait, G: Gate> Worker<'a, B, R, G> {
         } else {
             WRITES_PER_HOLD
         };
-        let block = data_block(self.alloc, first, line.next.lines, most, &mut run.drafts)?;
+        let block = data_block(
+            self.alloc,
+            job,
+            first,
+            line.next.lines,
+            most,
+            &mut run.drafts,
+        )?;
         if run.is_open() {
             self.read_at_once(run, line.number, block)
         } else {
@@ -232,7 +239,7 @@ impl<'a, B: BoardName, R: Wait, G: Gate> Worker<'a, B, R, G> {
         first: DataCommand,
         line: Line<'b>,
     ) -> Result<Cursor<'b>, ServerFault>
-        requires { Asks line.text.now (Command.Access first) }
+        requires { Asks job line.text.now (Command.Access first) }
         ensures on { IfOk result (λ behind. Advances job line.entry behind run.old run.new) }
         ensures keeps { OnOk result (Keeps run.old run.new) }
     {
@@ -253,7 +260,7 @@ impl<'a, B: BoardName, R: Wait, G: Gate> Worker<'a, B, R, G> {
         first: DataCommand,
         line: Line<'b>,
     ) -> Result<Cursor<'b>, ServerFault>
-        requires { Asks line.text.now (Command.Access first) }
+        requires { Asks job line.text.now (Command.Access first) }
         ensures on { IfOk result (λ behind. Advances job line.entry behind run.old run.new) }
         ensures keeps { OnOk result (Keeps run.old run.new) }
     {

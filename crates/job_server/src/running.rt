@@ -2,19 +2,20 @@
 ghost use Rattle.std.specs.Prelude.{◌≡◌, ◌≢◌, ◌<◌, ◌∷◌, ◌++◌, ℕ, List, [], None, true, false, length, vec_capacity, IfOk, IfSome, OnOk};
 ghost use Rattle.command.specs.declared.request.Command.{Command};
 ghost use Rattle.command.specs.declared.request.Reply.{Reply};
+ghost use Rattle.job_scripts.specs.Lines.{IsReadFor};
 ghost use Rattle.shared_engine.specs.Receipts.{Book};
 ghost use Rattle.shared_engine.specs.Engines.{OnOkThat, OnOkNot};
-ghost use Rattle.job_server.specs.Telling.{is_open as is_open_in, GoesOnUntold, GoesOnBy, MayGoOnAt, HasStopped, IsAsked, IsNoCommit, Keeps, HasAnswered, Advances, sessions_so_far, not_begun};
+ghost use Rattle.job_server.specs.Telling.{is_open as is_open_in, GoesOnUntold, GoesOnBy, MayGoOnAt, HasStopped, IsNoCommit, Keeps, HasAnswered, Advances, sessions_so_far, not_begun};
 
 use crate::ServerFault;
 use crate::cursor::{Cursor, Line};
 use crate::worker::{Worker, writes_of};
 use collation::Job;
 use command::{Command, Reply};
-use job_scripts::timeout_of;
+use job_scripts::{read_for, timeout_of};
 use pin_board::BoardName;
 use refusal::Refusal;
-use script::{Drafts, read_line};
+use script::Drafts;
 use shared_engine::{Gate, Pass, Session};
 use std::alloc::{AllocError, Global};
 use std::marker::Model;
@@ -83,36 +84,14 @@ impl<B: BoardName> JobRun<B> {
     }
 }
 
-/// What a line asks of a job.
-#[tactic(auto, using(crate::proofs::GoingOn::asked_of, crate::proofs::Causes::other_job, crate::proofs::Causes::fault_of))]
-pub(crate) fn read_for(
-    alloc: Global,
-    job: Job,
-    line: &[u8],
-    drafts: &mut Drafts,
-) -> Result<Command, Refusal>
-    ensures { IsAsked job line.now result }
-{
-    match read_line(alloc, line, drafts) {
-        Ok((named, command)) => {
-            if named == job {
-                return Ok(command);
-            }
-            drop(command);
-            Err(Refusal::BadJob)
-        }
-        Err(fault) => Err(fault.refusal),
-    }
-}
-
-/// The same in a block, but for HALT, before which a block ends.
+/// What a line asks of a job in a block, but for HALT, before which a block ends.
 pub(crate) fn read_within(
     alloc: Global,
     job: Job,
     line: &[u8],
     drafts: &mut Drafts,
 ) -> Option<Result<Command, Refusal>>
-    ensures { IfSome result (λ asked. IsAsked job line.now asked) }
+    ensures { IfSome result (λ asked. IsReadFor job line.now asked) }
 {
     match read_for(alloc, job, line, drafts) {
         Ok(Command::Halt) => None,
@@ -289,7 +268,7 @@ impl<'a, B: BoardName, R: Wait, G: Gate> Worker<'a, B, R, G> {
         line: &[u8],
         asked: Result<Command, Refusal>,
     ) -> Result<Reply, ServerFault>
-        requires { IsAsked job line.now asked }
+        requires { IsReadFor job line.now asked }
         ensures { IfOk result (λ reply. MayGoOnAt job line.now asked reply sessions.old sessions.new) }
     {
         match asked {
@@ -306,7 +285,7 @@ impl<'a, B: BoardName, R: Wait, G: Gate> Worker<'a, B, R, G> {
         line: Line<'b>,
         asked: Result<Command, Refusal>,
     ) -> Result<Reply, ServerFault>
-        requires { IsAsked job line.text.now asked }
+        requires { IsReadFor job line.text.now asked }
         ensures { IfOk result (λ reply. MayGoOnAt job line.entry.text.now asked reply sessions.old sessions.new) }
     {
         let writes = writes_of(&asked);
@@ -330,7 +309,7 @@ impl<'a, B: BoardName, R: Wait, G: Gate> Worker<'a, B, R, G> {
         line: Line<'b>,
         asked: Result<Command, Refusal>,
     ) -> Result<(), ServerFault>
-        requires asks { IsAsked job line.text.now asked }
+        requires asks { IsReadFor job line.text.now asked }
         requires other { IsNoCommit asked }
         ensures { OnOk result (HasAnswered job line.entry run.old run.new) }
     {
@@ -348,7 +327,7 @@ impl<'a, B: BoardName, R: Wait, G: Gate> Worker<'a, B, R, G> {
         line: Line<'b>,
         asked: Result<Command, Refusal>,
     ) -> Result<Cursor<'b>, ServerFault>
-        requires asks { IsAsked job line.text.now asked }
+        requires asks { IsReadFor job line.text.now asked }
         requires other { IsNoCommit asked }
         ensures on { IfOk result (λ behind. Advances job line.entry behind run.old run.new) }
         ensures keeps { OnOk result (Keeps run.old run.new) }

@@ -312,14 +312,15 @@ fn load_and_serve<
 /// Each line of the listing is a SET of job 1, as of `loading::load`, and they are the first units of the journal; the
 /// log is told of each. An empty listing sets nothing.
 ///
-/// A script is one job's alone, and its lines are as many as it says. With no worker no job is done, and each report is
-/// missing.
+/// A script has as many lines as it says. One of another job is refused, `BadJob`, or for a fault of its own. With no
+/// worker no job is done, and each report is missing.
 ///
 /// A report's replies tell the units of its job's books, which are in the closed journal; a LOCK that no reply tells
 /// may stand among them: a first try of one that waited, or one of a try of a block that was overtaken. Each LOCK in
 /// the books is one that a line of the script asks for, and they have at least as many rollbacks and restarts of
-/// transactions that took a LOCK as are told. Each book ends where a HALT was replied `ok`, the last one with the
-/// lines, and has that HALT's End. All books' units are just the journal's. No TCOMMIT is replied with a restart.
+/// transactions that took a LOCK as are told; where they have no more, each LOCK that had its names is told. Each book
+/// ends where a HALT was replied `ok`, the last one with the lines, and has that HALT's End. All books' units are just
+/// the journal's. No TCOMMIT is replied with a restart.
 ///
 /// After a fault no report is handed out: `Load` where the listing isn't loaded, as of `loading::load`, and no job was
 /// begun; `Memory` where memory was refused and no reply could say so, also where a worker couldn't be started, a

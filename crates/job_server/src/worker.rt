@@ -1,8 +1,7 @@
 //! The lines of one job, and of one job after the other.
 ghost use Rattle.std.specs.Prelude.{◌≡◌, ◌∷◌, ℕ, List, [], None, Some, true, slice_get, IfOk, OnOk};
 ghost use Rattle.command.specs.declared.request.Command.{Command};
-ghost use Rattle.job_scripts.specs.Blocks.{Asks};
-ghost use Rattle.job_scripts.specs.Lines.{lines_of_script};
+ghost use Rattle.job_scripts.specs.Lines.{lines_of_script, Asks};
 ghost use Rattle.std.proofs.Props.{props};
 ghost use Rattle.job_server.specs.Served.{wanted, IsReport, IsReportAt};
 ghost use Rattle.job_server.specs.Told.{IsTold};
@@ -13,12 +12,12 @@ use crate::ServerFault;
 use crate::cursor::{Cursor, Line};
 use crate::in_turn::are_in_turn;
 use crate::job_run::Calls;
-use crate::running::{JobRun, Sessions, read_for};
+use crate::running::{JobRun, Sessions};
 use crate::turns::Turns;
 use collation::Job;
 use command::{Command, DataCommand, Reply};
 use crossbeam_channel::{Receiver, Sender};
-use job_scripts::{Report, Script};
+use job_scripts::{Report, Script, read_for};
 use pin_board::BoardName;
 use refusal::Refusal;
 use script::{Drafts, LineFault, read_line};
@@ -220,7 +219,7 @@ impl<'a, B: BoardName, R: Wait, G: Gate> Worker<'a, B, R, G> {
         job: Job,
         line: Line<'b>,
     ) -> Result<Cursor<'b>, ServerFault>
-        requires { Asks line.text.now Command.Start }
+        requires { Asks job line.text.now Command.Start }
         ensures { IfOk result (λ behind. Advances job line.entry behind run.old run.new) }
     {
         if run.is_open() {
@@ -237,7 +236,7 @@ impl<'a, B: BoardName, R: Wait, G: Gate> Worker<'a, B, R, G> {
         job: Job,
         line: Line<'b>,
     ) -> Result<Cursor<'b>, ServerFault>
-        requires { Asks line.text.now Command.Commit }
+        requires { Asks job line.text.now Command.Commit }
         ensures { IfOk result (λ behind. Advances job line.entry behind run.old run.new) }
     {
         match self.try_commit(run, job, line)? {
@@ -254,7 +253,7 @@ impl<'a, B: BoardName, R: Wait, G: Gate> Worker<'a, B, R, G> {
         line: Line<'b>,
         command: Command,
     ) -> Result<Cursor<'b>, ServerFault>
-        requires { Asks line.text.now command }
+        requires { Asks job line.text.now command }
         ensures { IfOk result (λ behind. Advances job line.entry behind run.old run.new) }
     {
         match command {

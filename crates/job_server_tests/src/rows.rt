@@ -1,7 +1,10 @@
 //! Worked rows: the row of two jobs, and scripts of one job, which are answered as `mrun` answers them.
 use crate::gates::Yielding;
-use job_server::run_jobs;
+use collation::Job;
+use job_scripts::{Script, write_reports};
+use job_server::{run_jobs, serve};
 use listing::Counted;
+use loading::NoLog;
 use script_run::{Upkeep, run_script};
 use std::alloc::Global;
 use std::sync::Wait;
@@ -67,6 +70,38 @@ fn refused_lines_keep_their_place_and_those_without_a_job_are_a_group(
 #[test]
 fn nothing_is_answered_with_the_listing_alone(rt: HostRuntime) -> Result<(), Fail> {
     assert!(rt; writes(&rt, rt.alloc(), b"\n\r\n", 16, b"--\n", false)?);
+    Ok(())
+}
+
+// What a script of job 1 with so many lines is replied, of which some are other jobs'.
+fn replies_of<R: Threads + Wait + Sync>(
+    rt: &R,
+    alloc: Global,
+    text: &[u8],
+    lines: usize,
+) -> Result<Vec<u8>, Fail> {
+    let mut scripts = Vec::new(alloc);
+    scripts.push(Script {
+        job: Some(Job::new(1)?),
+        text: Vec::from_slice(alloc, text)?,
+        lines,
+    })?;
+    let served = serve(rt, alloc, b"", &mut NoLog, scripts, 1, &Yielding)?;
+    let mut writer = Counted::new(Vec::new(alloc));
+    let written = write_reports(served.reports.as_slice(), &mut writer);
+    drop(served);
+    written?;
+    Ok(Vec::from_slice(alloc, writer.inner())?)
+}
+
+#[test]
+fn lines_of_other_jobs_are_refused(rt: HostRuntime) -> Result<(), Fail> {
+    let script =
+        b"1 SET ^A=1\n2 SET ^A=2\n2 LOCK ^A\n1 TSTART\n2 SET ^A=3\n2 TCOMMIT\n2 HALT\n1 $GET(^A)\n2 FOO\n1 TCOMMIT\n";
+    let want =
+        b"1 ok\n1 error 12 BadJob\n1 error 12 BadJob\n1 level 1\n1 error 12 BadJob\n1 error 12 BadJob\n1 error 12 BadJob\n1 1\n1 error 1 BadLine\n1 committed\n";
+    let replies = replies_of(&rt, rt.alloc(), script, 10)?;
+    assert_eq!(rt; replies.as_slice(), want.as_slice());
     Ok(())
 }
 

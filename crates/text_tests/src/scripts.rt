@@ -1,7 +1,7 @@
 //! Lines by job, blocks, timeouts and reports. Expected from docs/RULES.md and docs/FORMATS.md.
 use collation::Job;
 use command::Reply;
-use job_scripts::{Report, Script, block_of, push_in_place, scripts_of, timeout_of};
+use job_scripts::{Report, Script, block_of, push_in_place, read_for, scripts_of, timeout_of};
 use refusal::Refusal;
 use script::Drafts;
 use std::alloc::{AllocError, Global};
@@ -68,9 +68,9 @@ fn lines_stand_by_job_in_order_of_first_lines(rt: HostRuntime) -> Result<(), Fai
 // How many commands and lines the block has that begins these lines, and what follows it.
 type Ends<'a> = (usize, usize, &'a [u8]);
 
-fn has_ends(alloc: Global, lines: &[u8], want: Ends<'_>) -> Result<bool, AllocError> {
+fn has_ends(alloc: Global, job: Job, lines: &[u8], want: Ends<'_>) -> Result<bool, AllocError> {
     let mut drafts = Drafts::new(alloc);
-    let block = block_of(alloc, lines, &mut drafts)?;
+    let block = block_of(alloc, job, lines, &mut drafts)?;
     Ok((block.commands.len(), block.places.len(), block.rest) == want)
 }
 
@@ -98,13 +98,43 @@ fn blocks_end_where_no_transaction_is_open(rt: HostRuntime) -> Result<(), Fail> 
         ),
         (b"1 $GET(^A)\n1 HALT\n", 1, 1, b"1 HALT\n"),
         (b"1 $GET(^A)\n1 FOO\n1 $GET(^B)", 2, 3, b""),
+        (
+            b"2 TCOMMIT\n2 HALT\n1 TCOMMIT\n1 $TLEVEL\n",
+            1,
+            3,
+            b"1 $TLEVEL\n",
+        ),
         (b"", 0, 0, b""),
     ];
+    let job = Job::new(1)?;
     for &(lines, commands, places, rest) in rows {
         assert!(rt;
-            has_ends(rt.alloc(), lines, (commands, places, rest))?,
+            has_ends(rt.alloc(), job, lines, (commands, places, rest))?,
             "{lines:?}"
         );
+    }
+    Ok(())
+}
+
+// The refusal of a line of this job, if it is refused.
+fn refusal_of(alloc: Global, job: Job, line: &[u8]) -> Option<Refusal> {
+    let mut drafts = Drafts::new(alloc);
+    read_for(alloc, job, line, &mut drafts).err()
+}
+
+#[test]
+fn a_line_is_read_for_its_own_job(rt: HostRuntime) -> Result<(), Fail> {
+    let rows: &[(&[u8], Option<Refusal>)] = &[
+        (b"1 $GET(^A)", None),
+        (b"001 HALT", None),
+        (b"2 $GET(^A)", Some(Refusal::BadJob)),
+        (b"12 HALT", Some(Refusal::BadJob)),
+        (b"2 FOO", Some(Refusal::BadLine)),
+        (b"1 $GET(^A,)", Some(Refusal::BadLine)),
+    ];
+    let job = Job::new(1)?;
+    for &(line, want) in rows {
+        assert_eq!(rt; refusal_of(rt.alloc(), job, line), want, "{line:?}");
     }
     Ok(())
 }

@@ -16,5 +16,5 @@ loop-level-preserved-in-Continue-1 c =
       level = c.level_after-level.ensures.left ∙ ap (level_after c.in-Ok.command) before.level ∙ sym (level_more 1 c.loop-level.block.commands.items c.in-Ok.command) ∙ sym (ap (level_behind 1) items);
       one = one_same 1 _ (c.loop-level.block.commands.items ++ c.in-Ok.command ∷ []) items (one_more 1 c.loop-level.block.commands.items c.in-Ok.command (omega (arith, before.level, c.loop-level-test.true)) before.one);
       rest = search rules;
-      asked = c.in_ok-add-in-Ok.ensures.asked (lines_of_script c.args.lines.now) before.asked c.in-Some.ensures.first (c.in-Ok.field-0-0, c.in-Ok.ensures.reading.0);
+      asked = c.in_ok-add-in-Ok.ensures.asked c.args.job (lines_of_script c.args.lines.now) before.asked c.in-Some.ensures.first c.in-Ok.ensures;
     }

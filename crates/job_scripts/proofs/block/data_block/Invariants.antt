@@ -3,8 +3,8 @@ use Rattle.std.specs.List.{All}
 use Rattle.command.specs.declared.request.Command.{Command}
 use Rattle.command.specs.declared.access.DataCommand.{DataCommand}
 use Rattle.command.specs.declared.request.Command.TheVariants.{Access}
-use Rattle.job_scripts.specs.Blocks.{Asks, AreInFront}
-use Rattle.job_scripts.specs.Lines.{lines_of_script}
+use Rattle.job_scripts.specs.Blocks.{AreInFront}
+use Rattle.job_scripts.specs.Lines.{lines_of_script, Asks}
 use Rattle.job_scripts.proofs.block.data_block.Given as goal
 
 -- each is a data command, there are not too many, and fewer lines are left
@@ -13,7 +13,7 @@ invariant-lines l = record {
   accesses : All (λ (c : Command). (d : DataCommand) × (c ≡ Access d)) l.block.commands.items;
   few : length l.block.places.items ≤ max 1 l.fn.most;
   rest : length l.block.rest.now ≤ length l.fn.lines;
-  asked : (line : List ℕ) → Asks line (Access l.fn.first) → AreInFront (line ∷ lines_of_script l.fn.lines) (lines_of_script l.block.rest.now) l.block.places.items l.block.commands.items;
+  asked : (line : List ℕ) → Asks l.fn.job line (Access l.fn.first) → AreInFront l.fn.job (line ∷ lines_of_script l.fn.lines) (lines_of_script l.block.rest.now) l.block.places.items l.block.commands.items;
 }
 
 abbrev pub decreases-lines : goal.decreases-lines

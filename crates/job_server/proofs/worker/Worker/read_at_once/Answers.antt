@@ -1,8 +1,8 @@
 use Rattle.std.proofs.Common.{◌≡◌, ◌∙◌, subst}
 use Rattle.std.proofs.lemmas.Result.{on_ok_weaker}
 use Rattle.job_scripts.specs.Lines.{lines_of_script}
-use Rattle.job_server.specs.Telling.{Running, running, sessions_so_far, Serves}
-use Rattle.job_server.proofs.GoingOn.{reads_serve}
+use Rattle.job_server.specs.Telling.{Running, running, sessions_so_far, Serves, Keeps}
+use Rattle.job_server.proofs.AtOnce.{reads_serve, reads_keep_all}
 use Rattle.job_server.proofs.worker.Worker.read_at_once.Goals as goal
 
 pub returns-in-Ok-clause-served : goal.returns-in-Ok-clause-served
@@ -17,4 +17,16 @@ returns-in-Ok-clause-served g c =
     on_ok_weaker c.note_block.result
     (λ is job lines in_front. subst (λ (x : Running). Serves job lines rest x new) same
     (reads_serve job lines rest block.places.items block.commands.items c.in-Ok.served.items replies c.note_block.new.replies.items books sessions.open c.read_block.new.session c.requires in_front c.in-Ok.ensures is))
+    c.note_block.ensures.replies
+
+pub returns-in-Ok-clause-keeps : goal.returns-in-Ok-clause-keeps
+returns-in-Ok-clause-keeps g c =
+    let block = c.args.block in
+    let sessions = c.run-inside.inside.0.0 in
+    let replies = c.run-inside.inside.0.1.0.items in
+    let books = sessions.passes.items in
+    let new = running c.note_block.new.replies.items (sessions_so_far books c.read_block.new.session) in
+    let same : running replies (sessions_so_far books sessions.open) ≡ c.args.run.now = (λ i. running (c.run-inside.view_is i).replies.items (c.run-inside.view_is i).sessions) ∙ c.run.view_is in
+    on_ok_weaker c.note_block.result
+    (λ is. subst (λ (x : Running). Keeps x new) same (reads_keep_all block.commands.items c.in-Ok.served.items replies c.note_block.new.replies.items books sessions.open c.read_block.new.session c.requires c.in-Ok.ensures))
     c.note_block.ensures.replies

@@ -3,7 +3,8 @@ use Rattle.std.specs.Prelude.{Result}
 use Rattle.std.proofs.lemmas.Result.{IfOk-weaker}
 use Rattle.refusal.specs.declared.Refusal.{Refusal}
 use Rattle.command.specs.declared.request.Command.{Command}
-use Rattle.job_server.specs.Telling.{IsAsked, MayGoOnAt}
+use Rattle.job_scripts.specs.Lines.{IsReadFor}
+use Rattle.job_server.specs.Telling.{MayGoOnAt}
 use Rattle.job_server.proofs.GoingOn.{asked_goes}
 use Rattle.job_server.proofs.worker.Worker.reply_asked.Goals as goal
 
@@ -13,7 +14,7 @@ returns-in-Ok g c =
     let line = c.args.line.now in
     let old = c.args.sessions.now in
     let new = c.reply_to.new.sessions in
-    let asks = subst (λ (a : Result Command Refusal). IsAsked job line a) c.in-Ok.is c.requires in
+    let asks = subst (λ (a : Result Command Refusal). IsReadFor job line a) c.in-Ok.is c.requires in
     IfOk-weaker c.reply_to.result _ _
     (λ reply h. subst (λ (a : Result Command Refusal). MayGoOnAt job line a reply old new) (sym c.in-Ok.is) (asked_goes job line c.in-Ok.command reply old new asks h))
     c.reply_to.ensures

@@ -2,7 +2,7 @@ use Rattle.std.proofs.Common.{◌≡◌, ◌∙◌, subst}
 use Rattle.std.proofs.lemmas.Result.{on_ok_weaker}
 use Rattle.job_scripts.specs.Lines.{lines_of_script}
 use Rattle.job_server.specs.Telling.{Running, running, sessions_so_far, Serves}
-use Rattle.job_server.proofs.GoingOn.{run_serves}
+use Rattle.job_server.proofs.AtOnce.{run_serves}
 use Rattle.job_server.proofs.worker.Worker.serve_at_once.Goals as goal
 
 pub returns-in-Ok-clause-served : goal.returns-in-Ok-clause-served

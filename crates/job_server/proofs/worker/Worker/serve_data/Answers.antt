@@ -1,7 +1,7 @@
 use Rattle.std.proofs.Common.{◌≡◌, ◌∙◌, refl}
 use Rattle.std.proofs.lemmas.Result.{IfOk-weaker, on_ok_weaker}
 use Rattle.job_server.specs.Telling.{running, sessions_so_far}
-use Rattle.job_server.proofs.GoingOn.{opened_advances, opened_keeps}
+use Rattle.job_server.proofs.AtOnce.{opened_advances, opened_keeps}
 use Rattle.job_server.proofs.worker.Worker.serve_data.Goals as goal
 
 pub returns-in-Ok-clause-on : goal.returns-in-Ok-clause-on

@@ -1,0 +1,117 @@
+-- Lines that are done under one hold of the engine's lock.
+use Rattle.std.proofs.Common.{◌≡◌, ◌≢◌, ℕ, ◌≤◌, false, List, ◌∷◌, ◌++◌, length, refl, sym, ap, ◌∙◌, subst, arith, true≢false}
+use Rattle.std.specs.Prelude.{Option, Some, None}
+use Rattle.std.specs.List.{All}
+use Rattle.refusal.specs.declared.Refusal.{Refusal}
+use Rattle.command.specs.declared.access.DataCommand.{DataCommand}
+use Rattle.command.specs.declared.request.Command.{Command}
+use Rattle.command.specs.declared.request.Command.TheVariants.{Access}
+use Rattle.command.specs.declared.request.Reply.{Reply}
+use Rattle.journal.specs.declared.unit.Unit.{Unit as JournalUnit}
+use Rattle.journal.specs.Kept.{Claim}
+use Rattle.journal.specs.Story.{Machine}
+use Rattle.shared_engine.specs.Receipts.{Book}
+use Rattle.shared_engine.specs.Sessions.{Held}
+use Rattle.shared_engine.specs.Blocks.{AreDone, IsReady, moved_open}
+use Rattle.job_scripts.specs.declared.block.Block.{Block}
+use Rattle.job_scripts.specs.Blocks.{in_place, AreInFront}
+use Rattle.job_scripts.specs.Lines.{lines_of_script}
+use Rattle.job_server.specs.declared.cursor.Cursor.{Cursor}
+use Rattle.job_server.specs.declared.cursor.Line.{Line}
+use Rattle.job_server.specs.Told.{IsToldIn, OneAsksFor, AreAskedFor, units_of, units_in, backs, others_of}
+use Rattle.job_server.specs.Telling.{is_open, StandsIn, sessions_so_far, GoesOnUntold, Running, running, Serves, Keeps, Advances, Reaches, ServesBlock, HasRun, HasReadAll, AreDataCommands, NoneAgain}
+use Rattle.job_server.proofs.Levels.{none_again, none_again_of_data}
+use Rattle.job_server.proofs.Doing.{HasTold, block_told, block_asks, block_grows, moved_stands, moved_job, moved_receipts, reads_keep}
+use Rattle.job_server.proofs.GoingBack.{backs_then, step_backs, moved_has_gone, moved_others}
+use Rattle.job_server.proofs.Granting.{moved_granted, same_within, kept_then}
+use Rattle.job_server.proofs.Asking.{asks_front}
+
+-- done from a session that stands so
+block_from : (job : ℕ) (before rest : List (List ℕ)) (places : List (Option Refusal)) (commands : List Command) (served replies more_replies : List Reply) (books : List Book) (units more : List JournalUnit) (old start new : Held)
+    → AreInFront job before rest places commands → start.receipts ≡ old.receipts → start.others ≡ old.others → ((s : Machine) → StandsIn job books (Some old) s → StandsIn job books (Some start) s) → AreDone commands served units more start new → NoneAgain commands served → more_replies ≡ replies ++ in_place places served
+    → Serves job before rest (running replies (sessions_so_far books (Some old))) (running more_replies (sessions_so_far books (Some new)))
+block_from job before rest places commands served replies more_replies books units more old start new in_front same others moves done never is = record {
+  lines_done = in_front.front;
+  their_replies = in_place places served;
+  split = in_front.split;
+  replied = is;
+  leads = λ s stands. (let from : StandsIn job books (Some start) s = moves s stands in
+      let n : ℕ = backs (others_of books) in
+      let h : HasTold job n (units_in books) in_front.front (in_place places served) s new = block_told job n (units_in books) in_front.front places commands served units more start new s in_front.asked done never from.1.0 from.1.1.0 from.1.1.1 in
+      record { machine = h.machine; led = h.led; replies_are = h.replies_are; stands = (from.0, (h.whose, (h.stands, h.gone))) });
+  asks = λ j all each asked.
+      block_asks job (units_in books) in_front.front places commands served units more start new in_front.asked done never j all
+      (λ c asks. each c (subst (λ (ls : List (List ℕ)). OneAsksFor job ls c) (sym in_front.split) (asks_front job in_front.front rest c asks)))
+      (subst (λ (cs : List Claim). AreAskedFor j all (units_in books ++ units_of cs)) (sym same) asked);
+  grows = step_backs books old new (subst (λ (cs : List Claim). backs (units_of cs) ≤ backs (units_of new.others)) others (block_grows commands served units more start new done never));
+}
+
+moved_on : (job : ℕ) (books : List Book) (units : List JournalUnit) (old : Held) (s : Machine) → IsReady old → StandsIn job books (Some old) s → StandsIn job books (Some (moved_open units old)) s
+moved_on job books units old s ready stands = (
+  stands.0,
+  (moved_job units old ∙ stands.1.0, (moved_stands (units_in books) units s old ready stands.1.1.0, (moved_has_gone (backs (others_of books)) units s old stands.1.1.1.0, moved_granted (backs (others_of books)) (units_in books) units s old stands.1.1.1.1))),
+)
+
+pub run_serves : (job : ℕ) (before rest : List (List ℕ)) (places : List (Option Refusal)) (commands : List Command) (served replies more_replies : List Reply) (books : List Book) (session later : Option Held) → AreInFront job before rest places commands
+    → HasRun commands served session later → more_replies ≡ replies ++ in_place places served → Serves job before rest (running replies (sessions_so_far books session)) (running more_replies (sessions_so_far books later))
+run_serves job before rest places commands served replies more_replies books None later in_front run is = absurd run
+run_serves job before rest places commands served replies more_replies books (Some old) None in_front run is = absurd run
+run_serves job before rest places commands served replies more_replies books (Some old) (Some new) in_front run is =
+    block_from job before rest places commands served replies more_replies books run.2 run.3 old (moved_open run.2 old) new in_front (moved_receipts run.2 old) (moved_others run.2 old) (λ s stands. moved_on job books run.2 old s run.0 stands) run.5 (none_again commands served run.2 run.3 old new run.1 run.5) is
+
+pub reads_serve : (job : ℕ) (before rest : List (List ℕ)) (places : List (Option Refusal)) (commands : List Command) (served replies more_replies : List Reply) (books : List Book) (session later : Option Held) → AreDataCommands commands → AreInFront job before rest places commands
+    → HasReadAll commands served session later → more_replies ≡ replies ++ in_place places served → Serves job before rest (running replies (sessions_so_far books session)) (running more_replies (sessions_so_far books later))
+reads_serve job before rest places commands served replies more_replies books None later all in_front reads is = absurd reads
+reads_serve job before rest places commands served replies more_replies books (Some old) None all in_front reads is = absurd reads
+reads_serve job before rest places commands served replies more_replies books (Some old) (Some new) all in_front reads is =
+    block_from job before rest places commands served replies more_replies books reads.1 reads.1 old old new in_front refl refl (λ s stands. stands) reads.3 (none_again_of_data commands served all) is
+
+-- reads of a transaction leave the receipts as they are
+pub reads_keep_all : (commands : List Command) (served replies more_replies : List Reply) (books : List Book) (session later : Option Held) → All (λ (c : Command). (d : DataCommand) × (c ≡ Access d)) commands → HasReadAll commands served session later
+    → Keeps (running replies (sessions_so_far books session)) (running more_replies (sessions_so_far books later))
+reads_keep_all commands served replies more_replies books None later all reads = absurd reads
+reads_keep_all commands served replies more_replies books (Some old) None all reads = absurd reads
+reads_keep_all commands served replies more_replies books (Some old) (Some new) all reads = λ before after. (
+  (λ ts h. subst (λ (cs : List Claim). IsToldIn ts (units_in books ++ units_of cs)) (sym same.1.0) h),
+  same_within (backs (others_of books)) (units_in books) old new same.1.0 same.1.1 same.0.1,
+)
+  where
+    same : ((new.state.level ≡ old.state.level) × (new.state.took_lock ≡ old.state.took_lock)) × ((new.receipts ≡ old.receipts) × (new.others ≡ old.others))
+    same = reads_keep commands served reads.1 reads.1 old new all reads.3 reads.0
+
+-- the lines of a block were done
+pub block_advances : (job : ℕ) (line : Line) (behind : Cursor) (block : Block) (old new : Running) → AreInFront job (line.text.now ∷ lines_of_script line.next.lines.now) (lines_of_script block.rest.now) block.places.items block.commands.items → length block.rest.now ≤ length line.next.lines.now
+    → behind.lines.now ≡ block.rest.now → ServesBlock block old new → Advances job line behind old new
+block_advances job line behind block old new in_front fewer same serves = record {
+  fewer = omega (arith, fewer, ap length same);
+  serves = subst (λ (l : List ℕ). Serves job (line.text.now ∷ lines_of_script line.next.lines.now) (lines_of_script l) old new) (sym same) (serves job (line.text.now ∷ lines_of_script line.next.lines.now) in_front);
+}
+
+pub block_reaches : (job : ℕ) (text : List ℕ) (behind : Cursor) (block : Block) (old new : Running) → AreInFront job (lines_of_script text) (lines_of_script block.rest.now) block.places.items block.commands.items → length block.rest.now ≤ length text → behind.lines.now ≡ block.rest.now
+    → ServesBlock block old new → Reaches job text behind old new
+block_reaches job text behind block old new in_front fewer same serves = record {
+  fewer = omega (arith, fewer, ap length same);
+  serves = subst (λ (l : List ℕ). Serves job (lines_of_script text) (lines_of_script l) old new) (sym same) (serves job (lines_of_script text) in_front);
+}
+
+-- no transaction was open before it
+pub closed_keeps : (old new : Running) → is_open old.sessions.session ≡ false → Keeps old new
+closed_keeps old new closed before = absurd (true≢false (sym before ∙ closed))
+
+-- a session was begun before it
+pub opened_advances : (job : ℕ) (line : Line) (behind : Cursor) (same old middle new : Running) → same ≡ old → middle.replies ≡ same.replies → GoesOnUntold job same.sessions middle.sessions → Advances job line behind middle new → Advances job line behind old new
+opened_advances job line behind same old middle new is replied opened h = subst (λ (x : Running). Advances job line behind x new) is (record {
+  fewer = h.fewer;
+  serves = record {
+    lines_done = h.serves.lines_done;
+    their_replies = h.serves.their_replies;
+    split = h.serves.split;
+    replied = h.serves.replied ∙ ap (λ (rs : List Reply). rs ++ h.serves.their_replies) replied;
+    leads = λ s stands. h.serves.leads s (opened.stands s stands);
+    asks = λ j all each asked. h.serves.asks j all each (opened.asks j all (λ c none. absurd none) asked);
+    grows = backs_then same.sessions middle.sessions new.sessions opened.grows h.serves.grows;
+  };
+})
+
+pub opened_keeps : (job : ℕ) (same old middle new : Running) → same ≡ old → GoesOnUntold job same.sessions middle.sessions → is_open middle.sessions.session ≡ is_open same.sessions.session → Keeps middle new → Keeps old new
+opened_keeps job same old middle new is opened stays keeps = subst (λ (x : Running). Keeps x new) is (λ before after. kept_then same.sessions middle.sessions new.sessions (opened.keeps before (stays ∙ before)) (keeps (stays ∙ before) after))
