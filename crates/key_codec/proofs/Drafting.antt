@@ -10,7 +10,7 @@ use Rattle.collation.specs.Reference.{Reference}
 use Rattle.collation.specs.Name.{is_name}
 use Rattle.collation.specs.Faults.{subscripts_fault, reference_fault, ends_open, closed_part}
 use Rattle.key_codec.specs.Key.{long_form, subscript_key, subscripts_key, key_of, IsFaultless}
-use Rattle.key_codec.specs.Draft.{IsDraft, longer, place_due, reference_due, place_of, open_fault}
+use Rattle.key_codec.specs.Draft.{IsDraft, longer, place_due, reference_due, place_of, open_fault, AreOfKey}
 use Rattle.key_codec.specs.laws.Draft.{ends_open-more, closed_part-more, closed_part-whole, fault-closed, fault-pushed, fault-opened, AreFaultless, faultless}
 use Rattle.key_codec.specs.declared.draft.KeyDraft.{KeyDraft}
 use Rattle.key_codec.proofs.Reading.{keys-push}
@@ -55,6 +55,40 @@ or_none : (a : Option Refusal) → option_or a None ≡ a
 or_none None = refl
 or_none (Some x) = refl
 
+-- ---- what is kept
+
+pub begun_key : (bytes word : List ℕ) → is_name word ≡ true → bytes ≡ word ++ 0 ∷ [] → AreOfKey bytes word
+begun_key bytes word n b = record { subscripts = []; form = record { name = n; subscripts = refl }; key = b }
+
+-- where nothing was added it is what it was
+held_on : (d e : KeyDraft) (r : Reference) → IsDraft d r → e.bytes.items ≡ d.bytes.items → is_name r.name ≡ true → AreOfKey e.bytes.items r.name
+held_on d e r is b n = let had : AreOfKey d.bytes.items r.name = is.held n in record { subscripts = had.subscripts; form = had.form; key = b ∙ had.key }
+
+-- where something was, the bytes are those of what is spelled, which is faultless
+added_key : (e : KeyDraft) (r : Reference) (s : List ℕ) → closed_part (r.subscripts ++ s ∷ []) ≡ r.subscripts ++ s ∷ [] → is_name r.name ≡ true → length (r.subscripts ++ s ∷ []) ≤ 31 → subscripts_fault (closed_part (r.subscripts ++ s ∷ [])) ≡ None
+    → e.bytes.items ≡ r.name ++ 0 ∷ subscripts_key long_form (closed_part (r.subscripts ++ s ∷ [])) → AreOfKey e.bytes.items r.name
+added_key e r s whole n few none b =
+    let within : nat_lt 31 (length (r.subscripts ++ s ∷ [])) ≡ false = grind (arith, nat_tests, few) in
+    record {
+      subscripts = r.subscripts ++ s ∷ [];
+      form = record { name = n; subscripts = rw within (ap subscripts_fault (sym whole) ∙ none) };
+      key = b ∙ ap (λ ss. r.name ++ 0 ∷ subscripts_key long_form ss) whole;
+    }
+
+held_more : (d e : KeyDraft) (r : Reference) (s : List ℕ) → IsDraft d r → closed_part (r.subscripts ++ s ∷ []) ≡ r.subscripts ++ s ∷ [] → e.fault ≡ subscripts_fault (closed_part (r.subscripts ++ s ∷ []))
+    → (31 < length (r.subscripts ++ s ∷ []) → 31 < e.count)
+    → (is_name r.name ≡ true → length (r.subscripts ++ s ∷ []) ≤ 31 → subscripts_fault (closed_part (r.subscripts ++ s ∷ [])) ≡ None → e.bytes.items ≡ r.name ++ 0 ∷ subscripts_key long_form (closed_part (r.subscripts ++ s ∷ [])))
+    → (31 < e.count → e.bytes.items ≡ d.bytes.items) → ((fault : Refusal) → e.fault ≡ Some fault → e.bytes.items ≡ d.bytes.items) → is_name r.name ≡ true → AreOfKey e.bytes.items r.name
+held_more d e r s is whole f over bytes many at_fault n = by_count (nat_lt 31 (length (r.subscripts ++ s ∷ []))) refl
+  where
+    by_fault : length (r.subscripts ++ s ∷ []) ≤ 31 → (o : Option Refusal) → e.fault ≡ o → AreOfKey e.bytes.items r.name
+    by_fault few None q = let none : subscripts_fault (closed_part (r.subscripts ++ s ∷ [])) ≡ None = sym f ∙ q in added_key e r s whole n few none (bytes n few none)
+    by_fault few (Some x) q = held_on d e r is (at_fault x q) n
+
+    by_count : (t : Bool) → nat_lt 31 (length (r.subscripts ++ s ∷ [])) ≡ t → AreOfKey e.bytes.items r.name
+    by_count true p = let long : 31 < length (r.subscripts ++ s ∷ []) = grind (arith, nat_tests) in held_on d e r is (many (over long)) n
+    by_count false p = let few : length (r.subscripts ++ s ∷ []) ≤ 31 = grind (arith, nat_tests) in by_fault few e.fault refl
+
 -- an empty one
 pub drafted_empty : (d e : KeyDraft) (r : Reference) (s : List ℕ) → (length s == 0) ≡ true → IsDraft d r → GoesOn d e → e.fault ≡ option_or d.fault (open_fault d.ends_open) → e.bytes.items ≡ d.bytes.items → e.ends_open ≡ (length s == 0) → IsDraft e (longer r s)
 drafted_empty d e r s empty is on f b o = record {
@@ -65,6 +99,8 @@ drafted_empty d e r s empty is on f b o = record {
   fault = f ∙ fault_before d r is ∙ sym (fault-opened r.subscripts s empty);
   bytes = λ n h none. b ∙ before d r s is n h (sym (fault-opened r.subscripts s empty) ∙ none)
       ∙ ap (λ ss. r.name ++ 0 ∷ subscripts_key long_form ss) (sym (closed_part-more r.subscripts s ∙ ap (λ t. cond t r.subscripts (r.subscripts ++ s ∷ [])) empty));
+  nameless = λ n. b ∙ is.nameless n;
+  held = held_on d e r is b;
 }
 
 -- one that is too long
@@ -75,8 +111,8 @@ or_some : (a : Option Refusal) (x : Refusal) → option_or a (Some x) ≡ None �
 or_some None x e = cc
 or_some (Some y) x e = cc
 
-pub drafted_long : (d e : KeyDraft) (r : Reference) (s : List ℕ) → (length s == 0) ≡ false → limit < length s → IsDraft d r → GoesOn d e → e.fault ≡ option_or (option_or d.fault (open_fault d.ends_open)) (Some SubscriptTooLong) → e.ends_open ≡ (length s == 0) → IsDraft e (longer r s)
-drafted_long d e r s some long is on f o =
+pub drafted_long : (d e : KeyDraft) (r : Reference) (s : List ℕ) → (length s == 0) ≡ false → limit < length s → IsDraft d r → GoesOn d e → e.fault ≡ option_or (option_or d.fault (open_fault d.ends_open)) (Some SubscriptTooLong) → e.bytes.items ≡ d.bytes.items → e.ends_open ≡ (length s == 0) → IsDraft e (longer r s)
+drafted_long d e r s some long is on f b o =
     let due : subscripts_fault (closed_part (r.subscripts ++ s ∷ [])) ≡ option_or (option_or (subscripts_fault (closed_part r.subscripts)) (open_fault (ends_open r.subscripts))) (Some SubscriptTooLong) =
     fault-pushed r.subscripts s some ∙ ap (option_or (option_or (subscripts_fault (closed_part r.subscripts)) (open_fault (ends_open r.subscripts)))) (long_fault s some long) in
     record {
@@ -86,6 +122,8 @@ drafted_long d e r s some long is on f o =
       open_end = o ∙ sym (ends_open-more r.subscripts s);
       fault = f ∙ ap (λ t. option_or t (Some SubscriptTooLong)) (fault_before d r is) ∙ sym due;
       bytes = λ n h none. absurd (or_some _ _ (sym due ∙ none));
+      nameless = λ n. b ∙ is.nameless n;
+      held = held_on d e r is b;
     }
 
 -- any other
@@ -93,23 +131,28 @@ good_fault : (s : List ℕ) → (length s == 0) ≡ false → length s ≤ limit
 good_fault s some h = let within : nat_lt limit (length s) ≡ false = grind (arith, nat_tests) in rw (some, within) refl
 
 pub drafted_good : (d e : KeyDraft) (r : Reference) (s : List ℕ) → (length s == 0) ≡ false → length s ≤ limit → IsDraft d r → GoesOn d e → e.fault ≡ option_or d.fault (open_fault d.ends_open) → e.ends_open ≡ (length s == 0)
-    → (e.is_name ≡ true → e.count ≤ 31 → e.fault ≡ None → e.bytes.items ≡ d.bytes.items ++ subscript_key long_form s) → IsDraft e (longer r s)
-drafted_good d e r s some short is on f o b =
+    → (e.is_name ≡ true → e.count ≤ 31 → e.fault ≡ None → e.bytes.items ≡ d.bytes.items ++ subscript_key long_form s)
+    → (e.is_name ≡ false → e.bytes.items ≡ d.bytes.items) → (31 < e.count → e.bytes.items ≡ d.bytes.items) → ((fault : Refusal) → e.fault ≡ Some fault → e.bytes.items ≡ d.bytes.items) → IsDraft e (longer r s)
+drafted_good d e r s some short is on f o b nameless many at_fault =
     let due : subscripts_fault (closed_part (r.subscripts ++ s ∷ [])) ≡ option_or (subscripts_fault (closed_part r.subscripts)) (open_fault (ends_open r.subscripts)) =
     fault-pushed r.subscripts s some ∙ ap (option_or (option_or (subscripts_fault (closed_part r.subscripts)) (open_fault (ends_open r.subscripts)))) (good_fault s some short) ∙ or_none _ in
     let whole : closed_part (r.subscripts ++ s ∷ []) ≡ r.subscripts ++ s ∷ [] = closed_part-more r.subscripts s ∙ ap (λ t. cond t r.subscripts (r.subscripts ++ s ∷ [])) some in
+    let fault : e.fault ≡ subscripts_fault (closed_part (r.subscripts ++ s ∷ [])) = f ∙ fault_before d r is ∙ sym due in
+    let bytes : is_name r.name ≡ true → length (r.subscripts ++ s ∷ []) ≤ 31 → subscripts_fault (closed_part (r.subscripts ++ s ∷ [])) ≡ None → e.bytes.items ≡ r.name ++ 0 ∷ subscripts_key long_form (closed_part (r.subscripts ++ s ∷ [])) = λ n h none.
+    let count : e.count ≡ length (r.subscripts ++ s ∷ []) = few_more d e r s is on h in
+    b (on.name ∙ is.name ∙ n) (omega (arith, count, h)) (fault ∙ none)
+    ∙ ap (λ t. t ++ subscript_key long_form s) (before d r s is n h (sym due ∙ none))
+    ∙ append_assoc r.name (0 ∷ subscripts_key long_form r.subscripts) (subscript_key long_form s)
+    ∙ ap (λ t. r.name ++ 0 ∷ t) (sym (keys-push r.subscripts s) ∙ ap (subscripts_key long_form) (sym whole)) in
     record {
       name = on.name ∙ is.name;
       few = few_more d e r s is on;
       many = many_more d e r s is on;
       open_end = o ∙ sym (ends_open-more r.subscripts s);
-      fault = f ∙ fault_before d r is ∙ sym due;
-      bytes = λ n h none.
-          let count : e.count ≡ length (r.subscripts ++ s ∷ []) = few_more d e r s is on h in
-          b (on.name ∙ is.name ∙ n) (omega (arith, count, h)) (f ∙ fault_before d r is ∙ sym due ∙ none)
-          ∙ ap (λ t. t ++ subscript_key long_form s) (before d r s is n h (sym due ∙ none))
-          ∙ append_assoc r.name (0 ∷ subscripts_key long_form r.subscripts) (subscript_key long_form s)
-          ∙ ap (λ t. r.name ++ 0 ∷ t) (sym (keys-push r.subscripts s) ∙ ap (subscripts_key long_form) (sym whole));
+      fault = fault;
+      bytes = bytes;
+      nameless = λ n. nameless (on.name ∙ is.name ∙ n) ∙ is.nameless n;
+      held = held_more d e r s is whole fault (many_more d e r s is on) bytes many at_fault;
     }
 
 pub on_ok : {T E : Type 0} (r : Result T E) (P Q : Type 0) → (P → Q) → OnOk r P → OnOk r Q

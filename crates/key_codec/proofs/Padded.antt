@@ -11,7 +11,7 @@ use Rattle.std.specs.declared.cmp.Ordering.{Ordering}
 use Rattle.std.specs.declared.cmp.Ordering.TheVariants.{Less, Equal, Greater}
 
 -- zeros stand before any string of their length, or are it
-zeros_first : (n : ℕ) (ys : List ℕ) → length ys ≡ n → (slice_cmp nat_cmp (replicate n 0) ys ≡ Less) ⊎ (slice_cmp nat_cmp (replicate n 0) ys ≡ Equal)
+pub zeros_first : (n : ℕ) (ys : List ℕ) → length ys ≡ n → (slice_cmp nat_cmp (replicate n 0) ys ≡ Less) ⊎ (slice_cmp nat_cmp (replicate n 0) ys ≡ Equal)
 zeros_first zero [] same = inr refl
 zeros_first zero (y ∷ ys) same = absurd (omega (arith, same))
 zeros_first (suc n) [] same = absurd (omega (arith, same))

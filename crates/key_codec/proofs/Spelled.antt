@@ -117,7 +117,7 @@ pub eight : (xs ys : List ℕ) → length xs ≡ 8 → length ys ≡ 8 → AreBy
 eight xs ys long wide first second =
     (λ i. nat_cmp (spelt xs long i) (spelt ys wide i)) ∙ as_numbers 0 xs ys (omega (arith, long, wide)) first second
 
-level_lists : (xs : List ℕ) → slice_cmp nat_cmp xs xs ≡ Equal
+pub level_lists : (xs : List ℕ) → slice_cmp nat_cmp xs xs ≡ Equal
 level_lists [] = refl
 level_lists (x ∷ xs) = then_equal (nat_cmp x x) (slice_cmp nat_cmp xs xs) (level x x refl) ∙ level_lists xs
 
@@ -133,7 +133,7 @@ eight_more n xs ys same level =
     let alike = slice_cmp-IsAntisymmetric nat_cmp-IsAntisymmetric (take 8 (drop n xs)) (take 8 (drop n ys)) level in
     take-add n 8 xs ∙ (λ i. same i ++ alike i) ∙ sym (take-add n 8 ys)
 
-first_decides : (r t : Ordering) → (r ≡ Equal → ⊥) → r ≡ ordering_then r t
+pub first_decides : (r t : Ordering) → (r ≡ Equal → ⊥) → r ≡ ordering_then r t
 first_decides Less t unequal = refl
 first_decides Equal t unequal = absurd (unequal refl)
 first_decides Greater t unequal = refl
@@ -149,7 +149,7 @@ eight_decide n xs ys r long wide same is unequal =
     ∙ sym (behind_equal n xs ys (omega (arith, long)) (omega (arith, wide)) same)
 
 -- what is equal so far is equal less far
-take_take : (n k : ℕ) (xs : List ℕ) → n ≤ length xs → take n (take (n + k) xs) ≡ take n xs
+pub take_take : (n k : ℕ) (xs : List ℕ) → n ≤ length xs → take n (take (n + k) xs) ≡ take n xs
 take_take n k xs long =
     let all = length-take-le n xs long in
     ap (take n) (take-add n k xs) ∙ take-append-le n (take n xs) (take k (drop n xs)) (omega (arith, all)) ∙ take_all n (take n xs) (omega (arith, all))

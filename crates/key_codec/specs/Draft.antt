@@ -1,5 +1,5 @@
 -- What a draft of a key keeps of the reference or place that is read.
-use Rattle.std.specs.Prelude.{◌≡◌, Bool, ◌⊎◌, ℕ, ◌<◌, ◌≤◌, true, if◌then◌else◌, Option, None, Some, is_some, IfSome, List, [], ◌∷◌, ◌++◌, length}
+use Rattle.std.specs.Prelude.{◌≡◌, Bool, ◌⊎◌, ℕ, ◌<◌, ◌≤◌, true, false, if◌then◌else◌, Option, None, Some, is_some, IfSome, List, [], ◌∷◌, ◌++◌, length}
 use Rattle.refusal.specs.declared.Refusal.{Refusal}
 use Rattle.refusal.specs.declared.Refusal.TheVariants.{BadName, EmptySubscript, OutOfMemory}
 use Rattle.canonic_number.specs.Number.{is_canonic}
@@ -9,7 +9,7 @@ use Rattle.collation.specs.Limits.{most_subscripts}
 use Rattle.collation.specs.Reference.{Reference, Spot}
 use Rattle.collation.specs.Name.{is_name}
 use Rattle.collation.specs.Faults.{subscripts_fault, reference_fault, place_fault, ends_open, closed_part}
-use Rattle.key_codec.specs.Key.{long_form, subscripts_key, key_of}
+use Rattle.key_codec.specs.Key.{long_form, subscripts_key, key_of, IsFaultless}
 use Rattle.key_codec.specs.declared.draft.KeyDraft.{KeyDraft}
 
 -- the reference with one subscript more
@@ -20,7 +20,14 @@ longer r s = record { name = r.name; subscripts = r.subscripts ++ s ∷ [] }
 abbrev pub open_fault : Bool → Option Refusal
 open_fault is_open = if is_open then Some EmptySubscript else None
 
--- the draft of what is spelled so: an empty last subscript is told apart, and the bytes are there where nothing is at fault
+-- the bytes are those of a faultless key of this name, so of 31 subscripts at most
+pub record AreOfKey (bytes name : List ℕ) : Type 0 where
+  pub subscripts : List (List ℕ)
+  pub form : IsFaultless (record { name = name; subscripts = subscripts })
+  pub key : bytes ≡ key_of (record { name = name; subscripts = subscripts })
+
+-- the draft of what is spelled so: an empty last subscript is told apart, and the bytes are there where nothing is at fault;
+-- of a word that is no name nothing is kept, and of what is at fault never more than one key
 pub record IsDraft (d : KeyDraft) (r : Reference) : Type 0 where
   pub name : d.is_name ≡ is_name r.name
   pub few : length r.subscripts ≤ most_subscripts → d.count ≡ length r.subscripts
@@ -28,6 +35,8 @@ pub record IsDraft (d : KeyDraft) (r : Reference) : Type 0 where
   pub open_end : d.ends_open ≡ ends_open r.subscripts
   pub fault : d.fault ≡ subscripts_fault (closed_part r.subscripts)
   pub bytes : is_name r.name ≡ true → length r.subscripts ≤ most_subscripts → subscripts_fault (closed_part r.subscripts) ≡ None → d.bytes.items ≡ r.name ++ 0 ∷ subscripts_key long_form (closed_part r.subscripts)
+  pub nameless : is_name r.name ≡ false → d.bytes.items ≡ []
+  pub held : is_name r.name ≡ true → AreOfKey d.bytes.items r.name
 
 -- what was judged of a subscript: its parts where it is a canonic number, else none
 pub record IsJudged (subscript : List ℕ) (number : Option NumberParts) : Type 0 where

@@ -1,10 +1,10 @@
 //! Strings of bytes, of which the short ones lie in the value itself.
-ghost use Rattle.std.specs.Prelude.{◌≡◌, ◌+◌, ◌≤◌, ◌++◌, length, take, drop, IfOk, IsOk};
-ghost use Rattle.std.specs.Ordering.{nat_cmp};
+ghost use Rattle.std.specs.Prelude.{◌≡◌, ℕ, ◌+◌, ◌≤◌, ◌++◌, length, take, drop, IfOk, IsOk};
+ghost use Rattle.std.specs.Ordering.{nat_cmp, is_le};
 ghost use Rattle.std.specs.Cmp.Lexicographic.{slice_cmp};
 ghost use Rattle.key_codec.specs.Held.{IsFilled};
 
-use crate::order::{compare, compare_eight};
+use crate::order::{before_past, compare, compare_eight, eight_before_past};
 use std::alloc::{AllocError, Global};
 use std::cmp::Ordering;
 use std::marker::Model;
@@ -103,6 +103,34 @@ fn compare_rooms(first: &[u8; 38], second: &[u8; 38]) -> Ordering
     compare_eight(&eight_at(first, 30), &eight_at(second, 30))
 }
 
+// Whether the first so many bytes of one room, as many as are counted, compare less than or equal to those of the other.
+fn room_before_past(first: &[u8; 38], second: &[u8; 38], len: usize) -> bool
+    requires { len ≤ 38 }
+    ensures { result ≡ is_le (slice_cmp nat_cmp (take len first.now) (take len second.now)) }
+{
+    for word in 0..4usize {
+        let here = eight_at(first, 8 * word);
+        let there = eight_at(second, 8 * word);
+        match compare_eight(&here, &there) {
+            Ordering::Equal => {}
+            _ => return eight_before_past(&here, &there, len.saturating_sub(8 * word)),
+        }
+    }
+    eight_before_past(
+        &eight_at(first, 30),
+        &eight_at(second, 30),
+        len.saturating_sub(30),
+    )
+}
+
+// The same of bytes in the value: the zeros after the shorter ones don't decide.
+fn short_before_past(room: &[u8; 38], root_len: u8, root: &[u8; 38]) -> bool
+    requires { IsFilled root_len root.now }
+    ensures { (len : ℕ) → IsFilled len room.now → result ≡ is_le (slice_cmp nat_cmp (take (length (take root_len root.now)) (take len room.now)) (take root_len root.now)) }
+{
+    room_before_past(room, root, root_len as usize)
+}
+
 // Rooms compare as the bytes in them, since both are zeros after these: where the rooms are equal, the shorter bytes
 // stand first.
 fn compare_short(len: u8, room: &[u8; 38], other_len: u8, other_room: &[u8; 38]) -> Ordering
@@ -172,6 +200,18 @@ impl KeyBytes {
                 compare_short(*len, room, *other_len, other_room)
             }
             _ => compare(self.as_slice(), other.as_slice()),
+        }
+    }
+
+    /// Whether the bytes begin with the root's or stand before them.
+    pub(crate) fn stand_before_past(&self, root: &KeyBytes) -> bool
+        ensures { result ≡ is_le (slice_cmp nat_cmp (take (length root.now) self.now) root.now) }
+    {
+        match (&self.held, &root.held) {
+            (Held::Short(_, room), Held::Short(root_len, root_room)) => {
+                short_before_past(room, *root_len, root_room)
+            }
+            _ => before_past(self.as_slice(), root.as_slice()),
         }
     }
 }

@@ -1,6 +1,7 @@
 //! Keys while their references are read, subscript by subscript.
 ghost use Rattle.std.specs.Prelude.{◌≡◌, ◌<◌, ◌≤◌, ◌++◌, ◌+◌, [], IfErr, IfOk, None, Some, OnOk, false, true};
 ghost use Rattle.std.specs.Option.{option_or};
+ghost use Rattle.refusal.specs.declared.Refusal.{Refusal as RefusalView};
 ghost use Rattle.collation.specs.Limits.{most_subscripts};
 ghost use Rattle.collation.specs.Reference.{Reference};
 ghost use Rattle.key_codec.specs.Key as spec;
@@ -16,7 +17,8 @@ use std::alloc::{AllocError, Global};
 
 /// A reference or place while it is read, as key bytes in a buffer that serves for the next one too.
 ///
-/// Contracts speak of what has been spelled, whatever faults it has (`IsDraft` of `specs/Draft.antt`).
+/// Contracts speak of what has been spelled, whatever faults it has (`IsDraft` of `specs/Draft.antt`). However much is
+/// spelled, it keeps no more bytes than one key has.
 #[derive(Debug, Drop)]
 pub struct KeyDraft {
     bytes: Vec<u8>,
@@ -39,6 +41,7 @@ impl KeyDraft {
     }
 
     /// Begins anew, with a name word. A word that is no name isn't kept.
+    #[tactic(auto, using(crate::proofs::Drafting::begun_key))]
     pub fn begin(&mut self, word: &[u8]) -> Result<(), AllocError>
         ensures { OnOk result (IsDraft self.new (record { name = word.now; subscripts = [] })) }
     {
@@ -82,10 +85,13 @@ impl KeyDraft {
         }
     }
 
-    // Adds a subscript's key, where nothing is at fault.
+    // Adds a subscript's key, where nothing is at fault; else keeps nothing of it.
     fn add(&mut self, subscript: &[u8], number: Option<NumberParts<'_>>) -> Result<(), AllocError>
         requires form { IsSubscriptWithin long_form subscript.now }
         requires judged { IsJudged subscript.now number }
+        ensures nameless { self.old.is_name ≡ false → self.new.bytes ≡ self.old.bytes }
+        ensures many { most_subscripts < self.old.count → self.new.bytes ≡ self.old.bytes }
+        ensures at_fault { (fault : RefusalView) → self.old.fault ≡ Some fault → self.new.bytes ≡ self.old.bytes }
         ensures bytes { OnOk result (self.old.is_name ≡ true → self.old.count ≤ most_subscripts → self.old.fault ≡ None → self.new.bytes.items ≡ self.old.bytes.items ++ spec.subscript_key long_form subscript.now) }
         ensures fault { self.new.fault ≡ self.old.fault }
         ensures count { self.new.count ≡ self.old.count }

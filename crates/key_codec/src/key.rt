@@ -5,7 +5,7 @@ ghost use Rattle.collation.specs.Reference.{Reference};
 ghost use Rattle.collation.specs.Name.{is_name};
 ghost use Rattle.collation.specs.Database.{is_under as is_under_spec};
 ghost use Rattle.collation.specs.Answers.{moved as moved_spec};
-ghost use Rattle.collation.specs.Levels.{child_of};
+ghost use Rattle.collation.specs.Levels.{is_before};
 ghost use Rattle.key_codec.specs.Back.{reference_of};
 ghost use Rattle.key_codec.specs.Kept.{Keeps};
 ghost use Rattle.key_codec.specs.Key as spec;
@@ -15,7 +15,7 @@ use crate::END;
 use crate::bytes::KeyBytes;
 use crate::count::{count_subscripts, past_subscripts};
 use crate::read::{read_reference, split_at_end};
-use crate::shown::{KeySubscripts, first_child, subscripts_of};
+use crate::shown::{KeySubscripts, subscripts_of};
 use crate::write::{most_subscript_bytes, push_subscript, roomy_copy, write_key};
 use collation::{MOST_SUBSCRIPTS, Ref, Text};
 use refusal::Refusal;
@@ -168,14 +168,11 @@ impl Key {
         self.behind(root).is_some()
     }
 
-    /// The subscript under the other reference on the way to this one; none where this isn't a descendant of it.
-    pub fn child_under(&self, alloc: Global, parent: &Key) -> Result<Option<Text>, AllocError>
-        ensures { IfOk result (λ child. child ≡ child_of parent.now self.now) }
+    /// Whether the reference stands before the end of all that is the root or under it: one comparison of the bytes.
+    pub fn stands_before_past(&self, root: &Key) -> bool
+        ensures { result ≡ is_before true root.now self.now }
     {
-        let Some(rest) = self.behind(parent) else {
-            return Ok(None);
-        };
-        first_child(alloc, rest)
+        self.bytes.stand_before_past(&root.bytes)
     }
 
     /// The reference that stands to `to` as this one, at or under `from`, stands to `from`.

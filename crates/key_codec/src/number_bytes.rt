@@ -58,7 +58,7 @@ pub(crate) fn push_digits(out: &mut Vec<u8>, negative: bool, bytes: &[u8]) -> Re
 }
 
 // Above zero byte + 47, written so that no byte makes it overflow.
-fn digit_of(negative: bool, byte: u8) -> u8
+pub(crate) fn digit_of(negative: bool, byte: u8) -> u8
     ensures { result ≡ reading.digit_of negative byte }
 {
     if negative {

@@ -1,18 +1,19 @@
 //! The subscripts of a key, one after another, as its bytes show them.
-ghost use Rattle.std.specs.Prelude.{◌≡◌, ◌∷◌, ◌++◌, List, ℕ, IfOk, IfSome, OnOk, false, length};
-ghost use Rattle.canonic_number.specs.Number.{is_canonic};
+ghost use Rattle.std.specs.Prelude.{◌≡◌, ◌≤◌, ◌∷◌, ◌++◌, List, ℕ, IfOk, IfSome, OnOk, false, length, map};
+ghost use Rattle.canonic_number.specs.Number.{is_canonic, scale};
+ghost use Rattle.canonic_number.specs.Place.{pointed, written_at};
 ghost use Rattle.collation.specs.Levels.{without_last};
 ghost use Rattle.key_codec.specs.Grown.{GoesOnFrom};
 ghost use Rattle.key_codec.specs.Key.{long_form, subscripts_key, AreSubscriptsWithin};
 ghost use Rattle.key_codec.specs.Back.{first_subscript_of, first_number as first_number_spec, subscripts_up_to, unescaped};
-ghost use Rattle.key_codec.specs.Reading.{tag_of};
+ghost use Rattle.key_codec.specs.Reading.{tag_of, digit_of as digit_of_byte};
 ghost use Rattle.key_codec.specs.Shown.{HasFirst, AreKeys, first};
 
 use crate::escapes::push_unescaped;
-use crate::number_bytes::{place_from, push_number};
+use crate::number_bytes::{digit_of, place_from, push_number};
 use crate::read::split_at_end;
 use crate::read_subscript::{end_of, take_byte, take_word};
-use crate::{ABOVE_ZERO, BELOW_ZERO, END, TEXT, ZERO};
+use crate::{ABOVE_ZERO, BELOW_ZERO, END, MOST_FRACTION_DIGITS, TEXT, ZERO};
 use collation::Text;
 use std::alloc::{AllocError, Global};
 use std::marker::Model;
@@ -102,10 +103,42 @@ impl KeySubscript<'_> {
     }
 }
 
+// A whole number above zero with so many digits, of which those that aren't in the bytes are zeros. It takes no memory:
+// so many bytes lie in the text.
+fn small_whole(alloc: Global, whole: usize, digits: &[u8]) -> Result<Text, AllocError>
+    requires small { whole ≤ 14 }
+    requires all { length digits.now ≤ whole }
+    ensures { IfOk result (λ text. text ≡ pointed whole (map (digit_of_byte false) digits.now)) }
+{
+    let mut room = [b'0'; 14];
+    for at in 0..digits.len() {
+        room[at] = digit_of(false, digits[at]);
+    }
+    Text::from_slice(alloc, &room[..whole])
+}
+
+// A number above zero by the place of its point and the bytes of its digits.
+fn above_zero(alloc: Global, place: usize, digits: &[u8]) -> Result<Text, AllocError>
+    ensures { IfOk result (λ text. text ≡ written_at scale place (map (digit_of_byte false) digits.now)) }
+{
+    if place > MOST_FRACTION_DIGITS {
+        let whole = place - MOST_FRACTION_DIGITS;
+        if whole <= 14 && digits.len() <= whole {
+            return small_whole(alloc, whole, digits);
+        }
+    }
+    let mut draft = Vec::new(alloc);
+    push_number(&mut draft, false, place, digits)?;
+    Text::from_slice(alloc, draft.as_slice())
+}
+
 // The bytes, written out.
 fn text_of(alloc: Global, subscript: &KeySubscript<'_>) -> Result<Text, AllocError>
     ensures { IfOk result (λ text. text ≡ subscript.now) }
 {
+    if let Shown::Number(false, word, digits) = subscript.shown {
+        return above_zero(alloc, place_from(false, word), digits);
+    }
     let mut draft = Vec::new(alloc);
     subscript.push_to(&mut draft)?;
     Text::from_slice(alloc, draft.as_slice())

@@ -1,5 +1,5 @@
 //! The key of a reference.
-ghost use Rattle.std.specs.Prelude.{◌≡◌, ◌<◌, ◌≤◌, ◌++◌, ◌-◌, IfErr, IfOk, OnOk, None, map, nat_lt};
+ghost use Rattle.std.specs.Prelude.{◌≡◌, ◌<◌, ◌≤◌, ◌+◌, ◌++◌, ◌-◌, length, vec_len, vec_capacity, IfErr, IfOk, OnOk, None, map, nat_lt};
 ghost use Rattle.std.specs.List.{list_all};
 ghost use Rattle.canonic_number.specs.Number.{limit, scale};
 ghost use Rattle.collation.specs.Faults.{reference_fault, subscripts_fault};
@@ -120,22 +120,79 @@ fn push_number(key: &mut Vec<u8>, number: &NumberParts<'_>) -> Result<(), AllocE
     ensures { OnOk result (key.new.items ≡ key.old.items ++ parts_key long_form number.now) }
 {
     let place = number.whole + MOST_FRACTION_DIGITS - number.zeros;
+    let Some(room) = (number.first.len() + number.second.len()).checked_add(4) else {
+        return Err(AllocError);
+    };
+    make_room(key, room)?;
     if number.first.is_empty() && number.second.is_empty() {
-        key.push(ZERO)?;
+        key.push_reserved(ZERO);
     } else if number.negative {
-        key.push(BELOW_ZERO)?;
-        push_word(key, 2 * MOST_FRACTION_DIGITS + 1 - place)?;
-        push_falling(key, number.first)?;
-        push_falling(key, number.second)?;
-        key.push(END_BELOW_ZERO)?;
+        key.push_reserved(BELOW_ZERO);
+        put_word(key, 2 * MOST_FRACTION_DIGITS + 1 - place);
+        put_falling(key, number.first);
+        put_falling(key, number.second);
+        key.push_reserved(END_BELOW_ZERO);
     } else {
-        key.push(ABOVE_ZERO)?;
-        push_word(key, place + 2)?;
-        push_rising(key, number.first)?;
-        push_rising(key, number.second)?;
-        key.push(END_ABOVE_ZERO)?;
+        key.push_reserved(ABOVE_ZERO);
+        put_word(key, place + 2);
+        put_rising(key, number.first);
+        put_rising(key, number.second);
+        key.push_reserved(END_ABOVE_ZERO);
     }
     Ok(())
+}
+
+#[inline(never)]
+fn grow(key: &mut Vec<u8>, more: usize) -> Result<(), AllocError>
+    ensures items { key.new.items ≡ key.old.items }
+    ensures room { OnOk result (vec_len key.new + more ≤ vec_capacity key.new) }
+{
+    key.reserve(more)
+}
+
+// Room for so many bytes more.
+fn make_room(key: &mut Vec<u8>, more: usize) -> Result<(), AllocError>
+    ensures items { key.new.items ≡ key.old.items }
+    ensures room { OnOk result (vec_len key.new + more ≤ vec_capacity key.new) }
+{
+    if more <= key.capacity() - key.len() {
+        return Ok(());
+    }
+    grow(key, more)
+}
+
+// The two bytes of a number, the higher first, where there is room for them.
+fn put_word(key: &mut Vec<u8>, word: usize)
+    requires word { word < 65536 }
+    requires room { vec_len key.old + 2 ≤ vec_capacity key.old }
+    ensures items { key.new.items ≡ key.old.items ++ spec.two_bytes word }
+    ensures len { vec_len key.new ≡ vec_len key.old + 2 }
+    ensures capacity { vec_capacity key.old ≤ vec_capacity key.new }
+{
+    key.push_reserved((word / 256) as u8);
+    key.push_reserved((word % 256) as u8);
+}
+
+fn put_rising(key: &mut Vec<u8>, digits: &[u8])
+    requires { vec_len key.old + length digits.now ≤ vec_capacity key.old }
+    ensures items { key.new.items ≡ key.old.items ++ map (λ d. d - 47) digits.now }
+    ensures len { vec_len key.new ≡ vec_len key.old + length digits.now }
+    ensures capacity { vec_capacity key.old ≤ vec_capacity key.new }
+{
+    for digit in digits {
+        key.push_reserved(digit.saturating_sub(47));
+    }
+}
+
+fn put_falling(key: &mut Vec<u8>, digits: &[u8])
+    requires { vec_len key.old + length digits.now ≤ vec_capacity key.old }
+    ensures items { key.new.items ≡ key.old.items ++ map (λ d. 58 - d) digits.now }
+    ensures len { vec_len key.new ≡ vec_len key.old + length digits.now }
+    ensures capacity { vec_capacity key.old ≤ vec_capacity key.new }
+{
+    for digit in digits {
+        key.push_reserved(58_u8.saturating_sub(*digit));
+    }
 }
 
 // The two bytes of a number, the higher first.
