@@ -1,5 +1,5 @@
 -- Which references stand before a cut, and which members of a database stand next to it.
-use Rattle.std.specs.Prelude.{◌++◌, ◌≡◌, ◌≤◌, length, ℕ, Bool, true, false, not, ◌&&◌, List, Option, [], ◌∷◌, filter, if◌then◌else◌}
+use Rattle.std.specs.Prelude.{◌++◌, ◌≡◌, ◌≤◌, length, ℕ, Bool, true, false, not, ◌&&◌, List, Option, None, Some, [], ◌∷◌, filter, if◌then◌else◌}
 use Rattle.std.specs.Ordering.{is_lt}
 use Rattle.std.specs.FinMap as finmap
 use Rattle.collation.specs.Reference.{Reference, Spot}
@@ -24,6 +24,26 @@ stands_before Start x = false
 stands_before (Before r) x = is_lt (ref_cmp x r.now)
 stands_before (After r) x = not (is_lt (ref_cmp r.now x))
 stands_before (Past r) x = is_before true r.now x
+
+-- x stands before the end, where there is one
+abbrev pub stands_within : Option Cut → Reference → Bool
+stands_within None x = true
+stands_within (Some end) x = stands_before end x
+
+-- x stands before the floor, where there is one
+abbrev pub stands_under : Option Cut → Reference → Bool
+stands_under None x = false
+stands_under (Some floor) x = stands_before floor x
+
+-- the members before the end, where there is one
+abbrev pub up_to : Option Cut → Database → Database
+up_to None m = m
+up_to (Some end) m = finmap.from_sorted (filter (λ e. stands_before end e.0) (finmap.entries m))
+
+-- the members that don't stand before the floor, where there is one
+abbrev pub down_to : Option Cut → Database → Database
+down_to None m = m
+down_to (Some floor) m = finmap.from_sorted (filter (λ e. not (stands_before floor e.0)) (finmap.entries m))
 
 -- the first member that doesn't stand before the cut
 abbrev pub first_from_cut : Cut → Database → Option (Reference × List ℕ)
@@ -52,10 +72,20 @@ query_start false p x = is_before p.is_open p.reference x
 abbrev pub entries_from : Cut → Database → List (Reference × List ℕ)
 entries_from cut m = filter (λ e. not (stands_before cut e.0)) (finmap.entries m)
 
--- the beginning of a list of entries that is at or under r
+-- the beginning of a list that is at or under r
 abbrev pub front_under : Reference → List (Reference × List ℕ) → List (Reference × List ℕ)
 front_under r [] = []
 front_under r (e ∷ es) = if is_under r e.0 then e ∷ front_under r es else []
+
+-- the beginning of a list that stands before the end
+abbrev pub front_to : {X : Type 0} → Option Cut → List (Reference × X) → List (Reference × X)
+front_to end [] = []
+front_to end (e ∷ es) = if stands_within end e.0 then e ∷ front_to end es else []
+
+-- of a list that goes back the beginning that doesn't stand before the floor
+abbrev pub front_down_to : {X : Type 0} → Option Cut → List (Reference × X) → List (Reference × X)
+front_down_to floor [] = []
+front_down_to floor (e ∷ es) = if stands_under floor e.0 then [] else e ∷ front_down_to floor es
 
 -- the list begins with these
 pub record IsFront (front all : List (Reference × List ℕ)) : Type 0 where

@@ -11,3 +11,4 @@ pub mod Paths
 pub mod Seeks
 pub mod Sequences
 pub mod Telling
+pub mod Ends

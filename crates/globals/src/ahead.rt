@@ -1,6 +1,6 @@
 //! What a walk has at hand of what is left to it.
 ghost use Rattle.std.specs.Prelude.{◌≡◌, ◌≤◌, [], ◌∷◌, MatchOption, drop};
-ghost use Rattle.globals.specs.Cuts.{entries_from, IsFront};
+ghost use Rattle.globals.specs.Cuts.{entries_from, up_to, IsFront};
 
 use crate::{Cut, OrderedView, Run};
 use collation::Text;
@@ -42,20 +42,21 @@ impl<'v> Ahead<'v> {
         }
     }
 
-    // The first node from the cut on, which then is at hand. Where nothing was, the view is asked.
+    // The first node from the cut on and before the end, which then is at hand. Where nothing was, the view is asked.
     pub fn first<V: OrderedView>(
         &mut self,
         view: &'v V,
         cut: Cut<'_>,
+        end: Option<Cut<'_>>,
     ) -> Option<(&'v Key, &'v Text)>
-        requires { IsFront self.old (entries_from cut (V.content view.now)) }
-        ensures front { IsFront self.new (entries_from cut.entry (V.content view.now)) }
-        ensures first { MatchOption result (entries_from cut.entry (V.content view.now) ≡ []) (λ e. self.new ≡ (e.0.now, e.1.now) ∷ drop 1 self.new) }
+        requires { IsFront self.old (entries_from cut (up_to end (V.content view.now))) }
+        ensures front { IsFront self.new (entries_from cut.entry (up_to end.entry (V.content view.now))) }
+        ensures first { MatchOption result (entries_from cut.entry (up_to end.entry (V.content view.now)) ≡ []) (λ e. self.new ≡ (e.0.now, e.1.now) ∷ drop 1 self.new) }
     {
         if self.passed < self.run.len() {
             return self.run.node(self.passed);
         }
-        self.run = view.gather(cut, self.most);
+        self.run = view.gather(cut, end, self.most);
         self.passed = 0;
         self.most = (self.most * 2).min(MOST);
         self.run.node(0)

@@ -2,10 +2,11 @@
 //!
 //! A view is whatever implements `OrderedView`: it shows a finite map from references to values, and answers four
 //! look-ups: the value at a reference, the first member from a cut on, some of the first members from there on (a
-//! `Run`), the last member before a cut. A cut parts the references in two: `specs/Cuts.antt`. What each function
-//! answers stands in `specs/Answers.antt` of `collation` and `specs/Data.antt` of `command`, so that callers see one
-//! meaning whatever the view is. $GET is the view's own `get`. A walk is seen as the list of members that it has left,
-//! in order; it asks the view for up to 32 members at a look-up.
+//! `Run`), the last member before a cut. A cut parts the references in two: `specs/Cuts.antt`. A look may have an end,
+//! which is a cut too, and answers no member beyond it: a look below a reference ends where its subtree ends. What each
+//! function answers stands in `specs/Answers.antt` of `collation` and `specs/Data.antt` of `command`, so that callers
+//! see one meaning whatever the view is. $GET is the view's own `get`. A walk is seen as the list of members that it
+//! has left, in order; it asks the view for up to 32 members at a look-up.
 //!
 //! Over ^A(1,5), ^A(3), ^B the place ^A(1) forward starts past ^A(1) and finds ^A(3): $ORDER answers 3. Backward
 //! ^A("") starts past ^A and finds ^A(3).
@@ -14,13 +15,14 @@
 //! `specs/AnswerStatements.antt` and `specs/ChangeStatements.antt`.
 //!
 //! Read `specs/Cuts.antt`, then `view.rt`, `run.rt`, `starts.rt`, `sibling.rt`, `ahead.rt`, `walk.rt`. Laws for those
-//! who write a view: `specs/laws/Runs.antt`, `specs/laws/Steps.antt`. The proofs go by lists in lexicographic order:
-//! `specs/laws/Sequences.antt`, `specs/laws/Seeks.antt`. Not promised: how long a view takes for a look-up, and how
-//! many look-ups a function makes (`private_tests` counts them).
+//! who write a view: `specs/laws/Runs.antt`, `specs/laws/Steps.antt`, of ends `specs/laws/Ends.antt`. The proofs go by
+//! lists in lexicographic order: `specs/laws/Sequences.antt`, `specs/laws/Seeks.antt`. Not promised: how long a view
+//! takes for a look-up, how much it visits beyond an end, and how many look-ups a function makes (`private_tests`
+//! counts them).
 #![tactic(auto)]
 
 pub use answering::{answer, look};
-pub use cut::{Cut, stands_before};
+pub use cut::{Cut, stands_before, stands_under, stands_within};
 pub use laws::{
     data_tells_value_and_descendants, descendants_are_under, kill_kills_the_subtree,
     merge_copies_the_subtree, order_answers_the_nearest_sibling, query_answers_the_nearest_node,
@@ -33,7 +35,7 @@ pub use sibling::order;
 pub use starts::{order_start, query_start};
 pub use traversal::query;
 pub use view::OrderedView;
-pub use walk::{SubtreeWalk, Walk, subtree, walk_from};
+pub use walk::{Walk, subtree, walk_between, walk_from};
 
 mod ahead;
 mod answering;

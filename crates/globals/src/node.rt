@@ -6,16 +6,14 @@ ghost use Rattle.collation.specs.Levels.{is_below as is_below_spec};
 ghost use Rattle.collation.specs.Answers.{data_of};
 
 use crate::levels::is_below;
-use crate::view::key_at;
 use crate::{Cut, OrderedView};
-use collation::Direction;
 use key_codec::Key;
 
 fn has_descendants<V: OrderedView>(view: &V, root: &Key) -> bool
     ensures { result ≡ list_any (is_below_spec root.now) (map.keys (V.content view.now)) }
 {
-    match key_at(view, Cut::After(root), Direction::Forward) {
-        Some(key) => is_below(root, key),
+    match view.next(Cut::After(root), Some(Cut::Past(root))) {
+        Some((key, _)) => is_below(root, key),
         None => false,
     }
 }

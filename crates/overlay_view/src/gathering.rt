@@ -1,7 +1,7 @@
 //! Runs of neighbours: of what is left of a view, and of what was written and what is left together.
 ghost use Rattle.std.specs.Prelude.{◌≡◌, ◌≤◌, ◌<◌, [], ◌∷◌, ◌++◌, List, ℕ, length};
 ghost use Rattle.collation.specs.Reference.{Reference};
-ghost use Rattle.globals.specs.Cuts.{entries_from, IsFront, IsRun};
+ghost use Rattle.globals.specs.Cuts.{entries_from, up_to, IsFront, IsRun};
 ghost use Rattle.overlay_view.specs.Merging.{without_killed, joined, IsJustBehind};
 
 use collation::Text;
@@ -45,21 +45,22 @@ fn behind<'v>(workspace: &'v Workspace, key: &'v Key) -> Cut<'v>
     }
 }
 
-// The first nodes of a view from the cut on that aren't killed: at most so many, and none only where there is none. Of
-// a killed range it asks the view for one run, and then for what stands after the range.
+// The first nodes of a view from the cut on and before the end that aren't killed: at most so many, and none only where
+// there is none. Of a killed range it asks the view for one run, and then for what stands after the range.
 pub fn gather_left<'v, V: OrderedView>(
     workspace: &'v Workspace,
     view: &'v V,
     cut: Cut<'_>,
+    end: Option<Cut<'_>>,
     most: usize,
 ) -> Run<'v>
     requires some { 1 ≤ most }
     requires few { most ≤ 32 }
-    ensures { IsRun most result (without_killed workspace.now.killed (entries_from cut.entry (V.content view.now))) }
+    ensures { IsRun most result (without_killed workspace.now.killed (entries_from cut.entry (up_to end.entry (V.content view.now)))) }
 {
     let mut from = cut;
     loop {
-        let found = view.gather(from, most);
+        let found = view.gather(from, end, most);
         let Some((last, _)) = found.last() else {
             return found;
         };

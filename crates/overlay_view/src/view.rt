@@ -2,7 +2,8 @@
 ghost use Rattle.std.specs.Prelude.{◌≡◌, true, false, None, Some, MatchOption};
 ghost use Rattle.globals.specs.Entries.{nearest_entry};
 ghost use Rattle.collation.specs.Answers.{is_forward};
-ghost use Rattle.overlay_view.specs.Merging.{is_left, lent_node, nearer as nearer_spec};
+ghost use Rattle.globals.specs.Cuts.{down_to, up_to};
+ghost use Rattle.overlay_view.specs.Merging.{end_by_own, floor_by_own, is_left, lent_node, nearer as nearer_spec, IsLastEnd};
 
 use crate::gathering::{gather_left, join};
 use collation::{Direction, Text};
@@ -27,17 +28,18 @@ impl<'v, V: OrderedView> Overlay<'v, V> {
     }
 }
 
-// The first member of the view from the cut on that isn't killed.
+// The first member of the view from the cut on and before the end that isn't killed.
 fn first_left<'v, V: OrderedView>(
     workspace: &'v Workspace,
     view: &'v V,
     cut: Cut<'_>,
+    end: Option<Cut<'_>>,
 ) -> Option<(&'v Key, &'v Text)>
-    ensures { MatchOption result (nearest_entry true (is_left true cut.entry workspace.now.killed) (V.content view.now) ≡ None)
-        (λ e. nearest_entry true (is_left true cut.entry workspace.now.killed) (V.content view.now) ≡ Some (e.0.now, e.1.now)) }
+    ensures { MatchOption result (nearest_entry true (is_left true cut.entry workspace.now.killed) (up_to end.entry (V.content view.now)) ≡ None)
+        (λ e. nearest_entry true (is_left true cut.entry workspace.now.killed) (up_to end.entry (V.content view.now)) ≡ Some (e.0.now, e.1.now)) }
 {
     let mut from = cut;
-    while let Some((key, value)) = view.next(from) {
+    while let Some((key, value)) = view.next(from, end) {
         match workspace.killed_over(key) {
             Some(killed) => from = Cut::Past(killed),
             None => return Some((key, value)),
@@ -46,23 +48,55 @@ fn first_left<'v, V: OrderedView>(
     None
 }
 
-// The last member of the view before the cut that isn't killed.
+// The last member of the view before the cut and not before the floor that isn't killed.
 fn last_left<'v, V: OrderedView>(
     workspace: &'v Workspace,
     view: &'v V,
     cut: Cut<'_>,
+    floor: Option<Cut<'_>>,
 ) -> Option<(&'v Key, &'v Text)>
-    ensures { MatchOption result (nearest_entry false (is_left false cut.entry workspace.now.killed) (V.content view.now) ≡ None)
-        (λ e. nearest_entry false (is_left false cut.entry workspace.now.killed) (V.content view.now) ≡ Some (e.0.now, e.1.now)) }
+    ensures { MatchOption result (nearest_entry false (is_left false cut.entry workspace.now.killed) (down_to floor.entry (V.content view.now)) ≡ None)
+        (λ e. nearest_entry false (is_left false cut.entry workspace.now.killed) (down_to floor.entry (V.content view.now)) ≡ Some (e.0.now, e.1.now)) }
 {
     let mut from = cut;
-    while let Some((key, value)) = view.prev(from) {
+    while let Some((key, value)) = view.prev(from, floor) {
         match workspace.killed_over(key) {
             Some(killed) => from = Cut::Before(killed),
             None => return Some((key, value)),
         }
     }
     None
+}
+
+// Up to where a node below may be nearer than the written one: to that, and without one to the end.
+fn end_by<'v>(own: Option<(&'v Key, &'v Text)>, end: Option<Cut<'v>>) -> Option<Cut<'v>>
+    ensures { result ≡ end_by_own own.entry end.entry }
+{
+    match own {
+        Some((key, _)) => Some(Cut::Before(key)),
+        None => end,
+    }
+}
+
+// The same backward.
+fn floor_by<'v>(own: Option<(&'v Key, &'v Text)>, floor: Option<Cut<'v>>) -> Option<Cut<'v>>
+    ensures { result ≡ floor_by_own own.entry floor.entry }
+{
+    match own {
+        Some((key, _)) => Some(Cut::After(key)),
+        None => floor,
+    }
+}
+
+// Up to where the nodes below lie among those of a run of written ones: to the last of these, and without one to the
+// end.
+fn end_after<'v>(own: &Run<'v>, end: Option<Cut<'v>>) -> Option<Cut<'v>>
+    ensures { IsLastEnd own.now end.entry result }
+{
+    match own.last() {
+        Some((key, _)) => Some(Cut::After(key)),
+        None => end,
+    }
 }
 
 // The nearer of a written node and one that is left of the view, in the direction of a walk.
@@ -107,21 +141,21 @@ impl<'v, V: OrderedView> OrderedView for Overlay<'v, V> {
         }
     }
 
-    fn next(&self, cut: Cut<'_>) -> Option<(&Key, &Text)> {
-        let own = self.workspace.written().next(cut);
-        let below = first_left(self.workspace, self.view, cut);
+    fn next(&self, cut: Cut<'_>, end: Option<Cut<'_>>) -> Option<(&Key, &Text)> {
+        let own = self.workspace.written().next(cut, end);
+        let below = first_left(self.workspace, self.view, cut, end_by(own, end));
         nearer(own, below, Direction::Forward)
     }
 
-    fn gather(&self, cut: Cut<'_>, most: usize) -> Run<'_> {
-        let own = self.workspace.written().gather(cut, most);
-        let below = gather_left(self.workspace, self.view, cut, most);
+    fn gather(&self, cut: Cut<'_>, end: Option<Cut<'_>>, most: usize) -> Run<'_> {
+        let own = self.workspace.written().gather(cut, end, most);
+        let below = gather_left(self.workspace, self.view, cut, end_after(&own, end), most);
         join(own, below, most)
     }
 
-    fn prev(&self, cut: Cut<'_>) -> Option<(&Key, &Text)> {
-        let own = self.workspace.written().prev(cut);
-        let below = last_left(self.workspace, self.view, cut);
+    fn prev(&self, cut: Cut<'_>, floor: Option<Cut<'_>>) -> Option<(&Key, &Text)> {
+        let own = self.workspace.written().prev(cut, floor);
+        let below = last_left(self.workspace, self.view, cut, floor_by(own, floor));
         nearer(own, below, Direction::Backward)
     }
 }

@@ -44,19 +44,19 @@ impl<'v, V: OrderedView> OrderedView for Counting<'v, V> {
         self.view.get(key)
     }
 
-    fn next(&self, cut: Cut<'_>) -> Option<(&Key, &Text)> {
+    fn next(&self, cut: Cut<'_>, end: Option<Cut<'_>>) -> Option<(&Key, &Text)> {
         self.note();
-        self.view.next(cut)
+        self.view.next(cut, end)
     }
 
-    fn gather(&self, cut: Cut<'_>, most: usize) -> Run<'_> {
+    fn gather(&self, cut: Cut<'_>, end: Option<Cut<'_>>, most: usize) -> Run<'_> {
         self.note();
-        self.view.gather(cut, most)
+        self.view.gather(cut, end, most)
     }
 
-    fn prev(&self, cut: Cut<'_>) -> Option<(&Key, &Text)> {
+    fn prev(&self, cut: Cut<'_>, floor: Option<Cut<'_>>) -> Option<(&Key, &Text)> {
         self.note();
-        self.view.prev(cut)
+        self.view.prev(cut, floor)
     }
 }
 
@@ -147,7 +147,8 @@ fn walks_look_up_one_node_in_32(rt: HostRuntime) -> Result<(), Fail> {
     assert!(rt; is_few(all));
     assert_eq!(rt; hundred.0, 100);
     assert!(rt; is_few(hundred));
-    assert_eq!(rt; one, (1, 1));
+    // a view may give fewer than it is asked for, so a walk looks once more behind its last node
+    assert_eq!(rt; one, (1, 2));
     assert_eq!(rt; none, (0, 1));
     Ok(())
 }
@@ -334,9 +335,9 @@ fn beside_counts(
 ) -> ((bool, u64), (bool, u64)) {
     let below = Counting::new(start);
     let overlay = Overlay::new(own, &below);
-    let is_next = overlay.next(Cut::Before(killed)).is_some();
+    let is_next = overlay.next(Cut::Before(killed), None).is_some();
     let on = below.taken();
-    let is_prev = overlay.prev(Cut::Past(killed)).is_some();
+    let is_prev = overlay.prev(Cut::Past(killed), None).is_some();
     ((is_next, on), (is_prev, below.taken()))
 }
 
@@ -388,8 +389,8 @@ fn gathers(alloc: Global, map: &KeyMap<Text>) -> Result<bool, Refusal> {
     let key = key_of(alloc, b"A447")?;
     let own = Workspace::new(alloc);
     let overlay = Overlay::new(&own, map);
-    let of_map = is_run(&map.gather(Cut::After(&key), 3), b"890");
-    let of_overlay = is_run(&overlay.gather(Cut::Before(&key), 4), b"7890");
+    let of_map = is_run(&map.gather(Cut::After(&key), None, 3), b"890");
+    let of_overlay = is_run(&overlay.gather(Cut::Before(&key), None, 4), b"7890");
     drop(own);
     drop(key);
     Ok(of_map && of_overlay)

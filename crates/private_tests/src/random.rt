@@ -111,7 +111,7 @@ fn is_within<V: OrderedView, W: OrderedView>(view: &V, other: &W) -> bool {
 // One step backward from each member of the other view.
 fn same_backward<V: OrderedView, W: OrderedView>(view: &V, other: &W) -> bool {
     for (key, _) in walk_from(other, Cut::Start) {
-        if view.prev(Cut::Before(key)) != other.prev(Cut::Before(key)) {
+        if view.prev(Cut::Before(key), None) != other.prev(Cut::Before(key), None) {
             return false;
         }
     }

@@ -50,7 +50,7 @@ fn is_scouted<V: OrderedView>(
     ensures { AreEmpty stretches.new (V.content view.now) }
 {
     let stretch = scout(alloc, view, &Killed { own }, stretches, look);
-    stretches.follow(false, &stretch);
+    stretches.follow(None, &stretch);
     stretch.is_some()
 }
 

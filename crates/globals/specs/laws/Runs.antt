@@ -18,3 +18,11 @@ run_of_some most all run left is few some = record {
 -- as many as were asked for lie in the run
 pub run_of_most : (most n : ℕ) (all run left : List (Reference × List ℕ)) → 1 ≤ most → all ≡ run ++ left → n ≡ length run → n ≡ most → IsRun most run all
 run_of_most most n all run left some is counted full = run_of_some most all run left is (omega (arith, counted, full)) (omega (arith, counted, full, some))
+
+-- all of them lie in the run
+pub run_of_all : (most : ℕ) (all run left : List (Reference × List ℕ)) → all ≡ run ++ left → left ≡ [] → length run ≤ most → IsRun most run all
+run_of_all most all run left is none few = record {
+  front = record { rest = left; parts = is };
+  bounded = few;
+  ends = λ e. is ∙ ap (λ r. r ++ left) e ∙ none;
+}

@@ -1,8 +1,7 @@
-use Rattle.globals.proofs.Walks.{subtree_start, nothing_ahead}
+use Rattle.std.proofs.Common.{refl, ◌∙◌}
+use Rattle.globals.specs.declared.cut.Cut.TheVariants.{Before, Past}
+use Rattle.globals.specs.laws.Ends.{subtree_between}
 use Rattle.globals.proofs.walk.subtree.Goals as goal
 
-pub invariant_of-result : goal.invariant_of-result
-invariant_of-result g c = nothing_ahead _ _ c.new.ensures
-
 pub returns : goal.returns
-returns g c = subtree_start c.args.root.now (g.V.OrderedView.content c.args.view.now)
+returns g c = c.walk_between.ensures ∙ subtree_between c.args.root.now (Before c.args.root) (Past c.args.root) (g.V.OrderedView.content c.args.view.now) (λ x. refl) (λ x. refl)
