@@ -80,14 +80,14 @@ fn worked(alloc: Global, store: &mut KeyedStore) -> Result<bool, Refusal> {
 // The name of the first reference that a stamp shows, found forward and then backward; or what is refused there.
 pub(crate) fn first_at(store: &KeyedStore, stamp: u64) -> Result<Option<u8>, Refusal> {
     let view = store.view_at(stamp)?;
-    match view.next(Cut::Start) {
+    match view.next(Cut::Start, None) {
         Some((key, _)) => Ok(last_before(&view, Cut::After(key))),
         None => Ok(None),
     }
 }
 
 fn last_before(view: &Snapshot<'_>, cut: Cut<'_>) -> Option<u8> {
-    match view.prev(cut) {
+    match view.prev(cut, None) {
         Some((key, _)) => key.name().first().copied(),
         None => None,
     }
@@ -118,7 +118,7 @@ fn last_name(run: &Run<'_>) -> Option<u8> {
 // How many nodes a stamp shows, and the name of the last of them.
 fn gathered_at(store: &KeyedStore, stamp: u64) -> Result<(usize, Option<u8>), Refusal> {
     let view = store.view_at(stamp)?;
-    let run = view.gather(Cut::Start, 32);
+    let run = view.gather(Cut::Start, None, 32);
     Ok((run.len(), last_name(&run)))
 }
 

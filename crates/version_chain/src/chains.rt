@@ -1,5 +1,5 @@
 //! Chains by id, in one pool.
-ghost use Rattle.std.specs.Prelude.{◌≡◌, ℕ, ◌+◌, ◌-◌, ◌^◌, ◌<◌, ◌≤◌, [], ◌∷◌, Some, None, IsTrue, ◌↔◌, max, min, length, option_copied, slice_set, IfOk, OnErr};
+ghost use Rattle.std.specs.Prelude.{◌≡◌, ℕ, suc, ◌+◌, ◌-◌, ◌^◌, ◌<◌, ◌≤◌, [], ◌∷◌, Some, None, IsTrue, ◌↔◌, max, min, length, option_copied, slice_set, IfOk, OnErr};
 ghost use Rattle.version_chain.specs.Slots.{slot_at, lent};
 ghost use Rattle.version_chain.specs.Links.{line_versions};
 ghost use Rattle.version_chain.specs.Tidy.{since_at as since_at_spec};
@@ -91,6 +91,13 @@ impl<V: Drop> Chains<V> {
             since: 0,
             latest: 0,
         }
+    }
+
+    /// A stamp that no version is after. It may be later than that of every version that is left.
+    pub fn latest(&self) -> u64
+        ensures { (id : ℕ) → IsAbove (suc result) (versions_at self.now id) }
+    {
+        self.latest
     }
 
     /// How many cells are reserved.

@@ -63,11 +63,11 @@ below_append high c xs ys =
 
 -- ---- a row's last key
 
-still : {A : Type 0} (o : Option A) (x y : A) → option_or (option_or o (Some y)) (Some x) ≡ option_or o (Some y)
+pub still : {A : Type 0} (o : Option A) (x y : A) → option_or (option_or o (Some y)) (Some x) ≡ option_or o (Some y)
 still None x y = refl
 still (Some z) x y = refl
 
-last_get : {A : Type 0} (ps : List A) → slice_get ps (length ps - 1) ≡ last_of ps
+pub last_get : {A : Type 0} (ps : List A) → slice_get ps (length ps - 1) ≡ last_of ps
 last_get [] = refl
 last_get (x ∷ []) = refl
 last_get (x ∷ y ∷ ps) =

@@ -249,13 +249,17 @@ tied_later c ps now later tied le = record {
   counted = tied.counted;
 }
 
--- no version of the store is after now
-pub low_in : (c : State) (ps : Pairs) (now : ℕ) → IsTied ps c now → (q : Reference) → IsAbove (suc now) (versions_of (versions_in c ps) q)
-low_in c ps now tied q = subst (λ o. IsAbove (suc now) (listed o)) (sym (get_in c ps q tied.sorted)) (by_found (find ref_cmp q ps) refl)
+-- no version of the store is after a stamp that none of the chains' is after
+pub above_in : (c : State) (ps : Pairs) (latest : ℕ) → is_sorted ref_cmp ps ≡ true → ((q : Reference) (id : ℕ) → find ref_cmp q ps ≡ Some id → IsAbove (suc latest) (versions_at c id)) → (q : Reference) → IsAbove (suc latest) (versions_of (versions_in c ps) q)
+above_in c ps latest sorted each q = subst (λ o. IsAbove (suc latest) (listed o)) (sym (get_in c ps q sorted)) (by_found (find ref_cmp q ps) refl)
   where
-    by_found : (o : Option ℕ) → find ref_cmp q ps ≡ o → IsAbove (suc now) (listed (option_map (versions_at c) o))
+    by_found : (o : Option ℕ) → find ref_cmp q ps ≡ o → IsAbove (suc latest) (listed (option_map (versions_at c) o))
     by_found None e = tt
-    by_found (Some id) e = tied.settled q id e
+    by_found (Some id) e = each q id e
+
+-- none is after now
+pub low_in : (c : State) (ps : Pairs) (now : ℕ) → IsTied ps c now → (q : Reference) → IsAbove (suc now) (versions_of (versions_in c ps) q)
+low_in c ps now tied = above_in c ps now tied.sorted tied.settled
 
 -- where now is 0 there is nothing at it
 pub nothing_in : (c : State) (ps : Pairs) (now : ℕ) → IsTied ps c now → now ≡ 0 → content_at (versions_in c ps) 0 ≡ finmap.empty

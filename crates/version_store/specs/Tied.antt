@@ -1,14 +1,15 @@
 -- How a tree of ids and chains hold the versions together.
-use Rattle.std.specs.Prelude.{◌≡◌, ℕ, suc, true, List, [], ◌∷◌, Option, Some, map, filter, length}
+use Rattle.std.specs.Prelude.{◌≡◌, ℕ, suc, ◌<◌, ◌≤◌, Bool, true, not, List, [], ◌∷◌, ◌++◌, Option, Some, map, filter, length}
+use Rattle.std.specs.List.{list_any}
 use Rattle.std.specs.Ordering.{eq_by_cmp}
 use Rattle.std.specs.FinMap.{find, is_sorted, from_sorted, contains_key}
 use Rattle.collation.specs.Reference.{Reference}
 use Rattle.collation.specs.Order.{ref_cmp}
 use Rattle.globals.specs.declared.cut.Cut.{Cut}
-use Rattle.globals.specs.Cuts.{stands_before}
+use Rattle.globals.specs.Cuts.{stands_before, stands_within}
 use Rattle.version_chain.specs.Versions.{IsAbove, IsFalling}
 use Rattle.version_chain.specs.Chains.{ChainsState, versions_at, IsOpen, open_count}
-use Rattle.version_store.specs.Versions.{Row, Versions, newest_among}
+use Rattle.version_store.specs.Versions.{Row, Versions, newest_among, seen_at}
 
 -- each key with the versions under its id
 abbrev pub rows : ChainsState (List ℕ) → List (Reference × ℕ) → List (Reference × Row)
@@ -20,6 +21,21 @@ versions_in chains pairs = from_sorted (rows chains pairs)
 -- the newest stamp of the rows that stand before a cut
 abbrev pub newest_below : Cut → ChainsState (List ℕ) → List (Reference × ℕ) → Option ℕ
 newest_below high chains pairs = newest_among (filter (λ e. stands_before high e.0) (rows chains pairs))
+
+-- what is seen at a stamp of the pairs before an end, where there is one
+abbrev pub seen_to : Option Cut → ℕ → ChainsState (List ℕ) → List (Reference × ℕ) → List (Reference × List ℕ)
+seen_to end stamp chains pairs = seen_at stamp (rows chains (filter (λ p. stands_within end p.0) pairs))
+
+-- one of the pairs doesn't stand before the end
+abbrev pub reaches : Option Cut → List (Reference × ℕ) → Bool
+reaches end pairs = list_any (λ p. not (stands_within end p.0)) pairs
+
+-- the first of these lie in the run: so many, or all
+pub record IsFilled (most : ℕ) (run all : List (Reference × List ℕ)) : Type 0 where
+  pub left : List (Reference × List ℕ)
+  pub parts : all ≡ run ++ left
+  pub bounded : length run ≤ most
+  pub whole : length run < most → left ≡ []
 
 -- the id of each pair is open
 abbrev pub AreOpen : ChainsState (List ℕ) → List (Reference × ℕ) → Type 0

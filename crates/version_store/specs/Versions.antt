@@ -180,6 +180,10 @@ is_bare None = false
 is_bare (Some []) = true
 is_bare (Some (v ∷ vs)) = false
 
+-- each reference that is bare was so before
+abbrev pub AddsNoneBare : Versions → Versions → Type 0
+AddsNoneBare old new = (x : Reference) → is_bare (finmap.get new x) ≡ true → is_bare (finmap.get old x) ≡ true
+
 abbrev pub keys_of : {X : Type 0} → List (Reference × X) → List Reference
 keys_of = map (λ e. e.0)
 

@@ -15,7 +15,7 @@
 //! Read `specs/Versions.antt`, then `store.rt`, `place.rt`, `near.rt`, `write.rt`, `set.rt`, `kill.rt`, `seek.rt`,
 //! `range.rt`, `collect.rt`, `turn.rt` and `snapshot.rt`; of old keys `kept.rt` and `short.rt`. Laws for callers:
 //! `specs/laws/Content.antt`, `Cutting.antt`, `Turning.antt`. Not promised: how many nodes a look-up visits. A walk
-//! passes over references without a value one by one.
+//! passes over references without a value one by one, and visits one behind its end at most.
 #![tactic(auto)]
 
 pub use kept::Store;

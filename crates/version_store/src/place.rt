@@ -1,8 +1,11 @@
 //! Room for changes: chains for references, and cells for versions.
-ghost use Rattle.std.specs.Prelude.{◌≡◌, ℕ, ◌+◌, ◌≤◌, max, [], None, IsSome, OnOk, OnErr, length, true, map, drop};
+ghost use Rattle.std.specs.Prelude.{◌≡◌, ℕ, ◌+◌, ◌≤◌, max, [], None, IsSome, OnOk, OnErr, length, true, false, map, drop};
+ghost use Rattle.std.specs.Ordering.{eq_by_cmp};
 ghost use Rattle.std.specs.FinMap as finmap;
 ghost use Rattle.collation.specs.Reference.{Reference};
-ghost use Rattle.version_store.specs.Versions.{Versions, content_at, versions_of, placed, all_placed};
+ghost use Rattle.version_store.specs.Versions.{Versions, content_at, versions_of, placed, all_placed, is_bare, AddsNoneBare};
+ghost use Rattle.std.specs.FinMap.{find};
+ghost use Rattle.collation.specs.Order.{ref_cmp};
 ghost use Rattle.version_store.specs.Tied.{AreKeysOf};
 
 use crate::store::KeyedStore;
@@ -97,6 +100,7 @@ impl KeyedStore {
     fn place(&mut self, alloc: Global, key: &Key) -> Result<(), AllocError>
         ensures ok { OnOk result (self.new ≡ record self.old { versions = placed key.now self.old.versions }) }
         ensures err { OnErr result (self.new ≡ self.old) }
+        ensures others { (x : Reference) → eq_by_cmp ref_cmp x key.now ≡ false → finmap.get self.new.versions x ≡ finmap.get self.old.versions x }
         ensures rows { (r : Reference) → versions_of self.new.versions r ≡ versions_of self.old.versions r }
         ensures content { (s : ℕ) → content_at self.new.versions s ≡ content_at self.old.versions s }
     {
@@ -114,6 +118,7 @@ impl KeyedStore {
         changes: &[(Key, Option<Text>)],
     ) -> Result<(), AllocError>
         ensures placed { OnOk result (self.new.versions ≡ all_placed (map (λ c. c.0) changes.now) self.old.versions) }
+        ensures others { (x : Reference) → find ref_cmp x changes.now ≡ None → finmap.get self.new.versions x ≡ finmap.get self.old.versions x }
         ensures rows { (r : Reference) → versions_of self.new.versions r ≡ versions_of self.old.versions r }
         ensures content { (s : ℕ) → content_at self.new.versions s ≡ content_at self.old.versions s }
         ensures present { self.new.present ≡ self.old.present }
@@ -153,8 +158,8 @@ impl KeyedStore {
     /// Gives the reference of each change a chain, if it has none, and reserves a cell for each change. A chain without
     /// versions is in no content.
     ///
-    /// Refusals: `AllocError`. After it some may be placed, and cells be reserved; no content and no version has
-    /// changed.
+    /// Refusals: `AllocError`. After it none is placed that wasn't, cells may be reserved, and no content and no
+    /// version has changed.
     pub fn place_keys(
         &mut self,
         alloc: Global,
@@ -162,6 +167,7 @@ impl KeyedStore {
     ) -> Result<(), AllocError>
         ensures placed { OnOk result (self.new.versions ≡ all_placed (map (λ c. c.0) changes.now) self.old.versions) }
         ensures reserved { OnOk result (length changes.now ≤ self.new.spare) }
+        ensures bare { OnErr result (AddsNoneBare self.old.versions self.new.versions) }
         ensures rows { (r : Reference) → versions_of self.new.versions r ≡ versions_of self.old.versions r }
         ensures content { (s : ℕ) → content_at self.new.versions s ≡ content_at self.old.versions s }
         ensures present { self.new.present ≡ self.old.present }
@@ -170,8 +176,30 @@ impl KeyedStore {
         ensures spare { self.old.spare ≤ self.new.spare }
         ensures most { self.new.spare ≤ max self.old.spare (length changes.now + 63) }
     {
-        self.reserve(changes.len())?;
         let placed = self.count_placed(changes);
-        self.place_each(alloc, &changes[placed..])
+        if self.place_each(alloc, &changes[placed..]).is_err() {
+            self.unplace(changes);
+            return Err(AllocError);
+        }
+        if self.reserve(changes.len()).is_err() {
+            self.unplace(changes);
+            return Err(AllocError);
+        }
+        Ok(())
+    }
+
+    // Takes the changes' references out that have no versions. Takes no memory.
+    fn unplace(&mut self, changes: &[(Key, Option<Text>)])
+        ensures bare { (x : Reference) → is_bare (finmap.get self.new.versions x) ≡ true → (is_bare (finmap.get self.old.versions x) ≡ true) × (find ref_cmp x changes.now ≡ None) }
+        ensures rows { (r : Reference) → versions_of self.new.versions r ≡ versions_of self.old.versions r }
+        ensures content { (s : ℕ) → content_at self.new.versions s ≡ content_at self.old.versions s }
+        ensures present { self.new.present ≡ self.old.present }
+        ensures cut { self.new.cut ≡ self.old.cut }
+        ensures mark { self.new.mark ≡ self.old.mark }
+        ensures spare { self.new.spare ≡ self.old.spare }
+    {
+        for (key, _) in changes {
+            self.drop_key(key);
+        }
     }
 }

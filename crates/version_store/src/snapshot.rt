@@ -30,15 +30,15 @@ impl<'a> OrderedView for Snapshot<'a> {
         self.store.get_at(key, self.stamp)
     }
 
-    fn next(&self, cut: Cut<'_>) -> Option<(&Key, &Text)> {
-        self.store.next_at(cut, self.stamp)
+    fn next(&self, cut: Cut<'_>, end: Option<Cut<'_>>) -> Option<(&Key, &Text)> {
+        self.store.next_at(cut, end, self.stamp)
     }
 
-    fn gather(&self, cut: Cut<'_>, most: usize) -> Run<'_> {
-        self.store.gather_at(cut, self.stamp, most)
+    fn gather(&self, cut: Cut<'_>, end: Option<Cut<'_>>, most: usize) -> Run<'_> {
+        self.store.gather_at(cut, end, self.stamp, most)
     }
 
-    fn prev(&self, cut: Cut<'_>) -> Option<(&Key, &Text)> {
-        self.store.prev_at(cut, self.stamp)
+    fn prev(&self, cut: Cut<'_>, floor: Option<Cut<'_>>) -> Option<(&Key, &Text)> {
+        self.store.prev_at(cut, floor, self.stamp)
     }
 }

@@ -104,6 +104,14 @@ impl KeyedStore {
         self.cut
     }
 
+    /// A stamp that no version is after: where it isn't after `s`, no reference has a version after `s`. It may be later
+    /// than that of every version that is left. Takes no memory.
+    pub fn latest(&self) -> u64
+        ensures { (r : Reference) → IsAbove (suc result) (versions_of self.now.versions r) }
+    {
+        self.chains.latest()
+    }
+
     /// How many versions there are, up to 2^64 - 1. Goes through all of them; takes no memory.
     pub fn versions(&self) -> u64
         ensures { result ≡ min (version_count self.now.versions) (2 ^ 64 - 1) }

@@ -21,7 +21,7 @@ invariant_of-self c =
     let later : s.present < c.args.stamp = rw (← c.self.view_is) at c.requires.stamp in
     let low = low_in s.chains s.tree.pairs s.present c.self.invariant.0 c.args.key.now in
     let tied : IsTied s.tree.pairs s.chains c.args.stamp = tied_later s.chains s.tree.pairs s.present c.args.stamp c.self.invariant.0 (omega (arith, later)) in
-    let is = cut_at_once s.chains c.push_and_cut.new.self s.tree.pairs c.args.stamp c.in-Some.id.now c.args.stamp c.args.cut c.args.key.now (Some c.args.value) tied at c.push_and_cut.ensures.chains (omega (arith, later)) (omega arith) (above_at s.present c.args.stamp _ later low) in
+    let is = cut_at_once s.chains c.push_and_cut.new.self s.tree.pairs c.args.stamp c.in-Some.id.now c.args.stamp c.args.cut c.args.key.now (Some c.replace-value.result) tied at c.push_and_cut.ensures.chains (omega (arith, later)) (omega arith) (above_at s.present c.args.stamp _ later low) in
     (is.tied, c.requires.cut)
 
 pub returns-in-Some-clause-set : goal.returns-in-Some-clause-set
@@ -31,9 +31,9 @@ returns-in-Some-clause-set c =
     let later : s.present < c.args.stamp = rw (← c.self.view_is) at c.requires.stamp in
     let low = low_in s.chains s.tree.pairs s.present c.self.invariant.0 c.args.key.now in
     let tied : IsTied s.tree.pairs s.chains c.args.stamp = tied_later s.chains s.tree.pairs s.present c.args.stamp c.self.invariant.0 (omega (arith, later)) in
-    let is = cut_at_once s.chains c.push_and_cut.new.self s.tree.pairs c.args.stamp c.in-Some.id.now c.args.stamp c.args.cut c.args.key.now (Some c.args.value) tied at c.push_and_cut.ensures.chains (omega (arith, later)) (omega arith) (above_at s.present c.args.stamp _ later low) in
-    rw (← c.self.view_is) (record {
-      versions = set_there c.args.cut c.args.stamp c.args.key.now c.args.value (versions_in s.chains s.tree.pairs) _ is.versions;
+    let is = cut_at_once s.chains c.push_and_cut.new.self s.tree.pairs c.args.stamp c.in-Some.id.now c.args.stamp c.args.cut c.args.key.now (Some c.replace-value.result) tied at c.push_and_cut.ensures.chains (omega (arith, later)) (omega arith) (above_at s.present c.args.stamp _ later low) in
+    rw (← c.self.view_is, ← c.replace-value.ensures.value) (record {
+      versions = set_there c.args.cut c.args.stamp c.args.key.now c.replace-value.result (versions_in s.chains s.tree.pairs) _ is.versions;
       present = refl;
       cut_is = refl;
       mark = refl;

@@ -1,7 +1,7 @@
 use Rattle.std.proofs.Common.{◌∙◌}
 use Rattle.std.specs.Prelude.{filter}
 use Rattle.globals.specs.Cuts.{stands_before}
-use Rattle.version_store.proofs.SeekLemmas.{open_in, open_filter, open_reverse, prev_in}
+use Rattle.version_store.proofs.SeekLemmas.{open_in, open_filter, open_reverse, last_between}
 use Rattle.version_store.proofs.store.KeyedStore.walk_prev_at.Goals as goal
 
 pub last_valued-requires : goal.last_valued-requires
@@ -12,4 +12,4 @@ last_valued-requires c =
 pub returns : goal.returns
 returns c =
     let s = c.self.inside in
-    c.last_valued.ensures ∙ rw (c.back_from.ensures, ← c.self.view_is) (prev_in (stands_before c.args.cut) s.chains s.tree.pairs c.args.stamp c.self.invariant.0.sorted)
+    c.last_valued.ensures ∙ rw (c.back_from.ensures, ← c.self.view_is) (last_between c.args.cut c.args.floor s.chains s.tree.pairs c.args.stamp c.self.invariant.0.sorted)
