@@ -1,5 +1,5 @@
 -- A log and what stands behind its units, step by step.
-use Rattle.std.proofs.Common.{inl, inr, take, drop, length-append, append-nil, ◌≡◌, ℕ, ◌+◌, ◌≤◌, ◌<◌, List, [], ◌∷◌, ◌++◌, length, refl, ap, sym, ◌∙◌, subst, arith, suc, Option, Some, None, Result, Ok, Err, OnOk, OnErr}
+use Rattle.std.proofs.Common.{take, drop, length-append, ◌≡◌, ℕ, ◌+◌, ◌≤◌, ◌<◌, List, [], ◌∷◌, ◌++◌, length, refl, ap, sym, ◌∙◌, subst, arith, suc, Option, Some, None, Result, Ok, Err, OnOk, OnErr}
 use Rattle.std.specs.Prelude.{IfSome}
 use Rattle.std.specs.List.{flat_map}
 use Rattle.std.proofs.lemmas.List.{drop_at, take_at, take_all, drop_all, take-append-drop, length-drop, length-take-le}
@@ -8,7 +8,7 @@ use Rattle.key_codec.specs.Grown.{GoesOnFrom}
 use Rattle.journal.specs.declared.unit.Unit.{Unit as JournalUnit}
 use Rattle.journal.specs.Format.{unit_bytes}
 use Rattle.journal.specs.Kept.{job_of}
-use Rattle.journal.specs.Log.{units_in, unit_in, Stands, KeepsUnits, IsUnitOf, IsLast, EndsAt}
+use Rattle.journal.specs.Log.{units_in, unit_in, Stands, KeepsUnits, IsUnitOf}
 use Rattle.journal.specs.Reading.{unit_at}
 use Rattle.journal.specs.Stored.{FitsUnit}
 use Rattle.journal.specs.laws.Log.{units_again, unit_again, stands_none, stands_more}
@@ -22,78 +22,77 @@ none_in bytes = refl
 pub stands_empty : (bytes : List ℕ) → bytes ≡ [] → Stands bytes 0 (units_in 0 bytes)
 stands_empty bytes e = subst (Stands bytes 0) (sym (none_in bytes)) (subst (λ t. Stands t 0 []) (sym e) stands_none)
 
-pub keeps_none : (bytes : List ℕ) → KeepsUnits bytes 0 0 0
-keeps_none bytes = record { within = omega arith; stands = stands_empty (take 0 bytes) refl; last = inl (none_in (take 0 bytes)) }
+pub keeps_none : (bytes : List ℕ) → KeepsUnits bytes 0 0
+keeps_none bytes = record { within = omega arith; stands = stands_empty (take 0 bytes) refl }
 
 -- ---- behind the units
 
 -- a log whose units are as they were
-pub record Stays (bytes new : List ℕ) (end count newest : ℕ) : Type 0 where
-  pub keeps : KeepsUnits new end count newest
+pub record Stays (bytes new : List ℕ) (end count : ℕ) : Type 0 where
+  pub keeps : KeepsUnits new end count
   pub units : units_in count (take end new) ≡ units_in count (take end bytes)
 
-stays : (bytes new : List ℕ) (end count newest : ℕ) → KeepsUnits bytes end count newest → end ≤ length new → take end new ≡ take end bytes → Stays bytes new end count newest
-stays bytes new end count newest h within e = record {
+stays : (bytes new : List ℕ) (end count : ℕ) → KeepsUnits bytes end count → end ≤ length new → take end new ≡ take end bytes → Stays bytes new end count
+stays bytes new end count h within e = record {
   keeps = record {
     within = within;
     stands = subst (λ t. Stands t count (units_in count t)) (sym e) h.stands;
-    last = subst (λ t. EndsAt t newest (units_in count t)) (sym e) h.last;
   };
   units = ap (units_in count) e;
 }
 
 -- a log with nothing behind its units any more
-pub record Cut (bytes new : List ℕ) (end count newest : ℕ) : Type 0 where
-  pub stays : Stays bytes new end count newest
+pub record Cut (bytes new : List ℕ) (end count : ℕ) : Type 0 where
+  pub stays : Stays bytes new end count
   pub behind : drop end new ≡ []
 
-pub cut : (bytes new : List ℕ) (end count newest : ℕ) → KeepsUnits bytes end count newest → new ≡ take end bytes → Cut bytes new end count newest
-cut bytes new end count newest h e =
+pub cut : (bytes new : List ℕ) (end count : ℕ) → KeepsUnits bytes end count → new ≡ take end bytes → Cut bytes new end count
+cut bytes new end count h e =
     let long : length new ≡ end = ap length e ∙ length-take-le end bytes h.within in
-    record { stays = stays bytes new end count newest h (omega arith) (take_all end new (omega arith) ∙ e); behind = drop_all end new (omega arith) }
+    record { stays = stays bytes new end count h (omega arith) (take_all end new (omega arith) ∙ e); behind = drop_all end new (omega arith) }
 
 -- where nothing stands behind the units, they end with the bytes
 ends_there : (bytes : List ℕ) (end : ℕ) → end ≤ length bytes → drop end bytes ≡ [] → length bytes ≡ end
 ends_there bytes end within none = omega (arith, within, length-drop end bytes, ap length none)
 
 -- a unit was written behind them, or nothing
-pub record Settled {T E : Type 0} (r : Result T E) (bytes new : List ℕ) (end count newest job : ℕ) (u : JournalUnit) : Type 0 where
-  pub stays : Stays bytes new end count newest
+pub record Settled {T E : Type 0} (r : Result T E) (bytes new : List ℕ) (end count job : ℕ) (u : JournalUnit) : Type 0 where
+  pub stays : Stays bytes new end count
   pub ok : OnOk r (IsUnitOf (drop end new) job u)
   pub err : OnErr r (drop end new ≡ [])
 
 written_is : (bytes : List ℕ) (job : ℕ) (u : JournalUnit) → bytes ≡ unit_bytes u → FitsUnit u → job ≡ job_of u → IsUnitOf bytes job u
 written_is bytes job u written fits owner = record { is = ap unit_in written ∙ unit_again u fits; written = written; fits = fits; owner = owner }
 
-settled_by : {T E : Type 0} (r : Result T E) (bytes mid new : List ℕ) (end count newest job : ℕ) (u : JournalUnit) → KeepsUnits bytes end count newest → drop end bytes ≡ [] → OnOk r (mid ≡ bytes ++ unit_bytes u) → OnOk r (FitsUnit u) → GoesOnFrom bytes mid →
-    OnOk r (new ≡ mid) → OnErr r (new ≡ take end mid) → job ≡ job_of u → Settled r bytes new end count newest job u
-settled_by (Ok x) bytes mid new end count newest job u h none w fits on same back owner =
+settled_by : {T E : Type 0} (r : Result T E) (bytes mid new : List ℕ) (end count job : ℕ) (u : JournalUnit) → KeepsUnits bytes end count → drop end bytes ≡ [] → OnOk r (mid ≡ bytes ++ unit_bytes u) → OnOk r (FitsUnit u) → GoesOnFrom bytes mid →
+    OnOk r (new ≡ mid) → OnErr r (new ≡ take end mid) → job ≡ job_of u → Settled r bytes new end count job u
+settled_by (Ok x) bytes mid new end count job u h none w fits on same back owner =
     let long = ends_there bytes end h.within none in
     let e : new ≡ bytes ++ unit_bytes u = same ∙ w in
     let l : length new ≡ length bytes + length (unit_bytes u) = ap length e ∙ length-append bytes (unit_bytes u) in
     let front : take end new ≡ take end bytes = ap (take end) e ∙ take_at bytes (unit_bytes u) end long ∙ sym (take_all end bytes (omega arith)) in
     let behind : drop end new ≡ unit_bytes u = ap (drop end) e ∙ drop_at bytes (unit_bytes u) end long in
-    record { stays = stays bytes new end count newest h (omega arith) front; ok = written_is (drop end new) job u behind fits owner; err = tt }
-settled_by (Err x) bytes mid new end count newest job u h none w fits on same back owner =
+    record { stays = stays bytes new end count h (omega arith) front; ok = written_is (drop end new) job u behind fits owner; err = tt }
+settled_by (Err x) bytes mid new end count job u h none w fits on same back owner =
     let long = ends_there bytes end h.within none in
     let e : new ≡ bytes = back ∙ ap (take end) on.split ∙ take_at bytes on.more end long in
     let l : length new ≡ length bytes = ap length e in
-    record { stays = stays bytes new end count newest h (omega arith) (ap (take end) e); ok = tt; err = ap (drop end) e ∙ none }
+    record { stays = stays bytes new end count h (omega arith) (ap (take end) e); ok = tt; err = ap (drop end) e ∙ none }
 
-pub settled : {T E : Type 0} (r written : Result T E) (bytes mid new : List ℕ) (end count newest job : ℕ) (u : JournalUnit) → r ≡ written → KeepsUnits bytes end count newest → drop end bytes ≡ [] → OnOk written (mid ≡ bytes ++ unit_bytes u) → OnOk written (FitsUnit u) → GoesOnFrom bytes mid →
-    OnOk written (new ≡ mid) → OnErr written (new ≡ take end mid) → job ≡ job_of u → Settled r bytes new end count newest job u
-settled r written bytes mid new end count newest job u is h none w fits on same back owner = subst (λ x. Settled x bytes new end count newest job u) (sym is) (settled_by written bytes mid new end count newest job u h none w fits on same back owner)
+pub settled : {T E : Type 0} (r written : Result T E) (bytes mid new : List ℕ) (end count job : ℕ) (u : JournalUnit) → r ≡ written → KeepsUnits bytes end count → drop end bytes ≡ [] → OnOk written (mid ≡ bytes ++ unit_bytes u) → OnOk written (FitsUnit u) → GoesOnFrom bytes mid →
+    OnOk written (new ≡ mid) → OnErr written (new ≡ take end mid) → job ≡ job_of u → Settled r bytes new end count job u
+settled r written bytes mid new end count job u is h none w fits on same back owner = subst (λ x. Settled x bytes new end count job u) (sym is) (settled_by written bytes mid new end count job u h none w fits on same back owner)
 
 -- ---- a unit more
 
 -- a log whose units now go to the end of its bytes
-pub record Pushed (bytes : List ℕ) (end all count newest : ℕ) : Type 0 where
-  pub keeps : KeepsUnits bytes all (count + 1) newest
+pub record Pushed (bytes : List ℕ) (end all count : ℕ) : Type 0 where
+  pub keeps : KeepsUnits bytes all (count + 1)
   pub units : IfSome (unit_in (drop end bytes)) (λ u. units_in (count + 1) (take all bytes) ≡ units_in count (take end bytes) ++ u ∷ [])
   pub behind : drop all bytes ≡ []
 
-pub pushed : (bytes : List ℕ) (end all count newest job : ℕ) (u : JournalUnit) → KeepsUnits bytes end count newest → IsUnitOf (drop end bytes) job u → all ≡ length bytes → Pushed bytes end all count end
-pushed bytes end all count newest job u h unit at =
+pub pushed : (bytes : List ℕ) (end all count job : ℕ) (u : JournalUnit) → KeepsUnits bytes end count → IsUnitOf (drop end bytes) job u → all ≡ length bytes → Pushed bytes end all count
+pushed bytes end all count job u h unit at =
     let front = take end bytes in
     let us = units_in count front in
     let whole : take all bytes ≡ bytes = take_all all bytes (omega arith) in
@@ -106,7 +105,6 @@ pushed bytes end all count newest job u h unit at =
       keeps = record {
         within = omega arith;
         stands = subst (Stands (take all bytes) (count + 1)) (sym again) moved;
-        last = inr (us, u, record { is = again; written = ap (drop end) whole ∙ unit.written; within = omega arith; fits = unit.fits });
       };
       units = subst (λ o. IfSome o (λ v. units_in (count + 1) (take all bytes) ≡ us ++ v ∷ [])) (sym unit.is) again;
       behind = drop_all all bytes (omega arith);
@@ -150,31 +148,3 @@ some_left bytes left fewer h n = let z : left ≡ length (units_in left bytes) =
 
 pub fewer_left : (us : List JournalUnit) (bytes : List ℕ) → 0 < length us → length (units_in 0 bytes) < length us
 fewer_left us bytes h = let l : length (units_in 0 bytes) ≡ 0 = ap length (none_in bytes) in omega arith
-
--- ---- the newest unit
-
--- what stands there reads as the last unit
-last_is : (bytes part rest : List ℕ) (newest : ℕ) (us before : List JournalUnit) (u v : JournalUnit) → IsLast bytes newest us before v → part ≡ drop newest bytes → unit_at part ≡ Some (u, rest) → us ≡ before ++ u ∷ []
-last_is bytes part rest newest us before u v h p found =
-    let back : unit_at part ≡ Some (v, []) = ap unit_at (p ∙ h.written ∙ sym (append-nil (unit_bytes v))) ∙ unit_back v [] h.fits in
-    let both : ◌≡◌ {A = Option (JournalUnit × List ℕ)} (Some (u, rest)) (Some (v, [])) = sym found ∙ back in
-    let parts = some_pair_parts u v rest [] both in
-    h.is ∙ ap (λ w. before ++ w ∷ []) (sym parts.0)
-
-newest_by : (bytes part rest : List ℕ) (count newest : ℕ) (us : List JournalUnit) (u : JournalUnit) → count ≡ length us → (count ≡ 0 → ⊥) → EndsAt bytes newest us → part ≡ drop newest bytes → unit_at part ≡ Some (u, rest) → (before : List JournalUnit) × (us ≡ before ++ u ∷ [])
-newest_by bytes part rest count newest us u n some (inl none) p found = let l : length us ≡ 0 = ap length none in absurd (some (omega arith))
-newest_by bytes part rest count newest us u n some (inr last) p found = (last.0, last_is bytes part rest newest us last.0 u last.1 last.2 p found)
-
-pub newest_read : (bytes part rest : List ℕ) (count newest : ℕ) (u : JournalUnit) → Stands bytes count (units_in count bytes) → (count ≡ 0 → ⊥) → EndsAt bytes newest (units_in count bytes) → part ≡ drop newest bytes → unit_at part ≡ Some (u, rest) →
-    (before : List JournalUnit) × (units_in count bytes ≡ before ++ u ∷ [])
-newest_read bytes part rest count newest u stands some ends p found = newest_by bytes part rest count newest (units_in count bytes) u stands.number some ends p found
-
-unread_last : (bytes part : List ℕ) (count newest : ℕ) (us : List JournalUnit) → count ≡ length us → (count ≡ 0 → ⊥) → EndsAt bytes newest us → part ≡ drop newest bytes → unit_at part ≡ None → ⊥
-unread_last bytes part count newest us n some (inl none) p unread = let l : length us ≡ 0 = ap length none in some (omega arith)
-unread_last bytes part count newest us n some (inr last) p unread =
-    let h = last.2 in
-    let back : unit_at part ≡ Some (last.1, []) = ap unit_at (p ∙ h.written ∙ sym (append-nil (unit_bytes last.1))) ∙ unit_back last.1 [] h.fits in
-    cc
-
-pub newest_never_unread : (bytes part : List ℕ) (count newest : ℕ) → Stands bytes count (units_in count bytes) → (count ≡ 0 → ⊥) → EndsAt bytes newest (units_in count bytes) → part ≡ drop newest bytes → unit_at part ≡ None → ⊥
-newest_never_unread bytes part count newest stands some ends p unread = unread_last bytes part count newest (units_in count bytes) stands.number some ends p unread

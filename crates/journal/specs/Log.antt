@@ -1,5 +1,5 @@
 -- What the bytes of a log stand for, and what a log and a journal keep.
-use Rattle.std.specs.Prelude.{◌≡◌, ◌⊎◌, take, drop, Result, Ok, Err, ℕ, ◌+◌, ◌≤◌, ◌<◌, ◌^◌, List, [], ◌∷◌, ◌++◌, length, Option, None, Some, unwrap_or, option_map}
+use Rattle.std.specs.Prelude.{◌≡◌, take, Result, Ok, Err, ℕ, ◌+◌, ◌≤◌, ◌<◌, ◌^◌, List, [], ◌∷◌, length, Option, None, Some, unwrap_or, option_map}
 use Rattle.std.specs.List.{flat_map}
 use Rattle.journal.specs.declared.unit.Unit.{Unit as JournalUnit}
 use Rattle.journal.specs.Format.{unit_bytes}
@@ -27,22 +27,10 @@ pub record Stands (bytes : List ℕ) (count : ℕ) (units : List JournalUnit) : 
   pub number : count ≡ length units
   pub fit : Each FitsUnit units
 
--- the bytes from here on are the last unit
-pub record IsLast (bytes : List ℕ) (from : ℕ) (us before : List JournalUnit) (u : JournalUnit) : Type 0 where
-  pub is : us ≡ before ++ u ∷ []
-  pub written : drop from bytes ≡ unit_bytes u
-  pub within : from ≤ length bytes
-  pub fits : FitsUnit u
-
--- there is no unit, or the last begins here
-abbrev pub EndsAt : List ℕ → ℕ → List JournalUnit → Type 0
-EndsAt bytes from us = (us ≡ []) ⊎ ((before : List JournalUnit) × (u : JournalUnit) × IsLast bytes from us before u)
-
--- what a log keeps: its units end here, and the last begins there
-pub record KeepsUnits (bytes : List ℕ) (end count newest : ℕ) : Type 0 where
+-- what a log keeps: its units end here
+pub record KeepsUnits (bytes : List ℕ) (end count : ℕ) : Type 0 where
   pub within : end ≤ length bytes
   pub stands : Stands (take end bytes) count (units_in count (take end bytes))
-  pub last : EndsAt (take end bytes) newest (units_in count (take end bytes))
 
 -- all units, those that are dropped among them, how many these are, and the bytes behind the units
 pub record Recorded : Type 0 where

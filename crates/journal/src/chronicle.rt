@@ -1,5 +1,5 @@
 //! The log and the units that it has dropped, as one list.
-ghost use Rattle.std.specs.Prelude.{◌≡◌, ◌≤◌, ◌-◌, ◌+◌, ◌<◌, ◌^◌, ◌++◌, [], ◌∷◌, List, ℕ, take, drop, length, IfSome, IfOk, IfErr, OnOk, OnErr, MatchOption, true};
+ghost use Rattle.std.specs.Prelude.{◌≡◌, None, ◌≤◌, ◌-◌, ◌+◌, ◌<◌, ◌^◌, ◌++◌, [], ◌∷◌, List, ℕ, take, drop, length, IfSome, IfOk, IfErr, OnOk, OnErr, true};
 ghost use Rattle.std.specs.List.{flat_map};
 ghost use Rattle.refusal.specs.declared.Refusal.TheVariants.{StampsUsedUp};
 ghost use Rattle.journal.specs.declared.unit.Unit.{Unit as JournalUnit};
@@ -13,13 +13,16 @@ ghost use Rattle.journal.specs.Based.{IsBaseOf, database_of};
 ghost use Rattle.journal.specs.Format.{unit_bytes};
 ghost use Rattle.journal.specs.History.{initial, after};
 ghost use Rattle.journal.specs.Log.{unit_in, IsUnitOf};
+ghost use Rattle.command.specs.declared.access.DataCommand.TheVariants.{Set, Look};
+ghost use Rattle.command.specs.declared.access.Look.TheVariants.{Get};
+ghost use Rattle.command.specs.declared.access.Answer.TheVariants.{Done, Value};
 ghost use Rattle.journal.specs.Stored.{Each, FitsUnit};
 
+use crate::Units;
 use crate::base::Base;
 use crate::exchanges::ExchangeLog;
 use crate::log::Log;
 use crate::past::Past;
-use crate::{Unit, Units};
 use collation::{Job, Text};
 use command::{Answer, DataCommand};
 use key_codec::Key;
@@ -96,14 +99,6 @@ impl Chronicle {
         self.log.units()
     }
 
-    /// The last unit, read back, if it isn't dropped.
-    pub(crate) fn newest(&self) -> Result<Option<Unit>, AllocError>
-        ensures { IfOk result (λ found. MatchOption found (drop self.now.base self.now.units ≡ [])
-            (λ unit. (before : List JournalUnit) × (self.now.units ≡ before ++ unit ∷ []))) }
-    {
-        self.log.newest()
-    }
-
     /// Takes away what stands behind the units. Refused where a unit more would have no number.
     pub(crate) fn begin(&mut self) -> Result<(), Refusal>
         ensures units { self.new.units ≡ self.old.units }
@@ -134,6 +129,28 @@ impl Chronicle {
         ensures err { OnErr result (self.new.behind ≡ []) }
     {
         self.log.write_lone(job, command, answer)
+    }
+
+    /// Writes a SET outside a transaction, from its key and its value; refused as `write_lone`.
+    pub(crate) fn write_set(&mut self, job: Job, key: &Key, value: &[u8]) -> Result<(), AllocError>
+        requires { self.old.behind ≡ [] }
+        ensures units { self.new.units ≡ self.old.units }
+        ensures base { self.new.base ≡ self.old.base }
+        ensures ok { OnOk result (IsUnitOf self.new.behind job (Lone job (Set key.now value.now) Done)) }
+        ensures err { OnErr result (self.new.behind ≡ []) }
+    {
+        self.log.write_set(job, key, value)
+    }
+
+    /// Writes a $GET without a default outside a transaction, from its key and what it was answered; refused as `write_lone`.
+    pub(crate) fn write_get(&mut self, job: Job, key: &Key, value: &[u8]) -> Result<(), AllocError>
+        requires { self.old.behind ≡ [] }
+        ensures units { self.new.units ≡ self.old.units }
+        ensures base { self.new.base ≡ self.old.base }
+        ensures ok { OnOk result (IsUnitOf self.new.behind job (Lone job (Look (Get key.now None)) (Value value.now))) }
+        ensures err { OnErr result (self.new.behind ≡ []) }
+    {
+        self.log.write_get(job, key, value)
     }
 
     /// Writes a transaction; refused as `write_lone`.

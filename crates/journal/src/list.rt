@@ -1,5 +1,5 @@
 //! The journal, and the receipts for its units.
-ghost use Rattle.std.specs.Prelude.{◌≡◌, List, ◌+◌, ◌<◌, ◌≤◌, ◌^◌, ◌-◌, [], ◌∷◌, ◌++◌, take, length, None, Some, IsSome, IfSome, OnOk, OnErr, IfOk, IfErr, IsErrOf, MatchOption, true};
+ghost use Rattle.std.specs.Prelude.{◌≡◌, List, ◌+◌, ◌<◌, ◌≤◌, ◌^◌, ◌-◌, [], ◌∷◌, ◌++◌, take, length, None, Some, IsSome, IfSome, OnOk, OnErr, IfOk, IfErr, IsErrOf, true};
 ghost use Rattle.std.specs.List.{flat_map};
 ghost use Rattle.journal.specs.declared.unit.Unit.{Unit as JournalUnit};
 ghost use Rattle.journal.specs.declared.unit.Unit.TheVariants.{Lone, Whole, Lock, Back, End};
@@ -12,13 +12,16 @@ ghost use Rattle.journal.specs.Based.{IsBaseOf, database_of};
 ghost use Rattle.journal.specs.Format.{unit_bytes};
 ghost use Rattle.journal.specs.History.{initial, after};
 ghost use Rattle.journal.specs.Kept.{job_of, since, HasNoRoom};
+ghost use Rattle.command.specs.declared.access.DataCommand.TheVariants.{Set, Look};
+ghost use Rattle.command.specs.declared.access.Look.TheVariants.{Get};
+ghost use Rattle.command.specs.declared.access.Answer.TheVariants.{Done, Value};
 ghost use Rattle.journal.specs.Stored.{Each, FitsUnit};
 
+use crate::Units;
 use crate::base::Base;
 use crate::before::Before;
 use crate::chronicle::Chronicle;
 use crate::exchanges::ExchangeLog;
-use crate::{Unit, Units};
 use collation::{Job, Text};
 use command::{Answer, DataCommand};
 use key_codec::Key;
@@ -137,14 +140,6 @@ impl Journal {
         self.log.units()
     }
 
-    /// The unit that was pushed last, read back. Fails only for want of memory.
-    pub fn newest(&self) -> Result<Option<Unit>, AllocError>
-        ensures { IfOk result (λ found. MatchOption found (since self.now ≡ [])
-            (λ unit. (before : List JournalUnit) × (self.now.units ≡ before ++ unit ∷ []))) }
-    {
-        self.log.newest()
-    }
-
     /// Writes the unit of a data command outside a transaction, behind the units.
     ///
     /// Refusals: `StampsUsedUp` exactly where the journal would pass 2^64 - 1 units, else `OutOfMemory`. After either
@@ -165,6 +160,38 @@ impl Journal {
         self.prepared = None;
         self.log.begin()?;
         self.log.write_lone(job, command, answer)?;
+        self.prepared = Some(job);
+        Ok(())
+    }
+
+    /// Writes the unit of a SET outside a transaction, from its key and its value, with one look for room; refused as `prepare_lone`.
+    pub fn prepare_set(&mut self, job: Job, key: &Key, value: &[u8]) -> Result<(), Refusal>
+        ensures units { self.new.units ≡ self.old.units }
+        ensures base { self.new.base ≡ self.old.base }
+        ensures prepared { OnOk result (self.new.prepared ≡ Some (Lone job (Set key.now value.now) Done)) }
+        ensures refused { OnErr result (self.new.prepared ≡ None) }
+        ensures used_up { 2 ^ 64 - 1 < length self.old.units + 1 → IsErrOf result Refusal.StampsUsedUp }
+        ensures cause { IfErr result (λ refusal. HasNoRoom refusal 1 (length self.old.units)) }
+    {
+        self.prepared = None;
+        self.log.begin()?;
+        self.log.write_set(job, key, value)?;
+        self.prepared = Some(job);
+        Ok(())
+    }
+
+    /// Writes the unit of a $GET without a default outside a transaction, from its key and what it was answered; refused as `prepare_lone`.
+    pub fn prepare_get(&mut self, job: Job, key: &Key, value: &[u8]) -> Result<(), Refusal>
+        ensures units { self.new.units ≡ self.old.units }
+        ensures base { self.new.base ≡ self.old.base }
+        ensures prepared { OnOk result (self.new.prepared ≡ Some (Lone job (Look (Get key.now None)) (Value value.now))) }
+        ensures refused { OnErr result (self.new.prepared ≡ None) }
+        ensures used_up { 2 ^ 64 - 1 < length self.old.units + 1 → IsErrOf result Refusal.StampsUsedUp }
+        ensures cause { IfErr result (λ refusal. HasNoRoom refusal 1 (length self.old.units)) }
+    {
+        self.prepared = None;
+        self.log.begin()?;
+        self.log.write_get(job, key, value)?;
         self.prepared = Some(job);
         Ok(())
     }

@@ -1,18 +1,21 @@
 //! The log: the bytes of unit after unit, and behind them those of a unit that is not yet one of them.
-ghost use Rattle.std.specs.Prelude.{◌≡◌, ◌≤◌, ◌-◌, ◌+◌, ◌<◌, ◌^◌, ◌++◌, [], ◌∷◌, List, ℕ, take, drop, length, IfSome, IfOk, OnOk, OnErr, MatchOption};
+ghost use Rattle.std.specs.Prelude.{◌≡◌, None, ◌≤◌, ◌-◌, ◌+◌, ◌<◌, ◌^◌, ◌++◌, [], ◌∷◌, List, ℕ, take, drop, length, IfSome, OnOk, OnErr};
 ghost use Rattle.std.specs.List.{flat_map};
 ghost use Rattle.journal.specs.declared.unit.Unit.{Unit as JournalUnit};
 ghost use Rattle.journal.specs.declared.unit.Unit.TheVariants.{Lone, Whole, Lock, Back, End};
 ghost use Rattle.journal.specs.Format.{unit_bytes};
 ghost use Rattle.journal.specs.Log.{unit_in, Stands, IsUnitOf};
+ghost use Rattle.command.specs.declared.access.DataCommand.TheVariants.{Set, Look};
+ghost use Rattle.command.specs.declared.access.Look.TheVariants.{Get};
+ghost use Rattle.command.specs.declared.access.Answer.TheVariants.{Done, Value};
 ghost use Rattle.journal.specs.Stored.{Each, FitsUnit};
 
+use crate::Units;
 use crate::exchanges::ExchangeLog;
-use crate::read::{Unread, read_unit};
-use crate::write::{push_back, push_end, push_lock, push_lone, push_whole};
-use crate::{Unit, Units};
+use crate::write::{push_back, push_end, push_get, push_lock, push_lone, push_set, push_whole};
 use collation::Job;
 use command::{Answer, DataCommand};
+use key_codec::Key;
 use lock_name::LockCommand;
 use std::alloc::{AllocError, Global};
 use std::marker::Model;
@@ -23,7 +26,6 @@ pub(crate) struct Log {
     bytes: Vec<u8>,
     end: usize,
     count: u64,
-    newest: usize,
 }
 
 impl Model for Log {
@@ -34,7 +36,7 @@ impl Model for Log {
 
     ghost view = { λ l. record { units = units_in l.count (take l.end l.bytes.items); behind = drop l.end l.bytes.items } };
 
-    ghost invariant = { λ l. KeepsUnits l.bytes.items l.end l.count l.newest };
+    ghost invariant = { λ l. KeepsUnits l.bytes.items l.end l.count };
 }
 
 // What stands before the end.
@@ -43,17 +45,6 @@ fn front(bytes: &[u8], end: usize) -> &[u8]
     ensures { result.now ≡ take end bytes.now }
 {
     &bytes[..end]
-}
-
-// What stands from here on; nothing past the end.
-fn from(bytes: &[u8], start: usize) -> &[u8]
-    ensures { result.now ≡ drop start bytes.now }
-{
-    if start <= bytes.len() {
-        &bytes[start..]
-    } else {
-        &[]
-    }
 }
 
 // What was written behind the end is taken away where memory was refused.
@@ -84,7 +75,6 @@ impl Log {
             bytes: Vec::new(alloc),
             end: 0,
             count: 0,
-            newest: 0,
         }
     }
 
@@ -115,22 +105,6 @@ impl Log {
         )
     }
 
-    /// The last unit, read back.
-    pub(crate) fn newest(&self) -> Result<Option<Unit>, AllocError>
-        ensures { IfOk result (λ found. MatchOption found (self.now.units ≡ [])
-            (λ unit. (before : List JournalUnit) × (self.now.units ≡ before ++ unit ∷ []))) }
-    {
-        if self.count == 0 {
-            return Ok(None);
-        }
-        let last = from(front(&self.bytes, self.end), self.newest);
-        match read_unit(*self.bytes.allocator(), last) {
-            Ok((unit, _)) => Ok(Some(unit)),
-            Err(Unread::Memory) => Err(AllocError),
-            Err(Unread::Form) => unreachable!(),
-        }
-    }
-
     /// Takes away what stands behind the units.
     pub(crate) fn begin(&mut self)
         ensures units { self.new.units ≡ self.old.units }
@@ -152,6 +126,28 @@ impl Log {
         ensures err { OnErr result (self.new.behind ≡ []) }
     {
         let written = push_lone(&mut self.bytes, job, command, answer);
+        settle(&mut self.bytes, self.end, written)
+    }
+
+    /// Writes a SET outside a transaction, from its key and its value; refused as `write_lone`.
+    pub(crate) fn write_set(&mut self, job: Job, key: &Key, value: &[u8]) -> Result<(), AllocError>
+        requires { self.old.behind ≡ [] }
+        ensures units { self.new.units ≡ self.old.units }
+        ensures ok { OnOk result (IsUnitOf self.new.behind job (Lone job (Set key.now value.now) Done)) }
+        ensures err { OnErr result (self.new.behind ≡ []) }
+    {
+        let written = push_set(&mut self.bytes, job, key, value);
+        settle(&mut self.bytes, self.end, written)
+    }
+
+    /// Writes a $GET without a default outside a transaction, from its key and what it was answered; refused as `write_lone`.
+    pub(crate) fn write_get(&mut self, job: Job, key: &Key, value: &[u8]) -> Result<(), AllocError>
+        requires { self.old.behind ≡ [] }
+        ensures units { self.new.units ≡ self.old.units }
+        ensures ok { OnOk result (IsUnitOf self.new.behind job (Lone job (Look (Get key.now None)) (Value value.now))) }
+        ensures err { OnErr result (self.new.behind ≡ []) }
+    {
+        let written = push_get(&mut self.bytes, job, key, value);
         settle(&mut self.bytes, self.end, written)
     }
 
@@ -216,7 +212,6 @@ impl Log {
         ensures units { IfSome (unit_in self.old.behind) (λ unit. self.new.units ≡ self.old.units ++ unit ∷ []) }
         ensures behind { self.new.behind ≡ [] }
     {
-        self.newest = self.end;
         self.end = self.bytes.len();
         self.count += 1;
     }
@@ -227,8 +222,6 @@ impl Log {
         ensures units { self.new.units ≡ drop (length self.old.units - left) self.old.units }
         ensures behind { self.new.behind ≡ [] }
     {
-        let at = self.end.saturating_sub(rest.len());
-        self.newest = self.newest.saturating_sub(at);
         self.end = rest.len();
         self.count = left;
         self.bytes = rest;

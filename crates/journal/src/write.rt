@@ -1,10 +1,12 @@
 //! Units written as bytes, after what stands there. A refusal may leave a part of them.
-ghost use Rattle.std.specs.Prelude.{◌≡◌, ◌≤◌, ◌+◌, ◌*◌, ◌++◌, [], ◌∷◌, length, OnOk, IsOk, vec_len, vec_capacity};
+ghost use Rattle.std.specs.Prelude.{◌≡◌, None, ◌≤◌, ◌+◌, ◌*◌, ◌++◌, [], ◌∷◌, length, OnOk, IsOk, vec_len, vec_capacity};
 ghost use Rattle.std.specs.List.{flat_map};
 ghost use Rattle.collation.specs.Limits.{most_jobs};
 ghost use Rattle.key_codec.specs.Grown.{GoesOnFrom};
 ghost use Rattle.journal.specs.Format as format;
 ghost use Rattle.journal.specs.declared.unit.Unit.TheVariants.{Lone, Whole, Lock, Back, End};
+ghost use Rattle.command.specs.declared.access.DataCommand.TheVariants.{Set};
+ghost use Rattle.command.specs.declared.access.Answer.TheVariants.{Done, Value};
 ghost use Rattle.journal.specs.Stored.{FitsUnit, FitsString, FitsReference, FitsName, FitNames, FitsLook, FitsCommand, FitsAnswer, FitsLock, Each};
 
 use crate::exchanges::ExchangeLog;
@@ -384,8 +386,86 @@ pub(crate) fn push_lone(
     ensures fits { OnOk result (FitsUnit (Lone job command.now answer.now)) }
     ensures kept { GoesOnFrom bytes.old.items bytes.new.items }
 {
+    match (command, answer) {
+        (DataCommand::Set(key, value), Answer::Done) => {
+            push_set(bytes, job, key, value.as_slice())
+        }
+        (DataCommand::Look(Look::Get(key, None)), Answer::Value(value)) => {
+            push_get(bytes, job, key, value.as_slice())
+        }
+        _ => push_other(bytes, job, command, answer),
+    }
+}
+
+// The same, part after part.
+fn push_other(
+    bytes: &mut Vec<u8>,
+    job: Job,
+    command: &DataCommand,
+    answer: &Answer,
+) -> Result<(), AllocError>
+    ensures bytes { OnOk result (bytes.new.items ≡ bytes.old.items ++ format.unit_bytes (Lone job command.now answer.now)) }
+    ensures fits { OnOk result (FitsUnit (Lone job command.now answer.now)) }
+    ensures kept { GoesOnFrom bytes.old.items bytes.new.items }
+{
     push_head(bytes, job, answered_tag(command, answer))?;
     push_tagged(bytes, command, answer)
+}
+
+// A head, a key and a string, with one look for room. A length and a tag are nine bytes and one at most.
+fn push_pair(
+    bytes: &mut Vec<u8>,
+    job: Job,
+    tag: u8,
+    key: &Key,
+    value: &[u8],
+) -> Result<(), AllocError>
+    ensures bytes { OnOk result (bytes.new.items ≡ bytes.old.items ++ (format.number_bytes job ++ tag ∷ (format.reference_bytes key.now ++ format.string_bytes value.now))) }
+    ensures reference { OnOk result (FitsReference key.now) }
+    ensures string { OnOk result (FitsString value.now) }
+    ensures low { OnOk result (1 ≤ job) }
+    ensures high { OnOk result (job ≤ most_jobs) }
+    ensures kept { GoesOnFrom bytes.old.items bytes.new.items }
+{
+    let key = without_end(key.as_slice());
+    let Some(more) = (key.len() + value.len()).checked_add(28) else {
+        return Err(AllocError);
+    };
+    make_room(bytes, more)?;
+    write_head(bytes, job, tag);
+    write_number(bytes, key.len() as u64);
+    write_bytes(bytes, key);
+    write_number(bytes, value.len() as u64);
+    write_bytes(bytes, value);
+    Ok(())
+}
+
+// The unit of a SET outside a transaction, from its key and its value.
+pub(crate) fn push_set(
+    bytes: &mut Vec<u8>,
+    job: Job,
+    key: &Key,
+    value: &[u8],
+) -> Result<(), AllocError>
+    ensures bytes { OnOk result (bytes.new.items ≡ bytes.old.items ++ format.unit_bytes (Lone job (Set key.now value.now) Done)) }
+    ensures fits { OnOk result (FitsUnit (Lone job (Set key.now value.now) Done)) }
+    ensures kept { GoesOnFrom bytes.old.items bytes.new.items }
+{
+    push_pair(bytes, job, 0, key, value)
+}
+
+// The unit of a $GET without a default outside a transaction, from its key and what it was answered.
+pub(crate) fn push_get(
+    bytes: &mut Vec<u8>,
+    job: Job,
+    key: &Key,
+    value: &[u8],
+) -> Result<(), AllocError>
+    ensures bytes { OnOk result (bytes.new.items ≡ bytes.old.items ++ format.unit_bytes (Lone job (DataCommand.Look (Look.Get key.now None)) (Value value.now))) }
+    ensures fits { OnOk result (FitsUnit (Lone job (DataCommand.Look (Look.Get key.now None)) (Value value.now))) }
+    ensures kept { GoesOnFrom bytes.old.items bytes.new.items }
+{
+    push_pair(bytes, job, 17, key, value)
 }
 
 // The unit of a LOCK.

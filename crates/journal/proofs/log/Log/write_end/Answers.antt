@@ -6,11 +6,11 @@ use Rattle.journal.proofs.log.Log.write_end.Goals as goal
 pub invariant_of-self : goal.invariant_of-self
 invariant_of-self c =
     let s = c.self.inside in
-    let h = settled c.settle.result c.push_end-written.result s.bytes.items c.push_end-written.new.bytes.items c.settle.new.bytes.items s.end s.count s.newest c.args.job (End c.args.job) c.settle.ensures.same c.self.invariant (ap (λ k. k.behind) c.self.view_is ∙ c.requires) c.push_end-written.ensures.bytes c.push_end-written.ensures.fits c.push_end-written.ensures.kept c.settle.ensures.ok c.settle.ensures.err refl in
+    let h = settled c.settle.result c.push_end-written.result s.bytes.items c.push_end-written.new.bytes.items c.settle.new.bytes.items s.end s.count c.args.job (End c.args.job) c.settle.ensures.same c.self.invariant (ap (λ k. k.behind) c.self.view_is ∙ c.requires) c.push_end-written.ensures.bytes c.push_end-written.ensures.fits c.push_end-written.ensures.kept c.settle.ensures.ok c.settle.ensures.err refl in
     h.stays.keeps
 
 pub returns : goal.returns
 returns c =
     let s = c.self.inside in
-    let h = settled c.settle.result c.push_end-written.result s.bytes.items c.push_end-written.new.bytes.items c.settle.new.bytes.items s.end s.count s.newest c.args.job (End c.args.job) c.settle.ensures.same c.self.invariant (ap (λ k. k.behind) c.self.view_is ∙ c.requires) c.push_end-written.ensures.bytes c.push_end-written.ensures.fits c.push_end-written.ensures.kept c.settle.ensures.ok c.settle.ensures.err refl in
+    let h = settled c.settle.result c.push_end-written.result s.bytes.items c.push_end-written.new.bytes.items c.settle.new.bytes.items s.end s.count c.args.job (End c.args.job) c.settle.ensures.same c.self.invariant (ap (λ k. k.behind) c.self.view_is ∙ c.requires) c.push_end-written.ensures.bytes c.push_end-written.ensures.fits c.push_end-written.ensures.kept c.settle.ensures.ok c.settle.ensures.err refl in
     record { units = h.stays.units ∙ ap (λ k. k.units) c.self.view_is; ok = h.ok; err = h.err }
