@@ -1,6 +1,6 @@
 -- Cuts with no member between them: look-ups from them find the same.
 use Rattle.std.proofs.Common.{◌≡◌, ℕ, ◌<◌, Bool, true, false, List, [], ◌∷◌, length, get_or, zero, suc, arith, refl, sym, ap, subst, ◌∙◌}
-use Rattle.std.specs.Prelude.{cond, not, ◌&&◌, filter, is_some, Some, None}
+use Rattle.std.specs.Prelude.{cond, not, ◌&&◌, filter, is_some, Option, Some, None}
 use Rattle.std.proofs.lemmas.Bool.{or_left, or_right}
 use Rattle.std.specs.Ordering.{eq_by_cmp}
 use Rattle.std.specs.Cmp.{tied_itself}
@@ -12,7 +12,8 @@ use Rattle.collation.specs.Order.{ref_cmp}
 use Rattle.collation.specs.laws.Order.{ref_cmp_total}
 use Rattle.collation.specs.Database.{Database}
 use Rattle.globals.specs.declared.cut.Cut.{Cut}
-use Rattle.globals.specs.Cuts.{stands_before, first_from_cut, last_before_cut, entries_from}
+use Rattle.globals.specs.Cuts.{stands_before, stands_within, stands_under, up_to, down_to, first_from_cut, last_before_cut, entries_from}
+use Rattle.globals.specs.laws.Ends.{get_to, get_down}
 use Rattle.globals.specs.Entries.{find_last}
 use Rattle.read_ranges.specs.declared.range.ReadRange.{ReadRange}
 use Rattle.read_ranges.specs.Ranges.{begins_after, ends_after, is_in, is_in_one}
@@ -23,7 +24,7 @@ Node = Reference × List ℕ
 
 -- ---- the ends of an empty stretch
 
-one_has : (rs : List ReadRange) (i : ℕ) (r : ReadRange) → i < length rs → r ≡ get_or rs i r → (x : Reference) → is_in r x ≡ true → is_in_one rs x ≡ true
+pub one_has : (rs : List ReadRange) (i : ℕ) (r : ReadRange) → i < length rs → r ≡ get_or rs i r → (x : Reference) → is_in r x ≡ true → is_in_one rs x ≡ true
 one_has [] i r l e x h = absurd (omega arith)
 one_has (q ∷ rs) zero r l e x h = or_left (is_in q x) _ (subst (λ (o : ReadRange). is_in o x ≡ true) e h)
 one_has (q ∷ rs) (suc i) r l e x h = or_right (is_in q x) _ (one_has rs i r (omega arith) e x h)
@@ -76,6 +77,18 @@ module _ (P Q : Reference → Bool) where
   kept_same : (es : List Node) → AgreeOn es → filter (λ e. P e.0) es ≡ filter (λ e. Q e.0) es
   kept_same [] alike = refl
   kept_same (e ∷ es) alike = (λ i. cond (alike e.0 (head_there e es) i) (e ∷ kept_same es (rest_agrees e es alike) i) (kept_same es (rest_agrees e es alike) i))
+
+-- ---- with an end, or down to a floor
+
+if_kept : (b : Bool) (o : Option (List ℕ)) → is_some (cond b o None) ≡ true → is_some o ≡ true
+if_kept true o there = there
+if_kept false o there = absurd (cc)
+
+pub alike_to : (a b : Cut) (end : Option Cut) (m : Database) → PartAlike a b m → PartAlike a b (up_to end m)
+alike_to a b end m alike x there = alike x (if_kept (stands_within end x) (finmap.get m x) (sym (ap is_some (get_to end m x)) ∙ there))
+
+pub alike_down : (a b : Cut) (floor : Option Cut) (m : Database) → PartAlike a b m → PartAlike a b (down_to floor m)
+alike_down a b floor m alike x there = alike x (if_kept (not (stands_under floor x)) (finmap.get m x) (sym (ap is_some (get_down floor m x)) ∙ there))
 
 -- ---- look-ups from two cuts
 

@@ -1,8 +1,6 @@
 -- Nothing stands between a cut and the member that is found from it, or beyond a cut from which none is found.
-use Rattle.std.proofs.Common.{◌≡◌, Bool, true, false, List, ◌∷◌, refl, sym, ap, subst, ◌∙◌}
-use Rattle.std.specs.Prelude.{not, ◌&&◌, ◌||◌, is_some, Some, None}
-use Rattle.std.specs.declared.cmp.Ordering.{Ordering}
-use Rattle.std.specs.declared.cmp.Ordering.TheVariants.{Less, Equal, Greater}
+use Rattle.std.proofs.Common.{◌≡◌, Bool, true, false, List, ◌∷◌, refl, sym, ap, ◌∙◌}
+use Rattle.std.specs.Prelude.{cond, not, ◌&&◌, ◌||◌, is_some, Option, Some, None}
 use Rattle.std.specs.FinMap as finmap
 use Rattle.std.proofs.Math.Bool.{not-not}
 use Rattle.std.proofs.lemmas.Bool.{false_from_ne_true}
@@ -10,12 +8,12 @@ use Rattle.std.specs.Ordering.{is_lt}
 use Rattle.std.specs.Cmp.{first_so, second_so}
 use Rattle.collation.specs.Reference.{Reference}
 use Rattle.collation.specs.Order.{ref_cmp}
-use Rattle.collation.specs.laws.Order.{ref_cmp_total, ref_cmp-IsAntisymmetric, is_less, turned}
+use Rattle.collation.specs.laws.Order.{ref_cmp_total, ref_cmp-IsAntisymmetric, is_less}
 use Rattle.collation.specs.Database.{Database}
 use Rattle.globals.specs.declared.cut.Cut.{Cut}
-use Rattle.globals.specs.Cuts.{stands_before, first_from_cut, last_before_cut}
-use Rattle.globals.specs.laws.Cuts.{stands_before-earlier}
-use Rattle.globals.specs.laws.Nearest.{nearest_is, nearest_none}
+use Rattle.globals.specs.Cuts.{stands_before, stands_within, up_to, first_from_cut, last_before_cut}
+use Rattle.globals.specs.laws.Nearest.{keep, nearest_is, nearest_none}
+use Rattle.globals.specs.laws.Ends.{first_to, get_to}
 use Rattle.read_ranges.specs.declared.range.ReadRange.{ReadRange}
 use Rattle.read_ranges.specs.Ranges.{begins_after, between, ends_after, is_in, is_in_one, AreEarlier}
 use Rattle.stretches.specs.Empty.{AreEmpty, IsEmpty, IsFree}
@@ -39,6 +37,21 @@ free_to_end cut end m none x h = ap is_some (nearest_none ref_cmp ref_cmp_total 
 
 pub free_from_start : (start cut : Cut) (m : Database) → last_before_cut cut m ≡ None → IsFree start cut m
 free_from_start start cut m none x h = ap is_some (nearest_none ref_cmp ref_cmp_total ref_cmp-IsAntisymmetric false (stands_before cut) m none x (second_so (not (stands_before start x)) _ h))
+
+-- ---- a look that ends
+
+first_kept : (P : Reference → Bool) (o : Option Node) (e : Node) → keep P o ≡ Some e → o ≡ Some e
+first_kept P None e is = absurd (cc)
+first_kept P (Some f) e is = elim (P f.0) as (λ b. cond b (Some f) None ≡ Some e → Some f ≡ Some e) [ true ↦ λ is. is | false ↦ λ is. absurd (cc) ] is
+
+pub free_to_found : (cut before : Cut) (end : Option Cut) (m : Database) (e : Node) → first_from_cut cut (up_to end m) ≡ Some e → ((x : Reference) → stands_before before x ≡ is_lt (ref_cmp x e.0)) → IsFree cut before m
+free_to_found cut before end m e is at = free_from cut before m e (first_kept (stands_within end) (first_from_cut cut m) e (sym (first_to cut end m) ∙ is)) at
+
+pub free_within : (cut end : Cut) (m : Database) → first_from_cut cut (up_to (Some end) m) ≡ None → IsFree cut end m
+free_within cut end m none x h =
+    ap (λ b. is_some (cond b (finmap.get m x) None)) (sym (second_so (not (stands_before cut x)) _ h))
+    ∙ ap is_some (sym (get_to (Some end) m x))
+    ∙ ap is_some (nearest_none ref_cmp ref_cmp_total ref_cmp-IsAntisymmetric true (λ x. not (stands_before cut x)) (up_to (Some end) m) none x (first_so (not (stands_before cut x)) _ h))
 
 -- ---- nothing stands between a cut and itself
 
@@ -66,27 +79,8 @@ free_part low middle high begin end s m before behind begins ends of x h =
 
 -- ---- a stretch with its ends
 
-pub nothing_from : (s : ReadRange) (low : Cut) (m : Database) → ((x : Reference) → stands_before low x ≡ begins_after s x) → first_from_cut low m ≡ None → IsEmpty s m
-nothing_from s low m begins none x h = ap is_some (nearest_none ref_cmp ref_cmp_total ref_cmp-IsAntisymmetric true (λ x. not (stands_before low x)) m none x (ap not (begins x) ∙ first_so (not (begins_after s x)) _ h))
-
-module _ (s : ReadRange) (low high : Cut) (m : Database) (begins : (x : Reference) → stands_before low x ≡ begins_after s x) (ends : (x : Reference) → stands_before high x ≡ ends_after s x) where
-  from_low : (x : Reference) → is_in s x ≡ true → not (stands_before low x) ≡ true
-  from_low x h = ap not (begins x) ∙ first_so (not (begins_after s x)) _ h
-
-  to_high : (x : Reference) → is_in s x ≡ true → stands_before high x ≡ true
-  to_high x h = ends x ∙ second_so (not (begins_after s x)) _ h
-
-  -- the first member from its beginning on stands beyond its end
-  pub next_beyond : (e : Node) (b : Bool) → first_from_cut low m ≡ Some e → b ≡ stands_before high e.0 → not b ≡ true → IsEmpty s m
-  next_beyond e b is test beyond x h = false_from_ne_true _ (λ there. by_order there (ref_cmp x e.0) refl)
-    where
-      never : stands_before high e.0 ≡ true → ⊥
-      never t = let no : not true ≡ true = (λ i. not (sym (test ∙ t) i)) ∙ beyond in absurd (cc)
-
-      by_order : finmap.contains_key m x ≡ true → (r : Ordering) → ref_cmp x e.0 ≡ r → ⊥
-      by_order there Less l = let near = nearest_is ref_cmp ref_cmp_total ref_cmp-IsAntisymmetric true (λ x. not (stands_before low x)) m e is in near.none_nearer x (from_low x h) there l
-      by_order there Equal l = never (subst (λ y. stands_before high y ≡ true) (ref_cmp-IsAntisymmetric x e.0 l) (to_high x h))
-      by_order there Greater l = never (stands_before-earlier high e.0 x (turned ref_cmp_total x e.0 Greater l) (to_high x h))
+pub empty_within : (s : ReadRange) (low high : Cut) (m : Database) → ((x : Reference) → stands_before low x ≡ begins_after s x) → ((x : Reference) → stands_before high x ≡ ends_after s x) → first_from_cut low (up_to (Some high) m) ≡ None → IsEmpty s m
+empty_within s low high m begins ends none x h = free_within low high m none x ((λ i. not (begins x i) && ends x i) ∙ h)
 
 -- ---- several
 

@@ -1,5 +1,5 @@
 -- Stretches of references in which no member of a database stands.
-use Rattle.std.specs.Prelude.{◌≡◌, true, false, ◌||◌, List}
+use Rattle.std.specs.Prelude.{◌≡◌, true, false, not, ◌&&◌, ◌||◌, List}
 use Rattle.std.specs.FinMap as finmap
 use Rattle.collation.specs.Reference.{Reference}
 use Rattle.collation.specs.Database.{Database}
@@ -19,6 +19,10 @@ AreEmpty stretches m = (x : Reference) → is_in_one stretches x ≡ true → fi
 -- what stands in the new stretches stood in one of the old ones or stands in the one that came
 abbrev pub AreNoMore : ReadRange → List ReadRange → List ReadRange → Type 0
 AreNoMore more old new = (x : Reference) → is_in_one new x ≡ true → (is_in_one old x || is_in more x) ≡ true
+
+-- what stands in the new stretches stood in one of the old ones, and doesn't stand between two cuts
+abbrev pub AreLeft : Cut → Cut → List ReadRange → List ReadRange → Type 0
+AreLeft low high old new = (x : Reference) → is_in_one new x ≡ true → (is_in_one old x && not (between low high x)) ≡ true
 
 -- two cuts with no member between them
 abbrev pub PartAlike : Cut → Cut → Database → Type 0

@@ -8,11 +8,13 @@
 //! look-up begins in a stretch it goes on from that stretch's end.
 //!
 //! A stretch is found by a scout: look-ups from where a $ORDER or $QUERY begins tell that nothing stands up to the next
-//! nodes on both sides. What lies in the way there, killed nodes, is what makes it worth while (`InTheWay`).
+//! nodes on both sides, or for $DATA that nothing stands below its reference, or up to the first node there. What lies
+//! in the way, killed nodes, is what makes it worth while (`InTheWay`).
 //!
 //! Where ^A(1) to ^A(5000) were killed of ^A(1) to ^A(9000), $ORDER(^A("")) passes over 5,000 killed nodes to ^A(5001).
 //! Its scout finds the stretch from after ^A to past ^A(5000); once that is noted the next $ORDER(^A("")) begins there,
-//! and after KILL ^A(5001) its scout's stretch, from there to past ^A(5001), becomes one with it.
+//! and after KILL ^A(5001) its scout's stretch, from there to past ^A(5001), becomes one with it. SET ^A(3000) leaves
+//! two of it, before ^A(3000) and behind.
 //!
 //! Read `specs/Empty.antt`, then `stretches_kept.rt`, `skipping.rt`, `scouting.rt`.
 //! Not promised: which stretches are kept, and how many look-ups a view is spared.
@@ -22,6 +24,7 @@ pub use scouting::{InTheWay, scout};
 pub use skipping::Skipping;
 pub use stretches_kept::Stretches;
 
+mod cuts;
 mod scouting;
 mod skipping;
 mod stretches_kept;

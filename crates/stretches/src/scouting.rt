@@ -4,12 +4,13 @@ ghost use Rattle.read_ranges.specs.Ranges.{AreEarlier};
 ghost use Rattle.stretches.specs.Empty.{IsEmpty, IsFree};
 
 use crate::Stretches;
+use crate::cuts::{earlier, later};
 use collation::Direction;
 use command::Look;
 use globals::{Cut, OrderedView, order_start, query_start, stands_before};
 use key_codec::{Key, Place};
-use read_ranges::{ReadRange, is_at_most};
-use std::alloc::Global;
+use read_ranges::ReadRange;
+use std::alloc::{AllocError, Global};
 
 /// What may lie in the way of look-ups: references in order, most without a value. Advice, on which no contract rests.
 pub trait InTheWay {
@@ -20,10 +21,14 @@ pub trait InTheWay {
     fn last_before(&self, cut: Cut<'_>) -> Option<&Key>;
 }
 
+// From how many references in the way on a stretch below a reference is worth while.
+const MANY: usize = 8;
+
 /// The stretch in which a $ORDER or $QUERY begins, or that begins where one ends in which it begins, if something lies
-/// in the way there. It takes in what lies in the way up to the next nodes on both sides, and no more, so that a node
-/// set beside it leaves it empty; beyond the last node of all it goes to the end of the global. None for other
-/// commands, and where memory is refused, which is asked for only where a key has over 38 bytes.
+/// in the way there. It takes in what lies in the way up to the next nodes on both sides, and no more; beyond the last
+/// node of all it goes to the end of the global. For $DATA the stretch below its reference, up to the first node there,
+/// if eight or more lie in the way. None for $GET, and where memory is refused, which is asked for only where a key has
+/// over 38 bytes.
 pub fn scout<V: OrderedView, W: InTheWay>(
     alloc: Global,
     view: &V,
@@ -34,7 +39,7 @@ pub fn scout<V: OrderedView, W: InTheWay>(
     ensures { IfSome result (λ stretch. IsEmpty stretch (V.content view.now)) }
 {
     match look {
-        Look::Data(_) => None,
+        Look::Data(key) => scout_below(view, way, stretches, key),
         Look::Get(_, _) => None,
         Look::Order(place, Direction::Forward) => {
             let cut = order_start(place, Direction::Forward);
@@ -101,6 +106,53 @@ fn scout_behind<V: OrderedView, W: InTheWay>(
     narrowed(view, way, low, to, high)
 }
 
+// The stretch below a reference, up to the first node there.
+fn scout_below<V: OrderedView, W: InTheWay>(
+    view: &V,
+    way: &W,
+    stretches: &Stretches,
+    root: &Key,
+) -> Option<ReadRange>
+    ensures { IfSome result (λ stretch. IsEmpty stretch (V.content view.now)) }
+{
+    let low = stretches.end_from(Cut::After(root));
+    let high = edge_below(view, low, root);
+    if !are_many(way, low, high) {
+        return None;
+    }
+    match ReadRange::new(low, high) {
+        Ok(stretch) => Some(stretch),
+        Err(AllocError) => None,
+    }
+}
+
+// Whether many references lie in the way between two cuts. Advice.
+fn are_many<'c, W: InTheWay>(way: &'c W, low: Cut<'c>, high: Cut<'_>) -> bool {
+    let mut cut = low;
+    for _ in 0..MANY {
+        match way.first_from(cut) {
+            Some(key) => {
+                if !stands_before(high, key) {
+                    return false;
+                }
+                cut = Cut::After(key);
+            }
+            None => return false,
+        }
+    }
+    true
+}
+
+// Up to where no node stands from the cut on, at or under the reference.
+fn edge_below<'v, V: OrderedView>(view: &'v V, cut: Cut<'_>, root: &'v Key) -> Cut<'v>
+    ensures { IsFree cut.entry result (V.content view.now) }
+{
+    match view.next(cut, Some(Cut::Past(root))) {
+        Some((first, _)) => Cut::Before(first),
+        None => Cut::Past(root),
+    }
+}
+
 // Whether there is a reference, and it stands between two cuts. Advice.
 fn is_there(found: Option<&Key>, low: Cut<'_>, high: Cut<'_>) -> bool {
     match found {
@@ -113,7 +165,7 @@ fn is_there(found: Option<&Key>, low: Cut<'_>, high: Cut<'_>) -> bool {
 fn next_edge<'v, V: OrderedView>(view: &'v V, cut: Cut<'_>, name: &'v Key) -> Cut<'v>
     ensures { IsFree cut.entry result (V.content view.now) }
 {
-    match view.next(cut) {
+    match view.next(cut, None) {
         Some((found, _)) => Cut::Before(found),
         None => Cut::Past(name),
     }
@@ -123,7 +175,7 @@ fn next_edge<'v, V: OrderedView>(view: &'v V, cut: Cut<'_>, name: &'v Key) -> Cu
 fn last_edge<'v, V: OrderedView>(view: &'v V, cut: Cut<'_>) -> Cut<'v>
     ensures { IsFree result cut.entry (V.content view.now) }
 {
-    match view.prev(cut) {
+    match view.prev(cut, None) {
         Some((found, _)) => Cut::After(found),
         None => Cut::Start,
     }
@@ -199,27 +251,5 @@ fn end_of<'c, W: InTheWay>(way: &'c W, middle: Cut<'c>, high: Cut<'c>) -> Cut<'c
     match way.last_before(high) {
         Some(last) => earlier(high, later(Cut::Past(last), middle)),
         None => high,
-    }
-}
-
-// The first of two cuts, or the second where that stands after it.
-fn later<'c>(first: Cut<'c>, second: Cut<'c>) -> Cut<'c>
-    ensures { AreEarlier first.entry result }
-{
-    if is_at_most(first, second) {
-        second
-    } else {
-        first
-    }
-}
-
-// The first of two cuts, or the second where that stands before it.
-fn earlier<'c>(first: Cut<'c>, second: Cut<'c>) -> Cut<'c>
-    ensures { AreEarlier result first.entry }
-{
-    if is_at_most(first, second) {
-        first
-    } else {
-        second
     }
 }

@@ -32,15 +32,15 @@ impl<'v, V: OrderedView> OrderedView for Skipping<'v, V> {
         self.view.get(key)
     }
 
-    fn next(&self, cut: Cut<'_>) -> Option<(&Key, &Text)> {
-        self.view.next(self.stretches.end_from(cut))
+    fn next(&self, cut: Cut<'_>, end: Option<Cut<'_>>) -> Option<(&Key, &Text)> {
+        self.view.next(self.stretches.end_from(cut), end)
     }
 
-    fn gather(&self, cut: Cut<'_>, most: usize) -> Run<'_> {
-        self.view.gather(self.stretches.end_from(cut), most)
+    fn gather(&self, cut: Cut<'_>, end: Option<Cut<'_>>, most: usize) -> Run<'_> {
+        self.view.gather(self.stretches.end_from(cut), end, most)
     }
 
-    fn prev(&self, cut: Cut<'_>) -> Option<(&Key, &Text)> {
-        self.view.prev(self.stretches.start_before(cut))
+    fn prev(&self, cut: Cut<'_>, floor: Option<Cut<'_>>) -> Option<(&Key, &Text)> {
+        self.view.prev(self.stretches.start_before(cut), floor)
     }
 }

@@ -1,11 +1,16 @@
 //! What is kept of stretches in which nothing stands.
-ghost use Rattle.std.specs.Prelude.{◌≡◌, true, false, [], length, nat_eq, IfSome};
+ghost use Rattle.std.specs.FinMap as finmap;
+ghost use Rattle.std.specs.Prelude.{◌≡◌, ◌&&◌, ◌||◌, ◌≤◌, ◌+◌, ℕ, List, true, not, [], length, nat_eq, unwrap_or, IfSome};
+ghost use Rattle.collation.specs.Reference.{Reference};
 ghost use Rattle.collation.specs.Database.{Database};
 ghost use Rattle.command.specs.Data.{data_after};
-ghost use Rattle.stretches.specs.Empty.{AreEmpty, AreNoMore, IsEmpty, LiesIn, PartAlike};
+ghost use Rattle.read_ranges.specs.Ranges.{between, is_in, is_in_one};
+ghost use Rattle.stretches.specs.Empty.{AreEmpty, AreLeft, AreNoMore, IsEmpty, LiesIn, PartAlike};
 
+use crate::cuts::{earlier, later};
 use command::DataCommand;
-use globals::{Cut, OrderedView, stands_before};
+use globals::{Cut, OrderedView};
+use key_codec::Key;
 use read_ranges::{Ranges, ReadRange, is_at_most};
 use std::alloc::{AllocError, Global};
 use std::marker::Model;
@@ -20,12 +25,14 @@ pub struct Stretches {
 }
 
 impl Model for Stretches {
-    ghost use Rattle.std.specs.Prelude.{List};
+    ghost use Rattle.std.specs.Prelude.{◌≤◌, List, length};
     ghost use Rattle.read_ranges.specs.declared.range.ReadRange.{ReadRange};
 
     ghost Value = { List ReadRange };
 
     ghost view = { λ s. s.ranges };
+
+    ghost invariant = { λ s. length s.ranges ≤ 4 };
 }
 
 impl Stretches {
@@ -52,17 +59,45 @@ impl Stretches {
         self.ranges.clear();
     }
 
-    /// Whether the command may put a node into one of the stretches. Where it doesn't, they are as empty after it as
-    /// they were before. Takes no memory.
-    pub fn are_entered_by(&self, command: &DataCommand) -> bool
-        ensures { result ≡ false → (m : Database) → AreEmpty self.now m → AreEmpty self.now (data_after command.now m) }
+    /// What is left of the stretches after a command that may put nodes into one of them: their parts before and behind
+    /// the references that it may set, and the others, as far as that makes four; less where memory is refused. None
+    /// where all of them stay as they are. What is left is empty where they are, before the command and after it.
+    ///
+    /// Takes memory only for a SET into one of them and for MERGE.
+    pub fn left_by(&self, alloc: Global, command: &DataCommand) -> Option<Stretches>
+        ensures before { (m : Database) → AreEmpty self.now m → AreEmpty (unwrap_or result self.now) m }
+        ensures behind { (m : Database) → AreEmpty self.now m → AreEmpty (unwrap_or result self.now) (data_after command.now m) }
     {
         match command {
-            DataCommand::Set(key, _) => self.ranges.meets(key),
-            DataCommand::Merge(_, _) => true,
-            DataCommand::Kill(_) => false,
-            DataCommand::Look(_) => false,
+            DataCommand::Set(key, _) => self.left_by_set(alloc, key),
+            DataCommand::Merge(target, _) => {
+                Some(self.without(alloc, Cut::Before(target), Cut::Past(target)))
+            }
+            DataCommand::Kill(_) => None,
+            DataCommand::Look(_) => None,
         }
+    }
+
+    /// What is left of the stretches after a SET of the reference to whatever value: as `left_by` of that SET.
+    pub fn left_by_set(&self, alloc: Global, key: &Key) -> Option<Stretches>
+        ensures before { (m : Database) → AreEmpty self.now m → AreEmpty (unwrap_or result self.now) m }
+        ensures behind { (value : List ℕ) → (m : Database) → AreEmpty self.now m → AreEmpty (unwrap_or result self.now) (finmap.insert m key.now value) }
+    {
+        if !self.ranges.meets(key) {
+            return None;
+        }
+        Some(self.without(alloc, Cut::Before(key), Cut::After(key)))
+    }
+
+    // The stretches without what lies between two cuts: first the parts of those that have some of it.
+    fn without(&self, alloc: Global, low: Cut<'_>, high: Cut<'_>) -> Stretches
+        ensures { AreLeft low.entry high.entry self.now result }
+    {
+        let mut left = Ranges::new(alloc);
+        put_all_parts(&mut left, self.ranges.ranges(), Where::Within, low, high);
+        put_all_parts(&mut left, self.ranges.ranges(), Where::Beside, low, high);
+        left.back_to(MOST);
+        Stretches { ranges: left }
     }
 
     /// Whether no member of a view stands in one of the stretches. One look-up for each; takes no memory.
@@ -82,28 +117,28 @@ impl Stretches {
             Err(AllocError) => {}
         }
         if self.ranges.len() > MOST {
-            self.clear();
+            self.ranges.back_to(0);
         }
     }
 
-    /// What is kept after a command: none of the former stretches where it may have put a node into one, and that over
-    /// which it has passed, if it has. Then all are empty on whatever database the former ones, if they are kept, and
-    /// that one are.
-    pub fn follow(&mut self, are_entered: bool, passed: &Option<ReadRange>)
-        ensures { (m : Database) → (are_entered ≡ false → AreEmpty self.old m) → IfSome passed.now (λ stretch. IsEmpty stretch m) → AreEmpty self.new m }
+    /// What is kept after a command: what is left by it (`left_by`), and the stretch over which it has passed, if it
+    /// has. All are empty on whatever database what is left and that one are.
+    pub fn follow(&mut self, left: Option<Stretches>, passed: &Option<ReadRange>)
+        ensures { (m : Database) → AreEmpty (unwrap_or left self.old) m → IfSome passed.now (λ stretch. IsEmpty stretch m) → AreEmpty self.new m }
     {
-        self.leave(are_entered);
+        self.leave(left);
         match passed {
             Some(stretch) => self.note(stretch),
             None => {}
         }
     }
 
-    fn leave(&mut self, are_entered: bool)
-        ensures { (m : Database) → (are_entered ≡ false → AreEmpty self.old m) → AreEmpty self.new m }
+    fn leave(&mut self, left: Option<Stretches>)
+        ensures { self.new ≡ unwrap_or left self.old }
     {
-        if are_entered {
-            self.clear();
+        match left {
+            Some(left) => *self = left,
+            None => {}
         }
     }
 
@@ -142,6 +177,63 @@ impl Stretches {
     }
 }
 
+// Where a stretch lies: it has something of what lies between two cuts, or it lies beside that.
+#[derive(Clone, Copy, PartialEq, Eq)]
+enum Where {
+    Within,
+    Beside,
+}
+
+// Where a stretch lies. Advice, on which no contract rests.
+fn where_lies(stretch: &ReadRange, low: Cut<'_>, high: Cut<'_>) -> Where {
+    if is_at_most(stretch.high(), low) || is_at_most(high, stretch.low()) {
+        Where::Beside
+    } else {
+        Where::Within
+    }
+}
+
+// Puts in the parts of those stretches that lie there, without what lies between two cuts.
+fn put_all_parts(
+    left: &mut Ranges,
+    stretches: &[ReadRange],
+    place: Where,
+    low: Cut<'_>,
+    high: Cut<'_>,
+)
+    requires { AreLeft low high stretches.now left.old }
+    ensures { AreLeft low.entry high.entry stretches.now left.new }
+{
+    for stretch in stretches {
+        if where_lies(stretch, low, high) == place {
+            put_parts(left, stretch, low, high);
+        }
+    }
+}
+
+// Puts in the parts of a stretch before and behind what lies between two cuts.
+fn put_parts(left: &mut Ranges, stretch: &ReadRange, low: Cut<'_>, high: Cut<'_>)
+    ensures { (x : Reference) → is_in_one left.new x ≡ true → (is_in_one left.old x || (is_in stretch.now x && not (between low.entry high.entry x))) ≡ true }
+{
+    let begin = stretch.low();
+    let end = stretch.high();
+    put_in(left, begin, earlier(end, low));
+    put_in(left, later(begin, high), end);
+}
+
+// Puts in what lies between two cuts, unless that is nothing, or memory is refused.
+fn put_in(left: &mut Ranges, low: Cut<'_>, high: Cut<'_>)
+    ensures { (x : Reference) → is_in_one left.new x ≡ true → (is_in_one left.old x || between low.entry high.entry x) ≡ true }
+{
+    if is_at_most(high, low) {
+        return;
+    }
+    match left.add(low, high) {
+        Ok(()) => {}
+        Err(AllocError) => {}
+    }
+}
+
 // Whether no member of the view stands in one of these.
 fn are_all_empty<V: OrderedView>(stretches: &[ReadRange], view: &V) -> bool
     ensures { result ≡ true → AreEmpty stretches.now (V.content view.now) }
@@ -158,8 +250,8 @@ fn are_all_empty<V: OrderedView>(stretches: &[ReadRange], view: &V) -> bool
 fn is_empty_on<V: OrderedView>(stretch: &ReadRange, view: &V) -> bool
     ensures { result ≡ true → IsEmpty stretch.now (V.content view.now) }
 {
-    match view.next(stretch.low()) {
-        Some((found, _)) => !stands_before(stretch.high(), found),
+    match view.next(stretch.low(), Some(stretch.high())) {
+        Some(_) => false,
         None => true,
     }
 }

@@ -1,14 +1,21 @@
 -- What leaves empty stretches empty.
-use Rattle.std.proofs.Common.{◌≡◌, ℕ, Bool, true, false, List, [], refl, ap, ◌∙◌}
-use Rattle.std.specs.Prelude.{cond, ◌||◌, is_some, Option, Some, None}
+use Rattle.std.proofs.Common.{◌≡◌, ℕ, Bool, true, false, List, [], refl, sym, ap, ◌∙◌}
+use Rattle.std.specs.Prelude.{cond, not, ◌&&◌, ◌||◌, is_some, Option, Some, None}
+use Rattle.std.proofs.Math.Bool.{not-not}
+use Rattle.std.specs.Option.{option_or}
+use Rattle.std.specs.Ordering.{is_lt}
+use Rattle.std.specs.Cmp.{first_so, second_so, tied_itself}
 use Rattle.std.specs.FinMap as finmap
 use Rattle.collation.specs.Reference.{Reference}
-use Rattle.collation.specs.Order.{ref_eq}
-use Rattle.collation.specs.laws.Order.{ref_eq_decides}
+use Rattle.collation.specs.Order.{ref_cmp, ref_eq}
+use Rattle.collation.specs.laws.Order.{ref_cmp_total, ref_eq_decides}
+use Rattle.collation.specs.Levels.{is_before}
+use Rattle.collation.specs.Answers.{moved}
 use Rattle.collation.specs.Database.{Database, is_under}
-use Rattle.command.specs.declared.access.DataCommand.TheVariants.{Set, Kill}
+use Rattle.command.specs.declared.access.DataCommand.TheVariants.{Set, Kill, Merge}
 use Rattle.command.specs.Data.{data_after}
-use Rattle.globals.specs.laws.Changing.{set_one, kill_subtree}
+use Rattle.globals.specs.laws.Cuts.{under_between}
+use Rattle.globals.specs.laws.Changing.{set_one, kill_subtree, merge_subtree}
 use Rattle.read_ranges.specs.declared.range.ReadRange.{ReadRange}
 use Rattle.read_ranges.specs.Ranges.{is_in, is_in_one}
 use Rattle.stretches.specs.Empty.{AreEmpty, AreNoMore, IsEmpty}
@@ -33,6 +40,43 @@ fewer false o none = none
 
 pub stay_after_kill : (rs : List ReadRange) (r : Reference) (m : Database) → AreEmpty rs m → AreEmpty rs (data_after (Kill r) m)
 stay_after_kill rs r m empty x h = ap is_some (kill_subtree m r x) ∙ fewer (is_under r x) (finmap.get m x) (empty x h)
+
+-- ---- what is left without some references
+
+module _ (P : Reference → Bool) (old new : List ReadRange) (left : (x : Reference) → is_in_one new x ≡ true → (is_in_one old x && not (P x)) ≡ true) (m : Database) (were : AreEmpty old m) where
+  beside : (x : Reference) → is_in_one new x ≡ true → P x ≡ false
+  beside x h = sym (not-not (P x)) ∙ ap not (second_so (is_in_one old x) _ (left x h))
+
+  still_empty : (x : Reference) → is_in_one new x ≡ true → finmap.contains_key m x ≡ false
+  still_empty x h = were x (first_so (is_in_one old x) _ (left x h))
+
+  pub left_after_set : (r : Reference) (v : List ℕ) → P r ≡ true → AreEmpty new (data_after (Set r v) m)
+  left_after_set r v itself x h = ap is_some (set_one m r v x) ∙ another (ref_eq x r) v (finmap.get m x) (by_same (ref_eq x r) refl) (still_empty x h)
+    where
+      by_same : (b : Bool) → ref_eq x r ≡ b → b ≡ false
+      by_same true is =
+          let there : P x ≡ true = ap P ((ref_eq_decides x r).0 is) ∙ itself in
+          let none : P x ≡ false = beside x h in
+          absurd (cc)
+      by_same false is = refl
+
+  pub left_after_merge : (a b : Reference) → ((x : Reference) → P x ≡ is_under a x) → AreEmpty new (data_after (Merge a b) m)
+  left_after_merge a b under x h =
+      ap is_some (merge_subtree m a b x ∙ ap (λ u. cond u (option_or (finmap.get m (moved b a x)) (finmap.get m x)) (finmap.get m x)) (sym (under x) ∙ beside x h))
+      ∙ still_empty x h
+
+-- what lies between the cuts before and after a reference, and before and past it
+abbrev pub is_at : Reference → Reference → Bool
+is_at r x = not (is_lt (ref_cmp x r)) && not (is_lt (ref_cmp r x))
+
+pub at_itself : (r : Reference) → is_at r r ≡ true
+at_itself r = ap (λ o. not (is_lt o) && not (is_lt o)) (tied_itself ref_cmp_total r)
+
+abbrev pub is_at_or_under : Reference → Reference → Bool
+is_at_or_under r x = not (is_lt (ref_cmp x r)) && is_before true r x
+
+pub at_or_under_is : (r x : Reference) → is_at_or_under r x ≡ is_under r x
+at_or_under_is r x = sym (under_between r x)
 
 -- ---- no stretches, and one more
 
