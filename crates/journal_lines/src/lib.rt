@@ -34,6 +34,7 @@
 #![tactic(auto)]
 
 pub use laws::steps_are_read_again;
+pub use locking::write_lock;
 pub use step::write_step;
 pub use whole::{JournalFault, write_journal};
 

@@ -69,8 +69,10 @@ fn write_signed(front: &[u8], names: &LockNames, out: &mut Vec<u8>) -> Result<()
     write_names(names.as_slice(), out)
 }
 
-/// Writes a LOCK at the end of `out`. Where memory is refused, what stood there stands there still.
-pub(crate) fn write_lock(command: &LockCommand, out: &mut Vec<u8>) -> Result<(), AllocError>
+/// Writes a LOCK at the end of `out`, as `lock_text`: without a job in front, and without a timeout.
+///
+/// `AllocError` where memory is refused: what stood there stands there still, and a part of the LOCK may behind it.
+pub fn write_lock(command: &LockCommand, out: &mut Vec<u8>) -> Result<(), AllocError>
     ensures ok { OnOk result (out.new.items ≡ out.old.items ++ steps.lock_text command.now) }
     ensures kept { GoesOnFrom out.old.items out.new.items }
 {

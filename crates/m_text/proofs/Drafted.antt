@@ -3,13 +3,13 @@ use Rattle.std.proofs.Common.{◌≡◌, ℕ, true, false, cond, List, [], drop,
 use Rattle.std.specs.Option.{option_map}
 use Rattle.refusal.specs.declared.Refusal.{Refusal}
 use Rattle.refusal.specs.declared.Refusal.TheVariants.{BadLine, OutOfMemory}
-use Rattle.collation.specs.Reference.{Reference, Spot}
-use Rattle.key_codec.specs.Draft.{IsDraft, IsDueOrMemory, reference_due, place_due, place_of}
+use Rattle.collation.specs.Reference.{Reference}
+use Rattle.key_codec.specs.Draft.{IsDraft, IsDueOrMemory, reference_due}
 use Rattle.key_codec.specs.declared.draft.KeyDraft.{KeyDraft}
 use Rattle.m_text.specs.Reading.{with_front, begins_with_byte, some_at, parted_at, then_closing, IsUnread, IsDue}
-use Rattle.m_text.specs.Place.{subscript_at, subscripts_at, front_word, past_word, named_at, place_at, ref_fault, spot_fault, spot_of, unless, without_fault, ref_at, spot_at}
+use Rattle.m_text.specs.Place.{subscript_at, subscripts_at, front_word, past_word, named_at, place_at, ref_fault, unless, without_fault, ref_at}
 use Rattle.m_text.specs.Drafts.{Drafts, DraftsSpelled}
-use Rattle.m_text.specs.laws.Faults.{ref_due, spot_due, due_or_memory}
+use Rattle.m_text.specs.laws.Faults.{ref_due, due_or_memory}
 use Rattle.m_text.specs.laws.Reading.{with_front-nil, refused_too}
 use Rattle.std.specs.Prelude.{◌==◌}
 
@@ -73,25 +73,16 @@ pub no_place : (text : List ℕ) → begins_with_byte 94 text ≡ false → plac
 unfolding place_at
 no_place text e = rw e refl
 
--- the draft's key or place
+-- the draft's key
 
 ref_read : (text : List ℕ) (r : Reference) (rest : List ℕ) → place_at text ≡ Some (r, rest) → ref_at text ≡ unless {A = Reference × List ℕ} (reference_due r) (r, rest)
 ref_read text r rest e = ap (without_fault ref_fault) e ∙ ap (λ f. unless {A = Reference × List ℕ} f (r, rest)) (ref_due r)
 
-spot_read : (text : List ℕ) (r : Reference) (rest : List ℕ) → place_at text ≡ Some (r, rest) → spot_at text ≡ unless {A = Spot × List ℕ} (place_due r) (place_of r, rest)
-spot_read text r rest e = ap (λ t. without_fault spot_fault (option_map (λ x. (spot_of x.0, x.1)) t)) e ∙ ap (λ f. unless {A = Spot × List ℕ} f (place_of r, rest)) (spot_due r)
-
 pub key_good : (text : List ℕ) (r key : Reference) (rest : List ℕ) → place_at text ≡ Some (r, rest) → reference_due r ≡ None → key ≡ r → ref_at text ≡ Ok (key, rest)
 key_good text r key rest e none same = ref_read text r rest e ∙ ap (λ f. unless {A = Reference × List ℕ} f (r, rest)) none ∙ ap (λ (k : Reference). Ok (k, rest)) (sym same)
 
-pub place_good : (text : List ℕ) (r : Reference) (place : Spot) (rest : List ℕ) → place_at text ≡ Some (r, rest) → place_due r ≡ None → place ≡ place_of r → spot_at text ≡ Ok (place, rest)
-place_good text r place rest e none same = spot_read text r rest e ∙ ap (λ f. unless {A = Spot × List ℕ} f (place_of r, rest)) none ∙ ap (λ (k : Spot). Ok (k, rest)) (sym same)
-
 pub key_due : (text : List ℕ) (r : Reference) (rest : List ℕ) (refusal : Refusal) → place_at text ≡ Some (r, rest) → IsDueOrMemory refusal (reference_due r) → IsDue refusal (ref_at text)
 key_due text r rest refusal e h = due_or_memory refusal (reference_due r) (r, rest) (ref_at text) (ref_read text r rest e) h
-
-pub place_is_due : (text : List ℕ) (r : Reference) (rest : List ℕ) (refusal : Refusal) → place_at text ≡ Some (r, rest) → IsDueOrMemory refusal (place_due r) → IsDue refusal (spot_at text)
-place_is_due text r rest refusal e h = due_or_memory refusal (place_due r) (place_of r, rest) (spot_at text) (spot_read text r rest e) h
 
 unread : {A : Type 0} (refusal : Refusal) (read : Option (Reference × List ℕ)) (all : Result A Refusal) → (read ≡ None → all ≡ Err BadLine) → IsUnread refusal read → IsDue refusal all
 unread BadLine read all f h = f h
@@ -100,6 +91,3 @@ unread refusal read all f h = absurd h
 
 pub key_unread : (text : List ℕ) (refusal : Refusal) → IsUnread refusal (place_at text) → IsDue refusal (ref_at text)
 key_unread text refusal h = unread refusal (place_at text) (ref_at text) (λ none. ap (without_fault ref_fault) none) h
-
-pub place_unread : (text : List ℕ) (refusal : Refusal) → IsUnread refusal (place_at text) → IsDue refusal (spot_at text)
-place_unread text refusal h = unread refusal (place_at text) (spot_at text) (λ none. ap (λ t. without_fault spot_fault (option_map (λ x. (spot_of x.0, x.1)) t)) none) h

@@ -1,5 +1,5 @@
 -- References and places at the front of a text. Source: docs/FORMATS.md, "Lines".
--- Read place_at, then ref_at and spot_at.
+-- Read place_at, then ref_at.
 use Rattle.std.specs.Prelude.{ℕ, Bool, not, ◌||◌, ◌==◌, if◌then◌else◌, List, [], ◌∷◌, length, ◌+◌, nat_lt, drop, Option, None, Some, Result, Ok, Err}
 use Rattle.std.specs.List.{before_first, position_or_len}
 use Rattle.std.specs.Option.{option_map, option_or}
@@ -77,7 +77,3 @@ without_fault fault (Some x) = unless (fault x.0) x
 -- a reference, or why there is none
 abbrev pub ref_at : List ℕ → Result (Reference × List ℕ) Refusal
 ref_at text = without_fault ref_fault (place_at text)
-
--- a place, or why there is none
-abbrev pub spot_at : List ℕ → Result (Spot × List ℕ) Refusal
-spot_at text = without_fault spot_fault (option_map (λ x. (spot_of x.0, x.1)) (place_at text))

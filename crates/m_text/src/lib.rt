@@ -3,7 +3,7 @@
 //! Callers see texts and strings as lists of bytes. The language stands twice, and laws tie the two together:
 //!
 //! (1) as functions on lists, from which each reader takes its one clause: `literal_at` in
-//!     `specs/Literal.antt`, `place_at`, `ref_at` and `spot_at` in `specs/Place.antt`;
+//!     `specs/Literal.antt`, `place_at` and `ref_at` in `specs/Place.antt`;
 //! (2) as a grammar, which spells strings and references: `IsLiteral` and `IsReference` in `specs/Forms.antt`;
 //! (3) what is read is spelled so, what is spelled so is read, and what is written is read again, whatever
 //!     follows that can't go on with it (`specs/Statements.antt`).
@@ -18,7 +18,7 @@
 pub use front::{after, is_word, number_up_to, split_digits, split_letters, split_word};
 pub use laws::{literals_are_read_as_spelled, references_are_read_as_spelled};
 pub use literal::{read_literal, skip_literal};
-pub use place::{read_draft, read_named, read_place, read_reference, skip_place};
+pub use place::{read_draft, read_named, read_reference, skip_place};
 pub use write::{write_key, write_literal, write_named};
 
 mod chars;

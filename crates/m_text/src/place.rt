@@ -7,14 +7,14 @@ ghost use Rattle.key_codec.specs.Draft.{IsDraft, IsJudged};
 ghost use Rattle.m_text.specs.Drafts.{Drafts, DraftsSpelled};
 ghost use Rattle.m_text.specs.Literal.{literal_at};
 ghost use Rattle.m_text.specs.Reading.{Answers, GivesExactly, begins_with_byte, rest_of, with_front, parted_at};
-ghost use Rattle.m_text.specs.Place.{subscript_at, subscripts_at, named_at, place_at, ref_at, spot_at};
+ghost use Rattle.m_text.specs.Place.{subscript_at, subscripts_at, named_at, place_at, ref_at};
 
 use crate::front::{after, split_word};
 use crate::literal::{begins_part, make_literal, skip_literal};
 use crate::numeral::{split_number, split_whole};
 use crate::quoted::lend_quoted;
 use canonic_number::{NumberParts, parts, whole_parts};
-use key_codec::{Key, KeyDraft, Place};
+use key_codec::{Key, KeyDraft};
 use refusal::Refusal;
 use std::alloc::Global;
 
@@ -181,25 +181,6 @@ pub fn read_reference<'a>(
     match read_draft(alloc, text, draft) {
         Ok(rest) => match draft.key(alloc) {
             Ok(key) => Ok((key, rest)),
-            Err(refusal) => Err(refusal),
-        },
-        Err(refusal) => Err(refusal),
-    }
-}
-
-/// The place at the front of a text, and what follows it. Its last subscript may be empty.
-///
-/// Memory and refusals as those of `read_reference`; an empty last subscript counts among the 31.
-pub fn read_place<'a>(
-    alloc: Global,
-    text: &'a [u8],
-    draft: &mut KeyDraft,
-) -> Result<(Place, &'a [u8]), Refusal>
-    ensures exact { Answers (λ x. (x.0, x.1.now)) result (spot_at text.now) }
-{
-    match read_draft(alloc, text, draft) {
-        Ok(rest) => match draft.place(alloc) {
-            Ok(place) => Ok((place, rest)),
             Err(refusal) => Err(refusal),
         },
         Err(refusal) => Err(refusal),

@@ -5,3 +5,5 @@ pub mod Naming
 pub mod Sentences
 pub mod Words
 pub mod Operands
+pub mod Left
+pub mod Asked

@@ -6,5 +6,6 @@ pub mod Sentence
 pub mod Text
 pub mod Expected
 pub mod Grammar
+pub mod Asked
 pub mod Statements
 pub mod laws

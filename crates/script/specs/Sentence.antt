@@ -1,5 +1,5 @@
 -- Sentences, and the commands that they say with the references and lock names of drafts.
-use Rattle.std.specs.Prelude.{◌≡◌, ⊤, ℕ, List, [], Option, None, Some, Result, Ok, Err, vec_capacity}
+use Rattle.std.specs.Prelude.{◌≡◌, ⊤, ℕ, Bool, true, false, List, [], Option, None, Some, Result, Ok, Err, vec_capacity}
 use Rattle.std.specs.Borrow.{Bor}
 use Rattle.refusal.specs.declared.Refusal.{Refusal}
 use Rattle.refusal.specs.declared.Refusal.TheVariants.{OutOfMemory}
@@ -25,6 +25,10 @@ use Rattle.script.specs.declared.sentence.Sentence.TheVariants as sentences
 use Rattle.script.specs.Locking.{locking, names_fault}
 use Rattle.script.specs.Commands.{command_of}
 
+-- the value that drafts keep
+abbrev pub value_in : Drafts → List ℕ
+value_in drafts = drafts.value
+
 -- no value is kept
 abbrev pub HasNoValue : Drafts → Type 0
 HasNoValue drafts = drafts.value ≡ []
@@ -35,6 +39,31 @@ HasNoRoom names = (names.found.items ≡ []) × (vec_capacity names.found ≡ 0)
 
 abbrev pub HasNoNames : Drafts → Type 0
 HasNoNames drafts = HasNoRoom drafts.names
+
+-- the sentence has a value
+abbrev pub has_value : DataSentence → Bool
+has_value data_sentences.Set = true
+has_value data_sentences.Kill = false
+has_value data_sentences.Merge = false
+has_value data_sentences.Data = false
+has_value data_sentences.Get = false
+has_value data_sentences.GetOr = true
+has_value (data_sentences.Order direction) = false
+has_value (data_sentences.Query direction) = false
+
+-- reading it leaves a value in the drafts
+abbrev pub leaves_value : Sentence → Bool
+leaves_value (sentences.Access sentence) = has_value sentence
+leaves_value sentences.Release = false
+leaves_value (sentences.Lock form) = false
+leaves_value (sentences.Alone word) = false
+
+-- reading it leaves lock names there
+abbrev pub leaves_names : Sentence → Bool
+leaves_names (sentences.Access sentence) = false
+leaves_names sentences.Release = false
+leaves_names (sentences.Lock form) = true
+leaves_names (sentences.Alone word) = false
 
 -- the sentence says the command of r, which for MERGE has the reference of the second draft too, and for SET and a $GET with a default the value
 abbrev pub Says : KeyDraft → List ℕ → Reference → DataSentence → DataCommand → Type 0

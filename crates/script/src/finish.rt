@@ -1,5 +1,5 @@
 //! Commands of sentences, or the first fault of one.
-ghost use Rattle.std.specs.Prelude.{◌≡◌, None, Some, IsErrOf};
+ghost use Rattle.std.specs.Prelude.{◌≡◌, [], None, Some, false, true, IsErrOf, OnOk};
 ghost use Rattle.refusal.specs.declared.Refusal.{Refusal};
 ghost use Rattle.collation.specs.Reference.{Reference};
 ghost use Rattle.key_codec.specs.Draft.{IsDraft, IsSpelled};
@@ -8,7 +8,7 @@ ghost use Rattle.command.specs.declared.request.Command.{Command as CommandView}
 ghost use Rattle.m_text.specs.Reading.{Answers};
 ghost use Rattle.m_text.specs.Place.{ref_fault, spot_fault, spot_of, unless};
 ghost use Rattle.script.specs.Commands.{command_of as command_of_spec, value_fault, data_fault, command_fault};
-ghost use Rattle.script.specs.Sentence.{IsOfOperands, Spells, SpellsData, SpellsSome, SomeData};
+ghost use Rattle.script.specs.Sentence.{HasNoNames, HasNoValue, IsOfOperands, Spells, SpellsData, SpellsSome, SomeData, has_value, leaves_names, leaves_value};
 
 use crate::lock::locking;
 use crate::sentence::{DataSentence, Drafts, Sentence};
@@ -37,7 +37,8 @@ fn place_of(alloc: Global, draft: &KeyDraft) -> Result<Place, Refusal>
 
 // The value that is kept, which is taken out, or its fault.
 fn value_of(alloc: Global, value: &mut Text) -> Result<Text, Refusal>
-    ensures { Answers (λ v. v) result (unless (value_fault value.old) value.old) }
+    ensures value { Answers (λ v. v) result (unless (value_fault value.old) value.old) }
+    ensures taken { OnOk result (value.new ≡ []) }
 {
     if value.len() > LONGEST_VALUE {
         Err(Refusal::ValueTooLong)
@@ -48,7 +49,8 @@ fn value_of(alloc: Global, value: &mut Text) -> Result<Text, Refusal>
 
 fn set(alloc: Global, draft: &KeyDraft, value: &mut Text) -> Result<DataCommand, Refusal>
     requires { IsSpelled draft.now }
-    ensures { (r : Reference) → IsDraft draft.now r → Answers (λ c. c) result (unless (data_fault (DataCommand.Set r value.old)) (DataCommand.Set r value.old)) }
+    ensures command { (r : Reference) → IsDraft draft.now r → Answers (λ c. c) result (unless (data_fault (DataCommand.Set r value.old)) (DataCommand.Set r value.old)) }
+    ensures taken { OnOk result (value.new ≡ []) }
 {
     let key = key_of(alloc, draft)?;
     let value = value_of(alloc, value)?;
@@ -81,6 +83,26 @@ fn data(alloc: Global, draft: &KeyDraft) -> Result<DataCommand, Refusal>
     Ok(DataCommand::Look(Look::Data(key)))
 }
 
+/// The key of a $GET without a default, or its fault.
+pub(crate) fn get_key(alloc: Global, draft: &KeyDraft) -> Result<Key, Refusal>
+    requires { IsSpelled draft.now }
+    ensures { (r : Reference) → IsDraft draft.now r → Answers (λ key. DataCommand.Look (Look.Get key None)) result (unless (data_fault (DataCommand.Look (Look.Get r None))) (DataCommand.Look (Look.Get r None))) }
+{
+    draft.key(alloc)
+}
+
+/// The key of a SET to this value, or the first fault of both.
+pub(crate) fn set_key(alloc: Global, draft: &KeyDraft, value: &Text) -> Result<Key, Refusal>
+    requires { IsSpelled draft.now }
+    ensures { (r : Reference) → IsDraft draft.now r → Answers (λ key. DataCommand.Set key value.now) result (unless (data_fault (DataCommand.Set r value.now)) (DataCommand.Set r value.now)) }
+{
+    let key = key_of(alloc, draft)?;
+    if value.len() > LONGEST_VALUE {
+        return Err(Refusal::ValueTooLong);
+    }
+    Ok(key)
+}
+
 fn get(alloc: Global, draft: &KeyDraft) -> Result<DataCommand, Refusal>
     requires { IsSpelled draft.now }
     ensures { (r : Reference) → IsDraft draft.now r → Answers (λ c. c) result (unless (data_fault (DataCommand.Look (Look.Get r None))) (DataCommand.Look (Look.Get r None))) }
@@ -91,7 +113,8 @@ fn get(alloc: Global, draft: &KeyDraft) -> Result<DataCommand, Refusal>
 
 fn get_or(alloc: Global, draft: &KeyDraft, default: &mut Text) -> Result<DataCommand, Refusal>
     requires { IsSpelled draft.now }
-    ensures { (r : Reference) → IsDraft draft.now r → Answers (λ c. c) result (unless (data_fault (DataCommand.Look (Look.Get r (Some default.old)))) (DataCommand.Look (Look.Get r (Some default.old)))) }
+    ensures command { (r : Reference) → IsDraft draft.now r → Answers (λ c. c) result (unless (data_fault (DataCommand.Look (Look.Get r (Some default.old)))) (DataCommand.Look (Look.Get r (Some default.old)))) }
+    ensures taken { OnOk result (default.new ≡ []) }
 {
     let key = key_of(alloc, draft)?;
     let default = value_of(alloc, default)?;
@@ -125,7 +148,10 @@ fn finish_data(
     drafts: &mut Drafts,
 ) -> Result<DataCommand, Refusal>
     requires { SomeData drafts.old sentence }
-    ensures { (c : DataView) → SpellsData drafts.old sentence c → Answers (λ x. x) result (unless (data_fault c) c) }
+    ensures command { (c : DataView) → SpellsData drafts.old sentence c → Answers (λ x. x) result (unless (data_fault c) c) }
+    ensures value { OnOk result (has_value sentence ≡ true → HasNoValue drafts.new) }
+    ensures value_kept { has_value sentence ≡ false → drafts.new.value ≡ drafts.old.value }
+    ensures names { drafts.new.names ≡ drafts.old.names }
 {
     match sentence {
         DataSentence::Set => set(alloc, &drafts.first, &mut drafts.value),
@@ -164,6 +190,10 @@ pub(crate) fn finish(
     requires { SpellsSome drafts.old sentence }
     ensures command { (c : CommandView) → Spells drafts.old sentence c → Answers (λ x. x) result (unless (command_fault c) c) }
     ensures operands { IsErrOf result Refusal.OutOfMemory → IsOfOperands sentence }
+    ensures value { OnOk result (leaves_value sentence ≡ true → HasNoValue drafts.new) }
+    ensures value_kept { leaves_value sentence ≡ false → drafts.new.value ≡ drafts.old.value }
+    ensures names { OnOk result (leaves_names sentence ≡ true → HasNoNames drafts.new) }
+    ensures names_kept { leaves_names sentence ≡ false → drafts.new.names ≡ drafts.old.names }
 {
     match sentence {
         Sentence::Access(sentence) => match finish_data(alloc, sentence, drafts) {

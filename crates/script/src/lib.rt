@@ -24,10 +24,14 @@
 
 pub use expected::Expected;
 pub use laws::lines_are_read_as_spelled;
-pub use line::{LineFault, job_of_line, read_line};
+pub use line::{
+    LineFault, finish_request, job_of_line, key_of_get, key_of_set, read_line, read_request,
+};
 pub use locate::{LocatedFault, locate_fault};
-pub use reply::write_reply;
-pub use sentence::Drafts;
+pub use lock::Form;
+pub use reply::{write_done, write_got, write_reply};
+pub use sentence::{DataSentence, Drafts, Sentence};
+pub use word::AloneWord;
 
 mod blank;
 mod expected;

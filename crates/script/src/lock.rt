@@ -18,7 +18,7 @@ const MOST_TIMEOUT_DIGITS: usize = 9;
 
 // What a LOCK does with its names, told by its sign.
 #[derive(Clone, Copy, Debug)]
-pub(crate) enum Form {
+pub enum Form {
     Only,
     More,
     Fewer,

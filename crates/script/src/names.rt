@@ -83,7 +83,8 @@ impl Names {
 
     // Takes the names out, or tells their first fault.
     pub(crate) fn take(&mut self, alloc: Global) -> Result<LockNames, Refusal>
-        ensures { (ns : List Resource) → AreNamed self.old ns → Answers (λ names. names) result (unless (names_fault ns) ns) }
+        ensures names { (ns : List Resource) → AreNamed self.old ns → Answers (λ names. names) result (unless (names_fault ns) ns) }
+        ensures empty { OnOk result (HasNoRoom self.new) }
     {
         match self.fault {
             Some(fault) => Err(fault),

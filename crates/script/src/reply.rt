@@ -1,5 +1,5 @@
 //! Replies.
-ghost use Rattle.std.specs.Prelude.{◌≡◌, ◌++◌, ◌∷◌, [], IfSome, OnOk, OnErr, decimal, unwrap_or};
+ghost use Rattle.std.specs.Prelude.{◌≡◌, ◌++◌, ◌∷◌, [], Some, IfSome, OnOk, OnErr, decimal, unwrap_or};
 ghost use Rattle.collation.specs.Bytes as byte;
 ghost use Rattle.key_codec.specs.Grown.{GoesOnFrom};
 ghost use Rattle.script.specs.Text as text;
@@ -63,13 +63,21 @@ fn write_counted(word: &[u8], n: u64, out: &mut Vec<u8>) -> Result<(), AllocErro
     write_number(n, out)
 }
 
+// The value of a node.
+fn write_value(value: &[u8], out: &mut Vec<u8>) -> Result<(), AllocError>
+    ensures ok { OnOk result (out.new.items ≡ out.old.items ++ text.answer_words (Answer.Value value.now)) }
+    ensures kept { GoesOnFrom out.old.items out.new.items }
+{
+    write_literal(value, out)
+}
+
 fn write_answer(answer: &Answer, out: &mut Vec<u8>) -> Result<(), AllocError>
     ensures ok { OnOk result (out.new.items ≡ out.old.items ++ text.answer_words answer.now) }
     ensures kept { GoesOnFrom out.old.items out.new.items }
 {
     match answer {
         Answer::Done => out.extend_from_slice(b"ok"),
-        Answer::Value(value) => write_literal(value.as_slice(), out),
+        Answer::Value(value) => write_value(value.as_slice(), out),
         Answer::Number(n) => write_number(*n, out),
         Answer::Found(key) => write_key(key, out),
     }
@@ -123,6 +131,57 @@ pub fn write_reply(job: Option<Job>, reply: &Reply, out: &mut Vec<u8>) -> Result
 {
     let before = out.len();
     match push_reply(job, reply, out) {
+        Ok(()) => Ok(()),
+        Err(error) => {
+            out.truncate(before);
+            Err(error)
+        }
+    }
+}
+
+fn push_got(job: Job, value: &[u8], out: &mut Vec<u8>) -> Result<(), AllocError>
+    ensures ok { OnOk result (out.new.items ≡ out.old.items ++ text.reply_text (Some job) (Reply.Answered (Answer.Value value.now))) }
+    ensures kept { GoesOnFrom out.old.items out.new.items }
+{
+    write_number(job.number() as u64, out)?;
+    out.push(b' ')?;
+    write_value(value, out)?;
+    out.push(b'\n')?;
+    Ok(())
+}
+
+/// Writes the reply to a $GET, from the value that is answered; refused as `write_reply`.
+#[tactic(auto, using(key_codec::specs::laws::Grown::back_to))]
+pub fn write_got(job: Job, value: &[u8], out: &mut Vec<u8>) -> Result<(), AllocError>
+    ensures ok { OnOk result (out.new.items ≡ out.old.items ++ text.reply_text (Some job) (Reply.Answered (Answer.Value value.now))) }
+    ensures err { OnErr result (out.new.items ≡ out.old.items) }
+{
+    let before = out.len();
+    match push_got(job, value, out) {
+        Ok(()) => Ok(()),
+        Err(error) => {
+            out.truncate(before);
+            Err(error)
+        }
+    }
+}
+
+fn push_done(job: Job, out: &mut Vec<u8>) -> Result<(), AllocError>
+    ensures ok { OnOk result (out.new.items ≡ out.old.items ++ text.reply_text (Some job) (Reply.Answered Answer.Done)) }
+    ensures kept { GoesOnFrom out.old.items out.new.items }
+{
+    write_number(job.number() as u64, out)?;
+    out.extend_from_slice(b" ok\n")
+}
+
+/// Writes the reply to a SET; refused as `write_reply`.
+#[tactic(auto, using(key_codec::specs::laws::Grown::back_to))]
+pub fn write_done(job: Job, out: &mut Vec<u8>) -> Result<(), AllocError>
+    ensures ok { OnOk result (out.new.items ≡ out.old.items ++ text.reply_text (Some job) (Reply.Answered Answer.Done)) }
+    ensures err { OnErr result (out.new.items ≡ out.old.items) }
+{
+    let before = out.len();
+    match push_done(job, out) {
         Ok(()) => Ok(()),
         Err(error) => {
             out.truncate(before);

@@ -1,5 +1,5 @@
 //! Commands as they are spelled, whatever faults their references and values have.
-ghost use Rattle.std.specs.Prelude.{◌≡◌};
+ghost use Rattle.std.specs.Prelude.{◌≡◌, false, IfOk};
 ghost use Rattle.collation.specs.Reference.{Reference};
 ghost use Rattle.key_codec.specs.declared.draft.KeyDraft.{KeyDraft as KeyDraftView};
 ghost use Rattle.m_text.specs.Drafts.{DraftsSpelled};
@@ -7,7 +7,7 @@ ghost use Rattle.m_text.specs.Literal.{literal_at};
 ghost use Rattle.m_text.specs.Reading.{GivesUnlessMemory, GivesExactly, after_byte as after_of};
 ghost use Rattle.script.specs.Commands as commands;
 ghost use Rattle.script.specs.Commands.{AreBehindAct, AreBehindFunction, ActComesToOperands, FunctionComesToOperands, ComesToOperands};
-ghost use Rattle.script.specs.Sentence.{Finds, FindsData, ReadsOperandsAt, Tells};
+ghost use Rattle.script.specs.Sentence.{Finds, FindsData, HasNoNames, HasNoValue, ReadsOperandsAt, Tells, has_value, leaves_names, leaves_value, value_in};
 
 use crate::blank::{past_blank, skip_blank};
 use crate::lock::{Form, read_locking};
@@ -30,7 +30,10 @@ pub struct Drafts {
 
 impl Drafts {
     /// Empty buffers. Takes no memory.
-    pub fn new(alloc: Global) -> Drafts {
+    pub fn new(alloc: Global) -> Drafts
+        ensures value { HasNoValue result }
+        ensures names { HasNoNames result }
+    {
         Drafts {
             first: KeyDraft::new(alloc),
             second: KeyDraft::new(alloc),
@@ -38,12 +41,27 @@ impl Drafts {
             value: Text::new(alloc),
         }
     }
+
+    /// The value of a SET, where it lies.
+    pub fn value_mut(&mut self) -> &mut Text
+        ensures { result.now ≡ value_in self.old }
+    {
+        &mut self.value
+    }
+
+    /// Keeps no value any more. Takes no memory.
+    pub fn drop_value(&mut self, alloc: Global)
+        ensures value { HasNoValue self.new }
+        ensures names { self.new.names ≡ self.old.names }
+    {
+        self.value = Text::new(alloc);
+    }
 }
 
-// A data command without what stands in the drafts: its reference in the first, that of MERGE's source in the second, and
-// beside them SET's value, or the default of a $GET that has one.
+/// A data command without what stands in the drafts: its reference in the first, that of MERGE's source in the second, and
+/// beside them SET's value, or the default of a $GET that has one.
 #[derive(Clone, Copy, Debug)]
-pub(crate) enum DataSentence {
+pub enum DataSentence {
     Set,
     Kill,
     Merge,
@@ -54,9 +72,9 @@ pub(crate) enum DataSentence {
     Query(Direction),
 }
 
-// A command without its references, lock names and value, which stand in the drafts.
+/// A command without its references, lock names and value, which stand in the drafts.
 #[derive(Clone, Copy, Debug)]
-pub(crate) enum Sentence {
+pub enum Sentence {
     Access(DataSentence),
     // LOCK without names.
     Release,
@@ -107,7 +125,8 @@ fn read_default<'a>(
     text: &'a [u8],
     value: &mut Text,
 ) -> Result<(DataSentence, &'a [u8]), Refusal>
-    ensures { (second : KeyDraftView) (r : Reference) → Tells second value.new r result (commands.tail_at DataWord.Get r text.now) }
+    ensures reading { (second : KeyDraftView) (r : Reference) → Tells second value.new r result (commands.tail_at DataWord.Get r text.now) }
+    ensures value { IfOk result (λ x. has_value x.0 ≡ false → value.new ≡ value.old) }
 {
     match after(b',', text) {
         Some(literal) => match read_text(alloc, literal, value) {
@@ -155,7 +174,8 @@ fn read_tail<'a>(
     source: &mut KeyDraft,
     value: &mut Text,
 ) -> Result<(DataSentence, &'a [u8]), Refusal>
-    ensures { (r : Reference) → Tells source.new value.new r result (commands.tail_at word r text.now) }
+    ensures reading { (r : Reference) → Tells source.new value.new r result (commands.tail_at word r text.now) }
+    ensures value { IfOk result (λ x. has_value x.0 ≡ false → value.new ≡ value.old) }
 {
     match word {
         DataWord::Set => match read_value(alloc, text, value) {
@@ -188,7 +208,9 @@ fn read_operands<'a>(
     text: &'a [u8],
     drafts: &mut Drafts,
 ) -> Result<(DataSentence, &'a [u8]), Refusal>
-    ensures { FindsData drafts.new result (commands.operands_at word text.now) }
+    ensures reading { FindsData drafts.new result (commands.operands_at word text.now) }
+    ensures value { IfOk result (λ x. has_value x.0 ≡ false → drafts.new.value ≡ drafts.old.value) }
+    ensures names { drafts.new.names ≡ drafts.old.names }
 {
     match read_draft(alloc, text, &mut drafts.first) {
         Ok(rest) => read_tail(alloc, word, rest, &mut drafts.second, &mut drafts.value),
@@ -205,6 +227,8 @@ fn read_lock<'a>(
 ) -> Result<(Sentence, &'a [u8]), Refusal>
     ensures reading { Finds drafts.new result (commands.lock_at text.now) }
     ensures operands { ReadsOperandsAt (AreBehindAct Word.Lock text.now) result }
+    ensures value { IfOk result (λ x. leaves_value x.0 ≡ false → drafts.new.value ≡ drafts.old.value) }
+    ensures names { IfOk result (λ x. leaves_names x.0 ≡ false → drafts.new.names ≡ drafts.old.names) }
 {
     if past_blank(text).is_empty() {
         return Ok((Sentence::Release, text));
@@ -226,6 +250,8 @@ fn read_change<'a>(
 ) -> Result<(Sentence, &'a [u8]), Refusal>
     ensures reading { Finds drafts.new result (commands.behind_act (Word.Access word) text.now) }
     ensures operands { ReadsOperandsAt (AreBehindAct (Word.Access word) text.now) result }
+    ensures value { IfOk result (λ x. leaves_value x.0 ≡ false → drafts.new.value ≡ drafts.old.value) }
+    ensures names { IfOk result (λ x. leaves_names x.0 ≡ false → drafts.new.names ≡ drafts.old.names) }
 {
     let rest = skip_blank(text)?;
     match read_operands(alloc, word, rest, drafts) {
@@ -244,6 +270,8 @@ fn read_look<'a>(
 ) -> Result<(Sentence, &'a [u8]), Refusal>
     ensures reading { Finds drafts.new result (commands.behind_function (Word.Access word) text.now) }
     ensures operands { ReadsOperandsAt (AreBehindFunction (Word.Access word) text.now) result }
+    ensures value { IfOk result (λ x. leaves_value x.0 ≡ false → drafts.new.value ≡ drafts.old.value) }
+    ensures names { IfOk result (λ x. leaves_names x.0 ≡ false → drafts.new.names ≡ drafts.old.names) }
 {
     let rest = past(b'(', text)?;
     let (sentence, rest) = read_operands(alloc, word, rest, drafts)?;
@@ -259,6 +287,8 @@ fn read_acts<'a>(
 ) -> Result<(Sentence, &'a [u8]), Refusal>
     ensures reading { Finds drafts.new result (commands.acts_at text.now) }
     ensures operands { ReadsOperandsAt (ActComesToOperands text.now) result }
+    ensures value { IfOk result (λ x. leaves_value x.0 ≡ false → drafts.new.value ≡ drafts.old.value) }
+    ensures names { IfOk result (λ x. leaves_names x.0 ≡ false → drafts.new.names ≡ drafts.old.names) }
 {
     let (letters, rest) = split_letters(text);
     match act_of(letters) {
@@ -277,6 +307,8 @@ fn read_functions<'a>(
 ) -> Result<(Sentence, &'a [u8]), Refusal>
     ensures reading { Finds drafts.new result (commands.functions_at text.now) }
     ensures operands { ReadsOperandsAt (FunctionComesToOperands text.now) result }
+    ensures value { IfOk result (λ x. leaves_value x.0 ≡ false → drafts.new.value ≡ drafts.old.value) }
+    ensures names { IfOk result (λ x. leaves_names x.0 ≡ false → drafts.new.names ≡ drafts.old.names) }
 {
     let (letters, rest) = split_letters(text);
     match function_of(letters) {
@@ -296,6 +328,8 @@ pub(crate) fn read_sentence<'a>(
 ) -> Result<(Sentence, &'a [u8]), Refusal>
     ensures reading { Finds drafts.new result (commands.command_at text.now) }
     ensures operands { ReadsOperandsAt (ComesToOperands text.now) result }
+    ensures value { IfOk result (λ x. leaves_value x.0 ≡ false → drafts.new.value ≡ drafts.old.value) }
+    ensures names { IfOk result (λ x. leaves_names x.0 ≡ false → drafts.new.names ≡ drafts.old.names) }
 {
     match after(b'$', text) {
         Some(function) => read_functions(alloc, function, drafts),

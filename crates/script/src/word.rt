@@ -28,7 +28,7 @@ pub(crate) enum DataWord {
 }
 
 #[derive(Clone, Copy, Debug)]
-pub(crate) enum AloneWord {
+pub enum AloneWord {
     Start,
     Commit,
     Rollback,

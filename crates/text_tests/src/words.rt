@@ -28,6 +28,7 @@ fn asked(alloc: Global, words: &[&[u8]]) -> Result<Result<MrunArgs, ErrorKind>, 
 const PLAIN: MrunArgs = MrunArgs {
     file: None,
     load: None,
+    save: None,
     journal: None,
     listed: true,
     errors: false,
@@ -163,7 +164,43 @@ fn a_journal_keeps_its_beginning(rt: HostRuntime) -> Result<(), Fail> {
     Ok(())
 }
 
-const READ_AND_WRITTEN: [Row; 2] = [
+// Words, and where the name of the listing that is saved stands by them, with that of the one that is loaded.
+const SAVES: [Row; 2] = [
+    (
+        &[b"--load", b"k", b"--save", b"k"],
+        Ok(MrunArgs {
+            load: Some(NamePlace {
+                argument: 2,
+                from: 0,
+            }),
+            save: Some(NamePlace {
+                argument: 4,
+                from: 0,
+            }),
+            ..PLAIN
+        }),
+    ),
+    (
+        &[b"--save=\xfe", b"--checkpoint-every=5"],
+        Ok(MrunArgs {
+            save: Some(NamePlace {
+                argument: 1,
+                from: 7,
+            }),
+            checkpoint_every: 5,
+            ..PLAIN
+        }),
+    ),
+];
+
+#[test]
+fn words_ask_for_a_listing_to_be_saved(rt: HostRuntime) -> Result<(), Fail> {
+    assert_eq!(rt; first_other(rt.alloc(), &SAVES)?, None);
+    assert!(rt; is_refused(rt.alloc(), &[b"--save"])?);
+    Ok(())
+}
+
+const READ_AND_WRITTEN: [Row; 4] = [
     (
         &[b"--journal", b"a.txt", b"a.txt"],
         Err(ErrorKind::ArgumentConflict),
@@ -172,10 +209,18 @@ const READ_AND_WRITTEN: [Row; 2] = [
         &[b"--journal=a.txt", b"--load", b"a.txt"],
         Err(ErrorKind::ArgumentConflict),
     ),
+    (
+        &[b"--save", b"a.txt", b"a.txt"],
+        Err(ErrorKind::ArgumentConflict),
+    ),
+    (
+        &[b"--save", b"a.txt", b"--journal=a.txt"],
+        Err(ErrorKind::ArgumentConflict),
+    ),
 ];
 
 #[test]
-fn a_journal_is_no_file_that_is_read(rt: HostRuntime) -> Result<(), Fail> {
+fn a_file_that_is_written_is_no_other(rt: HostRuntime) -> Result<(), Fail> {
     assert_eq!(rt; first_other(rt.alloc(), &READ_AND_WRITTEN)?, None);
     Ok(())
 }
@@ -281,6 +326,7 @@ fn asked_of_jobs(alloc: Global, words: &[&[u8]]) -> Result<Result<MjobsArgs, Err
 const PLAIN_JOBS: MjobsArgs = MjobsArgs {
     file: None,
     load: None,
+    save: None,
     journal: None,
     listed: true,
     errors: false,
@@ -359,7 +405,7 @@ fn words_ask_for_a_listing_of_jobs(rt: HostRuntime) -> Result<(), Fail> {
     Ok(())
 }
 
-const JOURNALS_OF_JOBS: [JobsRow; 2] = [
+const JOURNALS_OF_JOBS: [JobsRow; 4] = [
     (
         &[b"--journal=\xff.txt", b"a.txt"],
         Ok(MjobsArgs {
@@ -373,6 +419,24 @@ const JOURNALS_OF_JOBS: [JobsRow; 2] = [
     ),
     (
         &[b"a.txt", b"--journal", b"a.txt"],
+        Err(ErrorKind::ArgumentConflict),
+    ),
+    (
+        &[b"--load=a.txt", b"--save=a.txt"],
+        Ok(MjobsArgs {
+            load: Some(NamePlace {
+                argument: 1,
+                from: 7,
+            }),
+            save: Some(NamePlace {
+                argument: 2,
+                from: 7,
+            }),
+            ..PLAIN_JOBS
+        }),
+    ),
+    (
+        &[b"--save", b"a.txt", b"a.txt"],
         Err(ErrorKind::ArgumentConflict),
     ),
 ];
