@@ -32,8 +32,8 @@ const LINES: [&str; 5] = [
 
 // Whether the nodes behind and before a cut have these values.
 fn are_parted<V: OrderedView>(view: &V, cut: Cut<'_>, next: &[u8], prev: &[u8]) -> bool {
-    bytes(view.next(cut).map(|node| node.1)) == next
-        && bytes(view.prev(cut).map(|node| node.1)) == prev
+    bytes(view.next(cut, None).map(|node| node.1)) == next
+        && bytes(view.prev(cut, None).map(|node| node.1)) == prev
 }
 
 fn are_parted_at_each_form<V: OrderedView>(view: &V, one: &Key) -> bool {

@@ -1,5 +1,6 @@
 //! What lone look-ups pass over at once: stretches in which no node is left.
-ghost use Rattle.std.specs.Prelude.{◌≡◌, [], IfSome};
+ghost use Rattle.std.specs.Prelude.{◌≡◌, ℕ, List, [], IfSome};
+ghost use Rattle.std.specs.FinMap as finmap;
 ghost use Rattle.collation.specs.Database.{Database};
 ghost use Rattle.command.specs.Data.{data_after};
 ghost use Rattle.stretches.specs.Empty.{AreEmpty, IsEmpty};
@@ -52,8 +53,8 @@ impl Passing {
         &self.stretches
     }
 
-    /// Before a lone data command: a $ORDER or $QUERY looks for the stretch over which it will pass; where another may
-    /// put a node into one of them, all are dropped.
+    /// Before a lone data command: a $ORDER, $QUERY or $DATA looks for the stretch over which it will pass; where another
+    /// may put a node into one of them, what is left of it is kept.
     pub(crate) fn make_ready(
         &mut self,
         alloc: Global,
@@ -68,18 +69,26 @@ impl Passing {
         match command {
             DataCommand::Look(look) => self.look_ahead(alloc, store, look),
             DataCommand::Kill(_) => self.note_kills(store, oldest),
-            _ => self.leave(command),
+            _ => self.leave(alloc, command),
         }
     }
 
-    // Drops the stretches, where a command may put a node into one of them.
-    fn leave(&mut self, command: &DataCommand)
+    // Keeps what is left of the stretches by a command that may put nodes into one of them.
+    fn leave(&mut self, alloc: Global, command: &DataCommand)
         ensures before { (m : Database) → AreEmpty self.old m → AreEmpty self.new m }
         ensures behind { (m : Database) → AreEmpty self.old m → AreEmpty self.new (data_after command.now m) }
     {
-        if self.stretches.are_entered_by(command) {
-            self.stretches.clear();
-        }
+        let left = self.stretches.left_by(alloc, command);
+        self.stretches.follow(left, &None);
+    }
+
+    /// Before a lone SET of the reference: what is left of the stretches by it is kept.
+    pub(crate) fn leave_set(&mut self, alloc: Global, key: &Key)
+        ensures before { (m : Database) → AreEmpty self.old m → AreEmpty self.new m }
+        ensures behind { (value : List ℕ) → (m : Database) → AreEmpty self.old m → AreEmpty self.new (finmap.insert m key.now value) }
+    {
+        let left = self.stretches.left_by_set(alloc, key);
+        self.stretches.follow(left, &None);
     }
 
     /// Before a commit: where what it has set may stand in one of the stretches all are dropped.
@@ -130,7 +139,7 @@ impl Passing {
         ensures { AreEmpty self.new (content_now store.now) }
     {
         match look {
-            Look::Data(_) => {}
+            Look::Data(_) => self.seek(alloc, store, look),
             Look::Get(_, _) => {}
             Look::Order(_, _) => self.seek(alloc, store, look),
             Look::Query(_, _) => self.seek(alloc, store, look),
@@ -167,7 +176,7 @@ impl Passing {
         ensures { (m : Database) → AreEmpty self.old m → IfSome passed.now (λ stretch. IsEmpty stretch m) → AreEmpty self.new m }
     {
         self.absences.note_search(passed.is_some());
-        self.stretches.follow(false, passed);
+        self.stretches.follow(None, passed);
     }
 }
 

@@ -10,9 +10,8 @@ use Rattle.collation.specs.Database.{is_under}
 use Rattle.collation.specs.Changes.{changed}
 use Rattle.journal.specs.declared.unit.Unit.{Unit as JournalUnit}
 use Rattle.version_chain.specs.Versions.{IsAbove, IsFalling}
-use Rattle.version_store.specs.Versions.{Row, Versions, Stored, content_at, versions_of, row_after, is_bare}
+use Rattle.version_store.specs.Versions.{Row, Versions, Stored, content_at, versions_of, row_after, is_bare, AddsNoneBare}
 use Rattle.validate_commit.specs.Agreement.{has_stamp, Agreement, IsNextKill}
-use Rattle.validate_commit.specs.Bare.{AddsNoneBare}
 use Rattle.validate_commit.specs.laws.Agreement.{HasWritten, agreed_now, agreed_next, has_stamp-above}
 
 above : (now : ℕ) (vs : Row) (stamp : ℕ) → IsAbove (suc now) vs → now < stamp → IsAbove stamp vs

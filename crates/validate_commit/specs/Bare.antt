@@ -7,11 +7,7 @@ use Rattle.collation.specs.Order.{ref_cmp}
 use Rattle.collation.specs.Changes.{Change}
 use Rattle.version_store.specs.Versions.{Versions, is_bare}
 
--- each that is bare was so before: what is only read leaves nothing behind
-abbrev pub AddsNoneBare : Versions → Versions → Type 0
-AddsNoneBare old new = (x : Reference) → is_bare (finmap.get new x) ≡ true → is_bare (finmap.get old x) ≡ true
-
--- and none of those that are changed is
+-- each that is bare was so before, and none of those that are changed is
 abbrev pub LeavesNoneBare : List Change → Versions → Versions → Type 0
 LeavesNoneBare changes old new = (x : Reference) → is_bare (finmap.get new x) ≡ true → (find ref_cmp x changes ≡ None) × (is_bare (finmap.get old x) ≡ true)
 

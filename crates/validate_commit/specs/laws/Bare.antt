@@ -9,9 +9,9 @@ use Rattle.collation.specs.Reference.{Reference}
 use Rattle.collation.specs.Order.{ref_cmp}
 use Rattle.collation.specs.laws.Order.{ref_cmp_total, ref_cmp-IsAntisymmetric, is_equal}
 use Rattle.collation.specs.Changes.{Change}
-use Rattle.version_store.specs.Versions.{Versions, is_bare, placed, all_placed, with_version, unless_bare, tidied, written_and_cut}
+use Rattle.version_store.specs.Versions.{Versions, is_bare, AddsNoneBare, placed, all_placed, with_version, unless_bare, tidied, written_and_cut}
 use Rattle.version_store.specs.laws.Cutting.{get_one, other_keys}
-use Rattle.validate_commit.specs.Bare.{AddsNoneBare, LeavesNoneBare, PlacesTheChanged}
+use Rattle.validate_commit.specs.Bare.{LeavesNoneBare, PlacesTheChanged}
 
 itself : (r : Reference) → eq_by_cmp ref_cmp r r ≡ true
 itself r = let laws = eq_by_cmp_equiv ref_cmp_total in laws.refl r

@@ -42,3 +42,6 @@ returns-in-Err-clause-early c = λ refusal early. let none = kill_early c.args.c
 
 pub returns-in-Err-clause-cause : goal.returns-in-Err-clause-cause
 returns-in-Err-clause-cause c = kill_cause c.in-Err.refusal c.args.command (content_now c.args.store.now) (length c.args.journal.now.units) (kill_accepted c.args.command c.args.oldest (content_now c.args.store.now) c.requires.kill) c.in-Err.ensures.cause
+
+pub returns-in-Err-clause-bare : goal.returns-in-Err-clause-bare
+returns-in-Err-clause-bare c = λ x bare. bare

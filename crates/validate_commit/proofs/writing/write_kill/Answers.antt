@@ -2,8 +2,7 @@ use Rattle.std.proofs.Common.{◌≡◌, ◌+◌, length, sym, ap, subst, ◌∙
 use Rattle.std.specs.Prelude.{not}
 use Rattle.std.specs.FinMap.{retain_keys}
 use Rattle.collation.specs.Database.{is_under}
-use Rattle.version_store.specs.Versions.{content_at}
-use Rattle.validate_commit.specs.Bare.{AddsNoneBare}
+use Rattle.version_store.specs.Versions.{content_at, AddsNoneBare}
 use Rattle.validate_commit.specs.laws.Agreement.{one_more}
 use Rattle.validate_commit.proofs.Killing.{agreed_killed, none_bare}
 use Rattle.validate_commit.proofs.writing.write_kill.Goals as goal

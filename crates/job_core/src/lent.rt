@@ -1,0 +1,106 @@
+//! A SET and a $GET outside a transaction, of which key and value are lent.
+ghost use Rattle.std.specs.Prelude.{◌≡◌, ◌≤◌, ◌<◌, ◌^◌, ◌-◌, ℕ, List, [], ◌∷◌, ◌++◌, None, Some, max, length, unwrap_or, IfSome, IfOk, OnOk, OnErr, IfErr};
+ghost use Rattle.std.specs.Option.{option_copied};
+ghost use Rattle.refusal.specs.declared.Refusal.{Refusal};
+ghost use Rattle.collation.specs.Reference.{Reference};
+ghost use Rattle.command.specs.declared.access.DataCommand.TheVariants.{Set, Look};
+ghost use Rattle.command.specs.declared.access.Look.TheVariants.{Get};
+ghost use Rattle.command.specs.declared.access.Answer.TheVariants.{Done, Value};
+ghost use Rattle.journal.specs.declared.unit.Unit.TheVariants.{Lone};
+ghost use Rattle.journal.specs.Kept.{HasNoRoom};
+ghost use Rattle.version_store.specs.Versions.{content_now, versions_of, AddsNoneBare};
+ghost use Rattle.validate_commit.specs.Agreement.{Agreement};
+ghost use Rattle.job_core.specs.Changes.{row_done};
+ghost use Rattle.job_core.specs.Lent.{value_at};
+
+use collation::{Job, Text};
+use globals::OrderedView;
+use journal::{Journal, Receipt};
+use key_codec::Key;
+use refusal::Refusal;
+use std::alloc::Global;
+use validate_commit::write_set;
+use version_store::KeyedStore;
+
+/// A SET of a job outside a transaction, on a store and a journal that agree: as `lone` of that command, but the value
+/// is taken out of where it lies.
+///
+/// Refusals: `StampsUsedUp`, where the journal is full; `OutOfMemory`. They leave database, versions, cut and journal
+/// as they were; the value may be gone.
+pub(crate) fn set_lent(
+    alloc: Global,
+    store: &mut KeyedStore,
+    journal: &mut Journal,
+    job: Job,
+    key: &Key,
+    value: &mut Text,
+    oldest: Option<u64>,
+) -> Result<Receipt, Refusal>
+    requires agreed { Agreement store.old journal.old.units }
+    requires oldest { IfSome oldest (λ stamp. stamp ≤ length journal.old.units) }
+    ensures unit { OnOk result (journal.new.units ≡ journal.old.units ++ Lone job (Set key.now value.old) Done ∷ []) }
+    ensures receipt { IfOk result (λ receipt. receipt ≡ record { job = job; number = length journal.new.units; unit = Lone job (Set key.now value.old) Done }) }
+    ensures base { journal.new.base ≡ journal.old.base }
+    ensures refused { OnErr result (journal.new.units ≡ journal.old.units) }
+    ensures cause { IfErr result (λ refusal. HasNoRoom refusal 1 (length journal.old.units)) }
+    ensures agreed { Agreement store.new journal.new.units }
+    ensures left { OnOk result (store.new.cut ≡ max store.old.cut (unwrap_or oldest (length journal.new.units))) }
+    ensures same_cut { OnErr result (store.new.cut ≡ store.old.cut) }
+    ensures written { OnOk result ((x : Reference) → versions_of store.new.versions x ≡ row_done (Set key.now value.old) oldest (length journal.new.units) store.new.cut store.old x) }
+    ensures rows { OnErr result ((x : Reference) → versions_of store.new.versions x ≡ versions_of store.old.versions x) }
+    ensures bare { AddsNoneBare store.old.versions store.new.versions }
+    ensures mark { store.new.mark ≡ store.old.mark }
+    ensures taken { OnOk result (value.new ≡ []) }
+{
+    match journal.prepare_set(job, key, value.as_slice()) {
+        Ok(()) => match write_set(alloc, store, journal, key, value, oldest) {
+            Ok(receipt) => Ok(receipt),
+            Err(_) => Err(Refusal::OutOfMemory),
+        },
+        Err(refusal) => Err(refusal),
+    }
+}
+
+/// Writes the unit of a $GET of a job outside a transaction, behind the units, and answers how many bytes its value
+/// has.
+///
+/// Refusals: those of `prepare_get`.
+pub(crate) fn prepare_got(
+    store: &KeyedStore,
+    journal: &mut Journal,
+    job: Job,
+    key: &Key,
+) -> Result<usize, Refusal>
+    ensures units { journal.new.units ≡ journal.old.units }
+    ensures base { journal.new.base ≡ journal.old.base }
+    ensures prepared { OnOk result (journal.new.prepared ≡ Some (Lone job (Look (Get key.now None)) (Value (value_at key.now (content_now store.now))))) }
+    ensures counted { OnOk result (length journal.old.units < 2 ^ 64 - 1) }
+    ensures size { IfOk result (λ size. size ≡ length (value_at key.now (content_now store.now))) }
+    ensures cause { IfErr result (λ refusal. HasNoRoom refusal 1 (length journal.old.units)) }
+{
+    let view = store.view_now();
+    let value = bytes_of(view.get(key));
+    match journal.prepare_get(job, key, value) {
+        Ok(()) => Ok(value.len()),
+        Err(refusal) => Err(refusal),
+    }
+}
+
+// The bytes of a value, and none where there is none.
+fn bytes_of(found: Option<&Text>) -> &[u8]
+    ensures { result.now ≡ unwrap_or (option_copied found.entry) [] }
+{
+    match found {
+        Some(value) => value.as_slice(),
+        None => &[],
+    }
+}
+
+/// The last so many bytes.
+pub(crate) fn last_of(bytes: &[u8], size: usize) -> &[u8]
+    ensures { (front last : List ℕ) → bytes.now ≡ front ++ last → size ≡ length last → result.now ≡ last }
+{
+    let start = bytes.len().saturating_sub(size);
+    let (_, last) = bytes.split_at(start);
+    last
+}
