@@ -4,6 +4,7 @@ ghost use Rattle.pin_board.specs.Slips.{AreInJournal, AreAll, IsNext};
 ghost use Rattle.pin_board.specs.Tally.{tallied};
 ghost use Rattle.pin_board.specs.Views.{starting, new_desk, new_pin, dealt_one, start_of, least, logged, wrote, rebased, settled_now, Met, gave, with_slip, without_slip, rested, idle};
 
+use crate::lending::lift;
 use crate::view::SeatView;
 use crate::words::{Place, Words};
 use atomic_table::Perch;
@@ -11,7 +12,6 @@ use journal::Receipt;
 use std::alloc::{AllocError, Global};
 use std::marker::{Brand, Model, PhantomData};
 use std::sync::Wait;
-use std::thread;
 
 /// Which board it is. Each call of a program picks it.
 pub trait BoardName {
@@ -198,20 +198,6 @@ fn perched(seat: Place) -> Perch<Receipt, SeatView>
     let perch = Perch::new(&seat, 0);
     let _ = perch.give(seat, 0, 2);
     perch
-}
-
-// Takes the seat that rests on the perch, and waits while a reader has it.
-fn lift<R: Wait>(rt: &R, perch: &Perch<Receipt, SeatView>) -> Place
-    ensures { (result.table_id ≡ perch.now.table_id) × (result.me ≡ (perch.now.view, [])) }
-{
-    for _ in rt.forever() {
-        // Readers that share the lock take and give back the same seat, whose view none of them changes.
-        if let (_, Some(seat)) = perch.take(1) {
-            return seat;
-        }
-        thread::yield_now();
-    }
-    unreachable!()
 }
 
 impl<B: BoardName> Desk<B> {
@@ -417,11 +403,9 @@ impl<B: BoardName> Board<B> {
         ensures start { result ≡ length desk.now.log }
         ensures met { Met desk.now pin.old }
     {
-        let seat = lift(rt, &desk.perch);
-        self.words.lend(&mut pin.seat, seat);
+        let loan = self.words.borrow_desk(rt, &desk.perch, &mut pin.seat);
         let now = self.words.rebase(&mut pin.seat);
-        let seat = self.words.give_back(&mut pin.seat);
-        let _ = desk.perch.give(seat, 1, 2);
+        self.words.return_desk(&desk.perch, &mut pin.seat, loan);
         pin.start = Some(now);
         now
     }
@@ -433,12 +417,10 @@ impl<B: BoardName> Board<B> {
         ensures start { result ≡ length desk.now.log }
         ensures met { Met desk.now pin.old }
     {
-        let seat = lift(rt, &desk.perch);
-        self.words.lend(&mut pin.seat, seat);
+        let loan = self.words.borrow_desk(rt, &desk.perch, &mut pin.seat);
         let clock = self.words.rebase(&mut pin.seat);
         self.words.settle_now(&mut pin.seat, pin.place, clock);
-        let seat = self.words.give_back(&mut pin.seat);
-        let _ = desk.perch.give(seat, 1, 2);
+        self.words.return_desk(&desk.perch, &mut pin.seat, loan);
         pin.start = Some(clock);
         clock
     }
@@ -450,11 +432,9 @@ impl<B: BoardName> Board<B> {
         ensures pin { pin.new ≡ pin.old }
         ensures met { Met desk.now pin.old }
     {
-        let seat = lift(rt, &desk.perch);
-        self.words.lend(&mut pin.seat, seat);
+        let loan = self.words.borrow_desk(rt, &desk.perch, &mut pin.seat);
         self.words.meet(&mut pin.seat);
-        let seat = self.words.give_back(&mut pin.seat);
-        let _ = desk.perch.give(seat, 1, 2);
+        self.words.return_desk(&desk.perch, &mut pin.seat, loan);
     }
 
     /// Draws a horizon: the least of the clock and of the stamps in the slots of all seats dealt. The floor is raised

@@ -25,6 +25,7 @@ pub use board::{Blank, Board, BoardName, Desk, FloorAbove, FreeSeat, Pin, SEATS,
 pub use view::{BoardRules, DeskView, PinView, SeatView};
 
 mod board;
+mod lending;
 mod step_kinds;
 mod view;
 mod words;

@@ -8,7 +8,7 @@ use lock_name::LockCommand;
 use pin_board::BoardName;
 use refusal::Refusal;
 use script::{Drafts, read_line};
-use shared_engine::{Ended, Gate, Session, Shared};
+use shared_engine::{Ended, Gate, Mark, Session, Shared, Stop};
 use std::alloc::Global;
 use std::sync::Wait;
 
@@ -27,6 +27,27 @@ impl Gate for NoTime {
     fn between_tries(&self, _job: Job) {}
 
     fn second(&self, _job: Job) {}
+
+    fn waits(&self, _job: Job, _command: &LockCommand) -> Mark {
+        Mark {
+            changes: 0,
+            is_counted: false,
+        }
+    }
+
+    fn tried(&self, _job: Job, mark: Mark) -> Mark {
+        mark
+    }
+
+    fn goes_on(&self, _job: Job, _command: &LockCommand) {}
+
+    fn job_begun(&self) {}
+
+    fn job_failed(&self) {}
+
+    fn stop(&self) -> Option<Stop> {
+        None
+    }
 
     fn job_done(&self, _done: u64, _jobs: u64, _lines: u64) {}
 }

@@ -27,6 +27,7 @@ locked_added u told old new desk later seats horizon opened is h step =
     let high : later.high ≡ desk.high = ap (λ (d : DeskView). d.high) step in record {
       log = log_next u told (Some horizon) old new desk later is.log h step;
       cut = omega (arith, is.cut, is.high, h.cut, high);
+      base = omega (arith, is.base, h.base, high);
       high = omega (arith, is.high, high);
       now = omega (arith, is.now, ap length h.units, length-append old.units (u ∷ []));
       wide = ap (λ (d : DeskView). d.seats) step ∙ is.wide;
@@ -39,6 +40,7 @@ pub locked_unchanged : (old new : Common) (desk : DeskView) (seats : List (Optio
 locked_unchanged old new desk seats horizon opened is h = record {
   log = is.log ∙ sym h.units;
   cut = omega (arith, is.cut, h.cut);
+  base = omega (arith, is.base, h.base);
   high = is.high;
   now = omega (arith, is.now, ap length h.units);
   wide = is.wide;

@@ -1,5 +1,5 @@
 -- A LOCK whose first try was in vain, and what a call answers of the moment at which it had the lock.
-use Rattle.std.proofs.Common.{◌≡◌, ℕ, Bool, true, false, List, ap, subst, ◌∙◌, inl, inr, Result, Ok, Err, IfOk, OnOk, OnErr}
+use Rattle.std.proofs.Common.{◌≡◌, ℕ, Bool, true, false, List, [], refl, ap, subst, ◌∙◌, inl, inr, Result, Ok, Err, IfOk, OnOk, OnErr}
 use Rattle.std.specs.Prelude.{◌⊎◌, IfErr}
 use Rattle.refusal.specs.declared.Refusal.{Refusal}
 use Rattle.refusal.specs.declared.Refusal.TheVariants.{OutOfMemory, StampsUsedUp}
@@ -62,6 +62,10 @@ refused_later (Err e) command old mid new first h = inr (first.0, h ∙ first.1)
 -- why a LOCK of this job is refused, on some journal
 abbrev pub IsSomeCause : ℕ → LockCommand → Refusal → Type 0
 IsSomeCause job command refusal = (us : List JournalUnit) × IsCauseOfLock refusal job command us
+
+-- a LOCK may be refused for memory at any time
+pub cause_of_memory : (job : ℕ) (command : LockCommand) → IsSomeCause job command OutOfMemory
+cause_of_memory job command = ([], inl (inl refl))
 
 tried_job : (n : ℕ) (command : LockCommand) (had : Bool) (h : Held) → (after_try n command had h).state.work.job ≡ h.state.work.job
 tried_job n command had h = ap (λ (w : Working). w.job) (noted_work h.state)

@@ -1,6 +1,6 @@
 -- What a block of commands does under one hold of the lock: each command in its turn, on the units that are there by
 -- then. Read HasDone, then AreDone.
-use Rattle.std.specs.Prelude.{◌≡◌, ◌≢◌, ◌⊎◌, ⊤, ℕ, ◌+◌, ◌-◌, ◌≤◌, ◌<◌, nat_lt, if◌then◌else◌, Bool, true, false, List, [], ◌∷◌, ◌++◌, length, Option, None, Some, Result, Ok, Err}
+use Rattle.std.specs.Prelude.{◌≡◌, ◌≢◌, ◌⊎◌, ⊤, ℕ, ◌+◌, ◌-◌, ◌≤◌, ◌<◌, nat_lt, if◌then◌else◌, Bool, true, false, List, [], ◌∷◌, ◌++◌, length, Option, None, Some, Result, Ok, Err, IsErrOf}
 use Rattle.refusal.specs.declared.Refusal.{Refusal}
 use Rattle.refusal.specs.declared.Refusal.TheVariants.{NoTransaction, LevelTooDeep}
 use Rattle.collation.specs.Limits.{most_levels}
@@ -13,6 +13,7 @@ use Rattle.command.specs.declared.request.Command.TheVariants.{Access, Lock as l
 use Rattle.command.specs.declared.request.Reply.{Reply}
 use Rattle.command.specs.declared.request.Reply.TheVariants.{Answered, Finished, Count, AtLevel, Committed as committed_reply, Restarted as restarted_reply, Refused}
 use Rattle.command.specs.Data.{data_refusal, data_reply}
+use Rattle.globals.specs.Answering.{early_refusal}
 use Rattle.journal.specs.declared.unit.Unit.{Unit as JournalUnit}
 use Rattle.journal.specs.declared.unit.Unit.TheVariants.{Lone}
 use Rattle.journal.specs.History.{initial, after}
@@ -36,12 +37,14 @@ said reply (Err refusal) = Refused refusal
 abbrev pub AreSame : List JournalUnit → List JournalUnit → Held → Held → Type 0
 AreSame units more old new = (more ≡ units) × (new ≡ old)
 
--- a data command outside a transaction
+-- a data command outside a transaction; no want of memory hides a rule that is looked at before
 abbrev pub IsLone : DataCommand → Result Answer Refusal → List JournalUnit → List JournalUnit → Held → Held → Type 0
 IsLone command (Ok answer) units more old new =
     ((answer ≡ data_reply command (after units initial).map) × (data_refusal command (after units initial).map ≡ None))
     × ((more ≡ units ++ Lone old.state.work.job command answer ∷ []) × (new ≡ and_receipt (length units + 1) (Lone old.state.work.job command answer) old))
-IsLone command (Err refusal) units more old new = IsCauseOf refusal command (after units initial).map (length units) × AreSame units more old new
+IsLone command (Err refusal) units more old new =
+    (IsCauseOf refusal command (after units initial).map (length units) × ((rule : Refusal) → early_refusal command ≡ Some rule → IsErrOf {T = Answer} (Err refusal) rule))
+    × AreSame units more old new
 
 -- a data command inside one, which sees the map of its start and its own commands
 abbrev pub IsReadAt : Option (List JournalUnit) → DataCommand → Result Answer Refusal → JobSession → JobSession → Type 0

@@ -25,11 +25,12 @@ pub record Engine : Type 0 where
 abbrev pub engine : Common → ℕ → List (Option ℕ) → Engine
 engine common opened seats = record { common = common; opened = opened; seats = seats }
 
--- what lies under the lock: the desk knows the journal, no content from a horizon on is gone, and there is a seat for
--- each place that was dealt
+-- what lies under the lock: the desk knows the journal, no content from a horizon on is gone, the journal's base hasn't
+-- passed the greatest horizon, and there is a seat for each place that was dealt
 pub record IsLocked (common : Common) (desk : DeskView) (seats : List (Option ℕ)) (horizon opened : ℕ) : Type 0 where
   pub log : desk.log ≡ common.units
   pub cut : common.store.cut ≤ desk.high
+  pub base : common.base ≤ desk.high
   pub high : horizon ≤ desk.high
   pub now : horizon ≤ length common.units
   pub wide : desk.seats ≡ 4096

@@ -1,24 +1,31 @@
 //! A lock that many may share or one may have alone, tried for a while before its thread sleeps.
 //!
 //! std's lock lets a thread sleep after a hundred looks, and a sleep with its waking costs as much as many steps of the
-//! engine. Here a thread tries in a bounded number of turns first. While somebody wants the lock alone, those who would
-//! share it hold back, so that they can't pass it round among themselves. Nothing that is proved rests on this: std's
-//! lock alone says who may do what, and once the turns are over its way is taken.
+//! engine. Here a thread tries in a bounded number of turns first, and after some in vain it lets others run between
+//! two: whoever has the lock, or is the next to have it, may be without a processor. While somebody wants the lock
+//! alone, those who would share it hold back, so that they can't pass it round among themselves. Nothing that is proved
+//! rests on this: std's lock alone says who may do what, and once the turns are over its way is taken.
 use std::hint::spin_loop;
 use std::sync::atomic::{AtomicU64, Ordering};
 use std::sync::{RwLock, RwLockReadGuard, RwLockWriteGuard, Wait};
+use std::thread::yield_now;
 
-// How often a thread tries before it sleeps, and how often it looks at `wanted` between two tries: together some
-// hundred microseconds. A look costs next to nothing while nobody changes the word; a try takes the lock's word, and
-// what lies beside it, from whoever has it.
+// How often a thread tries before it sleeps, and how often it looks at `wanted` between two of the first tries. A look
+// costs next to nothing while nobody changes the word; a try takes the lock's word, and what lies beside it, from
+// whoever has it.
 const TRIES: u32 = 1_000;
 
 const LOOKS: u32 = 256;
+
+// After how many tries it lets others run before the next one: a few microseconds, longer than most have the lock.
+const EARLY_TRIES: u32 = 16;
 
 // The same for who is patient, before it does as the others.
 const PATIENT_TRIES: u32 = 32;
 
 const PATIENT_LOOKS: u32 = 2_048;
+
+const PATIENT_EARLY_TRIES: u32 = 4;
 
 /// How a thread waits for the lock alone.
 #[derive(Clone, Copy)]
@@ -76,16 +83,25 @@ impl<T> AdaptiveLock<T> {
         }
     }
 
+    // Between two tries: so many looks where it is an early one, else other threads run.
+    fn rest(&self, is_early: bool, looks: u32) {
+        if is_early {
+            self.look_away(looks);
+        } else {
+            yield_now();
+        }
+    }
+
     /// The lock, shared: others may share it, and nobody has it alone.
     pub(crate) fn read<R: Wait>(&self, rt: &R) -> RwLockReadGuard<'_, T> {
-        for _ in 0..TRIES {
+        for tries in 0..TRIES {
             // Others may take or free the lock between these two: then it is tried in vain, and once more.
             if !self.is_wanted() {
                 if let Some(guard) = self.lock.try_read() {
                     return guard;
                 }
             }
-            self.look_away(LOOKS);
+            self.rest(tries < EARLY_TRIES, LOOKS);
         }
         self.lock.read(rt)
     }
@@ -108,8 +124,8 @@ impl<T> AdaptiveLock<T> {
 
     // The lock alone, if it is free at one of some seldom tries. Nobody holds back meanwhile.
     fn wait_patiently(&self) -> Option<RwLockWriteGuard<'_, T>> {
-        for _ in 0..PATIENT_TRIES {
-            self.look_away(PATIENT_LOOKS);
+        for tries in 0..PATIENT_TRIES {
+            self.rest(tries < PATIENT_EARLY_TRIES, PATIENT_LOOKS);
             if let Some(guard) = self.lock.try_write() {
                 return Some(guard);
             }
@@ -119,11 +135,11 @@ impl<T> AdaptiveLock<T> {
 
     // Those who would share the lock hold back meanwhile.
     fn write_in_tries<R: Wait>(&self, rt: &R) -> RwLockWriteGuard<'_, T> {
-        for _ in 0..TRIES {
+        for tries in 0..TRIES {
             if let Some(guard) = self.lock.try_write() {
                 return guard;
             }
-            self.look_away(LOOKS);
+            self.rest(tries < EARLY_TRIES, LOOKS);
         }
         self.lock.write(rt)
     }

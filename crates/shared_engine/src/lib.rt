@@ -23,7 +23,7 @@
 //! `session.rt`. Not promised: that a call which waits for the lock returns, or that a LOCK has its names at last.
 #![tactic(auto)]
 
-pub use gate::Gate;
+pub use gate::{Gate, Mark, Stop};
 pub use locked::{Closed, Ended};
 pub use session::{Pass, Session};
 pub use shared::{Pause, Share, Shared};

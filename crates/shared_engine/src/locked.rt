@@ -1,9 +1,10 @@
 //! What lies under the lock. Each step of a session is a method, whose contract says exactly what it does.
-ghost use Rattle.std.specs.Prelude.{◌≡◌, ◌⊎◌, ◌<◌, ◌≤◌, ◌+◌, ◌-◌, ◌^◌, ◌∷◌, ◌++◌, ℕ, true, false, List, [], min, max, nat_lt, length, vec_len, take, None, Some, IfOk, IfErr, IfSome, IsSome, OnOk, OnErr};
+ghost use Rattle.std.specs.Prelude.{◌≡◌, ◌⊎◌, ◌<◌, ◌≤◌, ◌+◌, ◌-◌, ◌^◌, ◌∷◌, ◌++◌, ℕ, true, false, List, [], min, max, nat_lt, length, vec_len, take, None, Some, IfOk, IfErr, IsErrOf, IfSome, IsSome, OnOk, OnErr};
 ghost use Rattle.std.specs.List.{All};
 ghost use Rattle.refusal.specs.declared.Refusal.{Refusal};
 ghost use Rattle.lock_name.specs.Locks.{lock_refusal, lock_reply};
 ghost use Rattle.command.specs.Data.{data_refusal, data_reply};
+ghost use Rattle.globals.specs.Answering.{early_refusal, IsRuleOrMemory};
 ghost use Rattle.journal.specs.History.{initial, after, IsLegal};
 ghost use Rattle.journal.specs.Kept.{Claim, HasNoRoom};
 ghost use Rattle.journal.specs.declared.unit.Unit.TheVariants.{Lone, End};
@@ -23,6 +24,7 @@ use crate::sweep::{Sweep, looks};
 use collation::Job;
 use collector::Progress;
 use command::{Answer, DataCommand};
+use globals::answer;
 use job_core::{Core, JobState};
 use lock_name::LockCommand;
 use pin_board::{Board, BoardName, Desk, Pin, Tally};
@@ -90,6 +92,7 @@ fn go_back<B: BoardName, R: Wait>(
     requires high { horizon ≤ desk.old.high }
     requires now { horizon ≤ length core.old.units }
     ensures units { OnOk result (core.new.units ≡ gone_back session.old.state core.old.units) }
+    ensures base { core.new.base ≡ core.old.base }
     ensures cut { core.new.store.cut ≤ desk.new.high }
     ensures desk { desk.new ≡ record desk.old { log = core.new.units } }
     ensures session { OnOk result (session.new ≡ went_back (length core.new.units) session.old) }
@@ -102,6 +105,30 @@ fn go_back<B: BoardName, R: Wait>(
     let receipt = core.back(session.state.job(), Some(horizon))?;
     board.write(rt, desk, &mut session.pin, &receipt);
     Ok(())
+}
+
+// Why a data command isn't done for which there is no room: its own rule, where it breaks one, else want of memory.
+fn rule_or_memory(alloc: Global, core: &Core, command: DataCommand) -> Refusal
+    ensures early { (refusal : Refusal) → early_refusal command ≡ Some refusal → result ≡ refusal }
+    ensures cause { IsRuleOrMemory result (data_refusal command (after core.now.units initial).map) }
+{
+    match answer(alloc, &core.content(), &command) {
+        Ok(answered) => {
+            drop(answered);
+            Refusal::OutOfMemory
+        }
+        Err(refusal) => refusal,
+    }
+}
+
+// The same of a LOCK.
+fn lock_rule_or_memory(core: &Core, job: Job, command: &LockCommand) -> Refusal
+    ensures { (result ≡ Refusal.OutOfMemory) ⊎ (lock_refusal job command.now (after core.now.units initial).locks ≡ Some result) }
+{
+    match core.locks().check(job, command) {
+        Ok(()) => Refusal::OutOfMemory,
+        Err(refusal) => refusal,
+    }
 }
 
 // Notes a LOCK in the session's state, where it was taken inside a transaction.
@@ -165,8 +192,8 @@ impl<B: BoardName> Locked<B> {
 
     /// A data command outside a transaction: a unit of its own.
     ///
-    /// Refusals, after which nothing has changed: those of `Core::lone`; and `OutOfMemory` for the receipt, before
-    /// them.
+    /// Refusals, after which nothing has changed: those of `Core::lone`; and `OutOfMemory` for the receipt, which hides
+    /// no rule that is looked at before memory is asked for.
     pub(crate) fn lone<R: Wait>(
         &mut self,
         rt: &R,
@@ -180,10 +207,14 @@ impl<B: BoardName> Locked<B> {
         ensures units { IfOk result (λ answer. self.new.common.units ≡ self.old.common.units ++ Lone session.old.state.work.job command answer ∷ []) }
         ensures receipt { IfOk result (λ answer. session.new ≡ and_receipt (length self.old.common.units + 1) (Lone session.old.state.work.job command answer) session.old) }
         ensures refused { OnErr result ((self.new.common.units ≡ self.old.common.units) × (session.new ≡ session.old)) }
+        ensures early { (refusal : Refusal) → early_refusal command ≡ Some refusal → IsErrOf result refusal }
         ensures cause { IfErr result (λ refusal. IsCauseOf refusal command (after self.old.common.units initial).map (length self.old.common.units)) }
         ensures others { (self.new.opened ≡ self.old.opened) × (self.new.seats ≡ self.old.seats) }
     {
-        session.numbers.reserve(1)?;
+        if session.numbers.reserve(1).is_err() {
+            let alloc = *session.numbers.allocator();
+            return Err(rule_or_memory(alloc, &self.core, command));
+        }
         let looks = looks(&command);
         let (answer, receipt) = self
             .core
@@ -196,8 +227,8 @@ impl<B: BoardName> Locked<B> {
 
     /// One try of a LOCK. It is a unit, had or not.
     ///
-    /// Refusals, after which nothing has changed: those of `Core::lock`; and `OutOfMemory` for the receipt, before
-    /// them.
+    /// Refusals, after which nothing has changed: those of `Core::lock`; and `OutOfMemory` for the receipt, which hides
+    /// its rule only where memory was refused while that was looked at.
     pub(crate) fn lock<R: Wait>(
         &mut self,
         rt: &R,
@@ -213,7 +244,9 @@ impl<B: BoardName> Locked<B> {
         ensures cause { IfErr result (λ refusal. IsCauseOfLock refusal session.old.state.work.job command.now self.old.common.units) }
         ensures others { (self.new.opened ≡ self.old.opened) × (self.new.seats ≡ self.old.seats) }
     {
-        session.numbers.reserve(1)?;
+        if session.numbers.reserve(1).is_err() {
+            return Err(lock_rule_or_memory(&self.core, session.state.job(), command));
+        }
         let inside = session.state.level() > 0;
         let (had, receipt) = self
             .core
@@ -272,7 +305,8 @@ impl<B: BoardName> Locked<B> {
         self.read_met(session, command)
     }
 
-    /// Shows that the content of an open transaction's start is there, and stays so while the lock is held.
+    /// Shows that the content of an open transaction's start is there, that the journal's base hasn't passed that start,
+    /// and that this stays so while the lock is held.
     ///
     /// Others may have written meanwhile, and a collector may have drawn a horizon: the board says that none is above
     /// this session's start.
@@ -281,6 +315,7 @@ impl<B: BoardName> Locked<B> {
         ensures same { session.new ≡ session.old }
         ensures start { IfSome session.old.start (λ base. base ≡ take (length base) self.now.common.units) }
         ensures kept { IsOpenOn self.now.common session.old.state }
+        ensures behind { self.now.common.base ≤ session.old.state.work.start }
         ensures journal { IsJournalOf self.now.common.units session.old }
     {
         board.meet(rt, &self.desk, &mut session.pin);
@@ -468,7 +503,8 @@ impl<B: BoardName> Locked<B> {
     }
 
     /// Draws a horizon, and moves the journal's base on to it; answers where the base is then. Where the horizon is
-    /// before the base, or before the store's cut, the base stays.
+    /// before the base, or before the store's cut, the base stays. It never passes the start of an open transaction:
+    /// whenever the lock is free it isn't above the greatest horizon (`IsLocked`), and no horizon is above such a start.
     ///
     /// Refusals, after which what all jobs share is as it was: `OutOfMemory`.
     pub(crate) fn checkpoint<R: Wait>(&mut self, rt: &R, board: &Board<B>) -> Result<u64, Refusal>

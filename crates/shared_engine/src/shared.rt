@@ -1,7 +1,8 @@
 //! The engine as threads see it.
-ghost use Rattle.std.specs.Prelude.{◌≡◌, ◌≢◌, ◌⊎◌, ◌<◌, ◌≤◌, ◌+◌, ◌-◌, ◌^◌, ◌∷◌, ◌++◌, ℕ, List, [], true, false, length, vec_len, None, Some, IfOk, IfErr, IfSome, IsSome, OnOk, OnErr};
+ghost use Rattle.std.specs.Prelude.{◌≡◌, ◌≢◌, ◌⊎◌, ◌<◌, ◌≤◌, ◌+◌, ◌-◌, ◌^◌, ◌∷◌, ◌++◌, ℕ, List, [], true, false, length, vec_len, None, Some, IfOk, IfErr, IsErrOf, IfSome, IsSome, OnOk, OnErr};
 ghost use Rattle.std.specs.List.{All};
 ghost use Rattle.refusal.specs.declared.Refusal.{Refusal};
+ghost use Rattle.globals.specs.Answering.{early_refusal};
 ghost use Rattle.journal.specs.History.{initial, after};
 ghost use Rattle.journal.specs.Kept.{Claim};
 ghost use Rattle.journal.specs.declared.unit.Unit.{Unit as JournalUnit};
@@ -19,7 +20,7 @@ ghost use Rattle.shared_engine.specs.Engines.{HasEnded, HasItsNames, WasBlocked,
 ghost use Rattle.shared_engine.specs.Writes.{AreWrites};
 
 use crate::adaptive::{AdaptiveLock, Patience};
-use crate::gate::Gate;
+use crate::gate::{Gate, Mark};
 use crate::locked::{Closed, Ended, Locked};
 use crate::session::{Pass, Session};
 use collation::Job;
@@ -88,7 +89,7 @@ impl<B: BoardName> Shared<B> {
     /// A data command of a session without a transaction: a unit of its own, with a receipt. Takes the exclusive lock.
     ///
     /// Refusals, after which nothing has changed: those of `Core::lone`, on some journal; and `OutOfMemory` for the
-    /// receipt, before them.
+    /// receipt, which hides no rule that is looked at before memory is asked for.
     pub fn lone<R: Wait>(
         &self,
         rt: &R,
@@ -98,6 +99,7 @@ impl<B: BoardName> Shared<B> {
         requires { session.old.state.level ≡ 0 }
         ensures receipt { IfOk result (λ answer. (n : ℕ) × (session.new ≡ and_receipt n (Lone session.old.state.work.job command answer) session.old)) }
         ensures refused { OnErr result (session.new ≡ session.old) }
+        ensures early { (refusal : Refusal) → early_refusal command ≡ Some refusal → IsErrOf result refusal }
         ensures cause { IfErr result (λ refusal. (units : List JournalUnit) × IsCauseOf refusal command (after units initial).map (length units)) }
     {
         self.lock
@@ -138,13 +140,14 @@ impl<B: BoardName> Shared<B> {
             .lock_again(rt, &self.board, session, command)
     }
 
-    // Later tries, until one has the names.
+    // Later tries, until one has the names or the gate stops them.
     fn lock_later<R: Wait, G: Gate>(
         &self,
         rt: &R,
         session: &mut Session<B>,
         command: &LockCommand,
         gate: &G,
+        mut mark: Mark,
     ) -> Result<(), Refusal>
         ensures had { OnOk result ((n : ℕ) × (session.new ≡ after_try n command.now true session.old)) }
         ensures refused { OnErr result (session.new ≡ session.old) }
@@ -152,9 +155,12 @@ impl<B: BoardName> Shared<B> {
     {
         'tries: for _ in rt.forever() {
             gate.between_tries(session.job());
+            if gate.stop().is_some() {
+                return Err(Refusal::OutOfMemory);
+            }
             match self.lock_again(rt, session, command) {
                 Ok(true) => return Ok(()),
-                Ok(false) => {}
+                Ok(false) => mark = gate.tried(session.job(), mark),
                 Err(refusal) => return Err(refusal),
             }
         }
@@ -177,6 +183,9 @@ impl<B: BoardName> Shared<B> {
     {
         'tries: for _ in 0..seconds {
             gate.second(session.job());
+            if gate.stop().is_some() {
+                return Err(Refusal::OutOfMemory);
+            }
             match self.lock_again(rt, session, command) {
                 Ok(true) => return Ok(true),
                 Ok(false) => {}
@@ -188,10 +197,11 @@ impl<B: BoardName> Shared<B> {
 
     /// LOCK without a timeout: where its names are blocked it is a unit that says so, and is tried again after each
     /// `Gate::between_tries`, until it has them, which is another unit. Tries between write nothing. Takes the
-    /// exclusive lock for each try.
+    /// exclusive lock for each try. The gate is told when it begins to wait, of each further try in vain, and when it
+    /// goes on.
     ///
-    /// Refusals: those of `Core::lock`, on some journal, and `OutOfMemory` for the receipt. Nothing has changed then,
-    /// but for the unit of a first try in vain and its receipt.
+    /// Refusals: those of `Core::lock`, on some journal, and `OutOfMemory` for the receipt, or where `Gate::stop` says
+    /// so while it waits. Nothing has changed then, but for the unit of a first try in vain and its receipt.
     pub fn lock<R: Wait, G: Gate>(
         &self,
         rt: &R,
@@ -206,7 +216,10 @@ impl<B: BoardName> Shared<B> {
         if self.lock_first(rt, session, command)? {
             return Ok(());
         }
-        self.lock_later(rt, session, command, gate)
+        let mark = gate.waits(session.job(), command);
+        let done = self.lock_later(rt, session, command, gate, mark);
+        gate.goes_on(session.job(), command);
+        done
     }
 
     /// LOCK with a timeout of so many seconds: at most one try more than that, with a `Gate::second` between two.

@@ -22,3 +22,5 @@ mod rows;
 mod serial_runs;
 #[cfg(test)]
 mod threads;
+#[cfg(test)]
+mod waits;

@@ -10,7 +10,7 @@ pub invariant_of-session-2 : goal.invariant_of-session-2
 invariant_of-session-2 g c =
     let numbers = numbers_next _ _ _ _ _ c.push_reserved.ensures.items c.reserve.ensures.items c.number.ensures in
     rw c.note_lock.ensures
-    (session_noted _ _ _ (session_next _ _ _ _ _ _ _ _ _ _ _ c.session.invariant c.self.invariant.log c.in_ok-had.ensures.added c.write.ensures.in_journal c.write.ensures.pin numbers refl c.job.ensures))
+    (session_noted _ _ _ (session_next _ _ _ _ _ _ _ _ _ _ _ c.session.invariant c.self.invariant.log c.in_ok-had.ensures.added c.write.ensures.in_journal c.write.ensures.pin numbers refl c.job-2.ensures))
 
 pub returns-clause-receipt : goal.returns-clause-receipt
 returns-clause-receipt g c =
@@ -24,5 +24,5 @@ returns-clause-receipt g c =
     let pin = c.session.inside.pin in
     let here = length c.self.inside.core.units + 1 in
     (λ i. held (c.note_lock.ensures i) (start i) (receipts i) (others i))
-    ∙ ((λ i. held (noted_lock state) (start_in pin) (receipts_in pin.mine ++ claim here (Lock (c.job.ensures i) (nat_lt 0 (c.level-inside.ensures i)) c.args.command.now c.in_ok-had.had) ∷ []) (others_in pin.mine))
+    ∙ ((λ i. held (noted_lock state) (start_in pin) (receipts_in pin.mine ++ claim here (Lock (c.job-2.ensures i) (nat_lt 0 (c.level-inside.ensures i)) c.args.command.now c.in_ok-had.had) ∷ []) (others_in pin.mine))
     ∙ (λ i. after_try (length (units i) + 1) c.args.command.now c.in_ok-had.had (s i)))

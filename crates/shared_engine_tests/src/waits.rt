@@ -1,0 +1,171 @@
+//! LOCKs that wait: no call of their gate is made while the engine's lock is held, and they end where the gate says so.
+ghost use Rattle.std.specs.Prelude.{◌≡◌};
+
+use collation::Job;
+use command::Command;
+use lock_name::LockCommand;
+use pin_board::{Blank, BoardName, SEATS};
+use refusal::Refusal;
+use session_acts::{command_of, is_replied, opened};
+use shared_engine::{Gate, Mark, Session, Shared, Stop};
+use std::alloc::Global;
+use std::marker::Brand;
+use std::sync::Wait;
+use std::sync::atomic::{AtomicU64, Ordering};
+use std::test::*;
+
+// After how many calls jobs are stopped.
+const MOST_CALLS: u64 = 20;
+
+// A gate that holds the engine's lock in each call, and lets no time pass.
+struct Pausing<'a, B: BoardName, R> {
+    rt: &'a R,
+    engine: &'a Shared<B>,
+    calls: AtomicU64,
+}
+
+impl<'a, B: BoardName, R> Drop for Pausing<'a, B, R> {
+    fn drop(self) {
+        let Pausing {
+            rt: _,
+            engine: _,
+            calls: _,
+        } = self;
+    }
+}
+
+impl<'a, B: BoardName, R: Wait> Pausing<'a, B, R> {
+    // Counts a call. Nobody else has the lock meanwhile: were it held, this would never return.
+    fn note(&self) -> u64 {
+        let pause = self.engine.pause(self.rt);
+        let calls = self.calls.fetch_add(1, Ordering::SeqCst);
+        drop(pause);
+        calls
+    }
+}
+
+impl<'a, B: BoardName, R: Wait> Gate for Pausing<'a, B, R> {
+    fn watches_lines(&self) -> bool {
+        true
+    }
+
+    fn before(&self, _job: Job, _line: u64) {}
+
+    fn after(&self, _job: Job, _line: u64) {}
+
+    fn between_tries(&self, _job: Job) {
+        self.note();
+    }
+
+    fn second(&self, _job: Job) {
+        self.note();
+    }
+
+    fn waits(&self, _job: Job, _command: &LockCommand) -> Mark {
+        Mark {
+            changes: self.note(),
+            is_counted: false,
+        }
+    }
+
+    fn tried(&self, _job: Job, mark: Mark) -> Mark {
+        self.note();
+        mark
+    }
+
+    fn goes_on(&self, _job: Job, _command: &LockCommand) {
+        self.note();
+    }
+
+    fn job_begun(&self) {}
+
+    fn job_failed(&self) {}
+
+    fn stop(&self) -> Option<Stop> {
+        if self.note() < MOST_CALLS {
+            None
+        } else {
+            Some(Stop::Failed)
+        }
+    }
+
+    fn job_done(&self, _done: u64, _jobs: u64, _lines: u64) {}
+}
+
+// The names that job 2 waits for.
+fn names(alloc: Global) -> Option<LockCommand> {
+    match command_of(alloc, "2 LOCK +^A")? {
+        Command::Lock(command) => Some(command),
+        _ => None,
+    }
+}
+
+// Whether a LOCK with a timeout of two seconds is blocked at its end, and told its gate of each second.
+fn is_timed<B: BoardName, R: Wait>(
+    rt: &R,
+    engine: &Shared<B>,
+    waiting: &mut Session<B>,
+    command: &LockCommand,
+) -> bool {
+    let gate = Pausing {
+        rt,
+        engine,
+        calls: AtomicU64::new(0),
+    };
+    let had = engine.lock_within(rt, waiting, command, 2, &gate);
+    had == Ok(false) && gate.calls.load(Ordering::SeqCst) == 4
+}
+
+// Whether a LOCK without a timeout is refused once its gate stops jobs.
+fn is_stopped<B: BoardName, R: Wait>(
+    rt: &R,
+    engine: &Shared<B>,
+    waiting: &mut Session<B>,
+    command: &LockCommand,
+) -> bool {
+    let gate = Pausing {
+        rt,
+        engine,
+        calls: AtomicU64::new(0),
+    };
+    let had = engine.lock(rt, waiting, command, &gate);
+    had == Err(Refusal::OutOfMemory) && gate.calls.load(Ordering::SeqCst) > MOST_CALLS
+}
+
+// Whether job 2 waits for job 1's name as it should.
+fn waits_beside<B: BoardName, R: Wait>(
+    rt: &R,
+    alloc: Global,
+    engine: &Shared<B>,
+    holding: &mut Session<B>,
+    waiting: &mut Session<B>,
+) -> bool {
+    let Some(command) = names(alloc) else {
+        return false;
+    };
+    is_replied(rt, alloc, engine, holding, "1 LOCK +^A", "0 1\n")
+        && is_timed(rt, engine, waiting, &command)
+        && is_stopped(rt, engine, waiting, &command)
+}
+
+fn waits<B: BoardName, R: Wait>(rt: &R, alloc: Global, blank: Blank) -> bool
+    requires { (blank.seat.table_id ≡ B.table) × (blank.words.seats ≡ 4096) }
+{
+    let engine = Shared::<B>::new(alloc, blank);
+    let holding = opened(rt, alloc, &engine, 1);
+    let waiting = opened(rt, alloc, &engine, 2);
+    match (holding, waiting) {
+        (Some(mut holding), Some(mut waiting)) => {
+            waits_beside(rt, alloc, &engine, &mut holding, &mut waiting)
+        }
+        _ => false,
+    }
+}
+
+#[test]
+fn a_gate_is_called_without_the_lock(rt: HostRuntime) -> Result<(), Fail> {
+    let blank = Blank::new(rt.alloc(), SEATS)?;
+    let is_right = waits::<Brand, _>(&rt, rt.alloc(), blank);
+    assert!(rt; is_right);
+    Ok(())
+}
