@@ -37,7 +37,7 @@ use Rattle.job_server.proofs.GoingBack.{same_count}
 
 lone_done : (command : DataCommand) (result : Result Answer Refusal) (units more : List JournalUnit) (old new : Held) → old.state.level ≡ 0 → IsLone command result units more old new → Follows (Access command) (said Answered result) old new
 lone_done command (Ok answer) units more old new level h = lone_follows command answer (length units + 1) old new level h.1.1
-lone_done command (Err refusal) units more old new level h = refused_follows (Access command) refusal old new h.1.1 (lone_may command refusal units old level h.0)
+lone_done command (Err refusal) units more old new level h = refused_follows (Access command) refusal old new h.1.1 (lone_may command refusal units old level h.0.0)
 
 tried_done : (command : LockCommand) (result : Result Bool Refusal) (units more : List JournalUnit) (old new : Held) → IsTried command result units more old new → Follows (lock_command command) (said (told_had command) result) old new
 tried_done command (Ok had) units more old new h =

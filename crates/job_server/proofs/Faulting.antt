@@ -6,11 +6,11 @@ use Rattle.listing.specs.declared.nodes.ListingFault.{ListingFault}
 use Rattle.listing.specs.declared.nodes.ListingFault.TheVariants.{Write as ListingWrite, Memory as ListingMemory}
 use Rattle.listing.specs.declared.whole.InputFault.{InputFault}
 use Rattle.listing.specs.declared.whole.InputFault.TheVariants.{Read as InputRead, Memory as InputMemory}
-use Rattle.job_server.specs.declared.fault.ServerFault.TheVariants.{Memory as ServerMemory, Missing as ServerMissing}
+use Rattle.job_server.specs.declared.fault.ServerFault.TheVariants.{Memory as ServerMemory, Missing as ServerMissing, AllWait as ServerAllWait}
 use Rattle.job_server.specs.declared.fault.Unserved.{Unserved}
 use Rattle.job_server.specs.declared.fault.Unserved.TheVariants.{Load as UnservedLoad, Jobs as UnservedJobs}
 use Rattle.job_server.specs.declared.fault.JobsFault.{JobsFault}
-use Rattle.job_server.specs.declared.fault.JobsFault.TheVariants.{Read, Write, Memory, Missing, Load}
+use Rattle.job_server.specs.declared.fault.JobsFault.TheVariants.{Read, Write, Memory, Missing, AllWait, Load}
 use Rattle.job_server.specs.Faults.{fault_of, fault_of_input, fault_of_unserved, IsJobsFault, IsOfWriting}
 use Rattle.job_server.specs.Loads.{IsUnservedBy}
 use Rattle.job_server.proofs.Reading.{error_is, is_error}
@@ -32,11 +32,13 @@ pub unserved_is : (listing : List ℕ) (f : Unserved) → IsUnservedBy listing f
 unserved_is listing (UnservedLoad fault) h = h
 unserved_is listing (UnservedJobs ServerMemory) h = tt
 unserved_is listing (UnservedJobs ServerMissing) h = tt
+unserved_is listing (UnservedJobs ServerAllWait) h = tt
 
 unserved_writes : (f : Unserved) → fault_of_unserved f ≡ Write → ⊥
 unserved_writes (UnservedLoad fault) e = cc
 unserved_writes (UnservedJobs ServerMemory) e = cc
 unserved_writes (UnservedJobs ServerMissing) e = cc
+unserved_writes (UnservedJobs ServerAllWait) e = cc
 
 -- no fault of the server is the writer's
 pub unserved_unwritten : {T : Type 0} (r : Result T JobsFault) (f : Unserved) → IsErrAnd r (λ g. g ≡ fault_of_unserved f) → IsErrOf r Write → ⊥
@@ -47,6 +49,7 @@ unserved_reads : (f : Unserved) → fault_of_unserved f ≡ Read → ⊥
 unserved_reads (UnservedLoad fault) e = cc
 unserved_reads (UnservedJobs ServerMemory) e = cc
 unserved_reads (UnservedJobs ServerMissing) e = cc
+unserved_reads (UnservedJobs ServerAllWait) e = cc
 
 -- no fault of the server is the reader's
 pub unserved_unread : {T : Type 0} (r : Result T JobsFault) (f : Unserved) → IsErrAnd r (λ g. g ≡ fault_of_unserved f) → IsErrOf r Read → ⊥
@@ -76,6 +79,7 @@ writing_reads Read h e = absurd h
 writing_reads Write h e = cc
 writing_reads Memory h e = cc
 writing_reads Missing h e = absurd h
+writing_reads AllWait h e = absurd h
 writing_reads (Load fault) h e = absurd h
 
 -- no fault of writing is the reader's
@@ -88,4 +92,5 @@ writing_is listing Read h = absurd h
 writing_is listing Write h = tt
 writing_is listing Memory h = tt
 writing_is listing Missing h = absurd h
+writing_is listing AllWait h = absurd h
 writing_is listing (Load fault) h = absurd h

@@ -5,11 +5,11 @@ use Rattle.listing.specs.declared.nodes.ListingFault.TheVariants.{Write as Listi
 use Rattle.listing.specs.declared.whole.InputFault.{InputFault}
 use Rattle.listing.specs.declared.whole.InputFault.TheVariants.{Read as InputRead, Memory as InputMemory}
 use Rattle.job_server.specs.declared.fault.ServerFault.{ServerFault}
-use Rattle.job_server.specs.declared.fault.ServerFault.TheVariants.{Memory as ServerMemory, Missing as ServerMissing}
+use Rattle.job_server.specs.declared.fault.ServerFault.TheVariants.{Memory as ServerMemory, Missing as ServerMissing, AllWait as ServerAllWait}
 use Rattle.job_server.specs.declared.fault.Unserved.{Unserved}
 use Rattle.job_server.specs.declared.fault.Unserved.TheVariants.{Load as UnservedLoad, Jobs as UnservedJobs}
 use Rattle.job_server.specs.declared.fault.JobsFault.{JobsFault}
-use Rattle.job_server.specs.declared.fault.JobsFault.TheVariants.{Read, Write, Memory, Missing, Load}
+use Rattle.job_server.specs.declared.fault.JobsFault.TheVariants.{Read, Write, Memory, Missing, AllWait, Load}
 use Rattle.loading.specs.Settings.{settings_of}
 use Rattle.loading.specs.Loaded.{IsFaultOf}
 use Rattle.loading.specs.declared.fault.LoadFault.TheVariants.{Line as LoadLine, Memory as LoadMemory}
@@ -19,6 +19,7 @@ fault_text Read = codes "cannot read input"
 fault_text Write = codes "cannot write output"
 fault_text Memory = codes "out of memory"
 fault_text Missing = codes "report missing"
+fault_text AllWait = codes "all jobs wait for names that others of them hold"
 fault_text (Load (LoadLine fault)) = codes "cannot load the listing"
 fault_text (Load LoadMemory) = codes "out of memory"
 
@@ -33,6 +34,7 @@ fault_of_input InputMemory = Memory
 abbrev pub fault_of_server : ServerFault → JobsFault
 fault_of_server ServerMemory = Memory
 fault_of_server ServerMissing = Missing
+fault_of_server ServerAllWait = AllWait
 
 abbrev pub fault_of_unserved : Unserved → JobsFault
 fault_of_unserved (UnservedLoad fault) = Load fault
@@ -44,6 +46,7 @@ IsJobsFault listing Read = ⊤
 IsJobsFault listing Write = ⊤
 IsJobsFault listing Memory = ⊤
 IsJobsFault listing Missing = ⊤
+IsJobsFault listing AllWait = ⊤
 IsJobsFault listing (Load fault) = IsFaultOf (settings_of listing) fault
 
 -- the writer's fault, or that of memory
@@ -52,4 +55,5 @@ IsOfWriting Read = ⊥
 IsOfWriting Write = ⊤
 IsOfWriting Memory = ⊤
 IsOfWriting Missing = ⊥
+IsOfWriting AllWait = ⊥
 IsOfWriting (Load fault) = ⊥

@@ -18,6 +18,8 @@ pub enum ServerFault {
     /// A job's report didn't come, or hasn't one reply for each line; or a session's pass didn't come, or isn't behind
     /// the job's one before; or a load's units aren't the journal's first.
     Missing,
+    /// All jobs that were begun and aren't over wait, in LOCKs without a timeout, for names that others of them hold.
+    AllWait,
 }
 
 impl From<AllocError> for ServerFault {
@@ -98,6 +100,8 @@ pub enum JobsFault {
     /// A job's report didn't come, or hasn't one reply for each line; or a session's pass didn't come, or isn't behind
     /// the job's one before; or a load's units aren't the journal's first.
     Missing,
+    /// All jobs that were begun and weren't over waited, in LOCKs without a timeout, for names that others of them held.
+    AllWait,
     /// The listing isn't loaded. Nothing was done or written.
     Load(LoadFault),
 }
@@ -112,6 +116,7 @@ impl JobsFault {
             JobsFault::Write => "cannot write output",
             JobsFault::Memory | JobsFault::Load(LoadFault::Memory) => "out of memory",
             JobsFault::Missing => "report missing",
+            JobsFault::AllWait => "all jobs wait for names that others of them hold",
             JobsFault::Load(LoadFault::Line(_)) => "cannot load the listing",
         }
     }
@@ -155,6 +160,7 @@ impl From<Unserved> for JobsFault {
             Unserved::Load(fault) => JobsFault::Load(fault),
             Unserved::Jobs(ServerFault::Memory) => JobsFault::Memory,
             Unserved::Jobs(ServerFault::Missing) => JobsFault::Missing,
+            Unserved::Jobs(ServerFault::AllWait) => JobsFault::AllWait,
         }
     }
 }

@@ -325,9 +325,10 @@ fn load_and_serve<
 /// After a fault no report is handed out: `Load` where the listing isn't loaded, as of `loading::load`, and no job was
 /// begun; `Memory` where memory was refused and no reply could say so, also where a worker couldn't be started, a
 /// session begun or its last HALT done, or where a HALT or the end of a block was refused and the transaction that
-/// stayed open is overtaken at its TCOMMIT; `Missing` where a report didn't come, or isn't one reply for each line of
+/// stayed open is overtaken at its TCOMMIT; `AllWait` where the gate finds that all jobs that were begun and aren't over
+/// wait for names that others of them hold; `Missing` where a report didn't come, or isn't one reply for each line of
 /// its script, where a session's pass didn't come or isn't behind the one before, or where the units of a load aren't
-/// the journal's first.
+/// the journal's first. Once the gate stops jobs, which it may after a job's fault, no line more is done.
 pub fn serve<R: Threads + Wait + Sync, L: LoadLog, G: Gate + Sync>(
     rt: &R,
     alloc: Global,

@@ -21,7 +21,7 @@ use job_scripts::{Report, Script, read_for};
 use pin_board::BoardName;
 use refusal::Refusal;
 use script::{Drafts, LineFault, read_line};
-use shared_engine::{Gate, Pass};
+use shared_engine::{Gate, Pass, Stop};
 use std::alloc::{AllocError, Global};
 use std::marker::{Brand, PhantomData};
 use std::sync::Wait;
@@ -184,6 +184,14 @@ pub(crate) fn writes_of(asked: &Result<Command, Refusal>) -> u64 {
     }
 }
 
+// The fault of a run whose jobs were stopped.
+fn fault_of_stop(stop: Stop) -> ServerFault {
+    match stop {
+        Stop::Failed => ServerFault::Memory,
+        Stop::AllWait => ServerFault::AllWait,
+    }
+}
+
 /// A worker: the engine's calls, and its turns of the collector.
 pub(crate) struct Worker<'a, B: BoardName, R, G> {
     pub(crate) alloc: Global,
@@ -279,6 +287,14 @@ impl<'a, B: BoardName, R: Wait, G: Gate> Worker<'a, B, R, G> {
         }
     }
 
+    // The fault with which jobs end, where the gate stops them.
+    fn check_stop(&self) -> Result<(), ServerFault> {
+        match self.calls.gate.stop() {
+            Some(stop) => Err(fault_of_stop(stop)),
+            None => Ok(()),
+        }
+    }
+
     // Does a job's lines.
     #[tactic(auto, using(crate::proofs::GoingOn::reaches_none, crate::proofs::GoingOn::reaches_on, crate::proofs::GoingOn::reaches_end))]
     fn serve_lines(
@@ -291,8 +307,10 @@ impl<'a, B: BoardName, R: Wait, G: Gate> Worker<'a, B, R, G> {
     {
         let mut place = Cursor::new(lines);
         'lines: while let Some(line) = place.next() {
+            self.check_stop()?;
             place = self.serve_line(run, job, line)?;
         }
+        self.check_stop()?;
         Ok(())
     }
 
@@ -359,7 +377,11 @@ impl<'a, B: BoardName + Batch, R: Wait, G: Gate> Worker<'a, B, R, G> {
             script,
             of: _,
         } = task;
+        self.calls.gate.job_begun();
         let outcome = self.run_script(&script);
+        if outcome.is_err() {
+            self.calls.gate.job_failed();
+        }
         Done { place, outcome }
     }
 

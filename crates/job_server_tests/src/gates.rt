@@ -1,6 +1,7 @@
 //! Gates that count what they are told, and make jobs wait for each other.
 use collation::Job;
-use shared_engine::Gate;
+use lock_name::LockCommand;
+use shared_engine::{Gate, Mark, Stop};
 use std::alloc::{AllocError, Global};
 use std::rt::Clock;
 use std::sync::atomic::{AtomicU64, Ordering};
@@ -33,6 +34,27 @@ impl Gate for Yielding {
     }
 
     fn second(&self, _job: Job) {}
+
+    fn waits(&self, _job: Job, _command: &LockCommand) -> Mark {
+        Mark {
+            changes: 0,
+            is_counted: false,
+        }
+    }
+
+    fn tried(&self, _job: Job, mark: Mark) -> Mark {
+        mark
+    }
+
+    fn goes_on(&self, _job: Job, _command: &LockCommand) {}
+
+    fn job_begun(&self) {}
+
+    fn job_failed(&self) {}
+
+    fn stop(&self) -> Option<Stop> {
+        None
+    }
 
     fn job_done(&self, _done: u64, _jobs: u64, _lines: u64) {}
 }
@@ -96,6 +118,11 @@ impl Counts {
 
     pub fn note_try(&self, job: Job) {
         add_one(&self.tries, job.number() as usize);
+    }
+
+    /// How often a LOCK of the job was tried once more.
+    pub fn tries(&self, job: u64) -> u64 {
+        count_at(&self.tries, job.min(JOBS as u64) as usize)
     }
 
     pub fn note_second(&self) {

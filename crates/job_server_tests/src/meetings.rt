@@ -2,12 +2,12 @@
 use crate::gates::Counts;
 use collation::Job;
 use job_scripts::scripts_of;
-use job_server::{run_jobs, serve};
+use job_server::{JobsFault, run_jobs, serve};
 use journal::{Journal, Unit};
 use listing::Counted;
 use loading::NoLog;
 use lock_name::LockCommand;
-use shared_engine::Gate;
+use shared_engine::{Gate, Mark, Stop};
 use std::alloc::{AllocError, Global};
 use std::rt::Clock;
 use std::sync::Wait;
@@ -26,6 +26,8 @@ enum Plan {
     Timeout,
     // Each try of job 1's block is overtaken by a line of job 2.
     Overtaking,
+    // The second line of each comes after the other's first, and jobs are stopped once each has tried a LOCK in vain.
+    Crossing,
     // Nothing.
     Alone,
 }
@@ -57,6 +59,8 @@ impl<'a, P: Clock> Meeting<'a, P> {
             (Plan::Handover, 1, 2) => self.counts.wait_for_try(self.rt, 2),
             (Plan::Overtaking, 2, _) => self.counts.wait_for_line(self.rt, 1, 2, line),
             (Plan::Overtaking, 1, 4) => self.counts.wait_for_line(self.rt, 2, times, 1),
+            (Plan::Crossing, 1, 2) => self.counts.wait_for_line(self.rt, 2, 1, 1),
+            (Plan::Crossing, 2, 2) => self.counts.wait_for_line(self.rt, 1, 1, 1),
             _ => {}
         }
     }
@@ -83,6 +87,34 @@ impl<'a, P: Clock> Gate for Meeting<'a, P> {
 
     fn second(&self, _job: Job) {
         self.counts.note_second();
+    }
+
+    fn waits(&self, _job: Job, _command: &LockCommand) -> Mark {
+        Mark {
+            changes: 0,
+            is_counted: false,
+        }
+    }
+
+    fn tried(&self, _job: Job, mark: Mark) -> Mark {
+        mark
+    }
+
+    fn goes_on(&self, _job: Job, _command: &LockCommand) {}
+
+    fn job_begun(&self) {}
+
+    fn job_failed(&self) {}
+
+    fn stop(&self) -> Option<Stop> {
+        let is_crossed = self.plan == Plan::Crossing
+            && self.counts.tries(1) > 1
+            && self.counts.tries(2) > 1;
+        if is_crossed {
+            Some(Stop::AllWait)
+        } else {
+            None
+        }
     }
 
     fn job_done(&self, _done: u64, _jobs: u64, _lines: u64) {}
@@ -191,6 +223,33 @@ fn handed_over<P: Clock + Threads + Wait + Sync>(rt: &P, alloc: Global) -> Resul
 fn a_lock_that_waits_is_two_units(rt: HostRuntime) -> Result<(), Fail> {
     let told = handed_over(&rt, rt.alloc())?;
     assert_eq!(rt; told.as_slice(), b"1+201-2+".as_slice());
+    Ok(())
+}
+
+// How a run of two jobs that wait for each other ends, and how often each of them tried in vain.
+fn crossed<P: Clock + Threads + Wait + Sync>(
+    rt: &P,
+    alloc: Global,
+    input: &[u8],
+) -> Result<(Result<bool, JobsFault>, u64, u64), Fail> {
+    let counts = Counts::new(alloc)?;
+    let gate = Meeting {
+        rt,
+        counts: &counts,
+        plan: Plan::Crossing,
+    };
+    let mut reader = Counted::new(input);
+    let mut writer = Counted::new(Vec::new(alloc));
+    let outcome = run_jobs(rt, alloc, b"", &mut reader, &mut writer, 2, &gate);
+    Ok((outcome, counts.tries(1), counts.tries(2)))
+}
+
+#[test]
+fn jobs_that_wait_for_each_other_are_stopped(rt: HostRuntime) -> Result<(), Fail> {
+    let script = b"1 LOCK +^A\n1 LOCK +^B\n2 LOCK +^B\n2 LOCK +^A\n2 SET ^A=1\n3 SET ^B=1\n";
+    let (outcome, first, second) = crossed(&rt, rt.alloc(), script)?;
+    assert_eq!(rt; outcome, Err(JobsFault::AllWait));
+    assert!(rt; first > 1 && second > 1);
     Ok(())
 }
 

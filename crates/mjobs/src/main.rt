@@ -2,90 +2,47 @@
 //!
 //! It reads a listing, where one is asked for, and all input, and prints the replies by job, in order of the jobs'
 //! first lines, then `--` and the listing of the database. What is served is what `job_server::serve_text` promises,
-//! what is printed of it what `write_served` does, and what is written of its journal what
-//! `journal_lines::write_journal` does: so one journal is listed and written. The exit status is
+//! what is printed of it what `write_served` does, and what is kept of it in files what `program_front::Keeping` does:
+//! so one journal is listed and kept. The exit status is
 //! `job_server::status_of` of the outcome and the text of a fault is `job_server::JobsFault::text`; what its words ask
-//! for is `program_front::mjobs_args_with`. This file only opens files, lets time pass for LOCKs that wait, and prints
-//! what went wrong:
+//! for is `program_front::mjobs_args_with`. This program only opens files, lets time pass for LOCKs that wait
+//! (`patience.rt`), stops jobs that can't go on (`waiting.rt`), and prints what went wrong:
 //!
 //! 0, all replies are accepted; 1, a reply is an `error`; 2, a fault, or wrong arguments; standard error says which.
 #![tactic(auto)]
 
+use crate::patience::Patience;
 use bstr::ByteSlice;
-use collation::Job;
 use job_server::{JobsFault, Served, serve_text, status_of, write_served};
 use listing::{Counted, read_all};
 use program_front::{
-    ListingFile, MjobsArgs, Piped, Progress, Ticker, Workers, arguments_of, mjobs_args_with,
-    open_named, path_of, print_bad_name, print_fault, print_help_or_error, print_journal_fault,
-    print_load_fault, print_refused, print_unopened, read_listing, write_over,
+    Keeping, ListingFile, MjobsArgs, Piped, Progress, Ticker, Workers, arguments_of, keeping_of,
+    look_at_input, mjobs_args_with, open_input, path_of, print_bad_name, print_fault,
+    print_help_or_error, print_jobs_greeting, print_load_fault, print_no_transaction,
+    print_refused, read_listing,
 };
 use script::{Drafts, read_line};
-use shared_engine::Gate;
 use std::alloc::AllocError;
-use std::fs::OpenFile;
 use std::io::{IsTerminal, Read, Write};
 use std::process::ExitCode;
 use std::rt::{Clock, Files};
 use std::sync::Wait;
 use std::thread::Threads;
-use std::time::Duration;
-use std::{fs, io, thread};
+use std::{io, thread};
+
+mod patience;
+mod waiting;
 
 // The program's name, before what it prints on standard error.
 const PROGRAM: &str = "mjobs";
 
-// Tells on standard error how many jobs are done, in one line that is written over, and clears it at the end.
-fn tell_progress(
-    rt: &(impl Clock + Eprint),
-    progress: &Progress,
-    done: u64,
-    jobs: u64,
-    lines: u64,
-) {
-    if done == jobs {
-        progress.clear(rt);
-    } else if let Some(seconds) = progress.due(rt) {
-        let pace = lines.checked_div(seconds).unwrap_or(lines);
-        let _ = eprint!(rt; "\r\x1b[K{PROGRAM}: {done} of {jobs} jobs, {pace} lines a second");
-    }
-}
-
-// Lets other threads go on between two tries of a LOCK, and a second pass where it has a timeout; on a terminal it
-// tells how many jobs are done.
-struct Patience<'a, P> {
-    rt: &'a P,
-    progress: Option<Progress>,
-}
-
-impl<'a, P> Drop for Patience<'a, P> {
-    fn drop(self) {
-        let Patience { rt: _, progress: _ } = self;
-    }
-}
-
-impl<'a, P: Clock + Eprint> Gate for Patience<'a, P> {
-    fn watches_lines(&self) -> bool {
-        false
-    }
-
-    fn before(&self, _job: Job, _line: u64) {}
-
-    fn after(&self, _job: Job, _line: u64) {}
-
-    fn between_tries(&self, _job: Job) {
-        thread::yield_now();
-    }
-
-    fn second(&self, _job: Job) {
-        thread::sleep(self.rt, Duration::from_secs(1));
-    }
-
-    fn job_done(&self, done: u64, jobs: u64, lines: u64) {
-        if let Some(progress) = &self.progress {
-            tell_progress(self.rt, progress, done, jobs, lines);
-        }
-    }
+// What is told on a terminal beside what is asked for.
+#[derive(Clone, Copy, Debug, PartialEq, Eq)]
+struct Terminals {
+    // Standard input and standard error are terminals: lines of standard input are typed.
+    typed: bool,
+    // Standard error is one: it is told how far a load and the jobs are.
+    told: bool,
 }
 
 // Tells each line that can't be read on standard error. Lines are counted from 1, empty ones too.
@@ -133,16 +90,16 @@ fn serve_from<P: Eprint + AllocGlobal + Clock + Threads + Wait + Sync, R: Read +
         &mut ticker,
         text,
         count_workers(rt, args.workers),
-        &Patience { rt, progress },
+        &Patience::new(rt, progress),
     );
     ticker.clear();
     served
 }
 
 // Prints why jobs weren't served, and answers the exit status.
-fn print_unserved(rt: &impl Eprint, name: &str, fault: JobsFault) -> u8 {
+fn print_unserved(rt: &impl Eprint, file: &ListingFile<'_>, fault: JobsFault) -> u8 {
     match fault {
-        JobsFault::Load(fault) => print_load_fault(rt, PROGRAM, name, fault),
+        JobsFault::Load(fault) => print_load_fault(rt, PROGRAM, file, fault),
         _ => print_fault(rt, PROGRAM, fault.text()),
     }
 }
@@ -157,28 +114,25 @@ fn tell_fault(rt: &impl Eprint, fault: JobsFault, is_closed: bool) {
     }
 }
 
-// Writes the journal, where a file is there for it, and answers the exit status; this one, where nothing fails.
-fn write_kept<F: Write + OpenFile + Drop>(
-    rt: &(impl Eprint + AllocGlobal),
-    served: &Served,
-    journal: Option<F>,
-    status: u8,
-) -> u8 {
-    let Some(file) = journal else {
-        return status;
-    };
-    match write_over(rt.alloc(), served.journal(), &mut Counted::new(file)) {
-        Ok(()) => status,
-        Err(fault) => print_journal_fault(rt, PROGRAM, fault),
+// The reply of a line that ends a transaction where none is open.
+const NO_TRANSACTION: &[u8] = b" error 9 NoTransaction";
+
+// Tells, where refused lines are told, that a script may be one for the other program.
+fn tell_no_transaction(rt: &impl Eprint, served: &Served) {
+    for report in &served.reports {
+        if report.refused() && report.text().contains_str(NO_TRANSACTION) {
+            print_no_transaction(rt, PROGRAM);
+            return;
+        }
     }
 }
 
-// Writes what was served, prints a fault, and answers the exit status.
-fn write_and_tell<P: Print + Eprint + AllocGlobal, F: Write + OpenFile + Drop>(
+// Writes what was served, prints a fault, and answers the exit status; then keeps what is to be kept.
+fn write_and_tell<P: Files + Print + Eprint + AllocGlobal, F: Write + Drop>(
     rt: &P,
     args: MjobsArgs,
     served: &Served,
-    journal: Option<F>,
+    keeping: Keeping<'_, F>,
 ) -> u8 {
     let mut writer = Counted::new(Piped::new(io::writer(rt)));
     let outcome = match write_served(rt.alloc(), args.listed, served, &mut writer) {
@@ -188,10 +142,14 @@ fn write_and_tell<P: Print + Eprint + AllocGlobal, F: Write + OpenFile + Drop>(
             Err(fault)
         }
     };
-    write_kept(rt, served, journal, status_of(&outcome))
+    let content = served.closed.core.content();
+    match keeping.write(rt, PROGRAM, served.journal(), &content) {
+        Ok(drafts) => drafts.end(rt, PROGRAM, status_of(&outcome)),
+        Err(status) => status,
+    }
 }
 
-// Runs the script, once the journal's file is there, if one is asked for, and answers the exit status.
+// Runs the script, once it is known that what is to be kept can be written, and answers the exit status.
 fn run_and_tell<
     P: Files + Print + Eprint + AllocGlobal + Clock + Threads + Wait + Sync,
     R: Read + Drop,
@@ -200,17 +158,39 @@ fn run_and_tell<
     arguments: &[Vec<u8>],
     args: MjobsArgs,
     file: &ListingFile<'_>,
-    tells: bool,
+    told: bool,
     input: R,
 ) -> u8 {
-    let journal = match open_named(rt, PROGRAM, arguments, args.journal) {
-        Ok(journal) => journal,
+    let keeping = match keeping_of(rt, PROGRAM, arguments, args.names()) {
+        Ok(keeping) => keeping,
         Err(status) => return status,
     };
-    match serve_from(rt, args, file, tells, input) {
-        Ok(served) => write_and_tell(rt, args, &served, journal),
-        Err(fault) => print_unserved(rt, file.name, fault),
+    match serve_from(rt, args, file, told, input) {
+        Ok(served) => {
+            if args.errors || told {
+                tell_no_transaction(rt, &served);
+            }
+            write_and_tell(rt, args, &served, keeping)
+        }
+        Err(fault) => print_unserved(rt, file, fault),
     }
+}
+
+// Runs the script that standard input is.
+fn run_input<P: Files + Print + Eprint + Input + AllocGlobal + Clock + Threads + Wait + Sync>(
+    rt: &P,
+    arguments: &[Vec<u8>],
+    args: MjobsArgs,
+    file: &ListingFile<'_>,
+    terminals: Terminals,
+) -> u8 {
+    if let Err(status) = look_at_input(rt, PROGRAM) {
+        return status;
+    }
+    if terminals.typed {
+        print_jobs_greeting(rt, PROGRAM, args.listed);
+    }
+    run_and_tell(rt, arguments, args, file, terminals.told, rt.reader())
 }
 
 // Runs the script on the listing.
@@ -219,37 +199,41 @@ fn run_on<P: Files + Print + Eprint + Input + AllocGlobal + Clock + Threads + Wa
     arguments: &[Vec<u8>],
     args: MjobsArgs,
     file: &ListingFile<'_>,
-    tells: bool,
+    terminals: Terminals,
 ) -> u8 {
     let Some(name) = args.file.and_then(|place| arguments.get(place)) else {
-        return run_and_tell(rt, arguments, args, file, tells, rt.reader());
+        return run_input(rt, arguments, args, file, terminals);
     };
     let Some(path) = path_of(name) else {
         return print_bad_name(rt, PROGRAM);
     };
-    match fs::open(rt, path) {
-        Ok(script) => run_and_tell(rt, arguments, args, file, tells, script),
-        Err(why) => print_unopened(rt, PROGRAM, path, why),
+    match open_input(rt, PROGRAM, path) {
+        Ok(script) => run_and_tell(rt, arguments, args, file, terminals.told, script),
+        Err(status) => status,
     }
 }
 
 fn run_with_arguments<
     P: Files + Print + Eprint + Input + AllocGlobal + Clock + Threads + Wait + Sync,
->(rt: &P, arguments: &[Vec<u8>], tells: bool) -> u8 {
+>(rt: &P, arguments: &[Vec<u8>], terminals: Terminals) -> u8 {
     let args = match mjobs_args_with(rt, arguments) {
         Ok(args) => args,
         Err(error) => return print_help_or_error(rt, PROGRAM, error),
     };
     match read_listing(rt, PROGRAM, arguments, args.load) {
-        Ok(file) => run_on(rt, arguments, args, &file, tells),
+        Ok(file) => run_on(rt, arguments, args, &file, terminals),
         Err(status) => status,
     }
 }
 
 fn main(rt: HostRuntime) -> ExitCode {
-    let tells = rt.stderr().is_terminal();
+    let told = rt.stderr().is_terminal();
+    let terminals = Terminals {
+        typed: told && rt.stdin().is_terminal(),
+        told,
+    };
     match arguments_of(&rt) {
-        Ok(arguments) => ExitCode::from(run_with_arguments(&rt, &arguments, tells)),
+        Ok(arguments) => ExitCode::from(run_with_arguments(&rt, &arguments, terminals)),
         Err(AllocError) => ExitCode::from(print_fault(&rt, PROGRAM, JobsFault::Memory.text())),
     }
 }

@@ -13,9 +13,10 @@ use journal_lines::{JournalFault, write_journal};
 use lines::{Names, Size, push_script};
 use listing::{Counted, ListingFault, write_listing};
 use loading::NoLog;
+use lock_name::LockCommand;
 use plain::Plain;
 use script_run::{Fault, Upkeep, run_script};
-use shared_engine::Gate;
+use shared_engine::{Gate, Mark, Stop};
 use std::alloc::{AllocError, Global};
 use std::io::ErrorKind;
 use std::rt::Env;
@@ -56,6 +57,27 @@ impl Gate for Yielding {
     }
 
     fn second(&self, _job: collation::Job) {}
+
+    fn waits(&self, _job: collation::Job, _command: &LockCommand) -> Mark {
+        Mark {
+            changes: 0,
+            is_counted: false,
+        }
+    }
+
+    fn tried(&self, _job: collation::Job, mark: Mark) -> Mark {
+        mark
+    }
+
+    fn goes_on(&self, _job: collation::Job, _command: &LockCommand) {}
+
+    fn job_begun(&self) {}
+
+    fn job_failed(&self) {}
+
+    fn stop(&self) -> Option<Stop> {
+        None
+    }
 
     fn job_done(&self, _done: u64, _jobs: u64, _lines: u64) {}
 }
