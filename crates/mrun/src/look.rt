@@ -1,6 +1,6 @@
 //! A look at the database in mid-run, on standard error.
 use command::{Command, DataCommand, Look};
-use globals::{Cut, walk_from};
+use globals::{Cut, walk_between};
 use job_core::JobCore;
 use key_codec::Key;
 use m_text::{write_key, write_literal};
@@ -20,14 +20,6 @@ fn first_key(command: &DataCommand) -> &Key {
         DataCommand::Look(Look::Get(key, _)) => key,
         DataCommand::Look(Look::Order(place, _)) => place.key(),
         DataCommand::Look(Look::Query(place, _)) => place.key(),
-    }
-}
-
-// Whether a node is at or below a reference, or none is asked for.
-fn belongs(key: &Key, root: Option<&Key>) -> bool {
-    match root {
-        Some(root) => key.is_under(root),
-        None => true,
     }
 }
 
@@ -63,14 +55,11 @@ fn print_nodes(
     let content = core.content();
     let mut line = Vec::new(rt.alloc());
     let mut count = 0;
-    let first = match root {
-        Some(root) => Cut::Before(root),
-        None => Cut::Start,
+    let (first, end) = match root {
+        Some(root) => (Cut::Before(root), Some(Cut::Past(root))),
+        None => (Cut::Start, None),
     };
-    for (key, value) in walk_from(&content, first) {
-        if !belongs(key, root) {
-            break;
-        }
+    for (key, value) in walk_between(&content, first, end) {
         if count >= MOST_NODES {
             let _ = eprintln!(rt; "{program}: these are the first {count} nodes");
             return Ok(());

@@ -3,8 +3,8 @@
 //! It prints a line `job reply` for each line that isn't empty, then `--` and the listing of the database.
 //! `script_run::run_with_core` promises what is printed, `script_run::status_of` the exit status, and
 //! `script_run::Fault::text` the text of a fault. `program_front::mrun_args_with` reads the options,
-//! `loading::load_with` a listing that is loaded first, and `journal_lines::write_journal` writes the journal. This
-//! program only opens files, shows on terminals what is done, and prints what went wrong.
+//! `loading::load_with` a listing that is loaded first, and `program_front::Keeping` writes the journal and the listing
+//! that are kept. This program only opens files, shows on terminals what is done, and prints what went wrong.
 //!
 //! Exit status: 0, all replies are accepted; 1, a reply is an `error`; 2, a fault or wrong options; standard error says
 //! which.
@@ -13,23 +13,23 @@
 ghost use Rattle.std.specs.Prelude.{◌≡◌, IfOk};
 ghost use Rattle.std.specs.FinMap as finmap;
 ghost use Rattle.journal.specs.History.{initial, IsLegal};
+ghost use Rattle.loading.specs.Loaded.{IsLoaded};
 
 use job_core::JobCore;
 use listing::Counted;
 use loading::load_with;
 use program_front::{
-    ListingFile, MrunArgs, NamePlace, Piped, Ticker, arguments_of, mrun_args_with, open_named,
-    path_of, print_bad_name, print_fault, print_help_or_error, print_journal_fault,
-    print_load_fault, print_unopened, print_wanting, read_listing,
+    Drafts, Keeping, ListingFile, MrunArgs, NamePlace, Piped, Ticker, arguments_of, keeping_of,
+    look_at_input, mrun_args_with, open_input, path_of, print_bad_name, print_fault,
+    print_help_or_error, print_load_fault, print_wanting, read_listing,
 };
 use script_run::{Fault, Outcome, Upkeep, run_with_core, status_of};
 use side_log::{SideLog, Source, Telling};
 use std::alloc::AllocError;
-use std::fs::OpenFile;
+use std::io;
 use std::io::{IsTerminal, Read, Write};
 use std::process::ExitCode;
 use std::rt::{Clock, Files};
-use std::{fs, io};
 
 mod look;
 mod side_log;
@@ -56,6 +56,7 @@ fn load_from(
     file: &ListingFile<'_>,
     tells: bool,
 ) -> Result<JobCore, u8>
+    ensures loaded { IfOk result (λ core. IsLoaded file.now.text.items core.machine) }
     ensures legal { IfOk result (λ core. IsLegal core.machine.units initial) }
     ensures closed { IfOk result (λ core. core.machine.transactions ≡ finmap.empty) }
 {
@@ -64,7 +65,7 @@ fn load_from(
     ticker.clear();
     match loaded {
         Ok(core) => Ok(core),
-        Err(fault) => Err(print_load_fault(rt, PROGRAM, file.name, fault)),
+        Err(fault) => Err(print_load_fault(rt, PROGRAM, file, fault)),
     }
 }
 
@@ -104,20 +105,33 @@ fn tell_outcome(
     }
 }
 
-fn run_from<R: Read + Drop, F: Write + OpenFile + Drop>(
-    rt: &(impl Print + Eprint + AllocGlobal + Clock),
+// The exit status of a run that ended so and kept this, if it came to that.
+fn status_after(
+    rt: &(impl Files + Eprint),
+    outcome: &Result<Outcome, Fault>,
+    kept: Option<Result<Drafts<'_>, u8>>,
+) -> u8 {
+    match kept {
+        Some(Ok(drafts)) => drafts.end(rt, PROGRAM, status_of(outcome)),
+        Some(Err(status)) => status,
+        None => status_of(outcome),
+    }
+}
+
+fn run_from<R: Read + Drop, F: Write + Drop>(
+    rt: &(impl Files + Print + Eprint + AllocGlobal + Clock),
     args: MrunArgs,
     source: Source<'_>,
     core: JobCore,
     input: R,
-    journal: Option<F>,
+    keeping: Keeping<'_, F>,
 ) -> u8
     requires legal { IsLegal core.machine.units initial }
     requires closed { core.machine.transactions ≡ finmap.empty }
 {
     let mut reader = Counted::new(input);
     let mut writer = Counted::new(Piped::new(io::writer(rt)));
-    let mut log = SideLog::new(rt, args, source, journal);
+    let mut log = SideLog::new(rt, args, source, keeping);
     let outcome = run_with_core(
         rt.alloc(),
         core,
@@ -131,13 +145,10 @@ fn run_from<R: Read + Drop, F: Write + OpenFile + Drop>(
         &mut log,
     );
     tell_outcome(rt, log.telling(), outcome, writer.inner().is_closed());
-    match log.unwritten() {
-        Some(fault) => print_journal_fault(rt, PROGRAM, fault),
-        None => status_of(&outcome),
-    }
+    status_after(rt, &outcome, log.take_kept())
 }
 
-// Runs the script from its input, once the journal's file is there, if one is asked for.
+// Runs the script from its input, once it is known that what is to be kept can be written.
 fn run_into<R: Read + Drop>(
     rt: &(impl Files + Print + Eprint + AllocGlobal + Clock),
     arguments: &[Vec<u8>],
@@ -149,8 +160,33 @@ fn run_into<R: Read + Drop>(
     requires legal { IsLegal core.machine.units initial }
     requires closed { core.machine.transactions ≡ finmap.empty }
 {
-    match open_named(rt, PROGRAM, arguments, args.journal) {
-        Ok(journal) => run_from(rt, args, source, core, input, journal),
+    match keeping_of(rt, PROGRAM, arguments, args.names()) {
+        Ok(keeping) => run_from(rt, args, source, core, input, keeping),
+        Err(status) => {
+            drop(core);
+            status
+        }
+    }
+}
+
+// Runs the script that standard input is.
+fn run_input(
+    rt: &(impl Files + Print + Eprint + Input + AllocGlobal + Clock),
+    arguments: &[Vec<u8>],
+    args: MrunArgs,
+    terminals: Terminals,
+    core: JobCore,
+) -> u8
+    requires legal { IsLegal core.machine.units initial }
+    requires closed { core.machine.transactions ≡ finmap.empty }
+{
+    let source = Source {
+        typed: terminals.typed,
+        name: "standard input",
+        tells: false,
+    };
+    match look_at_input(rt, PROGRAM) {
+        Ok(()) => run_into(rt, arguments, args, source, core, rt.reader()),
         Err(status) => {
             drop(core);
             status
@@ -170,18 +206,13 @@ fn run_on(
     requires closed { core.machine.transactions ≡ finmap.empty }
 {
     let Some(name) = args.file.and_then(|place| arguments.get(place)) else {
-        let source = Source {
-            typed: terminals.typed,
-            name: "standard input",
-            tells: false,
-        };
-        return run_into(rt, arguments, args, source, core, rt.reader());
+        return run_input(rt, arguments, args, terminals, core);
     };
     let Some(path) = path_of(name) else {
         drop(core);
         return print_bad_name(rt, PROGRAM);
     };
-    match fs::open(rt, path) {
+    match open_input(rt, PROGRAM, path) {
         Ok(file) => {
             let source = Source {
                 typed: false,
@@ -190,9 +221,9 @@ fn run_on(
             };
             run_into(rt, arguments, args, source, core, file)
         }
-        Err(why) => {
+        Err(status) => {
             drop(core);
-            print_unopened(rt, PROGRAM, path, why)
+            status
         }
     }
 }

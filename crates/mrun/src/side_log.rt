@@ -3,14 +3,11 @@ use crate::PROGRAM;
 use crate::look::print_look;
 use crate::statistics::{Statistics, print_statistics};
 use job_core::JobCore;
-use journal_lines::JournalFault;
-use listing::Counted;
-use program_front::{MrunArgs, Ticker, print_greeting, print_mark, print_refused, write_over};
+use program_front::{Drafts, Keeping, MrunArgs, Ticker, print_greeting, print_mark, print_refused};
 use refusal::Refusal;
 use script_run::RunLog;
-use std::fs::OpenFile;
 use std::io::Write;
-use std::rt::Clock;
+use std::rt::{Clock, Files};
 
 /// How refused lines are told on standard error.
 #[derive(Clone, Copy, Debug, PartialEq, Eq)]
@@ -47,8 +44,8 @@ pub struct Source<'a> {
 }
 
 /// Tells on standard error of refused lines, of what stands there where Enter alone is typed, of progress, and at the
-/// end of what the engine holds, and writes the journal then, where it is asked for. What can't be printed there is
-/// left out; what the journal's writing came to is kept.
+/// end of what the engine holds, and writes what is kept then. What can't be printed there is left out; what was written
+/// can be taken.
 pub struct SideLog<'a, P, F> {
     rt: &'a P,
     telling: Telling,
@@ -56,16 +53,8 @@ pub struct SideLog<'a, P, F> {
     last: Vec<u8>,
     ticker: Ticker<'a, P>,
     statistics: bool,
-    journal: Option<Counted<F>>,
-    unwritten: Option<JournalFault>,
-}
-
-// Counts the failures of the journal's file.
-fn counted<F: Drop>(journal: Option<F>) -> Option<Counted<F>> {
-    match journal {
-        Some(file) => Some(Counted::new(file)),
-        None => None,
-    }
+    keeping: Option<Keeping<'a, F>>,
+    kept: Option<Result<Drafts<'a>, u8>>,
 }
 
 impl<'a, P: Eprint + AllocGlobal + Clock, F: Write + Drop> SideLog<'a, P, F> {
@@ -74,7 +63,7 @@ impl<'a, P: Eprint + AllocGlobal + Clock, F: Write + Drop> SideLog<'a, P, F> {
         rt: &'a P,
         args: MrunArgs,
         source: Source<'a>,
-        journal: Option<F>,
+        keeping: Keeping<'a, F>,
     ) -> SideLog<'a, P, F> {
         SideLog {
             rt,
@@ -83,8 +72,8 @@ impl<'a, P: Eprint + AllocGlobal + Clock, F: Write + Drop> SideLog<'a, P, F> {
             last: Vec::new(rt.alloc()),
             ticker: Ticker::new(rt, PROGRAM, source.name, source.tells),
             statistics: args.statistics,
-            journal: counted(journal),
-            unwritten: None,
+            keeping: Some(keeping),
+            kept: None,
         }
     }
 
@@ -93,9 +82,9 @@ impl<'a, P: Eprint + AllocGlobal + Clock, F: Write + Drop> SideLog<'a, P, F> {
         self.telling
     }
 
-    /// Why the journal wasn't written whole, if so.
-    pub fn unwritten(&self) -> Option<JournalFault> {
-        self.unwritten
+    /// What was written at the end, or the exit status where it couldn't be; none where no end was told of.
+    pub fn take_kept(&mut self) -> Option<Result<Drafts<'a>, u8>> {
+        self.kept.take()
     }
 }
 
@@ -108,10 +97,11 @@ impl<'a, P, F: Drop> Drop for SideLog<'a, P, F> {
             last: _,
             ticker: _,
             statistics: _,
-            journal,
-            unwritten: _,
+            keeping,
+            kept,
         } = self;
-        drop(journal);
+        drop(keeping);
+        drop(kept);
     }
 }
 
@@ -123,7 +113,7 @@ fn keep_line(last: &mut Vec<u8>, line: &[u8]) {
     }
 }
 
-impl<'a, P: Eprint + AllocGlobal + Clock, F: Write + OpenFile + Drop> RunLog for SideLog<'a, P, F> {
+impl<'a, P: Files + Eprint + AllocGlobal + Clock, F: Write + Drop> RunLog for SideLog<'a, P, F> {
     fn refused(&mut self, number: u64, line: &[u8], refusal: Refusal) {
         match self.telling {
             Telling::Nothing => {}
@@ -149,8 +139,9 @@ impl<'a, P: Eprint + AllocGlobal + Clock, F: Write + OpenFile + Drop> RunLog for
         if self.statistics {
             print_statistics(self.rt, PROGRAM, &Statistics::of(core));
         }
-        if let Some(journal) = &mut self.journal {
-            self.unwritten = write_over(self.rt.alloc(), core.journal(), journal).err();
+        if let Some(keeping) = self.keeping.take() {
+            let written = keeping.write(self.rt, PROGRAM, core.journal(), &core.content());
+            self.kept = Some(written);
         }
     }
 }

@@ -1,8 +1,10 @@
 //! The words of `mjobs`.
-use crate::journal_file::is_file_in_use;
+ghost use Rattle.std.specs.Prelude.{◌≡◌, ◌<◌, ◌≤◌};
+
+use crate::in_use::{file_conflict, name_conflict};
 use crate::words::{
-    IN_USE, NamePlace, VERSION, errors_word, file_of, file_place, file_word, is_read, journal_of,
-    journal_word, load_of, load_word, no_listing_word, texts_of,
+    FileNames, NamePlace, VERSION, errors_word, file_of, file_place, file_word, journal_of,
+    journal_word, load_of, load_word, no_listing_word, save_of, save_word, texts_of,
 };
 use clap::builder::ValueParser;
 use clap::error::ErrorKind;
@@ -17,8 +19,7 @@ const MOST_WORKERS: u64 = 16;
 const USUAL_WORKERS: u64 = 2;
 
 // What `--errors` does.
-const ERRORS: &str =
-    "Tell the number, column and fault of each line that can't be read on standard error";
+const ERRORS: &str = "Print the number, column and fault of each line{n}that can't be read";
 
 // What is said where the word for workers has another value.
 const WORKERS: &str = "'--workers <N>' takes a number from 1 to 16, or auto";
@@ -33,42 +34,60 @@ pub enum Workers {
 }
 
 impl Workers {
-    /// How many there are, where there are so many processors, or their number isn't known.
-    pub fn count(self, processors: Option<usize>) -> usize {
+    /// How many there are, where there are so many processors, or their number isn't known: at least one where it isn't
+    /// asked for none.
+    pub fn count(self, processors: Option<usize>) -> usize
+        ensures some { self ≡ Workers.Processors → 0 < result }
+        ensures most { self ≡ Workers.Processors → result ≤ MOST_WORKERS }
+    {
         match (self, processors) {
             (Workers::Number(number), _) => number as usize,
-            (Workers::Processors, Some(processors)) => processors.min(MOST_WORKERS as usize),
+            (Workers::Processors, Some(processors)) => processors.min(MOST_WORKERS as usize).max(1),
             (Workers::Processors, None) => USUAL_WORKERS as usize,
         }
     }
 }
 
 // What `--help` prints under the options.
-const LINES: &str =
-    "Each line is a job, 1 to 4096, a blank, and a command or a function, as mrun --help names them:
+const LINES: &str = "Each line is a job, 1 to 4096, a blank, and a command or a function, as
+mrun --help names them:
 
   1 TSTART
   1 SET ^Stock(\"apples\")=3
   1 TCOMMIT
   2 $GET(^Stock(\"apples\"))
 
-All input is read first. A job's lines are done in order by one worker, different jobs at the same time. A transaction
-that was overtaken is done again by itself; a LOCK waits until it has its names, with `:5` for some 5 seconds at most.
-Replies are printed by job, in order of the jobs' first lines, then `--` and the listing of the database. Where jobs use
-the same nodes, replies and listing depend on which job was first.
+All input is read first. A job's lines are done in order by one worker,
+different jobs at the same time. A transaction that was overtaken is done again
+by itself, with the same constants, so a script that sends its commands again
+is for mrun. A LOCK waits until it has its names, with `:5` for some 5 seconds
+at most.
+
+Replies are printed by job, in order of the jobs' first lines, then `--` and the
+listing of the database. Where jobs use the same nodes, replies and listing
+depend on which job was first.
 
   mjobs --workers auto orders.txt
-  mjobs --load stock.txt orders.txt
+  mjobs --load stock.txt --save stock.txt orders.txt
   generate | mjobs --no-listing
 
---load FILE starts from a listing instead of an empty database: lines ^Stock(\"apples\")=3, as they are printed or as other
-M systems write them in ZWR form. They are read before the first job; if one can't be read, nothing runs.
---errors tells of each line that can't be read its number, the column of its fault, the refusal and what was expected there.
---journal FILE keeps what was done, in its order: after mjobs --journal done.txt orders.txt, mrun done.txt leaves the same
-listing. FILE is written over at the end; where it is the script, the listing or what is printed to, nothing runs.
+--load starts from a listing instead of an empty database: lines
+^Stock(\"apples\")=3, as they are printed or as other M systems write them in ZWR
+form. They are read before the first job; if one can't be read, nothing runs.
+--save puts the listing in a file, --journal what was done, in its order: after
+mjobs --journal done.txt orders.txt, mrun done.txt leaves the same listing.
+Each is written to a new file in the same folder, named as it is with .new-1
+behind, which takes its place once the run has ended well. If the run ends with
+status 2, what the file held stays. Where the file is the script or what is
+printed to, by whatever name, nothing runs; nor where both are one file, or the
+journal is the listing that is loaded.
+--errors prints of each line that can't be read its number, the column of its
+fault, the refusal and what was expected there, on standard error.
 
-Exit status: 0, all replies are accepted; 1, a reply is an `error`; 2, input can't be read, output or the journal
-can't be written, memory ran out, a listing can't be loaded, a report is missing, or an option or its value is wrong.";
+Exit status: 0, all replies are accepted; 1, a reply is an `error`; 2, input
+can't be read, output, the listing or the journal can't be written, memory ran
+out, a listing can't be loaded, a report is missing, or an option or its value
+is wrong.";
 
 /// What the arguments of `mjobs` ask for.
 #[derive(Clone, Copy, Debug, PartialEq, Eq)]
@@ -77,6 +96,8 @@ pub struct MjobsArgs {
     pub file: Option<usize>,
     /// Where the name of the listing stands that is loaded first, or none.
     pub load: Option<NamePlace>,
+    /// Where the name of the file stands that the listing is saved to, or none.
+    pub save: Option<NamePlace>,
     /// Where the name of the file stands that the journal is written to, or none.
     pub journal: Option<NamePlace>,
     /// Whether `--` and the listing are printed.
@@ -87,6 +108,18 @@ pub struct MjobsArgs {
     pub workers: Workers,
 }
 
+impl MjobsArgs {
+    /// The files that they name.
+    pub fn names(self) -> FileNames {
+        FileNames {
+            script: file_place(self.file),
+            load: self.load,
+            save: self.save,
+            journal: self.journal,
+        }
+    }
+}
+
 fn command<'a>(alloc: Global) -> Result<Command<'a>, Error> {
     let workers = Arg::new(alloc, "workers")
         .long("workers")
@@ -95,16 +128,17 @@ fn command<'a>(alloc: Global) -> Result<Command<'a>, Error> {
         .value_parser(ValueParser::string())
         .default_value("2")
         .help(
-            "How many jobs are done at the same time, 1 to 16; auto: as many as there are processors",
+            "How many jobs are done at the same time, 1 to{n}16; auto: as many as there are processors{n}",
         );
     let command = Command::new(alloc, "mjobs")
         .version(VERSION)
         .about(
-            "Runs the jobs of a script at the same time on M globals, and prints replies by job and a listing",
+            "Runs the jobs of a script at the same time on M globals, and prints replies by{n}job and a listing",
         )
         .after_help(LINES)
         .arg(file_word(alloc))?
         .arg(load_word(alloc))?
+        .arg(save_word(alloc))?
         .arg(journal_word(alloc))?
         .arg(no_listing_word(alloc))?
         .arg(errors_word(alloc, ERRORS))?
@@ -147,16 +181,6 @@ fn workers_of(alloc: Global, matches: &ArgMatches<'_>) -> Result<Workers, Error>
     }
 }
 
-// Whether the journal would be written to a file that is read.
-fn is_journal_read(arguments: &[Vec<u8>], args: MjobsArgs) -> bool {
-    match args.journal.and_then(|place| place.name_in(arguments)) {
-        Some(name) => {
-            is_read(arguments, file_place(args.file), name) || is_read(arguments, args.load, name)
-        }
-        None => false,
-    }
-}
-
 /// What the arguments of `mjobs` ask for; the first is the program's name. An error's text is for the user: help and
 /// the version too.
 pub fn mjobs_args_of(alloc: Global, arguments: &[Vec<u8>]) -> Result<MjobsArgs, Error> {
@@ -165,26 +189,27 @@ pub fn mjobs_args_of(alloc: Global, arguments: &[Vec<u8>]) -> Result<MjobsArgs, 
     let args = MjobsArgs {
         file: file_of(&matches, &texts),
         load: load_of(&matches, &texts),
+        save: save_of(&matches, &texts),
         journal: journal_of(&matches, &texts),
         listed: !matches.get_flag("no-listing"),
         errors: matches.get_flag("errors"),
         workers: workers_of(alloc, &matches)?,
     };
-    if is_journal_read(arguments, args) {
-        return Err(error_of(alloc, ErrorKind::ArgumentConflict, IN_USE)?);
+    match name_conflict(arguments, args.names()) {
+        Some(why) => Err(error_of(alloc, ErrorKind::ArgumentConflict, why)?),
+        None => Ok(args),
     }
-    Ok(args)
 }
 
-/// What the arguments of `mjobs` ask for, as `mjobs_args_of` answers, or an error where the journal would be written to
-/// a file that is read under another name, or as standard input.
+/// What the arguments of `mjobs` ask for, as `mjobs_args_of` answers, or an error where the journal or the listing would
+/// take the place of a file that is read under another name, or as standard input, or is printed to.
 pub fn mjobs_args_with(
     rt: &(impl Files + AllocGlobal),
     arguments: &[Vec<u8>],
 ) -> Result<MjobsArgs, Error> {
     let args = mjobs_args_of(rt.alloc(), arguments)?;
-    if is_file_in_use(rt, arguments, args.file, args.load, args.journal) {
-        return Err(error_of(rt.alloc(), ErrorKind::ArgumentConflict, IN_USE)?);
+    match file_conflict(rt, arguments, args.names()) {
+        Some(why) => Err(error_of(rt.alloc(), ErrorKind::ArgumentConflict, why)?),
+        None => Ok(args),
     }
-    Ok(args)
 }

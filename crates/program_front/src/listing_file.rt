@@ -1,12 +1,10 @@
 //! The file of a listing that is loaded first.
 ghost use Rattle.std.specs.Prelude.{◌≡◌, IfErr};
 
-use crate::printing::{
-    FAULT_STATUS, NO_MEMORY, path_of, print_bad_name, print_unloaded, print_unopened,
-};
+use crate::input_file::open_input;
+use crate::printing::{FAULT_STATUS, NO_MEMORY, path_of, print_bad_name, print_unloaded};
 use crate::words::NamePlace;
 use listing::{Counted, InputFault, read_all};
-use std::fs;
 use std::rt::Files;
 
 /// A listing, and the name of its file; both are empty where none is asked for.
@@ -26,9 +24,9 @@ fn read_file<P: Files + Eprint + AllocGlobal>(
 ) -> Result<Vec<u8>, u8>
     ensures { IfErr result (λ status. status ≡ FAULT_STATUS) }
 {
-    let file = match fs::open(rt, name) {
+    let file = match open_input(rt, program, name) {
         Ok(file) => file,
-        Err(why) => return Err(print_unopened(rt, program, name, why)),
+        Err(status) => return Err(status),
     };
     match read_all(rt.alloc(), &mut Counted::new(file)) {
         Ok(text) => Ok(text),

@@ -1,11 +1,12 @@
 //! The arguments of the process, and what is printed of the program's own.
 ghost use Rattle.std.specs.Prelude.{◌≡◌};
 
+use crate::hints::{hint_of, listing_hint};
+use crate::listing_file::ListingFile;
 use clap::error::ErrorKind;
-use journal_lines::JournalFault;
 use loading::{FaultyLine, LoadFault};
 use refusal::Refusal;
-use script::locate_fault;
+use script::{Expected, locate_fault};
 use std::alloc::{AllocError, Global};
 use std::env::FillError;
 use std::io;
@@ -74,8 +75,9 @@ pub fn print_refused(
     let found = locate_fault(rt.alloc(), line, refusal);
     let column = found.column;
     let expected = found.expected.text();
+    let hint = hint_of(line, found);
     let _ = eprintln!(rt;
-        "{program}: line {number}, column {column}: error {refusal}: expected {expected}"
+        "{program}: line {number}, column {column}: error {refusal}: expected {expected}{hint}"
     );
 }
 
@@ -93,13 +95,22 @@ pub fn room_before(alloc: Global, line: &[u8], column: usize) -> Result<String, 
     Ok(room)
 }
 
+// What is said to be expected in a line that is typed: of its beginning, how typing ends.
+fn typed_text(expected: Expected) -> &'static str {
+    match expected {
+        Expected::Job => "a job, 1 to 4096, as in 1 SET ^A=5; Ctrl-D ends the input",
+        _ => expected.text(),
+    }
+}
+
 /// Prints a mark under the fault of a refused line that has just been typed, and what was expected there, on standard
 /// error.
 pub fn print_mark(rt: &(impl Eprint + AllocGlobal), line: &[u8], refusal: Refusal) {
     let found = locate_fault(rt.alloc(), line, refusal);
-    let expected = found.expected.text();
+    let expected = typed_text(found.expected);
+    let hint = hint_of(line, found);
     if let Ok(room) = room_before(rt.alloc(), line, found.column) {
-        let _ = eprintln!(rt; "{room}^ expected {expected}");
+        let _ = eprintln!(rt; "{room}^ expected {expected}{hint}");
     }
 }
 
@@ -112,6 +123,21 @@ pub fn print_greeting(rt: &impl Eprint, program: &str, listed: bool) {
     };
     let _ = eprintln!(rt;
         "{program}: type lines such as 1 SET ^A(1)=5 and 1 $GET(^A(1)); Enter alone shows what stands there and below, Ctrl-D ends the input{listing}"
+    );
+}
+
+/// Prints how the lines of jobs are typed, on standard error, and whether the listing is printed at their end.
+pub fn print_jobs_greeting(rt: &impl Eprint, program: &str, listed: bool) {
+    let listing = if listed { " and the listing" } else { "" };
+    let _ = eprintln!(rt;
+        "{program}: type lines such as 1 SET ^A(1)=5 and 2 $GET(^A(1)); Ctrl-D ends the input: then the jobs run, and their replies{listing} come"
+    );
+}
+
+/// Prints why a TCOMMIT, TROLLBACK or TRESTART of a job may have found no transaction.
+pub fn print_no_transaction(rt: &impl Eprint, program: &str) {
+    let _ = eprintln!(rt;
+        "{program}: NoTransaction: a transaction that is overtaken is done again by itself here: a script that sends its commands again is for mrun"
     );
 }
 
@@ -130,32 +156,41 @@ pub fn print_unopened(rt: &impl Eprint, program: &str, name: &str, why: io::Erro
     FAULT_STATUS
 }
 
-/// Prints that the journal's file can't be created, and why, and answers the exit status.
-pub fn print_uncreated(rt: &impl Eprint, program: &str, name: &str, why: io::Error) -> u8
+/// Prints why something can't be kept, and answers the exit status.
+pub(crate) fn print_unkept(rt: &impl Eprint, program: &str, fault: &str, why: &str) -> u8
     ensures { result ≡ FAULT_STATUS }
 {
-    let _ = eprintln!(rt; "{program}: cannot write the journal: {name}: {why}");
+    let _ = eprintln!(rt; "{program}: {fault}: {why}");
     FAULT_STATUS
 }
 
-/// Prints why the journal isn't written, and answers the exit status.
-pub fn print_unwritten(rt: &impl Eprint, program: &str, why: &str) -> u8
+/// Prints why something can't be kept in a file, and answers the exit status.
+pub(crate) fn print_unput(
+    rt: &impl Eprint,
+    program: &str,
+    fault: &str,
+    name: &str,
+    why: io::Error,
+) -> u8
     ensures { result ≡ FAULT_STATUS }
 {
-    let _ = eprintln!(rt; "{program}: cannot write the journal: {why}");
+    let _ = eprintln!(rt; "{program}: {fault}: {name}: {why}");
     FAULT_STATUS
 }
 
-/// Prints why the journal wasn't written whole, and answers the exit status.
-pub fn print_journal_fault(rt: &impl Eprint, program: &str, fault: JournalFault) -> u8
+/// Prints why a new file can't take its place, and that it stays, and answers the exit status.
+pub(crate) fn print_left(
+    rt: &impl Eprint,
+    program: &str,
+    fault: &str,
+    name: &str,
+    new: &str,
+    why: io::Error,
+) -> u8
     ensures { result ≡ FAULT_STATUS }
 {
-    let why = match fault {
-        JournalFault::Write => "a write failed",
-        JournalFault::Memory => NO_MEMORY,
-        JournalFault::LetGo => "its beginning was dropped",
-    };
-    print_unwritten(rt, program, why)
+    let _ = eprintln!(rt; "{program}: {fault}: {name}: {why}; it is whole in {new}");
+    FAULT_STATUS
 }
 
 /// Prints why a listing can't be read, and answers the exit status.
@@ -168,9 +203,16 @@ pub fn print_unloaded(rt: &impl Eprint, program: &str, name: &str, fault: &str) 
 
 // Prints the number of a listing's line that sets nothing, the column of its fault, the refusal and what was expected
 // there, and answers the exit status.
-fn print_faulty_line(rt: &impl Eprint, program: &str, name: &str, line: FaultyLine) -> u8
+fn print_faulty_line(
+    rt: &impl Eprint,
+    program: &str,
+    file: &ListingFile<'_>,
+    line: FaultyLine,
+) -> u8
     ensures { result ≡ FAULT_STATUS }
 {
+    let hint = listing_hint(&file.text, line);
+    let name = file.name;
     let FaultyLine {
         number,
         column,
@@ -179,18 +221,23 @@ fn print_faulty_line(rt: &impl Eprint, program: &str, name: &str, line: FaultyLi
     } = line;
     let expected = expected.text();
     let _ = eprintln!(rt;
-        "{program}: {name}: line {number}, column {column}: error {refusal}: expected {expected}"
+        "{program}: {name}: line {number}, column {column}: error {refusal}: expected {expected}{hint}"
     );
     FAULT_STATUS
 }
 
 /// Prints why a listing isn't loaded, and answers the exit status.
-pub fn print_load_fault(rt: &impl Eprint, program: &str, name: &str, fault: LoadFault) -> u8
+pub fn print_load_fault(
+    rt: &impl Eprint,
+    program: &str,
+    file: &ListingFile<'_>,
+    fault: LoadFault,
+) -> u8
     ensures { result ≡ FAULT_STATUS }
 {
     match fault {
-        LoadFault::Line(line) => print_faulty_line(rt, program, name, line),
-        LoadFault::Memory => print_unloaded(rt, program, name, NO_MEMORY),
+        LoadFault::Line(line) => print_faulty_line(rt, program, file, line),
+        LoadFault::Memory => print_unloaded(rt, program, file.name, NO_MEMORY),
     }
 }
 
@@ -202,16 +249,65 @@ pub fn print_bad_name(rt: &impl Eprint, program: &str) -> u8
     FAULT_STATUS
 }
 
+// What is told in place of a tip where the other program has a word.
+fn other_tip(program: &str, first: &str) -> Option<&'static str> {
+    match program {
+        "mjobs"
+            if first.contains("'--stats")
+                || first.contains("'--collect-every")
+                || first.contains("'--checkpoint-every") => { Some("  tip: mrun has it") }
+        "mrun" if first.contains("'--workers") => Some("  tip: mjobs has it"),
+        _ => None,
+    }
+}
+
+// Prints what is wrong with the words, line by line, without the parser's tip to pass a word as a value: no value of
+// these programs is one.
+fn print_without_tip(rt: &impl Eprint, program: &str, text: &str) {
+    let tip = other_tip(program, text);
+    let mut was_empty = false;
+    for line in text.lines() {
+        if line.starts_with("  tip: to pass ") {
+            if let Some(tip) = tip {
+                let _ = eprintln!(rt; "{tip}");
+                was_empty = false;
+            }
+        } else if !(line.is_empty() && was_empty) {
+            let _ = eprintln!(rt; "{line}");
+            was_empty = line.is_empty();
+        }
+    }
+}
+
+// Prints what is wrong with the words, and answers the exit status.
+fn print_wrong_words(rt: &(impl Eprint + AllocGlobal), program: &str, error: clap::Error) -> u8
+    ensures { result ≡ FAULT_STATUS }
+{
+    match format!(in rt.alloc(); "{error}") {
+        Ok(text) => print_without_tip(rt, program, text.as_str()),
+        Err(AllocError) => {
+            let _status = print_fault(rt, program, NO_MEMORY);
+        }
+    }
+    FAULT_STATUS
+}
+
 /// Prints help, the version or what is wrong with the words, and answers the exit status. Where nobody reads it, no
 /// line says so.
-pub fn print_help_or_error(rt: &(impl Print + Eprint), program: &str, error: clap::Error) -> u8 {
+pub fn print_help_or_error(
+    rt: &(impl Print + Eprint + AllocGlobal),
+    program: &str,
+    error: clap::Error,
+) -> u8 {
     if error.kind() == ErrorKind::OutOfMemory {
         return print_fault(rt, program, NO_MEMORY);
     }
-    match error.print(rt) {
-        Ok(()) => {}
-        Err(why) if why.kind() == io::ErrorKind::BrokenPipe => return FAULT_STATUS,
-        Err(_) => return print_fault(rt, program, "cannot write output"),
+    if error.use_stderr() {
+        return print_wrong_words(rt, program, error);
     }
-    if error.use_stderr() { FAULT_STATUS } else { 0 }
+    match error.print(rt) {
+        Ok(()) => 0,
+        Err(why) if why.kind() == io::ErrorKind::BrokenPipe => FAULT_STATUS,
+        Err(_) => print_fault(rt, program, "cannot write output"),
+    }
 }

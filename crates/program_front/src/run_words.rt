@@ -1,8 +1,8 @@
 //! The words of `mrun`.
-use crate::journal_file::is_file_in_use;
+use crate::in_use::{file_conflict, name_conflict};
 use crate::words::{
-    IN_USE, NamePlace, VERSION, errors_word, file_of, file_place, file_word, is_read, journal_of,
-    journal_word, load_of, load_word, no_listing_word, stats_word, texts_of,
+    FileNames, NamePlace, VERSION, errors_word, file_of, file_place, file_word, journal_of,
+    journal_word, load_of, load_word, no_listing_word, save_of, save_word, stats_word, texts_of,
 };
 use clap::builder::ValueParser;
 use clap::error::ErrorKind;
@@ -14,38 +14,56 @@ use std::rt::Files;
 const MOST_LINES: u64 = 1000000;
 
 // What `--errors` does.
-const ERRORS: &str = "Tell each refused line's number, column and fault on standard error";
+const ERRORS: &str = "Print each refused line's number, column and fault";
 
 // What is said where a journal is asked for that would drop its beginning.
 const DROPPED: &str =
     "'--journal <JOURNAL>' cannot be used with '--checkpoint-every <M>' other than 0, by which the journal drops its beginning";
 
 // What `--help` prints under the options.
-const LINES: &str =
-    "Each line is a job, 1 to 4096, a blank, and SET, KILL, MERGE, LOCK, TSTART, TCOMMIT, TROLLBACK, TRESTART or HALT, or a
-function: $DATA, $GET, $ORDER, $QUERY, $TLEVEL or $TRESTART:
+const LINES: &str = "Each line is a job, 1 to 4096, a blank, and SET, KILL, MERGE, LOCK, TSTART,
+TCOMMIT, TROLLBACK, TRESTART or HALT, or a function: $DATA, $GET, $ORDER,
+$QUERY, $TLEVEL or $TRESTART:
 
   1 SET ^Fruit(\"apple\",\"price\")=1.2
   1 $GET(^Fruit(\"apple\",\"price\"))
   2 $ORDER(^Fruit(\"\"))
 
-A reply is printed for each line that isn't empty: its job, and `ok`, a value or `error` with a number and a name.
-At the end of input follow `--` and the listing of the database, which starts empty and is kept in memory.
---load FILE starts from a listing instead: lines ^Fruit(\"apple\",\"price\")=1.2, as they are printed or as other M systems
-write them in ZWR form. If a line of it can't be read, nothing runs.
---journal FILE keeps a run: after mrun --journal done.txt script.txt, mrun done.txt leaves the same listing. FILE is
-written over at the end; where it is the script, the listing or what is printed to, by whatever name, nothing runs.
-Lines can be typed: each gets its reply at once, Enter alone shows what is committed at and below the reference that the line
-before names, or all where it names none, and Ctrl-D on an empty line ends the input.
+A reply is printed for each line that isn't empty: its job, and `ok`, a value
+or `error` with a number and a name. At the end of input follow `--` and the
+listing of the database, which starts empty and is kept in memory.
 
---errors tells a refused line's number, the column of its fault, the refusal and what was expected there.
---collect-every drops old versions of values that no transaction can see any more, --checkpoint-every what the journal
-keeps of the lines done before all open transactions; what is printed doesn't depend on either. --stats tells at the end
-what is held: nodes, the bytes of their keys and values, versions, and the units of the journal, how many of them were
-dropped and the bytes that the others take.
+Lines can be typed: each gets its reply at once. Enter alone shows what is
+committed at and below the reference that the line before names, or all where
+it names none. Ctrl-D on an empty line ends the input.
 
-Exit status: 0, all replies are accepted; 1, a reply is an `error`; 2, input can't be read, output or the journal
-can't be written, memory ran out, a listing can't be loaded, or an option or its value is wrong.";
+To keep a database from run to run:
+
+  mrun --load kept.txt --save kept.txt today.txt
+
+--load starts from a listing instead: lines ^Fruit(\"apple\",\"price\")=1.2, as
+they are printed or as other M systems write them in ZWR form. If a line of it
+can't be read, nothing runs.
+--save puts the listing in a file, --journal what was done: after
+mrun --journal done.txt script.txt, mrun done.txt leaves the same listing.
+Each is written to a new file in the same folder, named as it is with .new-1
+behind, which takes its place once the run has ended well. If the run ends with
+status 2, what the file held stays. Where the file is the script or what is
+printed to, by whatever name, nothing runs; nor where both are one file, or the
+journal is the listing that is loaded.
+
+--errors prints a refused line's number, the column of its fault, the refusal
+and what was expected there, on standard error.
+--collect-every drops old versions of values that no transaction can see any
+more, --checkpoint-every what the journal keeps of the lines done before all
+open transactions; no reply depends on either.
+--stats prints at the end, on standard error, how much is held: nodes, the bytes
+of their keys and values, versions, and the units of the journal, how many of
+them were dropped and the bytes that the others take.
+
+Exit status: 0, all replies are accepted; 1, a reply is an `error`; 2, input
+can't be read, output, the listing or the journal can't be written, memory ran
+out, a listing can't be loaded, or an option or its value is wrong.";
 
 /// What the arguments of `mrun` ask for.
 #[derive(Clone, Copy, Debug, PartialEq, Eq)]
@@ -54,6 +72,8 @@ pub struct MrunArgs {
     pub file: Option<usize>,
     /// Where the name of the listing stands that is loaded first, or none.
     pub load: Option<NamePlace>,
+    /// Where the name of the file stands that the listing is saved to, or none.
+    pub save: Option<NamePlace>,
     /// Where the name of the file stands that the journal is written to, or none.
     pub journal: Option<NamePlace>,
     /// Whether `--` and the listing are printed.
@@ -66,6 +86,18 @@ pub struct MrunArgs {
     pub collect_every: u64,
     /// After how many printed lines a checkpoint is taken, again and again; 0 for never.
     pub checkpoint_every: u64,
+}
+
+impl MrunArgs {
+    /// The files that they name.
+    pub fn names(self) -> FileNames {
+        FileNames {
+            script: file_place(self.file),
+            load: self.load,
+            save: self.save,
+            journal: self.journal,
+        }
+    }
 }
 
 // A word for something that is done after each so many printed lines.
@@ -84,22 +116,23 @@ fn command<'a>(alloc: Global) -> Result<Command<'a>, Error> {
         alloc,
         "collect-every",
         "N",
-        "Let the collector pass after each Nth printed line, 0 to 1000000; 0 is never",
+        "Let the collector pass after each Nth printed{n}line, 0 to 1000000; 0 is never",
     );
     let checkpoint_every = every_word(
         alloc,
         "checkpoint-every",
         "M",
-        "Let the journal drop its beginning after each Mth printed line, 0 to 1000000; 0 is never",
+        "Let the journal drop its beginning after each{n}Mth printed line, 0 to 1000000; 0 is{n}never",
     );
     let command = Command::new(alloc, "mrun")
         .version(VERSION)
         .about(
-            "Runs a script of numbered jobs' commands on M globals, and prints replies and a listing",
+            "Runs a script of numbered jobs' commands on M globals, and prints replies and{n}a listing",
         )
         .after_help(LINES)
         .arg(file_word(alloc))?
         .arg(load_word(alloc))?
+        .arg(save_word(alloc))?
         .arg(journal_word(alloc))?
         .arg(no_listing_word(alloc))?
         .arg(errors_word(alloc, ERRORS))?
@@ -115,16 +148,27 @@ fn conflict(alloc: Global, why: &str) -> Result<Error, Error> {
     Ok(error)
 }
 
-// Why the words for the journal don't go with the others, if so.
-fn journal_conflict(arguments: &[Vec<u8>], args: MrunArgs) -> Option<&'static str> {
-    let name = args.journal?.name_in(arguments)?;
-    if args.checkpoint_every != 0 {
+// Why the words for files don't go with the others, if their names alone show it.
+fn conflict_in(arguments: &[Vec<u8>], args: MrunArgs) -> Option<&'static str> {
+    if args.journal.is_some() && args.checkpoint_every != 0 {
         return Some(DROPPED);
     }
-    if is_read(arguments, file_place(args.file), name) || is_read(arguments, args.load, name) {
-        return Some(IN_USE);
+    name_conflict(arguments, args.names())
+}
+
+// What the matches ask for.
+fn args_in(matches: &ArgMatches<'_>, texts: &[String]) -> MrunArgs {
+    MrunArgs {
+        file: file_of(matches, texts),
+        load: load_of(matches, texts),
+        save: save_of(matches, texts),
+        journal: journal_of(matches, texts),
+        listed: !matches.get_flag("no-listing"),
+        errors: matches.get_flag("errors"),
+        statistics: matches.get_flag("stats"),
+        collect_every: matches.get_one("collect-every").unwrap_or(0),
+        checkpoint_every: matches.get_one("checkpoint-every").unwrap_or(0),
     }
-    None
 }
 
 /// What the arguments of `mrun` ask for; the first is the program's name. An error's text is for the user: help and the
@@ -132,31 +176,22 @@ fn journal_conflict(arguments: &[Vec<u8>], args: MrunArgs) -> Option<&'static st
 pub fn mrun_args_of(alloc: Global, arguments: &[Vec<u8>]) -> Result<MrunArgs, Error> {
     let texts = texts_of(alloc, arguments)?;
     let matches = command(alloc)?.try_get_matches_from(&texts)?;
-    let args = MrunArgs {
-        file: file_of(&matches, &texts),
-        load: load_of(&matches, &texts),
-        journal: journal_of(&matches, &texts),
-        listed: !matches.get_flag("no-listing"),
-        errors: matches.get_flag("errors"),
-        statistics: matches.get_flag("stats"),
-        collect_every: matches.get_one("collect-every").unwrap_or(0),
-        checkpoint_every: matches.get_one("checkpoint-every").unwrap_or(0),
-    };
-    match journal_conflict(arguments, args) {
+    let args = args_in(&matches, &texts);
+    match conflict_in(arguments, args) {
         Some(why) => Err(conflict(alloc, why)?),
         None => Ok(args),
     }
 }
 
-/// What the arguments of `mrun` ask for, as `mrun_args_of` answers, or an error where the journal would be written to a
-/// file that is read under another name, or as standard input.
+/// What the arguments of `mrun` ask for, as `mrun_args_of` answers, or an error where the journal or the listing would
+/// take the place of a file that is read under another name, or as standard input, or is printed to.
 pub fn mrun_args_with(
     rt: &(impl Files + AllocGlobal),
     arguments: &[Vec<u8>],
 ) -> Result<MrunArgs, Error> {
     let args = mrun_args_of(rt.alloc(), arguments)?;
-    if is_file_in_use(rt, arguments, args.file, args.load, args.journal) {
-        return Err(conflict(rt.alloc(), IN_USE)?);
+    match file_conflict(rt, arguments, args.names()) {
+        Some(why) => Err(conflict(rt.alloc(), why)?),
+        None => Ok(args),
     }
-    Ok(args)
 }

@@ -19,6 +19,19 @@ impl NamePlace {
     }
 }
 
+/// The files that a program's words name.
+#[derive(Clone, Copy, Debug, PartialEq, Eq)]
+pub struct FileNames {
+    /// Where the name of the script stands, or none for standard input.
+    pub script: Option<NamePlace>,
+    /// Where the name of the listing stands that is loaded first, or none.
+    pub load: Option<NamePlace>,
+    /// Where the name of the file stands that the listing is saved to, or none.
+    pub save: Option<NamePlace>,
+    /// Where the name of the file stands that the journal is written to, or none.
+    pub journal: Option<NamePlace>,
+}
+
 /// The version of both programs.
 pub(crate) const VERSION: &str = "0.1.0";
 
@@ -29,26 +42,43 @@ pub(crate) fn file_word<'a>(alloc: Global) -> Arg<'a> {
     )
 }
 
+// A word for a file, with its help.
+fn name_word<'a>(alloc: Global, word: &'a str, value: &'a str, help: &'a str) -> Arg<'a> {
+    Arg::new(alloc, word)
+        .long(word)
+        .action(ArgAction::Set)
+        .value_name(value)
+        .help(help)
+}
+
 /// The word for a listing that is loaded first.
 pub(crate) fn load_word<'a>(alloc: Global) -> Arg<'a> {
-    Arg::new(alloc, "load")
-        .long("load")
-        .action(ArgAction::Set)
-        .value_name("LISTING")
-        .help(
-            "Start from this listing, ours or in ZWR form; if a line of it is refused, nothing runs",
-        )
+    name_word(
+        alloc,
+        "load",
+        "LISTING",
+        "Start from this listing, ours or in ZWR form",
+    )
+}
+
+/// The word for the file that the listing is saved to.
+pub(crate) fn save_word<'a>(alloc: Global) -> Arg<'a> {
+    name_word(
+        alloc,
+        "save",
+        "LISTING",
+        "Put the listing in this file at the end",
+    )
 }
 
 /// The word for the file that the journal is written to.
 pub(crate) fn journal_word<'a>(alloc: Global) -> Arg<'a> {
-    Arg::new(alloc, "journal")
-        .long("journal")
-        .action(ArgAction::Set)
-        .value_name("JOURNAL")
-        .help(
-            "At the end write to this file, over what it held, what was done, as a script that leaves the same listing",
-        )
+    name_word(
+        alloc,
+        "journal",
+        "JOURNAL",
+        "Put what was done in this file at the end,{n}as a script that leaves the same listing",
+    )
 }
 
 /// The word that leaves out the listing.
@@ -56,7 +86,7 @@ pub(crate) fn no_listing_word<'a>(alloc: Global) -> Arg<'a> {
     Arg::new(alloc, "no-listing")
         .long("no-listing")
         .action(ArgAction::SetTrue)
-        .help("Print replies only, without -- and the listing")
+        .help("Print replies only, without -- and listing")
 }
 
 /// The word that asks for refused lines on standard error, with its help.
@@ -72,9 +102,7 @@ pub(crate) fn stats_word<'a>(alloc: Global) -> Arg<'a> {
     Arg::new(alloc, "stats")
         .long("stats")
         .action(ArgAction::SetTrue)
-        .help(
-            "Print at the end how many nodes, versions, units and bytes there are, on standard error",
-        )
+        .help("Print at the end what is held, in numbers")
 }
 
 /// The arguments as texts, with each sequence that isn't UTF-8 replaced.
@@ -125,27 +153,22 @@ pub(crate) fn load_of(matches: &ArgMatches<'_>, arguments: &[String]) -> Option<
     value_place(arguments, "--load", "--load=", name)
 }
 
+/// Where the name of the file stands that the listing is saved to, or none.
+pub(crate) fn save_of(matches: &ArgMatches<'_>, arguments: &[String]) -> Option<NamePlace> {
+    let name = matches.get_str("save")?;
+    value_place(arguments, "--save", "--save=", name)
+}
+
 /// Where the name of the file stands that the journal is written to, or none.
 pub(crate) fn journal_of(matches: &ArgMatches<'_>, arguments: &[String]) -> Option<NamePlace> {
     let name = matches.get_str("journal")?;
     value_place(arguments, "--journal", "--journal=", name)
 }
 
-/// What is said where the journal would be written to a file that is read or printed to.
-pub(crate) const IN_USE: &str = "'--journal <JOURNAL>' cannot be a file that is read or printed to";
-
 /// Where the name of the script's file stands, or none for standard input.
 pub(crate) fn file_place(file: Option<usize>) -> Option<NamePlace> {
     match file {
         Some(argument) => Some(NamePlace { argument, from: 0 }),
         None => None,
-    }
-}
-
-/// Whether the name of a file that is read, if there is one, is this. Names are told apart by their bytes.
-pub(crate) fn is_read(arguments: &[Vec<u8>], place: Option<NamePlace>, name: &[u8]) -> bool {
-    match place {
-        Some(place) => place.name_in(arguments) == Some(name),
-        None => false,
     }
 }

@@ -6,3 +6,4 @@ pub mod Runs
 pub mod Stands
 pub mod Stopped
 pub mod Refused
+pub mod Replies

@@ -24,13 +24,14 @@ use Rattle.std.specs.Io.KnownBytes.{Appends}
 use Rattle.bstr.specs.Find.{IsFirstByte, is_byte}
 use Rattle.script_run.specs.Lines.{nonempty_line, lines_of, has_no_end, AreLinesBefore}
 use Rattle.script_run.proofs.Cut.{end_of, first_line, no_end, joined_line, has_no_end-append, none_before, line_before, lines_before}
-use Rattle.script_run.specs.Output.{Answer, IsReplyDue, IsAnswer, AreAnswers, told_by, left_by, exact_reply, exact_answers, ends_session, left_open, halts_of, left_at_end, text_of, with_reply, noted, ending}
+use Rattle.script_run.specs.Output.{Answer, IsReplyDue, IsAnswer, AreAnswers, told_by, left_by, exact_reply, exact_answers, ends_session, accepted_job, left_open, halts_of, left_at_end, text_of, with_reply, noted, ending}
 use Rattle.script_run.proofs.Outcomes.{noted-none, noted-one, noted-then}
+use Rattle.script_run.specs.Replies.{IsGathered, IsLost}
 use Rattle.script_run.specs.Runs.{Ran, Broke, RanFront, BrokeFront, RanEnd, BrokeEnd}
 use Rattle.script_run.specs.declared.answers.Script.{Script}
 
-one-text : (line : List ℕ) (reply : Reply) (job : Option ℕ) (old : Script) (out : List ℕ) → job ≡ job_of_line line → out ≡ old.out.items ++ reply_text job reply → out ≡ old.out.items ++ text_of ((line, reply) ∷ [])
-one-text line reply job old out j t = t ∙ ap (λ (k : Option ℕ). old.out.items ++ reply_text k reply) j ∙ ap (λ (ts : List ℕ). old.out.items ++ ts) (sym (append-nil _))
+one-text : (line : List ℕ) (reply : Reply) (out text : List ℕ) → text ≡ out ++ reply_text (job_of_line line) reply → text ≡ out ++ text_of ((line, reply) ∷ [])
+one-text line reply out text t = t ∙ ap (λ (ts : List ℕ). out ++ ts) (sym (append-nil _))
 
 -- a line's answer keeps the machine good
 due-good : (s t : Machine) (asked : Result (ℕ × Command) Refusal) (reply : Reply) → IsReplyDue s asked reply → t ≡ told_by asked reply s → IsGood s → IsGood t
@@ -45,34 +46,43 @@ answered-good : (s t : Machine) (line : List ℕ) (reply : Reply) → IsAnswer s
 answered-good s t line reply (inl due) left good = due-good s t (reading_of line) reply due left good
 answered-good s t line reply (inr memory) left good = none-told s t (reading_of line) reply memory.0 left good
 
--- one line was answered, and its reply gathered
-pub Ran-one : (line : List ℕ) (reply : Reply) (job : Option ℕ) (old new : Script) (before now : Option (List ℕ)) (out : List ℕ) → job ≡ job_of_line line → IsAnswer old.core.machine line reply → new.core.machine ≡ told_by (reading_of line) reply old.core.machine
-    → out ≡ old.out.items ++ reply_text job reply → WritesFront before now out new.out.items → new.outcome ≡ with_reply reply old.outcome → new.jobs ≡ open_after job (ends_session line reply) old.jobs → Ran (line ∷ []) old new before now
-Ran-one line reply job old new before now out j a u t p r o = record {
-  answers = (line, reply) ∷ [];
-  of_lines = refl;
-  each = (a, tt);
-  machine = u;
-  passes = subst (λ (ts : List ℕ). WritesFront before now ts new.out.items) (one-text line reply job old out j t) p;
-  outcome = r ∙ noted-one (line, reply) old.outcome;
-  jobs = o ∙ ap (λ (k : Option ℕ). open_after k (ends_session line reply) old.jobs) j;
-  good = answered-good old.core.machine new.core.machine line reply a u;
-}
-
--- a line was answered, and of its reply's text a beginning was written
-pub Broke-one : (line : List ℕ) (reply : Reply) (job : Option ℕ) (old : Script) (core : Machine) (before now : Option (List ℕ)) (out : List ℕ) → job ≡ job_of_line line → IsAnswer old.core.machine line reply
-    → core ≡ told_by (reading_of line) reply old.core.machine → out ≡ old.out.items ++ reply_text job reply → WritesBeginning before now out → Broke (line ∷ []) old before now
-Broke-one line reply job old core before now out j a u t w = record {
-  answers = (line, reply) ∷ [];
-  of_lines = refl;
-  each = (a, tt);
-  good = answered-good old.core.machine (told_by (reading_of line) reply old.core.machine) line reply a refl;
-  begun = subst (WritesBeginning before now) (one-text line reply job old out j t) w;
-}
-
 -- nothing was written
 pub nothing_begun : (a : Option (List ℕ)) (x : List ℕ) → WritesBeginning a a x
 nothing_begun a x = WritesBeginning-longer a a [] x (WritesBeginning-all a a [] (Appends-nothing a))
+
+-- one line was answered, its reply gathered, and what was gathered perhaps written
+pub Ran-one : (line : List ℕ) (old between new : Script) (before now : Option (List ℕ)) → IsGathered line old.core.machine old.out.items old.outcome old.jobs between
+    → new.core.machine ≡ between.core.machine → WritesFront before now between.out.items new.out.items → new.outcome ≡ between.outcome → new.jobs ≡ between.jobs → Ran (line ∷ []) old new before now
+Ran-one line old between new before now g u p r o = record {
+  answers = (line, g.reply) ∷ [];
+  of_lines = refl;
+  each = (g.answer, tt);
+  machine = u ∙ g.machine;
+  passes = subst (λ (ts : List ℕ). WritesFront before now ts new.out.items) (one-text line g.reply old.out.items between.out.items g.text) p;
+  outcome = r ∙ g.outcome ∙ noted-one (line, g.reply) old.outcome;
+  jobs = o ∙ g.jobs;
+  good = answered-good old.core.machine new.core.machine line g.reply g.answer (u ∙ g.machine);
+}
+
+-- a line was answered, and of what is gathered a beginning was written
+pub Broke-one : (line : List ℕ) (old between : Script) (before now : Option (List ℕ)) → IsGathered line old.core.machine old.out.items old.outcome old.jobs between → WritesBeginning before now between.out.items → Broke (line ∷ []) old before now
+Broke-one line old between before now g w = record {
+  answers = (line, g.reply) ∷ [];
+  of_lines = refl;
+  each = (g.answer, tt);
+  good = answered-good old.core.machine (told_by (reading_of line) g.reply old.core.machine) line g.reply g.answer refl;
+  begun = subst (WritesBeginning before now) (one-text line g.reply old.out.items between.out.items g.text) w;
+}
+
+-- a line was answered, and its reply found no memory
+pub Broke-lost : (line : List ℕ) (old new : Script) (a : Option (List ℕ)) → IsLost line old.core.machine old.out.items new → Broke (line ∷ []) old a a
+Broke-lost line old new a l = record {
+  answers = (line, l.reply) ∷ [];
+  of_lines = refl;
+  each = (l.answer, tt);
+  good = answered-good old.core.machine (told_by (reading_of line) l.reply old.core.machine) line l.reply l.answer refl;
+  begun = nothing_begun a (old.out.items ++ text_of ((line, l.reply) ∷ []));
+}
 
 -- an empty line has no answer
 pub Ran-none : (old new : Script) (a : Option (List ℕ)) → new.core.machine ≡ old.core.machine → new.out.items ≡ old.out.items → new.outcome ≡ old.outcome → new.jobs ≡ old.jobs → Ran [] old new a a
@@ -111,7 +121,7 @@ left-then s t xs ys e = ap (left_by ys) e ∙ sym (left-append xs ys s)
 -- which jobs are open then
 pub open-append : (xs ys : List Answer) (jobs : List ℕ) → left_open (xs ++ ys) jobs ≡ left_open ys (left_open xs jobs)
 open-append [] ys jobs = refl
-open-append (x ∷ xs) ys jobs = open-append xs ys (open_after (job_of_line x.0) (ends_session x.0 x.1) jobs)
+open-append (x ∷ xs) ys jobs = open-append xs ys (open_after (accepted_job (reading_of x.0) x.1) (ends_session x.0 x.1) jobs)
 
 pub open-then : (jobs now : List ℕ) (xs ys : List Answer) → now ≡ left_open xs jobs → left_open ys now ≡ left_open (xs ++ ys) jobs
 open-then jobs now xs ys e = ap (left_open ys) e ∙ sym (open-append xs ys jobs)

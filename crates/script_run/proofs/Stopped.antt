@@ -26,6 +26,7 @@ use Rattle.script_run.specs.Faults.{fault_of}
 use Rattle.script_run.specs.Lines.{nonempty_line, lines_of, has_no_end}
 use Rattle.script.specs.Line.{reading_of}
 use Rattle.script_run.specs.Output.{Answer, IsAnswer, AreAnswers, told_by, left_by, left_open, left_at_end, halts_of, text_of, outcome_of, ending, IsBegun, IsEndingFront, HasKept}
+use Rattle.script_run.specs.Replies.{IsLost}
 use Rattle.script_run.specs.Runs.{Ran, RanFront, HasRead, Stopped, StoppedFront, EndedFront, StoppedEnd, HasGathered}
 use Rattle.script_run.specs.declared.answers.Script.{Script}
 use Rattle.script_run.specs.laws.Lines.{last_line}
@@ -55,18 +56,17 @@ is_memory {T = T} (Err f) e h k = of_memory e (sym h ∙ error_is {T = T} f Memo
 -- ---- lines
 
 -- a line was done, and its reply found no memory
-pub Stopped-one : (line : List ℕ) (reply : Reply) (old new : Script) (a : Option (List ℕ)) → IsAnswer old.core.machine line reply → new.core.machine ≡ told_by (reading_of line) reply old.core.machine → new.out.items ≡ old.out.items
-    → Stopped (line ∷ []) old new a a
-Stopped-one line reply old new a h u o = record {
+pub Stopped-one : (line : List ℕ) (old new : Script) (a : Option (List ℕ)) → IsLost line old.core.machine old.out.items new → Stopped (line ∷ []) old new a a
+Stopped-one line old new a l = record {
   answers = [];
-  lost = (line, reply) ∷ [];
+  lost = (line, l.reply) ∷ [];
   unread = [];
   few = omega arith;
   of_lines = refl;
-  each = (h, tt);
-  machine = u;
-  good = λ l. l;
-  passes = subst (λ (ts : List ℕ). WritesFront a a ts new.out.items) (o ∙ sym (append-nil old.out.items)) (Passes-none a new.out.items);
+  each = (l.answer, tt);
+  machine = l.machine;
+  good = λ h. h;
+  passes = subst (λ (ts : List ℕ). WritesFront a a ts new.out.items) (l.text ∙ sym (append-nil old.out.items)) (Passes-none a new.out.items);
 }
 
 -- none of the lines was begun

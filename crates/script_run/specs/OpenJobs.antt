@@ -1,4 +1,4 @@
--- Which jobs have a session that is open, in order of first appearance. Source: docs/RULES.md, "Jobs".
+-- Which jobs have a session that is open, in order of their first accepted lines. Source: docs/RULES.md, "Jobs".
 use Rattle.std.specs.Prelude.{◌≡◌, ◌<◌, ◌≤◌, ◌+◌, ℕ, Bool, false, not, List, [], ◌∷◌, ◌++◌, ◌==◌, length, get_or, Option, None, Some, if◌then◌else◌}
 use Rattle.std.specs.List.{filter, list_any}
 
@@ -6,7 +6,7 @@ use Rattle.std.specs.List.{filter, list_any}
 abbrev pub is_open : ℕ → List ℕ → Bool
 is_open job jobs = list_any (λ j. j == job) jobs
 
--- the job is open, from its first line on
+-- the job is open, from its first accepted line on
 abbrev pub has_joined : ℕ → List ℕ → List ℕ
 has_joined job jobs = if is_open job jobs then jobs else jobs ++ job ∷ []
 
@@ -14,7 +14,7 @@ has_joined job jobs = if is_open job jobs then jobs else jobs ++ job ∷ []
 abbrev pub without_job : ℕ → List ℕ → List ℕ
 without_job job jobs = filter (λ j. not (j == job)) jobs
 
--- after a line of the job, if it has one, that ended the session or didn't
+-- after an accepted line of the job, if there was one, that ended the session or didn't
 abbrev pub open_after : Option ℕ → Bool → List ℕ → List ℕ
 open_after None ended jobs = jobs
 open_after (Some job) ended jobs = if ended then without_job job jobs else has_joined job jobs

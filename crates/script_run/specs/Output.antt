@@ -1,6 +1,6 @@
 -- What a script writes.
 -- Read IsOutput, output_of, Wrote, IsBegun, HasAnsweredLines and HasKept; the contract of run_script cites these.
-use Rattle.std.specs.Prelude.{◌≡◌, ◌⊎◌, ⊤, ℕ, Bool, true, false, not, ◌&&◌, ◌||◌, List, [], ◌∷◌, ◌++◌, map, Option, Result, Ok, Err, codes}
+use Rattle.std.specs.Prelude.{◌≡◌, ◌⊎◌, ⊤, ℕ, Bool, true, false, not, ◌&&◌, ◌||◌, List, [], ◌∷◌, ◌++◌, map, Option, None, Some, Result, Ok, Err, codes, if◌then◌else◌}
 use Rattle.std.specs.List.{flat_map, list_any}
 use Rattle.std.specs.Io.KnownBytes.{Appends}
 use Rattle.refusal.specs.declared.Refusal.{Refusal}
@@ -105,10 +105,15 @@ asks_halt (Err refusal) = false
 abbrev pub ends_session : List ℕ → Reply → Bool
 ends_session line reply = asks_halt (reading_of line) && not (is_refused reply)
 
+-- the job of an accepted line: it is read as a command, for which memory wasn't refused
+abbrev pub accepted_job : Result (ℕ × Command) Refusal → Reply → Option ℕ
+accepted_job (Ok step) reply = if is_out_of_memory reply then None else Some step.0
+accepted_job (Err refusal) reply = None
+
 -- the jobs that are open after lines and their replies, those before them given
 abbrev pub left_open : List Answer → List ℕ → List ℕ
 left_open [] jobs = jobs
-left_open (a ∷ answers) jobs = left_open answers (open_after (job_of_line a.0) (ends_session a.0 a.1) jobs)
+left_open (a ∷ answers) jobs = left_open answers (open_after (accepted_job (reading_of a.0) a.1) (ends_session a.0 a.1) jobs)
 
 -- each job's HALT, in order
 abbrev pub halts_of : List ℕ → List (ℕ × Command)

@@ -1,20 +1,16 @@
-//! A line, its reply, and the reply's text.
-ghost use Rattle.std.specs.Prelude.{◌≡◌, ◌++◌, ◌∷◌, [], OnOk, OnErr, IsErrOf, ◌&&◌, not};
-ghost use Rattle.script.specs.Line.{reading_of, job_of_line};
+//! A line, its reply's text, and what is due after it.
+ghost use Rattle.std.specs.Prelude.{◌≡◌, ◌∷◌, [], OnOk, OnErr, IsErrOf};
 ghost use Rattle.listing.specs.Bytes.{IsOneMore, WritesBeginning};
 ghost use Rattle.script_run.specs.Lines.{nonempty_line};
-ghost use Rattle.script_run.specs.Output.{ends_session, is_halt as is_halt_command, IsAnswer, told_by};
 ghost use Rattle.script_run.specs.Runs.{Ran, Broke, Stopped};
 
+use crate::gathering::gather_line;
 use crate::open_jobs::OpenJobs;
-use crate::outcome::is_refusal;
 use crate::upkeep::{Due, keep_up};
 use crate::{Outcome, RunLog};
-use collation::Job;
-use command::{Command, Reply};
 use job_core::JobCore;
 use listing::{Counted, ListingFault, WriteFault};
-use script::{Drafts, read_line, write_reply};
+use script::Drafts;
 use std::alloc::Global;
 use std::io::Write;
 
@@ -30,49 +26,6 @@ pub(crate) struct Script {
     pub(crate) outcome: Outcome,
     pub(crate) lines: u64,
     pub(crate) due: Due,
-}
-
-fn is_halt(command: &Command) -> bool
-    ensures { result ≡ is_halt_command command.now }
-{
-    matches!(command, Command::Halt)
-}
-
-fn is_done(halts: bool, refused: bool) -> bool
-    ensures { result ≡ (halts && not refused) }
-{
-    halts && !refused
-}
-
-// Reads a line and does it. Answers its job, whether the job's session ended, and the reply.
-#[tactic(auto, using(crate::proofs::Refused::refused_answer))]
-fn answer_line(
-    alloc: Global,
-    core: &mut JobCore,
-    drafts: &mut Drafts,
-    line: &[u8],
-) -> (Option<Job>, bool, Reply)
-    ensures job { result.0 ≡ job_of_line line.now }
-    ensures ended { result.1 ≡ ends_session line.now result.2 }
-    ensures answer { IsAnswer core.old.machine line.now result.2 }
-    ensures machine { core.new.machine ≡ told_by (reading_of line.now) result.2 core.old.machine }
-{
-    match read_line(alloc, line, drafts) {
-        Ok((job, command)) => {
-            let halts = is_halt(&command);
-            let reply = core.step(job, command);
-            let ended = is_done(halts, is_refusal(&reply));
-            (Some(job), ended, reply)
-        }
-        Err(fault) => (fault.job, false, Reply::Refused(fault.refusal)),
-    }
-}
-
-// Tells the log of a refusal.
-fn log_reply(log: &mut impl RunLog, number: u64, line: &[u8], reply: &Reply) {
-    if let Reply::Refused(refusal) = reply {
-        log.refused(number, line, *refusal);
-    }
 }
 
 // The reply is gathered, and what is gathered written once it is enough. Then come the collector's pass and a
@@ -91,11 +44,7 @@ fn run_line<W: Write>(
     ensures memory { IsErrOf result ListingFault.Memory → writer.new.failures ≡ writer.old.failures }
     ensures stopped { IsErrOf result ListingFault.Memory → Stopped (line.now ∷ []) script.old script.new (W.contents writer.old.inner) (W.contents writer.new.inner) }
 {
-    let (job, ended, reply) = answer_line(alloc, &mut script.core, &mut script.drafts, line);
-    script.jobs.note_line(&job, ended);
-    log_reply(log, script.lines, line, &reply);
-    script.outcome = script.outcome.with(&reply);
-    write_reply(job, &reply, &mut script.out)?;
+    gather_line(alloc, script, line, log)?;
     writer.write_full(&mut script.out)?;
     keep_up(&mut script.due, &mut script.core);
     Ok(())

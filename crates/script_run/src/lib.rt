@@ -6,7 +6,8 @@
 //! text of the replies, `--`, and the listing of the map that the journal leaves. After a fault what was written is a
 //! beginning of such a text.
 //!
-//! A job is open from its first line that names it until a HALT that is done; its next line opens it anew.
+//! A job is open from its first accepted line, one that is read as a command and not refused memory, until a HALT that is
+//! done; its next accepted line opens it anew.
 //!
 //! Input is read in pieces. The whole lines of a piece are run and their replies written before the next read,
 //! so that a person or a program at the other end of a pipe gets its replies at once; where a read fails, just the
@@ -18,8 +19,8 @@
 //! (`upkeep.rt`). Both leave the machine, so no clause names them. Nor does one name a log, which is told of lines and
 //! may ask to be shown the core after one (`log.rt`): what is written is promised alike for each.
 //!
-//! Read `specs/Lines.antt`, `specs/OpenJobs.antt`, `specs/Output.antt`, then `outcome.rt`, `answers.rt`,
-//! `open_jobs.rt`, `upkeep.rt`, `lines.rt`, `run.rt`. Not promised: that memory is there; how the text is cut into
+//! Read `specs/Lines.antt`, `specs/OpenJobs.antt`, `specs/Output.antt`, then `outcome.rt`, `gathering.rt`,
+//! `answers.rt`, `open_jobs.rt`, `upkeep.rt`, `lines.rt`, `run.rt`. Not promised: that memory is there; how the text is cut into
 //! writes; what a log is told.
 #![tactic(auto)]
 
@@ -32,6 +33,7 @@ pub use upkeep::Upkeep;
 
 mod answers;
 mod fault;
+mod gathering;
 mod laws;
 mod lines;
 mod log;

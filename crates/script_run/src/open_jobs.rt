@@ -1,4 +1,4 @@
-//! The jobs whose sessions are open, in order of first appearance.
+//! The jobs whose sessions are open, in order of their first accepted lines.
 ghost use Rattle.std.specs.Prelude.{◌≡◌, ◌==◌, [], IfOk, OnOk};
 ghost use Rattle.std.specs.List.{list_any};
 ghost use Rattle.command.specs.declared.request.Command.TheVariants.{Halt};
@@ -45,7 +45,7 @@ impl OpenJobs {
         Ok(OpenJobs { order, flags })
     }
 
-    // The jobs in order of first appearance.
+    // The jobs in order of their first accepted lines.
     pub(crate) fn as_slice(&self) -> &[Job]
         ensures { result.now ≡ self.now }
     {
@@ -76,8 +76,8 @@ impl OpenJobs {
         }
     }
 
-    // After a line of the job: its session is open, unless it has ended with the line. A line whose job can't be read
-    // opens none.
+    // After an accepted line of the job: its session is open, unless it has ended with the line. A line that isn't
+    // accepted opens none.
     pub(crate) fn note_line(&mut self, job: &Option<Job>, ended: bool)
         ensures { self.new ≡ open_after job.now ended self.old }
     {

@@ -28,7 +28,7 @@ pub(crate) fn is_refusal(reply: &Reply) -> bool
     matches!(reply, Reply::Refused(_))
 }
 
-fn is_wanting(reply: &Reply) -> bool
+pub(crate) fn is_wanting(reply: &Reply) -> bool
     ensures { result ≡ is_out_of_memory reply.now }
 {
     matches!(reply, Reply::Refused(Refusal::OutOfMemory))

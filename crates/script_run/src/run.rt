@@ -305,9 +305,10 @@ pub fn run_with<R: Read, W: Write>(
 }
 
 /// Runs a script: reads lines to the end of input, does each in its turn and writes a reply to each. Then it halts the
-/// open jobs, in order of first appearance, and writes the listing. A job is open from its first line until a HALT that
-/// is done; a HALT at the end that a full journal refuses (`StampsUsedUp`) is passed over. Replies are written before
-/// the next read, and earlier where 16,384 bytes of them are gathered.
+/// open jobs, in order of their first accepted lines, and writes the listing. A job is open from its first accepted
+/// line, which is read as a command and not refused memory, until a HALT that is done; a HALT at the end that a full
+/// journal refuses (`StampsUsedUp`) is passed over. Replies are written before the next read, and earlier where 16,384
+/// bytes of them are gathered.
 ///
 /// After as many replies as `upkeep` says the collector passes over all keys, and a checkpoint drops the journal's
 /// beginning. No reply and no listing depends on them, but for what fits into memory; one that finds none is left out.

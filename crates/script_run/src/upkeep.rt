@@ -1,5 +1,6 @@
 //! When the collector passes over the store and checkpoints are taken, and both.
-ghost use Rattle.std.specs.Prelude.{◌≡◌, ◌==◌, ◌-◌, if◌then◌else◌};
+ghost use Rattle.std.specs.Prelude.{◌≡◌, ◌==◌, false};
+ghost use Rattle.script_run.specs.Upkeep.{counted, counting};
 
 use job_core::JobCore;
 
@@ -36,7 +37,7 @@ struct Countdown {
 impl Countdown {
     // Before the first line.
     fn new(every: u64) -> Countdown
-        ensures { result ≡ record { every = every; left = every } }
+        ensures { result ≡ counting every }
     {
         Countdown { every, left: every }
     }
@@ -44,7 +45,7 @@ impl Countdown {
     // Counts a printed line, and answers whether something is due after it.
     fn count_line(&mut self) -> bool
         ensures due { result ≡ (self.old.left == 1) }
-        ensures next { self.new ≡ record self.old { left = if self.old.left == 1 then self.old.every else self.old.left - 1 } }
+        ensures next { self.new ≡ counted self.old }
     {
         match self.left {
             0 => false,
@@ -69,7 +70,9 @@ pub(crate) struct Due {
 
 impl Due {
     /// Before the first line.
-    pub(crate) fn new(upkeep: Upkeep) -> Due {
+    pub(crate) fn new(upkeep: Upkeep) -> Due
+        ensures { result ≡ record { collector = counting upkeep.collect_every; checkpoint = counting upkeep.checkpoint_every } }
+    {
         Due {
             collector: Countdown::new(upkeep.collect_every),
             checkpoint: Countdown::new(upkeep.checkpoint_every),
@@ -79,7 +82,8 @@ impl Due {
 
 // One whole pass of the collector, where one is due.
 fn collect_when_due(countdown: &mut Countdown, core: &mut JobCore)
-    ensures { core.new ≡ core.old }
+    ensures core { core.new ≡ core.old }
+    ensures next { countdown.new ≡ counted countdown.old }
 {
     if countdown.count_line() {
         let _ = core.collect(usize::MAX);
@@ -88,17 +92,22 @@ fn collect_when_due(countdown: &mut Countdown, core: &mut JobCore)
 
 // A checkpoint, where one is due.
 fn checkpoint_when_due(countdown: &mut Countdown, core: &mut JobCore)
-    ensures { core.new.machine ≡ core.old.machine }
+    ensures machine { core.new.machine ≡ core.old.machine }
+    ensures only_when_due { (countdown.old.left == 1) ≡ false → core.new ≡ core.old }
+    ensures next { countdown.new ≡ counted countdown.old }
 {
     if countdown.count_line() {
         let _ = core.checkpoint();
     }
 }
 
-/// After a printed line: a pass of the collector and a checkpoint, where they are due. The machine stays. What finds no
-/// memory is passed over: what it would have dropped is kept until a later one.
+/// After a printed line: a pass of the collector and a checkpoint, where they are due. The machine stays, and where no
+/// checkpoint is due the base does. What finds no memory is passed over: what it would have dropped is kept until a
+/// later one.
 pub(crate) fn keep_up(due: &mut Due, core: &mut JobCore)
-    ensures { core.new.machine ≡ core.old.machine }
+    ensures machine { core.new.machine ≡ core.old.machine }
+    ensures only_when_due { (due.old.checkpoint.left == 1) ≡ false → core.new ≡ core.old }
+    ensures next { due.new ≡ record { collector = counted due.old.collector; checkpoint = counted due.old.checkpoint } }
 {
     collect_when_due(&mut due.collector, core);
     checkpoint_when_due(&mut due.checkpoint, core);

@@ -1,0 +1,283 @@
+//! A line is done, and its reply gathered.
+ghost use Rattle.std.specs.Prelude.{◌≡◌, List, ℕ, None, Some, Ok, Err, false, OnOk, OnErr, ◌&&◌, not, if◌then◌else◌};
+ghost use Rattle.command.specs.declared.request.Command.TheVariants.{Access};
+ghost use Rattle.command.specs.declared.request.Reply.TheVariants.{Refused};
+ghost use Rattle.command.specs.declared.access.DataCommand.TheVariants.{Set, Look as look};
+ghost use Rattle.command.specs.declared.access.Look.TheVariants.{Get};
+ghost use Rattle.journal.specs.Story.{Machine, transaction_of};
+ghost use Rattle.serial.specs.Memory.{is_out_of_memory};
+ghost use Rattle.script.specs.Asked.{IsAsked};
+ghost use Rattle.script.specs.Line.{IsReading, job_of_line};
+ghost use Rattle.script.specs.Sentence.{SpellsSome, value_in};
+ghost use Rattle.script_run.specs.Output.{is_halt as is_halt_command};
+ghost use Rattle.script_run.specs.Replies.{IsAnswered, IsGathered, IsLost};
+
+use crate::RunLog;
+use crate::answers::Script;
+use crate::outcome::{is_refusal, is_wanting};
+use collation::Job;
+use command::{Command, Reply};
+use job_core::JobCore;
+use key_codec::Key;
+use refusal::Refusal;
+use script::{
+    DataSentence, Drafts, LineFault, Sentence, finish_request, key_of_get, key_of_set,
+    read_request, write_done, write_got, write_reply,
+};
+use std::alloc::{AllocError, Global};
+
+fn is_halt(command: &Command) -> bool
+    ensures { result ≡ is_halt_command command.now }
+{
+    matches!(command, Command::Halt)
+}
+
+fn is_done(halts: bool, refused: bool) -> bool
+    ensures { result ≡ (halts && not refused) }
+{
+    halts && !refused
+}
+
+// The job, where its command wasn't refused memory.
+fn accepted(job: Job, reply: &Reply) -> Option<Job>
+    ensures { result ≡ (if is_out_of_memory reply.now then None else Some job) }
+{
+    if is_wanting(reply) { None } else { Some(job) }
+}
+
+// Tells the log of a refusal.
+#[inline(always)]
+fn log_reply(log: &mut impl RunLog, number: u64, line: &[u8], reply: &Reply) {
+    if let Reply::Refused(refusal) = reply {
+        log.refused(number, line, *refusal);
+    }
+}
+
+// Notes a line's job, where the line is accepted, and how the script goes, tells the log, and gathers the reply.
+#[inline(always)]
+fn gather_reply(
+    script: &mut Script,
+    job: Option<Job>,
+    accepted: Option<Job>,
+    ended: bool,
+    reply: &Reply,
+    line: &[u8],
+    log: &mut impl RunLog,
+) -> Result<(), AllocError>
+    requires { job ≡ job_of_line line.now }
+    ensures gathered { OnOk result ((start : Machine) → IsAnswered line.now start script.old.core.machine accepted ended reply.now → IsGathered line.now start script.old.out.items script.old.outcome script.old.jobs script.new) }
+    ensures lost { OnErr result ((start : Machine) → IsAnswered line.now start script.old.core.machine accepted ended reply.now → IsLost line.now start script.old.out.items script.new) }
+{
+    script.jobs.note_line(&accepted, ended);
+    log_reply(log, script.lines, line, reply);
+    script.outcome = script.outcome.with(reply);
+    write_reply(job, reply, &mut script.out)
+}
+
+// Gathers a refusal.
+#[inline(never)]
+fn gather_refusal(
+    script: &mut Script,
+    job: Option<Job>,
+    accepted: Option<Job>,
+    refusal: Refusal,
+    line: &[u8],
+    log: &mut impl RunLog,
+) -> Result<(), AllocError>
+    requires { job ≡ job_of_line line.now }
+    ensures gathered { OnOk result ((start : Machine) → IsAnswered line.now start script.old.core.machine accepted false (Refused refusal) → IsGathered line.now start script.old.out.items script.old.outcome script.old.jobs script.new) }
+    ensures lost { OnErr result ((start : Machine) → IsAnswered line.now start script.old.core.machine accepted false (Refused refusal) → IsLost line.now start script.old.out.items script.new) }
+{
+    let reply = Reply::Refused(refusal);
+    gather_reply(script, job, accepted, false, &reply, line, log)
+}
+
+// A line that is refused as it is read.
+fn gather_unread(
+    script: &mut Script,
+    fault: LineFault,
+    line: &[u8],
+    log: &mut impl RunLog,
+) -> Result<(), AllocError>
+    requires { IsReading line.now (Err fault) }
+    ensures gathered { OnOk result (IsGathered line.now script.old.core.machine script.old.out.items script.old.outcome script.old.jobs script.new) }
+    ensures lost { OnErr result (IsLost line.now script.old.core.machine script.old.out.items script.new) }
+{
+    gather_refusal(script, fault.job, None, fault.refusal, line, log)
+}
+
+// Does what a line asks, which is read as far as its sentence. Answers the job if the line is accepted, whether the job's
+// session ended, and the reply.
+#[tactic(auto, using(crate::proofs::Replies::of_step, crate::proofs::Replies::of_fault))]
+fn answer_line(
+    alloc: Global,
+    core: &mut JobCore,
+    drafts: &mut Drafts,
+    job: Job,
+    sentence: Sentence,
+) -> (Option<Job>, bool, Reply)
+    requires { SpellsSome drafts.old sentence }
+    ensures { (line : List ℕ) → IsAsked line drafts.old job sentence → IsAnswered line core.old.machine core.new.machine result.0 result.1 result.2 }
+{
+    match finish_request(alloc, job, sentence, drafts) {
+        Ok(command) => {
+            let halts = is_halt(&command);
+            let reply = core.step(job, command);
+            let ended = is_done(halts, is_refusal(&reply));
+            (accepted(job, &reply), ended, reply)
+        }
+        Err(fault) => (None, false, Reply::Refused(fault.refusal)),
+    }
+}
+
+// A line that asks something else than a lone SET or a lone $GET.
+#[inline(always)]
+fn gather_answer(
+    alloc: Global,
+    script: &mut Script,
+    job: Job,
+    sentence: Sentence,
+    line: &[u8],
+    log: &mut impl RunLog,
+) -> Result<(), AllocError>
+    requires { IsAsked line.now script.old.drafts job sentence }
+    ensures gathered { OnOk result (IsGathered line.now script.old.core.machine script.old.out.items script.old.outcome script.old.jobs script.new) }
+    ensures lost { OnErr result (IsLost line.now script.old.core.machine script.old.out.items script.new) }
+{
+    let (accepted, ended, reply) = answer_line(
+        alloc,
+        &mut script.core,
+        &mut script.drafts,
+        job,
+        sentence,
+    );
+    gather_reply(script, Some(job), accepted, ended, &reply, line, log)
+}
+
+// A $GET of a job without a transaction. The reply is written from the value that the journal keeps.
+fn gather_got(
+    script: &mut Script,
+    job: Job,
+    key: &Key,
+    line: &[u8],
+    log: &mut impl RunLog,
+) -> Result<(), AllocError>
+    requires asked { IsReading line.now (Ok (job, Access (look (Get key.now None)))) }
+    requires outside { transaction_of job script.old.core.machine ≡ None }
+    ensures gathered { OnOk result (IsGathered line.now script.old.core.machine script.old.out.items script.old.outcome script.old.jobs script.new) }
+    ensures lost { OnErr result (IsLost line.now script.old.core.machine script.old.out.items script.new) }
+{
+    match script.core.get_lone(job, key) {
+        Ok(size) => {
+            script.jobs.note_line(&Some(job), false);
+            write_got(job, script.core.value_got(size), &mut script.out)
+        }
+        Err(refusal) => {
+            let accepted = accepted(job, &Reply::Refused(refusal));
+            gather_refusal(script, Some(job), accepted, refusal, line, log)
+        }
+    }
+}
+
+// A SET of a job without a transaction, whose value lies in the drafts.
+fn gather_done(
+    alloc: Global,
+    script: &mut Script,
+    job: Job,
+    key: &Key,
+    line: &[u8],
+    log: &mut impl RunLog,
+) -> Result<(), AllocError>
+    requires asked { IsReading line.now (Ok (job, Access (Set key.now (value_in script.old.drafts)))) }
+    requires outside { transaction_of job script.old.core.machine ≡ None }
+    ensures gathered { OnOk result (IsGathered line.now script.old.core.machine script.old.out.items script.old.outcome script.old.jobs script.new) }
+    ensures lost { OnErr result (IsLost line.now script.old.core.machine script.old.out.items script.new) }
+{
+    match script.core.set_lone(job, key, script.drafts.value_mut()) {
+        Ok(()) => {
+            script.jobs.note_line(&Some(job), false);
+            write_done(job, &mut script.out)
+        }
+        Err(refusal) => {
+            script.drafts.drop_value(alloc);
+            let accepted = accepted(job, &Reply::Refused(refusal));
+            gather_refusal(script, Some(job), accepted, refusal, line, log)
+        }
+    }
+}
+
+// A $GET of a job without a transaction, whose line is read as far as its sentence.
+fn gather_get(
+    alloc: Global,
+    script: &mut Script,
+    job: Job,
+    line: &[u8],
+    log: &mut impl RunLog,
+) -> Result<(), AllocError>
+    requires asked { IsAsked line.now script.old.drafts job (Sentence.Access DataSentence.Get) }
+    requires outside { transaction_of job script.old.core.machine ≡ None }
+    ensures gathered { OnOk result (IsGathered line.now script.old.core.machine script.old.out.items script.old.outcome script.old.jobs script.new) }
+    ensures lost { OnErr result (IsLost line.now script.old.core.machine script.old.out.items script.new) }
+{
+    match key_of_get(alloc, job, &mut script.drafts) {
+        Ok(key) => gather_got(script, job, &key, line, log),
+        Err(fault) => gather_unread(script, fault, line, log),
+    }
+}
+
+// So a SET.
+fn gather_set(
+    alloc: Global,
+    script: &mut Script,
+    job: Job,
+    line: &[u8],
+    log: &mut impl RunLog,
+) -> Result<(), AllocError>
+    requires asked { IsAsked line.now script.old.drafts job (Sentence.Access DataSentence.Set) }
+    requires outside { transaction_of job script.old.core.machine ≡ None }
+    ensures gathered { OnOk result (IsGathered line.now script.old.core.machine script.old.out.items script.old.outcome script.old.jobs script.new) }
+    ensures lost { OnErr result (IsLost line.now script.old.core.machine script.old.out.items script.new) }
+{
+    match key_of_set(alloc, job, &mut script.drafts) {
+        Ok(key) => gather_done(alloc, script, job, &key, line, log),
+        Err(fault) => gather_unread(script, fault, line, log),
+    }
+}
+
+// A line that is read as far as its sentence. A SET and a $GET without a default take the short way where their job has
+// no transaction.
+fn gather_asked(
+    alloc: Global,
+    script: &mut Script,
+    job: Job,
+    sentence: Sentence,
+    line: &[u8],
+    log: &mut impl RunLog,
+) -> Result<(), AllocError>
+    requires { IsAsked line.now script.old.drafts job sentence }
+    ensures gathered { OnOk result (IsGathered line.now script.old.core.machine script.old.out.items script.old.outcome script.old.jobs script.new) }
+    ensures lost { OnErr result (IsLost line.now script.old.core.machine script.old.out.items script.new) }
+{
+    let is_inside = script.core.is_inside(job);
+    match (sentence, is_inside) {
+        (Sentence::Access(DataSentence::Set), false) => gather_set(alloc, script, job, line, log),
+        (Sentence::Access(DataSentence::Get), false) => gather_get(alloc, script, job, line, log),
+        (sentence, _) => gather_answer(alloc, script, job, sentence, line, log),
+    }
+}
+
+// A line is done and its reply gathered. Where memory is refused for the reply's text the line may have been done.
+pub(crate) fn gather_line(
+    alloc: Global,
+    script: &mut Script,
+    line: &[u8],
+    log: &mut impl RunLog,
+) -> Result<(), AllocError>
+    ensures gathered { OnOk result (IsGathered line.now script.old.core.machine script.old.out.items script.old.outcome script.old.jobs script.new) }
+    ensures lost { OnErr result (IsLost line.now script.old.core.machine script.old.out.items script.new) }
+{
+    match read_request(alloc, line, &mut script.drafts) {
+        Ok(asked) => gather_asked(alloc, script, asked.0, asked.1, line, log),
+        Err(fault) => gather_unread(script, fault, line, log),
+    }
+}
