@@ -1,8 +1,26 @@
 /* Vorgushan for C: a database of M globals (trees of nodes) in memory. docs/LIBRARY.md is its page; the commands and
  * the words of M are in docs/RULES.md.
  *
+ *     vg_engine engine = VG_ENGINE_NONE;
+ *     vg_key key = VG_KEY_NONE;
+ *     vg_text subscripts[] = {{VG_TEXT("ann")}};
+ *     char value[64];
+ *     size_t length;
+ *     if (vg_new(&engine) != VG_DONE) return 1;
+ *     vg_line(&engine, VG_TEXT("1 SET ^Account(\"ann\")=100"), value, sizeof value, &length);   copies "1 ok\n"
+ *     vg_key_spell(&key, VG_TEXT("Account"), subscripts, 1);
+ *     vg_look(&engine, &key, value, sizeof value, &length);                                     copies "100"
+ *     vg_key_end(&key);
+ *     vg_end(&engine);
+ *
+ * In order: outcomes, engines, lines, the listing, upkeep, keys, data, walks, looks, locks, transactions.
+ *
  * An engine does the commands of up to 4,096 jobs, one call at a time. Callers on several threads hold a mutex of
- * their own round each call; two engines have nothing in common.
+ * their own round each call, also of one that only looks: each call takes the engine out and puts it back. Two engines
+ * have nothing in common.
+ *
+ * Reads by vg_get, vg_order and vg_query are commands, and stay in the journal until vg_checkpoint. Use vg_look and
+ * vg_walk where that isn't wanted.
  *
  * Every call returns an outcome: VG_DONE, a refusal (1 to 15; 16 to 18 come from no call here), or one of the library's
  * own (from 32). After a refusal the database is as it was. A call of a job, whose number is 1 to 4,096, may return
@@ -22,6 +40,15 @@
 #ifdef __cplusplus
 extern "C" {
 #endif
+
+/* The version of this header: 10,000 times its first number, 100 times its second, and its third. vorgushan_version()
+ * tells the library's. */
+#define VG_VERSION 100
+
+/* A literal as the two arguments of a text: its bytes and its length, without the byte 0 at its end. */
+#define VG_TEXT(literal) (literal), (sizeof(literal) - 1)
+
+/* ---- Outcomes ---- */
 
 /* What a call returns. The refusals are those of docs/RULES.md. */
 typedef uint32_t vg_outcome;
@@ -58,11 +85,13 @@ enum {
     VG_NO_VALUE = 41          /* the reference has no value */
 };
 
-/* The ways in which vg_order and vg_query go. */
+/* The ways in which vg_order and vg_query go. Any other number is backward too. */
 enum { VG_FORWARD = 0, VG_BACKWARD = 1 };
 
-/* Where vg_query starts: at the key, or at an empty subscript below it, as in ^A(1,""). */
+/* Where vg_query starts: at the key, or at an empty subscript below it, as in ^A(1,""). Any other number is as 1. */
 enum { VG_AT_KEY = 0, VG_BELOW_KEY = 1 };
+
+/* ---- What the caller keeps ---- */
 
 /* An engine. Begin it with VG_ENGINE_NONE, an initializer (memory set to zero is the same), before the first call, make
  * it by vg_new, end it by vg_end, and leave what is in it alone. It may be moved between calls; of two copies only one
@@ -115,8 +144,12 @@ typedef struct vg_statistics {
     uint64_t nodes;         /* nodes with a value */
 } vg_statistics;
 
-/* The library's own symbols, for which no pointer may be NULL, and no two may name the same memory: use the calls
- * below. */
+/* ---- The library's own symbols ---- */
+
+/* The version of the library, as VG_VERSION is written. */
+uint32_t vorgushan_version(void);
+
+/* For these no pointer may be NULL, and no two may name the same memory: use the calls below. */
 vg_outcome vorgushan_new(vg_engine *engine);
 vg_outcome vorgushan_end(vg_engine *engine);
 vg_outcome vorgushan_line(vg_engine *engine, const char *line, size_t line_length, char *reply, size_t reply_size,
@@ -156,6 +189,8 @@ vg_outcome vorgushan_trestart(vg_engine *engine, uint64_t job, uint64_t *restart
 vg_outcome vorgushan_halt(vg_engine *engine, uint64_t job, uint64_t *number);
 vg_outcome vorgushan_outcome_name(uint32_t outcome, char *name, size_t name_size, size_t *name_length);
 
+/* ---- Engines ---- */
+
 /* Makes an engine with an empty database where none is. VG_ENGINE_THERE, VG_OUT_OF_MEMORY. */
 static inline vg_outcome vg_new(vg_engine *engine) {
     return engine ? vorgushan_new(engine) : (vg_outcome)VG_NO_ENGINE;
@@ -166,13 +201,17 @@ static inline vg_outcome vg_end(vg_engine *engine) {
     return engine ? vorgushan_end(engine) : (vg_outcome)VG_NO_ENGINE;
 }
 
+/* ---- Lines ---- */
+
 /* Runs a line, as "1 SET ^A(1)=5", and copies its reply with a byte 10 at its end, as "1 ok\n". The line comes without
  * its end: with it, or empty, it is refused.
  *
  * The outcome is the reply's: VG_DONE, VG_RESTARTED, or its refusal. Where the reply is longer than the buffer it is
  * VG_BUFFER_TOO_SHORT, or VG_REPLY_KEPT where memory is refused for its text: the line was run, and may have been
  * refused or have restarted its transaction. Then nothing is copied, reply_length is the length that is needed (0 with
- * VG_REPLY_KEPT), and vg_reply copies the reply and returns its own outcome. The buffer may not overlap the line. */
+ * VG_REPLY_KEPT), and vg_reply copies the reply and returns its own outcome. After VG_REPLY_KEPT that
+ * outcome may be VG_OUT_OF_MEMORY: then nothing was done, and the line may be sent again. The buffer may not overlap
+ * the line. */
 static inline vg_outcome vg_line(vg_engine *engine, const char *line, size_t line_length, char *reply,
                                  size_t reply_size, size_t *reply_length) {
     char nothing = 0;
@@ -199,6 +238,8 @@ static inline vg_outcome vg_reply(vg_engine *engine, char *reply, size_t reply_s
     return outcome;
 }
 
+/* ---- The listing ---- */
+
 /* The listing begins with the first node. */
 static inline vg_outcome vg_list_from_start(vg_engine *engine) {
     return engine ? vorgushan_list_from_start(engine) : (vg_outcome)VG_NO_ENGINE;
@@ -218,6 +259,8 @@ static inline vg_outcome vg_list_next(vg_engine *engine, char *node, size_t node
     return outcome;
 }
 
+/* ---- Upkeep ---- */
+
 /* Lets the collector, which drops old versions of values, look at this number of nodes, from where it stopped. No reply
  * and no listing depends on it. VG_OUT_OF_MEMORY, and then nothing has changed. */
 static inline vg_outcome vg_collect(vg_engine *engine, size_t nodes) {
@@ -236,6 +279,8 @@ static inline vg_outcome vg_count(vg_engine *engine, vg_statistics *statistics) 
     vg_statistics unwanted = {0, 0, 0};
     return engine ? vorgushan_statistics(engine, statistics ? statistics : &unwanted) : (vg_outcome)VG_NO_ENGINE;
 }
+
+/* ---- Keys ---- */
 
 /* Makes the key of a name without subscripts and without its caret, as "Account", in place of what was there.
  * VG_BAD_NAME, VG_OUT_OF_MEMORY. */
@@ -288,6 +333,8 @@ static inline vg_outcome vg_key_end(vg_key *key) {
     return vorgushan_key_end(key);
 }
 
+/* ---- Data ---- */
+
 /* SET of a key's reference by a job from 1 to 4,096. The value's bytes are copied as they are: 1.50 stays 1.50, where a
  * line's bare 1.50 is 1.5. VG_BAD_JOB, VG_VALUE_TOO_LONG over 32,767 bytes, and the refusals of SET. */
 static inline vg_outcome vg_set(vg_engine *engine, uint64_t job, vg_key *key, const char *value, size_t value_length) {
@@ -307,7 +354,8 @@ static inline vg_outcome vg_kill(vg_engine *engine, uint64_t job, vg_key *key) {
 
 /* $GET of a key's reference: the value's own bytes, at most 32,767; none where it has no value, and VG_DONE too. An
  * empty value is answered alike (vg_data and vg_look tell them apart). After VG_BUFFER_TOO_SHORT vg_reply copies it as
- * the reply of a line, a literal; vg_get once more, which is one more command, copies its bytes. */
+ * the reply of a line, a literal; vg_get once more, which is one more command, copies its bytes. Each vg_get stays in
+ * the journal until vg_checkpoint; vg_look copies the same value and leaves nothing there. */
 static inline vg_outcome vg_get(vg_engine *engine, uint64_t job, vg_key *key, char *value, size_t value_size,
                                 size_t *value_length) {
     char nothing = 0;
@@ -341,6 +389,8 @@ static inline vg_outcome vg_data(vg_engine *engine, uint64_t job, vg_key *key, u
         *number = told;
     return outcome;
 }
+
+/* ---- Walks by commands ---- */
 
 /* $ORDER one level below a key: copies the subscript that comes next after `start` (before it, where direction is
  * VG_BACKWARD), which need not be there: at most 255 bytes, and none, with VG_DONE, where no other follows. An empty
@@ -377,6 +427,8 @@ static inline vg_outcome vg_query(vg_engine *engine, uint64_t job, vg_key *key, 
         return VG_NO_ENGINE;
     return key ? vorgushan_query(engine, job, key, from, direction) : (vg_outcome)VG_NO_KEY;
 }
+
+/* ---- Looks ---- */
 
 /* Copies the value that a key's reference has in the database as it is now, without a command of a job: the journal
  * gets no unit, vg_reply copies what it did before, and what a transaction does shows once it is committed.
@@ -485,6 +537,8 @@ static inline size_t vg_part_next(const vg_node *node, const char **at, char *pa
     return length;
 }
 
+/* ---- Locks ---- */
+
 /* LOCK of a key's name, with its caret: the job's names are released, and then this one is asked for. Nobody waits: had
  * is 1 where it was granted, and 0, with VG_DONE too, where another job is in the way. */
 static inline vg_outcome vg_lock(vg_engine *engine, uint64_t job, vg_key *key, uint64_t *had) {
@@ -521,6 +575,8 @@ static inline vg_outcome vg_unlock(vg_engine *engine, uint64_t job) {
     uint64_t told = 0;
     return engine ? vorgushan_unlock(engine, job, &told) : (vg_outcome)VG_NO_ENGINE;
 }
+
+/* ---- Transactions ---- */
 
 /* TSTART: opens a transaction of the job, or raises its level, and gives the level. VG_LEVEL_TOO_DEEP. */
 static inline vg_outcome vg_tstart(vg_engine *engine, uint64_t job, uint64_t *level) {
@@ -562,6 +618,8 @@ static inline vg_outcome vg_halt(vg_engine *engine, uint64_t job) {
     uint64_t told = 0;
     return engine ? vorgushan_halt(engine, job, &told) : (vg_outcome)VG_NO_ENGINE;
 }
+
+/* ---- Names of outcomes ---- */
 
 /* Copies the name of an outcome, as "OutOfMemory". VG_UNKNOWN_NUMBER. */
 static inline vg_outcome vg_refusal_text(uint32_t outcome, char *name, size_t name_size, size_t *name_length) {

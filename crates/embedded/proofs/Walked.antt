@@ -16,8 +16,10 @@ use Rattle.collation.specs.Database.{Database}
 use Rattle.collation.specs.Levels.{is_before}
 use Rattle.collation.specs.laws.Order.{ref_cmp_total, is_less}
 use Rattle.globals.specs.declared.cut.Cut.{Cut}
-use Rattle.globals.specs.Cuts.{stands_before, entries_from}
+use Rattle.globals.specs.Cuts.{stands_before, stands_within, entries_from, up_to}
 use Rattle.globals.specs.laws.Cuts.{before_end-earlier, under_between}
+use Rattle.globals.specs.laws.Ends.{entries_to}
+use Rattle.globals.specs.laws.Under.{before_end}
 use Rattle.globals.specs.laws.Nearest.{none_pass, still_fails, true_of}
 use Rattle.embedded.specs.Calls.{is_listed}
 use Rattle.key_codec.specs.Key.{key_of}
@@ -121,6 +123,36 @@ front_left root place cut m is =
     (λ x l. with_not (is_within root x) (is_before_root root x) (is_listed place x) (sym (is x) ∙ l))
     (λ x y l u s. not_in (is_within root y) (not (is_listed place y)) (past_root root x y (or_first (is_before_root root x) (is_listed place x) (sym (is x) ∙ l)) u s))
     (finmap.entries m) (true_of _ (finmap.entries_sorted m))
+
+-- ---- where a walk ends
+
+not_passed : (p q : Bool) → (p ≡ true → q ≡ true) → q ≡ false → p ≡ false
+not_passed true q sure none = sym (sure refl) ∙ none
+not_passed false q sure none = refl
+
+both_first : (a b : Bool) → (a && b) ≡ true → a ≡ true
+both_first true b e = refl
+both_first false b e = e
+
+-- what one test passes is found behind another that passes it too
+passed_twice : (P Q : Reference → Bool) → ((x : Reference) → P x ≡ true → Q x ≡ true) → (es : List Node) → filter (λ e. P e.0) (filter (λ e. Q e.0) es) ≡ filter (λ e. P e.0) es
+passed_twice P Q sure [] = refl
+passed_twice P Q sure (e ∷ es) =
+    let rest = passed_twice P Q sure es in
+    elim (Q e.0) as (λ q. Q e.0 ≡ q → filter (λ e. P e.0) (cond q (e ∷ filter (λ e. Q e.0) es) (filter (λ e. Q e.0) es)) ≡ cond (P e.0) (e ∷ filter (λ e. P e.0) es) (filter (λ e. P e.0) es)) [
+      | true ↦ λ q. ap (λ t. cond (P e.0) (e ∷ t) t) rest
+      | false ↦ λ q. rest ∙ sym (ap (λ b. cond b (e ∷ filter (λ e. P e.0) es) (filter (λ e. P e.0) es)) (not_passed (P e.0) (Q e.0) (sure e.0) q))
+    ] refl
+
+-- up to an end that is behind all within the root the same nodes are left
+pub ended : (root place : Option Reference) (end : Option Cut) (m : Database) → ((x : Reference) → is_within root x ≡ true → stands_within end x ≡ true) → nodes_left root place (up_to end m) ≡ nodes_left root place m
+ended root place end m sure =
+    ap (filter (λ e. is_within root e.0 && not (is_listed place e.0))) (entries_to end m)
+    ∙ passed_twice (λ x. is_within root x && not (is_listed place x)) (stands_within end) (λ x h. sure x (both_first (is_within root x) (not (is_listed place x)) h)) (finmap.entries m)
+
+-- the cut past a root is behind all within it
+pub past_all : (root : Option Reference) (r q x : Reference) → root ≡ Some r → q ≡ r → is_within root x ≡ true → is_before true q x ≡ true
+past_all root r q x a e h = rw e (before_end r x (sym (ap (λ o. is_within o x) a) ∙ h))
 
 pub none_left : (root : Option Reference) (walk left : List Node) → front root walk ≡ left → walk ≡ [] → left ≡ []
 none_left root walk left h e = sym h ∙ ap (front root) e

@@ -31,8 +31,8 @@ fn next_behind<'v, V: OrderedView>(view: &'v V, listed: &Option<Key>) -> Option<
         (λ node. next_node listed.now (V.content view.now) ≡ Some (node.0.now, node.1.now)) }
 {
     match listed {
-        Some(key) => view.next(Cut::After(key)),
-        None => view.next(Cut::Start),
+        Some(key) => view.next(Cut::After(key), None),
+        None => view.next(Cut::Start, None),
     }
 }
 

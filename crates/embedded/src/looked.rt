@@ -1,8 +1,8 @@
 //! Looks at the present database, which are no commands: one value, or many nodes at a time.
-ghost use Rattle.std.specs.Prelude.{◌≡◌, ◌≤◌, ◌<◌, ◌++◌, ◌||◌, [], None, Some, if◌then◌else◌, IfOk, OnErr, OnOk, length};
+ghost use Rattle.std.specs.Prelude.{◌≡◌, ◌≤◌, ◌<◌, ◌++◌, ◌||◌, [], true, None, Some, if◌then◌else◌, IfOk, OnErr, OnOk, length};
 ghost use Rattle.std.specs.Option.{MatchOption, option_map};
 ghost use Rattle.collation.specs.Reference.{Reference};
-ghost use Rattle.globals.specs.Cuts.{stands_before as before_cut};
+ghost use Rattle.globals.specs.Cuts.{stands_before as before_cut, stands_within};
 ghost use Rattle.embedded.specs.Calls.{database, fits, is_listed, IsCopied};
 ghost use Rattle.embedded.specs.Gathered.{is_before_root, IsGathered, IsTaken};
 ghost use Rattle.embedded.specs.Looks.{is_within, nodes_left, record_of, IsLook, IsWalkCall, IsWalked};
@@ -10,7 +10,7 @@ ghost use Rattle.embedded.specs.Looks.{is_within, nodes_left, record_of, IsLook,
 use crate::copied::{copied_as, copy_text};
 use crate::{Embedded, Outcome};
 use collation::Text;
-use globals::{Cut, OrderedView, Walk, stands_before, walk_from};
+use globals::{Cut, OrderedView, Walk, stands_before, walk_between};
 use key_codec::Key;
 use refusal::Refusal;
 use std::alloc::{AllocError, Global};
@@ -40,6 +40,16 @@ fn start_of<'k>(root: &'k Option<Box<Key>>, place: &'k Option<Box<Key>>) -> Cut<
                 Cut::After(place)
             }
         }
+    }
+}
+
+// Where a walk within a root ends, so that nothing behind is asked for.
+fn end_of<'k>(root: &'k Option<Box<Key>>) -> Option<Cut<'k>>
+    ensures { (x : Reference) → is_within (option_map (λ b. b.value) root.now) x ≡ true → stands_within result x ≡ true }
+{
+    match root {
+        Some(root) => Some(Cut::Past(root)),
+        None => None,
     }
 }
 
@@ -97,7 +107,7 @@ fn gather_nodes<'v, V: OrderedView>(
     ensures err { OnErr result (0 < length (nodes_left (option_map (λ b. b.value) root.now) (option_map (λ b. b.value) place.now) (V.content view.now))) }
 {
     text.clear();
-    let mut walk = walk_from(view, start_of(root, place));
+    let mut walk = walk_between(view, start_of(root, place), end_of(root));
     let Some((key, value)) = walk.next() else {
         return Ok(None);
     };

@@ -22,6 +22,14 @@ pub struct VgStatistics {
     pub nodes: u64,
 }
 
+/// The version of the library: 10,000 times its first number, 100 times its second, and its third.
+#[unsafe(no_mangle)]
+pub extern "C" fn vorgushan_version() -> u32
+    ensures { result ≡ 100 }
+{
+    100
+}
+
 /// Makes an engine, whose database is empty, where none is.
 ///
 /// `EngineThere` where one is, `OutOfMemory`: then nothing has changed.

@@ -1,0 +1,412 @@
+/* Every call of include/vorgushan.h, each with what a wrong one would answer: tests/embed builds it as C and as C++ and
+ * runs it. It prints a line for each check that fails, and then how many there were; status 1 if any failed.
+ *
+ * The header's inline functions are outside the proofs, so each has a check that fails if it calls another function of
+ * the library, tells another number, cuts a length, or leaves memory behind. */
+#include <stdio.h>
+#include <string.h>
+
+#include "vorgushan.h"
+
+static int checks = 0;
+static int failed = 0;
+
+static void check(int holds, int line) {
+    checks++;
+    if (!holds) {
+        failed++;
+        printf("calls.c:%d: not so\n", line);
+    }
+}
+
+#define CHECK(holds) check(holds, __LINE__)
+
+/* How many blocks the library has. The linker's --wrap leads its malloc, realloc and free here. */
+static long blocks = 0;
+
+#ifdef __cplusplus
+extern "C" {
+#endif
+void *__real_malloc(size_t size);
+void *__real_realloc(void *block, size_t size);
+void __real_free(void *block);
+void *__wrap_malloc(size_t size);
+void *__wrap_realloc(void *block, size_t size);
+void __wrap_free(void *block);
+
+void *__wrap_malloc(size_t size) {
+    void *made = __real_malloc(size);
+    blocks += made != NULL;
+    return made;
+}
+
+void *__wrap_realloc(void *block, size_t size) {
+    void *made = __real_realloc(block, size);
+    blocks += !block && made;
+    return made;
+}
+
+void __wrap_free(void *block) {
+    blocks -= block != NULL;
+    __real_free(block);
+}
+#ifdef __cplusplus
+}
+#endif
+
+static char reply[512];
+static size_t length;
+
+static int is_reply(const char *wanted) {
+    return length == strlen(wanted) && !memcmp(reply, wanted, length);
+}
+
+/* Runs a line, and tells whether it is answered by this outcome and this text. */
+static int answers(vg_engine *engine, const char *line, vg_outcome outcome, const char *wanted) {
+    return vg_line(engine, line, strlen(line), reply, sizeof reply, &length) == outcome && is_reply(wanted);
+}
+
+/* The value of a key's reference, by a command of job 1. */
+static int has_value(vg_engine *engine, vg_key *key, const char *wanted) {
+    return vg_get(engine, 1, key, reply, sizeof reply, &length) == VG_DONE && is_reply(wanted);
+}
+
+static void use_nothing(void) {
+    vg_engine none = VG_ENGINE_NONE;
+    vg_key key = VG_KEY_NONE;
+    uint64_t number = 7;
+    CHECK(vg_new(NULL) == VG_NO_ENGINE);
+    CHECK(vg_end(NULL) == VG_NO_ENGINE);
+    CHECK(vg_end(&none) == VG_NO_ENGINE);
+    CHECK(vg_line(NULL, VG_TEXT("1 SET ^A=1"), reply, sizeof reply, &length) == VG_NO_ENGINE && !length);
+    CHECK(vg_line(&none, VG_TEXT("1 SET ^A=1"), reply, sizeof reply, &length) == VG_NO_ENGINE && !length);
+    CHECK(vg_reply(NULL, reply, sizeof reply, NULL) == VG_NO_ENGINE);
+    CHECK(vg_list_from_start(NULL) == VG_NO_ENGINE);
+    CHECK(vg_list_next(NULL, reply, sizeof reply, NULL) == VG_NO_ENGINE);
+    CHECK(vg_collect(NULL, 1) == VG_NO_ENGINE);
+    CHECK(vg_checkpoint(NULL) == VG_NO_ENGINE);
+    CHECK(vg_count(NULL, NULL) == VG_NO_ENGINE);
+    CHECK(vg_key_name(NULL, VG_TEXT("A")) == VG_NO_KEY);
+    CHECK(vg_key_subscript(NULL, VG_TEXT("1")) == VG_NO_KEY);
+    CHECK(vg_key_subscript(&key, VG_TEXT("1")) == VG_NO_KEY);
+    CHECK(vg_key_spell(NULL, VG_TEXT("A"), NULL, 0) == VG_NO_KEY);
+    CHECK(vg_key_end(NULL) == VG_NO_KEY);
+    CHECK(vg_key_end(&key) == VG_NO_KEY);
+    CHECK(vg_tstart(NULL, 1, &number) == VG_NO_ENGINE && number == 0);
+    CHECK(vg_tcommit(NULL, 1, NULL) == VG_NO_ENGINE);
+    CHECK(vg_trollback(NULL, 1) == VG_NO_ENGINE);
+    CHECK(vg_trestart(NULL, 1, NULL) == VG_NO_ENGINE);
+    CHECK(vg_unlock(NULL, 1) == VG_NO_ENGINE);
+    CHECK(vg_halt(NULL, 1) == VG_NO_ENGINE);
+}
+
+static void use_no_key(vg_engine *engine) {
+    vg_key key = VG_KEY_NONE;
+    uint64_t number = 7;
+    CHECK(vg_set(NULL, 1, &key, VG_TEXT("1")) == VG_NO_ENGINE);
+    CHECK(vg_set(engine, 1, NULL, VG_TEXT("1")) == VG_NO_KEY);
+    CHECK(vg_set(engine, 1, &key, VG_TEXT("1")) == VG_NO_KEY);
+    CHECK(vg_kill(NULL, 1, &key) == VG_NO_ENGINE && vg_kill(engine, 1, NULL) == VG_NO_KEY);
+    CHECK(vg_get(NULL, 1, &key, NULL, 0, NULL) == VG_NO_ENGINE && vg_get(engine, 1, NULL, NULL, 0, NULL) == VG_NO_KEY);
+    CHECK(vg_merge(NULL, 1, &key, &key) == VG_NO_ENGINE && vg_merge(engine, 1, NULL, &key) == VG_NO_KEY);
+    CHECK(vg_data(NULL, 1, &key, &number) == VG_NO_ENGINE && number == 0);
+    CHECK(vg_data(engine, 1, NULL, NULL) == VG_NO_KEY);
+    CHECK(vg_order(NULL, 1, &key, NULL, 0, VG_FORWARD, NULL, 0, &length) == VG_NO_ENGINE && !length);
+    CHECK(vg_order(engine, 1, NULL, NULL, 0, VG_FORWARD, NULL, 0, NULL) == VG_NO_KEY);
+    CHECK(vg_query(NULL, 1, &key, VG_AT_KEY, VG_FORWARD) == VG_NO_ENGINE);
+    CHECK(vg_query(engine, 1, NULL, VG_AT_KEY, VG_FORWARD) == VG_NO_KEY);
+    CHECK(vg_look(NULL, &key, NULL, 0, NULL) == VG_NO_ENGINE && vg_look(engine, NULL, NULL, 0, NULL) == VG_NO_KEY);
+    CHECK(vg_walk(NULL, NULL, &key, NULL, 0, NULL) == VG_NO_ENGINE);
+    CHECK(vg_walk(engine, &key, NULL, NULL, 0, NULL) == VG_NO_KEY);
+    CHECK(vg_walk(engine, &key, &key, NULL, 0, NULL) == VG_NO_KEY);
+    CHECK(vg_lock(NULL, 1, &key, &number) == VG_NO_ENGINE && vg_lock(engine, 1, NULL, NULL) == VG_NO_KEY);
+    CHECK(vg_lock_more(NULL, 1, &key, NULL) == VG_NO_ENGINE && vg_lock_more(engine, 1, NULL, NULL) == VG_NO_KEY);
+    CHECK(vg_lock_fewer(NULL, 1, &key) == VG_NO_ENGINE && vg_lock_fewer(engine, 1, NULL) == VG_NO_KEY);
+}
+
+/* Lines and their replies, also one that doesn't fit, and the listing. */
+static void use_lines(vg_engine *engine) {
+    vg_statistics told = {0, 0, 0};
+    CHECK(vg_new(engine) == VG_DONE && vg_new(engine) == VG_ENGINE_THERE);
+    CHECK(vg_reply(engine, reply, sizeof reply, &length) == VG_NO_REPLY);
+    CHECK(answers(engine, "1 SET ^A(1)=5", VG_DONE, "1 ok\n"));
+    CHECK(answers(engine, "1 $GET(^A(1))", VG_DONE, "1 5\n"));
+    CHECK(answers(engine, "1 FOO", VG_BAD_LINE, "1 error 1 BadLine\n"));
+    CHECK(answers(engine, "", VG_BAD_LINE, "0 error 1 BadLine\n"));
+    CHECK(vg_line(engine, NULL, 5, reply, sizeof reply, &length) == VG_BAD_LINE && is_reply("0 error 1 BadLine\n"));
+    CHECK(vg_line(engine, VG_TEXT("1 $DATA(^A)"), reply, 3, &length) == VG_BUFFER_TOO_SHORT && length == 5);
+    CHECK(vg_line(engine, VG_TEXT("1 $DATA(^A)"), NULL, 9, &length) == VG_BUFFER_TOO_SHORT && length == 5);
+    CHECK(vg_reply(engine, reply, 4, &length) == VG_BUFFER_TOO_SHORT && length == 5);
+    CHECK(vg_reply(engine, reply, sizeof reply, &length) == VG_DONE && is_reply("1 10\n"));
+    CHECK(vg_reply(engine, reply, sizeof reply, &length) == VG_DONE && is_reply("1 10\n"));
+    CHECK(answers(engine, "2 SET ^B=\"x\"", VG_DONE, "2 ok\n"));
+    CHECK(vg_list_from_start(engine) == VG_DONE);
+    CHECK(vg_list_next(engine, reply, 6, &length) == VG_BUFFER_TOO_SHORT && length == 8);
+    CHECK(vg_list_next(engine, reply, sizeof reply, &length) == VG_DONE && is_reply("^A(1)=5\n"));
+    CHECK(vg_list_next(engine, reply, sizeof reply, &length) == VG_DONE && is_reply("^B=\"x\"\n"));
+    CHECK(vg_list_next(engine, reply, sizeof reply, NULL) == VG_AT_END);
+    CHECK(vg_list_from_start(engine) == VG_DONE);
+    CHECK(vg_list_next(engine, reply, sizeof reply, &length) == VG_DONE && is_reply("^A(1)=5\n"));
+    CHECK(vg_count(engine, &told) == VG_DONE && told.units == 5 && told.nodes == 2 && told.journal_bytes > 0);
+    CHECK(vg_count(engine, NULL) == VG_DONE);
+    CHECK(vg_collect(engine, 100) == VG_DONE);
+    CHECK(vg_checkpoint(engine) == VG_DONE);
+    CHECK(vg_count(engine, &told) == VG_DONE && told.units == 5 && told.journal_bytes == 0);
+}
+
+/* Names of outcomes, the longest too. */
+static void use_names(void) {
+    CHECK(vg_refusal_text(VG_TRANSACTION_TOO_LONG, reply, sizeof reply, &length) == VG_DONE);
+    CHECK(is_reply("TransactionTooLong"));
+    CHECK(vg_refusal_text(VG_TOO_MANY_SUBSCRIPTS, reply, 5, &length) == VG_BUFFER_TOO_SHORT && length == 17);
+    CHECK(vg_refusal_text(VG_SUBSCRIPT_TOO_LONG, reply, sizeof reply, NULL) == VG_DONE);
+    CHECK(vg_refusal_text(99, reply, sizeof reply, &length) == VG_UNKNOWN_NUMBER);
+}
+
+/* Numbers as texts: no digit is lost at either end. */
+static void use_digits(void) {
+    char digits[20];
+    vg_text text = vg_digits(0, digits);
+    CHECK(text.length == 1 && text.bytes[0] == '0');
+    text = vg_digits(1009, digits);
+    CHECK(text.length == 4 && !memcmp(text.bytes, "1009", 4));
+    text = vg_digits(UINT64_MAX, digits);
+    CHECK(text.length == 20 && !memcmp(text.bytes, "18446744073709551615", 20));
+}
+
+/* Keys of 31 subscripts and no more, by both ways. */
+static void use_keys(vg_engine *engine) {
+    vg_text ones[40];
+    vg_key key = VG_KEY_NONE, other = VG_KEY_NONE;
+    char digits[20];
+    int i;
+    for (i = 0; i < 40; i++) {
+        ones[i].bytes = "1";
+        ones[i].length = 1;
+    }
+    CHECK(vg_key_name(&key, VG_TEXT("5")) == VG_BAD_NAME);
+    CHECK(vg_key_spell(&key, VG_TEXT("Deep"), ones, 31) == VG_DONE);
+    CHECK(vg_set(engine, 1, &key, VG_TEXT("bottom")) == VG_DONE);
+    CHECK(vg_key_spell(&key, VG_TEXT("Deep"), ones, 32) == VG_TOO_MANY_SUBSCRIPTS);
+    CHECK(vg_key_spell(&key, VG_TEXT("Deep"), ones, 40) == VG_TOO_MANY_SUBSCRIPTS);
+    CHECK(has_value(engine, &key, "bottom"));
+    CHECK(vg_key_subscript(&key, VG_TEXT("1")) == VG_TOO_MANY_SUBSCRIPTS);
+    CHECK(vg_key_name(&other, VG_TEXT("Deep")) == VG_DONE);
+    for (i = 0; i < 31; i++)
+        CHECK(vg_key_subscript(&other, VG_TEXT("1")) == VG_DONE);
+    CHECK(has_value(engine, &other, "bottom"));
+    ones[1] = vg_digits(1204, digits);
+    CHECK(vg_key_spell(&other, VG_TEXT("Deep"), ones, 2) == VG_DONE);
+    CHECK(vg_set(engine, 1, &other, NULL, 5) == VG_DONE && has_value(engine, &other, ""));
+    CHECK(answers(engine, "1 $DATA(^Deep(1,1204))", VG_DONE, "1 1\n"));
+    ones[1].bytes = NULL;
+    CHECK(vg_key_spell(&other, VG_TEXT("Deep"), ones, 2) == VG_EMPTY_SUBSCRIPT);
+    CHECK(vg_key_subscript(&other, NULL, 3) == VG_EMPTY_SUBSCRIPT);
+    CHECK(vg_key_spell(&other, VG_TEXT("Deep"), NULL, 2) == VG_DONE);
+    CHECK(vg_kill(engine, 1, &other) == VG_DONE && has_value(engine, &key, ""));
+    CHECK(vg_key_end(&key) == VG_DONE && vg_key_end(&key) == VG_NO_KEY);
+    CHECK(vg_key_end(&other) == VG_DONE);
+}
+
+/* The lengths that are told where a buffer is too short or none, and values with bytes 0. */
+static void use_values(vg_engine *engine) {
+    static char long_value[1000], back[1000];
+    vg_key key = VG_KEY_NONE, to = VG_KEY_NONE;
+    uint64_t number = 7;
+    memset(long_value, 'v', sizeof long_value);
+    long_value[500] = 0;
+    vg_key_name(&key, VG_TEXT("Value"));
+    CHECK(vg_set(engine, 4096, &key, long_value, sizeof long_value) == VG_DONE);
+    CHECK(vg_set(engine, 0, &key, VG_TEXT("1")) == VG_BAD_JOB);
+    CHECK(vg_set(engine, 4097, &key, VG_TEXT("1")) == VG_BAD_JOB);
+    CHECK(vg_get(engine, 1, &key, NULL, 1000, &length) == VG_BUFFER_TOO_SHORT && length == 1000);
+    CHECK(vg_get(engine, 1, &key, back, 999, &length) == VG_BUFFER_TOO_SHORT && length == 1000);
+    CHECK(vg_get(engine, 1, &key, back, 1000, &length) == VG_DONE && length == 1000);
+    CHECK(!memcmp(back, long_value, 1000));
+    CHECK(vg_look(engine, &key, NULL, 1000, &length) == VG_BUFFER_TOO_SHORT && length == 1000);
+    CHECK(vg_look(engine, &key, back, 1000, &length) == VG_DONE && length == 1000 && !back[500]);
+    CHECK(vg_merge(engine, 1, &key, &key) == VG_MERGE_OVERLAP);
+    vg_key_name(&to, VG_TEXT("Copy"));
+    CHECK(vg_merge(engine, 1, &to, &key) == VG_DONE);
+    CHECK(vg_data(engine, 1, &to, &number) == VG_DONE && number == 1);
+    CHECK(vg_kill(engine, 1, &key) == VG_DONE);
+    CHECK(vg_look(engine, &key, back, 1000, NULL) == VG_NO_VALUE);
+    CHECK(vg_look(engine, &to, back, 1000, &length) == VG_DONE && length == 1000);
+    CHECK(vg_kill(engine, 1, &to) == VG_DONE);
+    CHECK(vg_data(engine, 1, &to, &number) == VG_DONE && number == 0);
+    vg_key_end(&key);
+    vg_key_end(&to);
+}
+
+/* Subscripts whose bytes a key's form changes: numbers with signs, points and zeros, and bytes 0 and 1. */
+static const vg_text SUBSCRIPTS[] = {
+    {VG_TEXT("-1000")}, {VG_TEXT("-1.5")}, {VG_TEXT("-1")}, {VG_TEXT("-.001")}, {VG_TEXT("0")}, {VG_TEXT(".001")},
+    {VG_TEXT(".5")}, {VG_TEXT("1")}, {VG_TEXT("1.05")}, {VG_TEXT("9")}, {VG_TEXT("10")}, {VG_TEXT("100")},
+    {VG_TEXT("12345.6789")}, {VG_TEXT("9000000000000000000000")}, {VG_TEXT("\0\1\2")}, {VG_TEXT("\1")},
+    {VG_TEXT("00")}, {VG_TEXT("a b")}};
+
+enum { COUNT = sizeof SUBSCRIPTS / sizeof *SUBSCRIPTS };
+
+/* A part of a node's key is what was spelled, and the next stands right behind it. */
+static int is_part(const vg_node *node, const char **at, const vg_text *wanted) {
+    char part[255];
+    size_t given = vg_part_next(node, at, part);
+    return given == wanted->length && !memcmp(part, wanted->bytes, given);
+}
+
+static void use_walks(vg_engine *engine) {
+    static char nodes[65536];
+    static char long_value[700];
+    const vg_text name = {VG_TEXT("Walk")}, last = {VG_TEXT("z")};
+    vg_key root = VG_KEY_NONE, place = VG_KEY_NONE, key = VG_KEY_NONE;
+    vg_text at[3];
+    const char *from, *end, *part;
+    char rest[255];
+    vg_node node;
+    int i, seen = 0;
+    memset(long_value, 'w', sizeof long_value);
+    for (i = 0; i < COUNT; i++) {
+        at[0] = SUBSCRIPTS[i];
+        at[1] = SUBSCRIPTS[COUNT - 1 - i];
+        at[2] = last;
+        CHECK(vg_key_spell(&key, name.bytes, name.length, at, 3) == VG_DONE);
+        CHECK(vg_set(engine, 1, &key, long_value, sizeof long_value - i) == VG_DONE);
+    }
+    vg_key_name(&root, name.bytes, name.length);
+    CHECK(vg_walk(engine, &root, &place, nodes, 100, &length) == VG_BUFFER_TOO_SHORT && length > 700);
+    CHECK(vg_walk(engine, &root, &place, nodes, sizeof nodes, &length) == VG_DONE);
+    from = nodes;
+    end = nodes + length;
+    while (vg_node_next(&from, end, &node)) {
+        part = node.key;
+        CHECK(is_part(&node, &part, &name));
+        CHECK(seen < COUNT && is_part(&node, &part, &SUBSCRIPTS[seen]));
+        CHECK(is_part(&node, &part, &SUBSCRIPTS[COUNT - 1 - seen]));
+        CHECK(is_part(&node, &part, &last) && part == node.key + node.key_length);
+        CHECK(vg_part_next(&node, &part, rest) == 0);
+        CHECK(node.value_length == sizeof long_value - seen && !memcmp(node.value, long_value, node.value_length));
+        seen++;
+    }
+    CHECK(seen == COUNT && from == end);
+    CHECK(vg_walk(engine, &root, &place, nodes, sizeof nodes, NULL) == VG_AT_END);
+    vg_key_end(&place);
+    CHECK(vg_walk(engine, NULL, &place, nodes, 2000, &length) == VG_DONE && length > 0 && length <= 2000);
+    CHECK(vg_key_end(&place) == VG_DONE);
+    CHECK(vg_kill(engine, 1, &root) == VG_DONE);
+    vg_key_end(&root);
+    vg_key_end(&key);
+}
+
+/* $ORDER from starts of up to 255 bytes, and $QUERY, in both ways. */
+static void use_orders(vg_engine *engine) {
+    char first[255], second[255], told[255];
+    vg_key root = VG_KEY_NONE, key = VG_KEY_NONE;
+    memset(first, 'o', sizeof first);
+    memset(second, 'o', sizeof second);
+    second[254] = 'p';
+    vg_key_name(&root, VG_TEXT("Order"));
+    vg_key_name(&key, VG_TEXT("Order"));
+    CHECK(vg_key_subscript(&key, first, sizeof first) == VG_DONE && vg_set(engine, 1, &key, VG_TEXT("1")) == VG_DONE);
+    vg_key_name(&key, VG_TEXT("Order"));
+    CHECK(vg_key_subscript(&key, second, sizeof second) == VG_DONE && vg_set(engine, 1, &key, VG_TEXT("2")) == VG_DONE);
+    CHECK(vg_order(engine, 1, &root, NULL, 9, VG_FORWARD, told, sizeof told, &length) == VG_DONE);
+    CHECK(length == 255 && !memcmp(told, first, 255));
+    CHECK(vg_order(engine, 1, &root, told, 255, VG_FORWARD, told, sizeof told, &length) == VG_DONE);
+    CHECK(length == 255 && !memcmp(told, second, 255));
+    CHECK(vg_order(engine, 1, &root, told, 255, VG_FORWARD, told, sizeof told, &length) == VG_DONE && !length);
+    CHECK(vg_order(engine, 1, &root, NULL, 0, VG_BACKWARD, told, sizeof told, &length) == VG_DONE);
+    CHECK(length == 255 && !memcmp(told, second, 255));
+    CHECK(vg_order(engine, 1, &root, second, 255, VG_BACKWARD, told, 7, &length) == VG_BUFFER_TOO_SHORT);
+    CHECK(length == 255);
+    CHECK(vg_order(engine, 1, &root, second, 256, VG_FORWARD, told, sizeof told, &length) == VG_SUBSCRIPT_TOO_LONG);
+    CHECK(vg_order(engine, 1, &root, second, 257, VG_FORWARD, told, sizeof told, &length) == VG_SUBSCRIPT_TOO_LONG);
+    CHECK(vg_query(engine, 1, &root, VG_AT_KEY, VG_FORWARD) == VG_DONE && has_value(engine, &root, "1"));
+    CHECK(vg_query(engine, 1, &root, VG_AT_KEY, VG_FORWARD) == VG_DONE && has_value(engine, &root, "2"));
+    CHECK(vg_query(engine, 1, &root, VG_AT_KEY, VG_FORWARD) == VG_AT_END && has_value(engine, &root, "2"));
+    vg_key_name(&root, VG_TEXT("Order"));
+    CHECK(vg_query(engine, 1, &root, VG_BELOW_KEY, VG_BACKWARD) == VG_DONE && has_value(engine, &root, "2"));
+    CHECK(vg_query(engine, 1, &root, VG_AT_KEY, VG_BACKWARD) == VG_DONE && has_value(engine, &root, "1"));
+    vg_key_name(&root, VG_TEXT("Order"));
+    CHECK(vg_kill(engine, 1, &root) == VG_DONE);
+    vg_key_end(&root);
+    vg_key_end(&key);
+}
+
+/* LOCK in its four forms: what job 1 holds is seen by what job 2 gets. */
+static void use_locks(vg_engine *engine) {
+    vg_key bed = VG_KEY_NONE, ward = VG_KEY_NONE;
+    uint64_t had = 7;
+    vg_key_name(&bed, VG_TEXT("Bed"));
+    vg_key_name(&ward, VG_TEXT("Ward"));
+    CHECK(vg_lock(engine, 1, &bed, &had) == VG_DONE && had == 1);
+    CHECK(vg_lock(engine, 2, &bed, &had) == VG_DONE && had == 0);
+    CHECK(vg_lock_more(engine, 1, &bed, &had) == VG_DONE && had == 1);
+    CHECK(vg_lock_fewer(engine, 1, &bed) == VG_DONE);
+    CHECK(vg_lock_more(engine, 2, &bed, &had) == VG_DONE && had == 0);
+    CHECK(vg_lock_fewer(engine, 1, &bed) == VG_DONE);
+    CHECK(vg_lock_more(engine, 2, &bed, &had) == VG_DONE && had == 1);
+    CHECK(vg_lock_more(engine, 2, &ward, &had) == VG_DONE && had == 1);
+    CHECK(vg_lock_more(engine, 1, &bed, &had) == VG_DONE && had == 0);
+    CHECK(vg_lock(engine, 2, &ward, NULL) == VG_DONE);
+    CHECK(vg_lock_more(engine, 1, &bed, &had) == VG_DONE && had == 1);
+    CHECK(vg_lock_more(engine, 1, &ward, &had) == VG_DONE && had == 0);
+    CHECK(vg_unlock(engine, 2) == VG_DONE);
+    CHECK(vg_lock_more(engine, 1, &ward, &had) == VG_DONE && had == 1);
+    CHECK(vg_halt(engine, 1) == VG_DONE);
+    CHECK(vg_lock_more(engine, 2, &bed, &had) == VG_DONE && had == 1);
+    CHECK(vg_lock_more(engine, 2, &ward, &had) == VG_DONE && had == 1);
+    CHECK(vg_unlock(engine, 2) == VG_DONE);
+    vg_key_end(&bed);
+    vg_key_end(&ward);
+}
+
+/* A transaction that is committed, rolled back, restarted, overtaken and ended by HALT. */
+static void use_transactions(vg_engine *engine) {
+    vg_key key = VG_KEY_NONE;
+    uint64_t number = 7;
+    vg_key_name(&key, VG_TEXT("T"));
+    CHECK(vg_tcommit(engine, 1, NULL) == VG_NO_TRANSACTION && vg_trollback(engine, 1) == VG_NO_TRANSACTION);
+    CHECK(vg_trestart(engine, 1, NULL) == VG_NO_TRANSACTION);
+    CHECK(vg_tstart(engine, 1, &number) == VG_DONE && number == 1);
+    CHECK(vg_tstart(engine, 1, &number) == VG_DONE && number == 2);
+    CHECK(vg_tstart(engine, 1, &number) == VG_DONE && number == 3);
+    CHECK(vg_set(engine, 1, &key, VG_TEXT("1")) == VG_DONE);
+    CHECK(vg_look(engine, &key, NULL, 0, NULL) == VG_NO_VALUE);
+    CHECK(vg_tcommit(engine, 1, &number) == VG_DONE && number == 2);
+    CHECK(vg_tcommit(engine, 1, &number) == VG_DONE && number == 1);
+    CHECK(vg_tcommit(engine, 1, &number) == VG_DONE && number == 0);
+    CHECK(vg_look(engine, &key, reply, sizeof reply, &length) == VG_DONE && is_reply("1"));
+    CHECK(vg_tstart(engine, 1, NULL) == VG_DONE && vg_set(engine, 1, &key, VG_TEXT("2")) == VG_DONE);
+    CHECK(vg_trollback(engine, 1) == VG_DONE && has_value(engine, &key, "1"));
+    CHECK(vg_tcommit(engine, 1, NULL) == VG_NO_TRANSACTION);
+    CHECK(vg_tstart(engine, 1, NULL) == VG_DONE && vg_set(engine, 1, &key, VG_TEXT("3")) == VG_DONE);
+    CHECK(vg_trestart(engine, 1, &number) == VG_RESTARTED && number == 1 && has_value(engine, &key, "1"));
+    CHECK(vg_trestart(engine, 1, &number) == VG_RESTARTED && number == 2);
+    CHECK(has_value(engine, &key, "1") && vg_set(engine, 2, &key, VG_TEXT("4")) == VG_DONE);
+    CHECK(vg_set(engine, 1, &key, VG_TEXT("5")) == VG_DONE);
+    CHECK(vg_tcommit(engine, 1, &number) == VG_RESTARTED && number == 3);
+    CHECK(has_value(engine, &key, "4") && vg_set(engine, 1, &key, VG_TEXT("6")) == VG_DONE);
+    CHECK(vg_halt(engine, 1) == VG_DONE && vg_tcommit(engine, 1, NULL) == VG_NO_TRANSACTION);
+    CHECK(has_value(engine, &key, "4") && vg_kill(engine, 1, &key) == VG_DONE);
+    vg_key_end(&key);
+}
+
+int main(void) {
+    vg_engine engine = VG_ENGINE_NONE;
+    CHECK(vorgushan_version() == VG_VERSION);
+    use_nothing();
+    use_names();
+    use_digits();
+    use_lines(&engine);
+    use_no_key(&engine);
+    use_keys(&engine);
+    use_values(&engine);
+    use_walks(&engine);
+    use_orders(&engine);
+    use_locks(&engine);
+    use_transactions(&engine);
+    CHECK(vg_end(&engine) == VG_DONE && vg_end(&engine) == VG_NO_ENGINE);
+    CHECK(blocks == 0);
+    printf("%d checks, %d failed\n", checks, failed);
+    return failed != 0;
+}
