@@ -1,0 +1,85 @@
+//! An engine with the buffer that its answers are copied into.
+
+use crate::error::{done, Error};
+use crate::key::check_version;
+use crate::raw::{self, outcome, RawEngine, RawKey};
+
+/// Enough for a value, a subscript and most nodes, so that few calls are made twice.
+const BUFFER: usize = 32_768;
+
+/// An engine, which is ended when it is dropped, and a buffer, which grows with the longest answer.
+pub(crate) struct Engine {
+    raw: RawEngine,
+    buffer: Vec<u8>,
+}
+
+/// What a call copied, by its outcome.
+type Copied<'a> = (u32, &'a [u8]);
+
+impl Engine {
+    pub(crate) fn new() -> Result<Engine, Error> {
+        check_version()?;
+        let mut raw = RawEngine::none();
+        done(raw::vorgushan_new(&mut raw))?;
+        Ok(Engine { raw, buffer: vec![0; BUFFER] })
+    }
+
+    /// The engine itself, for a call that copies nothing.
+    pub(crate) fn raw(&mut self) -> &mut RawEngine {
+        &mut self.raw
+    }
+
+    /// Makes a call that copies bytes into a buffer, again with a longer one where it was too short.
+    fn copied(&mut self, mut call: impl FnMut(&mut RawEngine, &mut [u8], &mut usize) -> u32) -> Copied<'_> {
+        loop {
+            let mut length = 0;
+            let outcome = call(&mut self.raw, &mut self.buffer, &mut length);
+            if outcome != outcome::BUFFER_TOO_SHORT {
+                return (outcome, &self.buffer[..length.min(self.buffer.len())]);
+            }
+            self.buffer.resize(length, 0);
+        }
+    }
+
+    /// Runs a line, once, and copies its reply.
+    pub(crate) fn line(&mut self, line: &[u8]) -> Copied<'_> {
+        let mut length = 0;
+        match raw::line(&mut self.raw, line, &mut self.buffer, &mut length) {
+            outcome::BUFFER_TOO_SHORT | outcome::REPLY_KEPT => self.reply(),
+            outcome => (outcome, &self.buffer[..length.min(self.buffer.len())]),
+        }
+    }
+
+    /// Copies the last reply.
+    pub(crate) fn reply(&mut self) -> Copied<'_> {
+        self.copied(raw::reply)
+    }
+
+    /// Copies the next node's line.
+    pub(crate) fn list_next(&mut self) -> Copied<'_> {
+        self.copied(raw::list_next)
+    }
+
+    pub(crate) fn set(&mut self, job: u64, key: &mut RawKey, value: &[u8]) -> u32 {
+        raw::set(&mut self.raw, job, key, value)
+    }
+
+    /// $GET: a value has at most 32,767 bytes, so the command is done once.
+    pub(crate) fn get(&mut self, job: u64, key: &mut RawKey) -> Copied<'_> {
+        self.copied(|engine, value, length| raw::get(engine, job, key, value, length))
+    }
+
+    /// $ORDER: a subscript has at most 255 bytes, so the command is done once.
+    pub(crate) fn order(&mut self, job: u64, mut from: raw::Place<'_>) -> Copied<'_> {
+        self.copied(|engine, found, length| raw::order(engine, job, &mut from, found, length))
+    }
+
+    pub(crate) fn look(&mut self, key: &mut RawKey) -> Copied<'_> {
+        self.copied(|engine, value, length| raw::look(engine, key, value, length))
+    }
+
+    /// The next nodes after a place, which becomes that of the last of them.
+    pub(crate) fn walk(&mut self, root: &mut RawKey, place: &mut RawKey) -> Copied<'_> {
+        self.copied(|engine, nodes, length| raw::walk(engine, root, place, nodes, length))
+    }
+}

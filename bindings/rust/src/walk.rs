@@ -1,0 +1,139 @@
+//! Walks: over the subscripts of a level, and over the nodes of a subtree.
+
+use crate::database::{lent, Database};
+use crate::error::{done, Error};
+use crate::job::{Direction, Job};
+use crate::key::{Key, Reference, Subscript};
+use crate::raw::{outcome, RawKey};
+use std::vec::IntoIter;
+
+/// The subscripts one level below a key, of [`Job::children`]. After an error there are no more.
+///
+/// Each step asks for the subscript next to the one before, in the database as the job sees it then: nodes may be set
+/// and killed between steps.
+pub struct Children<'a, 'k> {
+    job: Job<'a>,
+    key: &'k Key,
+    start: Vec<u8>,
+    direction: Direction,
+    is_at_end: bool,
+}
+
+impl<'a, 'k> Children<'a, 'k> {
+    pub(crate) fn new(job: Job<'a>, key: &'k Key) -> Children<'a, 'k> {
+        Children { job, key, start: Vec::new(), direction: Direction::Forward, is_at_end: false }
+    }
+
+    /// From the last to the first.
+    pub fn backward(self) -> Children<'a, 'k> {
+        Children { direction: Direction::Backward, ..self }
+    }
+
+    /// Those that come after a subscript, or backward before it. It need not be there.
+    pub fn after(self, start: impl Subscript) -> Children<'a, 'k> {
+        Children { start: start.bytes().into_owned(), ..self }
+    }
+}
+
+impl Iterator for Children<'_, '_> {
+    type Item = Result<Vec<u8>, Error>;
+
+    fn next(&mut self) -> Option<Result<Vec<u8>, Error>> {
+        if self.is_at_end {
+            return None;
+        }
+        let found = self.job.order(self.key, &self.start, self.direction).transpose();
+        match &found {
+            Some(Ok(subscript)) => self.start.clone_from(subscript),
+            _ => self.is_at_end = true,
+        }
+        found
+    }
+}
+
+/// A node with its value.
+#[derive(Clone, Debug, PartialEq, Eq)]
+pub struct Node {
+    /// Its name and subscripts.
+    pub reference: Reference,
+    /// Its value.
+    pub value: Vec<u8>,
+}
+
+impl Node {
+    /// The node's key. [`OutOfMemory`](Error::OutOfMemory).
+    pub fn key(&self) -> Result<Key, Error> {
+        Key::of(self.reference.clone())
+    }
+}
+
+/// Nodes in order, of [`Database::walk`] and [`Database::walk_all`]. After an error there are no more.
+///
+/// They are read some hundreds at a time, each time in the database as it is committed then.
+pub struct Walk<'a> {
+    database: &'a Database,
+    root: Option<&'a Key>,
+    place: RawKey,
+    nodes: IntoIter<Node>,
+    is_at_end: bool,
+}
+
+impl<'a> Walk<'a> {
+    pub(crate) fn new(database: &'a Database, root: Option<&'a Key>) -> Walk<'a> {
+        Walk { database, root, place: RawKey::none(), nodes: Vec::new().into_iter(), is_at_end: false }
+    }
+
+    /// Reads the next nodes, as many as the engine's buffer has room for.
+    fn more(&mut self) -> Result<Vec<Node>, Error> {
+        let (database, place) = (self.database, &mut self.place);
+        let (outcome, bytes) = database.with(|engine| match self.root {
+            Some(root) => root.with(|root| lent(engine.walk(root, place))),
+            None => lent(engine.walk(&mut RawKey::none(), place)),
+        });
+        if outcome == outcome::AT_END {
+            return Ok(Vec::new());
+        }
+        done(outcome)?;
+        Ok(nodes_of(&bytes).expect("nodes lie in the buffer as the header says"))
+    }
+}
+
+impl Iterator for Walk<'_> {
+    type Item = Result<Node, Error>;
+
+    fn next(&mut self) -> Option<Result<Node, Error>> {
+        if self.nodes.len() == 0 && !self.is_at_end {
+            match self.more() {
+                Ok(nodes) => {
+                    self.is_at_end = nodes.is_empty();
+                    self.nodes = nodes.into_iter();
+                }
+                Err(refused) => {
+                    self.is_at_end = true;
+                    return Some(Err(refused));
+                }
+            }
+        }
+        self.nodes.next().map(Ok)
+    }
+}
+
+/// A length in eight bytes, the lowest first, and what follows it.
+fn split_length(bytes: &[u8]) -> Option<(usize, &[u8])> {
+    let (length, rest) = bytes.split_first_chunk::<8>()?;
+    Some((usize::try_from(u64::from_le_bytes(*length)).ok()?, rest))
+}
+
+/// The nodes in a buffer, each the lengths of key and value and then these; none where it isn't so.
+fn nodes_of(mut bytes: &[u8]) -> Option<Vec<Node>> {
+    let mut nodes = Vec::new();
+    while !bytes.is_empty() {
+        let (key_length, rest) = split_length(bytes)?;
+        let (value_length, rest) = split_length(rest)?;
+        let (key, rest) = rest.split_at_checked(key_length)?;
+        let (value, rest) = rest.split_at_checked(value_length)?;
+        nodes.push(Node { reference: Reference::of_key(key)?, value: value.to_vec() });
+        bytes = rest;
+    }
+    Some(nodes)
+}
