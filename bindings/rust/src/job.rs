@@ -221,7 +221,8 @@ impl<'a> Job<'a> {
     /// should do nothing outside of the database that may not be done twice. [`Transaction::restarts`] tells how often
     /// that was, for those who want to give up.
     ///
-    /// All commands of this job in the closure belong to the transaction, also those that come by lines. Refusals:
+    /// All commands of this job in the closure belong to the transaction, also those that come by lines; levels that it
+    /// opened by lines and left open are committed with it. Refusals:
     /// [`TransactionOpen`](Error::TransactionOpen) where the job is in a transaction already, and then the closure
     /// isn't called; [`NoTransaction`](Error::NoTransaction) where the closure has ended it.
     ///

@@ -33,8 +33,8 @@ impl<'a> Transaction<'a> {
                 continue;
             }
             let answer = answer?;
-            match self.job.tcommit() {
-                Ok(_) => {
+            match self.commit() {
+                Ok(()) => {
                     self.is_open.set(false);
                     return Ok(answer);
                 }
@@ -42,6 +42,12 @@ impl<'a> Transaction<'a> {
                 Err(refused) => return Err(refused.into()),
             }
         }
+    }
+
+    /// TCOMMIT down to level 0: the levels too that the closure opened by lines and left open.
+    fn commit(&self) -> Result<(), Error> {
+        while self.job.tcommit()? > 0 {}
+        Ok(())
     }
 
     /// TRESTART: drops what the transaction did, and answers [`Error::Restarted`], with which the closure has to end;

@@ -117,6 +117,18 @@ fn a_closure_that_ends_its_transaction_is_told() -> Result<(), Error> {
 }
 
 #[test]
+fn levels_left_open_are_committed_too() -> Result<(), Error> {
+    let (database, a) = (empty(), key("^A"));
+    database.transaction(1, |t| {
+        t.set(&a, "1")?;
+        database.line("1 TSTART").map(|reply| assert_eq!(reply, "1 level 2"))
+    })?;
+    assert_eq!(database.look_text(&a)?.as_deref(), Some("1"));
+    assert_eq!(database.line("1 $TLEVEL")?, "1 0");
+    Ok(())
+}
+
+#[test]
 fn a_transaction_may_be_too_long() -> Result<(), Error> {
     let (database, a) = (empty(), key("^A"));
     let refused = database.transaction(1, |t| (0..=65_535).try_for_each(|count| t.set(&a, count.to_string())));
