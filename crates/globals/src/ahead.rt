@@ -56,6 +56,20 @@ impl<'v> Ahead<'v> {
         if self.passed < self.run.len() {
             return self.run.node(self.passed);
         }
+        self.first_anew(view, cut, end)
+    }
+
+    // The view is asked. Apart, since what it answers is long, and room for it would be made ready for each node.
+    #[inline(never)]
+    fn first_anew<V: OrderedView>(
+        &mut self,
+        view: &'v V,
+        cut: Cut<'_>,
+        end: Option<Cut<'_>>,
+    ) -> Option<(&'v Key, &'v Text)>
+        ensures front { IsFront self.new (entries_from cut.entry (up_to end.entry (V.content view.now))) }
+        ensures first { MatchOption result (entries_from cut.entry (up_to end.entry (V.content view.now)) ≡ []) (λ e. self.new ≡ (e.0.now, e.1.now) ∷ drop 1 self.new) }
+    {
         self.run = view.gather(cut, end, self.most);
         self.passed = 0;
         self.most = (self.most * 2).min(MOST);
