@@ -1,5 +1,5 @@
 //! What lone look-ups pass over at once: stretches in which no node is left.
-ghost use Rattle.std.specs.Prelude.{◌≡◌, ℕ, List, [], IfSome};
+ghost use Rattle.std.specs.Prelude.{◌≡◌, ℕ, List, [], true, IfSome};
 ghost use Rattle.std.specs.FinMap as finmap;
 ghost use Rattle.collation.specs.Database.{Database};
 ghost use Rattle.command.specs.Data.{data_after};
@@ -14,7 +14,7 @@ use key_map::CutPoint;
 use read_ranges::ReadRange;
 use std::alloc::Global;
 use std::marker::Model;
-use stretches::{InTheWay, Stretches, scout};
+use stretches::{InTheWay, Stretches, scout, scout_kill};
 use validate_commit::Work;
 use version_store::KeyedStore;
 
@@ -68,8 +68,43 @@ impl Passing {
     {
         match command {
             DataCommand::Look(look) => self.look_ahead(alloc, store, look),
-            DataCommand::Kill(_) => self.note_kills(store, oldest),
+            DataCommand::Kill(_) => self.begin_kill(store, oldest),
             _ => self.leave(alloc, command),
+        }
+    }
+
+    /// The stretch that a lone KILL leaves while older content is asked for: no node stands there once it is done.
+    pub(crate) fn killed_by(&self, store: &KeyedStore, command: &DataCommand) -> Option<ReadRange>
+        ensures { (m : Database) → IfSome result (λ stretch. IsEmpty stretch (data_after command.now m)) }
+    {
+        match command {
+            DataCommand::Kill(root) => {
+                if !self.absences.are_sought_by_kill() {
+                    return None;
+                }
+                scout_kill(&Placed { store }, &self.stretches, root)
+            }
+            _ => None,
+        }
+    }
+
+    /// After a lone data command: where it is done the stretch that it has left is kept.
+    pub(crate) fn keep_killed(&mut self, is_done: bool, killed: &Option<ReadRange>)
+        ensures { (m : Database) → AreEmpty self.old m → (is_done ≡ true → IfSome killed.now (λ stretch. IsEmpty stretch m)) → AreEmpty self.new m }
+    {
+        self.absences.end_kill(killed.is_some());
+        if !is_done {
+            return;
+        }
+        self.stretches.follow(None, killed);
+    }
+
+    fn begin_kill(&mut self, store: &KeyedStore, oldest: Option<u64>)
+        ensures { self.new ≡ self.old }
+    {
+        self.note_kills(store, oldest);
+        if oldest.is_some() {
+            self.absences.begin_kill();
         }
     }
 

@@ -13,7 +13,7 @@ use overlay_view::Overlay;
 use refusal::Refusal;
 use std::alloc::Global;
 use std::test::*;
-use stretches::{InTheWay, Skipping, Stretches, scout};
+use stretches::{InTheWay, Skipping, Stretches, scout, scout_kill, scout_merge};
 use workspace::Workspace;
 
 // What is killed lies in the way.
@@ -192,5 +192,79 @@ fn a_level_that_is_empty_is_passed_over_by_one_look_up(rt: HostRuntime) -> Resul
     let (forward, backward) = counts_of_killed_thousand(rt.alloc())?;
     assert!(rt; forward == Some((11, 1)));
     assert!(rt; backward == Some((11, 1)));
+    Ok(())
+}
+
+// Whether a MERGE has a stretch to note, where nothing is noted yet.
+fn merge_has_one<V: OrderedView>(
+    alloc: Global,
+    view: &V,
+    own: &Workspace,
+    target: &Key,
+    source: &Key,
+) -> bool {
+    let stretches = Stretches::new(alloc);
+    let stretch = scout_merge(view, &Killed { own }, &stretches, target, source, 0);
+    stretch.is_some()
+}
+
+fn merge_has(
+    alloc: Global,
+    own: &Workspace,
+    map: &KeyMap<Text>,
+    target: &[u8],
+    source: &[u8],
+) -> Result<bool, Refusal> {
+    let source = key_of(alloc, source)?;
+    let found = match key_of(alloc, target) {
+        Ok(target) => {
+            let has = merge_has_one(alloc, &Overlay::new(own, map), own, &target, &source);
+            drop(target);
+            Ok(has)
+        }
+        Err(refusal) => Err(refusal),
+    };
+    drop(source);
+    found
+}
+
+// Whether a KILL has a stretch to note, where nothing is noted yet.
+fn kill_has(alloc: Global, own: &Workspace, root: &[u8]) -> Result<bool, Refusal> {
+    let root = key_of(alloc, root)?;
+    let stretch = scout_kill(&Killed { own }, &Stretches::new(alloc), &root);
+    drop(root);
+    Ok(stretch.is_some())
+}
+
+type Scouted = ((bool, bool, bool), (bool, bool));
+
+// Of MERGEs and KILLs, where ^A(0) to ^A(9) are killed.
+fn scouted(alloc: Global, own: &mut Workspace, map: &KeyMap<Text>) -> Result<Scouted, Refusal> {
+    kill_ten(alloc, own)?;
+    let many = merge_has(alloc, own, map, b"B", b"A")?;
+    let entered = merge_has(alloc, own, map, b"A5", b"A")?;
+    let few = merge_has(alloc, own, map, b"B", b"A5")?;
+    let kills = (kill_has(alloc, own, b"A")?, kill_has(alloc, own, b"A5")?);
+    Ok(((many, entered, few), kills))
+}
+
+fn scouted_of_thousand(alloc: Global) -> Result<Scouted, Refusal> {
+    let map = thousand(alloc)?;
+    let mut own = Workspace::new(alloc);
+    let found = scouted(alloc, &mut own, &map);
+    drop(own);
+    drop(map);
+    found
+}
+
+// Eight killed roots make one worth while, and the target of a MERGE may get nodes there.
+#[test]
+fn merge_and_kill_note_where_much_was_killed(rt: HostRuntime) -> Result<(), Fail> {
+    let (merges, kills) = scouted_of_thousand(rt.alloc())?;
+    assert!(rt; merges.0);
+    assert!(rt; !merges.1);
+    assert!(rt; !merges.2);
+    assert!(rt; kills.0);
+    assert!(rt; !kills.1);
     Ok(())
 }

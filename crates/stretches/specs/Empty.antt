@@ -1,12 +1,12 @@
 -- Stretches of references in which no member of a database stands.
-use Rattle.std.specs.Prelude.{◌≡◌, true, false, not, ◌&&◌, ◌||◌, List}
+use Rattle.std.specs.Prelude.{◌≡◌, true, false, not, ◌&&◌, ◌||◌, List, Option}
 use Rattle.std.specs.FinMap as finmap
 use Rattle.collation.specs.Reference.{Reference}
 use Rattle.collation.specs.Database.{Database}
 use Rattle.globals.specs.declared.cut.Cut.{Cut}
-use Rattle.globals.specs.Cuts.{stands_before}
+use Rattle.globals.specs.Cuts.{stands_before, stands_within}
 use Rattle.read_ranges.specs.declared.range.ReadRange.{ReadRange}
-use Rattle.read_ranges.specs.Ranges.{begins_after, between, ends_after, is_in, is_in_one}
+use Rattle.read_ranges.specs.Ranges.{begins_after, between, ends_after, is_in, is_in_one, AreEarlier}
 
 -- no member stands in the stretch
 abbrev pub IsEmpty : ReadRange → Database → Type 0
@@ -36,3 +36,8 @@ pub record LiesIn (cut : Cut) (stretch : ReadRange) : Type 0 where
 -- no member stands between two cuts
 abbrev pub IsFree : Cut → Cut → Database → Type 0
 IsFree low high m = (x : Reference) → between low high x ≡ true → finmap.contains_key m x ≡ false
+
+-- the second cut doesn't stand before the first, nor behind the end
+pub record StartsBetween (cut start : Cut) (end : Option Cut) : Type 0 where
+  pub behind : AreEarlier cut start
+  pub within : (x : Reference) → stands_before start x ≡ true → stands_within end x ≡ true

@@ -5,11 +5,13 @@
 //! any time, for want of memory too, and then a look-up takes longer and answers the same.
 //!
 //! A `Skipping` is a view over another view and its empty stretches: an ordered view with the same content. Where a
-//! look-up begins in a stretch it goes on from that stretch's end.
+//! look-up begins in a stretch it goes on from that stretch's end, and a run of neighbours ends where one begins, unless
+//! it has none.
 //!
 //! A stretch is found by a scout: look-ups from where a $ORDER or $QUERY begins tell that nothing stands up to the next
-//! nodes on both sides, or for $DATA that nothing stands below its reference, or up to the first node there. What lies
-//! in the way, killed nodes, is what makes it worth while (`InTheWay`).
+//! nodes on both sides, or for $DATA that nothing stands below its reference, or up to the first node there. A MERGE's
+//! begins at a killed node below its source and goes up to the next node; a KILL's is all at and under its reference,
+//! once it is done. What lies in the way, killed nodes, is what makes it worth while (`InTheWay`).
 //!
 //! Where ^A(1) to ^A(5000) were killed of ^A(1) to ^A(9000), $ORDER(^A("")) passes over 5,000 killed nodes to ^A(5001).
 //! Its scout finds the stretch from after ^A to past ^A(5000); once that is noted the next $ORDER(^A("")) begins there,
@@ -20,7 +22,7 @@
 //! Not promised: which stretches are kept, and how many look-ups a view is spared.
 #![tactic(auto)]
 
-pub use scouting::{InTheWay, scout};
+pub use scouting::{InTheWay, scout, scout_kill, scout_merge};
 pub use skipping::Skipping;
 pub use stretches_kept::Stretches;
 

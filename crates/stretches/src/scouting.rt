@@ -1,6 +1,10 @@
 //! Scouts: the stretch over which a command passes.
-ghost use Rattle.std.specs.Prelude.{◌≡◌, IfSome};
-ghost use Rattle.read_ranges.specs.Ranges.{AreEarlier};
+ghost use Rattle.std.specs.Prelude.{◌≡◌, true, false, IfSome};
+ghost use Rattle.collation.specs.Reference.{Reference};
+ghost use Rattle.collation.specs.Database.{Database, is_under};
+ghost use Rattle.command.specs.Data.{data_after};
+ghost use Rattle.command.specs.declared.access.DataCommand.TheVariants.{Kill as kill_command, Merge as merge_command};
+ghost use Rattle.read_ranges.specs.Ranges.{between, AreEarlier};
 ghost use Rattle.stretches.specs.Empty.{IsEmpty, IsFree};
 
 use crate::Stretches;
@@ -9,7 +13,7 @@ use collation::Direction;
 use command::Look;
 use globals::{Cut, OrderedView, order_start, query_start, stands_before};
 use key_codec::{Key, Place};
-use read_ranges::ReadRange;
+use read_ranges::{ReadRange, is_at_most};
 use std::alloc::{AllocError, Global};
 
 /// What may lie in the way of look-ups: references in order, most without a value. Advice, on which no contract rests.
@@ -57,6 +61,105 @@ pub fn scout<V: OrderedView, W: InTheWay>(
             let cut = query_start(place, Direction::Backward);
             scout_behind(alloc, view, way, stretches, cut, place)
         }
+    }
+}
+
+/// The stretch over which a MERGE passes: the first from a reference in the way below its source on, up to the next
+/// node, in which eight or more lie in the way, and which has no reference that may be set. It is looked for behind so
+/// many nodes at most. None where memory is refused, which is asked for only where a key has over 38 bytes.
+pub fn scout_merge<V: OrderedView, W: InTheWay>(
+    view: &V,
+    way: &W,
+    stretches: &Stretches,
+    target: &Key,
+    source: &Key,
+    copies: usize,
+) -> Option<ReadRange>
+    ensures { IfSome result (λ stretch. IsEmpty stretch (data_after (merge_command target.now source.now) (V.content view.now))) }
+{
+    let mut cut = Cut::Before(source);
+    for _ in 0..copies.saturating_add(1) {
+        match first_within(way, cut, source) {
+            Some(first) => {
+                let low = stretches.end_from(Cut::Before(first));
+                let high = edge_below(view, low, source);
+                if are_many(way, low, high) {
+                    return beside(view, low, high, target, source);
+                }
+                cut = behind(high);
+            }
+            None => return None,
+        }
+    }
+    None
+}
+
+// The first in the way from the cut on, if it stands at or under the reference. Advice.
+fn first_within<'w, W: InTheWay>(way: &'w W, cut: Cut<'_>, root: &Key) -> Option<&'w Key> {
+    match way.first_from(cut) {
+        Some(key) => {
+            if stands_before(Cut::Past(root), key) {
+                Some(key)
+            } else {
+                None
+            }
+        }
+        None => None,
+    }
+}
+
+// Behind the node before which the cut stands, or the cut itself. Advice.
+fn behind(cut: Cut<'_>) -> Cut<'_> {
+    match cut {
+        Cut::Before(key) => Cut::After(key),
+        _ => cut,
+    }
+}
+
+// What lies between two cuts, between which no node stands, if it lies beside the target of a MERGE.
+fn beside<V: OrderedView>(
+    view: &V,
+    low: Cut<'_>,
+    high: Cut<'_>,
+    target: &Key,
+    source: &Key,
+) -> Option<ReadRange>
+    requires { IsFree low high (V.content view.now) }
+    ensures { IfSome result (λ stretch. IsEmpty stretch (data_after (merge_command target.now source.now) (V.content view.now))) }
+{
+    if !lies_beside(low, high, target) {
+        return None;
+    }
+    match ReadRange::new(low, high) {
+        Ok(stretch) => Some(stretch),
+        Err(AllocError) => None,
+    }
+}
+
+// Whether nothing at and under the reference lies between two cuts.
+fn lies_beside(low: Cut<'_>, high: Cut<'_>, target: &Key) -> bool
+    ensures { result ≡ true → (x : Reference) → between low.entry high.entry x ≡ true → is_under target.now x ≡ false }
+{
+    if is_at_most(high, Cut::Before(target)) {
+        return true;
+    }
+    is_at_most(Cut::Past(target), low)
+}
+
+/// The stretch at and under the reference of a KILL, which has no node once that is done: where it begins in one that is
+/// kept; or, of those that are kept at most one, where eight or more lie in the way there. None where memory is refused,
+/// as for `scout`.
+pub fn scout_kill<W: InTheWay>(way: &W, stretches: &Stretches, root: &Key) -> Option<ReadRange>
+    ensures { (m : Database) → IfSome result (λ stretch. IsEmpty stretch (data_after (kill_command root.now) m)) }
+{
+    let low = Cut::Before(root);
+    let high = Cut::Past(root);
+    if !stretches.have(low) && !(stretches.have_room() && are_many(way, low, high)) {
+        return None;
+    }
+    match ReadRange::new(low, high) {
+        Ok(stretch) => Some(stretch),
+        Err(AllocError) => None,
     }
 }
 

@@ -1,8 +1,10 @@
 //! The view that passes over stretches in which nothing stands.
-ghost use Rattle.std.specs.Prelude.{◌≡◌};
+ghost use Rattle.std.specs.Prelude.{◌≡◌, ◌≤◌};
+ghost use Rattle.globals.specs.Cuts.{entries_from, up_to, IsRun};
 ghost use Rattle.stretches.specs.Empty.{AreEmpty};
 
 use crate::Stretches;
+use crate::stretches_kept::MOST;
 use collation::Text;
 use globals::{Cut, OrderedView, Run};
 use key_codec::Key;
@@ -25,6 +27,37 @@ impl<'v, V: OrderedView> Skipping<'v, V> {
     }
 }
 
+// The first members from the cut on and before the end: those up to the next stretch, and if there are none those behind
+// it.
+fn gather_past<'v, V: OrderedView>(
+    view: &'v V,
+    stretches: &'v Stretches,
+    cut: Cut<'_>,
+    end: Option<Cut<'_>>,
+    most: usize,
+) -> Run<'v>
+    requires empty { AreEmpty stretches.now (V.content view.now) }
+    requires some { 1 ≤ most }
+    requires few { most ≤ 32 }
+    ensures { IsRun most result (entries_from cut.entry (up_to end.entry (V.content view.now))) }
+{
+    let mut from = cut;
+    for _ in 0..MOST {
+        from = stretches.end_from(from);
+        match stretches.next_start(from, end) {
+            Some(start) => {
+                let run = view.gather(from, Some(start), most);
+                if run.len() > 0 {
+                    return run;
+                }
+                from = start;
+            }
+            None => return view.gather(from, end, most),
+        }
+    }
+    view.gather(from, end, most)
+}
+
 impl<'v, V: OrderedView> OrderedView for Skipping<'v, V> {
     ghost content = { λ s. V.content s.view.now };
 
@@ -37,7 +70,7 @@ impl<'v, V: OrderedView> OrderedView for Skipping<'v, V> {
     }
 
     fn gather(&self, cut: Cut<'_>, end: Option<Cut<'_>>, most: usize) -> Run<'_> {
-        self.view.gather(self.stretches.end_from(cut), end, most)
+        gather_past(self.view, self.stretches, cut, end, most)
     }
 
     fn prev(&self, cut: Cut<'_>, floor: Option<Cut<'_>>) -> Option<(&Key, &Text)> {

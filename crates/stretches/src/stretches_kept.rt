@@ -4,8 +4,9 @@ ghost use Rattle.std.specs.Prelude.{◌≡◌, ◌&&◌, ◌||◌, ◌≤◌, �
 ghost use Rattle.collation.specs.Reference.{Reference};
 ghost use Rattle.collation.specs.Database.{Database};
 ghost use Rattle.command.specs.Data.{data_after};
+ghost use Rattle.globals.specs.Cuts.{stands_before, stands_within};
 ghost use Rattle.read_ranges.specs.Ranges.{between, is_in, is_in_one};
-ghost use Rattle.stretches.specs.Empty.{AreEmpty, AreLeft, AreNoMore, IsEmpty, LiesIn, PartAlike};
+ghost use Rattle.stretches.specs.Empty.{AreEmpty, AreLeft, AreNoMore, IsEmpty, LiesIn, PartAlike, StartsBetween};
 
 use crate::cuts::{earlier, later};
 use command::DataCommand;
@@ -16,7 +17,7 @@ use std::alloc::{AllocError, Global};
 use std::marker::Model;
 
 // How many stretches are kept at most.
-const MOST: usize = 4;
+pub(crate) const MOST: usize = 4;
 
 /// Some stretches of the order, at most four. They are seen as a list of ranges.
 #[derive(Debug, Drop)]
@@ -150,17 +151,37 @@ impl Stretches {
             .any(|stretch| has_cut(stretch, cut))
     }
 
-    // Where a look-up forward from the cut begins: at the end of a stretch in which the cut lies.
+    // Whether one that no look-up has found may be put in: it leaves room for those of three. Advice.
+    pub(crate) fn have_room(&self) -> bool {
+        self.ranges.len() < 2
+    }
+
+    // Where a look-up forward from the cut begins: at the end of a stretch in which the cut lies, or of one in which
+    // that end lies.
     pub(crate) fn end_from<'c>(&'c self, cut: Cut<'c>) -> Cut<'c>
         ensures { (m : Database) → AreEmpty self.now m → PartAlike cut.entry result m }
     {
-        for i in 0..self.ranges.len() {
-            let stretch = &self.ranges.ranges()[i];
-            if has_cut(stretch, cut) {
-                return stretch.high();
+        let mut end = cut;
+        for _ in 0..MOST {
+            match self.end_behind(end) {
+                Some(next) => end = next,
+                None => return end,
             }
         }
-        cut
+        end
+    }
+
+    // The end of a stretch in which the cut lies, where it stands behind the cut.
+    fn end_behind<'c>(&'c self, cut: Cut<'c>) -> Option<Cut<'c>>
+        ensures { (m : Database) → AreEmpty self.now m → IfSome result (λ end. PartAlike cut.entry end m) }
+    {
+        for i in 0..self.ranges.len() {
+            let stretch = &self.ranges.ranges()[i];
+            if goes_on(stretch, cut) {
+                return Some(stretch.high());
+            }
+        }
+        None
     }
 
     // Where a look-up backward from the cut begins: at the beginning of a stretch in which the cut lies.
@@ -174,6 +195,54 @@ impl Stretches {
             }
         }
         cut
+    }
+
+    // Where the next stretch behind the cut begins, if that is before the end.
+    pub(crate) fn next_start<'c>(&'c self, cut: Cut<'_>, end: Option<Cut<'_>>) -> Option<Cut<'c>>
+        ensures { IfSome result (λ start. StartsBetween cut.entry start end.entry) }
+    {
+        let mut nearest = None;
+        for i in 0..self.ranges.len() {
+            let start = self.ranges.ranges()[i].low();
+            nearest = nearer(cut, start, end, nearest);
+        }
+        nearest
+    }
+}
+
+// The start, if it stands behind the cut and not behind the end nor behind the nearest so far; else that.
+fn nearer<'c>(
+    cut: Cut<'_>,
+    start: Cut<'c>,
+    end: Option<Cut<'_>>,
+    nearest: Option<Cut<'c>>,
+) -> Option<Cut<'c>>
+    requires { IfSome nearest (λ found. StartsBetween cut found end) }
+    ensures { IfSome result (λ found. StartsBetween cut.entry found end.entry) }
+{
+    if !stands_between(cut, start, end) {
+        return nearest;
+    }
+    if is_within(start, nearest) {
+        return Some(start);
+    }
+    nearest
+}
+
+// Whether the second cut stands behind the first, and not behind the end.
+fn stands_between(cut: Cut<'_>, start: Cut<'_>, end: Option<Cut<'_>>) -> bool
+    ensures { result ≡ true → StartsBetween cut.entry start.entry end.entry }
+{
+    !is_at_most(start, cut) && is_within(start, end)
+}
+
+// Whether the cut doesn't stand behind the end, where there is one.
+fn is_within(cut: Cut<'_>, end: Option<Cut<'_>>) -> bool
+    ensures { result ≡ true → (x : Reference) → stands_before cut.entry x ≡ true → stands_within end.entry x ≡ true }
+{
+    match end {
+        Some(end) => is_at_most(cut, end),
+        None => true,
     }
 }
 
@@ -261,4 +330,11 @@ fn has_cut(stretch: &ReadRange, cut: Cut<'_>) -> bool
     ensures { result ≡ true → LiesIn cut.entry stretch.now }
 {
     is_at_most(stretch.low(), cut) && is_at_most(cut, stretch.high())
+}
+
+// Whether the cut lies in the stretch, or at its beginning.
+fn goes_on(stretch: &ReadRange, cut: Cut<'_>) -> bool
+    ensures { result ≡ true → LiesIn cut.entry stretch.now }
+{
+    has_cut(stretch, cut) && !is_at_most(stretch.high(), cut)
 }

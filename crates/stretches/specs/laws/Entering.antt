@@ -41,6 +41,15 @@ fewer false o none = none
 pub stay_after_kill : (rs : List ReadRange) (r : Reference) (m : Database) → AreEmpty rs m → AreEmpty rs (data_after (Kill r) m)
 stay_after_kill rs r m empty x h = ap is_some (kill_subtree m r x) ∙ fewer (is_under r x) (finmap.get m x) (empty x h)
 
+-- ---- one stretch
+
+pub gone_after_kill : (s : ReadRange) (r : Reference) → ((x : Reference) → is_in s x ≡ true → is_under r x ≡ true) → (m : Database) → IsEmpty s (data_after (Kill r) m)
+gone_after_kill s r under m x h = ap is_some (kill_subtree m r x ∙ ap (λ u. cond u None (finmap.get m x)) (under x h))
+
+pub empty_after_merge : (s : ReadRange) (a b : Reference) (m : Database) → IsEmpty s m → ((x : Reference) → is_in s x ≡ true → is_under a x ≡ false) → IsEmpty s (data_after (Merge a b) m)
+empty_after_merge s a b m is beside x h =
+    ap is_some (merge_subtree m a b x ∙ ap (λ u. cond u (option_or (finmap.get m (moved b a x)) (finmap.get m x)) (finmap.get m x)) (beside x h)) ∙ is x h
+
 -- ---- what is left without some references
 
 module _ (P : Reference → Bool) (old new : List ReadRange) (left : (x : Reference) → is_in_one new x ≡ true → (is_in_one old x && not (P x)) ≡ true) (m : Database) (were : AreEmpty old m) where
