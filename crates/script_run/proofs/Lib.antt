@@ -1,6 +1,7 @@
 pub mod Cut
 pub mod Exact
 pub mod Flags
+pub mod Halts
 pub mod Outcomes
 pub mod Runs
 pub mod Stands

@@ -2,6 +2,7 @@
 use Rattle.std.proofs.Common.{◌≡◌, ℕ, suc, ◌+◌, ◌-◌, ◌<◌, ◌≤◌, take, Bool, true, List, [], ◌∷◌, ◌++◌, map, length, drop, Option, Result, Ok, Err, inl, inr, refl, sym, ap, subst, ◌∙◌, append_assoc, arith, length-drop, drop-drop}
 use Rattle.std.proofs.lemmas.List.{append-nil, map-append}
 use Rattle.std.proofs.lemmas.Grind.{flat_map-append}
+use Rattle.collation.specs.Database.{Database}
 use Rattle.command.specs.declared.request.Command.{Command}
 use Rattle.command.specs.declared.request.Reply.{Reply}
 use Rattle.command.specs.declared.request.Reply.TheVariants.{Refused}
@@ -341,36 +342,37 @@ joined_broke_first begun piece line end a p q none found line-is broke = record 
 
 -- ---- the end of input
 
--- the open jobs were halted after the last line
-pub halted : (ls : List (List ℕ)) (a b : Script) (core : Machine) (p q : Option (List ℕ)) (h : Ran ls a b p q) → core ≡ run_of (halts_of b.jobs) b.core.machine → core ≡ left_at_end h.answers a.jobs a.core.machine
-halted ls a b core p q h e = e ∙ (λ i. run_of (halts_of (h.jobs i)) (h.machine i))
+-- the database as the open jobs' HALTs leave it after the last line
+pub halted_nodes : (ls : List (List ℕ)) (a b : Script) (m : Database) (p q : Option (List ℕ)) (h : Ran ls a b p q) → m ≡ (after_units (run_of (halts_of b.jobs) b.core.machine).units initial).map
+    → m ≡ (after_units (left_at_end h.answers a.jobs a.core.machine).units initial).map
+halted_nodes ls a b m p q h e = e ∙ (λ i. (after_units (run_of (halts_of (h.jobs i)) (h.machine i)).units initial).map)
 
 halted-good : (ls : List (List ℕ)) (a b : Script) (p q : Option (List ℕ)) (h : Ran ls a b p q) → IsGood a.core.machine → IsGood (left_at_end h.answers a.jobs a.core.machine)
 halted-good ls a b p q h l = good_run (halts_of (left_open h.answers a.jobs)) (left_by h.answers a.core.machine) (subst IsGood h.machine (h.good l))
 
 -- and then the ending was written
-pub ended : (listed : Bool) (begun : List ℕ) (a b c : Script) (core : Machine) (p q r : Option (List ℕ)) → Ran (nonempty_line begun) a b p q → core ≡ run_of (halts_of b.jobs) b.core.machine → Appends q r (b.out.items ++ ending listed (after_units core.units initial).map)
+pub ended : (listed : Bool) (begun : List ℕ) (a b c : Script) (m : Database) (p q r : Option (List ℕ)) → Ran (nonempty_line begun) a b p q → m ≡ (after_units (run_of (halts_of b.jobs) b.core.machine).units initial).map → Appends q r (b.out.items ++ ending listed m)
     → c.outcome ≡ b.outcome → RanEnd listed begun a c p r
-ended listed begun a b c core p q r h e w d = record {
+ended listed begun a b c m p q r h e w d = record {
   answers = h.answers;
   of_lines = h.of_lines;
   each = h.each;
   good = halted-good (nonempty_line begun) a b p q h;
   outcome = d ∙ h.outcome;
-  written = subst (λ (s : Machine). Appends p r ((a.out.items ++ text_of h.answers) ++ ending listed (after_units s.units initial).map)) (halted (nonempty_line begun) a b core p q h e)
-      (Passes-Appends p q r _ _ (Passes-more p q (a.out.items ++ text_of h.answers) b.out.items (ending listed (after_units core.units initial).map) h.passes) w);
+  written = subst (λ (d : Database). Appends p r ((a.out.items ++ text_of h.answers) ++ ending listed d)) (halted_nodes (nonempty_line begun) a b m p q h e)
+      (Passes-Appends p q r _ _ (Passes-more p q (a.out.items ++ text_of h.answers) b.out.items (ending listed m) h.passes) w);
 }
 
 -- or a beginning of it
-pub broke_ending : (listed : Bool) (begun : List ℕ) (a b : Script) (core : Machine) (p q r : Option (List ℕ)) → Ran (nonempty_line begun) a b p q → core ≡ run_of (halts_of b.jobs) b.core.machine
-    → WritesBeginning q r (b.out.items ++ ending listed (after_units core.units initial).map) → BrokeEnd listed begun a p r
-broke_ending listed begun a b core p q r h e w = record {
+pub broke_ending : (listed : Bool) (begun : List ℕ) (a b : Script) (m : Database) (p q r : Option (List ℕ)) → Ran (nonempty_line begun) a b p q → m ≡ (after_units (run_of (halts_of b.jobs) b.core.machine).units initial).map
+    → WritesBeginning q r (b.out.items ++ ending listed m) → BrokeEnd listed begun a p r
+broke_ending listed begun a b m p q r h e w = record {
   answers = h.answers;
   of_lines = h.of_lines;
   each = h.each;
   good = halted-good (nonempty_line begun) a b p q h;
-  begun = subst (λ (s : Machine). WritesBeginning p r ((a.out.items ++ text_of h.answers) ++ ending listed (after_units s.units initial).map)) (halted (nonempty_line begun) a b core p q h e)
-      (Passes-begun p q r _ _ (Passes-more p q (a.out.items ++ text_of h.answers) b.out.items (ending listed (after_units core.units initial).map) h.passes) w);
+  begun = subst (λ (d : Database). WritesBeginning p r ((a.out.items ++ text_of h.answers) ++ ending listed d)) (halted_nodes (nonempty_line begun) a b m p q h e)
+      (Passes-begun p q r _ _ (Passes-more p q (a.out.items ++ text_of h.answers) b.out.items (ending listed m) h.passes) w);
 }
 
 -- the run broke off in the last line
@@ -382,7 +384,3 @@ broke_last listed begun a p r h = record {
   good = λ l. good_run (halts_of (left_open h.answers a.jobs)) (left_by h.answers a.core.machine) (h.good l);
   begun = WritesBeginning-longer p r (a.out.items ++ text_of h.answers) _ h.begun;
 }
-
--- or in the HALTs after it
-pub broke_halts : (listed : Bool) (begun : List ℕ) (a b : Script) (p q : Option (List ℕ)) → Ran (nonempty_line begun) a b p q → BrokeEnd listed begun a p q
-broke_halts listed begun a b p q h = broke_last listed begun a p q (Broke-after (nonempty_line begun) a b p q q h (nothing_begun q b.out.items))

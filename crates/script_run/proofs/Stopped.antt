@@ -30,7 +30,7 @@ use Rattle.script_run.specs.Replies.{IsLost}
 use Rattle.script_run.specs.Runs.{Ran, RanFront, HasRead, Stopped, StoppedFront, EndedFront, StoppedEnd, HasGathered}
 use Rattle.script_run.specs.declared.answers.Script.{Script}
 use Rattle.script_run.specs.laws.Lines.{last_line}
-use Rattle.script_run.proofs.Runs.{AreAnswers-append, left-then, open-then, next-line, joined-split, joined_first, halted}
+use Rattle.script_run.proofs.Runs.{AreAnswers-append, left-then, open-then, next-line, joined-split, joined_first, halted_nodes}
 use Rattle.script_run.proofs.Stands.{Stands, Follows, Follows-more, Follows-lines, lines_in, lines-append, at_end, goes_on}
 
 -- ---- faults that are passed on
@@ -184,9 +184,9 @@ stopped_last listed line a b p q h = record {
 }
 
 -- all lines were answered, and then a front of what follows was gathered
-pub stopped_ending : (listed : Bool) (line : List ℕ) (a b c : Script) (core : Machine) (p q r : Option (List ℕ)) → Ran (nonempty_line line) a b p q → core ≡ run_of (halts_of b.jobs) b.core.machine
-    → EndedFront listed (after core.units initial).map b.out.items c.out.items q r → StoppedEnd listed line a c p r
-stopped_ending listed line a b c core p q r h e k = record {
+pub stopped_ending : (listed : Bool) (line : List ℕ) (a b c : Script) (m : Database) (p q r : Option (List ℕ)) → Ran (nonempty_line line) a b p q → m ≡ (after (run_of (halts_of b.jobs) b.core.machine).units initial).map
+    → EndedFront listed m b.out.items c.out.items q r → StoppedEnd listed line a c p r
+stopped_ending listed line a b c m p q r h e k = record {
   answers = h.answers;
   lost = [];
   unread = [];
@@ -196,14 +196,9 @@ stopped_ending listed line a b c core p q r h e k = record {
   each = subst (AreAnswers a.core.machine) (sym (append-nil h.answers)) h.each;
   machine = inl refl;
   good = λ l. subst IsGood h.machine (h.good l);
-  front = subst (λ (s : Machine). (k.behind ≡ []) ⊎ IsEndingFront listed [] (after s.units initial).map k.behind) (halted (nonempty_line line) a b core p q h e) k.front;
+  front = subst (λ (d : Database). (k.behind ≡ []) ⊎ IsEndingFront listed [] d k.behind) (halted_nodes (nonempty_line line) a b m p q h e) k.front;
   passes = Passes-then p q r _ (b.out.items ++ k.behind) c.out.items (Passes-more p q (a.out.items ++ text_of h.answers) b.out.items k.behind h.passes) k.passes;
 }
-
--- all lines were answered, and a HALT found no memory
-pub stopped_halts : (listed : Bool) (line : List ℕ) (a b c : Script) (p q : Option (List ℕ)) → Ran (nonempty_line line) a b p q → c.out.items ≡ b.out.items → StoppedEnd listed line a c p q
-stopped_halts listed line a b c p q h o =
-    stopped_ending listed line a b c (run_of (halts_of b.jobs) b.core.machine) p q q h refl (ended_before listed _ b.out.items c.out.items q o)
 
 -- ---- a whole script
 

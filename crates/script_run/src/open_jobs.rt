@@ -1,7 +1,8 @@
 //! The jobs whose sessions are open, in order of their first accepted lines.
-ghost use Rattle.std.specs.Prelude.{◌≡◌, ◌==◌, [], IfOk, OnOk};
-ghost use Rattle.std.specs.List.{list_any};
+ghost use Rattle.std.specs.Prelude.{◌≡◌, ◌==◌, true, [], IfOk};
 ghost use Rattle.command.specs.declared.request.Command.TheVariants.{Halt};
+ghost use Rattle.std.specs.List.{list_any};
+ghost use Rattle.journal.specs.History.{initial, after};
 ghost use Rattle.serial.specs.Machine.{step_of, run_of};
 ghost use Rattle.script_run.specs.OpenJobs.{has_joined, without_job, open_after, is_open as is_open_spec};
 ghost use Rattle.script_run.specs.Output.{halts_of};
@@ -94,22 +95,30 @@ impl OpenJobs {
     }
 }
 
-// The job's HALT. A full journal refuses it, and that is passed over.
-fn halt(core: &mut JobCore, job: Job) -> Result<(), AllocError>
-    ensures { OnOk result (core.new.machine ≡ step_of job Halt core.old.machine) }
+// The job's HALT. Answers whether it was done or refused by a full journal, and not for want of memory. Either way no
+// node changes.
+#[tactic(auto, using(crate::proofs::Halts::same_nodes))]
+fn halt(core: &mut JobCore, job: Job) -> bool
+    ensures done { result ≡ true → core.new.machine ≡ step_of job Halt core.old.machine }
+    ensures nodes { (after core.new.machine.units initial).map ≡ (after core.old.machine.units initial).map }
 {
     match core.step(job, Command::Halt) {
-        Reply::Refused(Refusal::OutOfMemory) => Err(AllocError),
-        _ => Ok(()),
+        Reply::Refused(Refusal::OutOfMemory) => false,
+        _ => true,
     }
 }
 
-// Halts these jobs in order. Broken off where memory is refused for a HALT.
-pub(crate) fn halt_open(core: &mut JobCore, jobs: &[Job]) -> Result<(), AllocError>
-    ensures { OnOk result (core.new.machine ≡ run_of (halts_of jobs.now) core.old.machine) }
+// Halts these jobs in order, and passes over those whose HALT finds no memory. Answers whether there was none. Either
+// way the database is as all their HALTs leave it.
+pub(crate) fn halt_open(core: &mut JobCore, jobs: &[Job]) -> bool
+    ensures done { result ≡ true → core.new.machine ≡ run_of (halts_of jobs.now) core.old.machine }
+    ensures nodes { (after core.new.machine.units initial).map ≡ (after (run_of (halts_of jobs.now) core.old.machine).units initial).map }
 {
+    let mut done = true;
     'jobs: for job in jobs {
-        halt(core, *job)?;
+        if !halt(core, *job) {
+            done = false;
+        }
     }
-    Ok(())
+    done
 }

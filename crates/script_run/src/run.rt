@@ -119,7 +119,7 @@ fn finish<W: Write>(
     ensures stopped { IsErrOf result ListingFault.Memory → StoppedEnd listed begun.now script.old script.new (W.contents writer.old.inner) (W.contents writer.new.inner) }
 {
     run_counted(alloc, script, begun, writer, log)?;
-    halt_open(&mut script.core, script.jobs.as_slice())?;
+    let _done = halt_open(&mut script.core, script.jobs.as_slice());
     write_ending(alloc, listed, script, writer)?;
     Ok(())
 }
@@ -306,9 +306,9 @@ pub fn run_with<R: Read, W: Write>(
 
 /// Runs a script: reads lines to the end of input, does each in its turn and writes a reply to each. Then it halts the
 /// open jobs, in order of their first accepted lines, and writes the listing. A job is open from its first accepted
-/// line, which is read as a command and not refused memory, until a HALT that is done; a HALT at the end that a full
-/// journal refuses (`StampsUsedUp`) is passed over. Replies are written before the next read, and earlier where 16,384
-/// bytes of them are gathered.
+/// line, which is read as a command and not refused memory, until a HALT that is done; a HALT at the end that is refused,
+/// by a full journal (`StampsUsedUp`) or for want of memory, is passed over, since it changes no node. Replies are
+/// written before the next read, and earlier where 16,384 bytes of them are gathered.
 ///
 /// After as many replies as `upkeep` says the collector passes over all keys, and a checkpoint drops the journal's
 /// beginning. No reply and no listing depends on them, but for what fits into memory; one that finds none is left out.
@@ -320,8 +320,7 @@ pub fn run_with<R: Read, W: Write>(
 /// the listing; at most one line more was done, whose reply found no memory. No reply that was gathered is lost, unless
 /// its write fails, which is `Write`. `Read` and `Write` come only where a call of the reader or the writer failed,
 /// `Memory` only where none did and no reply could say that memory was refused: for the buffer and the list of open
-/// jobs, a line that goes on in the next piece, a reply, a line of the listing, an open job's HALT; or after 2^64 - 1
-/// reads.
+/// jobs, a line that goes on in the next piece, a reply, a line of the listing; or after 2^64 - 1 reads.
 pub fn run_script<R: Read, W: Write>(
     alloc: Global,
     upkeep: Upkeep,

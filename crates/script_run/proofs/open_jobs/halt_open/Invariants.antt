@@ -1,8 +1,12 @@
-use Rattle.std.proofs.Common.{◌≡◌, drop}
+use Rattle.std.proofs.Common.{◌≡◌, true, drop}
+use Rattle.journal.specs.History.{initial, after}
 use Rattle.serial.specs.Machine.{run_of}
 use Rattle.script_run.specs.Output.{halts_of}
 use Rattle.script_run.proofs.open_jobs.halt_open.Given as goal
 
--- with the HALTs of the jobs left it will be what all HALTs leave
+-- if each was done, it will be what all HALTs leave with those of the jobs left; and the database is as it was
 abbrev pub invariant-jobs : goal.invariant-jobs
-invariant-jobs l = run_of (halts_of (drop l.job-index l.jobs)) l.core.machine ≡ run_of (halts_of l.jobs) l.fn.core.machine
+invariant-jobs l = record {
+  done : l.done ≡ true → run_of (halts_of (drop l.job-index l.jobs)) l.core.machine ≡ run_of (halts_of l.jobs) l.fn.core.machine;
+  nodes : (after l.core.machine.units initial).map ≡ (after l.fn.core.machine.units initial).map;
+}
