@@ -13,14 +13,15 @@
  *     vg_key_end(&key);
  *     vg_end(&engine);
  *
- * In order: outcomes, engines, lines, the listing, upkeep, keys, data, walks, looks, locks, transactions.
+ * In order: outcomes, engines, lines, the listing, upkeep, keys, data, walks, views, looks, locks, transactions.
  *
  * An engine does the commands of up to 4,096 jobs, one call at a time. Callers on several threads hold a mutex of
  * their own round each call, also of one that only looks: each call takes the engine out and puts it back. Two engines
  * have nothing in common.
  *
- * Reads by vg_get, vg_order and vg_query are commands, and stay in the journal until vg_checkpoint. Use vg_look and
- * vg_walk where that isn't wanted.
+ * Reads by vg_get, vg_data, vg_order and vg_query are commands, and stay in the journal until vg_checkpoint. Use
+ * vg_look, vg_look_data, vg_look_order, vg_look_query and vg_walk where that isn't wanted, and a view (vg_view_begin)
+ * to see one moment in many calls.
  *
  * Every call returns an outcome: VG_DONE, a refusal (1 to 15; 16 to 18 come from no call here), or one of the library's
  * own (from 32). After a refusal the database is as it was. A call of a job, whose number is 1 to 4,096, may return
@@ -82,7 +83,8 @@ enum {
     VG_UNKNOWN_NUMBER = 38,   /* no outcome has that number */
     VG_NO_KEY = 39,           /* none was made, or it was ended */
     VG_RESTARTED = 40,        /* the transaction restarts: what it did is dropped */
-    VG_NO_VALUE = 41          /* the reference has no value */
+    VG_NO_VALUE = 41,         /* the reference has no value */
+    VG_TRANSACTION_OPEN = 42  /* the job has an open transaction or a view already */
 };
 
 /* The ways in which vg_order and vg_query go. Any other number is backward too. */
@@ -90,6 +92,9 @@ enum { VG_FORWARD = 0, VG_BACKWARD = 1 };
 
 /* Where vg_query starts: at the key, or at an empty subscript below it, as in ^A(1,""). Any other number is as 1. */
 enum { VG_AT_KEY = 0, VG_BELOW_KEY = 1 };
+
+/* The moment of vg_view_look and its like that is no view: the database as it is now. */
+enum { VG_NOW = 0 };
 
 /* ---- What the caller keeps ---- */
 
@@ -156,7 +161,7 @@ vg_outcome vorgushan_line(vg_engine *engine, const char *line, size_t line_lengt
                           size_t *reply_length);
 vg_outcome vorgushan_reply(vg_engine *engine, char *reply, size_t reply_size, size_t *reply_length);
 vg_outcome vorgushan_list_from_start(vg_engine *engine);
-vg_outcome vorgushan_list_next(vg_engine *engine, char *node, size_t node_size, size_t *node_length);
+vg_outcome vorgushan_list_next(vg_engine *engine, uint64_t moment, char *node, size_t node_size, size_t *node_length);
 vg_outcome vorgushan_collect(vg_engine *engine, size_t nodes);
 vg_outcome vorgushan_checkpoint(vg_engine *engine);
 vg_outcome vorgushan_statistics(vg_engine *engine, vg_statistics *statistics);
@@ -164,6 +169,7 @@ vg_outcome vorgushan_key_name(vg_key *key, const char *name, size_t name_length)
 vg_outcome vorgushan_key_subscript(vg_key *key, const char *subscript, size_t subscript_length);
 vg_outcome vorgushan_key_spell(vg_key *key, vg_draft *draft, const char *name, size_t name_length,
                                const vg_text *subscripts, size_t count);
+vg_outcome vorgushan_key_bytes(vg_key *key, char *bytes, size_t bytes_size, size_t *bytes_length);
 void vorgushan_draft_end(vg_draft *draft);
 vg_outcome vorgushan_key_end(vg_key *key);
 vg_outcome vorgushan_set(vg_engine *engine, uint64_t job, vg_key *key, const char *value, size_t value_length);
@@ -175,9 +181,16 @@ vg_outcome vorgushan_data(vg_engine *engine, uint64_t job, vg_key *key, uint64_t
 vg_outcome vorgushan_order(vg_engine *engine, uint64_t job, vg_key *key, const char *start, size_t start_length,
                            uint32_t backward, char *subscript, size_t subscript_size, size_t *subscript_length);
 vg_outcome vorgushan_query(vg_engine *engine, uint64_t job, vg_key *key, uint32_t is_open, uint32_t backward);
-vg_outcome vorgushan_look(vg_engine *engine, vg_key *key, char *value, size_t value_size, size_t *value_length);
-vg_outcome vorgushan_walk(vg_engine *engine, vg_key *root, vg_key *place, char *nodes, size_t nodes_size,
-                          size_t *nodes_length);
+vg_outcome vorgushan_view_begin(vg_engine *engine, uint64_t job);
+vg_outcome vorgushan_look(vg_engine *engine, uint64_t moment, vg_key *key, char *value, size_t value_size,
+                          size_t *value_length);
+vg_outcome vorgushan_look_data(vg_engine *engine, uint64_t moment, vg_key *key, uint64_t *number);
+vg_outcome vorgushan_look_order(vg_engine *engine, uint64_t moment, vg_key *key, const char *start,
+                                size_t start_length, uint32_t backward, char *subscript, size_t subscript_size,
+                                size_t *subscript_length);
+vg_outcome vorgushan_look_query(vg_engine *engine, uint64_t moment, vg_key *key, uint32_t is_open, uint32_t backward);
+vg_outcome vorgushan_walk(vg_engine *engine, uint64_t moment, vg_key *root, vg_key *place, char *nodes,
+                          size_t nodes_size, size_t *nodes_length);
 vg_outcome vorgushan_lock(vg_engine *engine, uint64_t job, vg_key *key, uint64_t *had);
 vg_outcome vorgushan_lock_more(vg_engine *engine, uint64_t job, vg_key *key, uint64_t *had);
 vg_outcome vorgushan_lock_fewer(vg_engine *engine, uint64_t job, vg_key *key, uint64_t *had);
@@ -245,18 +258,24 @@ static inline vg_outcome vg_list_from_start(vg_engine *engine) {
     return engine ? vorgushan_list_from_start(engine) : (vg_outcome)VG_NO_ENGINE;
 }
 
-/* Copies the line of the node after the one that was listed last (at first of the first node), in the database as it is
- * now, with a byte 10 at its end. VG_AT_END after the last. After VG_BUFFER_TOO_SHORT or VG_OUT_OF_MEMORY the node is
- * still the next. */
-static inline vg_outcome vg_list_next(vg_engine *engine, char *node, size_t node_size, size_t *node_length) {
+/* As vg_list_next, in a view. */
+static inline vg_outcome vg_view_list_next(vg_engine *engine, uint64_t view, char *node, size_t node_size,
+                                           size_t *node_length) {
     char nothing = 0;
     size_t length = 0;
     vg_outcome outcome = VG_NO_ENGINE;
     if (engine)
-        outcome = vorgushan_list_next(engine, node ? node : &nothing, node ? node_size : 0, &length);
+        outcome = vorgushan_list_next(engine, view, node ? node : &nothing, node ? node_size : 0, &length);
     if (node_length)
         *node_length = length;
     return outcome;
+}
+
+/* Copies the line of the node after the one that was listed last (at first of the first node), in the database as it is
+ * now, with a byte 10 at its end. VG_AT_END after the last. After VG_BUFFER_TOO_SHORT or VG_OUT_OF_MEMORY the node is
+ * still the next. */
+static inline vg_outcome vg_list_next(vg_engine *engine, char *node, size_t node_size, size_t *node_length) {
+    return vg_view_list_next(engine, VG_NOW, node, node_size, node_length);
 }
 
 /* ---- Upkeep ---- */
@@ -323,6 +342,19 @@ static inline vg_outcome vg_key_spell(vg_key *key, const char *name, size_t name
         given[i].length = subscripts[i].bytes ? subscripts[i].length : 0;
     }
     return vorgushan_key_spell(key, &key->draft, name ? name : &nothing, name ? name_length : 0, given, count);
+}
+
+/* Copies a key's own bytes, which sort as references do: the bytes that vg_walk has of a node. Its parts are read by
+ * vg_part_next, of a vg_node whose `key` and `key_length` they are. VG_BUFFER_TOO_SHORT. */
+static inline vg_outcome vg_key_bytes(vg_key *key, char *bytes, size_t bytes_size, size_t *bytes_length) {
+    char nothing = 0;
+    size_t length = 0;
+    vg_outcome outcome = VG_NO_KEY;
+    if (key)
+        outcome = vorgushan_key_bytes(key, bytes ? bytes : &nothing, bytes ? bytes_size : 0, &length);
+    if (bytes_length)
+        *bytes_length = length;
+    return outcome;
 }
 
 /* Ends a key and gives its memory back. VG_NO_KEY where none was made. */
@@ -392,6 +424,16 @@ static inline vg_outcome vg_data(vg_engine *engine, uint64_t job, vg_key *key, u
 
 /* ---- Walks by commands ---- */
 
+/* Copies a start, so that it and the answer may be the same bytes; of one over 255 bytes so many that it is refused. */
+static inline size_t vg_start_copied(char from[256], const char *start, size_t start_length) {
+    size_t length = start ? start_length : 0;
+    if (length > 256)
+        length = 256;
+    if (length)
+        memcpy(from, start, length);
+    return length;
+}
+
 /* $ORDER one level below a key: copies the subscript that comes next after `start` (before it, where direction is
  * VG_BACKWARD), which need not be there: at most 255 bytes, and none, with VG_DONE, where no other follows. An empty
  * start asks for the first, backward for the last. `start` and `subscript` may be the same bytes.
@@ -399,20 +441,14 @@ static inline vg_outcome vg_data(vg_engine *engine, uint64_t job, vg_key *key, u
 static inline vg_outcome vg_order(vg_engine *engine, uint64_t job, vg_key *key, const char *start, size_t start_length,
                                   uint32_t direction, char *subscript, size_t subscript_size,
                                   size_t *subscript_length) {
-    char from[256] = {0};
+    char from[256];
     char nothing = 0;
     size_t length = 0;
+    size_t from_length = vg_start_copied(from, start, start_length);
     vg_outcome outcome = engine ? VG_NO_KEY : VG_NO_ENGINE;
-    if (!start)
-        start_length = 0;
-    if (engine && key && start_length > sizeof from)
-        outcome = VG_SUBSCRIPT_TOO_LONG;
-    else if (engine && key) {
-        if (start_length)
-            memcpy(from, start, start_length);
-        outcome = vorgushan_order(engine, job, key, from, start_length, direction, subscript ? subscript : &nothing,
+    if (engine && key)
+        outcome = vorgushan_order(engine, job, key, from, from_length, direction, subscript ? subscript : &nothing,
                                   subscript ? subscript_size : 0, &length);
-    }
     if (subscript_length)
         *subscript_length = length;
     return outcome;
@@ -428,21 +464,120 @@ static inline vg_outcome vg_query(vg_engine *engine, uint64_t job, vg_key *key, 
     return key ? vorgushan_query(engine, job, key, from, direction) : (vg_outcome)VG_NO_KEY;
 }
 
+/* ---- Views ---- */
+
+/* A view is a moment that is looked at. It shows the database as it was when it was begun, whatever is set, killed,
+ * committed, collected or dropped by checkpoints since. It is never restarted, has no limit of looks, and leaves
+ * nothing in the journal; while it lasts the engine keeps what it shows. It goes by the number of a job, 1 to 4,096,
+ * that does nothing else meanwhile: it is this job's transaction, looked at as it began, and ends with it.
+ *
+ * Where the calls below are given VG_NOW in place of a view they look at the database as it is now. They return
+ * VG_NO_TRANSACTION where no view of that number is there, or it was ended, and VG_BAD_JOB over 4,096. */
+
+/* Begins a view by this number, of the database as it is now. VG_TRANSACTION_OPEN where one is there, or the job of
+ * that number has an open transaction; VG_OUT_OF_MEMORY, VG_BAD_JOB. */
+static inline vg_outcome vg_view_begin(vg_engine *engine, uint64_t view) {
+    return engine ? vorgushan_view_begin(engine, view) : (vg_outcome)VG_NO_ENGINE;
+}
+
+/* Ends a view. VG_NO_TRANSACTION where none is there, VG_BAD_JOB. */
+static inline vg_outcome vg_view_end(vg_engine *engine, uint64_t view) {
+    uint64_t told = 0;
+    return engine ? vorgushan_trollback(engine, view, &told) : (vg_outcome)VG_NO_ENGINE;
+}
+
+/* As vg_look, in a view. */
+static inline vg_outcome vg_view_look(vg_engine *engine, uint64_t view, vg_key *key, char *value, size_t value_size,
+                                      size_t *value_length) {
+    char nothing = 0;
+    size_t length = 0;
+    vg_outcome outcome = VG_NO_ENGINE;
+    if (engine)
+        outcome = key ? vorgushan_look(engine, view, key, value ? value : &nothing, value ? value_size : 0, &length)
+                      : (vg_outcome)VG_NO_KEY;
+    if (value_length)
+        *value_length = length;
+    return outcome;
+}
+
+/* As vg_look_data, in a view. */
+static inline vg_outcome vg_view_data(vg_engine *engine, uint64_t view, vg_key *key, uint64_t *number) {
+    uint64_t told = 0;
+    vg_outcome outcome = VG_NO_ENGINE;
+    if (engine)
+        outcome = key ? vorgushan_look_data(engine, view, key, &told) : (vg_outcome)VG_NO_KEY;
+    if (number)
+        *number = told;
+    return outcome;
+}
+
+/* As vg_look_order, in a view. */
+static inline vg_outcome vg_view_order(vg_engine *engine, uint64_t view, vg_key *key, const char *start,
+                                       size_t start_length, uint32_t direction, char *subscript, size_t subscript_size,
+                                       size_t *subscript_length) {
+    char from[256];
+    char nothing = 0;
+    size_t length = 0;
+    size_t from_length = vg_start_copied(from, start, start_length);
+    vg_outcome outcome = engine ? VG_NO_KEY : VG_NO_ENGINE;
+    if (engine && key)
+        outcome = vorgushan_look_order(engine, view, key, from, from_length, direction,
+                                       subscript ? subscript : &nothing, subscript ? subscript_size : 0, &length);
+    if (subscript_length)
+        *subscript_length = length;
+    return outcome;
+}
+
+/* As vg_look_query, in a view. */
+static inline vg_outcome vg_view_query(vg_engine *engine, uint64_t view, vg_key *key, uint32_t from,
+                                       uint32_t direction) {
+    if (!engine)
+        return VG_NO_ENGINE;
+    return key ? vorgushan_look_query(engine, view, key, from, direction) : (vg_outcome)VG_NO_KEY;
+}
+
+/* As vg_walk, in a view. */
+static inline vg_outcome vg_view_walk(vg_engine *engine, uint64_t view, vg_key *root, vg_key *place, char *nodes,
+                                      size_t nodes_size, size_t *nodes_length) {
+    char nothing = 0;
+    size_t length = 0;
+    vg_key all = VG_KEY_NONE;
+    vg_outcome outcome = VG_NO_ENGINE;
+    if (engine)
+        outcome = place && place != root ? vorgushan_walk(engine, view, root ? root : &all, place,
+                                                          nodes ? nodes : &nothing, nodes ? nodes_size : 0, &length)
+                                         : (vg_outcome)VG_NO_KEY;
+    if (nodes_length)
+        *nodes_length = length;
+    return outcome;
+}
+
 /* ---- Looks ---- */
 
 /* Copies the value that a key's reference has in the database as it is now, without a command of a job: the journal
  * gets no unit, vg_reply copies what it did before, and what a transaction does shows once it is committed.
  * VG_NO_VALUE, VG_BUFFER_TOO_SHORT. */
 static inline vg_outcome vg_look(vg_engine *engine, vg_key *key, char *value, size_t value_size, size_t *value_length) {
-    char nothing = 0;
-    size_t length = 0;
-    vg_outcome outcome = VG_NO_ENGINE;
-    if (engine)
-        outcome = key ? vorgushan_look(engine, key, value ? value : &nothing, value ? value_size : 0, &length)
-                      : (vg_outcome)VG_NO_KEY;
-    if (value_length)
-        *value_length = length;
-    return outcome;
+    return vg_view_look(engine, VG_NOW, key, value, value_size, value_length);
+}
+
+/* As vg_data, without a command of a job. */
+static inline vg_outcome vg_look_data(vg_engine *engine, vg_key *key, uint64_t *number) {
+    return vg_view_data(engine, VG_NOW, key, number);
+}
+
+/* As vg_order, without a command of a job: after VG_BUFFER_TOO_SHORT it is called again. */
+static inline vg_outcome vg_look_order(vg_engine *engine, vg_key *key, const char *start, size_t start_length,
+                                       uint32_t direction, char *subscript, size_t subscript_size,
+                                       size_t *subscript_length) {
+    return vg_view_order(engine, VG_NOW, key, start, start_length, direction, subscript, subscript_size,
+                         subscript_length);
+}
+
+/* As vg_query, without a command of a job: VG_OUT_OF_MEMORY where memory is refused for a long key. vg_key_bytes tells
+ * what was found. */
+static inline vg_outcome vg_look_query(vg_engine *engine, vg_key *key, uint32_t from, uint32_t direction) {
+    return vg_view_query(engine, VG_NOW, key, from, direction);
 }
 
 /* Copies as many nodes as the buffer has room for, in order, without a command of a job, as vg_look: those at and under
@@ -454,17 +589,7 @@ static inline vg_outcome vg_look(vg_engine *engine, vg_key *key, char *value, si
  * VG_NO_KEY where it is NULL or the same as `root`. */
 static inline vg_outcome vg_walk(vg_engine *engine, vg_key *root, vg_key *place, char *nodes, size_t nodes_size,
                                  size_t *nodes_length) {
-    char nothing = 0;
-    size_t length = 0;
-    vg_key all = VG_KEY_NONE;
-    vg_outcome outcome = VG_NO_ENGINE;
-    if (engine)
-        outcome = place && place != root ? vorgushan_walk(engine, root ? root : &all, place, nodes ? nodes : &nothing,
-                                                          nodes ? nodes_size : 0, &length)
-                                         : (vg_outcome)VG_NO_KEY;
-    if (nodes_length)
-        *nodes_length = length;
-    return outcome;
+    return vg_view_walk(engine, VG_NOW, root, place, nodes, nodes_size, nodes_length);
 }
 
 /* A node that vg_walk copied: its key's bytes, which sort as references do, and its value, both in the buffer. */
@@ -475,12 +600,10 @@ typedef struct vg_node {
     size_t value_length;
 } vg_node;
 
-/* A length in eight bytes, the lowest first. */
+/* A length in eight bytes, the lowest first, as x86-64 has them. */
 static inline size_t vg_length_at(const char *at) {
     uint64_t length = 0;
-    int i;
-    for (i = 7; i >= 0; i--)
-        length = length << 8 | (unsigned char)at[i];
+    memcpy(&length, at, sizeof length);
     return (size_t)length;
 }
 

@@ -83,6 +83,10 @@ static void use_nothing(void) {
     CHECK(vg_reply(NULL, reply, sizeof reply, NULL) == VG_NO_ENGINE);
     CHECK(vg_list_from_start(NULL) == VG_NO_ENGINE);
     CHECK(vg_list_next(NULL, reply, sizeof reply, NULL) == VG_NO_ENGINE);
+    CHECK(vg_view_list_next(NULL, 7, reply, sizeof reply, NULL) == VG_NO_ENGINE);
+    CHECK(vg_view_begin(NULL, 7) == VG_NO_ENGINE && vg_view_end(NULL, 7) == VG_NO_ENGINE);
+    CHECK(vg_key_bytes(NULL, reply, sizeof reply, &length) == VG_NO_KEY && !length);
+    CHECK(vg_key_bytes(&key, reply, sizeof reply, NULL) == VG_NO_KEY);
     CHECK(vg_collect(NULL, 1) == VG_NO_ENGINE);
     CHECK(vg_checkpoint(NULL) == VG_NO_ENGINE);
     CHECK(vg_count(NULL, NULL) == VG_NO_ENGINE);
@@ -116,6 +120,11 @@ static void use_no_key(vg_engine *engine) {
     CHECK(vg_query(NULL, 1, &key, VG_AT_KEY, VG_FORWARD) == VG_NO_ENGINE);
     CHECK(vg_query(engine, 1, NULL, VG_AT_KEY, VG_FORWARD) == VG_NO_KEY);
     CHECK(vg_look(NULL, &key, NULL, 0, NULL) == VG_NO_ENGINE && vg_look(engine, NULL, NULL, 0, NULL) == VG_NO_KEY);
+    CHECK(vg_look_data(NULL, &key, &number) == VG_NO_ENGINE && vg_look_data(engine, NULL, NULL) == VG_NO_KEY);
+    CHECK(vg_look_order(NULL, &key, NULL, 0, VG_FORWARD, NULL, 0, NULL) == VG_NO_ENGINE);
+    CHECK(vg_look_order(engine, NULL, NULL, 0, VG_FORWARD, NULL, 0, &length) == VG_NO_KEY && !length);
+    CHECK(vg_look_query(NULL, &key, VG_AT_KEY, VG_FORWARD) == VG_NO_ENGINE);
+    CHECK(vg_look_query(engine, NULL, VG_AT_KEY, VG_FORWARD) == VG_NO_KEY);
     CHECK(vg_walk(NULL, NULL, &key, NULL, 0, NULL) == VG_NO_ENGINE);
     CHECK(vg_walk(engine, &key, NULL, NULL, 0, NULL) == VG_NO_KEY);
     CHECK(vg_walk(engine, &key, &key, NULL, 0, NULL) == VG_NO_KEY);
@@ -332,6 +341,101 @@ static void use_orders(vg_engine *engine) {
     vg_key_end(&key);
 }
 
+/* Whether $ORDER of a view answers this after a start; an empty one where no other follows. */
+static int comes_next(vg_engine *engine, uint64_t view, vg_key *key, const char *start, uint32_t direction,
+                      const char *wanted) {
+    size_t from = strlen(start);
+    vg_outcome told = vg_view_order(engine, view, key, start, from, direction, reply, sizeof reply, &length);
+    return told == VG_DONE && is_reply(wanted);
+}
+
+/* Whether a value is seen at a key in a view. */
+static int is_seen(vg_engine *engine, uint64_t view, vg_key *key, const char *wanted) {
+    return vg_view_look(engine, view, key, reply, sizeof reply, &length) == VG_DONE && is_reply(wanted);
+}
+
+/* How many nodes of a subtree are walked in a view. */
+static int walked_in(vg_engine *engine, uint64_t view, vg_key *root) {
+    vg_key place = VG_KEY_NONE;
+    vg_node node;
+    const char *at = reply;
+    int nodes = 0;
+    CHECK(vg_view_walk(engine, view, root, &place, reply, sizeof reply, &length) == VG_DONE);
+    while (vg_node_next(&at, reply + length, &node))
+        nodes++;
+    CHECK(vg_view_walk(engine, view, root, &place, reply, sizeof reply, NULL) == VG_AT_END);
+    vg_key_end(&place);
+    return nodes;
+}
+
+/* How many nodes are listed in a view. */
+static int listed_in(vg_engine *engine, uint64_t view) {
+    int nodes = 0;
+    vg_list_from_start(engine);
+    while (vg_view_list_next(engine, view, reply, sizeof reply, NULL) == VG_DONE)
+        nodes++;
+    return nodes;
+}
+
+/* The parts of a key's own bytes. */
+static void use_key_bytes(vg_engine *engine, vg_key *key) {
+    const vg_text name = {VG_TEXT("View")}, last = {VG_TEXT("second")};
+    char bytes[64];
+    vg_node node = {bytes, 0, bytes, 0};
+    const char *part = bytes;
+    CHECK(vg_look_query(engine, key, VG_AT_KEY, VG_FORWARD) == VG_DONE);
+    CHECK(vg_look_query(engine, key, VG_AT_KEY, VG_FORWARD) == VG_DONE);
+    CHECK(vg_key_bytes(key, bytes, 8, &length) == VG_BUFFER_TOO_SHORT && length > 8);
+    CHECK(vg_key_bytes(key, bytes, sizeof bytes, &node.key_length) == VG_DONE && node.key_length == length);
+    CHECK(is_part(&node, &part, &name) && is_part(&node, &part, &last) && part == bytes + length);
+}
+
+/* A view, what is done beside it, and the database then: ^View("first") is set anew, ^View("second") is new. */
+static void use_views(vg_engine *engine) {
+    vg_key root = VG_KEY_NONE, first = VG_KEY_NONE, second = VG_KEY_NONE;
+    uint64_t number = 7;
+    vg_statistics before, after;
+    vg_key_name(&root, VG_TEXT("View"));
+    vg_key_name(&first, VG_TEXT("View"));
+    vg_key_name(&second, VG_TEXT("View"));
+    vg_key_subscript(&first, VG_TEXT("first"));
+    vg_key_subscript(&second, VG_TEXT("second"));
+    CHECK(vg_set(engine, 1, &first, VG_TEXT("old")) == VG_DONE);
+    CHECK(vg_view_begin(engine, 0) == VG_BAD_JOB && vg_view_begin(engine, 4097) == VG_BAD_JOB);
+    CHECK(vg_view_begin(engine, 7) == VG_DONE && vg_view_begin(engine, 7) == VG_TRANSACTION_OPEN);
+    CHECK(vg_set(engine, 1, &first, VG_TEXT("new")) == VG_DONE && vg_set(engine, 1, &second, VG_TEXT("2")) == VG_DONE);
+    CHECK(vg_collect(engine, 1000) == VG_DONE && vg_checkpoint(engine) == VG_DONE);
+    CHECK(vg_count(engine, &before) == VG_DONE);
+    CHECK(is_seen(engine, 7, &first, "old") && is_seen(engine, VG_NOW, &first, "new"));
+    CHECK(vg_view_look(engine, 7, &second, reply, sizeof reply, &length) == VG_NO_VALUE && !length);
+    CHECK(vg_view_data(engine, 7, &second, &number) == VG_DONE && number == 0);
+    CHECK(vg_view_data(engine, 7, &root, &number) == VG_DONE && number == 10);
+    CHECK(vg_look_data(engine, &second, &number) == VG_DONE && number == 1);
+    CHECK(comes_next(engine, 7, &root, "", VG_FORWARD, "first"));
+    CHECK(comes_next(engine, 7, &root, "first", VG_FORWARD, ""));
+    CHECK(comes_next(engine, 7, &root, "zzz", VG_BACKWARD, "first"));
+    CHECK(comes_next(engine, VG_NOW, &root, "first", VG_FORWARD, "second"));
+    CHECK(vg_look_order(engine, &root, NULL, 0, VG_BACKWARD, reply, 3, &length) == VG_BUFFER_TOO_SHORT && length == 6);
+    CHECK(vg_look_order(engine, &root, reply, 257, VG_FORWARD, NULL, 0, NULL) == VG_SUBSCRIPT_TOO_LONG);
+    CHECK(walked_in(engine, 7, &root) == 1 && walked_in(engine, VG_NOW, &root) == 2);
+    CHECK(listed_in(engine, 7) + 1 == listed_in(engine, VG_NOW));
+    CHECK(vg_count(engine, &after) == VG_DONE && !memcmp(&before, &after, sizeof before));
+    CHECK(vg_view_query(engine, 7, &root, VG_BELOW_KEY, VG_BACKWARD) == VG_DONE && has_value(engine, &root, "new"));
+    CHECK(vg_view_query(engine, 7, &root, VG_AT_KEY, VG_FORWARD) == VG_AT_END && has_value(engine, &root, "new"));
+    CHECK(vg_view_query(engine, 7, &second, VG_AT_KEY, VG_BACKWARD) == VG_DONE && has_value(engine, &second, "new"));
+    CHECK(vg_view_end(engine, 7) == VG_DONE && vg_view_end(engine, 7) == VG_NO_TRANSACTION);
+    CHECK(vg_view_look(engine, 7, &first, reply, sizeof reply, NULL) == VG_NO_TRANSACTION);
+    CHECK(vg_view_look(engine, 4097, &first, reply, sizeof reply, NULL) == VG_BAD_JOB);
+    CHECK(vg_view_list_next(engine, 7, reply, sizeof reply, NULL) == VG_NO_TRANSACTION);
+    vg_key_name(&root, VG_TEXT("View"));
+    use_key_bytes(engine, &root);
+    vg_key_name(&root, VG_TEXT("View"));
+    CHECK(vg_kill(engine, 1, &root) == VG_DONE);
+    vg_key_end(&root);
+    vg_key_end(&first);
+    vg_key_end(&second);
+}
+
 /* LOCK in its four forms: what job 1 holds is seen by what job 2 gets. */
 static void use_locks(vg_engine *engine) {
     vg_key bed = VG_KEY_NONE, ward = VG_KEY_NONE;
@@ -403,6 +507,7 @@ int main(void) {
     use_values(&engine);
     use_walks(&engine);
     use_orders(&engine);
+    use_views(&engine);
     use_locks(&engine);
     use_transactions(&engine);
     CHECK(vg_end(&engine) == VG_DONE && vg_end(&engine) == VG_NO_ENGINE);

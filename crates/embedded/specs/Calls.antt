@@ -21,6 +21,7 @@ use Rattle.serial.specs.Machine.{IsReply}
 use Rattle.script.specs.Line.{reading_of, job_of_line, HasOperands}
 use Rattle.script.specs.Text.{reply_text}
 use Rattle.listing.specs.Listing.{node_text}
+use Rattle.embedded.specs.Moments.{database_at, unseen}
 use Rattle.embedded.specs.Outcomes.{outcome_number, outcome_name, outcome_of}
 use Rattle.embedded.specs.declared.outcome.Outcome.{Outcome}
 use Rattle.embedded.specs.declared.outcome.Outcome.TheVariants.{BufferTooShort, ReplyKept, NoReply, AtEnd, UnknownNumber, Done, Refused as RefusedCall}
@@ -136,9 +137,10 @@ pub record IsNodeLine (m : Database) (listed : Option Reference) (key : Referenc
 abbrev pub IsNodeFound : Database → Option Reference → Option Reference → List ℕ → Type 0
 IsNodeFound m listed found text = MatchOption found (next_node listed m ≡ None) (λ key. IsNodeLine m listed key text)
 
--- the next node was copied, and the machine and the last reply are as they were
-pub record IsListCall (before after : Embedded) (outcome : Outcome) (old new : List ℕ) (wanted : ℕ) : Type 0 where
-  pub copied : IsNodeCopied (database before) before.listed after.listed outcome old new wanted
+-- the next node of a moment was copied, and the machine and the last reply are as they were; where nothing is seen, why is told
+pub record IsListCall (moment : ℕ) (before after : Embedded) (outcome : Outcome) (old new : List ℕ) (wanted : ℕ) : Type 0 where
+  pub copied : MatchOption (database_at moment before.core.machine) (IsLeft (RefusedCall (unseen moment)) outcome old new wanted × (after.listed ≡ before.listed))
+      (λ m. IsNodeCopied m before.listed after.listed outcome old new wanted)
   pub core : after.core ≡ before.core
   pub last : after.last ≡ before.last
 

@@ -1,15 +1,23 @@
--- What looks at the present database answer and copy. They are no commands: no unit, no reply, and the machine is as it was.
--- Read IsLook; then nodes_left, record_of, fitting, IsWalkCall.
+-- What looks at the database of a moment answer and copy. They are no commands: no unit, no reply, and the machine is as it was.
+-- Read IsLook, IsLookAt; then nodes_left, record_of, fitting, IsWalkCall; then IsOrderAt, IsDataAt, IsQueryAt.
 use Rattle.std.specs.Prelude.{◌≡◌, ◌⊎◌, ℕ, ◌-◌, Bool, true, not, ◌&&◌, nat_le, if◌then◌else◌, List, [], ◌∷◌, ◌++◌, length, filter, Option, None, Some}
 use Rattle.std.specs.Int.{w64, to_le_bytes}
 use Rattle.std.specs.List.{flat_map}
 use Rattle.std.specs.Option.{MatchOption}
 use Rattle.std.specs.FinMap as finmap
+use Rattle.refusal.specs.declared.Refusal.{Refusal}
 use Rattle.refusal.specs.declared.Refusal.TheVariants.{OutOfMemory}
-use Rattle.collation.specs.Reference.{Reference}
+use Rattle.collation.specs.Reference.{Reference, Spot}
+use Rattle.collation.specs.Answers.{data_of, is_forward, order_of, query_of}
 use Rattle.collation.specs.Database.{Database, is_under}
+use Rattle.collation.specs.declared.direction.Direction.{Direction}
+use Rattle.command.specs.Data.{look_refusal}
+use Rattle.command.specs.declared.access.Look.TheVariants.{Order}
+use Rattle.globals.specs.Answering.{IsRuleOrMemory}
+use Rattle.journal.specs.Story.{Machine}
 use Rattle.key_codec.specs.Key.{key_of}
-use Rattle.embedded.specs.Calls.{database, fits, is_listed, IsCopied, IsKept, IsLeft}
+use Rattle.embedded.specs.Calls.{fits, is_listed, IsCopied, IsKept, IsLeft}
+use Rattle.embedded.specs.Moments.{database_at, unseen}
 use Rattle.embedded.specs.declared.engine.Embedded.{Embedded}
 use Rattle.embedded.specs.declared.outcome.Outcome.{Outcome}
 use Rattle.embedded.specs.declared.outcome.Outcome.TheVariants.{AtEnd, Done, NoValue, Refused as RefusedCall}
@@ -19,6 +27,11 @@ use Rattle.embedded.specs.declared.outcome.Outcome.TheVariants.{AtEnd, Done, NoV
 -- the value was copied; or the reference has none, and that is told
 abbrev pub IsLook : Database → Reference → Outcome → List ℕ → List ℕ → ℕ → Type 0
 IsLook m r result old new wanted = MatchOption (finmap.get m r) (IsLeft NoValue result old new wanted) (λ value. IsCopied value Done result old new wanted)
+
+-- the same of the database of a moment; where nothing is seen, why is told
+abbrev pub IsLookAt : ℕ → Machine → Reference → Outcome → List ℕ → List ℕ → ℕ → Type 0
+IsLookAt moment s r result old new wanted =
+    MatchOption (database_at moment s) (IsLeft (RefusedCall (unseen moment)) result old new wanted) (λ m. IsLook m r result old new wanted)
 
 -- ---- many nodes
 
@@ -63,7 +76,40 @@ abbrev pub IsWalked : List (Reference × List ℕ) → Option Reference → Opti
 IsWalked [] place now result old new wanted = IsLeft AtEnd result old new wanted × (now ≡ place)
 IsWalked (e ∷ es) place now result old new wanted = AreNodesCopied e (fitting (length old - length (record_of e)) es) place now result old new wanted
 
--- the next nodes of a walk were copied, and the machine, the last reply and the listing are as they were
-pub record IsWalkCall (root place now : Option Reference) (before after : Embedded) (outcome : Outcome) (old new : List ℕ) (wanted : ℕ) : Type 0 where
-  pub walked : IsWalked (nodes_left root place (database before)) place now outcome old new wanted
+-- the next nodes of a walk over the database of a moment were copied; where nothing is seen, why is told; and the machine, the last reply and the listing are as they were
+pub record IsWalkCall (moment : ℕ) (root place now : Option Reference) (before after : Embedded) (outcome : Outcome) (old new : List ℕ) (wanted : ℕ) : Type 0 where
+  pub walked : MatchOption (database_at moment before.core.machine) (IsLeft (RefusedCall (unseen moment)) outcome old new wanted × (now ≡ place))
+      (λ m. IsWalked (nodes_left root place m) place now outcome old new wanted)
   pub kept : IsKept before after
+
+-- ---- what $ORDER, $DATA and $QUERY answer
+
+-- nothing was copied, for a refusal of this cause
+pub record IsLeftFor (IsCause : Refusal → Type 0) (result : Outcome) (old new : List ℕ) (wanted : ℕ) : Type 0 where
+  pub refusal : Refusal
+  pub cause : IsCause refusal
+  pub left : IsLeft (RefusedCall refusal) result old new wanted
+
+-- the nearest sibling was copied, or the command's rule or the want of memory is told
+abbrev pub IsOrder : Spot → Direction → Database → Outcome → List ℕ → List ℕ → ℕ → Type 0
+IsOrder place direction m result old new wanted =
+    IsCopied (order_of (is_forward direction) place m) Done result old new wanted
+    ⊎ IsLeftFor (λ refusal. IsRuleOrMemory refusal (look_refusal (Order place direction))) result old new wanted
+
+abbrev pub IsOrderAt : ℕ → Machine → Spot → Direction → Outcome → List ℕ → List ℕ → ℕ → Type 0
+IsOrderAt moment s place direction result old new wanted =
+    MatchOption (database_at moment s) (IsLeft (RefusedCall (unseen moment)) result old new wanted) (λ m. IsOrder place direction m result old new wanted)
+
+-- the number that $DATA tells; 0 where nothing is seen
+abbrev pub IsDataAt : ℕ → Machine → Reference → Outcome → ℕ → Type 0
+IsDataAt moment s r result number =
+    MatchOption (database_at moment s) ((number ≡ 0) × (result ≡ RefusedCall (unseen moment))) (λ m. (number ≡ data_of r m) × (result ≡ Done))
+
+-- the key comes to be the nearest node's reference; or memory is refused for it, and the key stays. Where no node is left it stays, and that is told
+abbrev pub IsQuery : Spot → Direction → Database → Reference → Reference → Outcome → Type 0
+IsQuery place direction m old new result = MatchOption (query_of (is_forward direction) place m) ((new ≡ old) × (result ≡ AtEnd))
+    (λ found. ((new ≡ found) × (result ≡ Done)) ⊎ ((new ≡ old) × (result ≡ RefusedCall OutOfMemory)))
+
+abbrev pub IsQueryAt : ℕ → Machine → Spot → Direction → Reference → Reference → Outcome → Type 0
+IsQueryAt moment s place direction old new result =
+    MatchOption (database_at moment s) ((new ≡ old) × (result ≡ RefusedCall (unseen moment))) (λ m. IsQuery place direction m old new result)

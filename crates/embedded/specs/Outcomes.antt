@@ -5,7 +5,7 @@ use Rattle.refusal.specs.Refusal.{refusal_number, name_of}
 use Rattle.command.specs.declared.request.Reply.{Reply}
 use Rattle.command.specs.declared.request.Reply.TheVariants.{Answered, Finished, Had, Count, AtLevel, Committed, Restarted as RestartedReply, Refused as RefusedReply}
 use Rattle.embedded.specs.declared.outcome.Outcome.{Outcome}
-use Rattle.embedded.specs.declared.outcome.Outcome.TheVariants.{Done, Refused, NoEngine, EngineThere, BufferTooShort, ReplyKept, NoReply, AtEnd, UnknownNumber, NoKey, Restarted, NoValue}
+use Rattle.embedded.specs.declared.outcome.Outcome.TheVariants.{Done, Refused, NoEngine, EngineThere, BufferTooShort, ReplyKept, NoReply, AtEnd, UnknownNumber, NoKey, Restarted, NoValue, TransactionOpen}
 
 -- the number: 0, the refusal's own, or one of the library's
 abbrev pub outcome_number : Outcome → ℕ
@@ -21,6 +21,7 @@ outcome_number UnknownNumber = 38
 outcome_number NoKey = 39
 outcome_number Restarted = 40
 outcome_number NoValue = 41
+outcome_number TransactionOpen = 42
 
 -- the name
 abbrev pub outcome_name : Outcome → List ℕ
@@ -36,6 +37,7 @@ outcome_name UnknownNumber = codes "UnknownNumber"
 outcome_name NoKey = codes "NoKey"
 outcome_name Restarted = codes "Restarted"
 outcome_name NoValue = codes "NoValue"
+outcome_name TransactionOpen = codes "TransactionOpen"
 
 -- what a reply tells: its refusal, that the transaction begins anew, or that it is done
 abbrev pub outcome_of : Reply → Outcome

@@ -8,13 +8,15 @@
 //! (1) a line is run once, whether or not its reply fits into the buffer: where it doesn't, the reply is kept, its
 //!     length is told, and `copy_reply` copies it into a longer one;
 //! (2) nothing is written into a buffer that is too short, and nothing behind what is copied; (3) a refusal is told by
-//! its own number; (4) a look at the database, one value or the nodes of a walk, is no command: no unit, no reply, and
-//! the machine stays
-//!     (`specs/Looks.antt`). A walk's place is a key of the caller's.
+//! its own number; (4) a look at the database, one value, the nodes of a walk, or what $ORDER, $DATA and $QUERY answer,
+//! is no command: no unit, no reply, and the machine stays
+//!     (`specs/Looks.antt`). A walk's place is a key of the caller's; (5) a look sees the database of a moment, which is
+//! now, or that at which a job's open transaction began (`specs/Moments.antt`).
 //!
 //! A C program reaches these calls through `vorgushan_c`.
 //!
-//! Read `specs/Calls.antt`, `specs/Outcomes.antt`, `specs/Looks.antt`, then `engine.rt`, `listed.rt`, `looked.rt`.
+//! Read `specs/Calls.antt`, `specs/Outcomes.antt`, `specs/Moments.antt`, `specs/Looks.antt`, then `engine.rt`,
+//! `listed.rt`, `looked.rt`, `asked.rt`.
 //! Not promised: the time of a call.
 #![tactic(auto)]
 
@@ -23,9 +25,11 @@ pub use engine::{Answered, Embedded};
 pub use outcome::Outcome;
 pub use statistics::Statistics;
 
+mod asked;
 mod copied;
 mod engine;
 mod listed;
 mod looked;
+mod moments;
 mod outcome;
 mod statistics;

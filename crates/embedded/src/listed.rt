@@ -2,9 +2,10 @@
 ghost use Rattle.std.specs.Prelude.{◌≡◌, None, Some, if◌then◌else◌, IfOk, OnErr, OnOk};
 ghost use Rattle.std.specs.Option.{MatchOption};
 ghost use Rattle.listing.specs.Listing.{node_text};
-ghost use Rattle.embedded.specs.Calls.{fits, next_node, IsCopied, IsListCall, IsRestart, IsNodeFound, HasNextNode};
+ghost use Rattle.embedded.specs.Calls.{fits, next_node, IsCopied, IsListCall, IsNodeCopied, IsRestart, IsNodeFound, HasNextNode};
 
 use crate::copied::copy_text;
+use crate::moments::seen;
 use crate::{Embedded, Outcome};
 use collation::Text;
 use globals::{Cut, OrderedView};
@@ -73,6 +74,24 @@ fn copy_listed(
     }
 }
 
+// Copies the line of a view's node behind the one that was listed last, and counts it as listed where it fits.
+fn copy_next<V: OrderedView>(
+    view: &V,
+    listed: &mut Option<Key>,
+    text: &mut Vec<u8>,
+    buffer: &mut [u8],
+    wanted: &mut usize,
+) -> Outcome
+    ensures { IsNodeCopied (V.content view.now) listed.old listed.new result buffer.old buffer.new wanted.new }
+{
+    *wanted = 0;
+    match write_next(view, listed, text) {
+        Ok(Some(key)) => copy_listed(key, listed, text, buffer, wanted),
+        Ok(None) => Outcome::AtEnd,
+        Err(_) => Outcome::Refused(Refusal::OutOfMemory),
+    }
+}
+
 impl Embedded {
     /// The next node to list is the first.
     pub fn list_from_start(&mut self)
@@ -81,19 +100,20 @@ impl Embedded {
         self.listed = None;
     }
 
-    /// Copies the line of the node behind the one that was listed last, in the database as it is now, with a byte 10
-    /// at its end; then that node counts as listed. Its length is told.
+    /// Copies the line of the node behind the one that was listed last, in the database of a moment, with a byte 10 at
+    /// its end; then that node counts as listed. Its length is told. It is no command, as `look`.
     ///
-    /// `AtEnd` where no node is left, `BufferTooShort` where the buffer is shorter than the line, `OutOfMemory`: then
-    /// nothing is copied, and the node is still the next.
-    pub fn copy_next_node(&mut self, buffer: &mut [u8], wanted: &mut usize) -> Outcome
-        ensures { IsListCall self.old self.new result buffer.old buffer.new wanted.new }
+    /// `AtEnd` where no node is left, `BufferTooShort` where the buffer is shorter than the line, `OutOfMemory`;
+    /// `BadJob` and `NoTransaction` as `look`: then nothing is copied, and the node is still the next.
+    pub fn copy_next_node(&mut self, moment: u64, buffer: &mut [u8], wanted: &mut usize) -> Outcome
+        ensures { IsListCall moment self.old self.new result buffer.old buffer.new wanted.new }
     {
-        *wanted = 0;
-        match write_next(&self.core.content(), &self.listed, &mut self.text) {
-            Ok(Some(key)) => copy_listed(key, &mut self.listed, &self.text, buffer, wanted),
-            Ok(None) => Outcome::AtEnd,
-            Err(_) => Outcome::Refused(Refusal::OutOfMemory),
+        match seen(&self.core, moment) {
+            Ok(view) => copy_next(&view, &mut self.listed, &mut self.text, buffer, wanted),
+            Err(refusal) => {
+                *wanted = 0;
+                Outcome::Refused(refusal)
+            }
         }
     }
 }

@@ -1,13 +1,14 @@
-//! Looks at the present database, which are no commands: one value, or many nodes at a time.
+//! Looks at the database of a moment, which are no commands: one value, or many nodes at a time.
 ghost use Rattle.std.specs.Prelude.{◌≡◌, ◌≤◌, ◌<◌, ◌++◌, ◌||◌, [], true, None, Some, if◌then◌else◌, IfOk, OnErr, OnOk, length};
 ghost use Rattle.std.specs.Option.{MatchOption, option_map};
 ghost use Rattle.collation.specs.Reference.{Reference};
 ghost use Rattle.globals.specs.Cuts.{stands_before as before_cut, stands_within};
-ghost use Rattle.embedded.specs.Calls.{database, fits, is_listed, IsCopied};
+ghost use Rattle.embedded.specs.Calls.{fits, is_listed, IsCopied};
 ghost use Rattle.embedded.specs.Gathered.{is_before_root, IsGathered, IsTaken};
-ghost use Rattle.embedded.specs.Looks.{is_within, nodes_left, record_of, IsLook, IsWalkCall, IsWalked};
+ghost use Rattle.embedded.specs.Looks.{is_within, nodes_left, record_of, IsLook, IsLookAt, IsWalkCall, IsWalked};
 
 use crate::copied::{copied_as, copy_text};
+use crate::moments::seen;
 use crate::{Embedded, Outcome};
 use collation::Text;
 use globals::{Cut, OrderedView, Walk, stands_before, walk_between};
@@ -208,42 +209,50 @@ fn copy_walked<V: OrderedView>(
 }
 
 impl Embedded {
-    /// Copies the value that the reference has in the database as it is now, and tells how long it is. It is no
-    /// command: the journal gets no unit, and the last reply stays.
+    /// Copies the value that the reference has in the database of a moment, and tells how long it is. At 0 the moment
+    /// is now, at a job's number that at which the job's open transaction began: what is seen then is as it was,
+    /// whatever was done since, and lacks what the transaction does itself. It is no command: the journal gets no unit,
+    /// and the last reply stays.
     ///
-    /// `NoValue` where it has none, `BufferTooShort` where the buffer is shorter than the value: then nothing is
-    /// copied.
-    pub fn look(&self, key: &Key, buffer: &mut [u8], wanted: &mut usize) -> Outcome
-        ensures { IsLook (database self.now) key.now result buffer.old buffer.new wanted.new }
+    /// `NoValue` where it has none, `BufferTooShort` where the buffer is shorter than the value; `BadJob` where the
+    /// moment is over 4,096, `NoTransaction` where that job has no open transaction: then nothing is copied.
+    pub fn look(&self, moment: u64, key: &Key, buffer: &mut [u8], wanted: &mut usize) -> Outcome
+        ensures { IsLookAt moment self.now.core.machine key.now result buffer.old buffer.new wanted.new }
     {
-        copy_value(&self.core.content(), key, buffer, wanted)
+        match seen(&self.core, moment) {
+            Ok(view) => copy_value(&view, key, buffer, wanted),
+            Err(refusal) => {
+                *wanted = 0;
+                Outcome::Refused(refusal)
+            }
+        }
     }
 
-    /// Copies the next nodes of a walk over the database as it is now, as many as the buffer has room for, and tells
+    /// Copies the next nodes of a walk over the database of a moment, as many as the buffer has room for, and tells
     /// how long their records are together. The walk goes over what is at and under `root`, or over all where that is
     /// none, from behind `place` on, or from the first where that is none; and `place` moves to the last node copied.
-    /// Both are in boxes, as C keeps keys. It is no command: the journal gets no unit, and the last reply stays.
+    /// Both are in boxes, as C keeps keys. It is no command, as `look`.
     ///
     /// `AtEnd` where no node is left; `BufferTooShort` where the next alone is longer than the buffer, and then its
-    /// length is told; `OutOfMemory`: then nothing is copied, and `place` stays.
+    /// length is told; `OutOfMemory`; `BadJob` and `NoTransaction` as `look`: then nothing is copied, and `place`
+    /// stays.
     pub fn copy_nodes(
         &mut self,
         alloc: Global,
+        moment: u64,
         root: &Option<Box<Key>>,
         place: &mut Option<Box<Key>>,
         buffer: &mut [u8],
         wanted: &mut usize,
     ) -> Outcome
-        ensures { IsWalkCall (option_map (λ b. b.value) root.now) (option_map (λ b. b.value) place.old) (option_map (λ b. b.value) place.new) self.old self.new result buffer.old buffer.new wanted.new }
+        ensures { IsWalkCall moment (option_map (λ b. b.value) root.now) (option_map (λ b. b.value) place.old) (option_map (λ b. b.value) place.new) self.old self.new result buffer.old buffer.new wanted.new }
     {
-        copy_walked(
-            alloc,
-            &self.core.content(),
-            root,
-            place,
-            &mut self.text,
-            buffer,
-            wanted,
-        )
+        match seen(&self.core, moment) {
+            Ok(view) => copy_walked(alloc, &view, root, place, &mut self.text, buffer, wanted),
+            Err(refusal) => {
+                *wanted = 0;
+                Outcome::Refused(refusal)
+            }
+        }
     }
 }

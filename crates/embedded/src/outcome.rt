@@ -34,6 +34,8 @@ pub enum Outcome {
     Restarted,
     /// The reference has no value. Number 41.
     NoValue,
+    /// The job has an open transaction already. Number 42.
+    TransactionOpen,
 }
 
 impl Outcome {
@@ -54,6 +56,7 @@ impl Outcome {
             Outcome::NoKey => 39,
             Outcome::Restarted => 40,
             Outcome::NoValue => 41,
+            Outcome::TransactionOpen => 42,
         }
     }
 
@@ -74,6 +77,7 @@ impl Outcome {
             Outcome::NoKey => "NoKey",
             Outcome::Restarted => "Restarted",
             Outcome::NoValue => "NoValue",
+            Outcome::TransactionOpen => "TransactionOpen",
         }
     }
 
@@ -105,6 +109,7 @@ impl Outcome {
             39 => Some(Outcome::NoKey),
             40 => Some(Outcome::Restarted),
             41 => Some(Outcome::NoValue),
+            42 => Some(Outcome::TransactionOpen),
             _ => match refusal_of(number) {
                 Some(refusal) => Some(Outcome::Refused(refusal)),
                 None => None,

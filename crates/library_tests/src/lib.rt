@@ -20,3 +20,5 @@ mod looks;
 mod outcomes;
 #[cfg(test)]
 mod transactions;
+#[cfg(test)]
+mod views;

@@ -11,14 +11,14 @@ use std::test::*;
 fn is_listed(engine: &mut Embedded, line: &[u8]) -> bool {
     let mut buffer = [0; 16];
     let mut wanted = 99;
-    let outcome = engine.copy_next_node(&mut buffer, &mut wanted);
+    let outcome = engine.copy_next_node(0, &mut buffer, &mut wanted);
     outcome == Outcome::Done && holds(&buffer, wanted, line)
 }
 
 fn are_listed(engine: &mut Embedded) -> bool {
     let both = is_listed(engine, b"^A(7)=5\n") && is_listed(engine, b"^A(10)=\"x\"\n");
     let mut wanted = 99;
-    let end = engine.copy_next_node(&mut [], &mut wanted);
+    let end = engine.copy_next_node(0, &mut [], &mut wanted);
     engine.list_from_start();
     both && end == Outcome::AtEnd && wanted == 0 && is_listed(engine, b"^A(7)=5\n")
 }
@@ -49,7 +49,7 @@ fn looked(
 ) -> Result<(Outcome, usize), Refusal> {
     let key = child(alloc, b"A", subscript)?;
     let mut wanted = 99;
-    let outcome = engine.look(&key, room, &mut wanted);
+    let outcome = engine.look(0, &key, room, &mut wanted);
     Ok((outcome, wanted))
 }
 
@@ -87,10 +87,10 @@ const FIRST: &[u8] = b"\x07\0\0\0\0\0\0\0\x01\0\0\0\0\0\0\0A\0\x04\x01\x01\x08\x
 fn are_walked(alloc: Global, engine: &mut Embedded, place: &mut Option<Box<Key>>) -> bool {
     let mut buffer = [0; 30];
     let mut wanted = 99;
-    let first = engine.copy_nodes(alloc, &None, place, &mut buffer, &mut wanted);
+    let first = engine.copy_nodes(alloc, 0, &None, place, &mut buffer, &mut wanted);
     let is_first = first == Outcome::Done && holds(&buffer, wanted, FIRST);
-    let second = engine.copy_nodes(alloc, &None, place, &mut buffer, &mut wanted);
-    let end = engine.copy_nodes(alloc, &None, place, &mut buffer, &mut wanted);
+    let second = engine.copy_nodes(alloc, 0, &None, place, &mut buffer, &mut wanted);
+    let end = engine.copy_nodes(alloc, 0, &None, place, &mut buffer, &mut wanted);
     is_first && second == Outcome::Done && end == Outcome::AtEnd
 }
 

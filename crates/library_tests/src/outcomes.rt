@@ -14,11 +14,11 @@ fn is_known(number: u32) -> bool {
 }
 
 #[test]
-fn refusals_have_1_to_18_and_the_others_0_and_32_to_41(rt: HostRuntime) -> Result<(), Fail> {
+fn refusals_have_1_to_18_and_the_others_0_and_32_to_42(rt: HostRuntime) -> Result<(), Fail> {
     for number in 0..50 {
         assert_eq!(rt;
             is_known(number),
-            number <= 18 || (32..=41).contains(&number)
+            number <= 18 || (32..=42).contains(&number)
         );
     }
     Ok(())
@@ -36,9 +36,10 @@ fn outcomes_have_names(rt: HostRuntime) -> Result<(), Fail> {
     assert!(rt; is_named(0, b"Done"));
     assert!(rt; is_named(14, b"OutOfMemory"));
     assert!(rt; is_named(41, b"NoValue"));
+    assert!(rt; is_named(42, b"TransactionOpen"));
     let mut wanted = 99;
     assert_eq!(rt;
-        name_outcome(42, &mut [], &mut wanted),
+        name_outcome(43, &mut [], &mut wanted),
         Outcome::UnknownNumber
     );
     assert_eq!(rt;

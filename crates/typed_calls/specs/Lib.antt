@@ -1,3 +1,4 @@
 pub mod Commands
+pub mod Looks
 pub mod Spelled
 pub mod Typed

@@ -1,15 +1,15 @@
 //! Commands on keys, built for one step.
 ghost use Rattle.std.specs.Prelude.{◌≡◌, IfErr, IfOk};
 ghost use Rattle.typed_calls.specs.Commands.{data_command as data_of, get_command as get_of, kill_command as kill_of, lock_command as lock_of_key, lock_of, merge_command as merge_of, order_command as order_of, query_command as query_of, set_command as set_of};
-ghost use Rattle.typed_calls.specs.Typed.{IsMemory, IsPlaceCause, IsValueCause};
+ghost use Rattle.typed_calls.specs.Typed.{IsMemory, IsPlaceCause};
 
 use crate::keys::place_below;
-use collation::{Direction, LONGEST_VALUE, Text};
+use collation::{Direction, Text};
 use command::{Command, DataCommand, Look};
 use key_codec::{Key, Place};
 use lock_name::{LockCommand, LockName, LockNames};
 use refusal::Refusal;
-use std::alloc::Global;
+use std::alloc::{AllocError, Global};
 
 /// The forms of LOCK with a name.
 #[derive(Clone, Copy, Debug, PartialEq, Eq)]
@@ -36,13 +36,9 @@ impl LockForm {
 }
 
 // SET of this key and a copy of the value.
-pub(crate) fn set_command(alloc: Global, key: &Key, value: &[u8]) -> Result<Command, Refusal>
-    ensures ok { IfOk result (λ command. command ≡ set_of key.now value.now) }
-    ensures err { IfErr result (λ refusal. IsValueCause value.now refusal) }
+pub(crate) fn set_command(alloc: Global, key: &Key, value: &[u8]) -> Result<Command, AllocError>
+    ensures { IfOk result (λ command. command ≡ set_of key.now value.now) }
 {
-    if value.len() > LONGEST_VALUE {
-        return Err(Refusal::ValueTooLong);
-    }
     let key = key.clone()?;
     let value = Text::from_slice(alloc, value)?;
     Ok(Command::Access(DataCommand::Set(key, value)))
@@ -95,6 +91,14 @@ pub(crate) fn order_command(
     Ok(Command::Access(DataCommand::Look(Look::Order(place, direction))))
 }
 
+// The place of the key, or of an empty subscript below it.
+pub(crate) fn place_at(key: &Key, is_open: bool) -> Result<Place, AllocError>
+    ensures { IfOk result (λ place. place ≡ record { reference = key.now; is_open = is_open }) }
+{
+    let key = key.clone()?;
+    Ok(Place::new(key, is_open))
+}
+
 // $QUERY from the key, or from an empty subscript below it.
 pub(crate) fn query_command(
     key: &Key,
@@ -104,8 +108,7 @@ pub(crate) fn query_command(
     ensures ok { IfOk result (λ command. command ≡ query_of key.now is_open direction) }
     ensures err { IfErr result (λ refusal. IsMemory refusal) }
 {
-    let key = key.clone()?;
-    let place = Place::new(key, is_open);
+    let place = place_at(key, is_open)?;
     Ok(Command::Access(DataCommand::Look(Look::Query(place, direction))))
 }
 

@@ -1,25 +1,72 @@
 //! A step of a command, and what its reply tells.
-ghost use Rattle.std.specs.Prelude.{◌≡◌};
+ghost use Rattle.std.specs.Prelude.{◌≡◌, false, is_some, Some};
+ghost use Rattle.journal.specs.Story.{transaction_of};
+ghost use Rattle.job_core.specs.Lent.{done_reply};
+ghost use Rattle.typed_calls.specs.Commands.{set_command};
 ghost use Rattle.typed_calls.specs.Typed as typed;
-ghost use Rattle.typed_calls.specs.Typed.{IsFoundCall, IsFoundTaken, IsJobCause, IsKeyOf, IsNumberCall, IsStep, IsTypedCall, IsValueCall, IsValueCopied, last_outcome};
+ghost use Rattle.typed_calls.specs.Typed.{IsFoundCall, IsFoundTaken, IsJobCause, IsKeyOf, IsMemory, IsNumberCall, IsStep, IsTypedCall, IsValueCall, IsValueCopied, last_outcome};
 
-use collation::Job;
+use collation::{Job, Text};
 use command::{Answer, Command, Reply};
 use embedded::{Answered, Embedded, Outcome, copied_as};
 use key_codec::Key;
+use refusal::Refusal;
+use std::alloc::Global;
 
-// Does a command of a job, and keeps its reply in the place of the last one.
-fn run_step(engine: &mut Embedded, job: Job, command: Command) -> Outcome
-    ensures step { IsStep job command engine.old engine.new }
+// Keeps a job's reply in the place of the last one, and answers its outcome.
+fn keep_reply(engine: &mut Embedded, job: Job, reply: Reply) -> Outcome
+    ensures last { engine.new.last ≡ Some (record { job = Some job; reply = reply }) }
+    ensures core { engine.new.core ≡ engine.old.core }
+    ensures listed { engine.new.listed ≡ engine.old.listed }
     ensures outcome { result ≡ last_outcome engine.new.last }
 {
-    let reply = engine.core.step(job, command);
     let outcome = Outcome::of(&reply);
     engine.last = Some(Answered {
         job: Some(job),
         reply,
     });
     outcome
+}
+
+// Does a command of a job, and keeps its reply in the place of the last one.
+pub(crate) fn run_step(engine: &mut Embedded, job: Job, command: Command) -> Outcome
+    ensures step { IsStep job command engine.old engine.new }
+    ensures outcome { result ≡ last_outcome engine.new.last }
+{
+    let reply = engine.core.step(job, command);
+    keep_reply(engine, job, reply)
+}
+
+// The reply of a SET by reference.
+fn reply_of_set(done: Result<(), Refusal>) -> Reply
+    ensures { result ≡ done_reply done }
+{
+    match done {
+        Ok(()) => Reply::Answered(Answer::Done),
+        Err(refusal) => Reply::Refused(refusal),
+    }
+}
+
+// Does a SET of a job that has no open transaction by reference, without making the command, and keeps its reply.
+//
+// Outcomes: the reply's own; before the step `OutOfMemory`.
+#[tactic(auto, using(crate::proofs::Alone::none_open))]
+pub(crate) fn set_alone(
+    engine: &mut Embedded,
+    alloc: Global,
+    job: Job,
+    key: &Key,
+    value: &[u8],
+) -> Outcome
+    requires { is_some (transaction_of job engine.old.core.machine) ≡ false }
+    ensures { IsTypedCall (λ refusal. IsMemory refusal) job (set_command key.now value.now) engine.old engine.new result }
+{
+    let mut text = match Text::from_slice(alloc, value) {
+        Ok(text) => text,
+        Err(_) => return Outcome::Refused(Refusal::OutOfMemory),
+    };
+    let done = engine.core.set_lone(job, key, &mut text);
+    keep_reply(engine, job, reply_of_set(done))
 }
 
 /// Does a command of a job, and keeps its reply in the place of the last one.

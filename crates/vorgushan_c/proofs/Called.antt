@@ -53,7 +53,7 @@ pub back_is : {X : Type 0} (value : X → Reference) (o : Option X) (inside old 
 back_is value o inside old new was is none = sym (put_is value o old new is none) ∙ held_is value o inside was
 
 -- a walk within a root, from a place to another, by what these are
-pub same_walk : (root place now root' place' now' : Option Reference) (before after : Embedded) (outcome : Outcome) (old new : List ℕ) (wanted : ℕ) → root' ≡ root → place' ≡ place → now' ≡ now → IsWalkCall root' place' now' before after outcome old new wanted
-    → IsWalkCall root place now before after outcome old new wanted
-same_walk root place now root' place' now' before after outcome old new wanted a b c h =
-    subst (λ r. IsWalkCall r place now before after outcome old new wanted) a (subst (λ p. IsWalkCall root' p now before after outcome old new wanted) b (subst (λ n. IsWalkCall root' place' n before after outcome old new wanted) c h))
+pub same_walk : (moment : ℕ) (root place now root' place' now' : Option Reference) (before after : Embedded) (outcome : Outcome) (old new : List ℕ) (wanted : ℕ) → root' ≡ root → place' ≡ place → now' ≡ now → IsWalkCall moment root' place' now' before after outcome old new wanted
+    → IsWalkCall moment root place now before after outcome old new wanted
+same_walk moment root place now root' place' now' before after outcome old new wanted a b c h =
+    subst (λ r. IsWalkCall moment r place now before after outcome old new wanted) a (subst (λ p. IsWalkCall moment root' p now before after outcome old new wanted) b (subst (λ n. IsWalkCall moment root' place' n before after outcome old new wanted) c h))

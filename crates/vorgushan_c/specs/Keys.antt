@@ -6,7 +6,9 @@ use Rattle.collation.specs.Reference.{Reference}
 use Rattle.collation.specs.declared.direction.Direction.{Direction}
 use Rattle.collation.specs.declared.direction.Direction.TheVariants.{Forward, Backward}
 use Rattle.key_codec.specs.Draft.{IsDueOrMemory, longer, reference_due}
+use Rattle.key_codec.specs.Key.{key_of}
 use Rattle.typed_calls.specs.Spelled.{due_in_turn}
+use Rattle.embedded.specs.Calls.{IsCopied}
 use Rattle.embedded.specs.Outcomes.{outcome_number}
 use Rattle.embedded.specs.declared.engine.Embedded.{Embedded}
 use Rattle.embedded.specs.declared.outcome.Outcome.{Outcome}
@@ -38,6 +40,12 @@ abbrev pub IsSpelledKey : List ℕ → List (List ℕ) → Option Reference → 
 IsSpelledKey name ss old now number =
     ((now ≡ Some (record { name = name; subscripts = ss })) × (due_in_turn (record { name = name; subscripts = [] }) ss ≡ None) × (number ≡ outcome_number Done))
     ⊎ ((now ≡ old) × IsRefusedAs (due_in_turn (record { name = name; subscripts = [] }) ss) number)
+
+-- the bytes of a key were copied, or there is no room for them
+pub record AreBytesCopied (reference : Reference) (number : ℕ) (old new : List ℕ) (wanted : ℕ) : Type 0 where
+  pub outcome : Outcome
+  pub told : number ≡ outcome_number outcome
+  pub copied : IsCopied (key_of reference) Done outcome old new wanted
 
 -- the call on an engine and a key did this; where one of them isn't there it tells so and does the other, and the engine is as it was
 abbrev pub IsKeyCalled : Option Embedded → Option Embedded → Option Reference → ℕ → Type 0 → (Reference → Embedded → Embedded → Outcome → Type 0) → Type 0

@@ -124,23 +124,24 @@ pub extern "C" fn vorgushan_list_from_start(alloc: Global, engine: &mut VgEngine
     Outcome::Done.number()
 }
 
-/// Copies the line of the node behind the one that was listed last.
+/// Copies the line of the node behind the one that was listed last, in the database of a moment.
 ///
 /// Outcomes: as of `Embedded::copy_next_node`; `NoEngine`.
 #[unsafe(no_mangle)]
 pub extern "C" fn vorgushan_list_next(
     alloc: Global,
     engine: &mut VgEngine,
+    moment: u64,
     node: &mut [u8],
     wanted: &mut usize,
 ) -> u32
     ensures { IsCalled engine.old.inside engine.new.inside result ((node.new ≡ node.old) × (wanted.new ≡ wanted.old))
-        (λ before after outcome. IsListCall before after outcome node.old node.new wanted.new) }
+        (λ before after outcome. IsListCall moment before after outcome node.old node.new wanted.new) }
 {
     let Some(mut there) = engine.take(alloc) else {
         return Outcome::NoEngine.number();
     };
-    let outcome = there.copy_next_node(node, wanted);
+    let outcome = there.copy_next_node(moment, node, wanted);
     engine.put(there);
     outcome.number()
 }

@@ -4,11 +4,11 @@ ghost use Rattle.std.specs.Option.{MatchOption};
 ghost use Rattle.embedded.specs.Outcomes.{outcome_number};
 ghost use Rattle.key_codec.specs.Draft.{IsDueOrMemory};
 ghost use Rattle.typed_calls.specs.Spelled.{due_in_turn, texts_of};
-ghost use Rattle.vorgushan_c.specs.Keys.{IsNamedKey, IsLongerKey, IsSpelledKey};
+ghost use Rattle.vorgushan_c.specs.Keys.{AreBytesCopied, IsNamedKey, IsLongerKey, IsSpelledKey};
 
 use crate::draft_handle::VgDraft;
 use crate::key_handle::VgKey;
-use embedded::Outcome;
+use embedded::{Outcome, copied_as};
 use key_codec::{Key, KeyDraft};
 use refusal::Refusal;
 use std::alloc::Global;
@@ -146,6 +146,28 @@ pub extern "C" fn vorgushan_key_spell(
             Outcome::Refused(refusal).number()
         }
     }
+}
+
+/// Copies the bytes of a key, which sort as references do, and tells how many they are.
+///
+/// `BufferTooShort`, and nothing is copied; `NoKey` where none is there.
+#[unsafe(no_mangle)]
+pub extern "C" fn vorgushan_key_bytes(
+    alloc: Global,
+    key: &mut VgKey,
+    bytes: &mut [u8],
+    wanted: &mut usize,
+) -> u32
+    ensures copied { MatchOption key.old.inside ((result ≡ outcome_number Outcome.NoKey) × (bytes.new ≡ bytes.old) × (wanted.new ≡ wanted.old))
+        (λ reference. AreBytesCopied reference result bytes.old bytes.new wanted.new) }
+    ensures key { key.new.inside ≡ key.old.inside }
+{
+    let Some(there) = key.take(alloc) else {
+        return Outcome::NoKey.number();
+    };
+    let outcome = copied_as(Outcome::Done, there.as_slice(), bytes, wanted);
+    key.put(there);
+    outcome.number()
 }
 
 /// Ends a draft, where one is there: its memory is given back.

@@ -1,29 +1,48 @@
-//! What C calls to look at the present database, without a command of a job. Each of them is declared in
-//! `include/vorgushan.h`, with its meaning for a C programmer.
-ghost use Rattle.std.specs.Prelude.{◌≡◌};
-ghost use Rattle.embedded.specs.Calls.{database};
-ghost use Rattle.embedded.specs.Looks.{IsLook, IsWalkCall};
+//! What C calls to look at the database of a moment, without a command of a job, and to begin a view. Each of them is
+//! declared in `include/vorgushan.h`, with its meaning for a C programmer.
+ghost use Rattle.std.specs.Prelude.{◌≡◌, ⊤};
+ghost use Rattle.embedded.specs.Looks.{IsDataAt, IsLookAt, IsWalkCall};
+ghost use Rattle.typed_calls.specs.Looks.{IsOrderLook, IsQueryLook, IsViewBegun};
 ghost use Rattle.vorgushan_c.specs.Exports.{IsCalled};
-ghost use Rattle.vorgushan_c.specs.Keys.{IsKeyCalled};
+ghost use Rattle.vorgushan_c.specs.Keys as spec;
+ghost use Rattle.vorgushan_c.specs.Keys.{IsKeyCalled, IsMoved};
 
 use crate::handle::VgEngine;
 use crate::key_handle::VgKey;
+use crate::typed::direction_of;
 use embedded::Outcome;
 use std::alloc::Global;
+use typed_calls::{begin_view, look_order, look_query};
 
-/// Copies the value that a key's reference has in the database as it is now, and tells how long it is.
+/// Begins a view for a job that has no open transaction: from then on its number is a moment for looks, until TROLLBACK.
+///
+/// Outcomes: as of `typed_calls::begin_view`; `NoEngine`, and nothing has changed.
+#[unsafe(no_mangle)]
+pub extern "C" fn vorgushan_view_begin(alloc: Global, engine: &mut VgEngine, job: u64) -> u32
+    ensures { IsCalled engine.old.inside engine.new.inside result ⊤ (λ before after outcome. IsViewBegun job before after outcome) }
+{
+    let Some(mut there) = engine.take(alloc) else {
+        return Outcome::NoEngine.number();
+    };
+    let outcome = begin_view(&mut there, job);
+    engine.put(there);
+    outcome.number()
+}
+
+/// Copies the value that a key's reference has in the database of a moment, and tells how long it is.
 ///
 /// Outcomes: as of `Embedded::look`; `NoEngine`, `NoKey`.
 #[unsafe(no_mangle)]
 pub extern "C" fn vorgushan_look(
     alloc: Global,
     engine: &mut VgEngine,
+    moment: u64,
     key: &mut VgKey,
     value: &mut [u8],
     wanted: &mut usize,
 ) -> u32
     ensures called { IsKeyCalled engine.old.inside engine.new.inside key.old.inside result ((value.new ≡ value.old) × (wanted.new ≡ wanted.old)) (λ reference before after outcome.
-        (after ≡ before) × IsLook (database before) reference outcome value.old value.new wanted.new) }
+        (after ≡ before) × IsLookAt moment before.core.machine reference outcome value.old value.new wanted.new) }
     ensures key { key.new.inside ≡ key.old.inside }
 {
     let Some(there) = engine.take(alloc) else {
@@ -33,13 +52,106 @@ pub extern "C" fn vorgushan_look(
         engine.put(there);
         return Outcome::NoKey.number();
     };
-    let outcome = there.look(&at, value, wanted);
+    let outcome = there.look(moment, &at, value, wanted);
     key.put(at);
     engine.put(there);
     outcome.number()
 }
 
-/// Copies the next nodes of a walk over the database as it is now, as many as the buffer has room for, and tells how
+/// Tells 1 where a key's reference has a value in the database of a moment, and 10 more where a descendant has one.
+///
+/// Outcomes: as of `Embedded::look_data`; `NoEngine`, `NoKey`.
+#[unsafe(no_mangle)]
+pub extern "C" fn vorgushan_look_data(
+    alloc: Global,
+    engine: &mut VgEngine,
+    moment: u64,
+    key: &mut VgKey,
+    number: &mut u64,
+) -> u32
+    ensures called { IsKeyCalled engine.old.inside engine.new.inside key.old.inside result (number.new ≡ number.old) (λ reference before after outcome.
+        (after ≡ before) × IsDataAt moment before.core.machine reference outcome number.new) }
+    ensures key { key.new.inside ≡ key.old.inside }
+{
+    let Some(there) = engine.take(alloc) else {
+        return Outcome::NoEngine.number();
+    };
+    let Some(at) = key.take(alloc) else {
+        engine.put(there);
+        return Outcome::NoKey.number();
+    };
+    let outcome = there.look_data(moment, &at, number);
+    key.put(at);
+    engine.put(there);
+    outcome.number()
+}
+
+/// Copies the bytes of the subscript one level below a key that comes next to `start` in the database of a moment, none
+/// where there is none. Backward where `backward` isn't 0.
+///
+/// Outcomes: as of `typed_calls::look_order`; `NoEngine`, `NoKey`.
+#[unsafe(no_mangle)]
+pub extern "C" fn vorgushan_look_order(
+    alloc: Global,
+    engine: &mut VgEngine,
+    moment: u64,
+    key: &mut VgKey,
+    start: &[u8],
+    backward: u32,
+    subscript: &mut [u8],
+    wanted: &mut usize,
+) -> u32
+    ensures called { IsKeyCalled engine.old.inside engine.new.inside key.old.inside result ((subscript.new ≡ subscript.old) × (wanted.new ≡ wanted.old)) (λ reference before after outcome.
+        (after ≡ before) × IsOrderLook moment before.core.machine reference start.now (spec.direction_of backward) outcome subscript.old subscript.new wanted.new) }
+    ensures key { key.new.inside ≡ key.old.inside }
+{
+    let Some(there) = engine.take(alloc) else {
+        return Outcome::NoEngine.number();
+    };
+    let Some(at) = key.take(alloc) else {
+        engine.put(there);
+        return Outcome::NoKey.number();
+    };
+    let direction = direction_of(backward);
+    let outcome = look_order(
+        &there, alloc, moment, &at, start, direction, subscript, wanted,
+    );
+    key.put(at);
+    engine.put(there);
+    outcome.number()
+}
+
+/// Moves a key to the nearest node with a value in the same name, in the database of a moment. Backward where
+/// `backward` isn't 0; where `is_open` isn't 0 an empty subscript follows the key, as of `vorgushan_query`.
+///
+/// Outcomes: as of `typed_calls::look_query`; `NoEngine`, `NoKey`.
+#[unsafe(no_mangle)]
+pub extern "C" fn vorgushan_look_query(
+    alloc: Global,
+    engine: &mut VgEngine,
+    moment: u64,
+    key: &mut VgKey,
+    is_open: u32,
+    backward: u32,
+) -> u32
+    ensures { IsKeyCalled engine.old.inside engine.new.inside key.old.inside result (key.new.inside ≡ key.old.inside) (λ reference before after outcome.
+        IsMoved key.new.inside (λ found. (after ≡ before) × IsQueryLook moment before.core.machine reference (spec.is_not_0 is_open) (spec.direction_of backward) found outcome)) }
+{
+    let Some(there) = engine.take(alloc) else {
+        return Outcome::NoEngine.number();
+    };
+    let Some(mut at) = key.take(alloc) else {
+        engine.put(there);
+        return Outcome::NoKey.number();
+    };
+    let direction = direction_of(backward);
+    let outcome = look_query(&there, moment, &mut at, is_open != 0, direction);
+    key.put(at);
+    engine.put(there);
+    outcome.number()
+}
+
+/// Copies the next nodes of a walk over the database of a moment, as many as the buffer has room for, and tells how
 /// long their records are together: of what is at and under `root`, or of all where no key is there, from behind
 /// `place` on, or from the first where no key is there; and `place` moves to the last node copied.
 ///
@@ -48,13 +160,14 @@ pub extern "C" fn vorgushan_look(
 pub extern "C" fn vorgushan_walk(
     alloc: Global,
     engine: &mut VgEngine,
+    moment: u64,
     root: &mut VgKey,
     place: &mut VgKey,
     nodes: &mut [u8],
     wanted: &mut usize,
 ) -> u32
     ensures called { IsCalled engine.old.inside engine.new.inside result ((nodes.new ≡ nodes.old) × (wanted.new ≡ wanted.old) × (place.new.inside ≡ place.old.inside)) (λ before after outcome.
-        IsWalkCall root.old.inside place.old.inside place.new.inside before after outcome nodes.old nodes.new wanted.new) }
+        IsWalkCall moment root.old.inside place.old.inside place.new.inside before after outcome nodes.old nodes.new wanted.new) }
     ensures root { root.new.inside ≡ root.old.inside }
 {
     let Some(mut there) = engine.take(alloc) else {
@@ -62,7 +175,7 @@ pub extern "C" fn vorgushan_walk(
     };
     let within = root.take(alloc);
     let mut behind = place.take(alloc);
-    let outcome = there.copy_nodes(alloc, &within, &mut behind, nodes, wanted);
+    let outcome = there.copy_nodes(alloc, moment, &within, &mut behind, nodes, wanted);
     root.put_back(within);
     place.put_back(behind);
     engine.put(there);

@@ -161,7 +161,7 @@ pub extern "C" fn vorgushan_data(
 }
 
 // 0 is forward, and any other number backward.
-fn direction_of(backward: u32) -> Direction
+pub(crate) fn direction_of(backward: u32) -> Direction
     ensures { result ≡ spec.direction_of backward }
 {
     if backward == 0 {
