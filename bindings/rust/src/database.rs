@@ -6,6 +6,7 @@ use crate::job::Job;
 use crate::key::Key;
 use crate::raw::{self, outcome, RawStatistics};
 use crate::transaction::Transaction;
+use crate::view::View;
 use crate::walk::Walk;
 use std::cell::RefCell;
 use std::fmt;
@@ -108,7 +109,12 @@ impl Database {
 
     /// The value that a key's reference has as it is committed now, without a command: nothing is put into the journal.
     pub fn look(&self, key: &Key) -> Result<Option<Vec<u8>>, Error> {
-        self.with(|engine| match key.with(|key| lent(engine.look(key))) {
+        self.look_at(raw::NOW, key)
+    }
+
+    /// The value that a key's reference has in the database of a moment.
+    pub(crate) fn look_at(&self, moment: u64, key: &Key) -> Result<Option<Vec<u8>>, Error> {
+        self.with(|engine| match key.with(|key| lent(engine.look(moment, key))) {
             (outcome::NO_VALUE, _) => Ok(None),
             (outcome, value) => done(outcome).map(|()| Some(value)),
         })
@@ -117,6 +123,26 @@ impl Database {
     /// As [`look`](Database::look), as text. [`NotText`](Error::NotText).
     pub fn look_text(&self, key: &Key) -> Result<Option<String>, Error> {
         self.look(key)?.map(|value| String::from_utf8(value).map_err(|_| Error::NotText)).transpose()
+    }
+
+    /// Begins a view of the database as it is now, by the number of a job, from 1 to 4,096, that does nothing else
+    /// meanwhile.
+    ///
+    /// [`BadJob`](Error::BadJob), [`OutOfMemory`](Error::OutOfMemory); [`TransactionOpen`](Error::TransactionOpen)
+    /// where a view by this number is there already, or this job is in a transaction.
+    ///
+    /// ```
+    /// # use vorgushan::{Database, Key};
+    /// let database = Database::new()?;
+    /// let key = Key::new("A")?;
+    /// database.job(1)?.set(&key, "old")?;
+    /// let view = database.view(9)?;
+    /// database.job(1)?.set(&key, "new")?;
+    /// assert_eq!(view.look(&key)?.as_deref(), Some(&b"old"[..]));
+    /// # Ok::<(), vorgushan::Error>(())
+    /// ```
+    pub fn view(&self, number: u64) -> Result<View<'_>, Error> {
+        View::begin(self, number)
     }
 
     /// The nodes with a value at and under a key, in order, as they are committed, without a command.
@@ -135,23 +161,28 @@ impl Database {
     /// # Ok::<(), vorgushan::Error>(())
     /// ```
     pub fn walk<'a>(&'a self, root: &'a Key) -> Walk<'a> {
-        Walk::new(self, Some(root))
+        Walk::new(self, raw::NOW, Some(root))
     }
 
     /// All nodes with a value, in order, as they are committed, without a command.
     pub fn walk_all(&self) -> Walk<'_> {
-        Walk::new(self, None)
+        Walk::new(self, raw::NOW, None)
     }
 
     /// All nodes with a value as lines, each with its end, as `^A(1)=5`.
     ///
     /// [`OutOfMemory`](Error::OutOfMemory).
     pub fn listing(&self) -> Result<String, Error> {
+        self.listing_at(raw::NOW)
+    }
+
+    /// All nodes as lines, in the database of a moment.
+    pub(crate) fn listing_at(&self, moment: u64) -> Result<String, Error> {
         let mut lines = Vec::new();
         self.with(|engine| {
             done(raw::vorgushan_list_from_start(engine.raw()))?;
             loop {
-                match engine.list_next() {
+                match engine.list_next(moment) {
                     (outcome::AT_END, _) => break,
                     (outcome, line) => done(outcome).map(|()| lines.extend_from_slice(line))?,
                 }

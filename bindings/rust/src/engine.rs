@@ -56,8 +56,8 @@ impl Engine {
     }
 
     /// Copies the next node's line.
-    pub(crate) fn list_next(&mut self) -> Copied<'_> {
-        self.copied(raw::list_next)
+    pub(crate) fn list_next(&mut self, moment: u64) -> Copied<'_> {
+        self.copied(|engine, node, length| raw::list_next(engine, moment, node, length))
     }
 
     pub(crate) fn set(&mut self, job: u64, key: &mut RawKey, value: &[u8]) -> u32 {
@@ -74,12 +74,23 @@ impl Engine {
         self.copied(|engine, found, length| raw::order(engine, job, &mut from, found, length))
     }
 
-    pub(crate) fn look(&mut self, key: &mut RawKey) -> Copied<'_> {
-        self.copied(|engine, value, length| raw::look(engine, key, value, length))
+    /// The value at a key, in the database of a moment.
+    pub(crate) fn look(&mut self, moment: u64, key: &mut RawKey) -> Copied<'_> {
+        self.copied(|engine, value, length| raw::look(engine, moment, key, value, length))
+    }
+
+    /// What $ORDER would answer, in the database of a moment.
+    pub(crate) fn look_order(&mut self, moment: u64, mut from: raw::Place<'_>) -> Copied<'_> {
+        self.copied(|engine, found, length| raw::look_order(engine, moment, &mut from, found, length))
+    }
+
+    /// A key's own bytes.
+    pub(crate) fn key_bytes(&mut self, key: &mut RawKey) -> Copied<'_> {
+        self.copied(|_, bytes, length| raw::key_bytes(key, bytes, length))
     }
 
     /// The next nodes after a place, which becomes that of the last of them.
-    pub(crate) fn walk(&mut self, root: &mut RawKey, place: &mut RawKey) -> Copied<'_> {
-        self.copied(|engine, nodes, length| raw::walk(engine, root, place, nodes, length))
+    pub(crate) fn walk(&mut self, moment: u64, root: &mut RawKey, place: &mut RawKey) -> Copied<'_> {
+        self.copied(|engine, nodes, length| raw::walk(engine, moment, root, place, nodes, length))
     }
 }

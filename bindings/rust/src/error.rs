@@ -58,7 +58,7 @@ pub enum Error {
 }
 
 /// The errors that have a number of the library's, by that number.
-const NUMBERED: [(u32, Error); 18] = [
+const NUMBERED: [(u32, Error); 19] = [
     (1, Error::BadLine),
     (2, Error::BadName),
     (3, Error::EmptySubscript),
@@ -77,6 +77,7 @@ const NUMBERED: [(u32, Error); 18] = [
     (outcome::REPLY_KEPT, Error::ReplyKept),
     (outcome::NO_REPLY, Error::NoReply),
     (outcome::RESTARTED, Error::Restarted),
+    (outcome::TRANSACTION_OPEN, Error::TransactionOpen),
 ];
 
 impl Error {

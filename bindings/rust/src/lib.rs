@@ -22,7 +22,7 @@
 //!
 //! # Where to find what
 //!
-//! - [`Database`]: makes an engine; lines, looks, walks, the listing, upkeep.
+//! - [`Database`]: makes an engine; lines, looks, walks, the listing, upkeep. [`View`]: the same moment in many looks.
 //! - [`Job`]: commands on keys, locks, [transactions](Job::transaction) that are done again after a restart.
 //! - [`Key`] and [`Reference`]: names and subscripts, by pieces or by text. [`Subscript`]: what may be one.
 //! - [`Error`]: why a call wasn't done.
@@ -54,6 +54,7 @@ mod key;
 mod literal;
 mod raw;
 mod transaction;
+mod view;
 mod walk;
 
 pub use database::{Database, Statistics};
@@ -61,4 +62,5 @@ pub use error::Error;
 pub use job::{Data, Direction, Job, Start};
 pub use key::{Key, Reference, Subscript};
 pub use transaction::Transaction;
+pub use view::View;
 pub use walk::{Children, Node, Walk};

@@ -19,7 +19,11 @@ pub(crate) mod outcome {
     pub(crate) const AT_END: u32 = 37;
     pub(crate) const RESTARTED: u32 = 40;
     pub(crate) const NO_VALUE: u32 = 41;
+    pub(crate) const TRANSACTION_OPEN: u32 = 42;
 }
+
+/// `VG_NOW`.
+pub(crate) const NOW: u64 = 0;
 
 /// `vg_engine`.
 #[repr(C)]
@@ -72,7 +76,13 @@ unsafe extern "C" {
     ) -> u32;
     fn vorgushan_reply(engine: &mut RawEngine, reply: *mut u8, reply_size: usize, reply_length: &mut usize) -> u32;
     pub(crate) safe fn vorgushan_list_from_start(engine: &mut RawEngine) -> u32;
-    fn vorgushan_list_next(engine: &mut RawEngine, node: *mut u8, node_size: usize, node_length: &mut usize) -> u32;
+    fn vorgushan_list_next(
+        engine: &mut RawEngine,
+        moment: u64,
+        node: *mut u8,
+        node_size: usize,
+        node_length: &mut usize,
+    ) -> u32;
     pub(crate) safe fn vorgushan_collect(engine: &mut RawEngine, nodes: usize) -> u32;
     pub(crate) safe fn vorgushan_checkpoint(engine: &mut RawEngine) -> u32;
     pub(crate) safe fn vorgushan_statistics(engine: &mut RawEngine, statistics: &mut RawStatistics) -> u32;
@@ -85,6 +95,7 @@ unsafe extern "C" {
         subscripts: *const RawText,
         count: usize,
     ) -> u32;
+    fn vorgushan_key_bytes(key: &mut RawKey, bytes: *mut u8, bytes_size: usize, bytes_length: &mut usize) -> u32;
     safe fn vorgushan_draft_end(draft: &mut RawDraft);
     safe fn vorgushan_key_end(key: &mut RawKey) -> u32;
     fn vorgushan_set(engine: &mut RawEngine, job: u64, key: &mut RawKey, value: *const u8, value_length: usize) -> u32;
@@ -117,8 +128,34 @@ unsafe extern "C" {
         is_open: u32,
         backward: u32,
     ) -> u32;
+    pub(crate) safe fn vorgushan_view_begin(engine: &mut RawEngine, job: u64) -> u32;
+    pub(crate) safe fn vorgushan_look_data(
+        engine: &mut RawEngine,
+        moment: u64,
+        key: &mut RawKey,
+        number: &mut u64,
+    ) -> u32;
+    fn vorgushan_look_order(
+        engine: &mut RawEngine,
+        moment: u64,
+        key: &mut RawKey,
+        start: *const u8,
+        start_length: usize,
+        backward: u32,
+        subscript: *mut u8,
+        subscript_size: usize,
+        subscript_length: &mut usize,
+    ) -> u32;
+    pub(crate) safe fn vorgushan_look_query(
+        engine: &mut RawEngine,
+        moment: u64,
+        key: &mut RawKey,
+        is_open: u32,
+        backward: u32,
+    ) -> u32;
     fn vorgushan_look(
         engine: &mut RawEngine,
+        moment: u64,
         key: &mut RawKey,
         value: *mut u8,
         value_size: usize,
@@ -126,6 +163,7 @@ unsafe extern "C" {
     ) -> u32;
     fn vorgushan_walk(
         engine: &mut RawEngine,
+        moment: u64,
         root: &mut RawKey,
         place: &mut RawKey,
         nodes: *mut u8,
@@ -181,9 +219,9 @@ pub(crate) fn reply(engine: &mut RawEngine, reply: &mut [u8], length: &mut usize
     unsafe { vorgushan_reply(engine, reply.as_mut_ptr(), reply.len(), length) }
 }
 
-pub(crate) fn list_next(engine: &mut RawEngine, node: &mut [u8], length: &mut usize) -> u32 {
+pub(crate) fn list_next(engine: &mut RawEngine, moment: u64, node: &mut [u8], length: &mut usize) -> u32 {
     // SAFETY: pointer and length are those of a slice, which is lent for the call.
-    unsafe { vorgushan_list_next(engine, node.as_mut_ptr(), node.len(), length) }
+    unsafe { vorgushan_list_next(engine, moment, node.as_mut_ptr(), node.len(), length) }
 }
 
 pub(crate) fn key_subscript(key: &mut RawKey, subscript: &[u8]) -> u32 {
@@ -232,20 +270,47 @@ pub(crate) fn order(engine: &mut RawEngine, job: u64, from: &mut Place, found: &
     }
 }
 
-pub(crate) fn look(engine: &mut RawEngine, key: &mut RawKey, value: &mut [u8], length: &mut usize) -> u32 {
+pub(crate) fn key_bytes(key: &mut RawKey, bytes: &mut [u8], length: &mut usize) -> u32 {
     // SAFETY: pointer and length are those of a slice, which is lent for the call.
-    unsafe { vorgushan_look(engine, key, value.as_mut_ptr(), value.len(), length) }
+    unsafe { vorgushan_key_bytes(key, bytes.as_mut_ptr(), bytes.len(), length) }
+}
+
+pub(crate) fn look(
+    engine: &mut RawEngine,
+    moment: u64,
+    key: &mut RawKey,
+    value: &mut [u8],
+    length: &mut usize,
+) -> u32 {
+    // SAFETY: pointer and length are those of a slice, which is lent for the call.
+    unsafe { vorgushan_look(engine, moment, key, value.as_mut_ptr(), value.len(), length) }
+}
+
+pub(crate) fn look_order(
+    engine: &mut RawEngine,
+    moment: u64,
+    from: &mut Place,
+    found: &mut [u8],
+    length: &mut usize,
+) -> u32 {
+    let (start, size) = (from.start, found.len());
+    // SAFETY: pointers and lengths are those of two slices, which are lent for the call and don't overlap.
+    unsafe {
+        let found = found.as_mut_ptr();
+        vorgushan_look_order(engine, moment, from.key, start.as_ptr(), start.len(), from.backward, found, size, length)
+    }
 }
 
 pub(crate) fn walk(
     engine: &mut RawEngine,
+    moment: u64,
     root: &mut RawKey,
     place: &mut RawKey,
     nodes: &mut [u8],
     length: &mut usize,
 ) -> u32 {
     // SAFETY: pointer and length are those of a slice, which is lent for the call; two `&mut` are two keys.
-    unsafe { vorgushan_walk(engine, root, place, nodes.as_mut_ptr(), nodes.len(), length) }
+    unsafe { vorgushan_walk(engine, moment, root, place, nodes.as_mut_ptr(), nodes.len(), length) }
 }
 
 pub(crate) fn outcome_name(number: u32, name: &mut [u8], length: &mut usize) -> u32 {

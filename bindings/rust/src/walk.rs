@@ -67,11 +67,13 @@ impl Node {
     }
 }
 
-/// Nodes in order, of [`Database::walk`] and [`Database::walk_all`]. After an error there are no more.
+/// Nodes in order, of [`Database::walk`], [`Database::walk_all`] and those of a [`View`](crate::View). After an error
+/// there are no more.
 ///
-/// They are read some hundreds at a time, each time in the database as it is committed then.
+/// They are read some hundreds at a time, each time in the database as it is committed then, or in the view.
 pub struct Walk<'a> {
     database: &'a Database,
+    moment: u64,
     root: Option<&'a Key>,
     place: RawKey,
     nodes: IntoIter<Node>,
@@ -79,16 +81,16 @@ pub struct Walk<'a> {
 }
 
 impl<'a> Walk<'a> {
-    pub(crate) fn new(database: &'a Database, root: Option<&'a Key>) -> Walk<'a> {
-        Walk { database, root, place: RawKey::none(), nodes: Vec::new().into_iter(), is_at_end: false }
+    pub(crate) fn new(database: &'a Database, moment: u64, root: Option<&'a Key>) -> Walk<'a> {
+        Walk { database, moment, root, place: RawKey::none(), nodes: Vec::new().into_iter(), is_at_end: false }
     }
 
     /// Reads the next nodes, as many as the engine's buffer has room for.
     fn more(&mut self) -> Result<Vec<Node>, Error> {
-        let (database, place) = (self.database, &mut self.place);
+        let (database, moment, place) = (self.database, self.moment, &mut self.place);
         let (outcome, bytes) = database.with(|engine| match self.root {
-            Some(root) => root.with(|root| lent(engine.walk(root, place))),
-            None => lent(engine.walk(&mut RawKey::none(), place)),
+            Some(root) => root.with(|root| lent(engine.walk(moment, root, place))),
+            None => lent(engine.walk(moment, &mut RawKey::none(), place)),
         });
         if outcome == outcome::AT_END {
             return Ok(Vec::new());

@@ -8,6 +8,7 @@ mod lines;
 mod locks;
 mod transactions;
 mod values;
+mod views;
 mod walks;
 
 use vorgushan::{Database, Key};
