@@ -67,15 +67,19 @@ Replies are printed by job, in order of the jobs' first lines, then `--` and the
 listing of the database. Where jobs use the same nodes, replies and listing
 depend on which job was first.
 
-  mjobs --workers auto orders.txt
-  mjobs --load stock.txt --save stock.txt orders.txt
-  generate | mjobs --no-listing
+At the top of the repository, or of the package, four jobs share a queue:
+
+  mjobs --load examples/mjobs/queue.txt --workers 4 examples/mjobs/workers.txt
+
+To keep a database from run to run:
+
+  mjobs --load kept.txt --save kept.txt today.txt
 
 --load starts from a listing instead of an empty database: lines
 ^Stock(\"apples\")=3, as they are printed or as other M systems write them in ZWR
 form. They are read before the first job; if one can't be read, nothing runs.
 --save puts the listing in a file, --journal what was done, in its order: after
-mjobs --journal done.txt orders.txt, mrun done.txt leaves the same listing.
+mjobs --journal done.txt today.txt, mrun done.txt leaves the same listing.
 Each is written to a new file in the same folder, named as it is with .new-1
 behind, which takes its place once the run has ended well. If the run ends with
 status 2, what the file held stays. Where the file is the script or what is
@@ -86,8 +90,8 @@ fault, the refusal and what was expected there, on standard error.
 
 Exit status: 0, all replies are accepted; 1, a reply is an `error`; 2, input
 can't be read, output, the listing or the journal can't be written, memory ran
-out, a listing can't be loaded, a report is missing, or an option or its value
-is wrong.";
+out, a listing can't be loaded, a report is missing, all jobs wait for names
+that others of them hold, or an option or its value is wrong.";
 
 /// What the arguments of `mjobs` ask for.
 #[derive(Clone, Copy, Debug, PartialEq, Eq)]

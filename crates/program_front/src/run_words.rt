@@ -34,8 +34,9 @@ or `error` with a number and a name. At the end of input follow `--` and the
 listing of the database, which starts empty and is kept in memory.
 
 Lines can be typed: each gets its reply at once. Enter alone shows what is
-committed at and below the reference that the line before names, or all where
-it names none. Ctrl-D on an empty line ends the input.
+committed at and below the reference that the line before names, or, where it
+names none or is refused, what comes first: 100 nodes at most. Ctrl-D on an
+empty line ends the input.
 
 To keep a database from run to run:
 
