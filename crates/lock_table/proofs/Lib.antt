@@ -7,3 +7,4 @@ pub mod Kept
 pub mod Wants
 pub mod Rows
 pub mod Tables
+pub mod Below

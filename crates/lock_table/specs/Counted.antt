@@ -1,11 +1,12 @@
 -- Counts that a job has, and how they are raised.
-use Rattle.std.specs.Prelude.{◌≡◌, ◌≤◌, ◌<◌, ℕ, zero, suc, ◌-◌, max, min, Bool, nat_lt, List, [], ◌∷◌, Some}
+use Rattle.std.specs.Prelude.{◌≡◌, ◌≤◌, ◌<◌, ℕ, zero, suc, ◌-◌, max, min, Bool, nat_lt, ◌&&◌, List, [], ◌∷◌, Some}
 use Rattle.std.specs.List.{list_any}
 use Rattle.std.specs.Ordering.{eq_by_cmp}
 use Rattle.std.specs.FinMap as finmap
 use Rattle.collation.specs.Limits.{most_locks}
 use Rattle.collation.specs.Reference.{Resource}
 use Rattle.lock_name.specs.Locks.{resource_cmp, Counts, count_of, more_of}
+use Rattle.lock_trie.specs.Names.{is_at_or_under}
 
 -- no count is above 65,535, and a name that is had no time has no entry
 pub record AreCounts (counts : Counts) : Type 0 where
@@ -43,3 +44,7 @@ taken_from counts (e ∷ es) = put_count (taken_from counts es) e.0 (count_of co
 -- of each name as many fewer as the others have, and none where they have as many or more
 abbrev pub less : Counts → Counts → Counts
 less counts others = taken_from counts (finmap.entries others)
+
+-- this name is had, or a descendant of it
+abbrev pub have_below : Resource → Counts → Bool
+have_below n counts = list_any (λ (h : Resource × ℕ). nat_lt 0 h.1 && is_at_or_under n h.0) (finmap.entries counts)

@@ -7,12 +7,12 @@ ghost use Rattle.collation.specs.Reference.{Resource};
 ghost use Rattle.std.specs.Ordering.{eq_by_cmp};
 ghost use Rattle.lock_name.specs.Locks.{resource_cmp, count_of, one_fewer, more_of, fewer_of};
 ghost use Rattle.lock_trie.specs.Held.{held_count};
-ghost use Rattle.lock_table.specs.Counted.{AreCounts, AreRaised, AreLowered, less, is_over, is_listed};
+ghost use Rattle.lock_table.specs.Counted.{AreCounts, AreRaised, AreLowered, have_below, less, is_over, is_listed};
 ghost use Rattle.lock_table.specs.Rows.{IsHeldIn, AreOthersSame};
 
 use crate::moves::lower;
 use lock_name::LockName;
-use lock_trie::LockTrie;
+use lock_trie::{LockTrie, is_at_or_under};
 use refusal::Refusal;
 use std::alloc::{AllocError, Global};
 use std::collections::BTreeMap;
@@ -313,6 +313,16 @@ impl Counts {
         ensures { result ≡ true → (x : Resource) → count_of self.now x ≡ 0 }
     {
         self.map.is_empty()
+    }
+
+    /// Whether this name is had, or a descendant of it: a look at the first that doesn't stand before it.
+    pub fn have_below(&self, name: &LockName) -> bool
+        ensures { result ≡ have_below name.now self.now }
+    {
+        match self.map.range(name..).next() {
+            Some((had, _)) => is_at_or_under(had, name),
+            None => false,
+        }
     }
 
     /// The job holds each name that is had here at most as many times as it is to hold it. Takes no memory.

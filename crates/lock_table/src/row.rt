@@ -2,7 +2,7 @@
 ghost use Rattle.std.specs.Prelude.{true, false, ◌⊎◌, ◌≡◌, None, Some, OnOk, OnErr, IfErr, IfOk};
 ghost use Rattle.collation.specs.Reference.{Resource};
 ghost use Rattle.lock_name.specs.Locks.{count_of, no_locks, job_wants, job_commits, job_goes_back};
-ghost use Rattle.lock_table.specs.Counted.{is_listed};
+ghost use Rattle.lock_table.specs.Counted.{have_below, is_listed};
 ghost use Rattle.lock_table.specs.Rows.{AreWithin, want_of, told_by, inside_locks, want_by, is_full_by, IsHeldIn, IsInsideSame, IsKept, AreOthersSame};
 
 use crate::counts::Counts;
@@ -97,6 +97,13 @@ impl Row {
             Some(inside) => inside.wanted.among(&self.held, names),
             None => self.held.among(names),
         }
+    }
+
+    /// Whether the job holds this name or a descendant of it.
+    pub fn has_below(&self, name: &LockName) -> bool
+        ensures { result ≡ have_below name.now self.now.held }
+    {
+        self.held.have_below(name)
     }
 
     /// What is wanted is what is held, and the start is forgotten. Takes no memory.

@@ -1,5 +1,5 @@
 //! The counts of all jobs, and the trie of what they hold.
-ghost use Rattle.std.specs.Prelude.{true, false, ◌⊎◌, if◌then◌else◌, ◌≡◌, None, Some, is_some, OnOk, OnErr, IfErr, IfOk};
+ghost use Rattle.std.specs.Prelude.{ℕ, true, false, ◌⊎◌, if◌then◌else◌, ◌≡◌, None, Some, is_some, OnOk, OnErr, IfErr, IfOk};
 ghost use Rattle.std.specs.List.{list_any};
 ghost use Rattle.std.specs.FinMap as finmap;
 ghost use Rattle.lock_name.specs.declared.lock.LockCommand.TheVariants.{Release, Only, More, Fewer};
@@ -7,7 +7,7 @@ ghost use Rattle.collation.specs.Reference.{Resource};
 ghost use Rattle.lock_name.specs.Locks.{no_locks, count_of, locks_of, changed, job_wants, is_blocked, lock_reply, lock_refusal, locks_after, locks_after_commit, locks_after_back, locks_after_end};
 ghost use Rattle.lock_table.specs.Counted.{is_listed};
 ghost use Rattle.lock_table.specs.Rows.{want_by, is_full_by};
-ghost use Rattle.lock_table.specs.Tables.{nothing};
+ghost use Rattle.lock_table.specs.Tables.{is_blocked_below, nothing};
 
 use crate::counts::Counts;
 use crate::row::{Form, Row};
@@ -54,10 +54,40 @@ impl LockTable {
         }
     }
 
+    /// How many names are held, each once for all jobs that hold it.
+    pub fn names_held(&self) -> usize
+        ensures { result ≡ 0 → (job : ℕ) (x : Resource) → count_of (let l = locks_of job self.now in l.held) x ≡ 0 }
+    {
+        self.trie.len()
+    }
+
+    /// Whether another job's row has the name or a descendant of it: each row is looked at once.
+    fn is_had_below(&self, job: u16, name: &LockName) -> bool
+        ensures { result ≡ is_blocked_below self.now job name.now }
+    {
+        for (other, row) in self.rows.iter() {
+            if *other != job && row.has_below(name) {
+                return true;
+            }
+        }
+        false
+    }
+
+    /// Whether another job holds the name or a descendant of it: a look at the held names there, while they are the
+    /// job's own, and after as many of them as there are rows at the rows.
+    fn is_blocked_below(&self, job: u16, name: &LockName) -> bool
+        ensures { result ≡ is_blocked_below self.now job name.now }
+    {
+        match self.trie.blocked_below(job, name, self.rows.len()) {
+            Some(blocked) => blocked,
+            None => self.is_had_below(job, name),
+        }
+    }
+
     fn is_blocked(&self, job: u16, name: &LockName) -> bool
         ensures { result ≡ is_blocked self.now job name.now }
     {
-        self.trie.blocked(job, name)
+        self.is_blocked_below(job, name) || self.trie.blocked_above(job, name)
     }
 
     /// Whether one of these names is blocked.

@@ -15,7 +15,7 @@ use Rattle.lock_name.specs.laws.Counting.{resource_cmp_total, resource_cmp-IsAnt
 use Rattle.btree.specs.Order.{find_last}
 use Rattle.lock_trie.specs.Names.{is_at_or_under, is_above, HasNoneAbove, HaveSameAbove}
 use Rattle.lock_trie.proofs.Pairs.{map_get}
-use Rattle.lock_trie.proofs.Unders.{under_not_before, under_between, before_turned}
+use Rattle.lock_trie.specs.laws.Unders.{under_not_before, under_between, before_turned}
 use Rattle.lock_trie.proofs.Nearest.{last_is, none_passes}
 
 -- a shorter beginning stands before its name

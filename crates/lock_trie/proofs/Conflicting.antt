@@ -8,7 +8,7 @@ use Rattle.std.specs.Cmp.{first_so, second_so}
 use Rattle.std.specs.FinMap as finmap
 use Rattle.std.specs.FinMap.{is_sorted}
 use Rattle.std.specs.FinMap.Entries.{below_all}
-use Rattle.std.proofs.lemmas.Bool.{and_from, or_left, or_right, ltb-true, ltb-false}
+use Rattle.std.proofs.lemmas.Bool.{and_from, or_right, ltb-true, ltb-false}
 use Rattle.collation.specs.Reference.{Resource}
 use Rattle.collation.specs.Database.{is_under}
 use Rattle.lock_name.specs.Locks.{resource_cmp}
@@ -17,9 +17,9 @@ use Rattle.collation.specs.laws.Entries.{true_of, either, some_entry_of, entry_o
 use Rattle.lock_name.specs.laws.Counting.{resource_cmp_total, resource_cmp-IsAntisymmetric}
 use Rattle.lock_trie.specs.Names.{beginning, is_at_or_under, is_above, HasNoneAbove, HaveSameAbove}
 use Rattle.lock_trie.specs.Holders.{has_other, counted}
-use Rattle.lock_trie.specs.Held.{Held, holders_of, held_count, IsHeldByAnother, IsHeldWhere, AreHeld, HasNoShorter}
+use Rattle.lock_trie.specs.Held.{Held, holders_of, held_count, IsHeldBelow, IsHeldByAnother, IsHeldWhere, AreHeld, HasNoShorter}
 use Rattle.lock_trie.proofs.Holding.{Jobs, other_counted, none_other}
-use Rattle.lock_trie.proofs.Unders.{under_not_before, not_under_behind, under_beginning, under_fewer, is_beginning, turned_caret, whole_under}
+use Rattle.lock_trie.specs.laws.Unders.{under_not_before, not_under_behind, under_beginning, under_fewer, is_beginning, turned_caret, whole_under}
 
 -- ---- the front of what stands from a name on
 
@@ -148,10 +148,8 @@ holder_counts held job x are e =
     let o = other_counted s.0 job entry.1 s.2 in
     (o.0, o.1, subst (λ p. 0 < counted (unwrap_or p []) o.0) (sym s.1) o.2)
 
-pub held_below : (held : Held) (job : ℕ) (n : Resource) → AreHeld held → IsHeldWhere (is_at_or_under n) held job → IsHeldByAnother held job n
-held_below held job n are w =
-    let o = holder_counts held job w.0 are w.1.0 in
-    (o.0, o.1, (w.0, o.2, and_from _ _ (first_so (beq n.has_caret w.0.has_caret) _ w.1.1) (or_left _ _ (second_so (beq n.has_caret w.0.has_caret) _ w.1.1))))
+pub counted_below : (held : Held) (job : ℕ) (n : Resource) → AreHeld held → IsHeldWhere (is_at_or_under n) held job → IsHeldBelow held job n
+counted_below held job n are w = let o = holder_counts held job w.0 are w.1.0 in (o.0, o.1, (w.0, o.2, w.1.1))
 
 pub held_above : (held : Held) (job : ℕ) (n : Resource) → AreHeld held → IsHeldWhere (λ x. is_at_or_under x n) held job → IsHeldByAnother held job n
 held_above held job n are w =
@@ -165,7 +163,10 @@ other_held held job other x ne some = by_test (has_other (holders_of held x) job
     by_test true e = e
     by_test false e = let z : held_count held other x ≡ 0 = none_other (holders_of held x) job other ne e in absurd (omega arith)
 
-pub held_neither : (held : Held) (job : ℕ) (n : Resource) → (IsHeldWhere (is_at_or_under n) held job → ⊥) → (IsHeldWhere (is_above n) held job → ⊥) → IsHeldByAnother held job n → ⊥
+pub where_below : (held : Held) (job : ℕ) (n : Resource) → IsHeldBelow held job n → IsHeldWhere (is_at_or_under n) held job
+where_below held job n w = (w.2.0, (other_held held job w.0 w.2.0 w.1 w.2.1, w.2.2))
+
+pub held_neither : (held : Held) (job : ℕ) (n : Resource) → (IsHeldBelow held job n → ⊥) → (IsHeldWhere (is_above n) held job → ⊥) → IsHeldByAnother held job n → ⊥
 held_neither held job n below above w = by_way (either _ _ (second_so (beq n.has_caret x.has_caret) _ w.2.2))
   where
     x : Resource
@@ -179,10 +180,10 @@ held_neither held job n below above w = by_way (either _ _ (second_so (beq n.has
 
     by_length : is_at_or_under x n ≡ true → (t : Bool) → nat_lt (length x.reference.subscripts) (length n.reference.subscripts) ≡ t → ⊥
     by_length u true e = above (x, (held_x, and_from _ _ u e))
-    by_length u false e = below (x, (held_x, whole_under x n u (ltb-false _ _ e)))
+    by_length u false e = below (w.0, w.1, (x, w.2.1, whole_under x n u (ltb-false _ _ e)))
 
     by_way : (is_under n.reference x.reference ≡ true) ⊎ (is_under x.reference n.reference ≡ true) → ⊥
-    by_way (inl u) = below (x, (held_x, and_from _ _ caret u))
+    by_way (inl u) = below (w.0, w.1, (x, w.2.1, and_from _ _ caret u))
     by_way (inr u) = by_length (and_from _ _ (turned_caret n.has_caret x.has_caret caret) u) _ refl
 
 pub above_found : (held m : Held) (n b : Resource) (job k : ℕ) (hs : Jobs) (r : Bool) → m ≡ held → b ≡ beginning n k → Some hs ≡ finmap.get m b → r ≡ has_other hs job → r ≡ true → IsHeldWhere (λ x. is_at_or_under x n) held job

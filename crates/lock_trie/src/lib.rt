@@ -1,8 +1,8 @@
 //! What each job holds, by lock name, and whether a name is blocked.
 //!
 //! Callers see no structure, only how many times a job holds a name: `held_count` in `specs/Held.antt`. `add` and
-//! `take_away` change one count and leave all others; `blocked` says whether another job holds the name, an ancestor
-//! of it or a descendant.
+//! `take_away` change one count and leave all others; `blocked_below` says whether another job holds the name or a
+//! descendant of it, and `blocked_above` whether one keeps it off else.
 //!
 //! | Level | Keyed by | Keeps | File |
 //! |---|---|---|---|
@@ -22,11 +22,11 @@
 //! (3) a name that has an entry has a holder (`AreHeld` in `specs/Held.antt`);
 //! (4) no held name has fewer subscripts than `least`, the fewest that one has ever had.
 //!
-//! `blocked` goes down the tree once, and looks at the entries from the name on until one is another job's or doesn't begin
-//! with it. Only where a held name may be shorter than this one it goes down again, to the entry before, and once more for
-//! each beginning that has `least` subscripts or more and with which the entry before begins. `add` goes down once, and once
-//! more where the name is held; `take_away` twice. So each costs a logarithm of how many names are held, times the
-//! depth of the name at most, beside what the job itself holds below it.
+//! `blocked_below` goes down the tree once, and looks at the entries from the name on until one is another job's or doesn't
+//! begin with it; it gives up where more are the job's own than it is told to look at. Only where a held name may be shorter
+//! than this one `blocked_above` goes down, to the entry before, and once more for each beginning that has `least` subscripts
+//! or more and with which the entry before begins. `add` goes down once, and once more where the name is held; `take_away`
+//! twice. So each costs a logarithm of how many names are held, times the depth of the name at most, beside those looks.
 //! A held name takes one entry: a copy of it, which lies in the entry where its key is short, and its holders.
 //!
 //! With `^A(1)`, `^A(1,2)` and `^A(3)` held, `^A(1)` is told by the first two; of `^A(1,2,7)` the entry before is `^A(1,2)`,
@@ -36,6 +36,7 @@
 //! Not promised: any time.
 #![tactic(auto)]
 
+pub use names::is_at_or_under;
 pub use trie::LockTrie;
 
 mod holders;

@@ -1,5 +1,5 @@
 //! Values by lock name.
-ghost use Rattle.std.specs.Prelude.{◌≡◌, not, filter, None, Some, IfOk, IfErr, IfNone, IfSome, OnErr};
+ghost use Rattle.std.specs.Prelude.{◌≡◌, length, not, filter, None, Some, IfOk, IfErr, IfNone, IfSome, OnErr};
 ghost use Rattle.std.specs.Option.{option_copied};
 ghost use Rattle.std.specs.Ordering.{is_lt};
 ghost use Rattle.std.specs.FinMap as finmap;
@@ -42,6 +42,13 @@ impl<X> NameMap<X> {
         NameMap {
             tree: SteadyMap::new(alloc),
         }
+    }
+
+    /// How many names there are.
+    pub fn len(&self) -> usize
+        ensures { result ≡ length (finmap.entries self.now) }
+    {
+        self.tree.len()
     }
 
     /// The value of a name, where it has one, and where its look-up went.

@@ -1,9 +1,9 @@
 //! Each job's held counts.
-ghost use Rattle.std.specs.Prelude.{true, false, ◌≡◌, ◌≤◌, ◌+◌, ◌-◌, ℕ, IsSome, IfOk, OnOk, OnErr};
+ghost use Rattle.std.specs.Prelude.{length, true, false, ◌≡◌, ◌≤◌, ◌+◌, ◌-◌, ℕ, Some, IsSome, IfOk, OnOk, OnErr};
 ghost use Rattle.std.specs.FinMap as finmap;
 ghost use Rattle.collation.specs.Limits.{most_locks};
 ghost use Rattle.collation.specs.Reference.{Resource};
-ghost use Rattle.lock_trie.specs.Held.{held_count, IsEntryPut, IsHeldByAnother, IsHeldWhere, IsRecounted, IsSame};
+ghost use Rattle.lock_trie.specs.Held.{held_count, IsEntryPut, IsHeldBelow, IsHeldByAnother, IsHeldWhere, IsRecounted, IsSame};
 ghost use Rattle.lock_trie.specs.Holders.{entry_of, IsEntry};
 ghost use Rattle.lock_trie.specs.Names.{is_above, is_at_or_under as is_at_or_under_spec};
 
@@ -46,6 +46,13 @@ impl LockTrie {
             least: usize::MAX,
             alloc,
         }
+    }
+
+    /// How many names are held.
+    pub fn len(&self) -> usize
+        ensures { result ≡ length (finmap.entries self.now) }
+    {
+        self.map.len()
     }
 
     /// How many times the job holds this one. Takes no memory.
@@ -117,20 +124,26 @@ impl LockTrie {
         }
     }
 
-    // Whether another job holds this one or a descendant: a look at the names from this one on, while they are under it.
-    fn is_blocked_below(&self, job: u16, name: &LockName) -> bool
-        ensures some { result ≡ true → IsHeldWhere (is_at_or_under_spec name.now) self.now job }
-        ensures none { result ≡ false → IsHeldWhere (is_at_or_under_spec name.now) self.now job → ⊥ }
+    /// Whether another job holds this one or a descendant: a look at the names from this one on, while they are under it.
+    /// Nothing is told where that many of them, or more, are the job's alone. Takes no memory.
+    pub fn blocked_below(&self, job: u16, name: &LockName, most: usize) -> Option<bool>
+        ensures some { result ≡ Some true → IsHeldBelow self.now job name.now }
+        ensures none { result ≡ Some false → IsHeldBelow self.now job name.now → ⊥ }
     {
+        let mut left = most;
         for (held, holders) in self.map.walk_from(name) {
             if !is_at_or_under(held, name) {
-                return false;
+                return Some(false);
             }
             if holders.has_other(job) {
-                return true;
+                return Some(true);
             }
+            if left == 0 {
+                return None;
+            }
+            left -= 1;
         }
-        false
+        Some(false)
     }
 
     // Whether another job holds an ancestor of this one. Where no held name is shorter than this one nothing is looked up.
@@ -159,13 +172,14 @@ impl LockTrie {
         false
     }
 
-    /// Whether another job holds this one, an ancestor of it or a descendant. Takes no memory.
-    pub fn blocked(&self, job: u16, name: &LockName) -> bool
+    /// Whether another job holds an ancestor of this one; where none holds it or a descendant, whether it is blocked. Takes
+    /// no memory.
+    pub fn blocked_above(&self, job: u16, name: &LockName) -> bool
         ensures some { result ≡ true → IsHeldByAnother self.now job name.now }
-        ensures none { result ≡ false → IsHeldByAnother self.now job name.now → ⊥ }
+        ensures none { result ≡ false → (IsHeldBelow self.now job name.now → ⊥) → IsHeldByAnother self.now job name.now → ⊥ }
     {
         let _map = &self.map;
-        self.is_blocked_below(job, name) || self.is_blocked_above(job, name)
+        self.is_blocked_above(job, name)
     }
 
     /// A copy: each job holds in it what it holds. Fails only for want of memory.

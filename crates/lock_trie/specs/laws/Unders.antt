@@ -15,7 +15,7 @@ use Rattle.collation.specs.Order.{subscript_cmp, ref_cmp}
 use Rattle.lock_name.specs.Locks.{resource_cmp}
 use Rattle.lock_name.specs.laws.Counting.{resource_cmp_total}
 use Rattle.lock_trie.specs.Names.{beginning, is_at_or_under}
-use Rattle.lock_trie.proofs.Begins.{same_text, equal_texts, text_itself, begins_fewer, begins_is, take_begins, whole_begins, not_before, squeezed, between}
+use Rattle.lock_trie.specs.laws.Begins.{same_text, equal_texts, text_itself, begins_fewer, begins_is, take_begins, whole_begins, not_before, squeezed, between}
 
 caret_itself : (c : Bool) → beq c c ≡ true
 caret_itself true = refl
@@ -52,7 +52,7 @@ then_not_before true false o e h = absurd (cc)
 then_not_before false true o e h = absurd (cc)
 then_not_before false false o e h = h
 
-under_not_above : (r x : Resource) → is_at_or_under r x ≡ true → is_gt (resource_cmp r x) ≡ false
+pub under_not_above : (r x : Resource) → is_at_or_under r x ≡ true → is_gt (resource_cmp r x) ≡ false
 unfolding resource_cmp
 under_not_above r x b = then_not_before r.has_caret x.has_caret _ (first_so _ _ b) (refs_not_before r.reference x.reference (second_so (beq r.has_caret x.has_caret) _ b))
 

@@ -4,7 +4,7 @@ use Rattle.std.specs.Ordering.{is_lt}
 use Rattle.std.specs.FinMap as finmap
 use Rattle.lock_name.specs.Locks.{resource_cmp}
 use Rattle.lock_trie.proofs.Conflicting.{front_other}
-use Rattle.lock_trie.proofs.trie.LockTrie.is_blocked_below.Given as goal
+use Rattle.lock_trie.proofs.trie.LockTrie.blocked_below.Given as goal
 
 abbrev pub invariant-loop-held : goal.invariant-loop-held
 invariant-loop-held l = record {

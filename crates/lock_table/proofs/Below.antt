@@ -1,0 +1,141 @@
+-- Who has a name or a descendant of it.
+use Rattle.std.proofs.Common.{◌≡◌, ◌<◌, ℕ, List, [], ◌∷◌, length, Bool, true, false, refl, sym, ap, subst, ◌∙◌, arith}
+use Rattle.std.specs.Bool.{beq}
+use Rattle.std.specs.Prelude.{◌==◌, ◌&&◌, not, nat_lt, Option, Some, None, IsSome, unwrap_or}
+use Rattle.std.specs.declared.cmp.Ordering.{Ordering}
+use Rattle.std.specs.declared.cmp.Ordering.TheVariants.{Less, Equal, Greater}
+use Rattle.std.specs.declared.ops.Bound.TheVariants.{Included, Unbounded}
+use Rattle.std.specs.Ordering.{nat_cmp, is_gt}
+use Rattle.std.specs.Cmp.{nat_cmp_total, first_so, second_so}
+use Rattle.std.specs.Map.{lookup}
+use Rattle.std.specs.BTreeMap.{BTreeMap, is_at}
+use Rattle.std.specs.BTreeMap.Range.{IsRangeOf}
+use Rattle.std.specs.FinMap as finmap
+use Rattle.std.specs.FinMap.{nat_cmp-IsAntisymmetric}
+use Rattle.std.proofs.lemmas.Bool.{and_from, or_left, eq-eqb, lt-ltb, ltb-true}
+use Rattle.collation.specs.Reference.{Resource}
+use Rattle.collation.specs.laws.Entries.{some_entry_of, entry_of}
+use Rattle.lock_name.specs.Locks.{resource_cmp, Counts, count_of, JobLocks, LockState, no_locks, locks_of}
+use Rattle.lock_name.specs.laws.Blocking.{differ}
+use Rattle.lock_name.specs.laws.Counting.{resource_cmp_total, resource_cmp-IsAntisymmetric}
+use Rattle.lock_trie.specs.Names.{is_at_or_under}
+use Rattle.lock_trie.specs.Held.{Held, held_count, IsHeldBelow, IsHeldByAnother}
+use Rattle.lock_trie.specs.Holders.{counted}
+use Rattle.lock_trie.specs.laws.Conflicts.{entry_counted, Left, decided_true}
+use Rattle.lock_trie.specs.laws.Mapped.{seen}
+use Rattle.lock_trie.specs.laws.Unders.{under_not_above, under_between}
+use Rattle.lock_table.specs.Counted.{AreCounts, have_below}
+use Rattle.lock_table.specs.Tables.{RowsMatchTrie, is_blocked_below}
+
+-- ---- in one job's counts
+
+abbrev is_below : Resource → Resource × ℕ → Bool
+is_below n h = nat_lt 0 h.1 && is_at_or_under n h.0
+
+-- what stands between a name and a descendant of it, or is that, is one too
+first_under : (n e q : Resource) → is_gt (resource_cmp n e) ≡ false → is_gt (resource_cmp e q) ≡ false → is_at_or_under n q ≡ true → is_at_or_under n e ≡ true
+first_under n e q low high up = by_order (resource_cmp e q) refl high
+  where
+    by_order : (o : Ordering) → resource_cmp e q ≡ o → is_gt o ≡ false → is_at_or_under n e ≡ true
+    by_order Less is h = under_between n e q low is up
+    by_order Equal is h = subst (λ z. is_at_or_under n z ≡ true) (sym (resource_cmp-IsAntisymmetric e q is)) up
+    by_order Greater is h = absurd (cc)
+
+pub have_first : (n : Resource) (m : BTreeMap Resource ℕ) (counts : Counts) (r es : List (Resource × ℕ)) (e : Resource × ℕ) (b : Bool) → finmap.from_entries m.entries ≡ counts → AreCounts counts → IsRangeOf resource_cmp (Included n) Unbounded m r → r ≡ e ∷ es → b ≡ is_at_or_under n e.0 → b ≡ have_below n counts
+have_first n m counts r es e b was are range is tested = tested ∙ by_tests (is_at_or_under n e.0) (have_below n counts) refl refl
+  where
+    of_range : IsRangeOf resource_cmp (Included n) Unbounded m (e ∷ es)
+    of_range = subst (IsRangeOf resource_cmp (Included n) Unbounded m) is range
+
+    there : finmap.get counts e.0 ≡ Some e.1
+    there = sym (ap (λ c. finmap.get c e.0) was) ∙ seen resource_cmp_total m.entries e.0 ∙ of_range.1.1
+
+    by_tests : (t h : Bool) → is_at_or_under n e.0 ≡ t → have_below n counts ≡ h → t ≡ h
+    by_tests true true up have = refl
+    by_tests false false up have = refl
+    by_tests true false up have =
+        let yes_ : have_below n counts ≡ true = entry_of resource_cmp resource_cmp_total resource_cmp-IsAntisymmetric (is_below n) counts e.0 e.1 there (and_from _ _ (lt-ltb 0 e.1 (are.some e.0 e.1 there)) up) in
+        absurd (cc)
+    by_tests false true up have =
+        let s = some_entry_of resource_cmp resource_cmp_total resource_cmp-IsAntisymmetric (is_below n) counts have in
+        let under : is_at_or_under n s.0 ≡ true = second_so (nat_lt 0 s.1.0) _ s.1.2 in
+        let had : lookup (is_at (resource_cmp s.0)) m.entries ≡ Some s.1.0 = sym (seen resource_cmp_total m.entries s.0) ∙ ap (λ c. finmap.get c s.0) was ∙ s.1.1 in
+        let behind : is_gt (resource_cmp e.0 s.0) ≡ false = of_range.2 s.0 (under_not_above n s.0 under, tt) (subst IsSome (sym had) refl) in
+        let yes_ : is_at_or_under n e.0 ≡ true = first_under n e.0 s.0 of_range.1.0.0 behind under in
+        absurd (cc)
+
+pub have_none : (n : Resource) (m : BTreeMap Resource ℕ) (counts : Counts) (r : List (Resource × ℕ)) → finmap.from_entries m.entries ≡ counts → IsRangeOf resource_cmp (Included n) Unbounded m r → r ≡ [] → false ≡ have_below n counts
+have_none n m counts r was range is = by_test (have_below n counts) refl
+  where
+    by_test : (h : Bool) → have_below n counts ≡ h → false ≡ h
+    by_test false have = refl
+    by_test true have =
+        let s = some_entry_of resource_cmp resource_cmp_total resource_cmp-IsAntisymmetric (is_below n) counts have in
+        let under : is_at_or_under n s.0 ≡ true = second_so (nat_lt 0 s.1.0) _ s.1.2 in
+        let had : lookup (is_at (resource_cmp s.0)) m.entries ≡ Some s.1.0 = sym (seen resource_cmp_total m.entries s.0) ∙ ap (λ c. finmap.get c s.0) was ∙ s.1.1 in
+        let none : lookup (is_at (resource_cmp s.0)) m.entries ≡ None = range.5 is s.0 (under_not_above n s.0 under, tt) in
+        absurd (cc)
+
+-- ---- in the rows
+
+-- the test of a job's row
+abbrev pub has_other_below : ℕ → Resource → ℕ × JobLocks → Bool
+has_other_below job n j = not (j.0 == job) && have_below n j.1.held
+
+not_same : (a b : ℕ) → not (a == b) ≡ true → a ≡ b → ⊥
+not_same a b h is = by_test (a == b) refl h
+  where
+    by_test : (t : Bool) → (a == b) ≡ t → not t ≡ true → ⊥
+    by_test true e h = absurd (cc)
+    by_test false e h = let t : true ≡ false = sym (eq-eqb a b is) ∙ e in absurd (cc)
+
+-- a step of the look at the rows
+
+pub rows_found : (job : ℕ) (n : Resource) (s : LockState) (rest es : List (ℕ × JobLocks)) (e : ℕ × JobLocks) (h : Bool) → rest ≡ e ∷ es → (e.0 ≡ job → ⊥) → h ≡ have_below n e.1.held → h ≡ true → Left (has_other_below job n) s rest → true ≡ is_blocked_below s job n
+rows_found job n s rest es e h is other tested yes_ left = sym (decided_true nat_cmp_total nat_cmp-IsAntisymmetric (has_other_below job n) e es rest s is (and_from _ _ (differ e.0 job other) (sym tested ∙ yes_)) left)
+
+-- ---- beside the trie
+
+held_there : (trie : Held) (s : LockState) (job : ℕ) (n : Resource) → RowsMatchTrie trie s → is_blocked_below s job n ≡ true → IsHeldBelow trie job n
+held_there trie s job n joined b =
+    let j = some_entry_of nat_cmp nat_cmp_total nat_cmp-IsAntisymmetric (has_other_below job n) s b in
+    let h = some_entry_of resource_cmp resource_cmp_total resource_cmp-IsAntisymmetric (is_below n) j.1.0.held (second_so (not (j.0 == job)) _ j.1.2) in
+    let count : 0 < count_of j.1.0.held h.0 = subst (λ o. 0 < unwrap_or o 0) (sym h.1.1) (ltb-true 0 h.1.0 (first_so (nat_lt 0 h.1.0) _ h.1.2)) in
+    let row : 0 < count_of (locks_of j.0 s).held h.0 = subst (λ o. 0 < count_of (unwrap_or o no_locks).held h.0) (sym j.1.1) count in
+    (j.0, not_same j.0 job (first_so (not (j.0 == job)) _ j.1.2), (h.0, subst (λ c. 0 < c) (sym (joined j.0 h.0)) row, second_so (nat_lt 0 h.1.0) _ h.1.2))
+
+row_there : (s : LockState) (job : ℕ) (x : Resource) → 0 < count_of (locks_of job s).held x → (l : JobLocks) × (finmap.get s job ≡ Some l) × (0 < count_of l.held x)
+row_there s job x h = by_found (finmap.get s job) refl h
+  where
+    by_found : (o : Option JobLocks) → finmap.get s job ≡ o → 0 < count_of (unwrap_or o no_locks).held x → (l : JobLocks) × (finmap.get s job ≡ Some l) × (0 < count_of l.held x)
+    by_found None is h = let none : count_of finmap.empty x ≡ 0 = ap (λ o. unwrap_or o 0) (finmap.get-empty resource_cmp x) in absurd (omega arith)
+    by_found (Some l) is h = (l, is, h)
+
+told_there : (trie : Held) (s : LockState) (job : ℕ) (n : Resource) → RowsMatchTrie trie s → IsHeldBelow trie job n → is_blocked_below s job n ≡ true
+told_there trie s job n joined t =
+    let there = row_there s t.0 t.2.0 (subst (λ c. 0 < c) (joined t.0 t.2.0) t.2.1) in
+    let counted = entry_counted there.0.held t.2.0 there.2 in
+    entry_of nat_cmp nat_cmp_total nat_cmp-IsAntisymmetric (has_other_below job n) s t.0 there.0 there.1
+    (and_from _ _ (differ t.0 job t.1) (entry_of resource_cmp resource_cmp_total resource_cmp-IsAntisymmetric (is_below n) there.0.held t.2.0 counted.0 counted.1 (and_from _ _ counted.2 t.2.2)))
+
+pub below_is : (trie : Held) (s : LockState) (job : ℕ) (n : Resource) (b : Bool) → RowsMatchTrie trie s → (b ≡ true → IsHeldBelow trie job n) → (b ≡ false → IsHeldBelow trie job n → ⊥) → b ≡ is_blocked_below s job n
+below_is trie s job n true joined some none = sym (told_there trie s job n joined (some refl))
+below_is trie s job n false joined some none = by_test (is_blocked_below s job n) refl
+  where
+    by_test : (b : Bool) → is_blocked_below s job n ≡ b → false ≡ b
+    by_test true e = absurd (none refl (held_there trie s job n joined e))
+    by_test false e = refl
+
+pub by_another : (trie : Held) (s : LockState) (job : ℕ) (n : Resource) (b : Bool) → RowsMatchTrie trie s → b ≡ is_blocked_below s job n → b ≡ true → IsHeldByAnother trie job n
+by_another trie s job n b joined is yes_ =
+    let t = held_there trie s job n joined (sym is ∙ yes_) in
+    (t.0, t.1, (t.2.0, t.2.1, and_from _ _ (first_so (beq n.has_caret t.2.0.has_caret) _ t.2.2) (or_left _ _ (second_so (beq n.has_caret t.2.0.has_caret) _ t.2.2))))
+
+pub by_none : (trie : Held) (s : LockState) (job : ℕ) (n : Resource) (b : Bool) → RowsMatchTrie trie s → b ≡ is_blocked_below s job n → b ≡ false → IsHeldBelow trie job n → ⊥
+by_none trie s job n b joined is no_ t = let clash : true ≡ false = sym (told_there trie s job n joined t) ∙ sym is ∙ no_ in absurd (cc)
+
+-- where the trie has no name no job holds one
+pub none_held : (trie : Held) (s : LockState) → RowsMatchTrie trie s → length (finmap.entries trie) ≡ 0 → (job : ℕ) (x : Resource) → count_of (locks_of job s).held x ≡ 0
+none_held trie s joined none job x =
+    let is_empty : trie ≡ finmap.empty = finmap.empty_of_len trie (finmap.len-entries trie ∙ none) in
+    sym (joined job x) ∙ ap (λ t. held_count t job x) is_empty ∙ ap (λ o. counted (unwrap_or o []) job) (finmap.get-empty resource_cmp x)
