@@ -1,6 +1,8 @@
 -- Where the base may stand, and where a checkpoint moves it.
-use Rattle.std.proofs.Common.{◌≡◌, ◌≤◌, ℕ, List, ◌∷◌, [], length, refl, sym, ap, subst, ◌∙◌, arith, inl, inr, Result, Ok, Err, IfOk, OnOk, OnErr}
-use Rattle.std.specs.Prelude.{not, min, max, filter, Option, Some, None, IfSome, unwrap_or}
+use Rattle.std.proofs.Common.{◌≡◌, ◌≤◌, ◌<◌, ℕ, Bool, true, false, List, ◌∷◌, [], length, refl, sym, ap, subst, ◌∙◌, arith, inl, inr, Result, Ok, Err, IfOk, OnOk, OnErr}
+use Rattle.std.proofs.lemmas.Bool.{ltb-true, ltb-false}
+use Rattle.std.proofs.lemmas.List.{take_all}
+use Rattle.std.specs.Prelude.{not, min, max, filter, nat_lt, take, Option, Some, None, IfSome, unwrap_or}
 use Rattle.std.specs.Ordering.{nat_cmp}
 use Rattle.std.specs.FinMap as finmap
 use Rattle.collation.specs.Reference.{Reference}
@@ -39,6 +41,21 @@ pub record IsKept (n : ℕ) (store : Stored) (units : List JournalUnit) : Type 0
 pub kept_place : (o : Option ℕ) (n : ℕ) (store : Stored) (units : List JournalUnit) → Agreement store units → IfSome o (λ stamp. (store.cut ≤ stamp) × (stamp ≤ length units)) → n ≡ unwrap_or o store.present → IsKept n store units
 kept_place None n store units agreed asked is = record { from = omega (arith, is, agreed.present, agreed.cut); to = omega (arith, is, agreed.present) }
 kept_place (Some stamp) n store units agreed asked is = record { from = omega (arith, is, asked.0); to = omega (arith, is, asked.1) }
+
+-- where the stamp that is asked for, or now, is after the base, units stand behind that
+pub ahead : (o : Option ℕ) (n m b : ℕ) (store : Stored) (units : List JournalUnit) → Agreement store units → IfSome o (λ stamp. stamp ≤ length units) → n ≡ unwrap_or o store.present → m ≡ length (take b units) → m < n → b < length units
+ahead o n m b store units agreed asked is number less = by_place (nat_lt b (length units)) refl
+  where
+    within : (p : Option ℕ) → IfSome p (λ stamp. stamp ≤ length units) → unwrap_or p store.present ≤ length units
+    within None h = omega (arith, agreed.present)
+    within (Some stamp) h = h
+
+    by_place : (t : Bool) → nat_lt b (length units) ≡ t → b < length units
+    by_place true e = ltb-true _ _ e
+    by_place false e =
+        let all : length (take b units) ≡ length units = ap length (take_all b units (ltb-false _ _ e)) in
+        let most : unwrap_or o store.present ≤ length units = within o asked in
+        absurd (omega arith)
 
 -- the core whose base has moved, or hasn't
 pub core_moved : {E : Type 0} (result : Result ℕ E) (store : Stored) (units more : List JournalUnit) (base new n : ℕ) (table : LockState) (rs : List ReadRange) → IsCore store units base table rs → more ≡ units → n ≤ length units → OnOk result (new ≡ n) → OnErr result (new ≡ base) → IsCore store more new table rs
@@ -94,6 +111,10 @@ horizon_fits (Some stamp) e whole some =
     let l : least.session.work.start ≡ some.0 = least.start in
     let m : stamp ≡ min some.0 e.core.store.present = some.1.1 in
     (omega arith, omega arith)
+
+pub horizon_in : (o : Option ℕ) (e : Engine) → IsWhole e → IsHorizon o e.core.store.present e.sessions → IfSome o (λ stamp. stamp ≤ length e.core.units)
+horizon_in None e whole none = tt
+horizon_in (Some stamp) e whole some = let fits = horizon_fits (Some stamp) e whole some in fits.1
 
 place : (o : Option ℕ) (e : Engine) → IsWhole e → IsHorizon o e.core.store.present e.sessions → IsCheckpoint (unwrap_or o (length e.core.units)) (machine_shown e)
 place None e whole none = inl ((λ job. shows e job None (ap (λ ss. finmap.get ss job) none ∙ finmap.get-empty nat_cmp job)), refl)

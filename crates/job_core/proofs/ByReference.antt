@@ -1,6 +1,6 @@
 -- A SET and a $GET outside a transaction, of which key and value are lent.
 use Rattle.std.proofs.Common.{◌≡◌, ◌≤◌, ◌-◌, ℕ, List, [], ◌∷◌, ◌++◌, length, drop, refl, sym, ap, subst, ◌∙◌, arith, length-append, append-nil, append_assoc, inl, inr}
-use Rattle.std.specs.Prelude.{max, unwrap_or, false, is_some, Option, Some, None, IfSome, IfOk, IfErr, OnOk, OnErr, IsErrOf, Result, Ok, Err}
+use Rattle.std.specs.Prelude.{max, unwrap_or, is_some, Option, Some, None, IfSome, IfOk, IfErr, OnOk, OnErr, IsErrOf, Result, Ok, Err}
 use Rattle.std.specs.List.{flat_map}
 use Rattle.std.specs.Option.{option_map}
 use Rattle.std.specs.FinMap as finmap
@@ -129,10 +129,3 @@ shown_some (Some s) = refl
 
 pub inside_is : (us : List JournalUnit) (ss : Sessions) (job : ℕ) → is_some (transaction_of job (machine_of us ss)) ≡ is_some (finmap.get ss job)
 inside_is us ss job = ap is_some (transaction_is us ss job (finmap.get ss job) refl) ∙ shown_some (finmap.get ss job)
-
-pub none_inside : (us : List JournalUnit) (ss : Sessions) (job : ℕ) → transaction_of job (machine_of us ss) ≡ None → finmap.get ss job ≡ None
-none_inside us ss job none = by_found (finmap.get ss job) (sym (inside_is us ss job) ∙ ap is_some none)
-  where
-    by_found : (o : Option Session) → is_some o ≡ false → o ≡ None
-    by_found None is = refl
-    by_found (Some s) is = absurd (cc)

@@ -1,12 +1,18 @@
 //! The exchanges of an open transaction.
-ghost use Rattle.std.specs.Prelude.{◌≡◌, [], ◌∷◌, ◌++◌, length, take, OnOk, OnErr};
+ghost use Rattle.std.specs.Prelude.{◌≡◌, ℕ, List, [], ◌∷◌, ◌++◌, None, length, take, OnOk, OnErr};
 ghost use Rattle.std.specs.List.{flat_map};
+ghost use Rattle.collation.specs.Reference.{Reference};
+ghost use Rattle.command.specs.declared.access.DataCommand.TheVariants.{Set, Look};
+ghost use Rattle.command.specs.declared.access.Look.TheVariants.{Get};
+ghost use Rattle.command.specs.declared.access.Answer.TheVariants.{Done, Value};
+ghost use Rattle.journal.specs.declared.unit.Exchange.{Exchange};
 ghost use Rattle.journal.specs.Exchanges.{IsMarkOf};
 ghost use Rattle.journal.specs.Format as format;
 ghost use Rattle.journal.specs.Stored.{FitExchanges};
 
-use crate::write::push_answered;
+use crate::write::{push_answered, push_get_done, push_set_done};
 use command::{Answer, DataCommand};
+use key_codec::Key;
 use std::alloc::{AllocError, Global};
 use std::marker::Model;
 
@@ -109,6 +115,63 @@ impl ExchangeLog {
                 Err(error)
             }
         }
+    }
+
+    /// Adds a SET that was done, from its key and its value: as `push`, with one look for room.
+    #[tactic(auto, using(key_codec::specs::laws::Grown::back_to))]
+    pub fn push_set(&mut self, key: &Key, value: &[u8]) -> Result<(), AllocError>
+        ensures ok { OnOk result (self.new ≡ self.old ++ (record { command = Set key.now value.now; answer = Done }) ∷ []) }
+        ensures err { OnErr result (self.new ≡ self.old) }
+    {
+        if self.count == u64::MAX {
+            return Err(AllocError);
+        }
+        begin_room(&mut self.bytes);
+        let before = self.bytes.len();
+        match push_set_done(&mut self.bytes, key, value) {
+            Ok(()) => {
+                self.count += 1;
+                Ok(())
+            }
+            Err(error) => {
+                self.bytes.truncate(before);
+                Err(error)
+            }
+        }
+    }
+
+    /// Adds a $GET without a default that was done, from its key and what it was answered: as `push_set`.
+    #[tactic(auto, using(key_codec::specs::laws::Grown::back_to))]
+    pub fn push_get(&mut self, key: &Key, value: &[u8]) -> Result<(), AllocError>
+        ensures ok { OnOk result (self.new ≡ self.old ++ (record { command = Look (Get key.now None); answer = Value value.now }) ∷ []) }
+        ensures err { OnErr result (self.new ≡ self.old) }
+    {
+        if self.count == u64::MAX {
+            return Err(AllocError);
+        }
+        begin_room(&mut self.bytes);
+        let before = self.bytes.len();
+        match push_get_done(&mut self.bytes, key, value) {
+            Ok(()) => {
+                self.count += 1;
+                Ok(())
+            }
+            Err(error) => {
+                self.bytes.truncate(before);
+                Err(error)
+            }
+        }
+    }
+
+    /// The value of the last exchange, where that is a $GET without a default that was answered with so many bytes: it
+    /// is lent from the log. Of no other exchange is anything said. Takes no memory.
+    pub fn value_got(&self, size: usize) -> &[u8]
+        ensures { (before : List Exchange) → (key : Reference) → (value : List ℕ) → self.now ≡ before ++ (record { command = Look (Get key None); answer = Value value }) ∷ [] → size ≡ length value → result.now ≡ value }
+    {
+        let bytes = self.bytes.as_slice();
+        let start = bytes.len().saturating_sub(size);
+        let (_, last) = bytes.split_at(start);
+        last
     }
 
     /// How far the log goes now.

@@ -412,7 +412,18 @@ fn push_other(
     push_tagged(bytes, command, answer)
 }
 
-// A head, a key and a string, with one look for room. A length and a tag are nine bytes and one at most.
+// A key without its end and a string, where there is room for them and for a length of nine bytes before each.
+fn write_pair(bytes: &mut Vec<u8>, key: &[u8], value: &[u8])
+    requires { vec_len bytes.old + (length key.now + length value.now + 18) ≤ vec_capacity bytes.old }
+    ensures { bytes.new.items ≡ bytes.old.items ++ (format.string_bytes key.now ++ format.string_bytes value.now) }
+{
+    write_number(bytes, key.len() as u64);
+    write_bytes(bytes, key);
+    write_number(bytes, value.len() as u64);
+    write_bytes(bytes, value);
+}
+
+// A head, a key and a string, with one look for room.
 fn push_pair(
     bytes: &mut Vec<u8>,
     job: Job,
@@ -433,11 +444,44 @@ fn push_pair(
     };
     make_room(bytes, more)?;
     write_head(bytes, job, tag);
-    write_number(bytes, key.len() as u64);
-    write_bytes(bytes, key);
-    write_number(bytes, value.len() as u64);
-    write_bytes(bytes, value);
+    write_pair(bytes, key, value);
     Ok(())
+}
+
+// A tag, a key and a string, with one look for room.
+fn push_tagged_pair(bytes: &mut Vec<u8>, tag: u8, key: &Key, value: &[u8]) -> Result<(), AllocError>
+    ensures bytes { OnOk result (bytes.new.items ≡ bytes.old.items ++ tag ∷ (format.reference_bytes key.now ++ format.string_bytes value.now)) }
+    ensures reference { OnOk result (FitsReference key.now) }
+    ensures string { OnOk result (FitsString value.now) }
+    ensures kept { GoesOnFrom bytes.old.items bytes.new.items }
+{
+    let key = without_end(key.as_slice());
+    let Some(more) = (key.len() + value.len()).checked_add(19) else {
+        return Err(AllocError);
+    };
+    make_room(bytes, more)?;
+    bytes.push_reserved(tag);
+    write_pair(bytes, key, value);
+    Ok(())
+}
+
+// The exchange of a SET, from its key and its value.
+pub(crate) fn push_set_done(bytes: &mut Vec<u8>, key: &Key, value: &[u8]) -> Result<(), AllocError>
+    ensures bytes { OnOk result (bytes.new.items ≡ bytes.old.items ++ format.answered_bytes (Set key.now value.now) Done) }
+    ensures fits { OnOk result (FitsCommand (Set key.now value.now)) }
+    ensures kept { GoesOnFrom bytes.old.items bytes.new.items }
+{
+    push_tagged_pair(bytes, 0, key, value)
+}
+
+// The exchange of a $GET without a default, from its key and what it was answered.
+pub(crate) fn push_get_done(bytes: &mut Vec<u8>, key: &Key, value: &[u8]) -> Result<(), AllocError>
+    ensures bytes { OnOk result (bytes.new.items ≡ bytes.old.items ++ format.answered_bytes (DataCommand.Look (Look.Get key.now None)) (Value value.now)) }
+    ensures command_fits { OnOk result (FitsCommand (DataCommand.Look (Look.Get key.now None))) }
+    ensures answer_fits { OnOk result (FitsAnswer (Value value.now)) }
+    ensures kept { GoesOnFrom bytes.old.items bytes.new.items }
+{
+    push_tagged_pair(bytes, 17, key, value)
 }
 
 // The unit of a SET outside a transaction, from its key and its value.

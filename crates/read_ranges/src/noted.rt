@@ -1,10 +1,11 @@
 //! The ranges that a transaction has read.
-ghost use Rattle.std.specs.Prelude.{◌≡◌, Bool, ◌+◌, ◌||◌, ◌<◌, ◌≤◌, true, false, [], length, take, IfOk, OnOk, OnErr};
+ghost use Rattle.std.specs.Prelude.{◌≡◌, ℕ, List, Option, Bool, ◌+◌, ◌||◌, ◌<◌, ◌≤◌, true, false, [], length, take, IfOk, OnOk, OnErr};
 ghost use Rattle.collation.specs.Reference.{Reference};
 ghost use Rattle.collation.specs.Levels.{has_level, has_name, parent_of};
 ghost use Rattle.collation.specs.Answers.{follows, is_forward};
 ghost use Rattle.command.specs.declared.access.DataCommand.TheVariants.{Look as look_command};
-ghost use Rattle.command.specs.declared.access.Look.TheVariants.{Order as order_command, Query as query_command};
+ghost use Rattle.command.specs.declared.access.Look.TheVariants.{Get as get_command, Order as order_command, Query as query_command};
+ghost use Rattle.command.specs.declared.access.Answer.{Answer as AnswerView};
 ghost use Rattle.command.specs.declared.access.Answer.TheVariants.{Value, Found};
 ghost use Rattle.globals.specs.Fitting.{IsAnswerOf, IsLookAnswer, IsOrderAnswer, IsQueryAnswer};
 ghost use Rattle.journal.specs.Touching.{order_read, query_read};
@@ -116,15 +117,22 @@ impl Ranges {
     {
         match look {
             Look::Data(key) => self.add(Cut::Before(key), Cut::Past(key)),
-            Look::Get(key, _) => {
-                if decided {
-                    return Ok(());
-                }
-                self.add_one(key)
-            }
+            Look::Get(key, _) => self.note_get(key, decided),
             Look::Order(place, direction) => self.note_order(alloc, place, *direction, answer),
             Look::Query(place, direction) => self.note_query(alloc, place, *direction, answer),
         }
+    }
+
+    /// Notes what a $GET has read: as `note` of it, whatever it was answered.
+    pub fn note_get(&mut self, key: &Key, decided: bool) -> Result<(), AllocError>
+        ensures noted { (default : Option (List ℕ)) → (answer : AnswerView) → OnOk result (IsNoted self.old self.new (look_command (get_command key.now default)) answer decided) }
+        ensures few { length self.new ≤ length self.old + 1 }
+        ensures err { OnErr result (self.new ≡ self.old) }
+    {
+        if decided {
+            return Ok(());
+        }
+        self.add_one(key)
     }
 
     #[inline(never)]
