@@ -1,0 +1,4 @@
+pub mod Reading
+pub mod Sums
+pub mod Texts
+pub mod Worth
