@@ -1,1 +1,2 @@
 pub mod Data
+pub mod Replies

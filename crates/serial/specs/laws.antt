@@ -1,10 +1,14 @@
 pub mod Alike
+pub mod Alone
 pub mod ByJob
+pub mod Claims
 pub mod Committing
 pub mod Excluding
 pub mod Good
+pub mod Growing
 pub mod Levels
 pub mod Locking
+pub mod Merging
 pub mod Overtaken
 pub mod ReadRanges
 pub mod Rereading

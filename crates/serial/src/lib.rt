@@ -12,14 +12,18 @@
 //!
 //! Read `specs/Machine.antt`, `specs/Touches.antt`, `specs/Overtaking.antt`, `specs/Soundness.antt`,
 //! `specs/Committing.antt`, `specs/Standing.antt`, `specs/Traces.antt`, `specs/Levels.antt`, `specs/Locking.antt`,
-//! `specs/Memory.antt` and `specs/ReadRanges.antt`; then `laws.rt`, `commits.rt`, `transactions.rt`, `runs.rt` and
-//! `locks.rt`. Laws for callers: `specs/laws`. Not promised: that a transaction is ever committed, where others go on
+//! `specs/Memory.antt`, `specs/ReadRanges.antt` and `specs/Interleaving.antt`; then `laws.rt`, `commits.rt`,
+//! `transactions.rt`, `runs.rt`, `locks.rt` and `interleaving.rt`. `specs/Answers.antt` says what a line is replied that
+//! was read. Laws for callers: `specs/laws`. Not promised: that a transaction is ever committed, where others go on
 //! touching what it reads.
 #![tactic(auto)]
 
 pub use commits::{
     commits_write_what_was_seen, read_sets_and_writes_grow, read_sets_are_ranges,
     touched_references_join, transactions_see_their_start,
+};
+pub use interleaving::{
+    each_unit_is_claimed, histories_are_one_run, histories_grow_with_the_journal,
 };
 pub use laws::{
     answers_hold_while_what_was_read_stands, commands_touch_what_they_write,
@@ -41,6 +45,7 @@ pub use transactions::{
 };
 
 mod commits;
+mod interleaving;
 mod laws;
 mod locks;
 mod runs;
