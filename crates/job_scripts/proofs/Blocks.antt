@@ -8,7 +8,8 @@ use Rattle.command.specs.declared.access.DataCommand.{DataCommand}
 use Rattle.command.specs.declared.request.Command.{Command}
 use Rattle.command.specs.declared.request.Command.TheVariants.{Access, Lock, Start, Commit, Rollback, Restart, Level, Restarts, Halt}
 use Rattle.job_scripts.specs.Lines.{lines_of_script, Asks, IsRefusedAs}
-use Rattle.job_scripts.specs.Blocks.{level_after, level_behind, IsOneBlock, EndsBlock, AreAsked, AreInFront}
+use Rattle.job_scripts.specs.Blocks.{level_after, level_behind, IsOneBlock, EndsBlock, AreAsked, AreMusts, AreInFront}
+use Rattle.job_scripts.specs.Timeouts.{timeout_in}
 
 pub level_more : (level : ℕ) (cs : List Command) (c : Command) → level_behind level (cs ++ c ∷ []) ≡ level_after c (level_behind level cs)
 level_more level [] c = refl
@@ -62,45 +63,62 @@ refused_more job (l ∷ ls) (Some r ∷ ps) cs line refusal h is = (h.0, refused
 refused_more job (l ∷ ls) (None ∷ ps) [] line refusal h is = absurd h
 refused_more job (l ∷ ls) (None ∷ ps) (c ∷ cs) line refusal h is = (h.0, refused_more job ls ps cs line refusal h.1 is)
 
+must_more : (lines : List (List ℕ)) (places : List (Option Refusal)) (musts : List Bool) (line : List ℕ) (must : Bool) → AreMusts lines places musts → (timeout_in line ≡ None → must ≡ true) → AreMusts (lines ++ line ∷ []) (places ++ None ∷ []) (musts ++ must ∷ [])
+must_more [] [] [] line must h is = (is, tt)
+must_more [] [] (m ∷ ms) line must h is = absurd h
+must_more [] (p ∷ ps) ms line must h is = absurd h
+must_more (l ∷ ls) [] ms line must h is = absurd h
+must_more (l ∷ ls) (Some r ∷ ps) ms line must h is = must_more ls ps ms line must h is
+must_more (l ∷ ls) (None ∷ ps) [] line must h is = absurd h
+must_more (l ∷ ls) (None ∷ ps) (m ∷ ms) line must h is = (h.0, must_more ls ps ms line must h.1 is)
+
+must_refused : (lines : List (List ℕ)) (places : List (Option Refusal)) (musts : List Bool) (line : List ℕ) (refusal : Refusal) → AreMusts lines places musts → AreMusts (lines ++ line ∷ []) (places ++ Some refusal ∷ []) musts
+must_refused [] [] [] line refusal h = tt
+must_refused [] [] (m ∷ ms) line refusal h = absurd h
+must_refused [] (p ∷ ps) ms line refusal h = absurd h
+must_refused (l ∷ ls) [] ms line refusal h = absurd h
+must_refused (l ∷ ls) (Some r ∷ ps) ms line refusal h = must_refused ls ps ms line refusal h
+must_refused (l ∷ ls) (None ∷ ps) [] line refusal h = absurd h
+must_refused (l ∷ ls) (None ∷ ps) (m ∷ ms) line refusal h = (h.0, must_refused ls ps ms line refusal h.1)
+
+-- other lists of the same items
+in_front_of : (job : ℕ) (front : List (List ℕ)) (places more_places : List (Option Refusal)) (commands more_commands : List Command) (musts more_musts : List Bool) → more_places ≡ places → more_commands ≡ commands → more_musts ≡ musts
+    → AreAsked job front places commands × AreMusts front places musts → AreAsked job front more_places more_commands × AreMusts front more_places more_musts
+in_front_of job front places more_places commands more_commands musts more_musts places_are commands_are musts_are h = (
+  subst (λ (cs : List Command). AreAsked job front more_places cs) (sym commands_are) (subst (λ (ps : List (Option Refusal)). AreAsked job front ps commands) (sym places_are) h.0),
+  subst (λ (ms : List Bool). AreMusts front more_places ms) (sym musts_are) (subst (λ (ps : List (Option Refusal)). AreMusts front ps musts) (sym places_are) h.1),
+)
+
 next_split : (all front before rest : List (List ℕ)) (line : List ℕ) → all ≡ front ++ before → before ≡ line ∷ rest → all ≡ (front ++ line ∷ []) ++ rest
 next_split all front before rest line split next = split ∙ (ap (λ (ls : List (List ℕ)). front ++ ls) next ∙ sym (append_assoc front (line ∷ []) rest))
 
 -- no line yet
-pub none_in_front : (job : ℕ) (all rest : List (List ℕ)) (places : List (Option Refusal)) (commands : List Command) → all ≡ rest → places ≡ [] → commands ≡ [] → AreInFront job all rest places commands
-none_in_front job all rest places commands same no_place no_command = record {
-  front = [];
-  split = same;
-  asked = subst (λ (cs : List Command). AreAsked job [] places cs) (sym no_command) (subst (λ (ps : List (Option Refusal)). AreAsked job [] ps []) (sym no_place) tt);
-}
+pub none_in_front : (job : ℕ) (all rest : List (List ℕ)) (places : List (Option Refusal)) (commands : List Command) (musts : List Bool) → all ≡ rest → places ≡ [] → commands ≡ [] → musts ≡ [] → AreInFront job all rest places commands musts
+none_in_front job all rest places commands musts same no_place no_command no_must =
+    let h = in_front_of job [] [] places [] commands [] musts no_place no_command no_must (tt, tt) in record { front = []; split = same; asked = h.0; timed = h.1 }
 
 -- a line more, with its command
-pub command_in_front : (job : ℕ) (all before rest : List (List ℕ)) (places more_places : List (Option Refusal)) (commands more_commands : List Command) (line : List ℕ) (command : Command) → AreInFront job all before places commands → before ≡ line ∷ rest → Asks job line command
-    → more_places ≡ places ++ None ∷ [] → more_commands ≡ commands ++ command ∷ [] → AreInFront job all rest more_places more_commands
-command_in_front job all before rest places more_places commands more_commands line command h next asks places_are commands_are = record {
-  front = h.front ++ line ∷ [];
-  split = next_split all h.front before rest line h.split next;
-  asked = subst (λ (cs : List Command). AreAsked job (h.front ++ line ∷ []) more_places cs) (sym commands_are)
-      (subst (λ (ps : List (Option Refusal)). AreAsked job (h.front ++ line ∷ []) ps (commands ++ command ∷ [])) (sym places_are) (asked_more job h.front places commands line command h.asked asks));
-}
+pub command_in_front : (job : ℕ) (all before rest : List (List ℕ)) (places more_places : List (Option Refusal)) (commands more_commands : List Command) (musts more_musts : List Bool) (line : List ℕ) (command : Command) (must : Bool) → AreInFront job all before places commands musts
+    → before ≡ line ∷ rest → Asks job line command → (timeout_in line ≡ None → must ≡ true) → more_places ≡ places ++ None ∷ [] → more_commands ≡ commands ++ command ∷ [] → more_musts ≡ musts ++ must ∷ [] → AreInFront job all rest more_places more_commands more_musts
+command_in_front job all before rest places more_places commands more_commands musts more_musts line command must h next asks is places_are commands_are musts_are =
+    let k = in_front_of job (h.front ++ line ∷ []) (places ++ None ∷ []) more_places (commands ++ command ∷ []) more_commands (musts ++ must ∷ []) more_musts places_are commands_are musts_are
+    (asked_more job h.front places commands line command h.asked asks, must_more h.front places musts line must h.timed is) in
+    record { front = h.front ++ line ∷ []; split = next_split all h.front before rest line h.split next; asked = k.0; timed = k.1 }
 
 -- a line more, which is refused
-pub refusal_in_front : (job : ℕ) (all before rest : List (List ℕ)) (places more_places : List (Option Refusal)) (commands more_commands : List Command) (line : List ℕ) (refusal : Refusal) → AreInFront job all before places commands → before ≡ line ∷ rest → IsRefusedAs job line refusal
-    → more_places ≡ places ++ Some refusal ∷ [] → more_commands ≡ commands → AreInFront job all rest more_places more_commands
-refusal_in_front job all before rest places more_places commands more_commands line refusal h next is places_are commands_are = record {
-  front = h.front ++ line ∷ [];
-  split = next_split all h.front before rest line h.split next;
-  asked = subst (λ (cs : List Command). AreAsked job (h.front ++ line ∷ []) more_places cs) (sym commands_are)
-      (subst (λ (ps : List (Option Refusal)). AreAsked job (h.front ++ line ∷ []) ps commands) (sym places_are) (refused_more job h.front places commands line refusal h.asked is));
-}
+pub refusal_in_front : (job : ℕ) (all before rest : List (List ℕ)) (places more_places : List (Option Refusal)) (commands more_commands : List Command) (musts more_musts : List Bool) (line : List ℕ) (refusal : Refusal) → AreInFront job all before places commands musts
+    → before ≡ line ∷ rest → IsRefusedAs job line refusal → more_places ≡ places ++ Some refusal ∷ [] → more_commands ≡ commands → more_musts ≡ musts → AreInFront job all rest more_places more_commands more_musts
+refusal_in_front job all before rest places more_places commands more_commands musts more_musts line refusal h next is places_are commands_are musts_are =
+    let k = in_front_of job (h.front ++ line ∷ []) (places ++ Some refusal ∷ []) more_places commands more_commands musts more_musts places_are commands_are musts_are
+    (refused_more job h.front places commands line refusal h.asked is, must_refused h.front places musts line refusal h.timed) in
+    record { front = h.front ++ line ∷ []; split = next_split all h.front before rest line h.split next; asked = k.0; timed = k.1 }
 
 -- a line in front of all
-pub first_in_front : (job : ℕ) (all rest : List (List ℕ)) (places : List (Option Refusal)) (commands : List Command) (line : List ℕ) (command : Command) → all ≡ rest → places ≡ None ∷ [] → commands ≡ command ∷ [] → Asks job line command
-    → AreInFront job (line ∷ all) rest places commands
-first_in_front job all rest places commands line command same places_are commands_are asks = record {
-  front = line ∷ [];
-  split = ap (λ (ls : List (List ℕ)). line ∷ ls) same;
-  asked = subst (λ (cs : List Command). AreAsked job (line ∷ []) places cs) (sym commands_are) (subst (λ (ps : List (Option Refusal)). AreAsked job (line ∷ []) ps (command ∷ [])) (sym places_are) (asks, tt));
-}
+pub first_in_front : (job : ℕ) (all rest : List (List ℕ)) (places : List (Option Refusal)) (commands : List Command) (musts : List Bool) (line : List ℕ) (command : Command) → all ≡ rest → places ≡ None ∷ [] → commands ≡ command ∷ [] → musts ≡ true ∷ [] → Asks job line command
+    → AreInFront job (line ∷ all) rest places commands musts
+first_in_front job all rest places commands musts line command same places_are commands_are musts_are asks =
+    let k = in_front_of job (line ∷ []) (None ∷ []) places (command ∷ []) commands (true ∷ []) musts places_are commands_are musts_are ((asks, tt), ((λ none. refl), tt)) in
+    record { front = line ∷ []; split = ap (λ (ls : List (List ℕ)). line ∷ ls) same; asked = k.0; timed = k.1 }
 
 -- ---- where a block ends
 

@@ -5,9 +5,9 @@ use Rattle.std.proofs.lemmas.Bool.{false_from_ne_true}
 use Rattle.std.specs.Prelude.{Some, None}
 use Rattle.std.specs.Option.{option_or}
 use Rattle.bstr.specs.Find.{IsFirstByte, is_byte}
-use Rattle.job_scripts.specs.Timeouts.{seconds_at, timeout_in}
+use Rattle.job_scripts.specs.Timeouts.{millis_in, timeout_in}
 
-at_colon : (xs : List ℕ) (n : ℕ) → n < length xs → ((k : ℕ) → 0 ≤ k → k < n → eqb (get_or xs k 0) 58 ≡ true → ⊥) → eqb (get_or xs n 0) 58 ≡ true → timeout_in xs ≡ option_or (seconds_at (drop (suc n) xs)) (timeout_in (drop (suc n) xs))
+at_colon : (xs : List ℕ) (n : ℕ) → n < length xs → ((k : ℕ) → 0 ≤ k → k < n → eqb (get_or xs k 0) 58 ≡ true → ⊥) → eqb (get_or xs n 0) 58 ≡ true → timeout_in xs ≡ option_or (millis_in (drop (suc n) xs)) (timeout_in (drop (suc n) xs))
 at_colon [] n lt before at = absurd (omega arith)
 at_colon (b ∷ bs) zero lt before at = rw at refl
 at_colon (b ∷ bs) (suc n) lt before at =
@@ -18,10 +18,10 @@ plus_one n = omega arith
 
 -- what follows the first colon
 pub behind_the_first : (xs : List ℕ) (n : ℕ) → IsFirstByte (is_byte 58) xs (Some n)
-    → timeout_in xs ≡ option_or (seconds_at (take (length xs - (n + 1)) (drop (n + 1) xs))) (timeout_in (take (length xs - (n + 1)) (drop (n + 1) xs)))
+    → timeout_in xs ≡ option_or (millis_in (take (length xs - (n + 1)) (drop (n + 1) xs))) (timeout_in (take (length xs - (n + 1)) (drop (n + 1) xs)))
 behind_the_first xs n h =
     at_colon xs n h.0.high (λ k low high p. h.0.before k low high p) h.1
-    ∙ ap (λ (r : List ℕ). option_or (seconds_at r) (timeout_in r)) (ap (λ k. drop k xs) (plus_one n) ∙ sym (take_rest xs (n + 1)))
+    ∙ ap (λ (r : List ℕ). option_or (millis_in r) (timeout_in r)) (ap (λ k. drop k xs) (plus_one n) ∙ sym (take_rest xs (n + 1)))
 
 nowhere : (xs : List ℕ) → ((k : ℕ) → 0 ≤ k → k < length xs → eqb (get_or xs k 0) 58 ≡ true → ⊥) → timeout_in xs ≡ None
 nowhere [] h = refl
@@ -56,6 +56,10 @@ most_up_to k n le = subst (λ (m : ℕ). most k ≤ most m) (back_again k n le) 
 -- before the ninth digit
 pub before_the_ninth : (n i len : ℕ) → n ≤ most i → i < len → len ≤ 9 → n ≤ 28333333305
 before_the_ninth n i len small lt few = let at : most i ≤ 28333333305 = most_up_to i 9 (omega (arith, lt, few)) in omega (arith, small, at)
+
+-- behind the last digit
+pub all_of_them : (n i : ℕ) → n ≤ most i → i ≤ 9 → n ≤ 28333333305
+all_of_them n i small few = let at : most i ≤ 28333333305 = most_up_to i 9 few in omega (arith, small, at)
 
 -- with a digit more
 pub one_more : (n v i : ℕ) → n ≤ most i → v ≤ 255 → n * 10 + v ≤ most (i + 1)

@@ -1,5 +1,5 @@
 -- Blocks: lines that are done under one hold of the lock. Source: docs/CONCURRENCY.md, "Many jobs at the same time".
-use Rattle.std.specs.Prelude.{◌≡◌, ◌⊎◌, ⊤, ℕ, ◌+◌, ◌-◌, ◌<◌, List, [], ◌∷◌, ◌++◌, Option, Some, None, min}
+use Rattle.std.specs.Prelude.{◌≡◌, ◌⊎◌, ⊤, ℕ, ◌+◌, ◌-◌, ◌<◌, Bool, true, List, [], ◌∷◌, ◌++◌, Option, Some, None, min}
 use Rattle.refusal.specs.declared.Refusal.{Refusal}
 use Rattle.collation.specs.Limits.{most_levels}
 use Rattle.command.specs.declared.request.Command.{Command}
@@ -7,6 +7,7 @@ use Rattle.command.specs.declared.request.Command.TheVariants.{Access, Lock, Sta
 use Rattle.command.specs.declared.request.Reply.{Reply}
 use Rattle.command.specs.declared.request.Reply.TheVariants.{Refused}
 use Rattle.job_scripts.specs.Lines.{Asks, IsRefusedAs}
+use Rattle.job_scripts.specs.Timeouts.{timeout_in}
 
 -- the level of a transaction after a command in it, as if memory and stamps were there
 abbrev pub level_after : Command → ℕ → ℕ
@@ -48,11 +49,22 @@ AreAsked job (line ∷ lines) (Some refusal ∷ places) commands = IsRefusedAs j
 AreAsked job (line ∷ lines) (None ∷ places) [] = ⊥
 AreAsked job (line ∷ lines) (None ∷ places) (command ∷ commands) = Asks job line command × AreAsked job lines places commands
 
+-- each of the lines that asks for a command has to have its names, if that is a LOCK, where it has no timeout
+abbrev pub AreMusts : List (List ℕ) → List (Option Refusal) → List Bool → Type 0
+AreMusts [] [] [] = ⊤
+AreMusts [] [] (must ∷ musts) = ⊥
+AreMusts [] (place ∷ places) musts = ⊥
+AreMusts (line ∷ lines) [] musts = ⊥
+AreMusts (line ∷ lines) (Some refusal ∷ places) musts = AreMusts lines places musts
+AreMusts (line ∷ lines) (None ∷ places) [] = ⊥
+AreMusts (line ∷ lines) (None ∷ places) (must ∷ musts) = (timeout_in line ≡ None → must ≡ true) × AreMusts lines places musts
+
 -- lines stand at the front of a text's lines, before those of the rest, and these places and commands are theirs
-pub record AreInFront (job : ℕ) (all rest : List (List ℕ)) (places : List (Option Refusal)) (commands : List Command) : Type 0 where
+pub record AreInFront (job : ℕ) (all rest : List (List ℕ)) (places : List (Option Refusal)) (commands : List Command) (musts : List Bool) : Type 0 where
   pub front : List (List ℕ)
   pub split : all ≡ front ++ rest
   pub asked : AreAsked job front places commands
+  pub timed : AreMusts front places musts
 
 -- behind these commands no transaction is open, or no line is left, or the next one asks for HALT
 abbrev pub EndsBlock : ℕ → List Command → List (List ℕ) → Type 0

@@ -1,8 +1,8 @@
 -- Replies by job as text. Source: docs/FORMATS.md, "Replies".
-use Rattle.std.specs.Prelude.{ℕ, Bool, true, false, List, Option}
+use Rattle.std.specs.Prelude.{ℕ, Bool, List, Option}
 use Rattle.std.specs.List.{flat_map, list_any}
 use Rattle.command.specs.declared.request.Reply.{Reply}
-use Rattle.command.specs.declared.request.Reply.TheVariants.{Answered, Finished, Had, Count, AtLevel, Committed, Restarted, Refused}
+use Rattle.command.specs.Replies.{is_refused}
 use Rattle.script.specs.Text.{reply_text}
 
 -- a job, or none, and the replies to its lines, in order
@@ -20,16 +20,6 @@ report_text a = flat_map (reply_text a.job) a.replies
 -- the lines of all replies, report by report
 abbrev pub reports_text : List Answers → List ℕ
 reports_text reports = flat_map report_text reports
-
-abbrev pub is_refused : Reply → Bool
-is_refused (Answered answer) = false
-is_refused Finished = false
-is_refused (Had had) = false
-is_refused (Count n) = false
-is_refused (AtLevel n) = false
-is_refused Committed = false
-is_refused (Restarted n) = false
-is_refused (Refused refusal) = true
 
 -- a reply is a refusal
 abbrev pub some_refused : Answers → Bool

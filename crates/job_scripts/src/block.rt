@@ -1,5 +1,5 @@
 //! Blocks: lines that are done under one hold of an engine's lock.
-ghost use Rattle.std.specs.Prelude.{◌≡◌, ◌≢◌, ◌≤◌, ◌++◌, ◌∷◌, [], ℕ, List, Option, None, Some, length, max, IfOk, OnOk};
+ghost use Rattle.std.specs.Prelude.{◌≡◌, ◌≢◌, ◌≤◌, ◌++◌, ◌∷◌, [], true, ℕ, List, Option, None, Some, length, max, IfOk, OnOk};
 ghost use Rattle.std.specs.Vec.Iter.{into_iter_items};
 ghost use Rattle.refusal.specs.declared.Refusal.{Refusal};
 ghost use Rattle.std.specs.List.{All};
@@ -9,14 +9,26 @@ ghost use Rattle.command.specs.declared.request.Command.{Command};
 ghost use Rattle.command.specs.declared.request.Command.TheVariants.{Access};
 ghost use Rattle.job_scripts.specs.Lines.{lines_of_script, Asks, IsRefusedAs};
 ghost use Rattle.job_scripts.specs.Blocks.{level_after as level_left, IsOneBlock, EndsBlock, in_place, AreInFront};
+ghost use Rattle.job_scripts.specs.Timeouts.{timeout_in};
 
 use crate::lines::{next_line, read_for};
+use crate::timeout::timeout_of;
 use collation::{Job, MOST_LEVELS};
 use command::{Command, DataCommand, Reply};
 use refusal::Refusal;
 use script::Drafts;
 use std::alloc::{AllocError, Global};
 use std::vec::IntoIter;
+
+// Whether a LOCK has to have its names, of this line: where that has no timeout.
+fn must_of(line: &[u8]) -> bool
+    ensures { timeout_in line.now ≡ None → result ≡ true }
+{
+    match timeout_of(line) {
+        Some(_) => false,
+        None => true,
+    }
+}
 
 /// Lines of a job, in order, and the lines that follow.
 #[derive(Debug, Drop)]
@@ -25,6 +37,8 @@ pub struct Block<'a> {
     pub commands: Vec<Command>,
     /// For each line its refusal, or none where it has a command.
     pub places: Vec<Option<Refusal>>,
+    /// For each command whether, if it is a LOCK, it has to have its names, since its line has no timeout.
+    pub musts: Vec<bool>,
     /// The lines that follow.
     pub rest: &'a [u8],
 }
@@ -32,11 +46,12 @@ pub struct Block<'a> {
 impl<'a> Block<'a> {
     // No line, in front of these.
     fn new(alloc: Global, lines: &'a [u8]) -> Block<'a>
-        ensures { (result.commands.items ≡ []) × ((result.places.items ≡ []) × (result.rest.now ≡ lines.now)) }
+        ensures { (result.commands.items ≡ []) × ((result.places.items ≡ []) × ((result.musts.items ≡ []) × (result.rest.now ≡ lines.now))) }
     {
         Block {
             commands: Vec::new(alloc),
             places: Vec::new(alloc),
+            musts: Vec::new(alloc),
             rest: lines,
         }
     }
@@ -44,14 +59,15 @@ impl<'a> Block<'a> {
     // The command of a line before these.
     #[tactic(auto, using(crate::proofs::Blocks::first_in_front))]
     fn begin(&mut self, command: Command) -> Result<(), AllocError>
-        requires { (self.old.commands.items ≡ []) × (self.old.places.items ≡ []) }
+        requires { (self.old.commands.items ≡ []) × ((self.old.places.items ≡ []) × (self.old.musts.items ≡ [])) }
         ensures commands { OnOk result (self.new.commands.items ≡ command ∷ []) }
         ensures places { OnOk result (self.new.places.items ≡ None ∷ []) }
         ensures rest { self.new.rest.now ≡ self.old.rest.now }
-        ensures asked { OnOk result ((job : ℕ) (line : List ℕ) → Asks job line command → AreInFront job (line ∷ lines_of_script self.old.rest.now) (lines_of_script self.new.rest.now) self.new.places.items self.new.commands.items) }
+        ensures asked { OnOk result ((job : ℕ) (line : List ℕ) → Asks job line command → AreInFront job (line ∷ lines_of_script self.old.rest.now) (lines_of_script self.new.rest.now) self.new.places.items self.new.commands.items self.new.musts.items) }
     {
         self.commands.push(command)?;
         self.places.push(None)?;
+        self.musts.push(true)?;
         Ok(())
     }
 
@@ -61,11 +77,12 @@ impl<'a> Block<'a> {
         ensures commands { OnOk result (self.new.commands.items ≡ self.old.commands.items ++ command ∷ []) }
         ensures places { OnOk result (self.new.places.items ≡ self.old.places.items ++ None ∷ []) }
         ensures rest { OnOk result (self.new.rest.now ≡ rest.entry.now) }
-        ensures asked { OnOk result ((job : ℕ) (all : List (List ℕ)) → AreInFront job all (lines_of_script self.old.rest.now) self.old.places.items self.old.commands.items → lines_of_script self.old.rest.now ≡ line.now ∷ lines_of_script rest.entry.now
-            → Asks job line.now command → AreInFront job all (lines_of_script self.new.rest.now) self.new.places.items self.new.commands.items) }
+        ensures asked { OnOk result ((job : ℕ) (all : List (List ℕ)) → AreInFront job all (lines_of_script self.old.rest.now) self.old.places.items self.old.commands.items self.old.musts.items → lines_of_script self.old.rest.now ≡ line.now ∷ lines_of_script rest.entry.now
+            → Asks job line.now command → AreInFront job all (lines_of_script self.new.rest.now) self.new.places.items self.new.commands.items self.new.musts.items) }
     {
         self.commands.push(command)?;
         self.places.push(None)?;
+        self.musts.push(must_of(line))?;
         self.rest = rest;
         Ok(())
     }
@@ -75,8 +92,8 @@ impl<'a> Block<'a> {
         ensures commands { self.new.commands.items ≡ self.old.commands.items }
         ensures places { OnOk result (self.new.places.items ≡ self.old.places.items ++ Some refusal ∷ []) }
         ensures rest { OnOk result (self.new.rest.now ≡ rest.entry.now) }
-        ensures asked { OnOk result ((job : ℕ) (all : List (List ℕ)) → AreInFront job all (lines_of_script self.old.rest.now) self.old.places.items self.old.commands.items → lines_of_script self.old.rest.now ≡ line.now ∷ lines_of_script rest.entry.now
-            → IsRefusedAs job line.now refusal → AreInFront job all (lines_of_script self.new.rest.now) self.new.places.items self.new.commands.items) }
+        ensures asked { OnOk result ((job : ℕ) (all : List (List ℕ)) → AreInFront job all (lines_of_script self.old.rest.now) self.old.places.items self.old.commands.items self.old.musts.items → lines_of_script self.old.rest.now ≡ line.now ∷ lines_of_script rest.entry.now
+            → IsRefusedAs job line.now refusal → AreInFront job all (lines_of_script self.new.rest.now) self.new.places.items self.new.commands.items self.new.musts.items) }
     {
         self.places.push(Some(refusal))?;
         self.rest = rest;
@@ -116,7 +133,7 @@ pub fn block_of<'a>(
     ensures one { IfOk result (λ block. IsOneBlock 1 block.commands.items) }
     ensures ended { IfOk result (λ block. EndsBlock job block.commands.items (lines_of_script block.rest.now)) }
     ensures rest { IfOk result (λ block. length block.rest.now ≤ length lines.now) }
-    ensures asked { IfOk result (λ block. AreInFront job (lines_of_script lines.now) (lines_of_script block.rest.now) block.places.items block.commands.items) }
+    ensures asked { IfOk result (λ block. AreInFront job (lines_of_script lines.now) (lines_of_script block.rest.now) block.places.items block.commands.items block.musts.items) }
 {
     let mut block = Block::new(alloc, lines);
     let mut level = 1;
@@ -153,7 +170,7 @@ pub fn data_block<'a>(
     ensures accesses { IfOk result (λ block. All (λ (c : Command). (d : DataCommand) × (c ≡ Command.Access d)) block.commands.items) }
     ensures few { IfOk result (λ block. length block.places.items ≤ max 1 most) }
     ensures rest { IfOk result (λ block. length block.rest.now ≤ length lines.now) }
-    ensures asked { IfOk result (λ block. (line : List ℕ) → Asks job line (Access first) → AreInFront job (line ∷ lines_of_script lines.now) (lines_of_script block.rest.now) block.places.items block.commands.items) }
+    ensures asked { IfOk result (λ block. (line : List ℕ) → Asks job line (Access first) → AreInFront job (line ∷ lines_of_script lines.now) (lines_of_script block.rest.now) block.places.items block.commands.items block.musts.items) }
 {
     let mut block = Block::new(alloc, lines);
     block.begin(Command::Access(first))?;

@@ -4,7 +4,8 @@ ghost use Rattle.std.specs.List.{flat_map, list_any};
 ghost use Rattle.std.specs.Io.KnownBytes.{Appends};
 ghost use Rattle.listing.specs.Bytes.{WritesBeginning, IsOneMore};
 ghost use Rattle.script.specs.Text.{reply_text};
-ghost use Rattle.job_scripts.specs.Reports.{answers, report_text, reports_text, is_refused as refused_of, some_refused};
+ghost use Rattle.command.specs.Replies.{is_refused as refused_of};
+ghost use Rattle.job_scripts.specs.Reports.{answers, report_text, reports_text, some_refused};
 
 use collation::Job;
 use command::Reply;

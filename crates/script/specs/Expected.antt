@@ -15,7 +15,7 @@ rule_text TooManySubscripts = codes "at most 31 subscripts"
 rule_text ValueTooLong = codes "a value of at most 32767 bytes"
 rule_text NeedSubscript = codes "a subscript"
 rule_text MergeOverlap = codes "two references of which neither lies under the other"
-rule_text NoTransaction = codes "a transaction that is open"
+rule_text NoTransaction = codes "an open transaction, which TSTART begins"
 rule_text LevelTooDeep = codes "a level below 127"
 rule_text LockCountFull = codes "a count below 65535"
 rule_text BadJob = codes "a job, 1 to 4096"
@@ -28,7 +28,7 @@ rule_text Ahead = codes "a stamp that has come"
 
 -- what should stand there
 abbrev pub expected_text : Expected → List ℕ
-expected_text expectations.Job = codes "a job, 1 to 4096, before all else, a byte order mark too"
+expected_text expectations.Job = codes "a job, 1 to 4096, first in the line, without a byte order mark"
 expected_text expectations.Blank = codes "a blank"
 expected_text expectations.Operand = codes "a blank and ^ and a name; there are no post-conditionals"
 expected_text expectations.Command = codes "SET, KILL, MERGE, LOCK, TSTART, TCOMMIT, TROLLBACK, TRESTART or HALT, or $ and a function"

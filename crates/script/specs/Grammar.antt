@@ -88,10 +88,17 @@ pub data IsSign : List ℕ → Form → Type 0 where
   plus : IsSign (byte.plus ∷ []) forms.More
   minus : IsSign (byte.minus ∷ []) forms.Fewer
 
--- nothing, or ':' and one to nine digits
+-- one to nine digits
+pub record AreFewDigits (digits : List ℕ) : Type 0 where
+  pub bytes : list_all is_ascii_digit digits ≡ true
+  pub some : 0 < length digits
+  pub few : length digits ≤ 9
+
+-- nothing, or ':' and seconds: one to nine digits, or up to nine, a point and one to nine
 pub data IsTimeout : List ℕ → Type 0 where
   no_timeout : IsTimeout []
-  timeout : {digits : List ℕ} → list_all is_ascii_digit digits ≡ true → 0 < length digits → length digits ≤ 9 → IsTimeout (byte.colon ∷ digits)
+  whole : {digits : List ℕ} → AreFewDigits digits → IsTimeout (byte.colon ∷ digits)
+  fraction : (digits : List ℕ) {parts : List ℕ} → list_all is_ascii_digit digits ≡ true → length digits ≤ 9 → AreFewDigits parts → IsTimeout (byte.colon ∷ (digits ++ byte.point ∷ parts))
 
 -- a sign, lock names and a timeout, which the command doesn't have
 pub record IsLocking (text : List ℕ) (c : LockCommand) : Type 0 where

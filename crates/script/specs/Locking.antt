@@ -42,13 +42,23 @@ unfoldable pub lock_names_at : List ℕ → Option (List Resource × List ℕ)
 lock_names_at text = if begins_with_byte byte.opening text then then_closing (parted_at lock_name_at byte.comma (drop 1 text)) else lock_name_at text
 
 -- one to nine digits
-abbrev pub is_timeout : List ℕ → Bool
-is_timeout ds = nat_lt 0 (length ds) && nat_le (length ds) 9
+abbrev pub are_few : List ℕ → Bool
+are_few ds = nat_lt 0 (length ds) && nat_le (length ds) 9
 
--- what follows a timeout, ':' and its digits, or nothing
+-- what follows them
+unfoldable pub digits_at : List ℕ → Option (List ℕ)
+digits_at text = if are_few (front_digits text) then Some (past_digits text) else None
+
+-- what follows one to nine digits, or up to nine, a point and one to nine
+unfoldable pub seconds_at : List ℕ → Option (List ℕ)
+seconds_at text =
+    if begins_with_byte byte.point (past_digits text)
+    then (if nat_le (length (front_digits text)) 9 then digits_at (drop 1 (past_digits text)) else None)
+    else digits_at text
+
+-- what follows a timeout, ':' and seconds, or nothing
 unfoldable pub timeout_at : List ℕ → Option (List ℕ)
-timeout_at text =
-    if begins_with_byte byte.colon text then (if is_timeout (front_digits (drop 1 text)) then Some (past_digits (drop 1 text)) else None) else Some text
+timeout_at text = if begins_with_byte byte.colon text then seconds_at (drop 1 text) else Some text
 
 -- a sign, lock names, a timeout that means nothing
 unfoldable pub locking_at : List ℕ → Option (LockCommand × List ℕ)

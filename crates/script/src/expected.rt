@@ -51,7 +51,7 @@ impl Expected {
         ensures { result.now ≡ expected.expected_text self }
     {
         match self {
-            Expected::Job => "a job, 1 to 4096, before all else, a byte order mark too",
+            Expected::Job => "a job, 1 to 4096, first in the line, without a byte order mark",
             Expected::Blank => "a blank",
             Expected::Operand => "a blank and ^ and a name; there are no post-conditionals",
             Expected::Command =>
@@ -89,7 +89,7 @@ fn rule_text(refusal: Refusal) -> &'static str
         Refusal::ValueTooLong => "a value of at most 32767 bytes",
         Refusal::NeedSubscript => "a subscript",
         Refusal::MergeOverlap => "two references of which neither lies under the other",
-        Refusal::NoTransaction => "a transaction that is open",
+        Refusal::NoTransaction => "an open transaction, which TSTART begins",
         Refusal::LevelTooDeep => "a level below 127",
         Refusal::LockCountFull => "a count below 65535",
         Refusal::BadJob => "a job, 1 to 4096",

@@ -13,7 +13,7 @@ use m_text::{
 use refusal::Refusal;
 use std::alloc::Global;
 
-/// The most digits of a timeout.
+/// The most digits of a timeout, before its point and behind it.
 const MOST_TIMEOUT_DIGITS: usize = 9;
 
 /// Where a refused line is at fault.
@@ -222,11 +222,31 @@ impl<'a> Look<'a> {
             self.lock_name();
         }
         if self.has(b':') {
-            self.go(
-                past_digits(self.rest, MOST_TIMEOUT_DIGITS),
-                Expected::Timeout,
-            );
+            self.seconds();
         }
+    }
+
+    // What stands after the colon of a timeout.
+    fn seconds(&mut self)
+        ensures { length self.new.rest.now ≤ length self.old.rest.now }
+    {
+        if !self.has(b'.') {
+            self.digits();
+            if !self.has(b'.') {
+                return;
+            }
+        }
+        self.digits();
+    }
+
+    // One to nine digits of a timeout.
+    fn digits(&mut self)
+        ensures { length self.new.rest.now ≤ length self.old.rest.now }
+    {
+        self.go(
+            past_digits(self.rest, MOST_TIMEOUT_DIGITS),
+            Expected::Timeout,
+        );
     }
 
     // What a word wants after its reference.

@@ -13,7 +13,7 @@ use m_text::{after, read_named, split_digits};
 use refusal::Refusal;
 use std::alloc::Global;
 
-/// The most digits of a timeout.
+/// The most digits of a timeout, before its point and behind it.
 const MOST_TIMEOUT_DIGITS: usize = 9;
 
 // What a LOCK does with its names, told by its sign.
@@ -120,20 +120,44 @@ fn read_names<'a>(
     }
 }
 
+// What follows one to nine digits.
+#[tactic(auto, unfolding(crate::specs::Locking::digits_at))]
+fn past_digits(text: &[u8]) -> Result<&[u8], Refusal>
+    ensures { GivesExactly (λ rest. rest.now) result (locking.digits_at text.now) }
+{
+    let (digits, rest) = split_digits(text);
+    if digits.is_empty() || digits.len() > MOST_TIMEOUT_DIGITS {
+        Err(Refusal::BadLine)
+    } else {
+        Ok(rest)
+    }
+}
+
+// What follows seconds: one to nine digits, or up to nine, a point and one to nine.
+#[tactic(auto, unfolding(crate::specs::Locking::seconds_at))]
+fn past_seconds(text: &[u8]) -> Result<&[u8], Refusal>
+    ensures { GivesExactly (λ rest. rest.now) result (locking.seconds_at text.now) }
+{
+    let (digits, rest) = split_digits(text);
+    match after(b'.', rest) {
+        Some(fraction) => {
+            if digits.len() > MOST_TIMEOUT_DIGITS {
+                Err(Refusal::BadLine)
+            } else {
+                past_digits(fraction)
+            }
+        }
+        None => past_digits(text),
+    }
+}
+
 // What follows a timeout, or nothing.
 #[tactic(auto, unfolding(crate::specs::Locking::timeout_at))]
 fn past_timeout(text: &[u8]) -> Result<&[u8], Refusal>
     ensures { GivesExactly (λ rest. rest.now) result (locking.timeout_at text.now) }
 {
     match after(b':', text) {
-        Some(timeout) => {
-            let (digits, rest) = split_digits(timeout);
-            if digits.is_empty() || digits.len() > MOST_TIMEOUT_DIGITS {
-                Err(Refusal::BadLine)
-            } else {
-                Ok(rest)
-            }
-        }
+        Some(seconds) => past_seconds(seconds),
         None => Ok(text),
     }
 }

@@ -209,11 +209,11 @@ blank_dollar (b ∷ bs) rest h = elim (or_cases (b == 32) (b == 9) (and_parts (i
 ]
 
 -- a blank at the end of a line, or nothing
-tail_parts : (tail : List ℕ) → list_all is_blank tail ≡ true → Ends ends_letters tail × Ends digits_end tail × (begins_with_byte 36 tail ≡ false) × (begins_with_byte 58 tail ≡ false)
-tail_parts [] e = (tt, tt, refl, refl)
+tail_parts : (tail : List ℕ) → list_all is_blank tail ≡ true → Ends ends_letters tail × Ends digits_end tail × (begins_with_byte 36 tail ≡ false) × (begins_with_byte 58 tail ≡ false) × (begins_with_byte 46 tail ≡ false)
+tail_parts [] e = (tt, tt, refl, refl, refl)
 tail_parts (b ∷ bs) e = elim (or_cases (b == 32) (b == 9) (and_parts (is_blank b) _ e).0) [
-  | inl p ↦ rw (eqb-true b 32 p) (refl, refl, refl, refl)
-  | inr p ↦ rw (eqb-true b 9 p) (refl, refl, refl, refl)
+  | inl p ↦ rw (eqb-true b 32 p) (refl, refl, refl, refl, refl)
+  | inr p ↦ rw (eqb-true b 9 p) (refl, refl, refl, refl, refl)
 ]
 
 tail_read : (tail : List ℕ) → list_all is_blank tail ≡ true → past_blank tail ≡ []
@@ -267,7 +267,7 @@ lock_read blank text c rest parted form ended =
     let ends = locking_ends text c rest form in
     let p = run_is ends_blank is_blank blank_kind blank (text ++ rest) parted.bytes ends in
     let left : (length (past_blank (blank ++ (text ++ rest))) == 0) ≡ false = ap (λ (u : List ℕ). length u == 0) p.1 ∙ some_left text rest (locking_some text c form) in
-    rw (left, blank_read blank (text ++ rest) parted ends, locking_read text c rest form (blank_stops rest ended).reference tail.3 tail.1) refl
+    rw (left, blank_read blank (text ++ rest) parted ends, locking_read text c rest form (blank_stops rest ended).reference tail.3 tail.4 tail.1) refl
 
 names_read : (letters blank text : List ℕ) (c : LockCommand) (rest : List ℕ) → IsWord words.Lock letters → IsBlank blank → IsLocking text c → list_all is_blank rest ≡ true → command_at ((letters ++ (blank ++ text)) ++ rest) ≡ Some (Lock c, rest)
 names_read letters blank text c rest is parted form ended =

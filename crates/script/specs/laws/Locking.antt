@@ -1,5 +1,5 @@
 -- What stands after LOCK's word: what is read of it is spelled so, and what is spelled so is read.
-use Rattle.std.proofs.Common.{◌≡◌, ℕ, ◌<◌, Bool, true, false, cond, List, [], ◌∷◌, ◌++◌, length, drop, Option, Some, None, refl, sym, ap, ◌∙◌, append_assoc, arith, length-append}
+use Rattle.std.proofs.Common.{◌≡◌, ℕ, ◌<◌, ◌≤◌, Bool, true, false, cond, List, [], ◌∷◌, ◌++◌, length, drop, Option, Some, None, refl, sym, ap, ◌∙◌, append_assoc, arith, length-append}
 use Rattle.std.proofs.lemmas.Bool.{eqb-true, and_parts, and_from, ltb-true, leb-true, lt-ltb, le-leb}
 use Rattle.std.proofs.lemmas.Option.{some_pair_parts, cond_some}
 use Rattle.std.specs.Prelude.{◌==◌, nat_lt, nat_le}
@@ -18,12 +18,12 @@ use Rattle.m_text.specs.laws.Parts.{digits_kind, closed_found}
 use Rattle.m_text.specs.laws.Place.{FoundOf, named_found, named_read}
 use Rattle.script.specs.declared.lock.Form.{Form}
 use Rattle.script.specs.declared.lock.Form.TheVariants as forms
-use Rattle.script.specs.Locking.{locking, form_of, past_form, lock_name_at, lock_names_at, is_timeout, timeout_at, locking_at}
-use Rattle.script.specs.Grammar.{IsLockName, IsOneName, AreLockNames, IsSign, IsTimeout, IsLocking}
+use Rattle.script.specs.Locking.{locking, form_of, past_form, lock_name_at, lock_names_at, are_few, digits_at, seconds_at, timeout_at, locking_at}
+use Rattle.script.specs.Grammar.{IsLockName, IsOneName, AreLockNames, IsSign, AreFewDigits, IsTimeout, IsLocking}
 use Rattle.script.specs.Grammar.IsLockName.{with_caret, without_caret}
 use Rattle.script.specs.Grammar.AreLockNames.{one_name, names}
 use Rattle.script.specs.Grammar.IsSign.{no_sign, plus, minus}
-use Rattle.script.specs.Grammar.IsTimeout.{no_timeout, timeout}
+use Rattle.script.specs.Grammar.IsTimeout.{no_timeout, whole, fraction}
 use Rattle.script.specs.laws.Commands.{and_then_some, joined, found_is}
 
 -- names
@@ -155,38 +155,93 @@ sign_read text minus e f = (refl, refl)
 
 -- timeouts
 
+-- a choice that finds something
+cond_at : (b : Bool) (found : Option (List ℕ)) (rest : List ℕ) → cond b found None ≡ Some rest → (b ≡ true) × (found ≡ Some rest)
+cond_at true found rest e = (refl, e)
+cond_at false found rest e = absurd (cc)
+
 record HasTimeout (bytes rest : List ℕ) : Type 0 where
   ending : List ℕ
   timed : IsTimeout ending
   parts : bytes ≡ ending ++ rest
 
+-- digits, where their number is right
+record HasDigits (bytes rest : List ℕ) : Type 0 where
+  few : AreFewDigits (front_digits bytes)
+  behind : past_digits bytes ≡ rest
+
+few_digits : (bytes : List ℕ) → are_few (front_digits bytes) ≡ true → AreFewDigits (front_digits bytes)
+few_digits bytes e =
+    let p = and_parts (nat_lt 0 (length (front_digits bytes))) (nat_le (length (front_digits bytes)) 9) e in
+    record { bytes = run_passes is_no_digit is_ascii_digit digits_kind bytes; some = ltb-true _ _ p.0; few = leb-true _ _ p.1 }
+
+digits_found : (bytes rest : List ℕ) → digits_at bytes ≡ Some rest → HasDigits bytes rest
+unfolding digits_at
+digits_found bytes rest e = let g = cond_some (are_few (front_digits bytes)) (past_digits bytes) rest e in record { few = few_digits bytes g.0; behind = g.1 }
+
+digits_before : (bytes : List ℕ) → bytes ≡ front_digits bytes ++ past_digits bytes
+digits_before bytes = run_parts is_no_digit bytes
+
+seconds_found : (bytes rest : List ℕ) → seconds_at bytes ≡ Some rest → HasTimeout (58 ∷ bytes) rest
+unfolding seconds_at
+seconds_found bytes rest e = at (begins_with_byte 46 (past_digits bytes)) refl e
+  where
+    at : (t : Bool) → begins_with_byte 46 (past_digits bytes) ≡ t → cond t (cond (nat_le (length (front_digits bytes)) 9) (digits_at (drop 1 (past_digits bytes))) None) (digits_at bytes) ≡ Some rest → HasTimeout (58 ∷ bytes) rest
+    at true f e =
+        let behind : List ℕ = drop 1 (past_digits bytes) in
+        let g = cond_at (nat_le (length (front_digits bytes)) 9) (digits_at behind) rest e in
+        let d = digits_found behind rest g.1 in
+        record {
+          ending = 58 ∷ (front_digits bytes ++ 46 ∷ front_digits behind);
+          timed = fraction (front_digits bytes) (run_passes is_no_digit is_ascii_digit digits_kind bytes) (leb-true _ _ g.0) d.few;
+          parts = ap (λ u. 58 ∷ u) (digits_before bytes ∙ ap (λ u. front_digits bytes ++ u) (begins 46 (past_digits bytes) f ∙ ap (λ u. 46 ∷ u) (digits_before behind ∙ ap (λ u. front_digits behind ++ u) d.behind))
+              ∙ sym (append_assoc (front_digits bytes) (46 ∷ front_digits behind) rest));
+        }
+    at false f e =
+        let d = digits_found bytes rest e in
+        record { ending = 58 ∷ front_digits bytes; timed = whole d.few; parts = ap (λ u. 58 ∷ u) (digits_before bytes ∙ ap (λ u. front_digits bytes ++ u) d.behind) }
+
 timeout_found : (bytes rest : List ℕ) → timeout_at bytes ≡ Some rest → HasTimeout bytes rest
 unfolding timeout_at
 timeout_found bytes rest e = at (begins_with_byte 58 bytes) refl e
   where
-    at : (t : Bool) → begins_with_byte 58 bytes ≡ t → cond t (cond (is_timeout (front_digits (drop 1 bytes))) (Some (past_digits (drop 1 bytes))) None) (Some bytes) ≡ Some rest → HasTimeout bytes rest
+    at : (t : Bool) → begins_with_byte 58 bytes ≡ t → cond t (seconds_at (drop 1 bytes)) (Some bytes) ≡ Some rest → HasTimeout bytes rest
     at true f e =
-        let digits : List ℕ = front_digits (drop 1 bytes) in
-        let g = cond_some (is_timeout digits) (past_digits (drop 1 bytes)) rest e in
-        let p = and_parts (nat_lt 0 (length digits)) (nat_le (length digits) 9) g.0 in
-        record {
-          ending = 58 ∷ digits;
-          timed = timeout (run_passes is_no_digit is_ascii_digit digits_kind (drop 1 bytes)) (ltb-true _ _ p.0) (leb-true _ _ p.1);
-          parts = begins 58 bytes f ∙ ap (λ u. 58 ∷ u) (run_parts is_no_digit (drop 1 bytes) ∙ ap (λ u. digits ++ u) g.1);
-        }
+        let found = seconds_found (drop 1 bytes) rest e in
+        record { ending = found.ending; timed = found.timed; parts = begins 58 bytes f ∙ found.parts }
     at false f e = let same : bytes ≡ rest = cc in record { ending = []; timed = no_timeout; parts = same }
 
-timeout_read : {ending : List ℕ} (rest : List ℕ) → IsTimeout ending → begins_with_byte 58 rest ≡ false → Ends is_no_digit rest → timeout_at (ending ++ rest) ≡ Some rest
-unfolding timeout_at
-timeout_read rest no_timeout plain ends = rw plain refl
-timeout_read rest (timeout {digits} all some few) plain ends =
-    let p = run_is is_no_digit is_ascii_digit digits_kind digits rest all ends in
-    let short : is_timeout digits ≡ true = and_from (nat_lt 0 (length digits)) (nat_le (length digits) 9) (lt-ltb _ _ some) (le-leb _ _ few) in
+digits_read : (digits rest : List ℕ) → AreFewDigits digits → Ends is_no_digit rest → digits_at (digits ++ rest) ≡ Some rest
+unfolding digits_at
+digits_read digits rest are ends =
+    let p = run_is is_no_digit is_ascii_digit digits_kind digits rest are.bytes ends in
+    let short : are_few digits ≡ true = and_from (nat_lt 0 (length digits)) (nat_le (length digits) 9) (lt-ltb _ _ are.some) (le-leb _ _ are.few) in
     rw (p.0, p.1, short) refl
+
+whole_read : (digits rest : List ℕ) → AreFewDigits digits → begins_with_byte 46 rest ≡ false → Ends is_no_digit rest → seconds_at (digits ++ rest) ≡ Some rest
+unfolding seconds_at
+whole_read digits rest are pointless ends =
+    let p = run_is is_no_digit is_ascii_digit digits_kind digits rest are.bytes ends in
+    let none : begins_with_byte 46 (past_digits (digits ++ rest)) ≡ false = ap (begins_with_byte 46) p.1 ∙ pointless in
+    rw none (digits_read digits rest are ends)
+
+fraction_read : (digits parts rest : List ℕ) → list_all is_ascii_digit digits ≡ true → length digits ≤ 9 → AreFewDigits parts → Ends is_no_digit rest → seconds_at (digits ++ (46 ∷ (parts ++ rest))) ≡ Some rest
+unfolding seconds_at
+fraction_read digits parts rest all few are ends =
+    let p = run_is is_no_digit is_ascii_digit digits_kind digits (46 ∷ (parts ++ rest)) all refl in
+    rw (p.0, p.1, le-leb _ _ few) (digits_read parts rest are ends)
+
+timeout_read : {ending : List ℕ} (rest : List ℕ) → IsTimeout ending → begins_with_byte 58 rest ≡ false → begins_with_byte 46 rest ≡ false → Ends is_no_digit rest → timeout_at (ending ++ rest) ≡ Some rest
+unfolding timeout_at
+timeout_read rest no_timeout plain pointless ends = rw plain refl
+timeout_read rest (whole {digits} are) plain pointless ends = whole_read digits rest are pointless ends
+timeout_read rest (fraction digits {parts} all few are) plain pointless ends =
+    ap seconds_at (append_assoc digits (46 ∷ parts) rest) ∙ fraction_read digits parts rest all few are ends
 
 timeout_breaks : {ending : List ℕ} (rest : List ℕ) → IsTimeout ending → IsReferenceBreak rest → IsReferenceBreak (ending ++ rest)
 timeout_breaks rest no_timeout ends = ends
-timeout_breaks rest (timeout all some few) ends = refl
+timeout_breaks rest (whole are) ends = refl
+timeout_breaks rest (fraction digits all few are) ends = refl
 
 -- a sign, names and a timeout
 
@@ -232,10 +287,10 @@ locking_opens k text c rest more fewer caret open_list no_word form =
 pub locking_some : (text : List ℕ) (c : LockCommand) → IsLocking text c → 0 < length text
 locking_some text c form = rw form.parts (omega (arith, length-append form.sign (form.listed ++ form.ending), length-append form.listed form.ending, names_some form.spelled))
 
-pub locking_read : (text : List ℕ) (c : LockCommand) (rest : List ℕ) → IsLocking text c → IsReferenceBreak rest → begins_with_byte 58 rest ≡ false → Ends is_no_digit rest → locking_at (text ++ rest) ≡ Some (c, rest)
+pub locking_read : (text : List ℕ) (c : LockCommand) (rest : List ℕ) → IsLocking text c → IsReferenceBreak rest → begins_with_byte 58 rest ≡ false → begins_with_byte 46 rest ≡ false → Ends is_no_digit rest → locking_at (text ++ rest) ≡ Some (c, rest)
 unfolding locking_at
-locking_read text c rest form stops plain ends =
+locking_read text c rest form stops plain pointless ends =
     let regrouped : text ++ rest ≡ form.sign ++ (form.listed ++ (form.ending ++ rest)) = ap (λ u. u ++ rest) form.parts ∙ append_assoc form.sign (form.listed ++ form.ending) rest ∙ ap (λ u. form.sign ++ u) (append_assoc form.listed form.ending rest) in
     let behind : List ℕ = form.ending ++ rest in
     let sign = sign_read (form.listed ++ behind) form.signed (names_open 43 behind refl refl refl form.spelled) (names_open 45 behind refl refl refl form.spelled) in
-    rw (regrouped, sign.0, sign.1, names_read behind form.spelled (timeout_breaks rest form.timed stops), timeout_read rest form.timed plain ends, form.asked) refl
+    rw (regrouped, sign.0, sign.1, names_read behind form.spelled (timeout_breaks rest form.timed stops), timeout_read rest form.timed plain pointless ends, form.asked) refl

@@ -15,7 +15,7 @@ invariant-loop-level l = record {
   level : l.level ≡ level_behind 1 l.block.commands.items;
   one : IsOneBlock 1 l.block.commands.items;
   rest : length l.block.rest.now ≤ length l.fn.lines;
-  asked : AreInFront l.fn.job (lines_of_script l.fn.lines) (lines_of_script l.block.rest.now) l.block.places.items l.block.commands.items;
+  asked : AreInFront l.fn.job (lines_of_script l.fn.lines) (lines_of_script l.block.rest.now) l.block.places.items l.block.commands.items l.block.musts.items;
 }
 
 abbrev pub decreases-loop-level : goal.decreases-loop-level

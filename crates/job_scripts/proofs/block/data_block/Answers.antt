@@ -13,7 +13,7 @@ lines-init c = record {
   few = omega (arith, ap length c.in_ok-begin.ensures.places);
   rest = search rules;
   asked = λ line asks.
-      subst (λ (bytes : List ℕ). AreInFront c.args.job (line ∷ lines_of_script bytes) (lines_of_script c.begin.new.self.rest.now) c.begin.new.self.places.items c.begin.new.self.commands.items) c.new-block.ensures.1.1 (c.in_ok-begin.ensures.asked c.args.job line asks);
+      subst (λ (bytes : List ℕ). AreInFront c.args.job (line ∷ lines_of_script bytes) (lines_of_script c.begin.new.self.rest.now) c.begin.new.self.places.items c.begin.new.self.commands.items c.begin.new.self.musts.items) c.new-block.ensures.1.1.1 (c.in_ok-begin.ensures.asked c.args.job line asks);
 }
 
 pub lines-preserved-in-Continue-branch-2 : goal.lines-preserved-in-Continue-branch-2

@@ -13,7 +13,7 @@ invariant-lines l = record {
   accesses : All (λ (c : Command). (d : DataCommand) × (c ≡ Access d)) l.block.commands.items;
   few : length l.block.places.items ≤ max 1 l.fn.most;
   rest : length l.block.rest.now ≤ length l.fn.lines;
-  asked : (line : List ℕ) → Asks l.fn.job line (Access l.fn.first) → AreInFront l.fn.job (line ∷ lines_of_script l.fn.lines) (lines_of_script l.block.rest.now) l.block.places.items l.block.commands.items;
+  asked : (line : List ℕ) → Asks l.fn.job line (Access l.fn.first) → AreInFront l.fn.job (line ∷ lines_of_script l.fn.lines) (lines_of_script l.block.rest.now) l.block.places.items l.block.commands.items l.block.musts.items;
 }
 
 abbrev pub decreases-lines : goal.decreases-lines
