@@ -9,7 +9,7 @@ use command::{Command, DataCommand};
 use job_core::JobCore;
 use pin_board::{Blank, BoardName, SEATS};
 use script::{Drafts, read_line};
-use shared_engine::{Session, Shared};
+use shared_engine::{Session, Shared, Turn};
 use std::alloc::{AllocError, Global};
 use std::marker::Brand;
 use std::sync::Wait;
@@ -206,7 +206,7 @@ fn end_it<B: BoardName, R: Wait>(
     commits: bool,
 ) -> Option<()> {
     if commits && session.tlevel() == 1 {
-        engine.tcommit(rt, session).ok()?;
+        engine.tcommit(rt, session, &mut Turn::NotDue).ok()?;
     }
     if session.tlevel() == 0 {
         return Some(());

@@ -83,7 +83,7 @@ takes_slip_at seats id m is one = subst (λ (v : SeatState). Splits (BoardRule s
 
 pub adds_at : (seats id other : ℕ) (m n : SeatState) → IsTally m → IsSlip n → Joins (BoardRule seats) id m.0 other n.0 (added_of m.0 n.0) nobody
 adds_at seats id other m n is there = subst (λ (x : SeatState). Joins (BoardRule seats) id m.0 other x.0 (added_of m.0 x.0) nobody) (sym there)
-    (subst (λ (z : SeatState). Joins (BoardRule seats) id z.0 other (slip_only n.0.back) (added_of z.0 (slip_only n.0.back)) nobody) (sym is) (adds_kept seats id other (desk_in m.0) m.0.slips m.0.back n.0.back))
+    (subst (λ (z : SeatState). Joins (BoardRule seats) id z.0 other (slip_only n.0.back n.0.known) (added_of z.0 (slip_only n.0.back n.0.known)) nobody) (sym is) (adds_kept seats id other (desk_in m.0) m.0.slips m.0.back n.0.back m.0.known n.0.known))
 
 pub learns_at : (seats slots id : ℕ) (m : SeatState) → IsTally m → Allows (BoardRule seats) slots id m 0 (λ n. n) (learns (step slots 0 0 0 none) m)
-learns_at seats slots id m is = subst (λ (v : SeatState). Allows (BoardRule seats) slots id v 0 (λ n. n) (learns (step slots 0 0 0 none) v)) (sym is) (learns_kept seats slots id (desk_in m.0) m.0.slips m.0.back)
+learns_at seats slots id m is = subst (λ (v : SeatState). Allows (BoardRule seats) slots id v 0 (λ n. n) (learns (step slots 0 0 0 none) v)) (sym is) (learns_kept seats slots id (desk_in m.0) m.0.slips m.0.back m.0.known)

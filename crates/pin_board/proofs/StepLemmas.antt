@@ -5,6 +5,8 @@ use Rattle.std.proofs.lemmas.Option.{none-some}
 use Rattle.std.proofs.lemmas.List.{take_all, take-append-le, append-nil}
 use Rattle.std.proofs.lemmas.List.Sums.{fold-append}
 use Rattle.std.specs.List.{fold}
+use Rattle.std.proofs.lemmas.List.Elements.{All-nil, All-push}
+use Rattle.journal.specs.declared.unit.Unit.{Unit as JournalUnit}
 use mathlib.Core.Logic.{dite}
 use mathlib.Core.Option.{some, none, some-injective, some-ne-none}
 use native.Mathlib.Decide.{ℕ_discrete}
@@ -17,9 +19,9 @@ use Rattle.journal.specs.Kept.{Claim}
 use Rattle.pin_board.specs.declared.view.DeskView.{DeskView}
 use Rattle.pin_board.specs.declared.view.PinView.{PinView}
 use Rattle.pin_board.specs.declared.view.SeatView.{SeatView}
-use Rattle.pin_board.specs.Slips.{AreInJournal, IsNext, SlipFacts, SlipsAddUp}
-use Rattle.pin_board.proofs.SlipLemmas.{slips_same, slips_given, slips_written, slips_beside, slips_off, slips_joined, slips_all, slips_few, writes_nothing}
-use Rattle.pin_board.specs.Views.{idle, least, new_desk, new_pin, desk_only, pin_only, pin_with_desk, slip_only, tally_only, nobody, starting, desk_or, pin_or, clocked, stored, checked, rested, began, lifted, passed, drew, dealt_one, logged, wrote, rebased, settled_now, gave, with_slip, without_slip}
+use Rattle.pin_board.specs.Slips.{AreInJournal, IsBeginning, IsNext, SlipFacts, SlipsAddUp}
+use Rattle.pin_board.proofs.SlipLemmas.{slips_same, slips_given, slips_written, slips_beside, slips_off, slips_joined, slips_all, slips_few, writes_nothing, begins_itself, begins_longer}
+use Rattle.pin_board.specs.Views.{idle, least, new_desk, new_pin, desk_only, pin_only, pin_with_desk, slip_only, tally_only, nobody, starting, desk_or, pin_or, clocked, stored, checked, rested, began, lifted, passed, drew, dealt_one, logged, wrote, rebased, aware, settled_now, gave, with_slip, without_slip}
 use Rattle.pin_board.specs.Rule.{slot_word, DeskFacts, IsSettled, PinFacts, SeatFacts, BoardRule}
 use Rattle.pin_board.specs.Steps.{clocks, stores, checks, rests, begins, lifts, passes, draws, writes, rebases, settles, meets, gives_slip, learns}
 
@@ -64,7 +66,7 @@ module _ (ws : List ℕ) (owner : ℕ → ℕ) (keeper : ℕ) (d : DeskView) (j 
 
 -- a word other than its slot changes nothing that a session's seat is right about
 same_slot : (ws ws' : List ℕ) (owner : ℕ → ℕ) (d : DeskView) (j : ℕ) (q : PinView) → get_or ws' (slot_word q.place) 0 ≡ get_or ws (slot_word q.place) 0 → PinFacts ws owner d j q → PinFacts ws' owner d j q
-same_slot ws ws' owner d j q same k = record { placed = k.placed; alone = k.alone; held = same ∙ k.held; before = k.before; base = k.base; settled = k.settled }
+same_slot ws ws' owner d j q same k = record { placed = k.placed; alone = k.alone; held = same ∙ k.held; before = k.before; base = k.base; seen = k.seen; settled = k.settled }
 
 same_desk : (ws ws' : List ℕ) (d : DeskView) → get_or ws' 0 0 ≡ get_or ws 0 0 → get_or ws' 1 0 ≡ get_or ws 1 0 → ((i : ℕ) → d.dealt ≤ i → i < d.seats → get_or ws' (slot_word i) 0 ≡ get_or ws (slot_word i) 0) → DeskFacts ws d → DeskFacts ws' d
 same_desk ws ws' d c g same k = let f : get_or ws 1 0 ≤ get_or ws' 1 0 = omega arith in record {
@@ -98,7 +100,7 @@ module _ (seats slots id : ℕ) (p : PinView) (s : St) (r : BoardRule seats s) (
   own_at = (r.each id (pin_only p) at).pins p refl
 
   pin_slips : (p' : PinView) → p'.slips ≡ p.slips → p'.mine ≡ p.mine → SlipsAddUp r.desk.log r.desk.given (set s.views id (pin_only p'))
-  pin_slips p' a b = slips_same r.desk.log r.desk.given s.views id (pin_only p) r.slips at (pin_only p') (ap (λ n. n + 0) a) b
+  pin_slips p' a b = slips_same r.desk.log r.desk.given s.views id (pin_only p) r.slips at (pin_only p') (ap (λ n. n + 0) a) b refl
 
   pin_in_journal : AreInJournal r.desk.log p.mine
   pin_in_journal = (r.slips.writes id (pin_only p) at).in_journal
@@ -129,8 +131,8 @@ module _ (seats slots id : ℕ) (p : PinView) where
     keeps,
     tt,
     quiet seats slots id p s r at 0 (clocked p r.desk.log)
-        (record { placed = own.placed; alone = own.alone; held = own.held; before = le_refl (length r.desk.log); base = sym (take_all (length r.desk.log) r.desk.log (le_refl (length r.desk.log))); settled = λ e. absurd (true≢false (sym e ∙ free)) }) refl refl,
-    (refl, sym now, pin_in_journal seats slots id p s r at),
+        (record { placed = own.placed; alone = own.alone; held = own.held; before = le_refl (length r.desk.log); base = sym (take_all (length r.desk.log) r.desk.log (le_refl (length r.desk.log))); seen = own.seen; settled = λ e. absurd (true≢false (sym e ∙ free)) }) refl refl,
+    (refl, sym now, pin_in_journal seats slots id p s r at, own.seen),
   )
 
   pub stores_kept : (x : ℕ) → p.settled ≡ false → Allows (BoardRule seats) slots id (pin_only p, []) (slot_word p.place) (λ _. x) (λ _. stores (step slots (slot_word p.place) x 0 none) (pin_only p, []) x)
@@ -139,7 +141,7 @@ module _ (seats slots id : ℕ) (p : PinView) where
     keeps,
     tt,
     slot_step seats slots id p s r at x (stored p x)
-        (record { placed = own.placed; alone = own.alone; held = get_or-set_same s.words (slot_word p.place) x 0 (omega arith); before = own.before; base = own.base; settled = λ e. absurd (true≢false (sym e ∙ free)) }) refl refl,
+        (record { placed = own.placed; alone = own.alone; held = get_or-set_same s.words (slot_word p.place) x 0 (omega arith); before = own.before; base = own.base; seen = own.seen; settled = λ e. absurd (true≢false (sym e ∙ free)) }) refl refl,
     refl,
   )
 
@@ -149,7 +151,7 @@ module _ (seats slots id : ℕ) (p : PinView) where
     keeps,
     tt,
     slot_step seats slots id p s r at idle (rested p)
-        (record { placed = own.placed; alone = own.alone; held = get_or-set_same s.words (slot_word p.place) idle 0 (omega arith); before = own.before; base = own.base; settled = λ e. absurd (true≢false (sym e)) }) refl refl,
+        (record { placed = own.placed; alone = own.alone; held = get_or-set_same s.words (slot_word p.place) idle 0 (omega arith); before = own.before; base = own.base; seen = own.seen; settled = λ e. absurd (true≢false (sym e)) }) refl refl,
     refl,
   )
 
@@ -165,22 +167,23 @@ module _ (seats slots id : ℕ) (p : PinView) where
       own : PinFacts s.words r.owner r.desk id p
       own = own_at seats slots id p s r at
 
-      same_slips : (b : Bool) → (cond b (record p { refused = p.refused + 1 }) (record p { settled = true })).slips ≡ p.slips
+      same_slips : (b : Bool) → (cond b (record p { refused = p.refused + 1 }) (record p { settled = true; seen = p.base })).slips ≡ p.slips
       same_slips true = refl
       same_slips false = refl
 
-      same_mine : (b : Bool) → (cond b (record p { refused = p.refused + 1 }) (record p { settled = true })).mine ≡ p.mine
+      same_mine : (b : Bool) → (cond b (record p { refused = p.refused + 1 }) (record p { settled = true; seen = p.base })).mine ≡ p.mine
       same_mine true = refl
       same_mine false = refl
 
-      go : (b : Bool) → ltb (length p.base) (get_or s.words 1 0) ≡ b → PinFacts s.words r.owner r.desk id (cond b (record p { refused = p.refused + 1 }) (record p { settled = true }))
-      go true e = record { placed = own.placed; alone = own.alone; held = own.held; before = own.before; base = own.base; settled = λ t. absurd (true≢false (sym t ∙ free)) }
+      go : (b : Bool) → ltb (length p.base) (get_or s.words 1 0) ≡ b → PinFacts s.words r.owner r.desk id (cond b (record p { refused = p.refused + 1 }) (record p { settled = true; seen = p.base }))
+      go true e = record { placed = own.placed; alone = own.alone; held = own.held; before = own.before; base = own.base; seen = own.seen; settled = λ t. absurd (true≢false (sym t ∙ free)) }
       go false e = let low = ltb-false (length p.base) (get_or s.words 1 0) e in let hf = r.desk_ok.high_floor in record {
         placed = own.placed;
         alone = own.alone;
         held = own.held;
         before = own.before;
         base = own.base;
+        seen = record { within = own.before; is = own.base };
         settled = λ _. record {
           within = omega arith;
           high = omega arith;
@@ -209,7 +212,7 @@ module _ (seats slots id : ℕ) (d : DeskView) (s : St) (r : BoardRule seats s) 
       → SlipsAddUp d'.log d'.given s.views → BoardRule seats record { words = ws; homes = s.homes; views = set s.views id (desk_only d') }
   desk_step d' ws as_wide many ok pins sums = keeps_rule seats s r id (desk_only d') ws d' as_wide many ok (knows_desk ws r.owner r.keeper d' id here_is.0)
       (λ j u o e. record { desks = λ x ex. absurd (o (((r.each j u e).desks x ex).0 ∙ sym here_is.0)); pins = λ q eq. pins j q (pin_at j u q e eq) })
-      (slips_same d'.log d'.given s.views id (desk_only d) sums at (desk_only d') refl refl)
+      (slips_same d'.log d'.given s.views id (desk_only d) sums at (desk_only d') refl refl refl)
 
   desk_quiet : (i : ℕ) (d' : DeskView) → d'.seats ≡ seats → DeskFacts s.words d' → ((j : ℕ) (q : PinView) → PinFacts s.words r.owner d j q → PinFacts s.words r.owner d' j q)
       → SlipsAddUp d'.log d'.given s.views → BoardRule seats record { words = set s.words i (get_or s.words i 0); homes = s.homes; views = set s.views id (desk_only d') }
@@ -223,7 +226,7 @@ module _ (seats slots id : ℕ) (d : DeskView) where
     tt,
     desk_quiet seats slots id d s r at 0 (began d n) (as_many seats slots id d s r at)
         (record { clock_is = k.clock_is; dealt = k.dealt; vacant = k.vacant; raised = λ e. absurd (true≢false (sym e)); not_yet = λ _. refl; high_floor = k.high_floor; read_now = omega arith; high_now = k.high_now; floor_is = k.floor_is; floor_now = k.floor_now })
-        (λ j q o. record { placed = o.placed; alone = o.alone; held = o.held; before = o.before; base = o.base; settled = λ e. let z = o.settled e in record { within = z.within; high = z.high; passed = λ l. absurd (omega arith) } })
+        (λ j q o. record { placed = o.placed; alone = o.alone; held = o.held; before = o.before; base = o.base; seen = o.seen; settled = λ e. let z = o.settled e in record { within = z.within; high = z.high; passed = λ l. absurd (omega arith) } })
         (desk_slips seats slots id d s r at),
     (refl, k.clock_is),
   )
@@ -248,7 +251,7 @@ module _ (seats slots id : ℕ) (d : DeskView) where
               floor_is = here ∙ ap (λ (n : ℕ). max n d.read) k.floor_is;
               floor_now = omega arith;
             })
-            (λ j q o. record { placed = o.placed; alone = o.alone; held = get_or-set_other s.words 1 (slot_word q.place) x 0 (omega arith) ∙ o.held; before = o.before; base = o.base; settled = λ e. let z = o.settled e in record { within = z.within; high = z.high; passed = z.passed } })
+            (λ j q o. record { placed = o.placed; alone = o.alone; held = get_or-set_other s.words 1 (slot_word q.place) x 0 (omega arith) ∙ o.held; before = o.before; base = o.base; seen = o.seen; settled = λ e. let z = o.settled e in record { within = z.within; high = z.high; passed = z.passed } })
             (desk_slips seats slots id d s r at),
         refl,
       )
@@ -266,6 +269,7 @@ module _ (seats slots id : ℕ) (d : DeskView) where
           held = o.held;
           before = o.before;
           base = o.base;
+          seen = o.seen;
           settled = λ e. let z = o.settled e in record {
             within = z.within;
             high = z.high;
@@ -314,6 +318,7 @@ module _ (seats slots id : ℕ) (d : DeskView) where
               held = o.held;
               before = o.before;
               base = o.base;
+              seen = o.seen;
               settled = λ e. let z = o.settled e in record {
                 within = z.within;
                 high = (let h = z.high in let pl = o.placed in let b = z.passed (omega arith) in omega arith);
@@ -372,7 +377,7 @@ deals_kept seats id d more s r at = record {
       (knows_desk s.words owner' r.keeper (dealt_one d) id here.0)
       (knows_pin s.words owner' r.keeper (dealt_one d) (length views) (new_pin d.dealt) fresh)
       (λ j u o e. record { desks = λ x ex. absurd (o (((r.each j u e).desks x ex).0 ∙ sym here.0)); pins = λ q eq. old j q (pin_at seats 0 id d s r at j u q e eq) });
-  slips = slips_beside d.log d.given s.views id (desk_only d) (desk_slips seats 0 id d s r at) at (desk_only (dealt_one d)) (pin_only (new_pin d.dealt)) refl refl refl refl;
+  slips = slips_beside d.log d.given s.views id (desk_only d) (desk_slips seats 0 id d s r at) at (desk_only (dealt_one d)) (pin_only (new_pin d.dealt)) refl refl refl refl refl refl;
 }
   where
     here : (id ≡ r.keeper) × (d ≡ r.desk)
@@ -388,7 +393,7 @@ deals_kept seats id d more s r at = record {
     owner' = put r.owner d.dealt (length views)
 
     fresh : PinFacts s.words owner' (dealt_one d) (length views) (new_pin d.dealt)
-    fresh = record { placed = omega arith; alone = put_here r.owner d.dealt (length views); held = k.vacant d.dealt (le_refl d.dealt) (let m = as_many seats 0 id d s r at in omega arith); before = omega arith; base = refl; settled = λ e. absurd (true≢false (sym e)) }
+    fresh = record { placed = omega arith; alone = put_here r.owner d.dealt (length views); held = k.vacant d.dealt (le_refl d.dealt) (let m = as_many seats 0 id d s r at in omega arith); before = omega arith; base = refl; seen = record { within = omega arith; is = refl }; settled = λ e. absurd (true≢false (sym e)) }
 
     old : (j : ℕ) (q : PinView) → PinFacts s.words r.owner d j q → PinFacts s.words owner' (dealt_one d) j q
     old j q o = let pl = o.placed in record {
@@ -397,6 +402,7 @@ deals_kept seats id d more s r at = record {
       held = o.held;
       before = o.before;
       base = o.base;
+      seen = o.seen;
       settled = λ e. let z = o.settled e in record { within = z.within; high = z.high; passed = z.passed };
     }
 
@@ -411,7 +417,7 @@ lends_kept seats id other p d s r at apart there = record {
   desk_ok = desk_at seats 0 other d s r was;
   each = all_set K (set s.views id (pin_with_desk d p)) other nobody (knows_nobody s.words r.owner id d other)
       (λ j u o e. first j u e o);
-  slips = slips_joined d.log d.given s.views id (pin_only p) (desk_slips seats 0 other d s r was) at other (pin_with_desk d p) (desk_only d) nobody apart there (omega arith) (sym (append-nil p.mine)) refl refl;
+  slips = slips_joined d.log d.given s.views id (pin_only p) (desk_slips seats 0 other d s r was) at other (pin_with_desk d p) (desk_only d) nobody apart there (omega arith) (sym (append-nil p.mine)) refl refl refl refl;
 }
   where
     was : get_elem? s.views other ≡ some (desk_only d)
@@ -476,12 +482,13 @@ module _ (seats slots id : ℕ) (d : DeskView) (p : PinView) where
         held = get_or-set_other s.words 0 (slot_word q.place) x 0 (omega arith) ∙ o.held;
         before = (let b = o.before in omega (arith, len));
         base = o.base ∙ sym (take-append-le (length q.base) d.log (c.unit ∷ []) o.before);
+        seen = begins_longer d.log (c.unit ∷ []) q.seen o.seen;
         settled = λ e. let z = o.settled e in record { within = z.within; high = z.high; passed = z.passed };
       } in (
-        pin_with_desk (logged d c) (wrote p c),
+        pin_with_desk (logged d c) (wrote d p c),
         keeps,
         tt,
-        both_step seats slots id d p s r at (logged d c) (wrote p c) ws (length-set s.words 0 x) (both_many seats slots id d p s r at)
+        both_step seats slots id d p s r at (logged d c) (wrote d p c) ws (length-set s.words 0 x) (both_many seats slots id d p s r at)
             (record {
               clock_is = get_or-set_same s.words 0 x 0 (omega arith) ∙ (hit ∙ (then ∙ sym len));
               dealt = k.dealt;
@@ -494,10 +501,10 @@ module _ (seats slots id : ℕ) (d : DeskView) (p : PinView) where
               floor_is = f ∙ k.floor_is;
               floor_now = omega (arith, len);
             })
-            (let g = grown id p own in record { placed = g.placed; alone = g.alone; held = g.held; before = g.before; base = g.base; settled = λ e. let z = own.settled e in record { within = z.within; high = z.high; passed = z.passed } })
+            (let g = grown id p own in record { placed = g.placed; alone = g.alone; held = g.held; before = g.before; base = g.base; seen = begins_itself (d.log ++ c.unit ∷ []); settled = λ e. let z = own.settled e in record { within = z.within; high = z.high; passed = z.passed } })
             grown
-            (slips_written d.log d.given s.views id (pin_with_desk d p) (both_slips seats slots id d p s r at) at (pin_with_desk (logged d c) (wrote p c)) c next (omega arith) refl refl),
-        (refl, both_in_journal seats slots id d p s r at, own.placed),
+            (slips_written d.log d.given s.views id (pin_with_desk d p) (both_slips seats slots id d p s r at) at (pin_with_desk (logged d c) (wrote d p c)) c next (omega arith) refl refl refl),
+        (refl, both_in_journal seats slots id d p s r at, own.placed, own.seen),
       )
 
   pub rebases_kept : Allows (BoardRule seats) slots id (pin_with_desk d p, []) 0 (λ n. n) (rebases (step slots 0 0 0 none) (pin_with_desk d p, []))
@@ -508,10 +515,10 @@ module _ (seats slots id : ℕ) (d : DeskView) (p : PinView) where
         tt,
         subst (λ (ws : List ℕ). BoardRule seats record { words = ws; homes = s.homes; views = set s.views id (pin_with_desk d (rebased d p)) }) (sym (set-get_or s.words 0 0))
             (both_step seats slots id d p s r at d (rebased d p) s.words refl (both_many seats slots id d p s r at) k
-            (record { placed = own.placed; alone = own.alone; held = own.held; before = le_refl (length d.log); base = sym (take_all (length d.log) d.log (le_refl (length d.log))); settled = λ e. let z = own.settled e in let y = z.within in record { within = omega arith; high = z.high; passed = z.passed } })
+            (record { placed = own.placed; alone = own.alone; held = own.held; before = le_refl (length d.log); base = sym (take_all (length d.log) d.log (le_refl (length d.log))); seen = begins_itself d.log; settled = λ e. let z = own.settled e in let y = z.within in record { within = omega arith; high = z.high; passed = z.passed } })
             (λ j q o. o)
-            (slips_same d.log d.given s.views id (pin_with_desk d p) (both_slips seats slots id d p s r at) at (pin_with_desk d (rebased d p)) refl refl)),
-        (refl, k.clock_is, record { below = λ e. let z = own.settled e in le_trans z.high z.within; slot = λ e. let z = own.settled e in (z.high, z.within); before = own.before; base = own.base; mine = both_in_journal seats slots id d p s r at; high = k.high_now; floor = k.floor_now }),
+            (slips_same d.log d.given s.views id (pin_with_desk d p) (both_slips seats slots id d p s r at) at (pin_with_desk d (rebased d p)) refl refl refl)),
+        (refl, k.clock_is, record { below = λ e. let z = own.settled e in le_trans z.high z.within; slot = λ e. let z = own.settled e in (z.high, z.within); before = own.before; base = own.base; mine = both_in_journal seats slots id d p s r at; seen = own.seen; high = k.high_now; floor = k.floor_now }),
       )
 
   -- no draw goes on meanwhile: the least so far is not above the clock
@@ -532,6 +539,7 @@ module _ (seats slots id : ℕ) (d : DeskView) (p : PinView) where
               held = get_or-set_same s.words (slot_word p.place) x 0 (omega arith) ∙ now;
               before = le_refl (length d.log);
               base = sym (take_all (length d.log) d.log (le_refl (length d.log)));
+              seen = begins_itself d.log;
               settled = λ _. record { within = le_refl (length d.log); high = k.high_now; passed = λ l. le_trans (fold_min_le d.read d.loaded) k.read_now };
             }))
             (λ j u o e. record {
@@ -540,34 +548,36 @@ module _ (seats slots id : ℕ) (d : DeskView) (p : PinView) where
                   let apart : q.place ≢ p.place = λ (same : q.place ≡ p.place). o (sym f.alone ∙ ap r.owner same ∙ own.alone) in
                   same_slot s.words ws r.owner d j q (get_or-set_other s.words (slot_word p.place) (slot_word q.place) x 0 (omega arith)) f;
             })
-            (slips_same d.log d.given s.views id (pin_with_desk d p) (both_slips seats slots id d p s r at) at (pin_with_desk d p') refl refl),
+            (slips_same d.log d.given s.views id (pin_with_desk d p) (both_slips seats slots id d p s r at) at (pin_with_desk d p') refl refl refl),
         refl,
       )
 
   pub meets_kept : Allows (BoardRule seats) slots id (pin_with_desk d p, []) 0 (λ n. n) (meets (step slots 0 0 0 none) (pin_with_desk d p, []))
   meets_kept s r deep at small =
       let k = both_desk seats slots id d p s r at in let own = both_own seats slots id d p s r at in (
-        pin_with_desk d p,
+        pin_with_desk d (aware d p),
         keeps,
         tt,
-        subst (λ (ws : List ℕ). BoardRule seats record { words = ws; homes = s.homes; views = set s.views id (pin_with_desk d p) }) (sym (set-get_or s.words 0 0))
-            (both_step seats slots id d p s r at d p s.words refl (both_many seats slots id d p s r at) k own (λ j q o. o)
-            (slips_same d.log d.given s.views id (pin_with_desk d p) (both_slips seats slots id d p s r at) at (pin_with_desk d p) refl refl)),
-        (refl, record { below = λ e. let z = own.settled e in le_trans z.high z.within; slot = λ e. let z = own.settled e in (z.high, z.within); before = own.before; base = own.base; mine = both_in_journal seats slots id d p s r at; high = k.high_now; floor = k.floor_now }),
+        subst (λ (ws : List ℕ). BoardRule seats record { words = ws; homes = s.homes; views = set s.views id (pin_with_desk d (aware d p)) }) (sym (set-get_or s.words 0 0))
+            (both_step seats slots id d p s r at d (aware d p) s.words refl (both_many seats slots id d p s r at) k
+            (record { placed = own.placed; alone = own.alone; held = own.held; before = own.before; base = own.base; seen = begins_itself d.log; settled = λ e. let z = own.settled e in record { within = z.within; high = z.high; passed = z.passed } })
+            (λ j q o. o)
+            (slips_same d.log d.given s.views id (pin_with_desk d p) (both_slips seats slots id d p s r at) at (pin_with_desk d (aware d p)) refl refl refl)),
+        (refl, record { below = λ e. let z = own.settled e in le_trans z.high z.within; slot = λ e. let z = own.settled e in (z.high, z.within); before = own.before; base = own.base; mine = both_in_journal seats slots id d p s r at; seen = own.seen; high = k.high_now; floor = k.floor_now }),
       )
 
   pub gives_slip_kept : p.slips ≡ 0 → Allows (BoardRule seats) slots id (pin_with_desk d p, []) 0 (λ n. n) (gives_slip (step slots 0 0 0 none) (pin_with_desk d p, []))
   gives_slip_kept free s r deep at small =
       let k = both_desk seats slots id d p s r at in let own = both_own seats slots id d p s r at in (
-        pin_with_desk (gave d) (with_slip p),
+        pin_with_desk (gave d) (with_slip d p),
         keeps,
         tt,
-        subst (λ (ws : List ℕ). BoardRule seats record { words = ws; homes = s.homes; views = set s.views id (pin_with_desk (gave d) (with_slip p)) }) (sym (set-get_or s.words 0 0))
-            (both_step seats slots id d p s r at (gave d) (with_slip p) s.words refl (both_many seats slots id d p s r at)
+        subst (λ (ws : List ℕ). BoardRule seats record { words = ws; homes = s.homes; views = set s.views id (pin_with_desk (gave d) (with_slip d p)) }) (sym (set-get_or s.words 0 0))
+            (both_step seats slots id d p s r at (gave d) (with_slip d p) s.words refl (both_many seats slots id d p s r at)
             (record { clock_is = k.clock_is; dealt = k.dealt; vacant = k.vacant; raised = k.raised; not_yet = k.not_yet; high_floor = k.high_floor; read_now = k.read_now; high_now = k.high_now; floor_is = k.floor_is; floor_now = k.floor_now })
-            (record { placed = own.placed; alone = own.alone; held = own.held; before = own.before; base = own.base; settled = λ e. let z = own.settled e in record { within = z.within; high = z.high; passed = z.passed } })
-            (λ j q o. record { placed = o.placed; alone = o.alone; held = o.held; before = o.before; base = o.base; settled = λ e. let z = o.settled e in record { within = z.within; high = z.high; passed = z.passed } })
-            (slips_given d.log d.given s.views id (pin_with_desk d p) (both_slips seats slots id d p s r at) at (pin_with_desk (gave d) (with_slip p)) (omega arith) refl)),
+            (record { placed = own.placed; alone = own.alone; held = own.held; before = own.before; base = own.base; seen = begins_itself d.log; settled = λ e. let z = own.settled e in record { within = z.within; high = z.high; passed = z.passed } })
+            (λ j q o. record { placed = o.placed; alone = o.alone; held = o.held; before = o.before; base = o.base; seen = o.seen; settled = λ e. let z = o.settled e in record { within = z.within; high = z.high; passed = z.passed } })
+            (slips_given d.log d.given s.views id (pin_with_desk d p) (both_slips seats slots id d p s r at) at (pin_with_desk (gave d) (with_slip d p)) (omega arith) refl refl)),
         refl,
       )
 
@@ -584,11 +594,11 @@ gives_back_kept seats id d p s r at = record {
       (knows_pin s.words r.owner (length (set s.views id (pin_only p))) d id p (both_own seats 0 id d p s r at))
       (knows_desk s.words r.owner (length (set s.views id (pin_only p))) d (length (set s.views id (pin_only p))) refl)
       (λ j u o e. record { desks = λ x ex. absurd (o (((r.each j u e).desks x ex).0 ∙ sym (both_is seats 0 id d p s r at).0)); pins = λ q eq. both_pin seats 0 id d p s r at j u q e eq });
-  slips = slips_beside d.log d.given s.views id (pin_with_desk d p) (both_slips seats 0 id d p s r at) at (pin_only p) (desk_only d) refl refl refl refl;
+  slips = slips_beside d.log d.given s.views id (pin_with_desk d p) (both_slips seats 0 id d p s r at) at (pin_only p) (desk_only d) refl refl refl refl refl refl;
 }
 
 -- a session's slip is taken off its seat
-pub takes_slip_kept : (seats id : ℕ) (p : PinView) → p.slips ≡ 1 → Splits (BoardRule seats) id (pin_only p) (pin_only (without_slip p)) (slip_only p.mine)
+pub takes_slip_kept : (seats id : ℕ) (p : PinView) → p.slips ≡ 1 → Splits (BoardRule seats) id (pin_only p) (pin_only (without_slip p)) (slip_only p.mine (p.seen ∷ []))
 takes_slip_kept seats id p one s r at = let own = own_at seats 0 id p s r at in record {
   owner = r.owner;
   keeper = r.keeper;
@@ -596,25 +606,25 @@ takes_slip_kept seats id p one s r at = let own = own_at seats 0 id p s r at in 
   seats_are = r.seats_are;
   wide = r.wide;
   desk_ok = r.desk_ok;
-  each = all_end (SeatFacts s.words r.owner r.keeper r.desk) s.views id (pin_only (without_slip p)) (slip_only p.mine)
+  each = all_end (SeatFacts s.words r.owner r.keeper r.desk) s.views id (pin_only (without_slip p)) (slip_only p.mine (p.seen ∷ []))
       (knows_pin s.words r.owner r.keeper r.desk id (without_slip p)
-      (record { placed = own.placed; alone = own.alone; held = own.held; before = own.before; base = own.base; settled = λ e. let z = own.settled e in record { within = z.within; high = z.high; passed = z.passed } }))
+      (record { placed = own.placed; alone = own.alone; held = own.held; before = own.before; base = own.base; seen = own.seen; settled = λ e. let z = own.settled e in record { within = z.within; high = z.high; passed = z.passed } }))
       (record { desks = λ x e. absurd (none-some x e); pins = λ q e. absurd (none-some q e) })
       (λ j u o e. r.each j u e);
-  slips = slips_off r.desk.log r.desk.given s.views id (pin_only p) r.slips at (pin_only (without_slip p)) (slip_only p.mine) (omega arith) refl refl refl;
+  slips = slips_off r.desk.log r.desk.given s.views id (pin_only p) r.slips at (pin_only (without_slip p)) (slip_only p.mine (p.seen ∷ [])) (omega arith) refl refl refl (All-push (IsBeginning r.desk.log) [] p.seen (All-nil (IsBeginning r.desk.log)) own.seen) refl;
 }
 
 -- the desk at the end, with slips
-module _ (seats id : ℕ) (d : DeskView) (n : ℕ) (back : List Claim) (s : St) (r : BoardRule seats s) (at : get_elem? s.views id ≡ some (tally_only d n back)) where
+module _ (seats id : ℕ) (d : DeskView) (n : ℕ) (back : List Claim) (known : List (List JournalUnit)) (s : St) (r : BoardRule seats s) (at : get_elem? s.views id ≡ some (tally_only d n back known)) where
   tally_is : (id ≡ r.keeper) × (d ≡ r.desk)
-  tally_is = (r.each id (tally_only d n back) at).desks d refl
+  tally_is = (r.each id (tally_only d n back known) at).desks d refl
 
   tally_slips : SlipsAddUp d.log d.given s.views
   tally_slips = subst (λ (x : DeskView). SlipsAddUp x.log x.given s.views) (sym tally_is.1) r.slips
 
 -- a slip comes back
-pub adds_kept : (seats id other : ℕ) (d : DeskView) (n : ℕ) (back mine : List Claim) → Joins (BoardRule seats) id (tally_only d n back) other (slip_only mine) (tally_only d (n + 1) (back ++ mine)) nobody
-adds_kept seats id other d n back mine s r at apart there = record {
+pub adds_kept : (seats id other : ℕ) (d : DeskView) (n : ℕ) (back mine : List Claim) (known more : List (List JournalUnit)) → Joins (BoardRule seats) id (tally_only d n back known) other (slip_only mine more) (tally_only d (n + 1) (back ++ mine) (known ++ more)) nobody
+adds_kept seats id other d n back mine known more s r at apart there = record {
   owner = r.owner;
   keeper = r.keeper;
   desk = r.desk;
@@ -624,26 +634,26 @@ adds_kept seats id other d n back mine s r at apart there = record {
   each = all_set K (set s.views id both) other nobody (knows_nobody s.words r.owner r.keeper r.desk other)
       (λ j u _ e. all_set K s.views id both (record { desks = λ x ex. (here.0, sym (ap desk_or ex) ∙ here.1); pins = λ q eq. absurd (none-some q eq) }) (λ a v _ ea. r.each a v ea) j u e);
   slips = subst (λ (x : DeskView). SlipsAddUp x.log x.given (set (set s.views id both) other nobody)) here.1
-      (slips_joined d.log d.given s.views id (tally_only d n back) (tally_slips seats id d n back s r at) at other both (slip_only mine) nobody apart there refl refl refl refl);
+      (slips_joined d.log d.given s.views id (tally_only d n back known) (tally_slips seats id d n back known s r at) at other both (slip_only mine more) nobody apart there refl refl refl refl refl refl);
 }
   where
     both : SeatView
-    both = tally_only d (n + 1) (back ++ mine)
+    both = tally_only d (n + 1) (back ++ mine) (known ++ more)
 
     K : ℕ → SeatView → Type 0
     K j u = SeatFacts s.words r.owner r.keeper r.desk j u
 
     here : (id ≡ r.keeper) × (d ≡ r.desk)
-    here = tally_is seats id d n back s r at
+    here = tally_is seats id d n back known s r at
 
-pub learns_kept : (seats slots id : ℕ) (d : DeskView) (n : ℕ) (back : List Claim) → Allows (BoardRule seats) slots id (tally_only d n back, []) 0 (λ n. n) (learns (step slots 0 0 0 none) (tally_only d n back, []))
-learns_kept seats slots id d n back s r deep at small =
-    let k = tally_slips seats id d n back s r at in (
-      tally_only d n back,
+pub learns_kept : (seats slots id : ℕ) (d : DeskView) (n : ℕ) (back : List Claim) (known : List (List JournalUnit)) → Allows (BoardRule seats) slots id (tally_only d n back known, []) 0 (λ n. n) (learns (step slots 0 0 0 none) (tally_only d n back known, []))
+learns_kept seats slots id d n back known s r deep at small =
+    let k = tally_slips seats id d n back known s r at in (
+      tally_only d n back known,
       keeps,
       tt,
-      subst (λ (x : List ℕ × List SeatView). BoardRule seats record { words = x.0; homes = s.homes; views = x.1 }) (λ i. (sym (set-get_or s.words 0 0) i, sym (set_again s.views id (tally_only d n back) at) i)) r,
-      (refl, ((k.writes id (tally_only d n back) at).in_journal, (λ all. slips_all d.log d.given s.views id (tally_only d n back) k at all, slips_few d.log d.given s.views id (tally_only d n back) k at))),
+      subst (λ (x : List ℕ × List SeatView). BoardRule seats record { words = x.0; homes = s.homes; views = x.1 }) (λ i. (sym (set-get_or s.words 0 0) i, sym (set_again s.views id (tally_only d n back known) at) i)) r,
+      (refl, ((k.writes id (tally_only d n back known) at).in_journal, (λ all. slips_all d.log d.given s.views id (tally_only d n back known) k at all, (slips_few d.log d.given s.views id (tally_only d n back known) k at, (k.writes id (tally_only d n back known) at).known)))),
     )
 
 single : (v u : SeatView) (j : ℕ) → get_elem? (v ∷ []) j ≡ some u → (j ≡ 0) × (v ≡ u)
@@ -661,5 +671,5 @@ opens_kept seats words wide first low empty = record {
   desk_ok = record { clock_is = first; dealt = omega arith; vacant = λ i _ b. empty i b; raised = λ e. absurd (true≢false (sym e)); not_yet = λ _. refl; high_floor = omega arith; read_now = omega arith; high_now = omega arith; floor_is = low; floor_now = omega arith };
   each = λ j u e. let t = single (starting seats) u j e in subst (λ (x : ℕ × SeatView). SeatFacts words (λ y. y) 0 (new_desk seats) x.0 x.1) (λ i. (sym t.0 i, t.1 i))
       (knows_desk words (λ y. y) 0 (new_desk seats) 0 refl);
-  slips = record { writes = λ j u e. let t = single (starting seats) u j e in subst (SlipFacts []) t.1 (writes_nothing [] (starting seats) refl); slips = refl; units = λ h. refl };
+  slips = record { writes = λ j u e. let t = single (starting seats) u j e in subst (SlipFacts []) t.1 (writes_nothing [] (starting seats) refl refl); slips = refl; units = λ h. refl };
 }

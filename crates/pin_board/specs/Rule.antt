@@ -7,7 +7,7 @@ use Rattle.journal.specs.Kept.{Claim}
 use Rattle.pin_board.specs.declared.view.DeskView.{DeskView}
 use Rattle.pin_board.specs.declared.view.PinView.{PinView}
 use Rattle.pin_board.specs.declared.view.SeatView.{SeatView}
-use Rattle.pin_board.specs.Slips.{SlipsAddUp}
+use Rattle.pin_board.specs.Slips.{IsBeginning, SlipsAddUp}
 use Rattle.pin_board.specs.Views.{idle, least}
 
 abbrev pub clock : List ℕ → ℕ
@@ -51,6 +51,7 @@ pub record PinFacts (words : List ℕ) (owner : ℕ → ℕ) (d : DeskView) (sea
   pub held : slot words p.place ≡ p.held
   pub before : length p.base ≤ length d.log
   pub base : p.base ≡ take (length p.base) d.log
+  pub seen : IsBeginning d.log p.seen
   pub settled : p.settled ≡ true → IsSettled d p
 
 -- what holds of one seat: there is one desk, and a session's seat is right

@@ -11,9 +11,18 @@ pub record Tallied : Type 0 where
   pub given : ℕ
   pub returned : ℕ
   pub back : List Claim
+  pub known : List (List JournalUnit)
 
-abbrev pub tallied : List JournalUnit → ℕ → ℕ → List Claim → Tallied
-tallied units given returned back = record { units = units; given = given; returned = returned; back = back }
+abbrev pub tallied : List JournalUnit → ℕ → ℕ → List Claim → List (List JournalUnit) → Tallied
+tallied units given returned back known = record { units = units; given = given; returned = returned; back = back; known = known }
+
+-- what is on the slip of a session that has ended: its units, and the beginning of the journal that it knew of last
+pub record Slipped : Type 0 where
+  pub mine : List Claim
+  pub known : List (List JournalUnit)
+
+abbrev pub slipped : List Claim → List (List JournalUnit) → Slipped
+slipped mine known = record { mine = mine; known = known }
 
 abbrev pub tally_of : SeatView → Tallied
-tally_of v = tallied (desk_in v).log (desk_in v).given v.slips v.back
+tally_of v = tallied (desk_in v).log (desk_in v).given v.slips v.back v.known

@@ -1,13 +1,13 @@
 -- What seats know, and how each call changes it. The contracts of the board cite this file.
 use Rattle.std.specs.Prelude.{◌≡◌, ℕ, ◌+◌, ◌≤◌, ltb, min, max, true, false, cond, List, [], ◌∷◌, ◌++◌, length, take, Option, Some, None}
-use Rattle.std.specs.List.{fold}
+use Rattle.std.specs.List.{fold, All}
 use Rattle.atomic_table.specs.Table.{Me}
 use Rattle.journal.specs.declared.unit.Unit.{Unit as JournalUnit}
 use Rattle.journal.specs.Kept.{Claim}
 use Rattle.pin_board.specs.declared.view.DeskView.{DeskView}
 use Rattle.pin_board.specs.declared.view.PinView.{PinView}
 use Rattle.pin_board.specs.declared.view.SeatView.{SeatView}
-use Rattle.pin_board.specs.Slips.{AreInJournal, AreAll}
+use Rattle.pin_board.specs.Slips.{AreInJournal, IsBeginning, AreAll}
 
 -- the word of an idle slot, which lowers no horizon
 abbrev pub idle : ℕ
@@ -25,7 +25,7 @@ abbrev pub new_desk : ℕ → DeskView
 new_desk seats = record { log = []; given = 0; high = 0; seats = seats; dealt = 0; read = 0; raised = false; floor = 0; loaded = [] }
 
 abbrev pub new_pin : ℕ → PinView
-new_pin place = record { place = place; held = idle; base = []; settled = false; refused = 0; slips = 0; mine = [] }
+new_pin place = record { place = place; held = idle; base = []; settled = false; refused = 0; slips = 0; mine = []; seen = [] }
 
 -- a session: it reads the clock, stores a stamp in its slot, loads the floor, makes its slot idle
 abbrev pub clocked : PinView → List JournalUnit → PinView
@@ -36,7 +36,7 @@ stored p x = record p { held = x }
 
 -- it is settled, unless the floor was above its stamp
 abbrev pub checked : PinView → ℕ → PinView
-checked p n = cond (ltb (length p.base) n) (record p { refused = p.refused + 1 }) (record p { settled = true })
+checked p n = cond (ltb (length p.base) n) (record p { refused = p.refused + 1 }) (record p { settled = true; seen = p.base })
 
 abbrev pub rested : PinView → PinView
 rested p = record p { held = idle; settled = false }
@@ -65,22 +65,26 @@ dealt_one d = dealing d (d.dealt + 1)
 abbrev pub logged : DeskView → Claim → DeskView
 logged d c = record d { log = d.log ++ c.unit ∷ [] }
 
-abbrev pub wrote : PinView → Claim → PinView
-wrote p c = record p { mine = p.mine ++ c ∷ [] }
+abbrev pub wrote : DeskView → PinView → Claim → PinView
+wrote d p c = record p { mine = p.mine ++ c ∷ []; seen = d.log ++ c.unit ∷ [] }
 
 abbrev pub rebased : DeskView → PinView → PinView
-rebased d p = record p { base = d.log }
+rebased d p = record p { base = d.log; seen = d.log }
+
+-- a session knows the journal of now
+abbrev pub aware : DeskView → PinView → PinView
+aware d p = record p { seen = d.log }
 
 -- under the lock a session is settled at now
 abbrev pub settled_now : DeskView → PinView → PinView
-settled_now d p = record p { base = d.log; held = length d.log; settled = true }
+settled_now d p = record p { base = d.log; held = length d.log; settled = true; seen = d.log }
 
--- a session is given a slip, which is taken off its seat when it ends
+-- a session is given a slip, which is taken off its seat when it ends; it knows the journal of now
 abbrev pub gave : DeskView → DeskView
 gave d = record d { given = d.given + 1 }
 
-abbrev pub with_slip : PinView → PinView
-with_slip p = record p { slips = 1 }
+abbrev pub with_slip : DeskView → PinView → PinView
+with_slip d p = record p { slips = 1; seen = d.log }
 
 abbrev pub without_slip : PinView → PinView
 without_slip p = record p { slips = 0; mine = [] }
@@ -93,33 +97,34 @@ pub record Met (d : DeskView) (p : PinView) : Type 0 where
   pub before : length p.base ≤ length d.log
   pub base : p.base ≡ take (length p.base) d.log
   pub mine : AreInJournal d.log p.mine
+  pub seen : IsBeginning d.log p.seen
   pub high : d.high ≤ length d.log
   pub floor : d.floor ≤ length d.log
 
 -- the units on the slips that came back are in the journal, and where all came back they are all of it; no more came back than were given
-abbrev pub Learned : DeskView → ℕ → List Claim → Type 0
-Learned d n back = AreInJournal d.log back × ((n ≡ d.given → AreAll d.log back) × (n ≤ d.given))
+abbrev pub Learned : DeskView → ℕ → List Claim → List (List JournalUnit) → Type 0
+Learned d n back known = AreInJournal d.log back × ((n ≡ d.given → AreAll d.log back) × ((n ≤ d.given) × All (IsBeginning d.log) known))
 
 -- which seat it is
 abbrev pub desk_only : DeskView → SeatView
-desk_only d = record { desk = Some d; pin = None; slips = 0; back = [] }
+desk_only d = record { desk = Some d; pin = None; slips = 0; back = []; known = [] }
 
 abbrev pub pin_only : PinView → SeatView
-pin_only p = record { desk = None; pin = Some p; slips = 0; back = [] }
+pin_only p = record { desk = None; pin = Some p; slips = 0; back = []; known = [] }
 
 abbrev pub pin_with_desk : DeskView → PinView → SeatView
-pin_with_desk d p = record { desk = Some d; pin = Some p; slips = 0; back = [] }
+pin_with_desk d p = record { desk = Some d; pin = Some p; slips = 0; back = []; known = [] }
 
 abbrev pub nobody : SeatView
-nobody = record { desk = None; pin = None; slips = 0; back = [] }
+nobody = record { desk = None; pin = None; slips = 0; back = []; known = [] }
 
 -- what a session wrote, once it has ended
-abbrev pub slip_only : List Claim → SeatView
-slip_only mine = record { desk = None; pin = None; slips = 1; back = mine }
+abbrev pub slip_only : List Claim → List (List JournalUnit) → SeatView
+slip_only mine known = record { desk = None; pin = None; slips = 1; back = mine; known = known }
 
 -- the desk at the end, with the slips that came back
-abbrev pub tally_only : DeskView → ℕ → List Claim → SeatView
-tally_only d n back = record { desk = Some d; pin = None; slips = n; back = back }
+abbrev pub tally_only : DeskView → ℕ → List Claim → List (List JournalUnit) → SeatView
+tally_only d n back known = record { desk = Some d; pin = None; slips = n; back = back; known = known }
 
 abbrev pub starting : ℕ → SeatView
 starting seats = desk_only (new_desk seats)
@@ -152,10 +157,10 @@ abbrev pub IsBoth : SeatState → Type 0
 IsBoth m = m ≡ (pin_with_desk (desk_in m.0) (pin_in m.0), [])
 
 abbrev pub IsSlip : SeatState → Type 0
-IsSlip m = m ≡ (slip_only m.0.back, [])
+IsSlip m = m ≡ (slip_only m.0.back m.0.known, [])
 
 abbrev pub IsTally : SeatState → Type 0
-IsTally m = m ≡ (tally_only (desk_in m.0) m.0.slips m.0.back, [])
+IsTally m = m ≡ (tally_only (desk_in m.0) m.0.slips m.0.back m.0.known, [])
 
 -- the seat of a place that no session has
 abbrev pub IsFree : ℕ → SeatView → Type 0

@@ -1,8 +1,9 @@
 //! The board, the desk and the seats of sessions, each tied to one table by its type.
 ghost use Rattle.std.specs.Prelude.{◌≡◌, ℕ, ◌+◌, ◌<◌, ◌≤◌, max, true, false, List, [], ◌∷◌, ◌++◌, length, take, IfOk, OnErr, Option, Some, None};
-ghost use Rattle.pin_board.specs.Slips.{AreInJournal, AreAll, IsNext};
-ghost use Rattle.pin_board.specs.Tally.{tallied};
-ghost use Rattle.pin_board.specs.Views.{starting, new_desk, new_pin, dealt_one, start_of, least, logged, wrote, rebased, settled_now, Met, gave, with_slip, without_slip, rested, idle};
+ghost use Rattle.std.specs.List.{All};
+ghost use Rattle.pin_board.specs.Slips.{AreInJournal, IsBeginning, AreAll, IsNext};
+ghost use Rattle.pin_board.specs.Tally.{tallied, slipped};
+ghost use Rattle.pin_board.specs.Views.{starting, new_desk, new_pin, dealt_one, start_of, least, logged, wrote, rebased, aware, settled_now, Met, gave, with_slip, without_slip, rested, idle};
 
 use crate::lending::lift;
 use crate::view::SeatView;
@@ -119,7 +120,8 @@ impl<B: BoardName> Model for FreeSeat<B> {
     ghost invariant = { λ s. (s.perch.table_id ≡ B.table) × (s.place * 8 + 8 < B.table.words) × IsFree s.place s.perch.view };
 }
 
-/// What a session wrote, once it has ended. It is seen as the list of its units, with their numbers.
+/// What a session wrote, once it has ended. It is seen as the list of its units, with their numbers, and the beginning
+/// of the journal that it knew of last.
 #[derive(Drop)]
 pub struct Slip<B: BoardName> {
     seat: Place,
@@ -127,13 +129,13 @@ pub struct Slip<B: BoardName> {
 }
 
 impl<B: BoardName> Model for Slip<B> {
-    ghost use Rattle.std.specs.Prelude.{◌≡◌, List};
-    ghost use Rattle.journal.specs.Kept.{Claim};
+    ghost use Rattle.std.specs.Prelude.{◌≡◌};
+    ghost use Rattle.pin_board.specs.Tally.{Slipped, slipped};
     ghost use Rattle.pin_board.specs.Views.{IsSlip};
 
-    ghost Value = { List Claim };
+    ghost Value = { Slipped };
 
-    ghost view = { λ s. s.seat.me.0.back };
+    ghost view = { λ s. slipped s.seat.me.0.back s.seat.me.0.known };
 
     ghost invariant = { λ s. (s.seat.table_id ≡ B.table) × IsSlip s.seat.me };
 }
@@ -203,7 +205,7 @@ fn perched(seat: Place) -> Perch<Receipt, SeatView>
 impl<B: BoardName> Desk<B> {
     /// The desk once no more units are written.
     pub fn into_tally<R: Wait>(self, rt: &R) -> Tally<B>
-        ensures { result ≡ tallied self.log self.given 0 [] }
+        ensures { result ≡ tallied self.log self.given 0 [] [] }
     {
         let Desk {
             perch,
@@ -304,7 +306,7 @@ impl<B: BoardName> Board<B> {
     }
 
     /// Settles the session at the clock, and answers it: no horizon is above this stamp, nor will one be until it
-    /// leaves.
+    /// leaves. Its base goes on from all that it had seen.
     ///
     /// `FloorAbove` exactly where a draw has raised the floor above that clock by the time that the slot holds it; the
     /// session is then not settled, its slot is idle, and it may try again. Neither waits nor takes memory.
@@ -313,7 +315,9 @@ impl<B: BoardName> Board<B> {
         ensures same { (pin.new.place ≡ pin.old.place) × (pin.new.slips ≡ pin.old.slips) × (pin.new.mine ≡ pin.old.mine) }
         ensures ok { IfOk result (λ s. (pin.new.settled ≡ true) × (s ≡ length pin.new.base) × (s ≡ pin.new.held) × (pin.new.refused ≡ pin.old.refused)) }
         ensures in_journal { AreInJournal pin.new.base pin.old.mine }
-        ensures err { OnErr result ((pin.new.settled ≡ false) × (pin.new.held ≡ idle) × (pin.new.refused ≡ pin.old.refused + 1)) }
+        ensures goes_on { IsBeginning pin.new.base pin.old.seen }
+        ensures seen { IfOk result (λ s. pin.new.seen ≡ pin.new.base) }
+        ensures err { OnErr result ((pin.new.settled ≡ false) × (pin.new.held ≡ idle) × (pin.new.refused ≡ pin.old.refused + 1) × (pin.new.seen ≡ pin.old.seen)) }
     {
         let stamp = self.words.read_clock(&mut pin.seat);
         self.words.store(&mut pin.seat, pin.place, stamp);
@@ -341,9 +345,10 @@ impl<B: BoardName> Board<B> {
         requires next { IsNext desk.old.log receipt.now }
         requires slip { pin.old.slips ≡ 1 }
         ensures desk { desk.new ≡ logged desk.old receipt.now }
-        ensures pin { pin.new ≡ wrote pin.old receipt.now }
+        ensures pin { pin.new ≡ wrote desk.old pin.old receipt.now }
         ensures in_journal { AreInJournal desk.old.log pin.old.mine }
         ensures dealt { pin.old.place < desk.old.dealt }
+        ensures goes_on { IsBeginning desk.old.log pin.old.seen }
     {
         let seat = lift(rt, &desk.perch);
         self.words.lend(&mut pin.seat, seat);
@@ -351,11 +356,11 @@ impl<B: BoardName> Board<B> {
         desk.perch = perched(self.words.give_back(&mut pin.seat));
     }
 
-    /// Gives a slip to a session that begins. Takes no memory.
+    /// Gives a slip to a session that begins, which has then seen the whole journal. Takes no memory.
     pub fn give_slip<R: Wait>(&self, rt: &R, desk: &mut Desk<B>, pin: &mut Pin<B>)
         requires { pin.old.slips ≡ 0 }
         ensures desk { desk.new ≡ gave desk.old }
-        ensures pin { pin.new ≡ with_slip pin.old }
+        ensures pin { pin.new ≡ with_slip desk.old pin.old }
     {
         let seat = lift(rt, &desk.perch);
         self.words.lend(&mut pin.seat, seat);
@@ -366,7 +371,7 @@ impl<B: BoardName> Board<B> {
     /// Takes the slip off the seat of a session that ends. Takes no memory.
     pub fn take_slip(&self, pin: &mut Pin<B>) -> Slip<B>
         requires { pin.old.slips ≡ 1 }
-        ensures slip { result ≡ pin.old.mine }
+        ensures slip { result ≡ slipped pin.old.mine (pin.old.seen ∷ []) }
         ensures pin { pin.new ≡ without_slip pin.old }
     {
         let seat = self.words.take_slip(&mut pin.seat);
@@ -378,19 +383,21 @@ impl<B: BoardName> Board<B> {
 
     /// Returns a slip to the desk at the end. Takes no memory.
     pub fn return_slip(&self, tally: &mut Tally<B>, slip: Slip<B>)
-        ensures { tally.new ≡ tallied tally.old.units tally.old.given (tally.old.returned + 1) (tally.old.back ++ slip) }
+        ensures { tally.new ≡ tallied tally.old.units tally.old.given (tally.old.returned + 1) (tally.old.back ++ slip.mine) (tally.old.known ++ slip.known) }
     {
         let Slip { seat, of: _ } = slip;
         self.words.return_slip(&mut tally.seat, seat);
     }
 
-    /// Shows that the units on the slips that came back are in the journal, each at its number, and where all slips
-    /// came back that they are all of it; no more came back than were given. It changes nothing. Takes no memory.
+    /// Shows that the units on the slips that came back are in the journal, each at its number, and that the beginnings
+    /// on them begin it. Where all slips came back their units are all of it, each at its number once; no more came
+    /// back than were given. It changes nothing. Takes no memory.
     pub fn audit(&self, tally: &mut Tally<B>)
         ensures same { tally.new ≡ tally.old }
         ensures in_journal { AreInJournal tally.old.units tally.old.back }
         ensures all { tally.old.returned ≡ tally.old.given → AreAll tally.old.units tally.old.back }
         ensures few { tally.old.returned ≤ tally.old.given }
+        ensures known { All (IsBeginning tally.old.units) tally.old.known }
     {
         self.words.learn(&mut tally.seat);
     }
@@ -425,11 +432,12 @@ impl<B: BoardName> Board<B> {
         clock
     }
 
-    /// Shows that no horizon is above the session's stamp, that its base begins the journal, that its units are in the
-    /// journal, and that the floor isn't above the number of all units. Sessions that share the lock may meet the desk
-    /// in turn. It changes nothing. Takes no memory.
+    /// Shows that no horizon is above the session's stamp, that its base and all that it has seen begin the journal,
+    /// that its units are in the journal, and that the floor isn't above the number of all units. From then on it has
+    /// seen the whole journal; nothing else changes. Sessions that share the lock may meet the desk in turn. Takes no
+    /// memory.
     pub fn meet<R: Wait>(&self, rt: &R, desk: &Desk<B>, pin: &mut Pin<B>)
-        ensures pin { pin.new ≡ pin.old }
+        ensures pin { pin.new ≡ aware desk.now pin.old }
         ensures met { Met desk.now pin.old }
     {
         let loan = self.words.borrow_desk(rt, &desk.perch, &mut pin.seat);

@@ -2,13 +2,14 @@
 //! takes no lock to settle or to leave.
 //!
 //! Callers see what the desk knows (the journal, the greatest horizon) and what a session's seat knows (its start, the
-//! journal as it was then, the units that it wrote): `src/view.rt`. All of this is for clauses alone; at run time there
-//! are the words of one table, and small numbers.
+//! journal as it was then, the longest beginning of the journal that it has seen, the units that it wrote):
+//! `src/view.rt`. All of this is for clauses alone; at run time there are the words of one table, and small numbers.
 //!
 //! Invariants (`specs/Rule.antt`), which each atomic step keeps:
 //! (1) the clock is the number of units in the journal;
 //! (2) each session's seat alone stores its slot, which holds the stamp that it stored, or 2^64 - 1 while it is idle;
-//! (3) a session's base is the beginning of the journal that is as long as the clock that it read;
+//! (3) a session's base is the beginning of the journal that is as long as the clock that it read, and what it has seen
+//!     begins the journal too;
 //! (4) no horizon is above the stamp of a settled seat, nor above the floor, which is never above the clock;
 //! (5) each unit was written on one slip, at the number that it has in the journal.
 //!

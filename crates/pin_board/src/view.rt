@@ -41,6 +41,8 @@ pub struct PinView {
     pub slips: u64,
     /// The units that this session wrote, with their numbers.
     pub mine: LinkedList<Receipt>,
+    /// The longest beginning of the journal that this seat knows of.
+    pub seen: LinkedList<Unit>,
 }
 
 /// A seat is the desk's, a session's, both while the desk is lent to a session, the slip of a session that has ended,
@@ -52,6 +54,8 @@ pub struct SeatView {
     pub slips: u64,
     /// The units on them, with their numbers.
     pub back: LinkedList<Receipt>,
+    /// The beginning of the journal that stands on each of them.
+    pub known: LinkedList<LinkedList<Unit>>,
 }
 
 /// The rule of the board.

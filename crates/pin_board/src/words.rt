@@ -2,10 +2,10 @@
 //!
 //! Word 0 is the clock, word 1 the floor, and the slot of place i is word 8 i + 8, so that no two slots lie in one
 //! cache line. The clock is stored by who has the desk, the floor by the desk, a slot by its session's seat alone.
-ghost use Rattle.std.specs.Prelude.{◌≡◌, ℕ, ◌+◌, ◌*◌, ◌<◌, ◌≤◌, ◌++◌, max, true, false, List, [], length, slice_index, IfOk, IfErr, Option, Some, None};
+ghost use Rattle.std.specs.Prelude.{◌≡◌, ℕ, ◌+◌, ◌*◌, ◌<◌, ◌≤◌, ◌++◌, ◌∷◌, max, true, false, List, [], length, slice_index, IfOk, IfErr, Option, Some, None};
 ghost use Rattle.pin_board.specs.Rule.{slot};
-ghost use Rattle.pin_board.specs.Slips.{AreInJournal, IsNext};
-ghost use Rattle.pin_board.specs.Views.{IsPin, IsDesk, IsBoth, IsSlip, IsTally, Met, Learned, pin_in, desk_in, pin_only, desk_only, pin_with_desk, slip_only, tally_only, clocked, stored, checked, rested, began, lifted, passed, drew, new_pin, new_desk, dealt_one, starting, least, idle, logged, wrote, rebased, settled_now, gave, with_slip, without_slip};
+ghost use Rattle.pin_board.specs.Slips.{AreInJournal, IsBeginning, IsNext};
+ghost use Rattle.pin_board.specs.Views.{IsPin, IsDesk, IsBoth, IsSlip, IsTally, Met, Learned, pin_in, desk_in, pin_only, desk_only, pin_with_desk, slip_only, tally_only, clocked, stored, checked, rested, began, lifted, passed, drew, new_pin, new_desk, dealt_one, starting, least, idle, logged, wrote, rebased, aware, settled_now, gave, with_slip, without_slip};
 
 use crate::step_kinds::{
     Begin, CheckFloor, Deal, Draw, GiveBack, GiveSlip, Learn, Lend, Lift, Meet, Pass, ReadClock,
@@ -69,6 +69,7 @@ impl Words {
         ensures view { seat.new.me ≡ (pin_only (clocked (pin_in seat.old.me.0) (pin_in seat.new.me.0).base), []) }
         ensures base { length (pin_in seat.new.me.0).base ≡ result }
         ensures in_journal { AreInJournal (pin_in seat.new.me.0).base (pin_in seat.old.me.0).mine }
+        ensures goes_on { IsBeginning (pin_in seat.new.me.0).base (pin_in seat.old.me.0).seen }
     {
         // Units may be written at any time: a clock that is higher by now makes this start older, and no less right.
         self.table.shared.load::<ReadClock>(seat, CLOCK)
@@ -199,9 +200,10 @@ impl Words {
         requires slip { (pin_in seat.old.me.0).slips ≡ 1 }
         requires next { IsNext (desk_in seat.old.me.0).log receipt.now }
         ensures same { (seat.new.table_id ≡ seat.old.table_id) × (seat.new.id ≡ seat.old.id) }
-        ensures view { seat.new.me ≡ (pin_with_desk (logged (desk_in seat.old.me.0) receipt.now) (wrote (pin_in seat.old.me.0) receipt.now), []) }
+        ensures view { seat.new.me ≡ (pin_with_desk (logged (desk_in seat.old.me.0) receipt.now) (wrote (desk_in seat.old.me.0) (pin_in seat.old.me.0) receipt.now), []) }
         ensures in_journal { AreInJournal (desk_in seat.old.me.0).log (pin_in seat.old.me.0).mine }
         ensures dealt { (pin_in seat.old.me.0).place < (desk_in seat.old.me.0).dealt }
+        ensures seen { IsBeginning (desk_in seat.old.me.0).log (pin_in seat.old.me.0).seen }
     {
         let number = receipt.number();
         // Only who has the desk stores the clock, so it still holds number - 1. Others may have loaded that: a start
@@ -217,7 +219,7 @@ impl Words {
         requires both { IsBoth seat.old.me }
         requires free { (pin_in seat.old.me.0).slips ≡ 0 }
         ensures same { (seat.new.table_id ≡ seat.old.table_id) × (seat.new.id ≡ seat.old.id) }
-        ensures view { seat.new.me ≡ (pin_with_desk (gave (desk_in seat.old.me.0)) (with_slip (pin_in seat.old.me.0)), []) }
+        ensures view { seat.new.me ≡ (pin_with_desk (gave (desk_in seat.old.me.0)) (with_slip (desk_in seat.old.me.0) (pin_in seat.old.me.0)), []) }
     {
         // What the clock holds is of no use here: the step is there for the rule.
         self.table.shared.load::<GiveSlip>(seat, CLOCK);
@@ -230,7 +232,7 @@ impl Words {
         requires slip { (pin_in seat.old.me.0).slips ≡ 1 }
         ensures same { (seat.new.table_id ≡ seat.old.table_id) × (result.table_id ≡ seat.old.table_id) }
         ensures view { seat.new.me ≡ (pin_only (without_slip (pin_in seat.old.me.0)), []) }
-        ensures slip { result.me ≡ (slip_only (pin_in seat.old.me.0).mine, []) }
+        ensures slip { result.me ≡ (slip_only (pin_in seat.old.me.0).mine ((pin_in seat.old.me.0).seen ∷ []), []) }
     {
         self.table.shared.split_seat::<TakeSlip>(seat)
     }
@@ -241,7 +243,7 @@ impl Words {
         requires tally { IsTally seat.old.me }
         requires slip { IsSlip slip.me }
         ensures same { seat.new.table_id ≡ seat.old.table_id }
-        ensures view { seat.new.me ≡ (tally_only (desk_in seat.old.me.0) (seat.old.me.0.slips + 1) (seat.old.me.0.back ++ slip.me.0.back), []) }
+        ensures view { seat.new.me ≡ (tally_only (desk_in seat.old.me.0) (seat.old.me.0.slips + 1) (seat.old.me.0.back ++ slip.me.0.back) (seat.old.me.0.known ++ slip.me.0.known), []) }
     {
         self.table.shared.join_seat::<ReturnSlip>(seat, slip);
     }
@@ -251,7 +253,7 @@ impl Words {
         requires own { seat.old.table_id ≡ self.now.table.shared.table_id }
         requires tally { IsTally seat.old.me }
         ensures same { (seat.new.table_id ≡ seat.old.table_id) × (seat.new.me ≡ seat.old.me) }
-        ensures learned { Learned (desk_in seat.old.me.0) seat.old.me.0.slips seat.old.me.0.back }
+        ensures learned { Learned (desk_in seat.old.me.0) seat.old.me.0.slips seat.old.me.0.back seat.old.me.0.known }
     {
         // What the clock holds is of no use here: the step is there for the rule.
         self.table.shared.load::<Learn>(seat, CLOCK);
@@ -290,7 +292,8 @@ impl Words {
     pub(crate) fn meet(&self, seat: &mut Place)
         requires own { seat.old.table_id ≡ self.now.table.shared.table_id }
         requires both { IsBoth seat.old.me }
-        ensures same { (seat.new.table_id ≡ seat.old.table_id) × (seat.new.id ≡ seat.old.id) × (seat.new.me ≡ seat.old.me) }
+        ensures same { (seat.new.table_id ≡ seat.old.table_id) × (seat.new.id ≡ seat.old.id) }
+        ensures view { seat.new.me ≡ (pin_with_desk (desk_in seat.old.me.0) (aware (desk_in seat.old.me.0) (pin_in seat.old.me.0)), []) }
         ensures met { Met (desk_in seat.old.me.0) (pin_in seat.old.me.0) }
     {
         // What the clock holds is of no use here: the step is there for the rule. Only who has the desk writes units or

@@ -8,7 +8,7 @@ use lock_name::LockCommand;
 use pin_board::BoardName;
 use refusal::Refusal;
 use script::{Drafts, read_line};
-use shared_engine::{Ended, Gate, Mark, Session, Shared, Stop};
+use shared_engine::{Ended, Gate, Mark, Session, Shared, Stop, Turn};
 use std::alloc::Global;
 use std::sync::Wait;
 
@@ -26,7 +26,11 @@ impl Gate for NoTime {
 
     fn between_tries(&self, _job: Job) {}
 
-    fn second(&self, _job: Job) {}
+    fn pause(&self, _job: Job, _millis: u64) {}
+
+    fn now(&self) -> u64 {
+        0
+    }
 
     fn waits(&self, _job: Job, _command: &LockCommand) -> Mark {
         Mark {
@@ -164,7 +168,7 @@ fn commit<B: BoardName, R: Wait>(
 ) -> Result<Reply, Refusal> {
     match session.tlevel() {
         0 => Err(Refusal::NoTransaction),
-        1 => match engine.tcommit(rt, session)? {
+        1 => match engine.tcommit(rt, session, &mut Turn::NotDue)? {
             Ended::Committed => Ok(Reply::Committed),
             Ended::Restarted(restarts) => Ok(Reply::Restarted(restarts)),
         },

@@ -19,12 +19,12 @@ use Rattle.journal.specs.History.{State, after, after_unit, initial}
 use Rattle.journal.specs.Touching.{has_read, touched, any_touched}
 use Rattle.serial.specs.Machine.{state_at}
 use Rattle.validate_commit.specs.Working.{Working}
-use Rattle.validate_commit.specs.Verdicts.{has_been_overtaken}
+use Rattle.validate_commit.specs.Verdicts.{has_been_overtaken, IsCauseAtCommit}
 use Rattle.job_core.specs.Sessions.{Session as JobSession, after_lock}
-use Rattle.shared_engine.specs.Sessions.{Held, noted_lock}
-use Rattle.shared_engine.specs.Engines.{Engine, lock_unit, after_try}
+use Rattle.shared_engine.specs.Sessions.{Held, knowing, noted_lock}
+use Rattle.shared_engine.specs.Engines.{Engine, lock_unit, after_try, IsCauseAtRestart}
 use Rattle.shared_engine.specs.Writes.{IsQuietSince, IsAlone}
-use Rattle.shared_engine.specs.Blocks.{AreSame, IsLone, IsReadAt, IsTried, IsOpened, IsDeeper, IsCommitted, IsRolledBack, IsRestarted, HasDone, moved}
+use Rattle.shared_engine.specs.Blocks.{AreSame, HasSeen, IsLone, IsReadAt, IsTried, IsOpened, IsDeeper, IsCommitted, IsRolledBack, IsRestarted, HasDone, moved}
 use Rattle.shared_engine.proofs.Quiet.{everywhere}
 use Rattle.shared_engine.proofs.Starting.{noted_work}
 
@@ -83,8 +83,17 @@ quiet_lock start units job inside had command quiet test = by_start (Lock job in
 pub alone_stands : (s : Held) (units : List JournalUnit) → s.state.level ≡ 1 → IsAlone s units → has_been_overtaken s.state.work units ≡ false
 alone_stands s units level alone = alone.quiet (omega (arith, level)) (has_read s.state.work.exchanges (state_at s.state.work.start units).map)
 
+-- nobody overtakes it, so a commit isn't refused for room to go back
+pub cause_alone : (s : Held) (units : List JournalUnit) (refusal : Refusal) → s.state.level ≡ 1 → IsAlone s units → IsCauseAtCommit refusal s.state.work units ⊎ IsCauseAtRestart refusal s.state units → IsCauseAtCommit refusal s.state.work units
+cause_alone s units refusal level alone (inl cause) = cause
+cause_alone s units refusal level alone (inr cause) = absurd (true≢false (sym cause.1.0 ∙ alone_stands s units level alone))
+
 alone_same : (units more : List JournalUnit) (old new : Held) → AreSame units more old new → IsAlone old units → IsAlone new more
 alone_same units more old new same alone = subst (λ (us : List JournalUnit). IsAlone new us) (sym same.0) (subst (λ (s : Held). IsAlone s units) (sym same.1) alone)
+
+alone_seen : (units more : List JournalUnit) (old new : Held) → HasSeen units more old new → IsAlone old units → IsAlone new more
+alone_seen units more old new same alone =
+    subst (λ (us : List JournalUnit). IsAlone new us) (sym same.0) (subst (λ (s : Held). IsAlone s units) (sym same.1) (record { quiet = alone.quiet }))
 
 alone_idle : (more : List JournalUnit) (new : Held) → new.state.level ≡ 0 → IsAlone new more
 alone_idle more new none = record { quiet = λ deep. absurd (omega (arith, none, deep)) }
@@ -106,15 +115,15 @@ noted_level s = by_level (nat_lt 0 s.level)
 
 alone_lone : (command : DataCommand) (result : Result Answer Refusal) (units more : List JournalUnit) (old new : Held) → old.state.level ≡ 0 → IsLone command result units more old new → IsAlone old units → IsAlone new more
 alone_lone command (Ok answer) units more old new none h alone = alone_idle more new (ap (λ (s : Held). s.state.level) h.1.1 ∙ none)
-alone_lone command (Err refusal) units more old new none h alone = alone_same units more old new h.1 alone
+alone_lone command (Err refusal) units more old new none h alone = alone_seen units more old new h.1 alone
 
 start_read : (start : Option (List JournalUnit)) (command : DataCommand) (result : Result Answer Refusal) (old new : JobSession) → IsReadAt start command result old new → new.work.start ≡ old.work.start
 start_read None command result old new h = absurd h
 start_read (Some base) command (Ok answer) old new h = h.start
 start_read (Some base) command (Err refusal) old new h = ap (λ (s : JobSession). s.work.start) h.same
 
-alone_noted : (command : LockCommand) (had : Bool) (n : ℕ) (units more : List JournalUnit) (old new : Held) → more ≡ units ++ lock_unit old.state command had ∷ [] → new ≡ after_try n command had old → IsAlone old units → IsAlone new more
-alone_noted command had n units more old new is step alone =
+alone_noted : (command : LockCommand) (had : Bool) (units more : List JournalUnit) (old new : Held) → more ≡ units ++ lock_unit old.state command had ∷ [] → new ≡ after_try units command had old → IsAlone old units → IsAlone new more
+alone_noted command had units more old new is step alone =
     let level : new.state.level ≡ old.state.level = ap (λ (s : Held). s.state.level) step ∙ noted_level old.state in
     let start : new.state.work.start ≡ old.state.work.start = ap (λ (s : Held). s.state.work.start) step ∙ ap (λ (w : Working). w.start) (noted_work old.state) in record {
       quiet = λ deep.
@@ -124,14 +133,14 @@ alone_noted command had n units more old new is step alone =
     }
 
 alone_tried : (command : LockCommand) (result : Result Bool Refusal) (units more : List JournalUnit) (old new : Held) → IsTried command result units more old new → IsAlone old units → IsAlone new more
-alone_tried command (Ok had) units more old new h alone = alone_noted command had (length units + 1) units more old new h.1.0 h.1.1 alone
-alone_tried command (Err refusal) units more old new h alone = alone_same units more old new h.1 alone
+alone_tried command (Ok had) units more old new h alone = alone_noted command had units more old new h.1.0 h.1.1 alone
+alone_tried command (Err refusal) units more old new h alone = alone_seen units more old new h.1 alone
 
 -- the same by the clauses of a try
-pub alone_lock : (command : LockCommand) (result : Result Bool Refusal) (n : ℕ) (a b : Engine) (old new : Held) → IfOk result (λ had. b.common.units ≡ a.common.units ++ lock_unit old.state command had ∷ []) → IfOk result (λ had. new ≡ after_try n command had old)
-    → OnErr result ((b ≡ a) × (new ≡ old)) → IsAlone old a.common.units → IsAlone new b.common.units
-alone_lock command (Ok had) n a b old new units is refused alone = alone_noted command had n a.common.units b.common.units old new units is alone
-alone_lock command (Err refusal) n a b old new units is refused alone = alone_same a.common.units b.common.units old new (ap (λ (e : Engine). e.common.units) refused.0, refused.1) alone
+pub alone_lock : (command : LockCommand) (result : Result Bool Refusal) (a b : Engine) (old new : Held) → IfOk result (λ had. b.common.units ≡ a.common.units ++ lock_unit old.state command had ∷ []) → IfOk result (λ had. new ≡ after_try a.common.units command had old)
+    → OnErr result ((b ≡ a) × (new ≡ knowing a.common.units old)) → IsAlone old a.common.units → IsAlone new b.common.units
+alone_lock command (Ok had) a b old new units is refused alone = alone_noted command had a.common.units b.common.units old new units is alone
+alone_lock command (Err refusal) a b old new units is refused alone = alone_seen a.common.units b.common.units old new (ap (λ (e : Engine). e.common.units) refused.0, refused.1) alone
 
 alone_opened : (result : Result ℕ Refusal) (units more : List JournalUnit) (old new : Held) → IsOpened result units more old new → IsAlone old units → IsAlone new more
 alone_opened (Ok level) units more old new h alone = alone_now more new (ap (λ (s : Held). s.state.work.start) h.1.1.is ∙ ap length (sym h.1.0))
@@ -143,15 +152,15 @@ alone_deeper (Err refusal) units more old new deep h alone = alone_same units mo
 
 alone_committed : (result : Result Reply Refusal) (units more : List JournalUnit) (old new : Held) → IsCommitted result units more old new → IsAlone old units → IsAlone new more
 alone_committed (Ok reply) units more old new h alone = alone_idle more new (ap (λ (s : Held). s.state.level) h.1.1.1)
-alone_committed (Err refusal) units more old new h alone = alone_same units more old new h.1 alone
+alone_committed (Err refusal) units more old new h alone = alone_seen units more old new h.1 alone
 
 alone_back : (result : Result (Unit {0}) Refusal) (units more : List JournalUnit) (old new : Held) → IsRolledBack result units more old new → IsAlone old units → IsAlone new more
 alone_back (Ok done) units more old new h alone = alone_idle more new (ap (λ (s : Held). s.state.level) h.1)
-alone_back (Err refusal) units more old new h alone = alone_same units more old new h.1 alone
+alone_back (Err refusal) units more old new h alone = alone_seen units more old new h.1 alone
 
 alone_anew : (result : Result ℕ Refusal) (units more : List JournalUnit) (old new : Held) → IsRestarted result units more old new → IsAlone old units → IsAlone new more
 alone_anew (Ok restarts) units more old new h alone = alone_now more new (ap (λ (s : Held). s.state.work.start) h.1.1)
-alone_anew (Err refusal) units more old new h alone = alone_same units more old new h.1 alone
+alone_anew (Err refusal) units more old new h alone = alone_seen units more old new h.1 alone
 
 by_level : {P : Type 0} (n : ℕ) → (n ≡ 0 → P) → (1 ≤ n → P) → P
 by_level zero outside inside = outside refl

@@ -10,28 +10,31 @@ use Rattle.job_core.specs.Sessions.{Session as JobSession, just_opened}
 use Rattle.pin_board.specs.declared.view.DeskView.{DeskView}
 use Rattle.pin_board.specs.declared.view.PinView.{PinView}
 use Rattle.pin_board.specs.Views.{rebased, Met}
-use Rattle.pin_board.specs.Slips.{AreInJournal}
+use Rattle.pin_board.specs.Slips.{AreInJournal, IsBeginning}
 use Rattle.shared_engine.specs.Receipts.{receipts_in, others_in, IsBook}
 use Rattle.shared_engine.specs.Sessions.{held, start_in, IsSession, HasBegun, IsJournalOf}
 use Rattle.shared_engine.proofs.Booking.{in_journal_receipts}
 use Rattle.shared_engine.proofs.Starting.{start_settled, at_settled}
+use Rattle.shared_engine.proofs.Writing.{shown}
 
 -- the seat is settled on these units, and the state begins there
-pub has_begun : (base : List JournalUnit) (p r : PinView) (s t : JobSession) (start : ℕ) → r.mine ≡ p.mine → r.settled ≡ true → r.base ≡ base → start ≡ length base → t ≡ just_opened s.work.job start → AreInJournal base p.mine
-    → HasBegun base (held s (start_in p) (receipts_in p.mine) (others_in p.mine)) (held t (start_in r) (receipts_in r.mine) (others_in r.mine))
-has_begun base p r s t start mine settled here long begun own =
+pub has_begun : (base : List JournalUnit) (p r : PinView) (s t : JobSession) (start : ℕ) → r.mine ≡ p.mine → r.settled ≡ true → r.base ≡ base → r.seen ≡ base → start ≡ length base → t ≡ just_opened s.work.job start → AreInJournal base p.mine → IsBeginning base p.seen
+    → HasBegun base (shown s p) (shown t r)
+has_begun base p r s t start mine settled here knows long begun own goes_on =
     let state : t ≡ just_opened s.work.job (length base) = begun ∙ ap (just_opened s.work.job) long in
     let at : start_in r ≡ Some base = start_settled r settled ∙ ap Some here in
     let receipts : receipts_in r.mine ≡ receipts_in p.mine = ap receipts_in mine in
     let others : others_in r.mine ≡ others_in p.mine = ap others_in mine in record {
-      is = λ i. held (state i) (at i) (receipts i) (others i);
+      is = λ i. held (state i) (at i) (receipts i) (others i) (knows i);
+      goes_on = goes_on;
       receipts = in_journal_receipts base p.mine own;
     }
 
 -- what the board shows under the lock is the session's journal
-pub met_journal : (units : List JournalUnit) (desk : DeskView) (pin : PinView) (s : JobSession) → IsLegal units initial → desk.log ≡ units → Met desk pin → IsJournalOf units (held s (start_in pin) (receipts_in pin.mine) (others_in pin.mine))
+pub met_journal : (units : List JournalUnit) (desk : DeskView) (pin : PinView) (s : JobSession) → IsLegal units initial → desk.log ≡ units → Met desk pin → IsJournalOf units (shown s pin)
 met_journal units desk pin s legal log met = record {
   legal = legal;
+  goes_on = subst (λ (us : List JournalUnit). IsBeginning us pin.seen) log met.seen;
   start = by_settled pin.settled;
   receipts = in_journal_receipts units pin.mine (subst (λ (us : List JournalUnit). AreInJournal us pin.mine) log met.mine);
 }

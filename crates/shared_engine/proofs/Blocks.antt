@@ -14,26 +14,46 @@ use Rattle.journal.specs.declared.unit.Unit.{Unit as JournalUnit}
 use Rattle.journal.specs.History.{initial, after}
 use Rattle.job_core.specs.Sessions.{Session as JobSession, IsAnsweredOrRefused}
 use Rattle.shared_engine.specs.Sessions.{Held}
-use Rattle.shared_engine.specs.Blocks.{said, IsCommitted, IsReadAt, HasDone, AreDone, IsNoRestart, NoneRestarts}
+use Rattle.shared_engine.specs.Blocks.{said, IsCommitted, IsReadAt, HasDone, AreDone, is_blocked, must_in, AreHad, IsCut, IsNoRestart, NoneRestarts}
 
--- what is done from here on makes the block whole
+-- what a test of the last reply tells, at the place of its command
+pub told_blocked : (musts : List Bool) (place count : ℕ) (must told : Bool) (reply : Reply) → place ≡ count → must ≡ must_in musts place → told ≡ is_blocked must reply → is_blocked (must_in musts count) reply ≡ told
+told_blocked musts place count must told reply at is test =
+    ap (λ (n : ℕ). is_blocked (must_in musts n) reply) (sym at) ∙ (ap (λ (m : Bool). is_blocked m reply) (sym is) ∙ sym test)
+
+-- one more is done behind others
+done_more : (commands : List Command) (replies : List Reply) (units between more : List JournalUnit) (old middle new : Held) (command : Command) (reply : Reply) → AreDone commands replies units between old middle → HasDone command reply between more middle new
+    → AreDone (commands ++ command ∷ []) (replies ++ reply ∷ []) units more old new
+done_more [] [] units between more old middle new command reply first last =
+    (more, new, subst (λ (h : Held). HasDone command reply units more h new) first.1 (subst (λ (us : List JournalUnit). HasDone command reply us more middle new) first.0 last), (refl, refl))
+done_more [] (r ∷ rs) units between more old middle new command reply first last = absurd first
+done_more (c ∷ cs) [] units between more old middle new command reply first last = absurd first
+done_more (c ∷ cs) (r ∷ rs) units between more old middle new command reply first last = (first.0, first.1, first.2, done_more cs rs first.0 between more first.1 middle new command reply first.3 last)
+
+-- the commands in front of the rest were done
 pub record IsSoFar (block rest : List Command) (replies : List Reply) (first units : List JournalUnit) (begun now : Held) : Type 0 where
-  pub whole : (later : List Reply) (more : List JournalUnit) (new : Held) → AreDone rest later units more now new → AreDone block (replies ++ later) first more begun new
+  pub front : List Command
+  pub split : block ≡ front ++ rest
+  pub done : AreDone front replies first units begun now
 
 pub so_far_begun : (block : List Command) (first : List JournalUnit) (begun : Held) → IsSoFar block block [] first first begun begun
-so_far_begun block first begun = record { whole = λ later more new done. done }
+so_far_begun block first begun = record { front = []; split = refl; done = (refl, refl) }
+
+-- none yet
+pub so_far_first : (block rest : List Command) (replies : List Reply) (first units : List JournalUnit) (begun now : Held) → rest ≡ block → replies ≡ [] → units ≡ first → now ≡ begun → IsSoFar block rest replies first units begun now
+so_far_first block rest replies first units begun now all none same is = record { front = []; split = sym all; done = subst (λ (rs : List Reply). AreDone [] rs first units begun now) (sym none) (same, is) }
 
 pub so_far_next : (block rest : List Command) (command : Command) (replies : List Reply) (reply : Reply) (first units between : List JournalUnit) (begun now middle : Held) → IsSoFar block (command ∷ rest) replies first units begun now
     → HasDone command reply units between now middle → IsSoFar block rest (replies ++ reply ∷ []) first between begun middle
 so_far_next block rest command replies reply first units between begun now middle before done = record {
-  whole = λ later more new then.
-      subst (λ (rs : List Reply). AreDone block rs first more begun new) (sym (append_assoc replies (reply ∷ []) later)) (before.whole (reply ∷ later) more new (between, middle, done, then));
+  front = before.front ++ command ∷ [];
+  split = before.split ∙ sym (append_assoc before.front (command ∷ []) rest);
+  done = done_more before.front replies first units between begun now middle command reply before.done done;
 }
 
 pub so_far_all : (block rest : List Command) (replies : List Reply) (first units : List JournalUnit) (begun now : Held) → rest ≡ [] → IsSoFar block rest replies first units begun now → AreDone block replies first units begun now
 so_far_all block rest replies first units begun now none is =
-    let all : IsSoFar block [] replies first units begun now = subst (λ (cs : List Command). IsSoFar block cs replies first units begun now) none is in
-    subst (λ (rs : List Reply). AreDone block rs first units begun now) (append-nil replies) (all.whole [] units now (refl, refl))
+    subst (λ (cs : List Command). AreDone cs replies first units begun now) (sym (is.split ∙ (ap (λ (cs : List Command). is.front ++ cs) none ∙ append-nil is.front))) is.done
 
 -- as many replies as commands
 pub done_each : (commands : List Command) (replies : List Reply) (units more : List JournalUnit) (old new : Held) → AreDone commands replies units more old new → length replies ≡ length commands
@@ -41,6 +61,35 @@ done_each [] [] units more old new h = refl
 done_each [] (reply ∷ replies) units more old new h = absurd h
 done_each (command ∷ commands) [] units more old new h = absurd h
 done_each (command ∷ commands) (reply ∷ replies) units more old new h = ap suc (done_each commands replies h.0 more h.1 new h.3)
+
+-- the command behind those that were done is the last
+pub cut_at : (musts : List Bool) (place : ℕ) (block rest : List Command) (command : Command) (replies : List Reply) (reply : Reply) (first units between : List JournalUnit) (begun now middle : Held) → IsSoFar block (command ∷ rest) replies first units begun now
+    → HasDone command reply units between now middle → place ≡ length replies → is_blocked (must_in musts (length replies)) reply ≡ true → IsCut musts place block first between begun middle
+cut_at musts place block rest command replies reply first units between begun now middle before done at blocked =
+    let next : IsSoFar block rest (replies ++ reply ∷ []) first between begun middle = so_far_next block rest command replies reply first units between begun now middle before done in record {
+      front = next.front;
+      back = rest;
+      before = replies;
+      last = reply;
+      split = next.split;
+      at = sym at;
+      done = next.done;
+      blocked = subst (λ (n : ℕ). is_blocked (must_in musts n) reply ≡ true) (sym at) blocked;
+    }
+
+-- no reply
+none_after : (musts : List Bool) → AreHad musts []
+none_after [] = tt
+none_after (must ∷ musts) = tt
+
+pub none_had : (musts : List Bool) (replies : List Reply) → replies ≡ [] → AreHad musts replies
+none_had musts replies none = subst (λ (rs : List Reply). AreHad musts rs) (sym none) (none_after musts)
+
+-- a reply more that isn't of a blocked LOCK which has to have its names
+pub had_more : (musts : List Bool) (replies : List Reply) (reply : Reply) → AreHad musts replies → is_blocked (must_in musts (length replies)) reply ≡ false → AreHad musts (replies ++ reply ∷ [])
+had_more [] replies reply had next = tt
+had_more (must ∷ musts) [] reply had next = (next, none_after musts)
+had_more (must ∷ musts) (r ∷ rs) reply had next = (had.0, had_more musts rs reply had.1 next)
 
 abbrev is_anew : Reply → Bool
 is_anew (Answered answer) = false

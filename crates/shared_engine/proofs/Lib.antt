@@ -6,6 +6,7 @@ pub mod Lending
 pub mod Closing
 pub mod Quiet
 pub mod Alone
+pub mod Seeing
 pub mod Blocks
 pub mod Beginning
 pub mod Crossing

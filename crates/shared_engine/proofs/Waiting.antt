@@ -1,86 +1,64 @@
 -- A LOCK whose first try was in vain, and what a call answers of the moment at which it had the lock.
-use Rattle.std.proofs.Common.{◌≡◌, ℕ, Bool, true, false, List, [], refl, ap, subst, ◌∙◌, inl, inr, Result, Ok, Err, IfOk, OnOk, OnErr}
+use Rattle.std.proofs.Common.{◌≡◌, Bool, true, false, List, refl, sym, ap, subst, ◌∙◌, inl, inr, Result, Ok, Err, IfOk, OnOk, OnErr}
 use Rattle.std.specs.Prelude.{◌⊎◌, IfErr}
 use Rattle.refusal.specs.declared.Refusal.{Refusal}
-use Rattle.refusal.specs.declared.Refusal.TheVariants.{OutOfMemory, StampsUsedUp}
+use Rattle.refusal.specs.declared.Refusal.TheVariants.{OutOfMemory}
 use Rattle.lock_name.specs.declared.lock.LockCommand.{LockCommand}
 use Rattle.journal.specs.declared.unit.Unit.{Unit as JournalUnit}
-use Rattle.validate_commit.specs.Working.{Working}
-use Rattle.job_core.specs.Common.{IsCauseOfLock}
-use Rattle.shared_engine.specs.Sessions.{Held}
-use Rattle.shared_engine.specs.Engines.{after_try, OnOkThat, OnOkNot, HasItsNames, WasBlocked}
-use Rattle.shared_engine.proofs.Starting.{noted_work}
+use Rattle.validate_commit.specs.Verdicts.{IsCauseAtCommit}
+use Rattle.job_core.specs.Sessions.{Session as JobSession}
+use Rattle.shared_engine.specs.declared.locked.Ended.{Ended}
+use Rattle.shared_engine.specs.Sessions.{Held, knowing, IsJournalOf}
+use Rattle.shared_engine.specs.Engines.{OnOkThat, OnOkNot, HasEnded, IsCauseAtRestart}
+use Rattle.shared_engine.specs.Blocks.{WasTried, WasTriedAgain, HasItsNames, WasBlocked, WasRefused}
+use Rattle.shared_engine.proofs.Seeing.{begins_itself, ended_seen, tried_refused}
 
--- what holds of these units holds of some
-pub known_at : {A E : Type 0} (r : Result A E) (us : List JournalUnit) (Q : List JournalUnit → Type 0) (P : List JournalUnit → A → Type 0) → OnOk r (Q us) → IfOk r (P us) → IfOk r (λ a. (vs : List JournalUnit) × Q vs × P vs a)
-known_at (Ok a) us Q P q h = (us, q, h)
-known_at (Err e) us Q P q h = tt
+-- a try that said no
+pub first_try : (command : LockCommand) (had : Bool) (old mid : Held) → had ≡ false → WasTried command (Ok had) old mid → WasTried command (Ok false) old mid
+first_try command had old mid is tried = subst (λ (b : Bool). WasTried command (Ok b) old mid) is tried
 
-pub known_between : {A E : Type 0} (r : Result A E) (us more : List JournalUnit) (Q : List JournalUnit → Type 0) (P : List JournalUnit → List JournalUnit → A → Type 0) → OnOk r (Q us) → IfOk r (P us more) → IfOk r (λ a. (vs ws : List JournalUnit) × Q vs × P vs ws a)
-known_between (Ok a) us more Q P q h = (us, more, q, h)
-known_between (Err e) us more Q P q h = tt
+-- one that said yes
+pub first_had : (command : LockCommand) (had : Bool) (old new : Held) → had ≡ true → WasTried command (Ok had) old new → HasItsNames command old new
+first_had command had old new is tried = inl (subst (λ (b : Bool). WasTried command (Ok b) old new) is tried)
 
--- what holds of this number holds of some
-pub ok_at_number : {A E : Type 0} (r : Result A E) (n : ℕ) (P : ℕ → A → Type 0) → IfOk r (P n) → IfOk r (λ a. (m : ℕ) × P m a)
-ok_at_number (Ok a) n P h = (n, h)
-ok_at_number (Err e) n P h = tt
-
-pub done_at_number : {A E : Type 0} (r : Result A E) (n : ℕ) (P : ℕ → Type 0) → OnOk r (P n) → OnOk r ((m : ℕ) × P m)
-done_at_number (Ok a) n P h = (n, h)
-done_at_number (Err e) n P h = tt
-
-pub at_number : (r : Result Bool Refusal) (n : ℕ) (P : ℕ → Type 0) → OnOkThat r (P n) → OnOkThat r ((m : ℕ) × P m)
-at_number (Ok true) n P h = (n, h)
-at_number (Ok false) n P h = tt
-at_number (Err e) n P h = tt
-
-pub first_try : (command : LockCommand) (had : Bool) (old mid : Held) → had ≡ false → ((n : ℕ) × (mid ≡ after_try n command had old)) → (n : ℕ) × (mid ≡ after_try n command false old)
-first_try command had old mid is tried = subst (λ (b : Bool). (n : ℕ) × (mid ≡ after_try n command b old)) is tried
+-- a LOCK may be refused for memory at any time
+pub stopped : (command : LockCommand) (old new : Held) → new ≡ old → WasTried command (Err OutOfMemory) old new
+stopped command old new same = tried_refused command OutOfMemory old.seen old new (begins_itself old.seen) (inl (inl refl)) same
 
 -- ---- the tries after it
 
-pub had_later : {A : Type 0} (r : Result A Refusal) (command : LockCommand) (old mid new : Held) → ((n : ℕ) × (mid ≡ after_try n command false old)) → OnOk r ((m : ℕ) × (new ≡ after_try m command true mid)) → OnOk r (HasItsNames command old new)
-had_later (Ok a) command old mid new first h = inr (first.0, h.0, h.1 ∙ ap (after_try h.0 command true) first.1)
+pub had_later : {A : Type 0} (r : Result A Refusal) (command : LockCommand) (old mid new : Held) → WasTried command (Ok false) old mid → OnOk r (WasTried command (Ok true) mid new) → OnOk r (HasItsNames command old new)
+had_later (Ok a) command old mid new first h = inr (mid, first, h)
 had_later (Err e) command old mid new first h = tt
 
-pub had_within : (r : Result Bool Refusal) (command : LockCommand) (old mid new : Held) → ((n : ℕ) × (mid ≡ after_try n command false old)) → OnOkThat r ((m : ℕ) × (new ≡ after_try m command true mid)) → OnOkThat r (HasItsNames command old new)
-had_within (Ok true) command old mid new first h = inr (first.0, h.0, h.1 ∙ ap (after_try h.0 command true) first.1)
+pub had_within : (r : Result Bool Refusal) (command : LockCommand) (old mid new : Held) → WasTried command (Ok false) old mid → OnOkThat r (WasTried command (Ok true) mid new) → OnOkThat r (HasItsNames command old new)
+had_within (Ok true) command old mid new first h = inr (mid, first, h)
 had_within (Ok false) command old mid new first h = tt
 had_within (Err e) command old mid new first h = tt
 
-pub blocked_within : (r : Result Bool Refusal) (command : LockCommand) (old mid new : Held) → ((n : ℕ) × (mid ≡ after_try n command false old)) → OnOkNot r (new ≡ mid) → OnOkNot r (WasBlocked command old new)
+pub blocked_within : (r : Result Bool Refusal) (command : LockCommand) (old mid new : Held) → WasTried command (Ok false) old mid → OnOkNot r (new ≡ mid) → OnOkNot r (WasBlocked command old new)
 blocked_within (Ok true) command old mid new first h = tt
-blocked_within (Ok false) command old mid new first h = (first.0, h ∙ first.1)
+blocked_within (Ok false) command old mid new first h = subst (λ (s : Held). WasTried command (Ok false) old s) (sym h) first
 blocked_within (Err e) command old mid new first h = tt
 
-pub refused_later : {A : Type 0} (r : Result A Refusal) (command : LockCommand) (old mid new : Held) → ((n : ℕ) × (mid ≡ after_try n command false old)) → OnErr r (new ≡ mid) → OnErr r ((new ≡ old) ⊎ WasBlocked command old new)
+pub refused_later : {A : Type 0} (r : Result A Refusal) (command : LockCommand) (old mid new : Held) → WasTried command (Ok false) old mid → IfErr r (λ refusal. WasTried command (Err refusal) mid new) → IfErr r (λ refusal. WasRefused command refusal old new)
 refused_later (Ok a) command old mid new first h = tt
-refused_later (Err e) command old mid new first h = inr (first.0, h ∙ first.1)
+refused_later (Err e) command old mid new first h = inr (mid, first, h)
 
--- ---- causes
+-- ---- what holds of the units under the lock holds of what the session has seen then
 
--- why a LOCK of this job is refused, on some journal
-abbrev pub IsSomeCause : ℕ → LockCommand → Refusal → Type 0
-IsSomeCause job command refusal = (us : List JournalUnit) × IsCauseOfLock refusal job command us
+pub ended_at : (r : Result Ended Refusal) (units more : List JournalUnit) (old new : Held) → IsJournalOf units old → IfOk r (λ end. HasEnded end units more old new) → IfOk r (λ end. (us : List JournalUnit) × IsJournalOf us old × HasEnded end us new.seen old new)
+ended_at (Ok end) units more old new journal h = (units, journal, subst (λ (us : List JournalUnit). HasEnded end units us old new) (sym (ended_seen end units more old new h)) h)
+ended_at (Err e) units more old new journal h = tt
 
--- a LOCK may be refused for memory at any time
-pub cause_of_memory : (job : ℕ) (command : LockCommand) → IsSomeCause job command OutOfMemory
-cause_of_memory job command = ([], inl (inl refl))
+-- it is refused, and has seen these units
+pub refused_at : {A : Type 0} (B : Type 0) (r : Result A Refusal) (units : List JournalUnit) (old new : Held) → IsJournalOf units old → OnErr r (B × (new ≡ knowing units old)) → OnErr r (IsJournalOf new.seen old × (new ≡ knowing new.seen old))
+refused_at B (Ok a) units old new journal is = tt
+refused_at B (Err e) units old new journal is =
+    let seen : units ≡ new.seen = sym (ap (λ (s : Held). s.seen) is.1) in (subst (λ (us : List JournalUnit). IsJournalOf us old) seen journal, is.1 ∙ ap (λ (us : List JournalUnit). knowing us old) seen)
 
-tried_job : (n : ℕ) (command : LockCommand) (had : Bool) (h : Held) → (after_try n command had h).state.work.job ≡ h.state.work.job
-tried_job n command had h = ap (λ (w : Working). w.job) (noted_work h.state)
-
--- the cause of a later try is one of the call
-pub cause_later : {A : Type 0} (r : Result A Refusal) (command : LockCommand) (old mid : Held) → ((n : ℕ) × (mid ≡ after_try n command false old)) → IfErr r (IsSomeCause mid.state.work.job command) → IfErr r (IsSomeCause old.state.work.job command)
-cause_later (Ok a) command old mid first h = tt
-cause_later (Err e) command old mid first h =
-    (h.0, subst (λ (j : ℕ). IsCauseOfLock e j command h.0) (ap (λ (x : Held). x.state.work.job) first.1 ∙ tried_job first.0 command false old) h.1)
-
--- a commit is refused for room alone
-pub cause_at_commit : {A : Type 0} (Q R : Refusal → Type 0) (r : Result A Refusal) → IfErr r (λ refusal. ((refusal ≡ OutOfMemory) ⊎ ((refusal ≡ StampsUsedUp) × Q refusal)) ⊎ ((refusal ≡ OutOfMemory) ⊎ ((refusal ≡ StampsUsedUp) × R refusal)))
-    → IfErr r (λ refusal. (refusal ≡ OutOfMemory) ⊎ (refusal ≡ StampsUsedUp))
-cause_at_commit Q R (Ok a) h = tt
-cause_at_commit Q R (Err e) (inl (inl memory)) = inl memory
-cause_at_commit Q R (Err e) (inl (inr full)) = inr full.0
-cause_at_commit Q R (Err e) (inr (inl memory)) = inl memory
-cause_at_commit Q R (Err e) (inr (inr full)) = inr full.0
+pub cause_at : {A : Type 0} (B : Type 0) (r : Result A Refusal) (s : JobSession) (units : List JournalUnit) (old new : Held) → OnErr r (B × (new ≡ knowing units old)) → IfErr r (λ refusal. IsCauseAtCommit refusal s.work units ⊎ IsCauseAtRestart refusal s units)
+    → IfErr r (λ refusal. IsCauseAtCommit refusal s.work new.seen ⊎ IsCauseAtRestart refusal s new.seen)
+cause_at B (Ok a) s units old new is cause = tt
+cause_at B (Err e) s units old new is cause =
+    subst (λ (us : List JournalUnit). IsCauseAtCommit e s.work us ⊎ IsCauseAtRestart e s us) (sym (ap (λ (x : Held). x.seen) is.1)) cause

@@ -1,6 +1,6 @@
 -- What a block of commands does under one hold of the lock: each command in its turn, on the units that are there by
 -- then. Read HasDone, then AreDone.
-use Rattle.std.specs.Prelude.{◌≡◌, ◌≢◌, ◌⊎◌, ⊤, ℕ, ◌+◌, ◌-◌, ◌≤◌, ◌<◌, nat_lt, if◌then◌else◌, Bool, true, false, List, [], ◌∷◌, ◌++◌, length, Option, None, Some, Result, Ok, Err, IsErrOf}
+use Rattle.std.specs.Prelude.{◌≡◌, ◌≢◌, ◌⊎◌, ⊤, ℕ, ◌+◌, ◌-◌, ◌≤◌, ◌<◌, nat_lt, not, if◌then◌else◌, Bool, true, false, List, [], ◌∷◌, ◌++◌, length, Option, None, Some, slice_get, unwrap_or, Result, Ok, Err, IsErrOf}
 use Rattle.refusal.specs.declared.Refusal.{Refusal}
 use Rattle.refusal.specs.declared.Refusal.TheVariants.{NoTransaction, LevelTooDeep}
 use Rattle.collation.specs.Limits.{most_levels}
@@ -11,7 +11,7 @@ use Rattle.command.specs.declared.access.Answer.{Answer}
 use Rattle.command.specs.declared.request.Command.{Command}
 use Rattle.command.specs.declared.request.Command.TheVariants.{Access, Lock as lock_command, Start, Commit, Rollback, Restart, Level, Restarts, Halt}
 use Rattle.command.specs.declared.request.Reply.{Reply}
-use Rattle.command.specs.declared.request.Reply.TheVariants.{Answered, Finished, Count, AtLevel, Committed as committed_reply, Restarted as restarted_reply, Refused}
+use Rattle.command.specs.declared.request.Reply.TheVariants.{Answered, Finished, Had, Count, AtLevel, Committed as committed_reply, Restarted as restarted_reply, Refused}
 use Rattle.command.specs.Data.{data_refusal, data_reply}
 use Rattle.globals.specs.Answering.{early_refusal}
 use Rattle.journal.specs.declared.unit.Unit.{Unit as JournalUnit}
@@ -24,9 +24,12 @@ use Rattle.validate_commit.specs.Verdicts.{IsCauseAtCommit}
 use Rattle.job_core.specs.Causes.{IsCauseOf}
 use Rattle.job_core.specs.Common.{IsCauseOfLock}
 use Rattle.job_core.specs.Sessions.{Session as JobSession, at_level, IsAnsweredOrRefused}
-use Rattle.shared_engine.specs.Sessions.{Held, held, rolled_back, and_receipt, begun_anew, HasBegun}
+use Rattle.pin_board.specs.Slips.{IsBeginning}
+use Rattle.shared_engine.specs.Sessions.{Held, held, knowing, rolled_back, and_receipt, begun_anew, HasBegun}
 use Rattle.shared_engine.specs.Engines.{HasEnded, gone_back, lock_unit, after_try}
 use Rattle.shared_engine.specs.declared.locked.Ended.TheVariants.{Committed}
+use Rattle.shared_engine.specs.declared.serial_run.SerialRun.{SerialRun}
+use Rattle.shared_engine.specs.declared.serial_run.SerialRun.TheVariants.{Done, Blocked}
 
 -- the reply to a command that was done with this answer, or refused
 abbrev pub said : {A : Type 0} → (A → Reply) → Result A Refusal → Reply
@@ -37,16 +40,20 @@ said reply (Err refusal) = Refused refusal
 abbrev pub AreSame : List JournalUnit → List JournalUnit → Held → Held → Type 0
 AreSame units more old new = (more ≡ units) × (new ≡ old)
 
+-- nothing has changed but that the session has seen all units
+abbrev pub HasSeen : List JournalUnit → List JournalUnit → Held → Held → Type 0
+HasSeen units more old new = (more ≡ units) × (new ≡ knowing units old)
+
 -- a data command outside a transaction; no want of memory hides a rule that is looked at before
 abbrev pub IsLone : DataCommand → Result Answer Refusal → List JournalUnit → List JournalUnit → Held → Held → Type 0
 IsLone command (Ok answer) units more old new =
     ((answer ≡ data_reply command (after units initial).map) × (data_refusal command (after units initial).map ≡ None))
-    × ((more ≡ units ++ Lone old.state.work.job command answer ∷ []) × (new ≡ and_receipt (length units + 1) (Lone old.state.work.job command answer) old))
+    × ((more ≡ units ++ Lone old.state.work.job command answer ∷ []) × (new ≡ and_receipt units (Lone old.state.work.job command answer) old))
 IsLone command (Err refusal) units more old new =
     (IsCauseOf refusal command (after units initial).map (length units) × ((rule : Refusal) → early_refusal command ≡ Some rule → IsErrOf {T = Answer} (Err refusal) rule))
-    × AreSame units more old new
+    × HasSeen units more old new
 
--- a data command inside one, which sees the map of its start and its own commands
+-- a data command inside one, which sees the map of its start and its own commands; the session has then seen all units
 abbrev pub IsReadAt : Option (List JournalUnit) → DataCommand → Result Answer Refusal → JobSession → JobSession → Type 0
 IsReadAt None command result old new = ⊥
 IsReadAt (Some base) command result old new = IsAnsweredOrRefused command result (after base initial).map old new
@@ -54,14 +61,34 @@ IsReadAt (Some base) command result old new = IsAnsweredOrRefused command result
 abbrev pub IsInside : DataCommand → Result Answer Refusal → List JournalUnit → List JournalUnit → Held → Held → Type 0
 IsInside command result units more old new =
     IsReadAt old.start command result old.state new.state
-    × ((more ≡ units) × ((new.start ≡ old.start) × ((new.receipts ≡ old.receipts) × (new.others ≡ old.others))))
+    × ((more ≡ units) × ((new.start ≡ old.start) × ((new.receipts ≡ old.receipts) × ((new.others ≡ old.others) × (new.seen ≡ units)))))
 
 -- one try of a LOCK
 abbrev pub IsTried : LockCommand → Result Bool Refusal → List JournalUnit → List JournalUnit → Held → Held → Type 0
 IsTried command (Ok had) units more old new =
     ((had ≡ lock_reply old.state.work.job command (after units initial).locks) × (lock_refusal old.state.work.job command (after units initial).locks ≡ None))
-    × ((more ≡ units ++ lock_unit old.state command had ∷ []) × (new ≡ after_try (length units + 1) command had old))
-IsTried command (Err refusal) units more old new = IsCauseOfLock refusal old.state.work.job command units × AreSame units more old new
+    × ((more ≡ units ++ lock_unit old.state command had ∷ []) × (new ≡ after_try units command had old))
+IsTried command (Err refusal) units more old new = IsCauseOfLock refusal old.state.work.job command units × HasSeen units more old new
+
+-- a try of a LOCK, on a journal that goes on from what the session had seen
+abbrev pub WasTried : LockCommand → Result Bool Refusal → Held → Held → Type 0
+WasTried command result old new = (units : List JournalUnit) × IsBeginning units old.seen × IsTried command result units new.seen old new
+
+-- a later try ended so, behind a first in vain
+abbrev pub WasTriedAgain : LockCommand → Result Bool Refusal → Held → Held → Type 0
+WasTriedAgain command result old new = (middle : Held) × WasTried command (Ok false) old middle × WasTried command result middle new
+
+-- a LOCK has its names, at the first try or at a later one
+abbrev pub HasItsNames : LockCommand → Held → Held → Type 0
+HasItsNames command old new = WasTried command (Ok true) old new ⊎ WasTriedAgain command (Ok true) old new
+
+-- it was tried in vain
+abbrev pub WasBlocked : LockCommand → Held → Held → Type 0
+WasBlocked command old new = WasTried command (Ok false) old new
+
+-- it was refused, at the first try or at a later one
+abbrev pub WasRefused : LockCommand → Refusal → Held → Held → Type 0
+WasRefused command refusal old new = WasTried command (Err refusal) old new ⊎ WasTriedAgain command (Err refusal) old new
 
 -- the outermost TSTART: the transaction begins on all units, and is never refused
 abbrev pub IsOpened : Result ℕ Refusal → List JournalUnit → List JournalUnit → Held → Held → Type 0
@@ -70,7 +97,7 @@ IsOpened (Err refusal) units more old new = ⊥
 
 -- a TSTART within a transaction
 abbrev pub IsDeeper : Result ℕ Refusal → List JournalUnit → List JournalUnit → Held → Held → Type 0
-IsDeeper (Ok level) units more old new = ((level ≡ old.state.level + 1) × (old.state.level < most_levels)) × ((more ≡ units) × (new ≡ held (at_level level old.state) old.start old.receipts old.others))
+IsDeeper (Ok level) units more old new = ((level ≡ old.state.level + 1) × (old.state.level < most_levels)) × ((more ≡ units) × (new ≡ held (at_level level old.state) old.start old.receipts old.others old.seen))
 IsDeeper (Err refusal) units more old new = ((refusal ≡ LevelTooDeep) × (most_levels ≤ old.state.level)) × AreSame units more old new
 
 -- TCOMMIT, TROLLBACK or TRESTART without a transaction
@@ -80,21 +107,21 @@ IsNone result units more old new = (result ≡ Err NoTransaction) × AreSame uni
 -- the outermost TCOMMIT: the transaction is a unit, and never begins anew
 abbrev pub IsCommitted : Result Reply Refusal → List JournalUnit → List JournalUnit → Held → Held → Type 0
 IsCommitted (Ok reply) units more old new = (reply ≡ committed_reply) × HasEnded Committed units more old new
-IsCommitted (Err refusal) units more old new = (IsCauseAtCommit refusal old.state.work units ⊎ HasNoRoom refusal 1 (length units)) × AreSame units more old new
+IsCommitted (Err refusal) units more old new = IsCauseAtCommit refusal old.state.work units × HasSeen units more old new
 
 -- a TCOMMIT within a transaction
 abbrev pub IsLower : Result Reply Refusal → List JournalUnit → List JournalUnit → Held → Held → Type 0
-IsLower result units more old new = (result ≡ Ok (AtLevel (old.state.level - 1))) × ((more ≡ units) × (new ≡ held (at_level (old.state.level - 1) old.state) old.start old.receipts old.others))
+IsLower result units more old new = (result ≡ Ok (AtLevel (old.state.level - 1))) × ((more ≡ units) × (new ≡ held (at_level (old.state.level - 1) old.state) old.start old.receipts old.others old.seen))
 
 -- TROLLBACK of a transaction
 abbrev pub IsRolledBack : Result (Unit {0}) Refusal → List JournalUnit → List JournalUnit → Held → Held → Type 0
-IsRolledBack (Ok done) units more old new = (more ≡ gone_back old.state units) × (new ≡ rolled_back (length more) old)
-IsRolledBack (Err refusal) units more old new = (HasNoRoom refusal 1 (length units) × (old.state.took_lock ≡ true)) × AreSame units more old new
+IsRolledBack (Ok done) units more old new = (more ≡ gone_back old.state units) × (new ≡ rolled_back more old)
+IsRolledBack (Err refusal) units more old new = (HasNoRoom refusal 1 (length units) × (old.state.took_lock ≡ true)) × HasSeen units more old new
 
 -- TRESTART of a transaction
 abbrev pub IsRestarted : Result ℕ Refusal → List JournalUnit → List JournalUnit → Held → Held → Type 0
 IsRestarted (Ok restarts) units more old new = (restarts ≡ new.state.restarts) × ((more ≡ gone_back old.state units) × (new ≡ begun_anew more old))
-IsRestarted (Err refusal) units more old new = (HasNoRoom refusal 1 (length units) × (old.state.took_lock ≡ true)) × AreSame units more old new
+IsRestarted (Err refusal) units more old new = (HasNoRoom refusal 1 (length units) × (old.state.took_lock ≡ true)) × HasSeen units more old new
 
 -- a command of the block was done, or refused with its cause, after which nothing has changed
 abbrev pub HasDone : Command → Reply → List JournalUnit → List JournalUnit → Held → Held → Type 0
@@ -122,15 +149,51 @@ AreDone (command ∷ commands) [] units more old new = ⊥
 AreDone (command ∷ commands) (reply ∷ replies) units more old new =
     (between : List JournalUnit) × (middle : Held) × HasDone command reply units between old middle × AreDone commands replies between more middle new
 
+-- whether the reply says that a LOCK was blocked which has to have its names
+abbrev pub is_blocked : Bool → Reply → Bool
+is_blocked true (Had had) = not had
+is_blocked must reply = false
+
+-- whether a LOCK at this place of a block has to have its names
+abbrev pub must_in : List Bool → ℕ → Bool
+must_in musts place = unwrap_or (slice_get musts place) false
+
+-- no reply says so
+abbrev pub AreHad : List Bool → List Reply → Type 0
+AreHad [] replies = ⊤
+AreHad (must ∷ musts) [] = ⊤
+AreHad (must ∷ musts) (reply ∷ replies) = (is_blocked must reply ≡ false) × AreHad musts replies
+
+-- the commands up to this place were done, and those behind it weren't: there a LOCK was blocked that has to have its names
+pub record IsCut (musts : List Bool) (place : ℕ) (block : List Command) (units more : List JournalUnit) (old new : Held) : Type 0 where
+  pub front : List Command
+  pub back : List Command
+  pub before : List Reply
+  pub last : Reply
+  pub split : block ≡ front ++ back
+  pub at : length before ≡ place
+  pub done : AreDone front (before ++ last ∷ []) units more old new
+  pub blocked : is_blocked (must_in musts place) last ≡ true
+
+-- what came of a block: all was done, and no LOCK was blocked that has to have its names; or one was, which is the last
+abbrev pub HasCome : List Bool → List Command → SerialRun → List JournalUnit → List JournalUnit → Held → Held → Type 0
+HasCome musts block (Done replies) units more old new = AreDone block replies.items units more old new × AreHad musts replies.items
+HasCome musts block (Blocked place) units more old new = IsCut musts place block units more old new
+
 -- a TCOMMIT that isn't answered that it begins anew
 abbrev pub IsNoRestart : Command → Reply → Type 0
 IsNoRestart command reply = command ≡ Commit → (n : ℕ) → reply ≢ restarted_reply n
 
--- no TCOMMIT of the block is answered that it begins anew
+-- no TCOMMIT of a block that was done is answered that it begins anew
 abbrev pub NoneRestarts : List Command → List Reply → Type 0
 NoneRestarts [] replies = ⊤
 NoneRestarts (command ∷ commands) [] = ⊤
 NoneRestarts (command ∷ commands) (reply ∷ replies) = IsNoRestart command reply × NoneRestarts commands replies
+
+-- the same of what came of a block
+abbrev pub NoneBeganAnew : List Command → SerialRun → Type 0
+NoneBeganAnew block (Done replies) = NoneRestarts block replies.items
+NoneBeganAnew block (Blocked place) = ⊤
 
 -- the transaction has done nothing yet
 abbrev pub IsFresh : Held → Type 0
@@ -142,8 +205,8 @@ IsReady s = (s.state.level ≡ 0) ⊎ IsFresh s
 
 -- its start is moved behind these units
 abbrev pub moved : List JournalUnit → Held → Held
-moved units s = held (record s.state { work = just_begun s.state.work.job (length units) }) (Some units) s.receipts s.others
+moved units s = held (record s.state { work = just_begun s.state.work.job (length units) }) (Some units) s.receipts s.others units
 
--- where a transaction is open, its start is moved behind these units
+-- it has seen these units, and where a transaction is open its start is moved behind them
 abbrev pub moved_open : List JournalUnit → Held → Held
-moved_open units s = if nat_lt 0 s.state.level then moved units s else s
+moved_open units s = if nat_lt 0 s.state.level then moved units s else knowing units s

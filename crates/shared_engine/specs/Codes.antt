@@ -16,8 +16,9 @@ claim_code = code_by (ℕ × (ℕ × JournalUnit)) (coded× coded_ℕ (coded× c
 
 abbrev pub held_code : Coded Held
 held_code =
-    code_by (JobSession × (Option (List JournalUnit) × (List Claim × List Claim))) (coded× session_code (coded× (coded_option (coded_list u.the_row.coded)) (coded× (coded_list claim_code) (coded_list claim_code))))
-    (λ s. (s.state, (s.start, (s.receipts, s.others)))) (λ p. record { state = p.0; start = p.1.0; receipts = p.1.1.0; others = p.1.1.1 }) (λ _. refl)
+    code_by (JobSession × (Option (List JournalUnit) × (List Claim × (List Claim × List JournalUnit))))
+    (coded× session_code (coded× (coded_option (coded_list u.the_row.coded)) (coded× (coded_list claim_code) (coded× (coded_list claim_code) (coded_list u.the_row.coded)))))
+    (λ s. (s.state, (s.start, (s.receipts, (s.others, s.seen))))) (λ p. record { state = p.0; start = p.1.0; receipts = p.1.1.0; others = p.1.1.1.0; seen = p.1.1.1.1 }) (λ _. refl)
 
 abbrev pub engine_code : Coded Engine
 engine_code =
@@ -26,5 +27,5 @@ engine_code =
 
 abbrev pub book_code : Coded Book
 book_code =
-    code_by (ℕ × (List Claim × List Claim)) (coded× coded_ℕ (coded× (coded_list claim_code) (coded_list claim_code))) (λ b. (b.job, (b.receipts, b.others)))
-    (λ p. record { job = p.0; receipts = p.1.0; others = p.1.1 }) (λ _. refl)
+    code_by (ℕ × (List Claim × (List Claim × List JournalUnit))) (coded× coded_ℕ (coded× (coded_list claim_code) (coded× (coded_list claim_code) (coded_list u.the_row.coded))))
+    (λ b. (b.job, (b.receipts, (b.others, b.seen)))) (λ p. record { job = p.0; receipts = p.1.0; others = p.1.1.0; seen = p.1.1.1 }) (λ _. refl)

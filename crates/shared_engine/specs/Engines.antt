@@ -3,17 +3,20 @@ use Rattle.std.specs.Prelude.{◌≡◌, ◌≢◌, ◌⊎◌, ℕ, ◌+◌, ◌
 use Rattle.std.specs.List.{All, sum_by}
 use Rattle.journal.specs.declared.unit.Unit.{Unit as JournalUnit}
 use Rattle.journal.specs.declared.unit.Unit.TheVariants.{Back, Whole, Lock}
-use Rattle.journal.specs.Kept.{Claim}
+use Rattle.refusal.specs.declared.Refusal.{Refusal}
+use Rattle.journal.specs.Kept.{Claim, HasNoRoom}
 use Rattle.lock_name.specs.declared.lock.LockCommand.{LockCommand}
 use Rattle.validate_commit.specs.Verdicts.{has_been_overtaken}
 use Rattle.job_core.specs.Sessions.{Session as JobSession}
-use Rattle.job_core.specs.Common.{Common}
+use Rattle.job_core.specs.Common.{Common, HasTurned}
 use Rattle.pin_board.specs.declared.view.DeskView.{DeskView}
-use Rattle.pin_board.specs.Slips.{AreInJournal, weigh}
+use Rattle.pin_board.specs.Slips.{AreInJournal, IsBeginning, claims_of, weigh}
 use Rattle.shared_engine.specs.Receipts.{Book, IsOwn, RisesFrom, of_receipts, claim}
 use Rattle.shared_engine.specs.Sessions.{Held, held, and_receipt, begun_anew, ended, noted_lock}
 use Rattle.shared_engine.specs.declared.locked.Ended.{Ended}
 use Rattle.shared_engine.specs.declared.locked.Ended.TheVariants.{Committed, Restarted}
+use Rattle.shared_engine.specs.declared.turn.Turn.{Turn}
+use Rattle.shared_engine.specs.declared.turn.Turn.TheVariants.{Due, Taken}
 
 -- what all jobs share, how many sessions were opened, and the seats of the jobs up to the greatest that ever had one:
 -- none where it is lent to the job's session
@@ -77,18 +80,23 @@ whole_of s = Whole s.work.job s.work.exchanges
 abbrev pub HasEnded : Ended → List JournalUnit → List JournalUnit → Held → Held → Type 0
 HasEnded Committed units more old new =
     (has_been_overtaken old.state.work units ≡ false)
-    × ((more ≡ units ++ whole_of old.state ∷ []) × (new ≡ ended (and_receipt (length units + 1) (whole_of old.state) old)))
+    × ((more ≡ units ++ whole_of old.state ∷ []) × (new ≡ ended (and_receipt units (whole_of old.state) old)))
 HasEnded (Restarted restarts) units more old new =
     (has_been_overtaken old.state.work units ≡ true)
     × ((more ≡ gone_back old.state units) × ((new ≡ begun_anew more old) × (restarts ≡ new.state.restarts)))
+
+-- why a commit that was overtaken is refused: there is no room for the unit of the LOCKs that it gives back
+abbrev pub IsCauseAtRestart : Refusal → JobSession → List JournalUnit → Type 0
+IsCauseAtRestart refusal s units = HasNoRoom refusal 1 (length units) × ((has_been_overtaken s.work units ≡ true) × (s.took_lock ≡ true))
 
 -- the unit of a LOCK of this session
 abbrev pub lock_unit : JobSession → LockCommand → Bool → JournalUnit
 lock_unit s command had = Lock s.work.job (nat_lt 0 s.level) command had
 
--- a LOCK was tried, and is this unit at this number
-abbrev pub after_try : ℕ → LockCommand → Bool → Held → Held
-after_try n command had s = held (noted_lock s.state) s.start (s.receipts ++ claim n (lock_unit s.state command had) ∷ []) s.others
+-- a LOCK was tried, and is a unit behind these
+abbrev pub after_try : List JournalUnit → LockCommand → Bool → Held → Held
+after_try units command had s =
+    held (noted_lock s.state) s.start (s.receipts ++ claim (length units + 1) (lock_unit s.state command had) ∷ []) s.others (units ++ lock_unit s.state command had ∷ [])
 
 -- what holds where the answer is yes, and where it is no
 abbrev pub OnOkThat : {E : Type 0} → Result Bool E → Type 0 → Type 0
@@ -101,39 +109,44 @@ OnOkNot (Ok true) P = Unit {0}
 OnOkNot (Ok false) P = P
 OnOkNot (Err e) P = Unit {0}
 
--- a LOCK has its names: at the first try, or at a later one behind the first
-abbrev pub HasItsNames : LockCommand → Held → Held → Type 0
-HasItsNames command old new =
-    ((n : ℕ) × (new ≡ after_try n command true old))
-    ⊎ ((n m : ℕ) × (new ≡ after_try m command true (after_try n command false old)))
+-- a turn that was due stays so, or was taken over no more keys; any other is as it was
+abbrev pub MayBeTaken : Turn → Turn → Type 0
+MayBeTaken (Due keys) (Taken progress) = progress.visited ≤ keys
+MayBeTaken old new = new ≡ old
 
--- it was tried once, in vain
-abbrev pub WasBlocked : LockCommand → Held → Held → Type 0
-WasBlocked command old new = (n : ℕ) × (new ≡ after_try n command false old)
+-- what it did: one that was taken now is a turn at some horizon, any other left all as it was
+abbrev pub HasTakenTurn : Turn → Turn → Common → Common → Type 0
+HasTakenTurn (Due keys) (Taken progress) old new = (horizon : ℕ) × HasTurned horizon keys progress old.store new.store
+HasTakenTurn turn next old new = new ≡ old
 
 -- ---- the end
 
 -- what the units of these passes' receipts weigh
-abbrev pub receipts_weigh : (JournalUnit → ℕ) → List Book → ℕ
+abbrev pub receipts_weigh : (Claim → ℕ) → List Book → ℕ
 receipts_weigh weight passes = sum_by (λ (p : Book). weigh weight p.receipts) passes
 
--- the receipts of these passes are those of all units that give one, each as often as its unit was written
+-- the receipts of these passes are those of all units that give one, each at its number once
 abbrev pub AreAllReceipts : List JournalUnit → List Book → Type 0
-AreAllReceipts units passes = (weight : JournalUnit → ℕ) → sum_by (of_receipts weight) units ≡ receipts_weigh weight passes
+AreAllReceipts units passes = (weight : Claim → ℕ) → weigh (of_receipts weight) (claims_of 1 units) ≡ receipts_weigh weight passes
 
 -- what all units of these passes weigh
-abbrev pub units_weigh : (JournalUnit → ℕ) → List Book → ℕ
+abbrev pub units_weigh : (Claim → ℕ) → List Book → ℕ
 units_weigh weight passes = sum_by (λ (p : Book). weigh weight p.receipts + weigh weight p.others) passes
 
--- the units of these passes are all units, each as often as it was written
+-- the units of these passes are all units, each at its number once
 abbrev pub AreAllUnits : List JournalUnit → List Book → Type 0
-AreAllUnits units passes = (weight : JournalUnit → ℕ) → sum_by weight units ≡ units_weigh weight passes
+AreAllUnits units passes = (weight : Claim → ℕ) → weigh weight (claims_of 1 units) ≡ units_weigh weight passes
 
--- the rest of the passes is still to be taken in, and the others wrote what came back
-pub record IsDue (all rest : List Book) (back : List Claim) : Type 0 where
-  pub count : (weight : JournalUnit → ℕ) → weigh (of_receipts weight) back + receipts_weigh weight rest ≡ receipts_weigh weight all
-  pub units : (weight : JournalUnit → ℕ) → weigh weight back + units_weigh weight rest ≡ units_weigh weight all
+-- what the session had seen at its end begins the journal
+abbrev pub HasSeenOf : List JournalUnit → Book → Type 0
+HasSeenOf log p = IsBeginning log p.seen
+
+-- the rest of the passes is still to be taken in; the others wrote what came back, and had seen these beginnings
+pub record IsDue (all rest : List Book) (back : List Claim) (known : List (List JournalUnit)) : Type 0 where
+  pub count : (weight : Claim → ℕ) → weigh (of_receipts weight) back + receipts_weigh weight rest ≡ receipts_weigh weight all
+  pub units : (weight : Claim → ℕ) → weigh weight back + units_weigh weight rest ≡ units_weigh weight all
   pub own : All IsOwn rest → All IsOwn all
   pub in_journal : (log : List JournalUnit) → AreInJournal log back → All (λ (p : Book). AreInJournal log p.receipts) rest → All (λ (p : Book). AreInJournal log p.receipts) all
   pub others : (log : List JournalUnit) → AreInJournal log back → All (λ (p : Book). AreInJournal log p.others) rest → All (λ (p : Book). AreInJournal log p.others) all
   pub rising : All (λ (p : Book). RisesFrom 0 p.receipts) rest → All (λ (p : Book). RisesFrom 0 p.receipts) all
+  pub seen : (log : List JournalUnit) → All (IsBeginning log) known → All (HasSeenOf log) rest → All (HasSeenOf log) all

@@ -17,10 +17,6 @@ has_receipt (Lock job inside command had) = true
 has_receipt (Back job) = false
 has_receipt (End job) = false
 
--- a weight of units, of those that give a receipt alone
-abbrev pub of_receipts : (JournalUnit → ℕ) → JournalUnit → ℕ
-of_receipts weight u = if has_receipt u then weight u else 0
-
 -- the numbers rise, and all are above n
 abbrev pub RisesFrom : ℕ → List Claim → Type 0
 RisesFrom n [] = Unit {0}
@@ -29,6 +25,10 @@ RisesFrom n (x ∷ xs) = (n < x.number) × RisesFrom x.number xs
 -- whether a unit that was written gives a receipt
 abbrev pub gives : Claim → Bool
 gives c = has_receipt c.unit
+
+-- a weight of units with their numbers, of those that give a receipt alone
+abbrev pub of_receipts : (Claim → ℕ) → Claim → ℕ
+of_receipts weight c = if gives c then weight c else 0
 
 -- the unit's number in the journal
 abbrev pub number_of : Claim → ℕ
@@ -46,14 +46,21 @@ gives_none c = not (gives c)
 unfoldable pub others_in : List Claim → List Claim
 others_in mine = filter gives_none mine
 
--- a job, its receipts in order, and the other units that its session wrote
+-- the beginning of the journal on a session's slip
+abbrev pub seen_in : List (List JournalUnit) → List JournalUnit
+seen_in [] = []
+seen_in (seen ∷ more) = seen
+
+-- a job, its receipts in order, the other units that its session wrote, and the beginning of the journal that it had
+-- seen at its end
 pub record Book : Type 0 where
   pub job : ℕ
   pub receipts : List Claim
   pub others : List Claim
+  pub seen : List JournalUnit
 
-abbrev pub book : ℕ → List Claim → List Claim → Book
-book job receipts others = record { job = job; receipts = receipts; others = others }
+abbrev pub book : ℕ → List Claim → List Claim → List JournalUnit → Book
+book job receipts others seen = record { job = job; receipts = receipts; others = others; seen = seen }
 
 -- its units are its job's
 abbrev pub IsOwn : Book → Type 0

@@ -7,19 +7,20 @@ use Rattle.journal.specs.History.{initial, after, IsLegal}
 use Rattle.validate_commit.specs.Working.{IsWorkOn}
 use Rattle.job_core.specs.Sessions.{Session as JobSession, idle, just_opened, after_lock, anew}
 use Rattle.pin_board.specs.declared.view.PinView.{PinView}
-use Rattle.pin_board.specs.Slips.{AreInJournal}
+use Rattle.pin_board.specs.Slips.{AreInJournal, IsBeginning}
 use Rattle.shared_engine.specs.Receipts.{Book, book, IsBook, claim}
 
--- the job's own state; the journal at the start of its transaction, where one is open; its receipts; and the other units
--- that it wrote
+-- the job's own state; the journal at the start of its transaction, where one is open; its receipts; the other units
+-- that it wrote; and the longest beginning of the journal that it has seen
 pub record Held : Type 0 where
   pub state : JobSession
   pub start : Option (List JournalUnit)
   pub receipts : List Claim
   pub others : List Claim
+  pub seen : List JournalUnit
 
-abbrev pub held : JobSession → Option (List JournalUnit) → List Claim → List Claim → Held
-held state start receipts others = record { state = state; start = start; receipts = receipts; others = others }
+abbrev pub held : JobSession → Option (List JournalUnit) → List Claim → List Claim → List JournalUnit → Held
+held state start receipts others seen = record { state = state; start = start; receipts = receipts; others = others; seen = seen }
 
 -- the journal at the start of the session that has this seat
 abbrev pub start_in : PinView → Option (List JournalUnit)
@@ -45,44 +46,49 @@ pub record IsSession (state : JobSession) (pin : PinView) (numbers : List ℕ) :
 
 -- ---- steps of one session
 
--- one receipt more, of this unit at this number
-abbrev pub and_receipt : ℕ → JournalUnit → Held → Held
-and_receipt n unit s = held s.state s.start (s.receipts ++ claim n unit ∷ []) s.others
+-- it has seen these units, and nothing else has changed
+abbrev pub knowing : List JournalUnit → Held → Held
+knowing units s = held s.state s.start s.receipts s.others units
 
--- one unit more that gives no receipt
-abbrev pub and_other : ℕ → JournalUnit → Held → Held
-and_other n unit s = held s.state s.start s.receipts (s.others ++ claim n unit ∷ [])
+-- one receipt more, of this unit behind these
+abbrev pub and_receipt : List JournalUnit → JournalUnit → Held → Held
+and_receipt units unit s = held s.state s.start (s.receipts ++ claim (length units + 1) unit ∷ []) s.others (units ++ unit ∷ [])
 
--- a transaction that took a LOCK has gone back, as the unit of this number
-abbrev pub went_back : ℕ → Held → Held
-went_back n s = held s.state s.start s.receipts (if s.state.took_lock then s.others ++ claim n (Back s.state.work.job) ∷ [] else s.others)
+-- a transaction that took a LOCK has gone back, as the last of these units
+abbrev pub went_back : List JournalUnit → Held → Held
+went_back units s =
+    held s.state s.start s.receipts (if s.state.took_lock then s.others ++ claim (length units) (Back s.state.work.job) ∷ [] else s.others) (if s.state.took_lock then units else s.seen)
 
--- the outermost TSTART: the transaction begins on these units, in which those of its receipts are
+-- the outermost TSTART: the transaction begins on these units, which go on from what the session had seen, and in which
+-- those of its receipts are
 pub record HasBegun (base : List JournalUnit) (old new : Held) : Type 0 where
-  pub is : new ≡ held (just_opened old.state.work.job (length base)) (Some base) old.receipts old.others
+  pub is : new ≡ held (just_opened old.state.work.job (length base)) (Some base) old.receipts old.others base
+  pub goes_on : IsBeginning base old.seen
   pub receipts : AreInJournal base old.receipts
 
 -- the transaction begins anew behind these units, the last of which says so where it took a LOCK
 abbrev pub begun_anew : List JournalUnit → Held → Held
-begun_anew units s = held (anew (length units) s.state) (Some units) s.receipts (went_back (length units) s).others
+begun_anew units s = held (anew (length units) s.state) (Some units) s.receipts (went_back units s).others units
 
--- the journal is legal and goes on from the start of the session's transaction, and the units of its receipts are in it
+-- the journal is legal, goes on from what the session has seen and from the start of its transaction, and the units of
+-- its receipts are in it
 pub record IsJournalOf (units : List JournalUnit) (s : Held) : Type 0 where
   pub legal : IsLegal units initial
+  pub goes_on : IsBeginning units s.seen
   pub start : IfSome s.start (λ base. base ≡ take (length base) units)
   pub receipts : AreInJournal units s.receipts
 
 -- no transaction is open any more
 abbrev pub ended : Held → Held
-ended s = held (idle s.state.work.job) None s.receipts s.others
+ended s = held (idle s.state.work.job) None s.receipts s.others s.seen
 
--- the transaction is gone, as the unit of this number says where it took a LOCK
-abbrev pub rolled_back : ℕ → Held → Held
-rolled_back n s = ended (went_back n s)
+-- the transaction is gone, as the last of these units says where it took a LOCK
+abbrev pub rolled_back : List JournalUnit → Held → Held
+rolled_back units s = ended (went_back units s)
 
--- the session is over, as the unit of this number says
-abbrev pub halted : ℕ → Held → Book
-halted n s = book s.state.work.job s.receipts (s.others ++ claim n (End s.state.work.job) ∷ [])
+-- the session is over, as the unit behind these says
+abbrev pub halted : List JournalUnit → Held → Book
+halted units s = book s.state.work.job s.receipts (s.others ++ claim (length units + 1) (End s.state.work.job) ∷ []) (units ++ End s.state.work.job ∷ [])
 
 -- a LOCK is noted in the state, where it was taken inside a transaction
 abbrev pub noted_lock : JobSession → JobSession

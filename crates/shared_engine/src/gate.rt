@@ -38,11 +38,14 @@ pub trait Gate {
     /// After it was done, at each try.
     fn after(&self, job: Job, line: u64);
 
-    /// Between two tries of a LOCK that waits.
+    /// Between two of the first tries of a LOCK that waits.
     fn between_tries(&self, job: Job);
 
-    /// Lets one second pass, between two tries of a LOCK that has a timeout.
-    fn second(&self, job: Job);
+    /// Lets so many milliseconds pass, between two tries of a LOCK.
+    fn pause(&self, job: Job, millis: u64);
+
+    /// How many milliseconds have passed since some moment, by a clock that doesn't go back.
+    fn now(&self) -> u64;
 
     /// A LOCK without a timeout was tried in vain, and is tried again until it has its names or is refused.
     fn waits(&self, job: Job, command: &LockCommand) -> Mark;
@@ -65,4 +68,72 @@ pub trait Gate {
 
     /// After a script was done, or failed: how many of how many are, and how many lines they had.
     fn job_done(&self, done: u64, jobs: u64, lines: u64);
+}
+
+// How many tries of a LOCK without a timeout have no pause before them.
+const UNPAUSED: u64 = 64;
+
+// The longest pause before a try, in milliseconds.
+const LONGEST_PAUSE: u64 = 50;
+
+/// How a LOCK lets time pass between its tries: each pause is twice as long as the one before.
+#[derive(Drop)]
+pub(crate) struct Delay {
+    // How many tries are to have no pause, and how long the next pause is.
+    unpaused: u64,
+    pause: u64,
+    // When the time is over by the gate's clock, and how much of it is left by the pauses.
+    end: u64,
+    left: u64,
+}
+
+impl Delay {
+    /// Without an end, and first without pauses.
+    pub(crate) fn yielding() -> Delay {
+        Delay {
+            unpaused: UNPAUSED,
+            pause: 1,
+            end: 0,
+            left: 0,
+        }
+    }
+
+    /// Over after so many milliseconds.
+    pub(crate) fn within<G: Gate>(gate: &G, millis: u64) -> Delay {
+        Delay {
+            unpaused: 0,
+            pause: 1,
+            end: gate.now().saturating_add(millis),
+            left: millis,
+        }
+    }
+
+    // How long the next pause is.
+    fn next(&mut self) -> u64 {
+        let pause = self.pause;
+        self.pause = pause.saturating_mul(2).min(LONGEST_PAUSE);
+        pause
+    }
+
+    /// Lets time pass before the next try.
+    pub(crate) fn pass<G: Gate>(&mut self, gate: &G, job: Job) {
+        if self.unpaused > 0 {
+            self.unpaused -= 1;
+            gate.between_tries(job);
+        } else {
+            gate.pause(job, self.next());
+        }
+    }
+
+    /// The same, where some is left.
+    pub(crate) fn pass_within<G: Gate>(&mut self, gate: &G, job: Job) -> bool {
+        let left = self.left.min(self.end.saturating_sub(gate.now()));
+        if left == 0 {
+            return false;
+        }
+        let pause = self.next().min(left);
+        self.left = left - pause;
+        gate.pause(job, pause);
+        true
+    }
 }

@@ -2,17 +2,17 @@
 //! the lock.
 //!
 //! What callers see of a session (`specs/Sessions.antt`) is its job's state, the journal at the start of its
-//! transaction, its receipts, each a unit with its number, and the other units that it wrote. What they learn:
+//! transaction, its receipts, each a unit with its number, the other units that it wrote, and the longest beginning of
+//! the journal that it has seen. Each call tells of a journal that goes on from that. What they learn:
 //!
 //! (1) each accepted lone command and each commit adds one receipt, whose unit is just this command with this answer; a
 //!     LOCK one or two, `run_serial` those of its block; no other call any. Their numbers rise, and as a transaction
 //!     begins they are in the journal of its start. A rollback or restart adds one other unit exactly where the
 //!     transaction took a LOCK, the end of a session one more, no other call any;
 //! (2) a read answers what the machine would, on the map of the transaction's start followed by its own commands; a
-//!     transaction restarts exactly where a unit since its start touched what it had read, as the calls of `Shared`
-//!     tell it on some journal;
-//! (3) once the engine is closed its journal is legal, its content is what that leaves, each unit of a pass is in it at
-//!     its number, and where all passes are in, their units are all of it.
+//!     transaction restarts exactly where a unit since its start touched what it had read;
+//! (3) once the engine is closed its journal is legal, its content is what that leaves, what a session had seen begins
+//!     it, each unit of a pass is in it at its number, and where all passes are in, their units are all of it.
 //!
 //! `Locked` (`src/locked.rt`) is what lies under the lock; each of its methods is a step, whose contract is exact.
 //! `Shared` takes the lock and calls one. Whenever the lock is free, no content that an open transaction sees is gone
@@ -23,17 +23,23 @@
 //! `session.rt`. Not promised: that a call which waits for the lock returns, or that a LOCK has its names at last.
 #![tactic(auto)]
 
+pub use finishing::Closed;
 pub use gate::{Gate, Mark, Stop};
-pub use locked::{Closed, Ended};
+pub use locked::Ended;
+pub use serial_run::SerialRun;
 pub use session::{Pass, Session};
 pub use shared::{Pause, Share, Shared};
+pub use turn::Turn;
 
 mod adaptive;
+mod finishing;
 mod gate;
 mod locked;
+mod locking;
 mod read_run;
 mod seats;
 mod serial_run;
 mod session;
 mod shared;
 mod sweep;
+mod turn;

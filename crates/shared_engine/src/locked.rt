@@ -1,8 +1,6 @@
 //! What lies under the lock. Each step of a session is a method, whose contract says exactly what it does.
 ghost use Rattle.std.specs.Prelude.{◌≡◌, ◌⊎◌, ◌<◌, ◌≤◌, ◌+◌, ◌-◌, ◌^◌, ◌∷◌, ◌++◌, ℕ, true, false, List, [], min, max, nat_lt, length, vec_len, take, None, Some, IfOk, IfErr, IsErrOf, IfSome, IsSome, OnOk, OnErr};
-ghost use Rattle.std.specs.List.{All};
 ghost use Rattle.refusal.specs.declared.Refusal.{Refusal};
-ghost use Rattle.lock_name.specs.Locks.{lock_refusal, lock_reply};
 ghost use Rattle.command.specs.Data.{data_refusal, data_reply};
 ghost use Rattle.globals.specs.Answering.{early_refusal, IsRuleOrMemory};
 ghost use Rattle.journal.specs.History.{initial, after, IsLegal};
@@ -10,13 +8,11 @@ ghost use Rattle.journal.specs.Kept.{Claim, HasNoRoom};
 ghost use Rattle.journal.specs.declared.unit.Unit.TheVariants.{Lone, End};
 ghost use Rattle.validate_commit.specs.Verdicts.{has_been_overtaken, IsCauseAtCommit};
 ghost use Rattle.job_core.specs.Causes.{IsCauseOf};
-ghost use Rattle.job_core.specs.Common.{IsCauseOfLock, HasTurned};
+ghost use Rattle.job_core.specs.Common.{HasTurned};
 ghost use Rattle.job_core.specs.Sessions.{idle, IsAnsweredOrRefused, IsOpenOn};
-ghost use Rattle.pin_board.specs.Slips.{AreInJournal};
-ghost use Rattle.pin_board.specs.Tally.{tallied};
-ghost use Rattle.shared_engine.specs.Receipts.{Book, IsOwn, RisesFrom};
-ghost use Rattle.shared_engine.specs.Sessions.{held, and_receipt, went_back, begun_anew, rolled_back, halted, noted_lock, IsJournalOf};
-ghost use Rattle.shared_engine.specs.Engines.{has_session, SessionIs, SameSessions, gone_back, lock_unit, after_try, HasEnded, OnOkThat, OnOkNot, AreAllReceipts, AreAllUnits, IsDue};
+ghost use Rattle.pin_board.specs.Slips.{IsBeginning};
+ghost use Rattle.shared_engine.specs.Sessions.{held, knowing, and_receipt, went_back, begun_anew, rolled_back, halted, noted_lock, IsJournalOf};
+ghost use Rattle.shared_engine.specs.Engines.{has_session, SessionIs, SameSessions, gone_back, lock_unit, after_try, HasEnded, IsCauseAtRestart, OnOkThat, OnOkNot};
 
 use crate::seats::Seats;
 use crate::session::{Pass, Session};
@@ -26,8 +22,7 @@ use collector::Progress;
 use command::{Answer, DataCommand};
 use globals::answer;
 use job_core::{Core, JobState};
-use lock_name::LockCommand;
-use pin_board::{Board, BoardName, Desk, Pin, Tally};
+use pin_board::{Board, BoardName, Desk};
 use refusal::Refusal;
 use std::alloc::{AllocError, Global};
 use std::marker::Model;
@@ -43,24 +38,15 @@ pub enum Ended {
     Restarted(u64),
 }
 
-/// An engine at its end.
-#[derive(Drop)]
-pub struct Closed {
-    /// Its journal, content and locks.
-    pub core: Core,
-    /// How many sessions were opened, up to 2^64 - 1.
-    pub sessions: u64,
-}
-
 /// What all jobs share, the board's desk, the seats of the jobs that have no session, the horizon that was drawn last,
 /// how many sessions were opened, and how far the collector has gone round.
 #[derive(Drop)]
 pub(crate) struct Locked<B: BoardName> {
     // What only a writer looks at comes first: it lies beside the lock's own word, which each reader changes.
-    seats: Seats<B>,
-    horizon: u64,
-    opened: u64,
-    sweep: Sweep,
+    pub(crate) seats: Seats<B>,
+    pub(crate) horizon: u64,
+    pub(crate) opened: u64,
+    pub(crate) sweep: Sweep,
     pub(crate) core: Core,
     pub(crate) desk: Desk<B>,
 }
@@ -95,7 +81,8 @@ fn go_back<B: BoardName, R: Wait>(
     ensures base { core.new.base ≡ core.old.base }
     ensures cut { core.new.store.cut ≤ desk.new.high }
     ensures desk { desk.new ≡ record desk.old { log = core.new.units } }
-    ensures session { OnOk result (session.new ≡ went_back (length core.new.units) session.old) }
+    ensures session { OnOk result (session.new ≡ went_back core.new.units session.old) }
+    ensures goes_on { OnOk result (session.old.state.took_lock ≡ true → IsBeginning core.old.units session.old.seen) }
     ensures refused { OnErr result ((core.new ≡ core.old) × (session.new ≡ session.old)) }
     ensures cause { IfErr result (λ refusal. HasNoRoom refusal 1 (length core.old.units) × (session.old.state.took_lock ≡ true)) }
 {
@@ -118,25 +105,6 @@ fn rule_or_memory(alloc: Global, core: &Core, command: DataCommand) -> Refusal
             Refusal::OutOfMemory
         }
         Err(refusal) => refusal,
-    }
-}
-
-// The same of a LOCK.
-fn lock_rule_or_memory(core: &Core, job: Job, command: &LockCommand) -> Refusal
-    ensures { (result ≡ Refusal.OutOfMemory) ⊎ (lock_refusal job command.now (after core.now.units initial).locks ≡ Some result) }
-{
-    match core.locks().check(job, command) {
-        Ok(()) => Refusal::OutOfMemory,
-        Err(refusal) => refusal,
-    }
-}
-
-// Notes a LOCK in the session's state, where it was taken inside a transaction.
-fn note_lock(state: &mut JobState)
-    ensures { state.new ≡ noted_lock state.old }
-{
-    if state.level() > 0 {
-        state.note_lock();
     }
 }
 
@@ -166,7 +134,7 @@ impl<B: BoardName> Locked<B> {
         alloc: Global,
         job: Job,
     ) -> Result<Session<B>, Refusal>
-        ensures session { IfOk result (λ session. session ≡ held (idle job) None [] []) }
+        ensures session { IfOk result (λ session. session ≡ held (idle job) None [] [] self.old.common.units) }
         ensures free { OnOk result (has_session self.old.seats job ≡ false) }
         ensures opened { OnOk result ((self.new.opened ≡ self.old.opened + 1) × SessionIs true job self.old.seats self.new.seats) }
         ensures common { self.new.common ≡ self.old.common }
@@ -192,8 +160,8 @@ impl<B: BoardName> Locked<B> {
 
     /// A data command outside a transaction: a unit of its own.
     ///
-    /// Refusals, after which nothing has changed: those of `Core::lone`; and `OutOfMemory` for the receipt, which hides
-    /// no rule that is looked at before memory is asked for.
+    /// Refusals, after which nothing has changed but that the session has seen the whole journal: those of `Core::lone`;
+    /// and `OutOfMemory` for the receipt, which hides no rule that is looked at before memory is asked for.
     pub(crate) fn lone<R: Wait>(
         &mut self,
         rt: &R,
@@ -205,7 +173,36 @@ impl<B: BoardName> Locked<B> {
         ensures answer { IfOk result (λ answer. answer ≡ data_reply command (after self.old.common.units initial).map) }
         ensures accepted { OnOk result (data_refusal command (after self.old.common.units initial).map ≡ None) }
         ensures units { IfOk result (λ answer. self.new.common.units ≡ self.old.common.units ++ Lone session.old.state.work.job command answer ∷ []) }
-        ensures receipt { IfOk result (λ answer. session.new ≡ and_receipt (length self.old.common.units + 1) (Lone session.old.state.work.job command answer) session.old) }
+        ensures receipt { IfOk result (λ answer. session.new ≡ and_receipt self.old.common.units (Lone session.old.state.work.job command answer) session.old) }
+        ensures goes_on { IsBeginning self.old.common.units session.old.seen }
+        ensures refused { OnErr result ((self.new.common.units ≡ self.old.common.units) × (session.new ≡ knowing self.old.common.units session.old)) }
+        ensures early { (refusal : Refusal) → early_refusal command ≡ Some refusal → IsErrOf result refusal }
+        ensures cause { IfErr result (λ refusal. IsCauseOf refusal command (after self.old.common.units initial).map (length self.old.common.units)) }
+        ensures others { (self.new.opened ≡ self.old.opened) × (self.new.seats ≡ self.old.seats) }
+    {
+        match self.write_lone(rt, board, session, command) {
+            Ok(answer) => Ok(answer),
+            Err(refusal) => {
+                self.find_journal(rt, board, session);
+                Err(refusal)
+            }
+        }
+    }
+
+    // The same, where a refusal changes nothing at all.
+    fn write_lone<R: Wait>(
+        &mut self,
+        rt: &R,
+        board: &Board<B>,
+        session: &mut Session<B>,
+        command: DataCommand,
+    ) -> Result<Answer, Refusal>
+        requires { session.old.state.level ≡ 0 }
+        ensures answer { IfOk result (λ answer. answer ≡ data_reply command (after self.old.common.units initial).map) }
+        ensures accepted { OnOk result (data_refusal command (after self.old.common.units initial).map ≡ None) }
+        ensures units { IfOk result (λ answer. self.new.common.units ≡ self.old.common.units ++ Lone session.old.state.work.job command answer ∷ []) }
+        ensures receipt { IfOk result (λ answer. session.new ≡ and_receipt self.old.common.units (Lone session.old.state.work.job command answer) session.old) }
+        ensures goes_on { OnOk result (IsBeginning self.old.common.units session.old.seen) }
         ensures refused { OnErr result ((self.new.common.units ≡ self.old.common.units) × (session.new ≡ session.old)) }
         ensures early { (refusal : Refusal) → early_refusal command ≡ Some refusal → IsErrOf result refusal }
         ensures cause { IfErr result (λ refusal. IsCauseOf refusal command (after self.old.common.units initial).map (length self.old.common.units)) }
@@ -225,64 +222,6 @@ impl<B: BoardName> Locked<B> {
         Ok(answer)
     }
 
-    /// One try of a LOCK. It is a unit, had or not.
-    ///
-    /// Refusals, after which nothing has changed: those of `Core::lock`; and `OutOfMemory` for the receipt, which hides
-    /// its rule only where memory was refused while that was looked at.
-    pub(crate) fn lock<R: Wait>(
-        &mut self,
-        rt: &R,
-        board: &Board<B>,
-        session: &mut Session<B>,
-        command: &LockCommand,
-    ) -> Result<bool, Refusal>
-        ensures had { IfOk result (λ had. had ≡ lock_reply session.old.state.work.job command.now (after self.old.common.units initial).locks) }
-        ensures allowed { OnOk result (lock_refusal session.old.state.work.job command.now (after self.old.common.units initial).locks ≡ None) }
-        ensures units { IfOk result (λ had. self.new.common.units ≡ self.old.common.units ++ lock_unit session.old.state command.now had ∷ []) }
-        ensures receipt { IfOk result (λ had. session.new ≡ after_try (length self.old.common.units + 1) command.now had session.old) }
-        ensures refused { OnErr result ((self.new ≡ self.old) × (session.new ≡ session.old)) }
-        ensures cause { IfErr result (λ refusal. IsCauseOfLock refusal session.old.state.work.job command.now self.old.common.units) }
-        ensures others { (self.new.opened ≡ self.old.opened) × (self.new.seats ≡ self.old.seats) }
-    {
-        if session.numbers.reserve(1).is_err() {
-            return Err(lock_rule_or_memory(&self.core, session.state.job(), command));
-        }
-        let inside = session.state.level() > 0;
-        let (had, receipt) = self
-            .core
-            .lock(session.state.job(), inside, command, Some(self.horizon))?;
-        board.write(rt, &mut self.desk, &mut session.pin, &receipt);
-        session.numbers.push_reserved(receipt.number());
-        note_lock(&mut session.state);
-        Ok(had)
-    }
-
-    /// A later try of a LOCK that was blocked: it is a unit where it has its names now, and else nothing is done.
-    ///
-    /// Refusals, after which nothing has changed: as `lock`.
-    pub(crate) fn lock_again<R: Wait>(
-        &mut self,
-        rt: &R,
-        board: &Board<B>,
-        session: &mut Session<B>,
-        command: &LockCommand,
-    ) -> Result<bool, Refusal>
-        ensures units { OnOkThat result (self.new.common.units ≡ self.old.common.units ++ lock_unit session.old.state command.now true ∷ []) }
-        ensures receipt { OnOkThat result (session.new ≡ after_try (length self.old.common.units + 1) command.now true session.old) }
-        ensures blocked { OnOkNot result ((lock_reply session.old.state.work.job command.now (after self.old.common.units initial).locks ≡ false) × ((self.new ≡ self.old) × (session.new ≡ session.old))) }
-        ensures refused { OnErr result ((self.new ≡ self.old) × (session.new ≡ session.old)) }
-        ensures cause { IfErr result (λ refusal. IsCauseOfLock refusal session.old.state.work.job command.now self.old.common.units) }
-        ensures others { (self.new.opened ≡ self.old.opened) × (self.new.seats ≡ self.old.seats) }
-    {
-        if !self.core.locks().reply(session.state.job(), command) {
-            return Ok(false);
-        }
-        match self.lock(rt, board, session, command) {
-            Ok(_) => Ok(true),
-            Err(refusal) => Err(refusal),
-        }
-    }
-
     /// A data command of an open transaction, on the map of its start followed by its own commands. The lock may be
     /// shared.
     ///
@@ -300,22 +239,34 @@ impl<B: BoardName> Locked<B> {
         ensures open { IsSome session.old.start }
         ensures same { (session.new.start ≡ session.old.start) × (session.new.receipts ≡ session.old.receipts) }
         ensures others { session.new.others ≡ session.old.others }
+        ensures seen { session.new.seen ≡ self.now.common.units }
     {
         self.meet(rt, board, session);
         self.read_met(session, command)
     }
 
     /// Shows that the content of an open transaction's start is there, that the journal's base hasn't passed that start,
-    /// and that this stays so while the lock is held.
+    /// and that this stays so while the lock is held. The session has then seen the whole journal.
     ///
     /// Others may have written meanwhile, and a collector may have drawn a horizon: the board says that none is above
     /// this session's start.
     pub(crate) fn meet<R: Wait>(&self, rt: &R, board: &Board<B>, session: &mut Session<B>)
         requires { 1 ≤ session.old.state.level }
-        ensures same { session.new ≡ session.old }
+        ensures same { session.new ≡ knowing self.now.common.units session.old }
         ensures start { IfSome session.old.start (λ base. base ≡ take (length base) self.now.common.units) }
         ensures kept { IsOpenOn self.now.common session.old.state }
         ensures behind { self.now.common.base ≤ session.old.state.work.start }
+        ensures journal { IsJournalOf self.now.common.units session.old }
+    {
+        board.meet(rt, &self.desk, &mut session.pin);
+        // The core shows that its journal is legal.
+        let _ = self.core.journal();
+    }
+
+    /// Shows that the journal goes on from all that the session has seen, and has the units of its receipts. The session
+    /// has then seen the whole of it.
+    pub(crate) fn find_journal<R: Wait>(&self, rt: &R, board: &Board<B>, session: &mut Session<B>)
+        ensures same { session.new ≡ knowing self.now.common.units session.old }
         ensures journal { IsJournalOf self.now.common.units session.old }
     {
         board.meet(rt, &self.desk, &mut session.pin);
@@ -335,7 +286,7 @@ impl<B: BoardName> Locked<B> {
         ensures answered { IfSome session.old.start (λ base. IsAnsweredOrRefused command result (after base initial).map session.old.state session.new.state) }
         ensures open { IsSome session.old.start }
         ensures same { (session.new.start ≡ session.old.start) × (session.new.receipts ≡ session.old.receipts) }
-        ensures others { session.new.others ≡ session.old.others }
+        ensures others { (session.new.others ≡ session.old.others) × (session.new.seen ≡ session.old.seen) }
         ensures level { session.new.state.level ≡ session.old.state.level }
         ensures kept { IsOpenOn self.now.common session.new.state }
     {
@@ -344,7 +295,8 @@ impl<B: BoardName> Locked<B> {
 
     /// TROLLBACK: nothing of the transaction is left.
     ///
-    /// Refusals, after which nothing has changed, and only where it took a LOCK: `StampsUsedUp`, `OutOfMemory`.
+    /// Refusals, after which nothing has changed but that the session has seen the whole journal, and only where it
+    /// took a LOCK: `StampsUsedUp`, `OutOfMemory`.
     pub(crate) fn trollback<R: Wait>(
         &mut self,
         rt: &R,
@@ -353,28 +305,37 @@ impl<B: BoardName> Locked<B> {
     ) -> Result<(), Refusal>
         requires { 1 ≤ session.old.state.level }
         ensures units { OnOk result (self.new.common.units ≡ gone_back session.old.state self.old.common.units) }
-        ensures session { OnOk result (session.new ≡ rolled_back (length self.new.common.units) session.old) }
-        ensures refused { OnErr result ((self.new ≡ self.old) × (session.new ≡ session.old)) }
+        ensures session { OnOk result (session.new ≡ rolled_back self.new.common.units session.old) }
+        ensures goes_on { session.old.state.took_lock ≡ true → IsBeginning self.old.common.units session.old.seen }
+        ensures refused { OnErr result ((self.new ≡ self.old) × (session.new ≡ knowing self.old.common.units session.old)) }
         ensures cause { IfErr result (λ refusal. HasNoRoom refusal 1 (length self.old.common.units) × (session.old.state.took_lock ≡ true)) }
         ensures others { (self.new.opened ≡ self.old.opened) × (self.new.seats ≡ self.old.seats) }
     {
-        go_back(
+        match go_back(
             rt,
             board,
             &mut self.core,
             &mut self.desk,
             session,
             self.horizon,
-        )?;
-        board.leave(&mut session.pin);
-        session.state.end();
-        Ok(())
+        ) {
+            Ok(()) => {
+                board.leave(&mut session.pin);
+                session.state.end();
+                Ok(())
+            }
+            Err(refusal) => {
+                self.find_journal(rt, board, session);
+                Err(refusal)
+            }
+        }
     }
 
     /// TRESTART: nothing of the transaction is left, and it begins anew at level 1, at the present moment. Answers how
     /// often it has.
     ///
-    /// Refusals, after which nothing has changed, and only where it took a LOCK: `StampsUsedUp`, `OutOfMemory`.
+    /// Refusals, after which nothing has changed but that the session has seen the whole journal, and only where it
+    /// took a LOCK: `StampsUsedUp`, `OutOfMemory`.
     pub(crate) fn trestart<R: Wait>(
         &mut self,
         rt: &R,
@@ -385,30 +346,38 @@ impl<B: BoardName> Locked<B> {
         ensures units { OnOk result (self.new.common.units ≡ gone_back session.old.state self.old.common.units) }
         ensures session { IfOk result (λ restarts. (session.new ≡ begun_anew self.new.common.units session.old) × (restarts ≡ session.new.state.restarts)) }
         ensures journal { OnOk result (IsJournalOf self.new.common.units session.old) }
-        ensures refused { OnErr result ((self.new ≡ self.old) × (session.new ≡ session.old)) }
+        ensures goes_on { IsBeginning self.old.common.units session.old.seen }
+        ensures refused { OnErr result ((self.new ≡ self.old) × (session.new ≡ knowing self.old.common.units session.old)) }
         ensures cause { IfErr result (λ refusal. HasNoRoom refusal 1 (length self.old.common.units) × (session.old.state.took_lock ≡ true)) }
         ensures others { (self.new.opened ≡ self.old.opened) × (self.new.seats ≡ self.old.seats) }
     {
-        go_back(
+        match go_back(
             rt,
             board,
             &mut self.core,
             &mut self.desk,
             session,
             self.horizon,
-        )?;
-        let now = board.restart(rt, &self.desk, &mut session.pin);
-        // The core shows that its journal is legal.
-        let _ = self.core.journal();
-        session.state.begin_anew(now);
-        Ok(session.state.restarts())
+        ) {
+            Ok(()) => {
+                let now = board.restart(rt, &self.desk, &mut session.pin);
+                // The core shows that its journal is legal.
+                let _ = self.core.journal();
+                session.state.begin_anew(now);
+                Ok(session.state.restarts())
+            }
+            Err(refusal) => {
+                self.find_journal(rt, board, session);
+                Err(refusal)
+            }
+        }
     }
 
     /// The outermost TCOMMIT: the transaction is a unit; or it begins anew, exactly where another unit touched what it
     /// had read.
     ///
-    /// Refusals, after which nothing has changed: those of `Core::commit`; those of TRESTART where it was overtaken;
-    /// and `OutOfMemory` for the receipt.
+    /// Refusals, after which nothing has changed but that the session has seen the whole journal: those of
+    /// `Core::commit`; those of TRESTART where it was overtaken and took a LOCK; and `OutOfMemory` for the receipt.
     pub(crate) fn tcommit<R: Wait>(
         &mut self,
         rt: &R,
@@ -417,15 +386,15 @@ impl<B: BoardName> Locked<B> {
     ) -> Result<Ended, Refusal>
         requires { session.old.state.level ≡ 1 }
         ensures ended { IfOk result (λ end. HasEnded end self.old.common.units self.new.common.units session.old session.new) }
-        ensures journal { OnOk result (IsJournalOf self.old.common.units session.old) }
-        ensures refused { OnErr result ((self.new.common.units ≡ self.old.common.units) × (session.new ≡ session.old)) }
-        ensures cause { IfErr result (λ refusal. IsCauseAtCommit refusal session.old.state.work self.old.common.units ⊎ HasNoRoom refusal 1 (length self.old.common.units)) }
+        ensures journal { IsJournalOf self.old.common.units session.old }
+        ensures refused { OnErr result ((self.new.common.units ≡ self.old.common.units) × (session.new ≡ knowing self.old.common.units session.old)) }
+        ensures cause { IfErr result (λ refusal. IsCauseAtCommit refusal session.old.state.work self.old.common.units ⊎ IsCauseAtRestart refusal session.old.state self.old.common.units) }
         ensures others { (self.new.opened ≡ self.old.opened) × (self.new.seats ≡ self.old.seats) }
     {
-        session.numbers.reserve(1)?;
         board.meet(rt, &self.desk, &mut session.pin);
         // The core shows that its journal is legal.
         let _ = self.core.journal();
+        session.numbers.reserve(1)?;
         match self.core.commit(&session.state, Some(self.horizon))? {
             Verdict::Committed(receipt) => {
                 board.write(rt, &mut self.desk, &mut session.pin, &receipt);
@@ -446,18 +415,20 @@ impl<B: BoardName> Locked<B> {
     /// HALT: the session is over, its locks are released, and its seat is the next session's. Where it is refused the
     /// session goes on.
     ///
-    /// Refusals, after which nothing has changed: `StampsUsedUp`, `OutOfMemory`.
+    /// Refusals, after which nothing has changed but that the session has seen the whole journal: `StampsUsedUp`,
+    /// `OutOfMemory`.
     pub(crate) fn halt<R: Wait>(
         &mut self,
         rt: &R,
         board: &Board<B>,
         session: Session<B>,
     ) -> Result<Pass<B>, (Session<B>, Refusal)>
-        ensures pass { IfOk result (λ pass. pass ≡ halted (length self.new.common.units) session) }
+        ensures pass { IfOk result (λ pass. pass ≡ halted self.old.common.units session) }
+        ensures goes_on { IsBeginning self.old.common.units session.seen }
         ensures units { OnOk result (self.new.common.units ≡ self.old.common.units ++ End session.state.work.job ∷ []) }
         ensures over { OnOk result (SessionIs false session.state.work.job self.old.seats self.new.seats) }
         ensures opened { self.new.opened ≡ self.old.opened }
-        ensures refused { IfErr result (λ r. (r.0 ≡ session) × (self.new ≡ self.old)) }
+        ensures refused { IfErr result (λ r. (r.0 ≡ knowing self.old.common.units session) × (self.new ≡ self.old)) }
         ensures cause { IfErr result (λ r. HasNoRoom r.1 1 (length self.old.common.units)) }
     {
         let job = session.state.job();
@@ -475,7 +446,11 @@ impl<B: BoardName> Locked<B> {
                 drop(state);
                 Ok(Pass { job, slip, numbers })
             }
-            Err(refusal) => Err((session, refusal)),
+            Err(refusal) => {
+                let mut session = session;
+                self.find_journal(rt, board, &mut session);
+                Err((session, refusal))
+            }
         }
     }
 
@@ -526,59 +501,5 @@ impl<B: BoardName> Locked<B> {
     /// Whether the collector has visited all keys since the last write: it would find nothing.
     pub(crate) fn is_swept(&self) -> bool {
         self.sweep.is_done()
-    }
-
-    /// The core at the end. Where all passes are in, their units are all units in the journal, and their receipts those
-    /// of all, but for rollbacks and ends. Takes no memory.
-    pub(crate) fn finish<R: Wait>(self, rt: &R, board: &Board<B>, passes: Vec<Pass<B>>) -> Closed
-        ensures core { result.core.units ≡ self.common.units }
-        ensures sessions { result.sessions ≡ min self.opened (2 ^ 64 - 1) }
-        ensures in_journal { All (λ (p : Book). AreInJournal result.core.units p.receipts) passes.items }
-        ensures others { All (λ (p : Book). AreInJournal result.core.units p.others) passes.items }
-        ensures rising { All (λ (p : Book). RisesFrom 0 p.receipts) passes.items }
-        ensures own { All IsOwn passes.items }
-        ensures all { vec_len passes ≡ result.sessions → result.sessions < 2 ^ 64 - 1 → AreAllReceipts result.core.units passes.items }
-        ensures all_units { vec_len passes ≡ result.sessions → result.sessions < 2 ^ 64 - 1 → AreAllUnits result.core.units passes.items }
-        ensures few { vec_len passes ≤ result.sessions }
-    {
-        let Locked {
-            core,
-            desk,
-            seats: _,
-            horizon: _,
-            opened,
-            sweep: _,
-        } = self;
-        let mut tally = desk.into_tally(rt);
-        gather(board, &mut tally, passes);
-        board.audit(&mut tally);
-        Closed {
-            core,
-            sessions: opened,
-        }
-    }
-}
-
-// Takes one pass in.
-fn take_in<B: BoardName>(board: &Board<B>, tally: &mut Tally<B>, pass: Pass<B>)
-    ensures tally { tally.new ≡ tallied tally.old.units tally.old.given (tally.old.returned + 1) tally.new.back }
-    ensures due { (all rest : List Book) → IsDue all (rest ++ pass ∷ []) tally.old.back → IsDue all rest tally.new.back }
-{
-    let Pass {
-        job: _,
-        slip,
-        numbers: _,
-    } = pass;
-    board.return_slip(tally, slip);
-}
-
-// Takes all passes in.
-fn gather<B: BoardName>(board: &Board<B>, tally: &mut Tally<B>, mut passes: Vec<Pass<B>>)
-    requires { (tally.old.returned ≡ 0) × (tally.old.back ≡ []) }
-    ensures tally { tally.new ≡ tallied tally.old.units tally.old.given (vec_len passes) tally.new.back }
-    ensures due { IsDue passes.items [] tally.new.back }
-{
-    while let Some(pass) = passes.pop() {
-        take_in(board, tally, pass);
     }
 }

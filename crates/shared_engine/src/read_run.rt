@@ -5,7 +5,7 @@ ghost use Rattle.command.specs.declared.access.DataCommand.{DataCommand};
 ghost use Rattle.command.specs.declared.request.Command.{Command};
 ghost use Rattle.job_core.specs.Sessions.{IsOpenOn};
 ghost use Rattle.shared_engine.specs.Blocks.{HasDone, AreDone};
-ghost use Rattle.shared_engine.specs.Sessions.{IsJournalOf};
+ghost use Rattle.shared_engine.specs.Sessions.{knowing, IsJournalOf};
 
 use crate::locked::Locked;
 use crate::serial_run::answered;
@@ -30,7 +30,8 @@ impl<B: BoardName> Locked<B> {
     ) -> Result<Vec<Reply>, AllocError>
         requires level { 1 ≤ session.old.state.level }
         requires accesses { All (λ (c : Command). (d : DataCommand) × (c ≡ Command.Access d)) block.items }
-        ensures done { IfOk result (λ replies. AreDone block.items replies.items self.now.common.units self.now.common.units session.old session.new) }
+        ensures done { IfOk result (λ replies. AreDone block.items replies.items self.now.common.units self.now.common.units (knowing self.now.common.units session.old) session.new) }
+        ensures seen { OnOk result (session.new.seen ≡ self.now.common.units) }
         ensures journal { OnOk result (IsJournalOf self.now.common.units session.old) }
         ensures each { IfOk result (λ replies. vec_len replies ≡ vec_len block) }
         ensures refused { OnErr result (session.new ≡ session.old) }
@@ -49,9 +50,10 @@ impl<B: BoardName> Locked<B> {
         requires level { 1 ≤ session.old.state.level }
         requires start { IfSome session.old.start (λ base. base ≡ take (length base) self.now.common.units) }
         requires kept { IsOpenOn self.now.common session.old.state }
+        requires seen { session.old.seen ≡ self.now.common.units }
         ensures done { HasDone command result self.now.common.units self.now.common.units session.old session.new }
         ensures level { session.new.state.level ≡ session.old.state.level }
-        ensures start { session.new.start ≡ session.old.start }
+        ensures start { (session.new.start ≡ session.old.start) × (session.new.seen ≡ session.old.seen) }
         ensures kept { IsOpenOn self.now.common session.new.state }
     {
         match command {

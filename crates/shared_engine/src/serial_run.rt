@@ -1,12 +1,12 @@
 //! A block of commands under one hold of the lock.
-ghost use Rattle.std.specs.Prelude.{◌≡◌, ◌≢◌, ◌⊎◌, ℕ, ◌+◌, ◌-◌, ◌≤◌, ◌<◌, List, [], true, length, Some, vec_len, IfOk, OnOk, OnErr};
+ghost use Rattle.std.specs.Prelude.{◌≡◌, ◌≢◌, ◌⊎◌, ℕ, ◌+◌, ◌-◌, ◌≤◌, ◌<◌, List, [], true, length, Some, IfOk, OnOk, OnErr};
 ghost use Rattle.std.specs.List.{All};
 ghost use Rattle.refusal.specs.declared.Refusal.{Refusal};
 ghost use Rattle.command.specs.declared.request.Command.{Command};
 ghost use Rattle.command.specs.declared.request.Reply.TheVariants.{Answered, Finished, AtLevel, Restarted};
 ghost use Rattle.journal.specs.declared.unit.Unit.{Unit as JournalUnit};
 ghost use Rattle.serial.specs.Machine.{told_had};
-ghost use Rattle.shared_engine.specs.Blocks.{said, IsLone, IsInside, IsTried, IsOpened, IsDeeper, IsNone, IsCommitted, IsLower, IsRolledBack, IsRestarted, HasDone, AreDone, NoneRestarts, IsFresh, IsReady, moved, moved_open};
+ghost use Rattle.shared_engine.specs.Blocks.{said, IsLone, IsInside, IsTried, IsOpened, IsDeeper, IsNone, IsCommitted, IsLower, IsRolledBack, IsRestarted, HasDone, is_blocked as blocked, must_in, HasCome, NoneBeganAnew, IsFresh, IsReady, moved, moved_open};
 ghost use Rattle.shared_engine.specs.Sessions.{IsJournalOf};
 ghost use Rattle.shared_engine.specs.Writes.{IsAlone};
 
@@ -18,6 +18,36 @@ use pin_board::{Board, BoardName};
 use refusal::Refusal;
 use std::alloc::{AllocError, Global};
 use std::sync::Wait;
+
+/// What came of a block.
+#[derive(Drop)]
+pub enum SerialRun {
+    /// All its commands were done, and these are their replies.
+    Done(Vec<Reply>),
+    /// The command at this place, counted from 0, is a LOCK that had to have its names, and was blocked. Those before
+    /// it were done, and those behind it weren't.
+    Blocked(usize),
+}
+
+// Whether a LOCK at this place of a block has to have its names.
+fn must_at(musts: &[bool], place: usize) -> bool
+    ensures { result ≡ must_in musts.now place }
+{
+    match musts.get(place) {
+        Some(must) => *must,
+        None => false,
+    }
+}
+
+// Whether a reply says that a LOCK was blocked which has to have its names.
+fn is_blocked(must: bool, reply: &Reply) -> bool
+    ensures { result ≡ blocked must reply.now }
+{
+    match reply {
+        Reply::Had(had) => must && !*had,
+        _ => false,
+    }
+}
 
 /// What a data command is replied.
 pub(crate) fn answered(done: Result<Answer, Refusal>) -> Reply
@@ -86,10 +116,11 @@ fn restarted(done: Result<u64, Refusal>) -> Reply
 
 impl<B: BoardName> Locked<B> {
     /// Does the commands of a session without a transaction, or with a fresh one, whose start is moved to now. No other
-    /// job does anything meanwhile, so no TCOMMIT in it begins anew. Each LOCK is one try. A command's refusal is its
-    /// reply.
+    /// job does anything meanwhile, so no TCOMMIT in it begins anew. Each LOCK is one try; behind one that is blocked,
+    /// and has to have its names, nothing is done. A command's refusal is its reply.
     ///
     /// `AllocError` where there is no room for the replies, and nothing has changed.
+    #[tactic(auto, using(crate::proofs::Blocks::so_far_first, crate::proofs::Blocks::none_had, crate::proofs::Seeing::moved_seen))]
     pub(crate) fn run_serial<R: Wait>(
         &mut self,
         rt: &R,
@@ -97,22 +128,29 @@ impl<B: BoardName> Locked<B> {
         alloc: Global,
         session: &mut Session<B>,
         block: Vec<Command>,
-    ) -> Result<Vec<Reply>, AllocError>
+        musts: &[bool],
+    ) -> Result<SerialRun, AllocError>
         requires ready { IsReady session.old }
         requires goes_on { All (λ (c : Command). c ≢ Command.Halt) block.items }
-        ensures done { IfOk result (λ replies. AreDone block.items replies.items self.old.common.units self.new.common.units (moved_open self.old.common.units session.old) session.new) }
+        ensures come { IfOk result (λ run. HasCome musts.now block.items run self.old.common.units self.new.common.units (moved_open self.old.common.units session.old) session.new) }
         ensures journal { OnOk result (IsJournalOf self.old.common.units session.old) }
-        ensures each { IfOk result (λ replies. vec_len replies ≡ vec_len block) }
-        ensures commits { IfOk result (λ replies. NoneRestarts block.items replies.items) }
+        ensures commits { IfOk result (λ run. NoneBeganAnew block.items run) }
+        ensures seen { OnOk result (session.new.seen ≡ self.new.common.units) }
         ensures refused { OnErr result ((self.new.common ≡ self.old.common) × (session.new ≡ session.old)) }
         ensures others { (self.new.opened ≡ self.old.opened) × (self.new.seats ≡ self.old.seats) }
     {
         let mut replies = Vec::with_capacity(alloc, block.len())?;
         self.begin_block(rt, board, session);
         'block: for command in block {
-            replies.push_reserved(self.serial_step(rt, board, session, command));
+            let place = replies.len();
+            let must = must_at(musts, place);
+            let reply = self.serial_step(rt, board, session, command);
+            if is_blocked(must, &reply) {
+                return Ok(SerialRun::Blocked(place));
+            }
+            replies.push_reserved(reply);
         }
-        Ok(replies)
+        Ok(SerialRun::Done(replies))
     }
 
     // Moves the start of a transaction to now, where one is open.
@@ -127,16 +165,6 @@ impl<B: BoardName> Locked<B> {
         } else {
             self.find_journal(rt, board, session);
         }
-    }
-
-    // Shows that the journal has the units of the session's receipts. It changes nothing.
-    fn find_journal<R: Wait>(&self, rt: &R, board: &Board<B>, session: &mut Session<B>)
-        ensures same { session.new ≡ session.old }
-        ensures journal { IsJournalOf self.now.common.units session.old }
-    {
-        board.meet(rt, &self.desk, &mut session.pin);
-        // The core shows that its journal is legal.
-        let _ = self.core.journal();
     }
 
     // Moves the start of a transaction that has done nothing to now.

@@ -21,8 +21,8 @@ use refusal::Refusal;
 use std::marker::Model;
 
 /// A job at work: its state, its seat on the board, and the numbers of its receipts. Contracts see the unit of each
-/// receipt too, and the other units that it wrote, which its seat knows, and the journal at the start of its
-/// transaction.
+/// receipt too, and the other units that it wrote, which its seat knows, the journal at the start of its transaction,
+/// and the longest beginning of the journal that it has seen.
 ///
 /// It ends by `Shared::halt`. One that is dropped instead keeps its job and its seat for good, and where its
 /// transaction is open no content from that start on is collected; `Closed` tells how many sessions there were.
@@ -42,7 +42,7 @@ impl<B: BoardName> Model for Session<B> {
 
     ghost coded = { held_code };
 
-    ghost view = { λ s. held s.state (start_in s.pin) (receipts_in s.pin.mine) (others_in s.pin.mine) };
+    ghost view = { λ s. held s.state (start_in s.pin) (receipts_in s.pin.mine) (others_in s.pin.mine) s.pin.seen };
 
     ghost invariant = { λ s. IsSession s.state s.pin s.numbers.items };
 }
@@ -57,15 +57,15 @@ pub struct Pass<B: BoardName> {
 
 impl<B: BoardName> Model for Pass<B> {
     ghost use Rattle.shared_engine.specs.Codes.{book_code};
-    ghost use Rattle.shared_engine.specs.Receipts.{Book, book, receipts_in, others_in, IsBook};
+    ghost use Rattle.shared_engine.specs.Receipts.{Book, book, receipts_in, others_in, seen_in, IsBook};
 
     ghost Value = { Book };
 
     ghost coded = { book_code };
 
-    ghost view = { λ p. book p.job (receipts_in p.slip) (others_in p.slip) };
+    ghost view = { λ p. book p.job (receipts_in p.slip.mine) (others_in p.slip.mine) (seen_in p.slip.known) };
 
-    ghost invariant = { λ p. IsBook p.job p.numbers.items p.slip };
+    ghost invariant = { λ p. IsBook p.job p.numbers.items p.slip.mine };
 }
 
 impl<B: BoardName> Pass<B> {
@@ -135,7 +135,7 @@ impl<B: BoardName> Session<B> {
     /// Refusals: `LevelTooDeep` at level 127, after which nothing has changed.
     pub fn tstart_inner(&mut self) -> Result<u64, Refusal>
         requires { 1 ≤ self.old.state.level }
-        ensures deeper { IfOk result (λ level. (level ≡ self.old.state.level + 1) × ((self.old.state.level < most_levels) × (self.new ≡ held (at_level level self.old.state) self.old.start self.old.receipts self.old.others))) }
+        ensures deeper { IfOk result (λ level. (level ≡ self.old.state.level + 1) × ((self.old.state.level < most_levels) × (self.new ≡ held (at_level level self.old.state) self.old.start self.old.receipts self.old.others self.old.seen))) }
         ensures refused { IfErr result (λ refusal. (refusal ≡ Refusal.LevelTooDeep) × ((most_levels ≤ self.old.state.level) × (self.new ≡ self.old))) }
     {
         self.state.start_inner()
@@ -145,7 +145,7 @@ impl<B: BoardName> Session<B> {
     pub fn tcommit_inner(&mut self) -> u64
         requires { 1 < self.old.state.level }
         ensures level { result ≡ self.old.state.level - 1 }
-        ensures session { self.new ≡ held (at_level (self.old.state.level - 1) self.old.state) self.old.start self.old.receipts self.old.others }
+        ensures session { self.new ≡ held (at_level (self.old.state.level - 1) self.old.state) self.old.start self.old.receipts self.old.others self.old.seen }
     {
         self.state.commit_inner()
     }
@@ -158,7 +158,7 @@ impl<B: BoardName> Session<B> {
         requires { 1 ≤ self.old.state.level }
         ensures written { OnOk result (HasWritten (set_command key value) self.old.state self.new.state) }
         ensures same { (self.new.start ≡ self.old.start) × (self.new.receipts ≡ self.old.receipts) }
-        ensures others { self.new.others ≡ self.old.others }
+        ensures others { (self.new.others ≡ self.old.others) × (self.new.seen ≡ self.old.seen) }
         ensures refused { OnErr result (self.new ≡ self.old) }
         ensures cause { IfErr result (λ refusal. IsCauseAlone refusal self.old.state.work) }
     {
@@ -170,7 +170,7 @@ impl<B: BoardName> Session<B> {
         requires { 1 ≤ self.old.state.level }
         ensures written { OnOk result (HasWritten (kill_command key) self.old.state self.new.state) }
         ensures same { (self.new.start ≡ self.old.start) × (self.new.receipts ≡ self.old.receipts) }
-        ensures others { self.new.others ≡ self.old.others }
+        ensures others { (self.new.others ≡ self.old.others) × (self.new.seen ≡ self.old.seen) }
         ensures refused { OnErr result (self.new ≡ self.old) }
         ensures cause { IfErr result (λ refusal. IsCauseAlone refusal self.old.state.work) }
     {
@@ -178,7 +178,8 @@ impl<B: BoardName> Session<B> {
     }
 
     /// What a $GET answers where the transaction's own writes decide it: some exactly there, and then what it answers
-    /// whatever database the transaction began with. Nothing is kept of it. Takes no lock, and waits for nobody.
+    /// whatever database the transaction began with. It is no step of the machine, which keeps each $GET: nothing is kept
+    /// of it. Takes no lock, and waits for nobody.
     ///
     /// Refusals: `OutOfMemory`.
     pub fn own_get(&self, key: &Key, default: &Option<Text>) -> Result<Option<Answer>, Refusal>

@@ -1,28 +1,30 @@
 //! The engine as threads see it.
-ghost use Rattle.std.specs.Prelude.{◌≡◌, ◌≢◌, ◌⊎◌, ◌<◌, ◌≤◌, ◌+◌, ◌-◌, ◌^◌, ◌∷◌, ◌++◌, ℕ, List, [], true, false, length, vec_len, None, Some, IfOk, IfErr, IsErrOf, IfSome, IsSome, OnOk, OnErr};
+ghost use Rattle.std.specs.Prelude.{◌≡◌, ◌≢◌, ◌⊎◌, ◌<◌, ◌≤◌, ◌+◌, ◌-◌, ◌^◌, ◌∷◌, ◌++◌, ℕ, List, [], true, false, length, vec_len, None, Some, Ok, Err, IfOk, IfErr, IsErrOf, IfSome, IsSome, OnOk, OnErr};
 ghost use Rattle.std.specs.List.{All};
 ghost use Rattle.refusal.specs.declared.Refusal.{Refusal};
 ghost use Rattle.globals.specs.Answering.{early_refusal};
 ghost use Rattle.journal.specs.History.{initial, after};
-ghost use Rattle.journal.specs.Kept.{Claim};
+ghost use Rattle.journal.specs.Kept.{Claim, HasNoRoom};
 ghost use Rattle.journal.specs.declared.unit.Unit.{Unit as JournalUnit};
 ghost use Rattle.journal.specs.declared.unit.Unit.TheVariants.{Lone};
-ghost use Rattle.job_core.specs.Causes.{IsCauseOf};
-ghost use Rattle.job_core.specs.Common.{IsCauseOfLock};
+ghost use Rattle.validate_commit.specs.Verdicts.{IsCauseAtCommit};
 ghost use Rattle.job_core.specs.Sessions.{idle, IsAnsweredOrRefused};
-ghost use Rattle.pin_board.specs.Slips.{AreInJournal};
+ghost use Rattle.pin_board.specs.Slips.{AreInJournal, IsBeginning};
 ghost use Rattle.command.specs.declared.access.DataCommand.{DataCommand};
 ghost use Rattle.command.specs.declared.request.Command.{Command};
-ghost use Rattle.shared_engine.specs.Blocks.{AreDone, NoneRestarts, IsReady, moved_open};
+ghost use Rattle.shared_engine.specs.Blocks.{IsLone, WasTried, HasItsNames, WasBlocked, WasRefused, IsRolledBack, IsRestarted, AreDone, HasCome, NoneBeganAnew, IsReady, moved_open};
 ghost use Rattle.shared_engine.specs.Receipts.{Book, IsOwn, RisesFrom};
-ghost use Rattle.shared_engine.specs.Sessions.{held, ended, and_receipt, begun_anew, rolled_back, halted, HasBegun, IsJournalOf};
-ghost use Rattle.shared_engine.specs.Engines.{HasEnded, HasItsNames, WasBlocked, OnOkThat, OnOkNot, after_try, AreAllReceipts, AreAllUnits};
+ghost use Rattle.shared_engine.specs.Sessions.{held, knowing, ended, halted, HasBegun, IsJournalOf};
+ghost use Rattle.shared_engine.specs.Engines.{HasEnded, IsCauseAtRestart, MayBeTaken, OnOkThat, OnOkNot, AreAllReceipts, AreAllUnits, HasSeenOf};
 ghost use Rattle.shared_engine.specs.Writes.{AreWrites};
 
 use crate::adaptive::{AdaptiveLock, Patience};
-use crate::gate::{Gate, Mark};
-use crate::locked::{Closed, Ended, Locked};
+use crate::finishing::Closed;
+use crate::gate::{Delay, Gate, Mark};
+use crate::locked::{Ended, Locked};
+use crate::serial_run::SerialRun;
 use crate::session::{Pass, Session};
+use crate::turn::Turn;
 use collation::Job;
 use collector::Progress;
 use command::{Answer, Command, DataCommand, Reply};
@@ -78,7 +80,7 @@ impl<B: BoardName> Shared<B> {
     ///
     /// Refusals: `BadJob` where the job has a session; `OutOfMemory`.
     pub fn open<R: Wait>(&self, rt: &R, alloc: Global, job: Job) -> Result<Session<B>, Refusal>
-        ensures session { IfOk result (λ session. session ≡ held (idle job) None [] []) }
+        ensures session { IfOk result (λ session. (units : List JournalUnit) × (session ≡ held (idle job) None [] [] units)) }
         ensures cause { IfErr result (λ refusal. (refusal ≡ Refusal.BadJob) ⊎ (refusal ≡ Refusal.OutOfMemory)) }
     {
         self.lock
@@ -88,8 +90,10 @@ impl<B: BoardName> Shared<B> {
 
     /// A data command of a session without a transaction: a unit of its own, with a receipt. Takes the exclusive lock.
     ///
-    /// Refusals, after which nothing has changed: those of `Core::lone`, on some journal; and `OutOfMemory` for the
-    /// receipt, which hides no rule that is looked at before memory is asked for.
+    /// The clause is that of one step on a journal that goes on from all that the session had seen.
+    ///
+    /// Refusals, after which nothing has changed but what the session has seen: those of `Core::lone`; and
+    /// `OutOfMemory` for the receipt, which hides no rule that is looked at before memory is asked for.
     pub fn lone<R: Wait>(
         &self,
         rt: &R,
@@ -97,10 +101,8 @@ impl<B: BoardName> Shared<B> {
         command: DataCommand,
     ) -> Result<Answer, Refusal>
         requires { session.old.state.level ≡ 0 }
-        ensures receipt { IfOk result (λ answer. (n : ℕ) × (session.new ≡ and_receipt n (Lone session.old.state.work.job command answer) session.old)) }
-        ensures refused { OnErr result (session.new ≡ session.old) }
+        ensures done { (units : List JournalUnit) × IsBeginning units session.old.seen × IsLone command result units session.new.seen session.old session.new }
         ensures early { (refusal : Refusal) → early_refusal command ≡ Some refusal → IsErrOf result refusal }
-        ensures cause { IfErr result (λ refusal. (units : List JournalUnit) × IsCauseOf refusal command (after units initial).map (length units)) }
     {
         self.lock
             .write(rt, Patience::Long)
@@ -114,9 +116,8 @@ impl<B: BoardName> Shared<B> {
         session: &mut Session<B>,
         command: &LockCommand,
     ) -> Result<bool, Refusal>
-        ensures tried { IfOk result (λ had. (n : ℕ) × (session.new ≡ after_try n command.now had session.old)) }
-        ensures refused { OnErr result (session.new ≡ session.old) }
-        ensures cause { IfErr result (λ refusal. (units : List JournalUnit) × IsCauseOfLock refusal session.old.state.work.job command.now units) }
+        ensures tried { IfOk result (λ had. WasTried command.now (Ok had) session.old session.new) }
+        ensures refused { IfErr result (λ refusal. WasTried command.now (Err refusal) session.old session.new) }
     {
         self.lock
             .write(rt, Patience::Short)
@@ -130,10 +131,9 @@ impl<B: BoardName> Shared<B> {
         session: &mut Session<B>,
         command: &LockCommand,
     ) -> Result<bool, Refusal>
-        ensures had { OnOkThat result ((n : ℕ) × (session.new ≡ after_try n command.now true session.old)) }
+        ensures had { OnOkThat result (WasTried command.now (Ok true) session.old session.new) }
         ensures blocked { OnOkNot result (session.new ≡ session.old) }
-        ensures refused { OnErr result (session.new ≡ session.old) }
-        ensures cause { IfErr result (λ refusal. (units : List JournalUnit) × IsCauseOfLock refusal session.old.state.work.job command.now units) }
+        ensures refused { IfErr result (λ refusal. WasTried command.now (Err refusal) session.old session.new) }
     {
         self.lock
             .write(rt, Patience::Short)
@@ -149,12 +149,12 @@ impl<B: BoardName> Shared<B> {
         gate: &G,
         mut mark: Mark,
     ) -> Result<(), Refusal>
-        ensures had { OnOk result ((n : ℕ) × (session.new ≡ after_try n command.now true session.old)) }
-        ensures refused { OnErr result (session.new ≡ session.old) }
-        ensures cause { IfErr result (λ refusal. (units : List JournalUnit) × IsCauseOfLock refusal session.old.state.work.job command.now units) }
+        ensures had { OnOk result (WasTried command.now (Ok true) session.old session.new) }
+        ensures refused { IfErr result (λ refusal. WasTried command.now (Err refusal) session.old session.new) }
     {
+        let mut delay = Delay::yielding();
         'tries: for _ in rt.forever() {
-            gate.between_tries(session.job());
+            delay.pass(gate, session.job());
             if gate.stop().is_some() {
                 return Err(Refusal::OutOfMemory);
             }
@@ -167,22 +167,24 @@ impl<B: BoardName> Shared<B> {
         unreachable!()
     }
 
-    // Later tries, one after each second of so many.
+    // Later tries, until so many milliseconds have passed by the gate's clock, or in its pauses.
     fn lock_within_later<R: Wait, G: Gate>(
         &self,
         rt: &R,
         session: &mut Session<B>,
         command: &LockCommand,
-        seconds: u64,
+        millis: u64,
         gate: &G,
     ) -> Result<bool, Refusal>
-        ensures had { OnOkThat result ((n : ℕ) × (session.new ≡ after_try n command.now true session.old)) }
+        ensures had { OnOkThat result (WasTried command.now (Ok true) session.old session.new) }
         ensures blocked { OnOkNot result (session.new ≡ session.old) }
-        ensures refused { OnErr result (session.new ≡ session.old) }
-        ensures cause { IfErr result (λ refusal. (units : List JournalUnit) × IsCauseOfLock refusal session.old.state.work.job command.now units) }
+        ensures refused { IfErr result (λ refusal. WasTried command.now (Err refusal) session.old session.new) }
     {
-        'tries: for _ in 0..seconds {
-            gate.second(session.job());
+        let mut delay = Delay::within(gate, millis);
+        'tries: for _ in 0..millis {
+            if !delay.pass_within(gate, session.job()) {
+                return Ok(false);
+            }
             if gate.stop().is_some() {
                 return Err(Refusal::OutOfMemory);
             }
@@ -195,13 +197,15 @@ impl<B: BoardName> Shared<B> {
         Ok(false)
     }
 
-    /// LOCK without a timeout: where its names are blocked it is a unit that says so, and is tried again after each
-    /// `Gate::between_tries`, until it has them, which is another unit. Tries between write nothing. Takes the
+    /// LOCK without a timeout: where its names are blocked it is a unit that says so, and is tried again until it has
+    /// them, which is another unit. Tries between write nothing. Before each of the first tries stands a
+    /// `Gate::between_tries`, before the others a `Gate::pause`, of 1, 2, 4 and so on up to 50 milliseconds. Takes the
     /// exclusive lock for each try. The gate is told when it begins to wait, of each further try in vain, and when it
-    /// goes on.
+    /// goes on. Each try that says something is a step on a journal that goes on from all that the session had seen.
     ///
-    /// Refusals: those of `Core::lock`, on some journal, and `OutOfMemory` for the receipt, or where `Gate::stop` says
-    /// so while it waits. Nothing has changed then, but for the unit of a first try in vain and its receipt.
+    /// Refusals: those of `Core::lock`, and `OutOfMemory` for the receipt, or where `Gate::stop` says so while it
+    /// waits. Nothing has changed then but what the session has seen, and for the unit of a first try in vain and its
+    /// receipt.
     pub fn lock<R: Wait, G: Gate>(
         &self,
         rt: &R,
@@ -210,8 +214,7 @@ impl<B: BoardName> Shared<B> {
         gate: &G,
     ) -> Result<(), Refusal>
         ensures had { OnOk result (HasItsNames command.now session.old session.new) }
-        ensures refused { OnErr result ((session.new ≡ session.old) ⊎ WasBlocked command.now session.old session.new) }
-        ensures cause { IfErr result (λ refusal. (units : List JournalUnit) × IsCauseOfLock refusal session.old.state.work.job command.now units) }
+        ensures refused { IfErr result (λ refusal. WasRefused command.now refusal session.old session.new) }
     {
         if self.lock_first(rt, session, command)? {
             return Ok(());
@@ -222,8 +225,9 @@ impl<B: BoardName> Shared<B> {
         done
     }
 
-    /// LOCK with a timeout of so many seconds: at most one try more than that, with a `Gate::second` between two.
-    /// Whether it has its names at the end. The first try is a unit, and a later one that has the names.
+    /// LOCK with a timeout of so many milliseconds: it is tried again after pauses of 1, 2, 4 and so on up to 50 of
+    /// them, until they are over by `Gate::now`, or come to so many. Whether it has its names at the end. The first try
+    /// is a unit, and a later one that has the names.
     ///
     /// Refusals: as `lock`.
     pub fn lock_within<R: Wait, G: Gate>(
@@ -231,18 +235,17 @@ impl<B: BoardName> Shared<B> {
         rt: &R,
         session: &mut Session<B>,
         command: &LockCommand,
-        seconds: u64,
+        millis: u64,
         gate: &G,
     ) -> Result<bool, Refusal>
         ensures had { OnOkThat result (HasItsNames command.now session.old session.new) }
         ensures blocked { OnOkNot result (WasBlocked command.now session.old session.new) }
-        ensures refused { OnErr result ((session.new ≡ session.old) ⊎ WasBlocked command.now session.old session.new) }
-        ensures cause { IfErr result (λ refusal. (units : List JournalUnit) × IsCauseOfLock refusal session.old.state.work.job command.now units) }
+        ensures refused { IfErr result (λ refusal. WasRefused command.now refusal session.old session.new) }
     {
         if self.lock_first(rt, session, command)? {
             return Ok(true);
         }
-        self.lock_within_later(rt, session, command, seconds, gate)
+        self.lock_within_later(rt, session, command, millis, gate)
     }
 
     /// The outermost TSTART: a transaction begins on a journal in which the session's own units are. Takes no lock and
@@ -264,9 +267,10 @@ impl<B: BoardName> Shared<B> {
     }
 
     /// A data command of an open transaction, on the map of its start followed by its own commands. The present journal
-    /// goes on from that start, and has the units of the session's receipts. Takes the shared lock.
+    /// goes on from all that the session had seen, that start among it, and has the units of its receipts; the session
+    /// has seen it then. Takes the shared lock.
     ///
-    /// Refusals, after which nothing has changed: those of `Core::read`. A start that is no longer kept is none of
+    /// Refusals, after which nothing else has changed: those of `Core::read`. A start that is no longer kept is none of
     /// them.
     pub fn read<R: Wait>(
         &self,
@@ -277,7 +281,7 @@ impl<B: BoardName> Shared<B> {
         requires { 1 ≤ session.old.state.level }
         ensures answered { IfSome session.old.start (λ base. IsAnsweredOrRefused command result (after base initial).map session.old.state session.new.state) }
         ensures open { IsSome session.old.start }
-        ensures journal { (units : List JournalUnit) × IsJournalOf units session.old }
+        ensures journal { IsJournalOf session.new.seen session.old }
         ensures same { (session.new.start ≡ session.old.start) × (session.new.receipts ≡ session.old.receipts) }
         ensures others { session.new.others ≡ session.old.others }
     {
@@ -298,7 +302,8 @@ impl<B: BoardName> Shared<B> {
     ) -> Result<Vec<Reply>, AllocError>
         requires level { 1 ≤ session.old.state.level }
         requires accesses { All (λ (c : Command). (d : DataCommand) × (c ≡ Command.Access d)) block.items }
-        ensures done { IfOk result (λ replies. (units : List JournalUnit) × IsJournalOf units session.old × AreDone block.items replies.items units units session.old session.new) }
+        ensures done { IfOk result (λ replies. AreDone block.items replies.items session.new.seen session.new.seen (knowing session.new.seen session.old) session.new) }
+        ensures journal { OnOk result (IsJournalOf session.new.seen session.old) }
         ensures each { IfOk result (λ replies. vec_len replies ≡ vec_len block) }
         ensures refused { OnErr result (session.new ≡ session.old) }
     {
@@ -307,21 +312,29 @@ impl<B: BoardName> Shared<B> {
     }
 
     /// The outermost TCOMMIT: the transaction is a unit with a receipt, or, where another unit touched what it had read,
-    /// it begins anew. One that did SETs and KILLs alone never does. The clause speaks of some journal that goes on from
-    /// the start and has the units of the session's receipts; under the lock, at `Locked::tcommit`, it is the engine's.
-    /// Takes the exclusive lock.
+    /// it begins anew. One that did SETs and KILLs alone never does. The clause speaks of a journal that goes on from all
+    /// that the session had seen and has the units of its receipts. Takes the exclusive lock. A turn that is due is taken
+    /// under the same hold, behind the commit.
     ///
-    /// Refusals, after which nothing has changed: `StampsUsedUp`, `OutOfMemory`.
-    pub fn tcommit<R: Wait>(&self, rt: &R, session: &mut Session<B>) -> Result<Ended, Refusal>
+    /// Refusals, after which nothing has changed but that turn and what the session has seen: `StampsUsedUp`,
+    /// `OutOfMemory`.
+    pub fn tcommit<R: Wait>(
+        &self,
+        rt: &R,
+        session: &mut Session<B>,
+        turn: &mut Turn,
+    ) -> Result<Ended, Refusal>
         requires { session.old.state.level ≡ 1 }
-        ensures ended { IfOk result (λ end. (units more : List JournalUnit) × IsJournalOf units session.old × HasEnded end units more session.old session.new) }
+        ensures ended { IfOk result (λ end. (units : List JournalUnit) × IsJournalOf units session.old × HasEnded end units session.new.seen session.old session.new) }
         ensures writes { AreWrites session.old.state.work.exchanges → IfOk result (λ end. end ≡ Ended.Committed) }
-        ensures refused { OnErr result (session.new ≡ session.old) }
-        ensures cause { IfErr result (λ refusal. (refusal ≡ Refusal.OutOfMemory) ⊎ (refusal ≡ Refusal.StampsUsedUp)) }
+        ensures refused { OnErr result (IsJournalOf session.new.seen session.old × (session.new ≡ knowing session.new.seen session.old)) }
+        ensures cause { IfErr result (λ refusal. IsCauseAtCommit refusal session.old.state.work session.new.seen ⊎ IsCauseAtRestart refusal session.old.state session.new.seen) }
+        ensures turn { MayBeTaken turn.old turn.new }
     {
-        self.lock
-            .write(rt, Patience::Short)
-            .tcommit(rt, &self.board, session)
+        let mut locked = self.lock.write(rt, Patience::Short);
+        let ended = locked.tcommit(rt, &self.board, session);
+        locked.take_turn(rt, &self.board, turn);
+        ended
     }
 
     /// TROLLBACK of a transaction that took no LOCK: nothing of it is left. Takes no lock and no memory, and waits for
@@ -338,12 +351,11 @@ impl<B: BoardName> Shared<B> {
     /// TROLLBACK: nothing of the transaction is left. Where it took a LOCK a unit says so, one of the session's others,
     /// and the exclusive lock is taken; else neither.
     ///
-    /// Refusals, after which nothing has changed, and only where it took a LOCK: `StampsUsedUp`, `OutOfMemory`.
+    /// Refusals, after which nothing has changed but what the session has seen, and only where it took a LOCK:
+    /// `StampsUsedUp`, `OutOfMemory`.
     pub fn trollback<R: Wait>(&self, rt: &R, session: &mut Session<B>) -> Result<(), Refusal>
         requires { 1 ≤ session.old.state.level }
-        ensures over { OnOk result ((n : ℕ) × (session.new ≡ rolled_back n session.old)) }
-        ensures refused { OnErr result (session.new ≡ session.old) }
-        ensures cause { IfErr result (λ refusal. ((refusal ≡ Refusal.OutOfMemory) ⊎ (refusal ≡ Refusal.StampsUsedUp)) × (session.old.state.took_lock ≡ true)) }
+        ensures done { (units : List JournalUnit) × IsBeginning units session.old.seen × IsRolledBack result units session.new.seen session.old session.new }
     {
         if session.took_lock() {
             return self
@@ -356,16 +368,16 @@ impl<B: BoardName> Shared<B> {
     }
 
     /// TRESTART: nothing of the transaction is left but its LOCKs' units, and it begins anew at level 1, at the present
-    /// moment, on a journal that goes on from its start before and has the units of the session's receipts. Where it
+    /// moment, on a journal that goes on from all that the session had seen and has the units of its receipts. Where it
     /// took a LOCK the last unit of that says so, one of the session's others. Answers how often it has. Takes the
     /// exclusive lock.
     ///
-    /// Refusals, after which nothing has changed, and only where it took a LOCK: `StampsUsedUp`, `OutOfMemory`.
+    /// Refusals, after which nothing has changed but what the session has seen, and only where it took a LOCK:
+    /// `StampsUsedUp`, `OutOfMemory`.
     pub fn trestart<R: Wait>(&self, rt: &R, session: &mut Session<B>) -> Result<u64, Refusal>
         requires { 1 ≤ session.old.state.level }
-        ensures anew { IfOk result (λ restarts. (units : List JournalUnit) × IsJournalOf units session.old × ((session.new ≡ begun_anew units session.old) × (restarts ≡ session.new.state.restarts))) }
-        ensures refused { OnErr result (session.new ≡ session.old) }
-        ensures cause { IfErr result (λ refusal. ((refusal ≡ Refusal.OutOfMemory) ⊎ (refusal ≡ Refusal.StampsUsedUp)) × (session.old.state.took_lock ≡ true)) }
+        ensures done { (units : List JournalUnit) × IsBeginning units session.old.seen × IsRestarted result units session.new.seen session.old session.new }
+        ensures journal { OnOk result (IsJournalOf session.new.seen session.old) }
     {
         self.lock
             .write(rt, Patience::Short)
@@ -375,15 +387,15 @@ impl<B: BoardName> Shared<B> {
     /// HALT: the session is over, its locks are released and its transaction is gone; its job may have another. Gives
     /// its pass, whose last unit is that end, or the session back with the refusal. Takes the exclusive lock.
     ///
-    /// Refusals, after which the session goes on as it was: `StampsUsedUp`, `OutOfMemory`.
+    /// Refusals, after which the session goes on as it was, but for what it has seen: `StampsUsedUp`, `OutOfMemory`.
     pub fn halt<R: Wait>(
         &self,
         rt: &R,
         session: Session<B>,
     ) -> Result<Pass<B>, (Session<B>, Refusal)>
-        ensures pass { IfOk result (λ pass. (n : ℕ) × (pass ≡ halted n session)) }
-        ensures refused { IfErr result (λ r. r.0 ≡ session) }
-        ensures cause { IfErr result (λ r. (r.1 ≡ Refusal.OutOfMemory) ⊎ (r.1 ≡ Refusal.StampsUsedUp)) }
+        ensures pass { IfOk result (λ pass. (units : List JournalUnit) × IsBeginning units session.seen × (pass ≡ halted units session)) }
+        ensures refused { IfErr result (λ r. IsBeginning r.0.seen session.seen × (r.0 ≡ knowing r.0.seen session)) }
+        ensures cause { IfErr result (λ r. HasNoRoom r.1 1 (length r.0.seen)) }
     {
         self.lock
             .write(rt, Patience::Short)
@@ -393,25 +405,34 @@ impl<B: BoardName> Shared<B> {
     /// Does the commands of a session without a transaction, or with a fresh one, under one hold of the exclusive lock.
     /// The transaction's start is moved to now, and nobody else does anything meanwhile, so no TCOMMIT in the block
     /// begins anew. Each LOCK is one try. Answers the reply to each command, a refusal too: after one nothing has
-    /// changed, and the block goes on. A transaction that the block leaves open stays so.
+    /// changed, and the block goes on. A transaction that the block leaves open stays so. A turn that is due is taken
+    /// under the same hold, behind the block.
     ///
-    /// `AllocError` where there is no room for the replies, and nothing has changed.
+    /// `musts` says of each command whether, if it is a LOCK, it has to have its names; behind the last of them none
+    /// has to. Where such a LOCK is blocked its place is answered, and what stands behind it isn't done: to wait for
+    /// the names, and to begin anew, is left to the caller.
+    ///
+    /// `AllocError` where there is no room for the replies, and nothing has changed but that turn.
     pub fn run_serial<R: Wait>(
         &self,
         rt: &R,
         alloc: Global,
         session: &mut Session<B>,
         block: Vec<Command>,
-    ) -> Result<Vec<Reply>, AllocError>
+        musts: &[bool],
+        turn: &mut Turn,
+    ) -> Result<SerialRun, AllocError>
         requires ready { IsReady session.old }
         requires goes_on { All (λ (c : Command). c ≢ Command.Halt) block.items }
-        ensures done { IfOk result (λ replies. (units more : List JournalUnit) × IsJournalOf units session.old × AreDone block.items replies.items units more (moved_open units session.old) session.new) }
-        ensures each { IfOk result (λ replies. vec_len replies ≡ vec_len block) }
-        ensures commits { IfOk result (λ replies. NoneRestarts block.items replies.items) }
+        ensures come { IfOk result (λ run. (units : List JournalUnit) × IsJournalOf units session.old × HasCome musts.now block.items run units session.new.seen (moved_open units session.old) session.new) }
+        ensures commits { IfOk result (λ run. NoneBeganAnew block.items run) }
         ensures refused { OnErr result (session.new ≡ session.old) }
+        ensures turn { MayBeTaken turn.old turn.new }
     {
         let mut locked = self.lock.write(rt, patience_of(session));
-        locked.run_serial(rt, &self.board, alloc, session, block)
+        let done = locked.run_serial(rt, &self.board, alloc, session, block, musts);
+        locked.take_turn(rt, &self.board, turn);
+        done
     }
 
     /// A turn of the collector over so many keys, at a horizon that is above no open transaction's start. Where all
@@ -463,9 +484,10 @@ impl<B: BoardName> Shared<B> {
         }
     }
 
-    /// Closes the engine. Each unit of a pass is in its journal at its number, and is its job's; and where as many
-    /// passes are in as there were sessions, fewer than 2^64 - 1, their units are all units, and their receipts those
-    /// of all but rollbacks and ends; more can't be in. Takes no memory.
+    /// Closes the engine. Each unit of a pass is in its journal at its number, and is its job's, and what a session had
+    /// seen begins it. Where as many passes are in as there were sessions, fewer than 2^64 - 1, their units are all
+    /// units, each at its number once, and their receipts those of all but rollbacks and ends; more can't be in. Takes
+    /// no memory.
     pub fn finish<R: Wait>(self, rt: &R, passes: Vec<Pass<B>>) -> Closed
         ensures in_journal { All (λ (p : Book). AreInJournal result.core.units p.receipts) passes.items }
         ensures others { All (λ (p : Book). AreInJournal result.core.units p.others) passes.items }
@@ -474,6 +496,7 @@ impl<B: BoardName> Shared<B> {
         ensures all { vec_len passes ≡ result.sessions → result.sessions < 2 ^ 64 - 1 → AreAllReceipts result.core.units passes.items }
         ensures all_units { vec_len passes ≡ result.sessions → result.sessions < 2 ^ 64 - 1 → AreAllUnits result.core.units passes.items }
         ensures few { vec_len passes ≤ result.sessions }
+        ensures seen { All (HasSeenOf result.core.units) passes.items }
     {
         let Shared { board, lock } = self;
         lock.into_inner().finish(rt, &board, passes)

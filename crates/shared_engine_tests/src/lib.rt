@@ -23,4 +23,6 @@ mod serial_runs;
 #[cfg(test)]
 mod threads;
 #[cfg(test)]
+mod turns;
+#[cfg(test)]
 mod waits;

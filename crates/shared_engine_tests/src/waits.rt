@@ -57,8 +57,12 @@ impl<'a, B: BoardName, R: Wait> Gate for Pausing<'a, B, R> {
         self.note();
     }
 
-    fn second(&self, _job: Job) {
+    fn pause(&self, _job: Job, _millis: u64) {
         self.note();
+    }
+
+    fn now(&self) -> u64 {
+        0
     }
 
     fn waits(&self, _job: Job, _command: &LockCommand) -> Mark {
@@ -100,7 +104,7 @@ fn names(alloc: Global) -> Option<LockCommand> {
     }
 }
 
-// Whether a LOCK with a timeout of two seconds is blocked at its end, and told its gate of each second.
+// Whether a LOCK with a timeout of three milliseconds is blocked at its end, behind pauses of one and of two.
 fn is_timed<B: BoardName, R: Wait>(
     rt: &R,
     engine: &Shared<B>,
@@ -112,7 +116,7 @@ fn is_timed<B: BoardName, R: Wait>(
         engine,
         calls: AtomicU64::new(0),
     };
-    let had = engine.lock_within(rt, waiting, command, 2, &gate);
+    let had = engine.lock_within(rt, waiting, command, 3, &gate);
     had == Ok(false) && gate.calls.load(Ordering::SeqCst) == 4
 }
 

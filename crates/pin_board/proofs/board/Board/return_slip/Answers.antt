@@ -6,4 +6,4 @@ use Rattle.pin_board.proofs.board.Board.return_slip.Goals as goal
 pub returns : goal.returns
 returns g c =
     ap (λ m. tally_of m.0) c.return_slip.ensures.view
-    ∙ (λ i. tallied (c.tally.view_is i).units (c.tally.view_is i).given ((c.tally.view_is i).returned + 1) ((c.tally.view_is i).back ++ c.slip.view_is i))
+    ∙ (λ i. tallied (c.tally.view_is i).units (c.tally.view_is i).given ((c.tally.view_is i).returned + 1) ((c.tally.view_is i).back ++ (c.slip.view_is i).mine) ((c.tally.view_is i).known ++ (c.slip.view_is i).known))

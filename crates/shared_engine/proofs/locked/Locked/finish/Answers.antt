@@ -1,7 +1,9 @@
 use Rattle.std.proofs.Common.{ap, subst, arith}
 use Rattle.std.proofs.lemmas.List.Elements.{All-nil}
-use Rattle.pin_board.specs.Slips.{AreInJournal}
+use Rattle.std.specs.List.{All}
+use Rattle.pin_board.specs.Slips.{AreInJournal, IsBeginning}
 use Rattle.shared_engine.specs.Receipts.{Book}
+use Rattle.shared_engine.specs.Engines.{HasSeenOf}
 use Rattle.shared_engine.proofs.Closing.{units_told}
 use Rattle.shared_engine.proofs.locked.Locked.finish.Goals as goal
 
@@ -16,6 +18,12 @@ returns-clause-others g c =
     let log = c.self.inside.core.units in
     let units = units_told _ _ _ _ _ _ c.gather.ensures.tally c.into_tally-tally.ensures c.self.invariant.log in
     c.gather.ensures.due.others log (subst (λ l. AreInJournal l c.gather.new.tally.back) units c.audit.ensures.in_journal) (All-nil (λ (p : Book). AreInJournal log p.others))
+
+pub returns-clause-seen : goal.returns-clause-seen
+returns-clause-seen g c =
+    let log = c.self.inside.core.units in
+    let units = units_told _ _ _ _ _ _ c.gather.ensures.tally c.into_tally-tally.ensures c.self.invariant.log in
+    c.gather.ensures.due.seen log (subst (λ l. All (IsBeginning l) c.gather.new.tally.known) units c.audit.ensures.known) (All-nil (HasSeenOf log))
 
 pub returns-clause-few : goal.returns-clause-few
 returns-clause-few g c =

@@ -1,4 +1,4 @@
-use Rattle.std.proofs.Common.{◌≡◌, sym, arith, rules}
+use Rattle.std.proofs.Common.{◌≡◌, sym, ap, ◌∙◌, arith, rules}
 use Rattle.std.proofs.lemmas.List.Elements.{All-head, All-rest, All-same}
 use Rattle.command.specs.declared.access.DataCommand.{DataCommand}
 use Rattle.command.specs.declared.request.Command.{Command}
@@ -16,6 +16,7 @@ block-init g c =
       so_far = rw (c.into_iter-command-iterator.ensures.into_iter_gives.0, c.in_ok-replies.ensures.items, same) (so_far_begun _ _ _);
       level = rw same c.requires.level;
       start = rw same c.meet.ensures.start;
+      seen = ap (λ h. h.seen) same;
       kept = rw same c.meet.ensures.kept;
       accesses = All-same IsData _ _ c.into_iter-command-iterator.ensures.into_iter_gives.0 c.requires.accesses;
       room = search rules;
@@ -32,7 +33,8 @@ block-preserved g c =
     record {
       so_far = rw c.push_reserved.ensures.items (so_far_next _ _ _ _ _ _ _ _ _ _ _ (rw taken.0 at before.so_far) done.done);
       level = omega (arith, before.level, done.level);
-      start = rw done.start before.start;
+      start = rw done.start.0 before.start;
+      seen = done.start.1 ∙ before.seen;
       kept = done.kept;
       accesses = All-rest IsData _ _ _ taken.0 before.accesses;
       room = rw (c.push_reserved.ensures.items, c.push_reserved.ensures.capacity) (taken_one _ _ c.block.replies.items _ _ _ taken.0 before.room);

@@ -14,9 +14,11 @@ returns-clause-outside g c =
             (ap (λ (p : PinView). p.mine) settled)
             (ap (λ (p : PinView). p.settled) settled)
             (ap (λ (p : PinView). p.base) settled)
+            (ap (λ (p : PinView). p.seen) settled)
             c.settle_now-now.ensures.start
             c.begin.ensures
-            c.settle_now-now.ensures.met.mine),
+            c.settle_now-now.ensures.met.mine
+            c.settle_now-now.ensures.met.seen),
       ),
     )
 

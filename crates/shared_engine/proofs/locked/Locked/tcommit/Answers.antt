@@ -6,14 +6,14 @@ use Rattle.shared_engine.specs.Engines.{whole_of}
 use Rattle.shared_engine.proofs.Beginning.{met_journal}
 use Rattle.shared_engine.proofs.Booking.{received, others_same}
 use Rattle.shared_engine.proofs.Keeping.{committed_added, committed_stands}
-use Rattle.shared_engine.proofs.Writing.{numbers_next, session_next, session_met, session_left}
+use Rattle.shared_engine.proofs.Writing.{numbers_next, session_next, session_met, session_left, seen_next}
 use Rattle.shared_engine.proofs.locked.Locked.tcommit.Goals as goal
 
 pub invariant_of-session-in-Committed : goal.invariant_of-session-in-Committed
 invariant_of-session-in-Committed g c =
     let h = committed_added _ _ _ _ _ _ c.in-Committed.is c.in_ok-receipt.ensures.verdict in
     let numbers = numbers_next _ _ _ _ _ c.push_reserved.ensures.items c.reserve.ensures.items c.number-in-Committed.ensures in
-    let next = session_next _ _ _ _ _ _ _ _ _ _ _ (session_met _ _ _ _ c.session.invariant c.meet.ensures.pin) c.self.invariant.log h c.write.ensures.in_journal c.write.ensures.pin numbers refl refl in
+    let next = session_next _ _ _ _ _ c.self.inside.desk _ _ _ _ _ (session_met _ c.self.inside.desk _ _ _ c.session.invariant c.meet.ensures.pin) c.self.invariant.log h c.write.ensures.in_journal c.write.ensures.pin numbers refl refl in
     rw c.end.ensures (session_left _ _ _ _ next c.leave.ensures.left)
 
 pub returns-in-Committed-clause-ended : goal.returns-in-Committed-clause-ended
@@ -25,11 +25,12 @@ returns-in-Committed-clause-ended g c =
     let mine : c.write.new.pin.mine ≡ c.session.inside.pin.mine ++ c.in-Committed.receipt ∷ [] = ap (λ p. p.mine) c.write.ensures.pin ∙ ap (λ p. p.mine ++ c.in-Committed.receipt ∷ []) c.meet.ensures.pin in
     let start = ap start_in c.leave.ensures.left in
     let receipts = ap (λ p. receipts_in p.mine) c.leave.ensures.left ∙ received _ _ _ _ _ _ _ h mine refl in
-    let others = ap (λ p. others_in p.mine) c.leave.ensures.left ∙ others_same _ _ _ _ _ _ _ h mine refl in (
+    let others = ap (λ p. others_in p.mine) c.leave.ensures.left ∙ others_same _ _ _ _ _ _ _ h mine refl in
+    let seen = ap (λ p. p.seen) c.leave.ensures.left ∙ seen_next _ _ _ _ _ c.self.inside.desk c.meet.new.pin _ c.self.invariant.log h c.write.ensures.pin in (
       sym (λ i. has_been_overtaken (s i).state.work (units i)) ∙ stands,
       (
         h.units ∙ (λ i. units i ++ whole_of (s i).state ∷ []),
-        (λ i. held (c.end.ensures i) (start i) (receipts i) (others i)) ∙ (λ i. ended (and_receipt (length (units i) + 1) (whole_of (s i).state) (s i))),
+        (λ i. held (c.end.ensures i) (start i) (receipts i) (others i) (seen i)) ∙ (λ i. ended (and_receipt (units i) (whole_of (s i).state) (s i))),
       ),
     )
 
@@ -38,3 +39,12 @@ returns-in-Committed-clause-journal g c = rw (← c.self.view_is, ← c.session.
 
 pub returns-in_ok-restarts-in-Restart-clause-journal : goal.returns-in_ok-restarts-in-Restart-clause-journal
 returns-in_ok-restarts-in-Restart-clause-journal g c = rw (← c.self.view_is, ← c.session.view_is) (met_journal _ _ _ _ c.journal.ensures.legal c.self.invariant.log c.meet.ensures.met)
+
+pub returns-in_err-reserve-clause-journal : goal.returns-in_err-reserve-clause-journal
+returns-in_err-reserve-clause-journal g c = rw (← c.self.view_is, ← c.session.view_is) (met_journal _ _ _ _ c.journal.ensures.legal c.self.invariant.log c.meet.ensures.met)
+
+pub returns-in_err-receipt-clause-journal : goal.returns-in_err-receipt-clause-journal
+returns-in_err-receipt-clause-journal g c = rw (← c.self.view_is, ← c.session.view_is) (met_journal _ _ _ _ c.journal.ensures.legal c.self.invariant.log c.meet.ensures.met)
+
+pub returns-in_err-restarts-in-Restart-clause-journal : goal.returns-in_err-restarts-in-Restart-clause-journal
+returns-in_err-restarts-in-Restart-clause-journal g c = rw (← c.self.view_is, ← c.session.view_is) (met_journal _ _ _ _ c.journal.ensures.legal c.self.invariant.log c.meet.ensures.met)

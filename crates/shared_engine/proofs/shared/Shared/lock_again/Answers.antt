@@ -1,7 +1,8 @@
-use Rattle.std.proofs.Common.{◌≡◌, true}
-use Rattle.shared_engine.specs.Engines.{after_try}
-use Rattle.shared_engine.proofs.Waiting.{at_number}
+use Rattle.shared_engine.proofs.Seeing.{tried_again, refused_again}
 use Rattle.shared_engine.proofs.shared.Shared.lock_again.Goals as goal
 
 pub returns-clause-had : goal.returns-clause-had
-returns-clause-had g c = at_number _ _ (λ n. c.lock_again.new.session ≡ after_try n c.args.command.now true c.args.session.now) c.lock_again.ensures.receipt
+returns-clause-had g c = let h = c.lock_again.ensures in tried_again c.args.command.now _ _ c.args.session.now c.lock_again.new.session h.goes_on h.had h.allowed h.receipt
+
+pub returns-clause-refused : goal.returns-clause-refused
+returns-clause-refused g c = let h = c.lock_again.ensures in refused_again _ c.args.command.now _ _ c.args.session.now c.lock_again.new.session h.cause h.refused

@@ -1,9 +1,8 @@
-use Rattle.std.proofs.Common.{◌≡◌}
-use Rattle.shared_engine.specs.Sessions.{begun_anew, IsJournalOf}
-use Rattle.shared_engine.proofs.Waiting.{known_at}
+use Rattle.shared_engine.proofs.Seeing.{anew_done, anew_journal}
 use Rattle.shared_engine.proofs.shared.Shared.trestart.Goals as goal
 
-pub returns-clause-anew : goal.returns-clause-anew
-returns-clause-anew g c =
-    known_at _ _ (λ units. IsJournalOf units c.args.session.now) (λ units restarts. (c.trestart.new.session ≡ begun_anew units c.args.session.now) × (restarts ≡ c.trestart.new.session.state.restarts)) c.trestart.ensures.journal
-    c.trestart.ensures.session
+pub returns-clause-done : goal.returns-clause-done
+returns-clause-done g c = let h = c.trestart.ensures in anew_done _ _ _ _ c.args.session.now c.trestart.new.session h.goes_on h.units h.session h.refused h.cause
+
+pub returns-clause-journal : goal.returns-clause-journal
+returns-clause-journal g c = anew_journal _ _ c.args.session.now c.trestart.new.session c.trestart.ensures.session c.trestart.ensures.journal

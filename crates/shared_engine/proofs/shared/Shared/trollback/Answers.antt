@@ -1,11 +1,11 @@
-use Rattle.std.proofs.Common.{◌≡◌, sym, ap, ◌∙◌}
-use Rattle.shared_engine.specs.Sessions.{ended, rolled_back}
-use Rattle.shared_engine.proofs.Waiting.{done_at_number}
-use Rattle.shared_engine.proofs.Writing.{back_free}
+use Rattle.std.proofs.Common.{sym, ◌∙◌}
+use Rattle.shared_engine.proofs.Seeing.{begins_itself, rolled_free, rolled_done}
 use Rattle.shared_engine.proofs.shared.Shared.trollback.Goals as goal
 
-pub returns-then-took_lock-clause-over : goal.returns-then-took_lock-clause-over
-returns-then-took_lock-clause-over g c = done_at_number _ _ (λ n. c.trollback.new.session ≡ rolled_back n c.args.session.now) c.trollback.ensures.session
+pub returns-then-took_lock : goal.returns-then-took_lock
+returns-then-took_lock g c =
+    let h = c.trollback.ensures in record { done = rolled_done _ _ _ _ c.args.session.now c.trollback.new.session (sym c.took_lock.ensures ∙ c.if-took_lock.true) h.goes_on h.units h.session h.refused h.cause }
 
-pub returns-clause-over : goal.returns-clause-over
-returns-clause-over g c = (0, c.rollback_free.ensures ∙ ap ended (back_free 0 c.args.session.now (sym c.took_lock.ensures ∙ c.if-took_lock.false)))
+pub returns : goal.returns
+returns g c =
+    let old = c.args.session.now in record { done = (old.seen, begins_itself old.seen, rolled_free old c.rollback_free.new.session (sym c.took_lock.ensures ∙ c.if-took_lock.false) c.rollback_free.ensures) }

@@ -7,7 +7,7 @@ returns-in-Ok-clause-begun g c =
     let ok = c.in-Ok.ensures.ok in (
       c.settle.new.pin.base,
       rw (← c.session.view_is)
-          (has_begun c.settle.new.pin.base c.session.inside.pin c.settle.new.pin c.session.inside.state c.begin.new.self _ c.in-Ok.ensures.same.2 ok.0 refl ok.1 c.begin.ensures c.in-Ok.ensures.in_journal),
+          (has_begun c.settle.new.pin.base c.session.inside.pin c.settle.new.pin c.session.inside.state c.begin.new.self _ c.in-Ok.ensures.same.2 ok.0 refl c.in-Ok.ensures.seen ok.1 c.begin.ensures c.in-Ok.ensures.in_journal c.in-Ok.ensures.goes_on),
     )
 
 pub invariant_of-session : goal.invariant_of-session

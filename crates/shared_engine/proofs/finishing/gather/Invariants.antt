@@ -1,11 +1,11 @@
 use Rattle.std.proofs.Common.{◌≡◌, ◌+◌, length}
 use Rattle.shared_engine.specs.Engines.{IsDue}
-use Rattle.shared_engine.proofs.locked.gather.Given as goal
+use Rattle.shared_engine.proofs.finishing.gather.Given as goal
 
 -- the passes that are left are due, and each one taken in was counted
 abbrev pub invariant-loop-pass : goal.invariant-loop-pass
 invariant-loop-pass g l = record {
-  due : IsDue l.fn.passes.items l.passes.items l.tally.back;
+  due : IsDue l.fn.passes.items l.passes.items l.tally.back l.tally.known;
   units : l.tally.units ≡ l.fn.tally.units;
   given : l.tally.given ≡ l.fn.tally.given;
   count : l.tally.returned + length l.passes.items ≡ length l.fn.passes.items;

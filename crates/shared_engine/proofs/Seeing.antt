@@ -1,0 +1,222 @@
+-- What a session has seen after a step, and what a call says of the journal that it had.
+use Rattle.std.proofs.Common.{◌≡◌, ◌⊎◌, inl, inr, ℕ, zero, suc, ◌+◌, ◌<◌, ◌≤◌, le_refl, Bool, true, false, List, [], ◌∷◌, ◌++◌, length, length-append, Some, None, refl, sym, ap, ◌∙◌, subst, arith, Result, Ok, Err, IfOk, OnOk, OnErr}
+use Rattle.std.specs.Prelude.{IfErr, IsErrOf, Option, take, nat_lt, if◌then◌else◌}
+use Rattle.std.proofs.lemmas.List.{take_all, take-append-le}
+use Rattle.refusal.specs.declared.Refusal.{Refusal}
+use Rattle.refusal.specs.declared.Refusal.TheVariants.{OutOfMemory}
+use Rattle.lock_name.specs.declared.lock.LockCommand.{LockCommand}
+use Rattle.lock_name.specs.Locks.{lock_refusal, lock_reply}
+use Rattle.command.specs.declared.access.DataCommand.{DataCommand}
+use Rattle.command.specs.declared.access.Answer.{Answer}
+use Rattle.command.specs.declared.request.Command.{Command}
+use Rattle.command.specs.declared.request.Command.TheVariants.{Access, Lock as lock_command, Start, Commit, Rollback, Restart, Level, Restarts, Halt}
+use Rattle.command.specs.declared.request.Reply.{Reply}
+use Rattle.command.specs.Data.{data_refusal, data_reply}
+use Rattle.globals.specs.Answering.{early_refusal}
+use Rattle.journal.specs.declared.unit.Unit.{Unit as JournalUnit}
+use Rattle.journal.specs.declared.unit.Unit.TheVariants.{Lone, Back}
+use Rattle.journal.specs.History.{initial, after}
+use Rattle.journal.specs.Kept.{HasNoRoom}
+use Rattle.validate_commit.specs.Verdicts.{IsCauseAtCommit}
+use Rattle.job_core.specs.Causes.{IsCauseOf}
+use Rattle.job_core.specs.Common.{IsCauseOfLock}
+use Rattle.job_core.specs.Sessions.{Session as JobSession}
+use Rattle.pin_board.specs.Slips.{IsBeginning}
+use Rattle.shared_engine.specs.Receipts.{Book}
+use Rattle.shared_engine.specs.Sessions.{Held, knowing, ended, and_receipt, went_back, rolled_back, begun_anew, halted, IsJournalOf}
+use Rattle.shared_engine.specs.Engines.{HasEnded, IsCauseAtRestart, gone_back, lock_unit, after_try, OnOkThat, OnOkNot}
+use Rattle.shared_engine.specs.declared.locked.Ended.{Ended}
+use Rattle.shared_engine.specs.declared.locked.Ended.TheVariants.{Committed, Restarted}
+use Rattle.shared_engine.proofs.Writing.{back_free}
+use Rattle.shared_engine.specs.Blocks.{HasSeen, AreSame, IsLone, IsTried, WasTried, IsOpened, IsDeeper, IsCommitted, IsRolledBack, IsRestarted, HasDone, moved, moved_open}
+
+pub begins_itself : (log : List JournalUnit) → IsBeginning log log
+begins_itself log = record { within = le_refl (length log); is = sym (take_all (length log) log (le_refl (length log))) }
+
+begins_longer : (log more seen : List JournalUnit) → IsBeginning log seen → IsBeginning (log ++ more) seen
+begins_longer log more seen b = record { within = omega (arith, b.within, length-append log more); is = b.is ∙ sym (take-append-le (length seen) log more b.within) }
+
+-- a transaction goes back on a journal that goes on from what the session had seen
+pub anew_goes_on : (s : Held) (units more : List JournalUnit) → more ≡ gone_back s.state units → (s.state.took_lock ≡ true → IsBeginning units s.seen) → IsBeginning more (went_back more s).seen → IsBeginning more s.seen
+anew_goes_on s units more is took now = by_took s.state.took_lock refl is now
+  where
+    by_took : (b : Bool) → s.state.took_lock ≡ b → more ≡ (if b then units ++ Back s.state.work.job ∷ [] else units) → IsBeginning more (if b then more else s.seen) → IsBeginning more s.seen
+    by_took true e there here = subst (λ (us : List JournalUnit). IsBeginning us s.seen) (sym there) (begins_longer units (Back s.state.work.job ∷ []) s.seen (took e))
+    by_took false e there here = here
+
+pub back_goes_on : (s : JobSession) (units more seen : List JournalUnit) → more ≡ gone_back s units → (s.took_lock ≡ true → IsBeginning units seen) → IsBeginning more seen → IsBeginning units seen
+back_goes_on s units more seen is took now = by_took s.took_lock refl is
+  where
+    by_took : (b : Bool) → s.took_lock ≡ b → more ≡ (if b then units ++ Back s.work.job ∷ [] else units) → IsBeginning units seen
+    by_took true e there = took e
+    by_took false e there = subst (λ (us : List JournalUnit). IsBeginning us seen) there now
+
+-- ---- a command of a block: the session has seen all units before it, and so behind it
+
+same_seen : (units more : List JournalUnit) (old new : Held) → AreSame units more old new → old.seen ≡ units → new.seen ≡ more
+same_seen units more old new h seen = ap (λ (s : Held). s.seen) h.1 ∙ (seen ∙ sym h.0)
+
+now_seen : (units more : List JournalUnit) (old new : Held) → HasSeen units more old new → new.seen ≡ more
+now_seen units more old new h = ap (λ (s : Held). s.seen) h.1 ∙ sym h.0
+
+pub lone_seen : (command : DataCommand) (result : Result Answer Refusal) (units more : List JournalUnit) (old new : Held) → IsLone command result units more old new → new.seen ≡ more
+lone_seen command (Ok answer) units more old new h = ap (λ (s : Held). s.seen) h.1.1 ∙ sym h.1.0
+lone_seen command (Err refusal) units more old new h = now_seen units more old new h.1
+
+pub tried_seen : (command : LockCommand) (result : Result Bool Refusal) (units more : List JournalUnit) (old new : Held) → IsTried command result units more old new → new.seen ≡ more
+tried_seen command (Ok had) units more old new h = ap (λ (s : Held). s.seen) h.1.1 ∙ sym h.1.0
+tried_seen command (Err refusal) units more old new h = now_seen units more old new h.1
+
+opened_seen : (result : Result ℕ Refusal) (units more : List JournalUnit) (old new : Held) → IsOpened result units more old new → new.seen ≡ more
+opened_seen (Ok level) units more old new h = ap (λ (s : Held). s.seen) h.1.1.is ∙ sym h.1.0
+opened_seen (Err refusal) units more old new h = absurd h
+
+deeper_seen : (result : Result ℕ Refusal) (units more : List JournalUnit) (old new : Held) → IsDeeper result units more old new → old.seen ≡ units → new.seen ≡ more
+deeper_seen (Ok level) units more old new h seen = ap (λ (s : Held). s.seen) h.1.1 ∙ (seen ∙ sym h.1.0)
+deeper_seen (Err refusal) units more old new h seen = same_seen units more old new h.1 seen
+
+pub ended_seen : (end : Ended) (units more : List JournalUnit) (old new : Held) → HasEnded end units more old new → new.seen ≡ more
+ended_seen Committed units more old new h = ap (λ (s : Held). s.seen) h.1.1 ∙ sym h.1.0
+ended_seen (Restarted restarts) units more old new h = ap (λ (s : Held). s.seen) h.1.1.0
+
+committed_seen : (result : Result Reply Refusal) (units more : List JournalUnit) (old new : Held) → IsCommitted result units more old new → new.seen ≡ more
+committed_seen (Ok reply) units more old new h = ended_seen Committed units more old new h.1
+committed_seen (Err refusal) units more old new h = now_seen units more old new h.1
+
+rolled_seen : (units more : List JournalUnit) (old : Held) → more ≡ gone_back old.state units → old.seen ≡ units → (rolled_back more old).seen ≡ more
+rolled_seen units more old is seen = by_took old.state.took_lock is
+  where
+    by_took : (b : Bool) → more ≡ (if b then units ++ Back old.state.work.job ∷ [] else units) → (if b then more else old.seen) ≡ more
+    by_took true e = refl
+    by_took false e = seen ∙ sym e
+
+back_seen : (result : Result (Unit {0}) Refusal) (units more : List JournalUnit) (old new : Held) → IsRolledBack result units more old new → old.seen ≡ units → new.seen ≡ more
+back_seen (Ok done) units more old new h seen = ap (λ (s : Held). s.seen) h.1 ∙ rolled_seen units more old h.0 seen
+back_seen (Err refusal) units more old new h seen = now_seen units more old new h.1
+
+anew_seen : (result : Result ℕ Refusal) (units more : List JournalUnit) (old new : Held) → IsRestarted result units more old new → new.seen ≡ more
+anew_seen (Ok restarts) units more old new h = ap (λ (s : Held). s.seen) h.1.1
+anew_seen (Err refusal) units more old new h = now_seen units more old new h.1
+
+by_level : {P : Type 0} (n : ℕ) → (n ≡ 0 → P) → (1 ≤ n → P) → P
+by_level zero outside inside = outside refl
+by_level (suc n) outside inside = inside (omega arith)
+
+by_levels : {P : Type 0} (n : ℕ) → (n ≡ 0 → P) → (n ≡ 1 → P) → (1 < n → P) → P
+by_levels zero outside outermost inside = outside refl
+by_levels (suc zero) outside outermost inside = outermost refl
+by_levels (suc (suc n)) outside outermost inside = inside (omega arith)
+
+pub done_seen : (command : Command) (reply : Reply) (units more : List JournalUnit) (old new : Held) → HasDone command reply units more old new → old.seen ≡ units → new.seen ≡ more
+done_seen (Access command) reply units more old new h seen =
+    by_level {P = new.seen ≡ more} old.state.level (λ none. lone_seen command h.0 units more old new (h.2 none)) (λ deep. let read = h.3 deep in read.1.1.1.1.1 ∙ sym read.1.0)
+done_seen (lock_command command) reply units more old new h seen = tried_seen command h.0 units more old new h.2
+done_seen Start reply units more old new h seen =
+    by_level {P = new.seen ≡ more} old.state.level (λ none. opened_seen h.0 units more old new (h.2 none)) (λ deep. deeper_seen h.0 units more old new (h.3 deep) seen)
+done_seen Commit reply units more old new h seen =
+    by_levels {P = new.seen ≡ more} old.state.level (λ none. same_seen units more old new (h.2 none).1 seen) (λ one. committed_seen h.0 units more old new (h.3 one))
+    (λ deep. let lower = h.4 deep in ap (λ (s : Held). s.seen) lower.1.1 ∙ (seen ∙ sym lower.1.0))
+done_seen Rollback reply units more old new h seen =
+    by_level {P = new.seen ≡ more} old.state.level (λ none. same_seen units more old new (h.2 none).1 seen) (λ deep. back_seen h.0 units more old new (h.3 deep) seen)
+done_seen Restart reply units more old new h seen =
+    by_level {P = new.seen ≡ more} old.state.level (λ none. same_seen units more old new (h.2 none).1 seen) (λ deep. anew_seen h.0 units more old new (h.3 deep))
+done_seen Level reply units more old new h seen = same_seen units more old new h.1 seen
+done_seen Restarts reply units more old new h seen = same_seen units more old new h.1 seen
+done_seen Halt reply units more old new h seen = absurd h
+
+-- where its start was moved, or it has met the desk
+pub moved_seen : (units : List JournalUnit) (s now : Held) → now ≡ moved_open units s → now.seen ≡ units
+moved_seen units s now is = ap (λ (x : Held). x.seen) is ∙ by_level (nat_lt 0 s.state.level)
+  where
+    by_level : (b : Bool) → (if b then moved units s else knowing units s).seen ≡ units
+    by_level true = refl
+    by_level false = refl
+
+-- ---- what a call says once the lock is free
+
+-- a lone command, by its clauses under the lock
+pub lone_done : (A : Type 0) (command : DataCommand) (result : Result Answer Refusal) (units : List JournalUnit) (old new : Held) → IfOk result (λ answer. answer ≡ data_reply command (after units initial).map) → OnOk result (data_refusal command (after units initial).map ≡ None)
+    → IfOk result (λ answer. new ≡ and_receipt units (Lone old.state.work.job command answer) old) → OnErr result (A × (new ≡ knowing units old)) → ((rule : Refusal) → early_refusal command ≡ Some rule → IsErrOf result rule)
+    → IfErr result (λ refusal. IsCauseOf refusal command (after units initial).map (length units)) → IsLone command result units new.seen old new
+lone_done A command (Ok answer) units old new is allowed receipt refused early cause = ((is, allowed), (ap (λ (s : Held). s.seen) receipt, receipt))
+lone_done A command (Err refusal) units old new is allowed receipt refused early cause = ((cause, early), (ap (λ (s : Held). s.seen) refused.1, refused.1))
+
+-- a try of a LOCK
+pub tried_done : (command : LockCommand) (had : Bool) (units : List JournalUnit) (old new : Held) → IsBeginning units old.seen → had ≡ lock_reply old.state.work.job command (after units initial).locks → lock_refusal old.state.work.job command (after units initial).locks ≡ None
+    → new ≡ after_try units command had old → WasTried command (Ok had) old new
+tried_done command had units old new goes_on is allowed receipt = (units, goes_on, ((is, allowed), (ap (λ (s : Held). s.seen) receipt, receipt)))
+
+pub tried_refused : (command : LockCommand) (refusal : Refusal) (units : List JournalUnit) (old new : Held) → IsBeginning units old.seen → IsCauseOfLock refusal old.state.work.job command units → new ≡ knowing units old → WasTried command (Err refusal) old new
+tried_refused command refusal units old new goes_on cause is = (units, goes_on, (cause, (ap (λ (s : Held). s.seen) is, is)))
+
+-- the first
+pub tried_first : (command : LockCommand) (r : Result Bool Refusal) (units : List JournalUnit) (old new : Held) → IsBeginning units old.seen → IfOk r (λ had. had ≡ lock_reply old.state.work.job command (after units initial).locks)
+    → OnOk r (lock_refusal old.state.work.job command (after units initial).locks ≡ None) → IfOk r (λ had. new ≡ after_try units command had old) → IfOk r (λ had. WasTried command (Ok had) old new)
+tried_first command (Ok had) units old new goes_on is allowed receipt = tried_done command had units old new goes_on is allowed receipt
+tried_first command (Err refusal) units old new goes_on is allowed receipt = tt
+
+pub refused_first : (A : Type 0) (command : LockCommand) (r : Result Bool Refusal) (units : List JournalUnit) (old new : Held) → IsBeginning units old.seen → IfErr r (λ refusal. IsCauseOfLock refusal old.state.work.job command units) → OnErr r (A × (new ≡ knowing units old))
+    → IfErr r (λ refusal. WasTried command (Err refusal) old new)
+refused_first A command (Ok had) units old new goes_on cause is = tt
+refused_first A command (Err refusal) units old new goes_on cause is = tried_refused command refusal units old new goes_on cause is.1
+
+-- a later one
+pub tried_again : (command : LockCommand) (r : Result Bool Refusal) (units : List JournalUnit) (old new : Held) → OnOkThat r (IsBeginning units old.seen) → OnOkThat r (lock_reply old.state.work.job command (after units initial).locks ≡ true)
+    → OnOkThat r (lock_refusal old.state.work.job command (after units initial).locks ≡ None) → OnOkThat r (new ≡ after_try units command true old) → OnOkThat r (WasTried command (Ok true) old new)
+tried_again command (Ok true) units old new goes_on is allowed receipt = tried_done command true units old new goes_on (sym is) allowed receipt
+tried_again command (Ok false) units old new goes_on is allowed receipt = tt
+tried_again command (Err refusal) units old new goes_on is allowed receipt = tt
+
+pub refused_again : (A : Type 0) (command : LockCommand) (r : Result Bool Refusal) (units : List JournalUnit) (old new : Held) → IfErr r (λ refusal. IsCauseOfLock refusal old.state.work.job command units) → OnErr r (IsBeginning units old.seen × (A × (new ≡ knowing units old)))
+    → IfErr r (λ refusal. WasTried command (Err refusal) old new)
+refused_again A command (Ok had) units old new cause is = tt
+refused_again A command (Err refusal) units old new cause is = tried_refused command refusal units old new is.0 cause is.1.1
+
+-- a transaction that took no LOCK is rolled back, and nothing is looked at
+pub rolled_free : (old new : Held) → old.state.took_lock ≡ false → new ≡ ended old → IsRolledBack (Ok tt) old.seen new.seen old new
+rolled_free old new free is =
+    let none : gone_back old.state old.seen ≡ old.seen = ap (λ (b : Bool). if b then old.seen ++ Back old.state.work.job ∷ [] else old.seen) free in
+    (ap (λ (s : Held). s.seen) is ∙ sym none, is ∙ ap ended (back_free new.seen old free))
+
+-- one that took a LOCK
+pub rolled_done : (A : Type 0) (r : Result (Unit {0}) Refusal) (units more : List JournalUnit) (old new : Held) → old.state.took_lock ≡ true → (old.state.took_lock ≡ true → IsBeginning units old.seen) → OnOk r (more ≡ gone_back old.state units) → OnOk r (new ≡ rolled_back more old)
+    → OnErr r (A × (new ≡ knowing units old)) → IfErr r (λ refusal. HasNoRoom refusal 1 (length units) × (old.state.took_lock ≡ true)) → (us : List JournalUnit) × IsBeginning us old.seen × IsRolledBack r us new.seen old new
+rolled_done A (Ok done) units more old new took goes_on is over refused cause =
+    let seen : new.seen ≡ more = ap (λ (s : Held). s.seen) over ∙ ap (λ (b : Bool). if b then more else old.seen) took in
+    (units, goes_on took, (seen ∙ is, over ∙ ap (λ (us : List JournalUnit). rolled_back us old) (sym seen)))
+rolled_done A (Err refusal) units more old new took goes_on is over refused cause = (units, goes_on took, (cause, (ap (λ (s : Held). s.seen) refused.1, refused.1)))
+
+-- it begins anew
+pub anew_done : (A : Type 0) (r : Result ℕ Refusal) (units more : List JournalUnit) (old new : Held) → IsBeginning units old.seen → OnOk r (more ≡ gone_back old.state units) → IfOk r (λ restarts. (new ≡ begun_anew more old) × (restarts ≡ new.state.restarts))
+    → OnErr r (A × (new ≡ knowing units old)) → IfErr r (λ refusal. HasNoRoom refusal 1 (length units) × (old.state.took_lock ≡ true)) → (us : List JournalUnit) × IsBeginning us old.seen × IsRestarted r us new.seen old new
+anew_done A (Ok restarts) units more old new goes_on is anew refused cause =
+    let seen : new.seen ≡ more = ap (λ (s : Held). s.seen) anew.0 in (units, goes_on, (anew.1, (seen ∙ is, anew.0 ∙ ap (λ (us : List JournalUnit). begun_anew us old) (sym seen))))
+anew_done A (Err refusal) units more old new goes_on is anew refused cause = (units, goes_on, (cause, (ap (λ (s : Held). s.seen) refused.1, refused.1)))
+
+pub anew_journal : (r : Result ℕ Refusal) (more : List JournalUnit) (old new : Held) → IfOk r (λ restarts. (new ≡ begun_anew more old) × (restarts ≡ new.state.restarts)) → OnOk r (IsJournalOf more old) → OnOk r (IsJournalOf new.seen old)
+anew_journal (Ok restarts) more old new anew journal = subst (λ (us : List JournalUnit). IsJournalOf us old) (sym (ap (λ (s : Held). s.seen) anew.0)) journal
+anew_journal (Err refusal) more old new anew journal = tt
+
+-- the session is over, or goes on
+pub halted_at : {E : Type 0} (r : Result Book E) (units : List JournalUnit) (s : Held) → IsBeginning units s.seen → IfOk r (λ pass. pass ≡ halted units s) → IfOk r (λ pass. (us : List JournalUnit) × IsBeginning us s.seen × (pass ≡ halted us s))
+halted_at (Ok pass) units s goes_on is = (units, goes_on, is)
+halted_at (Err e) units s goes_on is = tt
+
+pub not_halted : {P : Type 0} (A : Type 0) (r : Result P (Held × Refusal)) (units : List JournalUnit) (s : Held) → IsBeginning units s.seen → IfErr r (λ e. (e.0 ≡ knowing units s) × A) → IfErr r (λ e. IsBeginning e.0.seen s.seen × (e.0 ≡ knowing e.0.seen s))
+not_halted A (Ok pass) units s goes_on is = tt
+not_halted A (Err e) units s goes_on is =
+    let seen : units ≡ e.0.seen = sym (ap (λ (x : Held). x.seen) is.0) in (subst (λ (us : List JournalUnit). IsBeginning us s.seen) seen goes_on, is.0 ∙ ap (λ (us : List JournalUnit). knowing us s) seen)
+
+pub halt_cause : {P : Type 0} (A : Type 0) (r : Result P (Held × Refusal)) (units : List JournalUnit) (s : Held) → IfErr r (λ e. (e.0 ≡ knowing units s) × A) → IfErr r (λ e. HasNoRoom e.1 1 (length units)) → IfErr r (λ e. HasNoRoom e.1 1 (length e.0.seen))
+halt_cause A (Ok pass) units s is cause = tt
+halt_cause A (Err e) units s is cause = subst (λ (us : List JournalUnit). HasNoRoom e.1 1 (length us)) (sym (ap (λ (x : Held). x.seen) is.0)) cause
+
+-- what holds of the units under the lock holds of what the session has seen then
+pub at_seen : {A E : Type 0} (r : Result A E) (units : List JournalUnit) (new : Held) (P : List JournalUnit → A → Type 0) → OnOk r (new.seen ≡ units) → IfOk r (P units) → IfOk r (P new.seen)
+at_seen (Ok a) units new P seen h = subst (λ (us : List JournalUnit). P us a) (sym seen) h
+at_seen (Err e) units new P seen h = tt
+
+pub come_at : {A E : Type 0} (r : Result A E) (units more : List JournalUnit) (old new : Held) (P : List JournalUnit → List JournalUnit → A → Type 0) → OnOk r (IsJournalOf units old) → OnOk r (new.seen ≡ more) → IfOk r (P units more)
+    → IfOk r (λ a. (us : List JournalUnit) × IsJournalOf us old × P us new.seen a)
+come_at (Ok a) units more old new P journal seen h = (units, journal, subst (λ (us : List JournalUnit). P units us a) (sym seen) h)
+come_at (Err e) units more old new P journal seen h = tt

@@ -1,9 +1,0 @@
-use Rattle.std.proofs.Common.{◌++◌, ◌∷◌, [], sym, ap, subst}
-use Rattle.shared_engine.specs.Receipts.{Book}
-use Rattle.shared_engine.specs.Engines.{IsDue}
-use Rattle.shared_engine.proofs.Closing.{due_step}
-use Rattle.shared_engine.proofs.locked.take_in.Goals as goal
-
-pub returns-clause-due : goal.returns-clause-due
-returns-clause-due g c = λ all rest d.
-    rw (ap (λ w. w.back) c.return_slip.ensures) (due_step all rest _ _ c.args.tally.now.back c.pass.inside.slip c.pass.invariant (subst (λ (b : Book). IsDue all (rest ++ b ∷ []) c.args.tally.now.back) (sym c.pass.view_is) d))
