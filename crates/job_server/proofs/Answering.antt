@@ -2,7 +2,7 @@
 use Rattle.std.proofs.Common.{◌≡◌, ◌⊎◌, ℕ, ◌+◌, ◌≤◌, ◌<◌, Bool, true, false, List, refl, sym, subst, length, true≢false}
 use Rattle.std.specs.Prelude.{Option, Some, None, Result, Ok, Err, IfSome, IsSome, IfOk, IfErr, OnOk, OnErr, is_ok}
 use Rattle.refusal.specs.declared.Refusal.{Refusal}
-use Rattle.refusal.specs.declared.Refusal.TheVariants.{NoTransaction, LevelTooDeep, OutOfMemory, StampsUsedUp}
+use Rattle.refusal.specs.declared.Refusal.TheVariants.{NoTransaction, LevelTooDeep}
 use Rattle.collation.specs.Limits.{most_levels}
 use Rattle.lock_name.specs.declared.lock.LockCommand.{LockCommand}
 use Rattle.command.specs.declared.access.DataCommand.{DataCommand}
@@ -12,33 +12,32 @@ use Rattle.command.specs.declared.request.Command.TheVariants.{Access, Start, Co
 use Rattle.command.specs.declared.request.Reply.{Reply}
 use Rattle.command.specs.declared.request.Reply.TheVariants.{Answered, Finished, AtLevel, Restarted as restarted_reply, Refused}
 use Rattle.journal.specs.declared.unit.Unit.{Unit as JournalUnit}
-use Rattle.journal.specs.declared.unit.Unit.TheVariants.{Lone}
 use Rattle.journal.specs.History.{initial, after}
 use Rattle.validate_commit.specs.Working.{IsCauseAlone}
-use Rattle.job_core.specs.Causes.{IsCauseOf}
+use Rattle.validate_commit.specs.Verdicts.{IsCauseAtCommit}
 use Rattle.job_core.specs.Sessions.{at_level, IsAnsweredOrRefused, HasWritten}
-use Rattle.shared_engine.specs.Sessions.{Held, held, and_receipt, begun_anew, rolled_back, HasBegun, IsJournalOf}
-use Rattle.shared_engine.specs.Engines.{HasEnded, HasItsNames, WasBlocked, OnOkThat, OnOkNot}
+use Rattle.pin_board.specs.Slips.{IsBeginning}
+use Rattle.shared_engine.specs.Sessions.{Held, held, knowing, HasBegun, IsJournalOf}
+use Rattle.shared_engine.specs.Engines.{HasEnded, IsCauseAtRestart, OnOkThat, OnOkNot}
 use Rattle.shared_engine.specs.declared.locked.Ended.{Ended}
 use Rattle.shared_engine.specs.declared.locked.Ended.TheVariants.{Committed, Restarted}
-use Rattle.shared_engine.specs.Blocks.{said}
-use Rattle.job_server.specs.Telling.{Follows, names_some, IsLockRefusal, HasLocked}
+use Rattle.shared_engine.specs.Blocks.{said, IsLone, HasItsNames, WasBlocked, WasRefused, IsRolledBack, IsRestarted}
+use Rattle.job_server.specs.Telling.{Follows, names_some, HasLocked}
 use Rattle.job_server.specs.Replying.{written_as, ended_as}
-use Rattle.job_server.proofs.Causes.{lone_may, written_may, deeper_may, commit_may, rollback_may, restart_may, no_commit_may, no_rollback_may, no_restart_may}
-use Rattle.job_server.proofs.Following.{refused_follows, lone_follows, read_follows, written_follows, begun_follows, deeper_follows, committed_follows, overtaken_follows, restarted_follows, rolled_back_follows}
+use Rattle.job_server.proofs.Causes.{lone_may, written_may, deeper_may, commit_may, rollback_may, restart_may, room_of, room_at_commit, no_commit_may, no_rollback_may, no_restart_may}
+use Rattle.job_server.proofs.Following.{refused_follows, knowing_follows, lone_follows, read_follows, written_follows, begun_follows, deeper_follows, committed_follows, overtaken_follows, restarted_follows, rolled_back_follows}
 
 -- the same reply
 pub follows_as : (command : Command) (a reply : Reply) (old new : Held) → Follows command a old new → reply ≡ a → Follows command reply old new
 follows_as command a reply old new h is = subst (λ (r : Reply). Follows command r old new) (sym is) h
 
-pub lone_told : (command : DataCommand) (result : Result Answer Refusal) (old new : Held) → old.state.level ≡ 0 → IfOk result (λ answer. (n : ℕ) × (new ≡ and_receipt n (Lone old.state.work.job command answer) old)) → OnErr result (new ≡ old)
-    → IfErr result (λ refusal. (units : List JournalUnit) × IsCauseOf refusal command (after units initial).map (length units)) → Follows (Access command) (said Answered result) old new
-lone_told command (Ok answer) old new level receipt refused cause = lone_follows command answer receipt.0 old new level receipt.1
-lone_told command (Err refusal) old new level receipt refused cause = refused_follows (Access command) refusal old new refused (lone_may command refusal cause.0 old level cause.1)
+pub lone_told : (command : DataCommand) (result : Result Answer Refusal) (old new : Held) → old.state.level ≡ 0 → ((units : List JournalUnit) × IsBeginning units old.seen × IsLone command result units new.seen old new) → Follows (Access command) (said Answered result) old new
+lone_told command (Ok answer) old new level h = lone_follows command answer h.0 old new level h.2.1.1
+lone_told command (Err refusal) old new level h = knowing_follows (Access command) refusal h.0 old new h.2.1.1 (lone_may command refusal h.0 old level h.2.0.0)
 
-pub written_told : (command : DataCommand) (done : Result (Unit {0}) Refusal) (result : Result Answer Refusal) (old new : Held) → 1 ≤ old.state.level → OnOk done (HasWritten command old.state new.state) → (new.start ≡ old.start) × (new.receipts ≡ old.receipts) → new.others ≡ old.others → OnErr done (new ≡ old)
+pub written_told : (command : DataCommand) (done : Result (Unit {0}) Refusal) (result : Result Answer Refusal) (old new : Held) → 1 ≤ old.state.level → OnOk done (HasWritten command old.state new.state) → (new.start ≡ old.start) × (new.receipts ≡ old.receipts) → (new.others ≡ old.others) × (new.seen ≡ old.seen) → OnErr done (new ≡ old)
     → IfErr done (λ refusal. IsCauseAlone refusal old.state.work) → result ≡ written_as done → Follows (Access command) (said Answered result) old new
-written_told command (Ok u) result old new one written same others refused cause is = subst (λ (r : Result Answer Refusal). Follows (Access command) (said Answered r) old new) (sym is) (written_follows command old new one written same.0 same.1 others)
+written_told command (Ok u) result old new one written same others refused cause is = subst (λ (r : Result Answer Refusal). Follows (Access command) (said Answered r) old new) (sym is) (written_follows command old new one written same.0 same.1 others.0)
 written_told command (Err refusal) result old new one written same others refused cause is =
     subst (λ (r : Result Answer Refusal). Follows (Access command) (said Answered r) old new) (sym is) (refused_follows (Access command) refusal old new refused (written_may command refusal old one cause))
 
@@ -52,12 +51,12 @@ pub read_told : (command : DataCommand) (result : Result Answer Refusal) (old ne
 read_told command result old new one answered some same others = read_from old.start command result old new refl one answered some same others
 
 pub within_locked : (command : LockCommand) (result : Result Bool Refusal) (old new : Held) → names_some command ≡ true → OnOkThat result (HasItsNames command old new) → OnOkNot result (WasBlocked command old new)
-    → OnErr result ((new ≡ old) ⊎ WasBlocked command old new) → IfErr result (λ refusal. IsLockRefusal old.state.work.job command refusal) → HasLocked command result old new
-within_locked command (Ok true) old new names had blocked refused cause = had
-within_locked command (Ok false) old new names had blocked refused cause = (names, blocked)
-within_locked command (Err refusal) old new names had blocked refused cause = (refused, cause)
+    → IfErr result (λ refusal. WasRefused command refusal old new) → HasLocked command result old new
+within_locked command (Ok true) old new names had blocked refused = had
+within_locked command (Ok false) old new names had blocked refused = (names, blocked)
+within_locked command (Err refusal) old new names had blocked refused = refused
 
-pub inner_told : (result : Result ℕ Refusal) (old new : Held) → 1 ≤ old.state.level → IfOk result (λ level. (level ≡ old.state.level + 1) × ((old.state.level < most_levels) × (new ≡ held (at_level level old.state) old.start old.receipts old.others)))
+pub inner_told : (result : Result ℕ Refusal) (old new : Held) → 1 ≤ old.state.level → IfOk result (λ level. (level ≡ old.state.level + 1) × ((old.state.level < most_levels) × (new ≡ held (at_level level old.state) old.start old.receipts old.others old.seen)))
     → IfErr result (λ refusal. (refusal ≡ LevelTooDeep) × ((most_levels ≤ old.state.level) × (new ≡ old))) → Follows Start (said AtLevel result) old new
 inner_told (Ok level) old new one deeper refused = deeper_follows level old new one deeper.1.0 deeper.0 deeper.1.1
 inner_told (Err refusal) old new one deeper refused = refused_follows Start refusal old new refused.1.1 (deeper_may refusal old one refused.0 refused.1.0)
@@ -66,27 +65,25 @@ pub outer_told : (old new at : Held) (level : ℕ) → at ≡ old → level ≡ 
 outer_told old new at level is one none begun =
     subst (λ (l : ℕ). Follows Start (AtLevel l) old new) (sym one) (begun_follows begun.0 old new none (subst (λ (h : Held). HasBegun begun.0 h new) is begun.1))
 
-pub commit_told : (result : Result Ended Refusal) (old new : Held) → old.state.level ≡ 1 → IfOk result (λ end. (units more : List JournalUnit) × IsJournalOf units old × HasEnded end units more old new)
-    → OnErr result (new ≡ old) → IfErr result (λ refusal. (refusal ≡ OutOfMemory) ⊎ (refusal ≡ StampsUsedUp)) → Follows Commit (ended_as result) old new
-commit_told (Ok Committed) old new one ended refused cause = committed_follows ended.0 ended.1 old new one ended.3
-commit_told (Ok (Restarted restarts)) old new one ended refused cause = overtaken_follows restarts ended.0 ended.1 old new ended.3
-commit_told (Err refusal) old new one ended refused cause = refused_follows Commit refusal old new refused (commit_may refusal old one cause)
+pub commit_told : (result : Result Ended Refusal) (old new : Held) → old.state.level ≡ 1 → IfOk result (λ end. (units : List JournalUnit) × IsJournalOf units old × HasEnded end units new.seen old new)
+    → OnErr result (IsJournalOf new.seen old × (new ≡ knowing new.seen old)) → IfErr result (λ refusal. IsCauseAtCommit refusal old.state.work new.seen ⊎ IsCauseAtRestart refusal old.state new.seen) → Follows Commit (ended_as result) old new
+commit_told (Ok Committed) old new one ended refused cause = committed_follows ended.0 new.seen old new one ended.2
+commit_told (Ok (Restarted restarts)) old new one ended refused cause = overtaken_follows restarts ended.0 new.seen old new ended.2
+commit_told (Err refusal) old new one ended refused cause = knowing_follows Commit refusal new.seen old new refused.1 (commit_may refusal old one (room_at_commit refusal old.state new.seen cause))
 
 pub no_commit : (old new : Held) → old.state.level ≡ 0 → new ≡ old → Follows Commit (Refused NoTransaction) old new
 no_commit old new none same = refused_follows Commit NoTransaction old new same (no_commit_may old none)
 
-pub rollback_told : (result : Result (Unit {0}) Refusal) (old new : Held) → 1 ≤ old.state.level → OnOk result ((n : ℕ) × (new ≡ rolled_back n old)) → OnErr result (new ≡ old)
-    → IfErr result (λ refusal. ((refusal ≡ OutOfMemory) ⊎ (refusal ≡ StampsUsedUp)) × (old.state.took_lock ≡ true)) → Follows Rollback (said (λ d. Finished) result) old new
-rollback_told (Ok u) old new one over refused cause = rolled_back_follows over.0 old new one over.1
-rollback_told (Err refusal) old new one over refused cause = refused_follows Rollback refusal old new refused (rollback_may refusal old one cause.0)
+pub rollback_told : (result : Result (Unit {0}) Refusal) (old new : Held) → 1 ≤ old.state.level → ((units : List JournalUnit) × IsBeginning units old.seen × IsRolledBack result units new.seen old new) → Follows Rollback (said (λ d. Finished) result) old new
+rollback_told (Ok u) old new one h = rolled_back_follows new.seen old new one h.2.1
+rollback_told (Err refusal) old new one h = knowing_follows Rollback refusal h.0 old new h.2.1.1 (rollback_may refusal old one (room_of refusal 1 (length h.0) h.2.0.0))
 
 pub no_rollback : (old new : Held) → old.state.level ≡ 0 → new ≡ old → Follows Rollback (Refused NoTransaction) old new
 no_rollback old new none same = refused_follows Rollback NoTransaction old new same (no_rollback_may old none)
 
-pub restart_told : (result : Result ℕ Refusal) (old new : Held) → 1 ≤ old.state.level → IfOk result (λ restarts. (units : List JournalUnit) × IsJournalOf units old × ((new ≡ begun_anew units old) × (restarts ≡ new.state.restarts))) → OnErr result (new ≡ old)
-    → IfErr result (λ refusal. ((refusal ≡ OutOfMemory) ⊎ (refusal ≡ StampsUsedUp)) × (old.state.took_lock ≡ true)) → Follows Restart (said restarted_reply result) old new
-restart_told (Ok restarts) old new one anew refused cause = restarted_follows restarts anew.0 old new one anew.2.0 anew.2.1
-restart_told (Err refusal) old new one anew refused cause = refused_follows Restart refusal old new refused (restart_may refusal old one cause.0)
+pub restart_told : (result : Result ℕ Refusal) (old new : Held) → 1 ≤ old.state.level → ((units : List JournalUnit) × IsBeginning units old.seen × IsRestarted result units new.seen old new) → Follows Restart (said restarted_reply result) old new
+restart_told (Ok restarts) old new one h = restarted_follows restarts new.seen old new one h.2.1.1 h.2.0
+restart_told (Err refusal) old new one h = knowing_follows Restart refusal h.0 old new h.2.1.1 (restart_may refusal old one (room_of refusal 1 (length h.0) h.2.0.0))
 
 pub no_restart : (old new : Held) → old.state.level ≡ 0 → new ≡ old → Follows Restart (Refused NoTransaction) old new
 no_restart old new none same = refused_follows Restart NoTransaction old new same (no_restart_may old none)

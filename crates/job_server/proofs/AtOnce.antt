@@ -1,18 +1,23 @@
 -- Lines that are done under one hold of the engine's lock.
-use Rattle.std.proofs.Common.{◌≡◌, ◌≢◌, ℕ, ◌≤◌, false, List, ◌∷◌, ◌++◌, length, refl, sym, ap, ◌∙◌, subst, arith, true≢false}
-use Rattle.std.specs.Prelude.{Option, Some, None}
+use Rattle.std.proofs.Common.{◌≡◌, ◌≢◌, ℕ, ◌≤◌, Bool, true, false, List, [], ◌∷◌, ◌++◌, length, refl, sym, ap, ◌∙◌, subst, arith, true≢false}
+use Rattle.std.specs.Prelude.{Option, Some, None, Result, Ok, Err}
 use Rattle.std.specs.List.{All}
+use Rattle.std.proofs.lemmas.List.Elements.{All-rest}
 use Rattle.refusal.specs.declared.Refusal.{Refusal}
 use Rattle.command.specs.declared.access.DataCommand.{DataCommand}
+use Rattle.command.specs.declared.access.Answer.{Answer}
 use Rattle.command.specs.declared.request.Command.{Command}
 use Rattle.command.specs.declared.request.Command.TheVariants.{Access}
 use Rattle.command.specs.declared.request.Reply.{Reply}
+use Rattle.command.specs.declared.request.Reply.TheVariants.{Answered}
 use Rattle.journal.specs.declared.unit.Unit.{Unit as JournalUnit}
 use Rattle.journal.specs.Kept.{Claim}
 use Rattle.journal.specs.Story.{Machine}
 use Rattle.shared_engine.specs.Receipts.{Book}
-use Rattle.shared_engine.specs.Sessions.{Held}
-use Rattle.shared_engine.specs.Blocks.{AreDone, IsReady, moved_open}
+use Rattle.shared_engine.specs.Sessions.{Held, knowing}
+use Rattle.shared_engine.specs.declared.serial_run.SerialRun.{SerialRun}
+use Rattle.shared_engine.specs.declared.serial_run.SerialRun.TheVariants.{Done, Blocked}
+use Rattle.shared_engine.specs.Blocks.{said, HasDone, AreDone, is_blocked, AreHad, HasCome, IsReady, moved_open}
 use Rattle.job_scripts.specs.declared.block.Block.{Block}
 use Rattle.job_scripts.specs.Blocks.{in_place, AreInFront}
 use Rattle.job_scripts.specs.Lines.{lines_of_script}
@@ -21,23 +26,23 @@ use Rattle.job_server.specs.declared.cursor.Line.{Line}
 use Rattle.job_server.specs.Told.{IsToldIn, OneAsksFor, AreAskedFor, units_of, units_in, backs, others_of}
 use Rattle.job_server.specs.Telling.{is_open, StandsIn, sessions_so_far, GoesOnUntold, Running, running, Serves, Keeps, Advances, Reaches, ServesBlock, HasRun, HasReadAll, AreDataCommands, NoneAgain}
 use Rattle.job_server.proofs.Levels.{none_again, none_again_of_data}
-use Rattle.job_server.proofs.Doing.{HasTold, block_told, block_asks, block_grows, moved_stands, moved_job, moved_receipts, reads_keep}
+use Rattle.job_server.proofs.Doing.{HasTold, block_told, block_asks, block_grows, knowing_stands, moved_stands, moved_job, moved_receipts, reads_keep}
 use Rattle.job_server.proofs.GoingBack.{backs_then, step_backs, moved_has_gone, moved_others}
 use Rattle.job_server.proofs.Granting.{moved_granted, same_within, kept_then}
 use Rattle.job_server.proofs.Asking.{asks_front}
 
 -- done from a session that stands so
-block_from : (job : ℕ) (before rest : List (List ℕ)) (places : List (Option Refusal)) (commands : List Command) (served replies more_replies : List Reply) (books : List Book) (units more : List JournalUnit) (old start new : Held)
-    → AreInFront job before rest places commands → start.receipts ≡ old.receipts → start.others ≡ old.others → ((s : Machine) → StandsIn job books (Some old) s → StandsIn job books (Some start) s) → AreDone commands served units more start new → NoneAgain commands served → more_replies ≡ replies ++ in_place places served
+block_from : (job : ℕ) (before rest : List (List ℕ)) (places : List (Option Refusal)) (commands : List Command) (musts : List Bool) (served replies more_replies : List Reply) (books : List Book) (units more : List JournalUnit) (old start new : Held)
+    → AreInFront job before rest places commands musts → start.receipts ≡ old.receipts → start.others ≡ old.others → ((s : Machine) → StandsIn job books (Some old) s → StandsIn job books (Some start) s) → AreDone commands served units more start new → AreHad musts served → NoneAgain commands served → more_replies ≡ replies ++ in_place places served
     → Serves job before rest (running replies (sessions_so_far books (Some old))) (running more_replies (sessions_so_far books (Some new)))
-block_from job before rest places commands served replies more_replies books units more old start new in_front same others moves done never is = record {
+block_from job before rest places commands musts served replies more_replies books units more old start new in_front same others moves done had never is = record {
   lines_done = in_front.front;
   their_replies = in_place places served;
   split = in_front.split;
   replied = is;
   leads = λ s stands. (let from : StandsIn job books (Some start) s = moves s stands in
       let n : ℕ = backs (others_of books) in
-      let h : HasTold job n (units_in books) in_front.front (in_place places served) s new = block_told job n (units_in books) in_front.front places commands served units more start new s in_front.asked done never from.1.0 from.1.1.0 from.1.1.1 in
+      let h : HasTold job n (units_in books) in_front.front (in_place places served) s new = block_told job n (units_in books) in_front.front places commands musts served units more start new s in_front.asked in_front.timed done had never from.1.0 from.1.1.0 from.1.1.1 in
       record { machine = h.machine; led = h.led; replies_are = h.replies_are; stands = (from.0, (h.whose, (h.stands, h.gone))) });
   asks = λ j all each asked.
       block_asks job (units_in books) in_front.front places commands served units more start new in_front.asked done never j all
@@ -46,25 +51,60 @@ block_from job before rest places commands served replies more_replies books uni
   grows = step_backs books old new (subst (λ (cs : List Claim). backs (units_of cs) ≤ backs (units_of new.others)) others (block_grows commands served units more start new done never));
 }
 
+knowing_on : (job : ℕ) (books : List Book) (units : List JournalUnit) (old : Held) (s : Machine) → StandsIn job books (Some old) s → StandsIn job books (Some (knowing units old)) s
+knowing_on job books units old s stands = (stands.0, (stands.1.0, (knowing_stands (units_in books) units s old stands.1.1.0, stands.1.1.1)))
+
 moved_on : (job : ℕ) (books : List Book) (units : List JournalUnit) (old : Held) (s : Machine) → IsReady old → StandsIn job books (Some old) s → StandsIn job books (Some (moved_open units old)) s
 moved_on job books units old s ready stands = (
   stands.0,
   (moved_job units old ∙ stands.1.0, (moved_stands (units_in books) units s old ready stands.1.1.0, (moved_has_gone (backs (others_of books)) units s old stands.1.1.1.0, moved_granted (backs (others_of books)) (units_in books) units s old stands.1.1.1.1))),
 )
 
-pub run_serves : (job : ℕ) (before rest : List (List ℕ)) (places : List (Option Refusal)) (commands : List Command) (served replies more_replies : List Reply) (books : List Book) (session later : Option Held) → AreInFront job before rest places commands
-    → HasRun commands served session later → more_replies ≡ replies ++ in_place places served → Serves job before rest (running replies (sessions_so_far books session)) (running more_replies (sessions_so_far books later))
-run_serves job before rest places commands served replies more_replies books None later in_front run is = absurd run
-run_serves job before rest places commands served replies more_replies books (Some old) None in_front run is = absurd run
-run_serves job before rest places commands served replies more_replies books (Some old) (Some new) in_front run is =
-    block_from job before rest places commands served replies more_replies books run.2 run.3 old (moved_open run.2 old) new in_front (moved_receipts run.2 old) (moved_others run.2 old) (λ s stands. moved_on job books run.2 old s run.0 stands) run.5 (none_again commands served run.2 run.3 old new run.1 run.5) is
+-- all was done, and replied so
+abbrev pub IsAll : SerialRun → List Reply → Type 0
+IsAll (Done replies) served = replies.items ≡ served
+IsAll (Blocked place) served = ⊥
 
-pub reads_serve : (job : ℕ) (before rest : List (List ℕ)) (places : List (Option Refusal)) (commands : List Command) (served replies more_replies : List Reply) (books : List Book) (session later : Option Held) → AreDataCommands commands → AreInFront job before rest places commands
+all_done : (musts : List Bool) (commands : List Command) (run : SerialRun) (served : List Reply) (units more : List JournalUnit) (old new : Held) → IsAll run served → HasCome musts commands run units more old new → AreDone commands served units more old new × AreHad musts served
+all_done musts commands (Done replies) served units more old new all come = subst (λ (rs : List Reply). AreDone commands rs units more old new × AreHad musts rs) all come
+all_done musts commands (Blocked place) served units more old new all come = absurd all
+
+pub run_serves : (job : ℕ) (before rest : List (List ℕ)) (places : List (Option Refusal)) (commands : List Command) (musts : List Bool) (run : SerialRun) (served replies more_replies : List Reply) (books : List Book) (session later : Option Held) → AreInFront job before rest places commands musts
+    → HasRun musts commands run session later → IsAll run served → more_replies ≡ replies ++ in_place places served → Serves job before rest (running replies (sessions_so_far books session)) (running more_replies (sessions_so_far books later))
+run_serves job before rest places commands musts run served replies more_replies books None later in_front ran all is = absurd ran
+run_serves job before rest places commands musts run served replies more_replies books (Some old) None in_front ran all is = absurd ran
+run_serves job before rest places commands musts run served replies more_replies books (Some old) (Some new) in_front ran all is =
+    let come = all_done musts commands run served ran.2 ran.3 (moved_open ran.2 old) new all ran.5 in
+    block_from job before rest places commands musts served replies more_replies books ran.2 ran.3 old (moved_open ran.2 old) new in_front (moved_receipts ran.2 old) (moved_others ran.2 old) (λ s stands. moved_on job books ran.2 old s ran.0 stands) come.0 come.1
+    (none_again commands served ran.2 ran.3 old new ran.1 come.0) is
+
+-- what data commands are replied says of no LOCK that it was blocked
+answer_had : (must : Bool) (result : Result Answer Refusal) → is_blocked must (said Answered result) ≡ false
+answer_had true (Ok answer) = refl
+answer_had true (Err refusal) = refl
+answer_had false (Ok answer) = refl
+answer_had false (Err refusal) = refl
+
+access_had : (must : Bool) (command : Command) (reply : Reply) (units more : List JournalUnit) (old new : Held) → ((d : DataCommand) × (command ≡ Access d)) → HasDone command reply units more old new → is_blocked must reply ≡ false
+access_had must command reply units more old new is done =
+    let answered : HasDone (Access is.0) reply units more old new = subst (λ (c : Command). HasDone c reply units more old new) is.1 done in
+    ap (is_blocked must) answered.1 ∙ answer_had must answered.0
+
+data_had : (musts : List Bool) (commands : List Command) (replies : List Reply) (units more : List JournalUnit) (old new : Held) → AreDataCommands commands → AreDone commands replies units more old new → AreHad musts replies
+data_had [] commands replies units more old new all done = tt
+data_had (must ∷ musts) commands [] units more old new all done = tt
+data_had (must ∷ musts) [] (reply ∷ replies) units more old new all done = absurd done
+data_had (must ∷ musts) (command ∷ commands) (reply ∷ replies) units more old new all done = (
+  access_had must command reply units done.0 old done.1 (all 0 command (omega arith)) done.2,
+  data_had musts commands replies done.0 more done.1 new (All-rest (λ (c : Command). (d : DataCommand) × (c ≡ Access d)) command commands (command ∷ commands) refl all) done.3,
+)
+
+pub reads_serve : (job : ℕ) (before rest : List (List ℕ)) (places : List (Option Refusal)) (commands : List Command) (musts : List Bool) (served replies more_replies : List Reply) (books : List Book) (session later : Option Held) → AreDataCommands commands → AreInFront job before rest places commands musts
     → HasReadAll commands served session later → more_replies ≡ replies ++ in_place places served → Serves job before rest (running replies (sessions_so_far books session)) (running more_replies (sessions_so_far books later))
-reads_serve job before rest places commands served replies more_replies books None later all in_front reads is = absurd reads
-reads_serve job before rest places commands served replies more_replies books (Some old) None all in_front reads is = absurd reads
-reads_serve job before rest places commands served replies more_replies books (Some old) (Some new) all in_front reads is =
-    block_from job before rest places commands served replies more_replies books reads.1 reads.1 old old new in_front refl refl (λ s stands. stands) reads.3 (none_again_of_data commands served all) is
+reads_serve job before rest places commands musts served replies more_replies books None later all in_front reads is = absurd reads
+reads_serve job before rest places commands musts served replies more_replies books (Some old) None all in_front reads is = absurd reads
+reads_serve job before rest places commands musts served replies more_replies books (Some old) (Some new) all in_front reads is =
+    block_from job before rest places commands musts served replies more_replies books reads.1 reads.1 old (knowing reads.1 old) new in_front refl refl (λ s stands. knowing_on job books reads.1 old s stands) reads.3 (data_had musts commands served reads.1 reads.1 (knowing reads.1 old) new all reads.3) (none_again_of_data commands served all) is
 
 -- reads of a transaction leave the receipts as they are
 pub reads_keep_all : (commands : List Command) (served replies more_replies : List Reply) (books : List Book) (session later : Option Held) → All (λ (c : Command). (d : DataCommand) × (c ≡ Access d)) commands → HasReadAll commands served session later
@@ -77,17 +117,17 @@ reads_keep_all commands served replies more_replies books (Some old) (Some new) 
 )
   where
     same : ((new.state.level ≡ old.state.level) × (new.state.took_lock ≡ old.state.took_lock)) × ((new.receipts ≡ old.receipts) × (new.others ≡ old.others))
-    same = reads_keep commands served reads.1 reads.1 old new all reads.3 reads.0
+    same = reads_keep commands served reads.1 reads.1 (knowing reads.1 old) new all reads.3 reads.0
 
 -- the lines of a block were done
-pub block_advances : (job : ℕ) (line : Line) (behind : Cursor) (block : Block) (old new : Running) → AreInFront job (line.text.now ∷ lines_of_script line.next.lines.now) (lines_of_script block.rest.now) block.places.items block.commands.items → length block.rest.now ≤ length line.next.lines.now
+pub block_advances : (job : ℕ) (line : Line) (behind : Cursor) (block : Block) (old new : Running) → AreInFront job (line.text.now ∷ lines_of_script line.next.lines.now) (lines_of_script block.rest.now) block.places.items block.commands.items block.musts.items → length block.rest.now ≤ length line.next.lines.now
     → behind.lines.now ≡ block.rest.now → ServesBlock block old new → Advances job line behind old new
 block_advances job line behind block old new in_front fewer same serves = record {
   fewer = omega (arith, fewer, ap length same);
   serves = subst (λ (l : List ℕ). Serves job (line.text.now ∷ lines_of_script line.next.lines.now) (lines_of_script l) old new) (sym same) (serves job (line.text.now ∷ lines_of_script line.next.lines.now) in_front);
 }
 
-pub block_reaches : (job : ℕ) (text : List ℕ) (behind : Cursor) (block : Block) (old new : Running) → AreInFront job (lines_of_script text) (lines_of_script block.rest.now) block.places.items block.commands.items → length block.rest.now ≤ length text → behind.lines.now ≡ block.rest.now
+pub block_reaches : (job : ℕ) (text : List ℕ) (behind : Cursor) (block : Block) (old new : Running) → AreInFront job (lines_of_script text) (lines_of_script block.rest.now) block.places.items block.commands.items block.musts.items → length block.rest.now ≤ length text → behind.lines.now ≡ block.rest.now
     → ServesBlock block old new → Reaches job text behind old new
 block_reaches job text behind block old new in_front fewer same serves = record {
   fewer = omega (arith, fewer, ap length same);

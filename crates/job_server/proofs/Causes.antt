@@ -28,6 +28,7 @@ use Rattle.validate_commit.specs.Verdicts.{IsCauseAtCommit}
 use Rattle.job_core.specs.Causes.{IsCauseOf}
 use Rattle.job_core.specs.Sessions.{Session as JobSession}
 use Rattle.shared_engine.specs.Sessions.{Held, IsAt, IsBegun}
+use Rattle.shared_engine.specs.Engines.{IsCauseAtRestart}
 use Rattle.job_scripts.specs.Lines.{Asks, AsksAnother, IsRefusedAs}
 use Rattle.job_server.specs.Causes.{IsAnswer, IsAllowed, IsReplyTo}
 use Rattle.job_server.specs.Telling.{Shows, MayReply, IsLockRefusal}
@@ -185,10 +186,10 @@ pub room_of : (refusal : Refusal) (more units : ℕ) → HasNoRoom refusal more 
 room_of refusal more units (inl memory) = inl memory
 room_of refusal more units (inr full) = inr full.0
 
-pub room_at_commit : (refusal : Refusal) (h : Held) (units : List JournalUnit) → IsCauseAtCommit refusal h.state.work units ⊎ HasNoRoom refusal 1 (length units) → (refusal ≡ OutOfMemory) ⊎ (refusal ≡ StampsUsedUp)
-room_at_commit refusal h units (inl (inl memory)) = inl memory
-room_at_commit refusal h units (inl (inr full)) = inr full.0
-room_at_commit refusal h units (inr room) = room_of refusal 1 (length units) room
+pub room_at_commit : (refusal : Refusal) (s : JobSession) (units : List JournalUnit) → IsCauseAtCommit refusal s.work units ⊎ IsCauseAtRestart refusal s units → (refusal ≡ OutOfMemory) ⊎ (refusal ≡ StampsUsedUp)
+room_at_commit refusal s units (inl (inl memory)) = inl memory
+room_at_commit refusal s units (inl (inr full)) = inr full.0
+room_at_commit refusal s units (inr room) = room_of refusal 1 (length units) room.0
 
 -- ---- lines
 

@@ -5,8 +5,6 @@ use Rattle.std.specs.List.{All}
 use Rattle.std.proofs.lemmas.List.Elements.{All-rest}
 use Rattle.refusal.specs.declared.Refusal.{Refusal}
 use Rattle.refusal.specs.declared.Refusal.TheVariants.{NoTransaction, Again}
-use Rattle.lock_name.specs.Locks.{lock_reply}
-use Rattle.lock_name.specs.declared.lock.LockCommand.{LockCommand}
 use Rattle.command.specs.declared.access.DataCommand.{DataCommand}
 use Rattle.command.specs.declared.access.Answer.{Answer}
 use Rattle.command.specs.declared.request.Command.{Command}
@@ -20,15 +18,15 @@ use Rattle.script.specs.Line.{reading_of, HasOperands}
 use Rattle.serial.specs.Machine.{told_had}
 use Rattle.job_core.specs.Sessions.{Session as JobSession}
 use Rattle.validate_commit.specs.laws.Working.{work_nothing}
-use Rattle.shared_engine.specs.Sessions.{Held, IsBegun}
-use Rattle.shared_engine.specs.Blocks.{said, IsLone, IsReadAt, IsTried, IsOpened, IsDeeper, IsNone, IsCommitted, IsLower, IsRolledBack, IsRestarted, HasDone, AreDone, IsReady, moved, moved_open}
-use Rattle.job_scripts.specs.Blocks.{in_place, AreAsked}
+use Rattle.shared_engine.specs.Sessions.{Held, knowing, IsBegun}
+use Rattle.shared_engine.specs.Blocks.{said, IsLone, IsReadAt, IsOpened, IsDeeper, IsNone, IsCommitted, IsLower, IsRolledBack, IsRestarted, HasDone, AreDone, is_blocked, AreHad, IsReady, moved, moved_open}
+use Rattle.job_scripts.specs.Blocks.{in_place, AreAsked, AreMusts}
 use Rattle.job_scripts.specs.Lines.{Asks}
-use Rattle.job_server.specs.Causes.{IsAllowed, IsReplyTo}
-use Rattle.job_server.specs.Told.{told_by, told_by_lines, OneAsksFor, AreRepliesTo, units_of, backs}
+use Rattle.job_server.specs.Causes.{IsAllowed}
+use Rattle.job_server.specs.Told.{told_by, told_by_lines, OneAsksFor, IsReplyToLine, AreRepliesTo, units_of, backs}
 use Rattle.job_server.specs.Telling.{Shows, Stands, HasGoneBack, HasGranted, AreStillAsked, IsOvertaken, MayReply, Follows, NoneAgain}
-use Rattle.job_server.proofs.Causes.{lone_may, lock_may, deeper_may, commit_may, rollback_may, restart_may, no_commit_may, no_rollback_may, no_restart_may, room_of, room_at_commit, fault_of, asked_may}
-use Rattle.job_server.proofs.Following.{refused_follows, level_counted, restarts_counted, lone_follows, read_at_follows, tried_follows, begun_follows, deeper_follows, lower_follows, committed_follows, restarted_follows, rolled_back_follows}
+use Rattle.job_server.proofs.Causes.{lone_may, deeper_may, commit_may, rollback_may, restart_may, no_commit_may, no_rollback_may, no_restart_may, room_of, room_at_commit, fault_of, asked_may}
+use Rattle.job_server.proofs.Following.{refused_follows, knowing_follows, level_counted, restarts_counted, lone_follows, read_at_follows, try_follows, begun_follows, deeper_follows, lower_follows, committed_follows, restarted_follows, rolled_back_follows}
 use Rattle.job_server.proofs.Answering.{follows_as}
 use Rattle.job_server.proofs.Asking.{same_asked}
 use Rattle.job_server.proofs.GoingBack.{same_count}
@@ -36,13 +34,8 @@ use Rattle.job_server.proofs.GoingBack.{same_count}
 -- ---- one command
 
 lone_done : (command : DataCommand) (result : Result Answer Refusal) (units more : List JournalUnit) (old new : Held) → old.state.level ≡ 0 → IsLone command result units more old new → Follows (Access command) (said Answered result) old new
-lone_done command (Ok answer) units more old new level h = lone_follows command answer (length units + 1) old new level h.1.1
-lone_done command (Err refusal) units more old new level h = refused_follows (Access command) refusal old new h.1.1 (lone_may command refusal units old level h.0.0)
-
-tried_done : (command : LockCommand) (result : Result Bool Refusal) (units more : List JournalUnit) (old new : Held) → IsTried command result units more old new → Follows (lock_command command) (said (told_had command) result) old new
-tried_done command (Ok had) units more old new h =
-    tried_follows command had (length units + 1) old new (λ is. h.0.0 ∙ ap (λ (c : LockCommand). lock_reply old.state.work.job c (after units initial).locks) is) h.1.1
-tried_done command (Err refusal) units more old new h = refused_follows (lock_command command) refusal old new h.1.1 (lock_may command refusal old (units, h.0))
+lone_done command (Ok answer) units more old new level h = lone_follows command answer units old new level h.1.1
+lone_done command (Err refusal) units more old new level h = knowing_follows (Access command) refusal units old new h.1.1 (lone_may command refusal units old level h.0.0)
 
 opened_done : (result : Result ℕ Refusal) (units more : List JournalUnit) (old new : Held) → old.state.level ≡ 0 → said AtLevel result ≢ Refused Again → IsOpened result units more old new → Follows Start (said AtLevel result) old new
 opened_done (Ok level) units more old new none never h = subst (λ (l : ℕ). Follows Start (AtLevel l) old new) (sym h.0) (begun_follows units old new none h.1.1)
@@ -57,19 +50,19 @@ none_done {A} command reply result units more old new may h = subst (λ (r : Res
 
 committed_done : (result : Result Reply Refusal) (units more : List JournalUnit) (old new : Held) → old.state.level ≡ 1 → IsCommitted result units more old new → Follows Commit (said (λ r. r) result) old new
 committed_done (Ok reply) units more old new one h = follows_as Commit committed_reply reply old new (committed_follows units more old new one h.1) h.0
-committed_done (Err refusal) units more old new one h = refused_follows Commit refusal old new h.1.1 (commit_may refusal old one (room_at_commit refusal old units h.0))
+committed_done (Err refusal) units more old new one h = knowing_follows Commit refusal units old new h.1.1 (commit_may refusal old one (room_at_commit refusal old.state units (inl h.0)))
 
 lower_done : (result : Result Reply Refusal) (units more : List JournalUnit) (old new : Held) → 1 < old.state.level → IsLower result units more old new → Follows Commit (said (λ r. r) result) old new
 lower_done result units more old new deep h =
     subst (λ (r : Result Reply Refusal). Follows Commit (said (λ x. x) r) old new) (sym h.0) (lower_follows (old.state.level - 1) old new deep refl h.1.1)
 
 rolled_back_done : (result : Result (Unit {0}) Refusal) (units more : List JournalUnit) (old new : Held) → 1 ≤ old.state.level → IsRolledBack result units more old new → Follows Rollback (said (λ d. Finished) result) old new
-rolled_back_done (Ok d) units more old new one h = rolled_back_follows (length more) old new one h.1
-rolled_back_done (Err refusal) units more old new one h = refused_follows Rollback refusal old new h.1.1 (rollback_may refusal old one (room_of refusal 1 (length units) h.0.0))
+rolled_back_done (Ok d) units more old new one h = rolled_back_follows more old new one h.1
+rolled_back_done (Err refusal) units more old new one h = knowing_follows Rollback refusal units old new h.1.1 (rollback_may refusal old one (room_of refusal 1 (length units) h.0.0))
 
 restarted_done : (result : Result ℕ Refusal) (units more : List JournalUnit) (old new : Held) → 1 ≤ old.state.level → IsRestarted result units more old new → Follows Restart (said restarted_reply result) old new
 restarted_done (Ok restarts) units more old new one h = restarted_follows restarts more old new one h.1.1 h.0
-restarted_done (Err refusal) units more old new one h = refused_follows Restart refusal old new h.1.1 (restart_may refusal old one (room_of refusal 1 (length units) h.0.0))
+restarted_done (Err refusal) units more old new one h = knowing_follows Restart refusal units old new h.1.1 (restart_may refusal old one (room_of refusal 1 (length units) h.0.0))
 
 -- the level is 0, 1 or more
 by_level : {P : Type 0} (level : ℕ) → (level ≡ 0 → P) → (level ≡ 1 → P) → (1 < level → P) → P
@@ -85,8 +78,8 @@ in_or_out (suc n) none one = one (omega arith)
 pub done_follows : (command : Command) (reply : Reply) (units more : List JournalUnit) (old new : Held) → (command ≡ Start → reply ≢ Refused Again) → HasDone command reply units more old new → Follows command reply old new
 done_follows (Access command) reply units more old new never h =
     follows_as (Access command) (said Answered h.0) reply old new
-    (in_or_out old.state.level (λ none. lone_done command h.0 units more old new none (h.2 none)) (λ one. read_at_follows old.start command h.0 old new refl one (h.3 one).0 (h.3 one).1.1.0 (h.3 one).1.1.1.0 (h.3 one).1.1.1.1)) h.1
-done_follows (lock_command command) reply units more old new never h = follows_as (lock_command command) (said (told_had command) h.0) reply old new (tried_done command h.0 units more old new h.2) h.1
+    (in_or_out old.state.level (λ none. lone_done command h.0 units more old new none (h.2 none)) (λ one. read_at_follows old.start command h.0 old new refl one (h.3 one).0 (h.3 one).1.1.0 (h.3 one).1.1.1.0 (h.3 one).1.1.1.1.0)) h.1
+done_follows (lock_command command) reply units more old new never h = follows_as (lock_command command) (said (told_had command) h.0) reply old new (try_follows command h.0 units more old new h.2) h.1
 done_follows Start reply units more old new never h =
     follows_as Start (said AtLevel h.0) reply old new
     (in_or_out old.state.level (λ none. opened_done h.0 units more old new none (λ again. never refl (h.1 ∙ again)) (h.2 none)) (λ one. deeper_done h.0 units more old new one (h.3 one))) h.1
@@ -145,7 +138,7 @@ pub record HasTold (job n : ℕ) (front : List JournalUnit) (lines : List (List 
   pub gone : HasGoneBack n machine new × HasGranted n front machine new
 
 -- a line more in front
-line_before : (job n : ℕ) (front : List JournalUnit) (line : List ℕ) (lines : List (List ℕ)) (reply : Reply) (replies : List Reply) (s middle : Machine) (new : Held) → IsReplyTo (HasOperands line) job (reading_of line) reply (transaction_of job s) → told_by job (reading_of line) reply s ≡ middle
+line_before : (job n : ℕ) (front : List JournalUnit) (line : List ℕ) (lines : List (List ℕ)) (reply : Reply) (replies : List Reply) (s middle : Machine) (new : Held) → IsReplyToLine job line reply (transaction_of job s) → told_by job (reading_of line) reply s ≡ middle
     → HasTold job n front lines replies middle new → HasTold job n front (line ∷ lines) (reply ∷ replies) s new
 line_before job n front line lines reply replies s middle new may is h = record {
   machine = h.machine;
@@ -156,9 +149,9 @@ line_before job n front line lines reply replies s middle new may is h = record 
   gone = h.gone;
 }
 
-pub block_told : (job n : ℕ) (front : List JournalUnit) (lines : List (List ℕ)) (places : List (Option Refusal)) (commands : List Command) (replies : List Reply) (units more : List JournalUnit) (old new : Held) (s : Machine)
-    → AreAsked job lines places commands → AreDone commands replies units more old new → NoneAgain commands replies → old.state.work.job ≡ job → Stands front s old → HasGoneBack n s old × HasGranted n front s old → HasTold job n front lines (in_place places replies) s new
-block_told job n front [] [] [] [] units more old new s asked done never whose stands gone = record {
+pub block_told : (job n : ℕ) (front : List JournalUnit) (lines : List (List ℕ)) (places : List (Option Refusal)) (commands : List Command) (musts : List Bool) (replies : List Reply) (units more : List JournalUnit) (old new : Held) (s : Machine)
+    → AreAsked job lines places commands → AreMusts lines places musts → AreDone commands replies units more old new → AreHad musts replies → NoneAgain commands replies → old.state.work.job ≡ job → Stands front s old → HasGoneBack n s old × HasGranted n front s old → HasTold job n front lines (in_place places replies) s new
+block_told job n front [] [] [] musts [] units more old new s asked timed done had never whose stands gone = record {
   machine = s;
   led = λ left later. refl;
   replies_are = λ left later rest. rest;
@@ -166,22 +159,25 @@ block_told job n front [] [] [] [] units more old new s asked done never whose s
   stands = subst (λ (h : Held). Stands front s h) (sym done.1) stands;
   gone = subst (λ (h : Held). HasGoneBack n s h × HasGranted n front s h) (sym done.1) gone;
 }
-block_told job n front [] [] [] (reply ∷ replies) units more old new s asked done never whose stands gone = absurd done
-block_told job n front [] [] (command ∷ commands) replies units more old new s asked done never whose stands gone = absurd asked
-block_told job n front [] (place ∷ places) commands replies units more old new s asked done never whose stands gone = absurd asked
-block_told job n front (line ∷ lines) [] commands replies units more old new s asked done never whose stands gone = absurd asked
-block_told job n front (line ∷ lines) (Some refusal ∷ places) commands replies units more old new s asked done never whose stands gone =
-    line_before job n front line lines (Refused refusal) (in_place places replies) s s new (fault_of job line refusal (transaction_of job s) asked.0) (refused_tells job (reading_of line) refusal s)
-    (block_told job n front lines places commands replies units more old new s asked.1 done never whose stands gone)
-block_told job n front (line ∷ lines) (None ∷ places) [] replies units more old new s asked done never whose stands gone = absurd asked
-block_told job n front (line ∷ lines) (None ∷ places) (command ∷ commands) [] units more old new s asked done never whose stands gone = absurd done
-block_told job n front (line ∷ lines) (None ∷ places) (command ∷ commands) (reply ∷ replies) units more old new s asked done never whose stands gone =
+block_told job n front [] [] [] musts (reply ∷ replies) units more old new s asked timed done had never whose stands gone = absurd done
+block_told job n front [] [] (command ∷ commands) musts replies units more old new s asked timed done had never whose stands gone = absurd asked
+block_told job n front [] (place ∷ places) commands musts replies units more old new s asked timed done had never whose stands gone = absurd asked
+block_told job n front (line ∷ lines) [] commands musts replies units more old new s asked timed done had never whose stands gone = absurd asked
+block_told job n front (line ∷ lines) (Some refusal ∷ places) commands musts replies units more old new s asked timed done had never whose stands gone =
+    line_before job n front line lines (Refused refusal) (in_place places replies) s s new (fault_of job line refusal (transaction_of job s) asked.0, λ none. refl) (refused_tells job (reading_of line) refusal s)
+    (block_told job n front lines places commands musts replies units more old new s asked.1 timed done had never whose stands gone)
+block_told job n front (line ∷ lines) (None ∷ places) [] musts replies units more old new s asked timed done had never whose stands gone = absurd asked
+block_told job n front (line ∷ lines) (None ∷ places) (command ∷ commands) musts [] units more old new s asked timed done had never whose stands gone = absurd done
+block_told job n front (line ∷ lines) (None ∷ places) (command ∷ commands) [] (reply ∷ replies) units more old new s asked timed done had never whose stands gone = absurd timed
+block_told job n front (line ∷ lines) (None ∷ places) (command ∷ commands) (must ∷ musts) (reply ∷ replies) units more old new s asked timed done had never whose stands gone =
     let follows : Follows command reply old done.1 = done_follows command reply units done.0 old done.1 never.0 done.2 in
-    line_before job n front line lines reply (in_place places replies) s (told job command reply s) new
-    (asked_may job line command reply (transaction_of job s) asked.0
-    (subst (λ (j : ℕ). IsAllowed j command reply (transaction_of j s)) whose (follows.may (never_overtaken command reply units done.0 old done.1 done.2) (transaction_of old.state.work.job s) stands.shows stands.begun)))
+    line_before job n front line lines reply (in_place places replies) s (told job command reply s) new (
+      asked_may job line command reply (transaction_of job s) asked.0
+          (subst (λ (j : ℕ). IsAllowed j command reply (transaction_of j s)) whose (follows.may (never_overtaken command reply units done.0 old done.1 done.2) (transaction_of old.state.work.job s) stands.shows stands.begun)),
+      λ none. subst (λ (m : Bool). is_blocked m reply ≡ false) (timed.0 none) had.0,
+    )
     (ap (λ (r : Result (ℕ × Command) Refusal). told_by job r reply s) asked.0)
-    (block_told job n front lines places commands replies done.0 more done.1 new (told job command reply s) asked.1 done.3 never.1 (follows.whose ∙ whose)
+    (block_told job n front lines places commands musts replies done.0 more done.1 new (told job command reply s) asked.1 timed.1 done.3 had.1 never.1 (follows.whose ∙ whose)
     (subst (λ (j : ℕ). Stands front (told j command reply s) done.1) whose (follows.stands front s stands))
     (subst (λ (j : ℕ). HasGoneBack n (told j command reply s) done.1) whose (follows.went n front s stands gone.0), subst (λ (j : ℕ). HasGranted n front (told j command reply s) done.1) whose (follows.granted n front s gone.0 gone.1)))
 
@@ -217,11 +213,15 @@ block_asks job front (line ∷ lines) (None ∷ places) (command ∷ commands) (
 
 -- ---- before a block
 
+-- it has seen more
+pub knowing_stands : (front units : List JournalUnit) (s : Machine) (h : Held) → Stands front s h → Stands front s (knowing units h)
+knowing_stands front units s h stands = record { shows = stands.shows; begun = stands.begun; is_told = stands.is_told }
+
 -- its start is moved where a transaction is open, which has done nothing
 pub moved_stands : (front : List JournalUnit) (units : List JournalUnit) (s : Machine) (h : Held) → IsReady h → Stands front s h → Stands front s (moved_open units h)
-moved_stands front units s h (inl none) stands = subst (λ (x : Held). Stands front s x) (sym (ap (λ (b : Bool). if b then moved units h else h) (ap (λ (n : ℕ). nat_lt 0 n) none))) stands
+moved_stands front units s h (inl none) stands = subst (λ (x : Held). Stands front s x) (sym (ap (λ (b : Bool). if b then moved units h else knowing units h) (ap (λ (n : ℕ). nat_lt 0 n) none))) (knowing_stands front units s h stands)
 moved_stands front units s h (inr fresh) stands =
-    subst (λ (x : Held). Stands front s x) (sym (ap (λ (b : Bool). if b then moved units h else h) (ap (λ (n : ℕ). nat_lt 0 n) fresh.0)))
+    subst (λ (x : Held). Stands front s x) (sym (ap (λ (b : Bool). if b then moved units h else knowing units h) (ap (λ (n : ℕ). nat_lt 0 n) fresh.0)))
     (record { shows = still (transaction_of h.state.work.job s) stands.shows; begun = moved_at; is_told = stands.is_told })
   where
     moved_at : IsBegun units (moved units h).state
@@ -234,14 +234,14 @@ moved_stands front units s h (inr fresh) stands =
 pub moved_job : (units : List JournalUnit) (h : Held) → (moved_open units h).state.work.job ≡ h.state.work.job
 moved_job units h = by_test (nat_lt 0 h.state.level)
   where
-    by_test : (b : Bool) → (if b then moved units h else h).state.work.job ≡ h.state.work.job
+    by_test : (b : Bool) → (if b then moved units h else knowing units h).state.work.job ≡ h.state.work.job
     by_test true = refl
     by_test false = refl
 
 pub moved_receipts : (units : List JournalUnit) (h : Held) → (moved_open units h).receipts ≡ h.receipts
 moved_receipts units h = by_test (nat_lt 0 h.state.level)
   where
-    by_test : (b : Bool) → (if b then moved units h else h).receipts ≡ h.receipts
+    by_test : (b : Bool) → (if b then moved units h else knowing units h).receipts ≡ h.receipts
     by_test true = refl
     by_test false = refl
 
@@ -272,4 +272,4 @@ reads_keep (command ∷ commands) (reply ∷ replies) units more old new all don
     let access : HasDone (Access first.0) reply units done.0 old done.1 = subst (λ (c : Command). HasDone c reply units done.0 old done.1) first.1 done.2 in
     let level : done.1.state.level ≡ old.state.level = same_level old.start first.0 access.0 old.state done.1.state (access.3 one).0 in
     let later = reads_keep commands replies done.0 more done.1 new (All-rest IsAccess command commands (command ∷ commands) refl all) done.3 (omega (arith, one, level)) in
-    ((later.0.0 ∙ level, later.0.1 ∙ same_took old.start first.0 access.0 old.state done.1.state (access.3 one).0), (later.1.0 ∙ (access.3 one).1.1.1.0, later.1.1 ∙ (access.3 one).1.1.1.1))
+    ((later.0.0 ∙ level, later.0.1 ∙ same_took old.start first.0 access.0 old.state done.1.state (access.3 one).0), (later.1.0 ∙ (access.3 one).1.1.1.0, later.1.1 ∙ (access.3 one).1.1.1.1.0))

@@ -11,6 +11,7 @@ use Rattle.journal.specs.declared.unit.Unit.{Unit as JournalUnit}
 use Rattle.journal.specs.declared.unit.Unit.TheVariants.{End}
 use Rattle.journal.specs.Story.{Machine, nothing_done, told}
 use Rattle.job_core.specs.Sessions.{idle}
+use Rattle.pin_board.specs.Slips.{IsBeginning}
 use Rattle.shared_engine.specs.Receipts.{Book}
 use Rattle.shared_engine.specs.Sessions.{Held, held, halted}
 use Rattle.shared_engine.specs.Engines.{OnOkThat, OnOkNot}
@@ -29,17 +30,17 @@ none_where None b is found = refl
 none_where (Some h) b is found = absurd (true≢false (is ∙ ap not found))
 
 -- a session begins where there was none
-pub opened_from : (job : ℕ) (books : List Book) (session : Option Held) (begun : Held) → is_some session ≡ false → begun ≡ held (idle job) None [] [] → GoesOnUntold job (sessions_so_far books session) (sessions_so_far books (Some begun))
-opened_from job books None begun none is = subst (λ (h : Held). GoesOnUntold job (sessions_so_far books None) (sessions_so_far books (Some h))) (sym is) (opened_goes job books)
+pub opened_from : (job : ℕ) (books : List Book) (session : Option Held) (begun : Held) → is_some session ≡ false → ((units : List JournalUnit) × (begun ≡ held (idle job) None [] [] units)) → GoesOnUntold job (sessions_so_far books session) (sessions_so_far books (Some begun))
+opened_from job books None begun none (units, is) = subst (λ (h : Held). GoesOnUntold job (sessions_so_far books None) (sessions_so_far books (Some h))) (sym is) (opened_goes job units books)
 opened_from job books (Some h) begun none is = absurd (true≢false none)
 
 -- HALT of a session, which gives its book
-pub some_halted : (job : ℕ) (books more : List Book) (old later : Option Held) (h : Held) (pass : Book) → old ≡ Some h → later ≡ None → ((n : ℕ) × (pass ≡ halted n h)) → more ≡ books ++ pass ∷ []
+pub some_halted : (job : ℕ) (books more : List Book) (old later : Option Held) (h : Held) (pass : Book) → old ≡ Some h → later ≡ None → ((units : List JournalUnit) × IsBeginning units h.seen × (pass ≡ halted units h)) → more ≡ books ++ pass ∷ []
     → GoesOnBy job Halt Finished (sessions_so_far books old) (sessions_so_far more later)
-some_halted job books more old later h pass was is (n, gives) one_more =
+some_halted job books more old later h pass was is (units, goes_on, gives) one_more =
     subst (λ (o : Option Held). GoesOnBy job Halt Finished (sessions_so_far books o) (sessions_so_far more later)) (sym was)
     (subst (λ (o : Option Held). GoesOnBy job Halt Finished (sessions_so_far books (Some h)) (sessions_so_far more o)) (sym is)
-    (subst (λ (bs : List Book). GoesOnBy job Halt Finished (sessions_so_far books (Some h)) (sessions_so_far bs None)) (sym (one_more ∙ ap (λ (p : Book). books ++ p ∷ []) gives)) (halted_some job n books h)))
+    (subst (λ (bs : List Book). GoesOnBy job Halt Finished (sessions_so_far books (Some h)) (sessions_so_far bs None)) (sym (one_more ∙ ap (λ (p : Book). books ++ p ∷ []) gives)) (halted_some job units books h)))
 
 -- the same books
 pub from_books : (job : ℕ) (reply : Reply) (books other : List Book) (session : Option Held) (new : SessionsSoFar) → other ≡ books → GoesOnBy job Halt reply (sessions_so_far other session) new → GoesOnBy job Halt reply (sessions_so_far books session) new

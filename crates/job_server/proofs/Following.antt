@@ -1,9 +1,10 @@
 -- A session goes on as its reply tells, call by call.
-use Rattle.std.proofs.Common.{◌≡◌, ◌⊎◌, inl, inr, ℕ, ◌+◌, ◌-◌, ◌≤◌, ◌<◌, Bool, true, false, List, [], ◌∷◌, ◌++◌, length, refl, sym, ap, ◌∙◌, subst, arith, true≢false}
+use Rattle.std.proofs.Common.{◌≡◌, ◌⊎◌, inl, inr, ℕ, ◌+◌, ◌-◌, ◌≤◌, ◌<◌, Bool, true, false, List, [], ◌∷◌, ◌++◌, length, refl, sym, ap, ◌∙◌, subst, arith}
 use Rattle.std.specs.Prelude.{Option, Some, None, Result, Ok, Err, nat_lt, ◌^◌, min}
 use Rattle.refusal.specs.declared.Refusal.{Refusal}
 use Rattle.collation.specs.Limits.{most_levels}
 use Rattle.lock_name.specs.declared.lock.LockCommand.{LockCommand}
+use Rattle.lock_name.specs.Locks.{lock_reply}
 use Rattle.lock_name.specs.declared.lock.LockCommand.TheVariants.{Release, Only, More, Fewer}
 use Rattle.command.specs.declared.access.DataCommand.{DataCommand}
 use Rattle.command.specs.declared.access.Answer.{Answer}
@@ -20,13 +21,13 @@ use Rattle.journal.specs.Story.{Machine, transaction_of, told, told_answer, told
 use Rattle.serial.specs.Machine.{told_had}
 use Rattle.validate_commit.specs.laws.Working.{work_nothing}
 use Rattle.job_core.specs.Sessions.{Session as JobSession, at_level, just_opened, anew, IsAnsweredOrRefused, HasWritten}
-use Rattle.shared_engine.specs.Sessions.{Held, held, IsAt, IsBegun, and_receipt, ended, begun_anew, rolled_back, HasBegun}
+use Rattle.shared_engine.specs.Sessions.{Held, held, knowing, IsAt, IsBegun, and_receipt, ended, begun_anew, rolled_back, HasBegun}
 use Rattle.shared_engine.specs.Engines.{HasEnded, after_try, lock_unit, whole_of}
 use Rattle.shared_engine.specs.declared.locked.Ended.TheVariants.{Committed, Restarted}
-use Rattle.shared_engine.specs.Blocks.{said, IsReadAt}
+use Rattle.shared_engine.specs.Blocks.{said, IsReadAt, IsTried, WasTriedAgain}
 use Rattle.job_server.specs.Told.{given, IsToldIn, units_of, backs, grants}
 use Rattle.job_server.specs.Causes.{IsAllowed}
-use Rattle.job_server.specs.Telling.{Shows, Stands, HasGoneBack, HasGranted, AreStillWithin, AreStillTold, AreStillAsked, IsLockOf, MayReply, Follows, names_some, IsLockRefusal, HasLocked}
+use Rattle.job_server.specs.Telling.{Shows, Stands, HasGoneBack, HasGranted, AreStillWithin, AreStillTold, AreStillAsked, IsLockOf, MayReply, Follows, HasLocked}
 use Rattle.job_server.proofs.Units.{lock_receipt_more}
 use Rattle.job_server.proofs.Asking.{held_asked, more_asked}
 use Rattle.job_server.proofs.GoingBack.{same_count, went_count, same_back, begun_back, answer_back, level_back, commit_back, rolled_has_gone, anew_has_gone, tried_has_gone, lock_has_gone}
@@ -35,7 +36,7 @@ use Rattle.job_server.proofs.Causes.{inside_may, alone_may, answered_may, done_m
 use Rattle.job_server.proofs.Standing.{shown_none, still_shows, noted_at, with_closed, told_lone, told_inside, tried_untold, blocked_untold, inside_untold, tried_told, tried_job, tried_level, back_given, told_begun, told_at, told_whole}
 
 -- the receipts are the same
-same_told : (old new : Held) (front : List JournalUnit) → new.receipts ≡ old.receipts → AreStillTold (front ++ units_of old.receipts) (front ++ units_of new.receipts)
+pub same_told : (old new : Held) (front : List JournalUnit) → new.receipts ≡ old.receipts → AreStillTold (front ++ units_of old.receipts) (front ++ units_of new.receipts)
 same_told old new front same ts h = subst (λ (cs : List Claim). IsToldIn ts (front ++ units_of cs)) (sym same) h
 
 -- ---- nothing has changed
@@ -76,21 +77,21 @@ restarts_counted n old new is same = counted_follows Restarts n old new same (re
 
 -- ---- data commands
 
-pub lone_follows : (command : DataCommand) (answer : Answer) (n : ℕ) (old new : Held) → old.state.level ≡ 0 → new ≡ and_receipt n (Lone old.state.work.job command answer) old → Follows (Access command) (Answered answer) old new
-lone_follows command answer n old new level is = record {
+pub lone_follows : (command : DataCommand) (answer : Answer) (units : List JournalUnit) (old new : Held) → old.state.level ≡ 0 → new ≡ and_receipt units (Lone old.state.work.job command answer) old → Follows (Access command) (Answered answer) old new
+lone_follows command answer units old new level is = record {
   whose = ap (λ (h : Held). h.state.work.job) is;
-  stands = λ front s stands. subst (λ (h : Held). Stands front (told old.state.work.job (Access command) (Answered answer) s) h) (sym is) (told_lone front s old command answer n level stands);
+  stands = λ front s stands. subst (λ (h : Held). Stands front (told old.state.work.job (Access command) (Answered answer) s) h) (sym is) (told_lone front s old command answer units level stands);
   keeps = λ before later front. absurd (omega (arith, before, level));
   asks = λ front.
       subst (λ (h : Held). AreStillAsked (IsLockOf (Access command)) (front ++ units_of old.receipts) (front ++ units_of h.receipts)) (sym is)
-      (more_asked (IsLockOf (Access command)) front old.receipts n (Lone old.state.work.job command answer) (λ j all each. tt));
+      (more_asked (IsLockOf (Access command)) front old.receipts (length units + 1) (Lone old.state.work.job command answer) (λ j all each. tt));
   went = λ k front s stands gone.
       subst (λ (h : Held). HasGoneBack k (told old.state.work.job (Access command) (Answered answer) s) h) (sym is)
-      (answer_back k s (and_receipt n (Lone old.state.work.job command answer) old) command answer (transaction_of old.state.work.job s) refl gone);
+      (answer_back k s (and_receipt units (Lone old.state.work.job command answer) old) command answer (transaction_of old.state.work.job s) refl gone);
   grows = same_count old new (ap (λ (h : Held). h.others) is);
   may = alone_may command answer old level;
   granted = λ k front s gone granted.
-      subst (λ (h : Held). HasGranted k front (told old.state.work.job (Access command) (Answered answer) s) h) (sym is) (lone_granted k n front s old command answer granted);
+      subst (λ (h : Held). HasGranted k front (told old.state.work.job (Access command) (Answered answer) s) h) (sym is) (lone_granted k units front s old command answer granted);
   within = λ before. absurd (omega (arith, before, level));
   no_lock = not_anew (Answered answer) refl;
 }
@@ -175,69 +176,79 @@ lock_told job (More names) had s is = refl
 lock_told job (Fewer names) had s is = refl
 
 -- the LOCK is the command
-try_asked : (command : LockCommand) (had : Bool) (n : ℕ) (old : Held) (front : List JournalUnit) → AreStillAsked (IsLockOf (lock_command command)) (front ++ units_of old.receipts) (front ++ units_of (after_try n command had old).receipts)
-try_asked command had n old front = more_asked (IsLockOf (lock_command command)) front old.receipts n (lock_unit old.state command had) (λ j all each. each command refl)
+try_asked : (command : LockCommand) (had : Bool) (units : List JournalUnit) (old : Held) (front : List JournalUnit) → AreStillAsked (IsLockOf (lock_command command)) (front ++ units_of old.receipts) (front ++ units_of (after_try units command had old).receipts)
+try_asked command had units old front = more_asked (IsLockOf (lock_command command)) front old.receipts (length units + 1) (lock_unit old.state command had) (λ j all each. each command refl)
 
-pub tried_follows : (command : LockCommand) (had : Bool) (n : ℕ) (old new : Held) → ((command ≡ Release) → had ≡ true) → new ≡ after_try n command had old → Follows (lock_command command) (told_had command had) old new
-tried_follows command had n old new frees is = record {
-  whose = ap (λ (h : Held). h.state.work.job) is ∙ tried_job n command had old;
+pub tried_follows : (command : LockCommand) (had : Bool) (units : List JournalUnit) (old new : Held) → ((command ≡ Release) → had ≡ true) → new ≡ after_try units command had old → Follows (lock_command command) (told_had command had) old new
+tried_follows command had units old new frees is = record {
+  whose = ap (λ (h : Held). h.state.work.job) is ∙ tried_job units command had old;
   stands = λ front s stands.
       subst (λ (m : Machine). Stands front m new) (sym (lock_told old.state.work.job command had s frees))
-      (subst (λ (h : Held). Stands front (told_lock old.state.work.job command had (transaction_of old.state.work.job s) s) h) (sym is) (tried_told front s old command had n (transaction_of old.state.work.job s) refl stands));
-  keeps = λ before later front ts h. subst (λ (x : Held). IsToldIn ts (front ++ units_of x.receipts)) (sym is) (lock_receipt_more ts front old.receipts n (lock_unit old.state command had) (inside_untold old command had before) h);
+      (subst (λ (h : Held). Stands front (told_lock old.state.work.job command had (transaction_of old.state.work.job s) s) h) (sym is) (tried_told front s old command had units (transaction_of old.state.work.job s) refl stands));
+  keeps = λ before later front ts h. subst (λ (x : Held). IsToldIn ts (front ++ units_of x.receipts)) (sym is) (lock_receipt_more ts front old.receipts (length units + 1) (lock_unit old.state command had) (inside_untold old command had before) h);
   asks = λ front.
       subst (λ (x : Held). AreStillAsked (IsLockOf (lock_command command)) (front ++ units_of old.receipts) (front ++ units_of x.receipts)) (sym is)
-      (try_asked command had n old front);
+      (try_asked command had units old front);
   went = λ k front s stands gone.
       subst (λ (m : Machine). HasGoneBack k m new) (sym (lock_told old.state.work.job command had s frees))
-      (subst (λ (h : Held). HasGoneBack k (told_lock old.state.work.job command had (transaction_of old.state.work.job s) s) h) (sym is) (lock_has_gone k n s old command had (tried_job n command had old) stands.shows gone));
+      (subst (λ (h : Held). HasGoneBack k (told_lock old.state.work.job command had (transaction_of old.state.work.job s) s) h) (sym is) (lock_has_gone k units s old command had (tried_job units command had old) stands.shows gone));
   grows = same_count old new (ap (λ (h : Held). h.others) is);
   may = had_may command had old;
   granted = λ k front s gone granted.
       subst (λ (m : Machine). HasGranted k front m new) (sym (lock_told old.state.work.job command had s frees))
-      (subst (λ (h : Held). HasGranted k front (told_lock old.state.work.job command had (transaction_of old.state.work.job s) s) h) (sym is) (lock_granted k n front s old command had granted));
+      (subst (λ (h : Held). HasGranted k front (told_lock old.state.work.job command had (transaction_of old.state.work.job s) s) h) (sym is) (lock_granted k units front s old command had granted));
   within = λ before later k front.
       subst (λ (x : Held). AreStillWithin (front ++ units_of old.receipts) (k + backs (units_of old.others)) old.state.took_lock (front ++ units_of x.receipts) (k + backs (units_of x.others)) x.state.took_lock) (sym is)
-      (lock_within k n front old command had before);
+      (lock_within k units front old command had before);
   no_lock = not_anew (told_had command had) (had_anew command had);
 }
 
 -- a first try in vain, and then another step
-blocked_then : (command : LockCommand) (reply : Reply) (n : ℕ) (old new : Held) → Follows (lock_command command) reply (after_try n command false old) new → Follows (lock_command command) reply old new
-blocked_then command reply n old new then = record {
-  whose = then.whose ∙ tried_job n command false old;
+blocked_then : (command : LockCommand) (reply : Reply) (units : List JournalUnit) (old new : Held) → Follows (lock_command command) reply (after_try units command false old) new → Follows (lock_command command) reply old new
+blocked_then command reply units old new then = record {
+  whose = then.whose ∙ tried_job units command false old;
   stands = λ front s stands.
-      subst (λ (j : ℕ). Stands front (told j (lock_command command) reply s) new) (tried_job n command false old)
-      (then.stands front s (tried_untold front s old command n stands));
+      subst (λ (j : ℕ). Stands front (told j (lock_command command) reply s) new) (tried_job units command false old)
+      (then.stands front s (tried_untold front s old command units stands));
   keeps = λ before later front ts h.
-      then.keeps (omega (arith, before, tried_level n command false old)) later front ts (lock_receipt_more ts front old.receipts n (lock_unit old.state command false) (blocked_untold old command) h);
-  asks = λ front j all each h. then.asks front j all each (try_asked command false n old front j all each h);
+      then.keeps (omega (arith, before, tried_level units command false old)) later front ts (lock_receipt_more ts front old.receipts (length units + 1) (lock_unit old.state command false) (blocked_untold old command) h);
+  asks = λ front j all each h. then.asks front j all each (try_asked command false units old front j all each h);
   went = λ k front s stands gone.
-      subst (λ (j : ℕ). HasGoneBack k (told j (lock_command command) reply s) new) (tried_job n command false old)
-      (then.went k front s (tried_untold front s old command n stands) (tried_has_gone k n s old command (tried_job n command false old) gone));
+      subst (λ (j : ℕ). HasGoneBack k (told j (lock_command command) reply s) new) (tried_job units command false old)
+      (then.went k front s (tried_untold front s old command units stands) (tried_has_gone k units s old command (tried_job units command false old) gone));
   grows = then.grows;
   may = λ never t shows at.
-      subst (λ (j : ℕ). IsAllowed j (lock_command command) reply t) (tried_job n command false old) (then.may never t (still_shows (nat_lt 0 old.state.level) old.state t shows) (noted_at old.start old.state at));
+      subst (λ (j : ℕ). IsAllowed j (lock_command command) reply t) (tried_job units command false old) (then.may never t (still_shows (nat_lt 0 old.state.level) old.state t shows) (noted_at old.start old.state at));
   granted = λ k front s gone granted.
-      subst (λ (j : ℕ). HasGranted k front (told j (lock_command command) reply s) new) (tried_job n command false old)
-      (then.granted k front s (tried_has_gone k n s old command (tried_job n command false old) gone) (tried_granted k n front s old command granted));
-  within = λ before later k front most least h. then.within (omega (arith, before, tried_level n command false old)) later k front most least (lock_within k n front old command false before most least h);
+      subst (λ (j : ℕ). HasGranted k front (told j (lock_command command) reply s) new) (tried_job units command false old)
+      (then.granted k front s (tried_has_gone k units s old command (tried_job units command false old) gone) (tried_granted k units front s old command granted));
+  within = λ before later k front most least h. then.within (omega (arith, before, tried_level units command false old)) later k front most least (lock_within k units front old command false before most least h);
   no_lock = then.no_lock;
 }
 
--- why it was refused, behind a first try
-refused_behind : (command : LockCommand) (refusal : Refusal) (n : ℕ) (old : Held) → IsLockRefusal old.state.work.job command refusal → MayReply (lock_command command) (Refused refusal) (after_try n command false old)
-refused_behind command refusal n old cause =
-    lock_may command refusal (after_try n command false old) (subst (λ (j : ℕ). IsLockRefusal j command refusal) (sym (tried_job n command false old)) cause)
+-- it was refused on a journal, and has seen it
+pub knowing_follows : (command : Command) (refusal : Refusal) (units : List JournalUnit) (old new : Held) → new ≡ knowing units old → MayReply command (Refused refusal) old → Follows command (Refused refusal) old new
+knowing_follows command refusal units old new is may =
+    unchanged_follows command refusal old new (ap (λ (h : Held). h.state) is) (ap (λ (h : Held). h.start) is) (ap (λ (h : Held). h.receipts) is) (ap (λ (h : Held). h.others) is) may
+
+-- one try
+pub try_follows : (command : LockCommand) (result : Result Bool Refusal) (units more : List JournalUnit) (old new : Held) → IsTried command result units more old new → Follows (lock_command command) (said (told_had command) result) old new
+try_follows command (Ok had) units more old new h =
+    tried_follows command had units old new (λ is. h.0.0 ∙ ap (λ (c : LockCommand). lock_reply old.state.work.job c (after units initial).locks) is) h.1.1
+try_follows command (Err refusal) units more old new h = knowing_follows (lock_command command) refusal units old new h.1.1 (lock_may command refusal old (units, h.0))
+
+-- one behind a first in vain
+again_follows : (command : LockCommand) (result : Result Bool Refusal) (old new : Held) → WasTriedAgain command result old new → Follows (lock_command command) (said (told_had command) result) old new
+again_follows command result old new h =
+    blocked_then command (said (told_had command) result) h.1.0 old new
+    (subst (λ (x : Held). Follows (lock_command command) (said (told_had command) result) x new) h.1.2.1.1 (try_follows command result h.2.0 new.seen h.0 new h.2.2))
 
 pub locked_follows : (command : LockCommand) (result : Result Bool Refusal) (old new : Held) → HasLocked command result old new → Follows (lock_command command) (said (told_had command) result) old new
-locked_follows command (Ok true) old new (inl h) = tried_follows command true h.0 old new (λ is. refl) h.1
-locked_follows command (Ok true) old new (inr h) = blocked_then command (told_had command true) h.0 old new (tried_follows command true h.1 (after_try h.0 command false old) new (λ is. refl) h.2)
-locked_follows command (Ok false) old new h =
-    tried_follows command false h.1.0 old new (λ is. absurd (true≢false (sym h.0 ∙ ap names_some is))) h.1.1
-locked_follows command (Err refusal) old new (inl h, cause) = refused_follows (lock_command command) refusal old new h (lock_may command refusal old cause)
-locked_follows command (Err refusal) old new (inr h, cause) =
-    blocked_then command (Refused refusal) h.0 old new (refused_follows (lock_command command) refusal (after_try h.0 command false old) new h.1 (refused_behind command refusal h.0 old cause))
+locked_follows command (Ok true) old new (inl h) = try_follows command (Ok true) h.0 new.seen old new h.2
+locked_follows command (Ok true) old new (inr h) = again_follows command (Ok true) old new h
+locked_follows command (Ok false) old new h = try_follows command (Ok false) h.1.0 new.seen old new h.1.2
+locked_follows command (Err refusal) old new (inl h) = try_follows command (Err refusal) h.0 new.seen old new h.2
+locked_follows command (Err refusal) old new (inr h) = again_follows command (Err refusal) old new h
 
 -- ---- transactions
 
@@ -255,12 +266,12 @@ begun_follows base old new level h = record {
   stands = λ front s stands.
       let none : transaction_of old.state.work.job s ≡ None = shown_none old.state (transaction_of old.state.work.job s) stands.shows level in
       subst (λ (x : Held). Stands front (told old.state.work.job Start (AtLevel 1) s) x) (sym h.is)
-      (subst (λ o. Stands front (told_level old.state.work.job 1 o s) (held (just_opened old.state.work.job (length base)) (Some base) old.receipts old.others)) (sym none)
-      (told_begun front s (held (just_opened old.state.work.job (length base)) (Some base) old.receipts old.others) 0 refl refl (inl refl) (just_begun_at base old.state.work.job) stands.is_told));
+      (subst (λ o. Stands front (told_level old.state.work.job 1 o s) (held (just_opened old.state.work.job (length base)) (Some base) old.receipts old.others base)) (sym none)
+      (told_begun front s (held (just_opened old.state.work.job (length base)) (Some base) old.receipts old.others base) 0 refl refl (inl refl) (just_begun_at base old.state.work.job) stands.is_told));
   keeps = λ before later front. absurd (omega (arith, before, level));
   asks = λ front. held_asked (IsLockOf Start) front old new (ap (λ (x : Held). x.receipts) h.is);
   went = λ n front s stands gone.
-      let now : Held = held (just_opened old.state.work.job (length base)) (Some base) old.receipts old.others in
+      let now : Held = held (just_opened old.state.work.job (length base)) (Some base) old.receipts old.others base in
       let none : transaction_of old.state.work.job s ≡ None = shown_none old.state (transaction_of old.state.work.job s) stands.shows level in
       subst (λ (x : Held). HasGoneBack n (told old.state.work.job Start (AtLevel 1) s) x) (sym h.is)
       (subst (λ o. HasGoneBack n (told_level old.state.work.job 1 o s) now) (sym none) (begun_back n 0 s now gone.0));
@@ -272,7 +283,7 @@ begun_follows base old new level h = record {
 }
 
 pub level_follows : (command : Command) (level : ℕ) (old new : Held) → ((s : Machine) → told old.state.work.job command (AtLevel level) s ≡ told_level old.state.work.job level (transaction_of old.state.work.job s) s) → 1 ≤ old.state.level → 1 ≤ level
-    → new ≡ held (at_level level old.state) old.start old.receipts old.others → MayReply command (AtLevel level) old → Follows command (AtLevel level) old new
+    → new ≡ held (at_level level old.state) old.start old.receipts old.others old.seen → MayReply command (AtLevel level) old → Follows command (AtLevel level) old new
 level_follows command level old new tells one some is may = record {
   whose = ap (λ (x : Held). x.state.work.job) is;
   stands = λ front s stands.
@@ -281,7 +292,7 @@ level_follows command level old new tells one some is may = record {
   keeps = λ before later front. same_told old new front (ap (λ (x : Held). x.receipts) is);
   asks = λ front. held_asked (IsLockOf command) front old new (ap (λ (x : Held). x.receipts) is);
   went = λ n front s stands gone.
-      let now : Held = held (at_level level old.state) old.start old.receipts old.others in
+      let now : Held = held (at_level level old.state) old.start old.receipts old.others old.seen in
       subst (λ (m : Machine). HasGoneBack n m new) (sym (tells s))
       (subst (λ (x : Held). HasGoneBack n (told_level old.state.work.job level (transaction_of old.state.work.job s) s) x) (sym is)
       (level_back n s now level (transaction_of old.state.work.job s) refl (same_back n s old now refl (λ took. took) refl gone)));
@@ -294,12 +305,12 @@ level_follows command level old new tells one some is may = record {
   no_lock = not_anew (AtLevel level) refl;
 }
 
-pub deeper_follows : (level : ℕ) (old new : Held) → 1 ≤ old.state.level → old.state.level < most_levels → level ≡ old.state.level + 1 → new ≡ held (at_level level old.state) old.start old.receipts old.others → Follows Start (AtLevel level) old new
+pub deeper_follows : (level : ℕ) (old new : Held) → 1 ≤ old.state.level → old.state.level < most_levels → level ≡ old.state.level + 1 → new ≡ held (at_level level old.state) old.start old.receipts old.others old.seen → Follows Start (AtLevel level) old new
 deeper_follows level old new one deep is h = level_follows Start level old new (λ s. refl) one (omega (arith, one, is)) h (inner_may level old one deep is)
 
-pub lower_follows : (level : ℕ) (old new : Held) → 1 < old.state.level → level ≡ old.state.level - 1 → new ≡ held (at_level (old.state.level - 1) old.state) old.start old.receipts old.others → Follows Commit (AtLevel level) old new
+pub lower_follows : (level : ℕ) (old new : Held) → 1 < old.state.level → level ≡ old.state.level - 1 → new ≡ held (at_level (old.state.level - 1) old.state) old.start old.receipts old.others old.seen → Follows Commit (AtLevel level) old new
 lower_follows level old new deep is h =
-    level_follows Commit level old new (λ s. refl) (omega (arith, deep)) (omega (arith, deep, is)) (h ∙ ap (λ (n : ℕ). held (at_level n old.state) old.start old.receipts old.others) (sym is)) (lower_may level old deep is)
+    level_follows Commit level old new (λ s. refl) (omega (arith, deep)) (omega (arith, deep, is)) (h ∙ ap (λ (n : ℕ). held (at_level n old.state) old.start old.receipts old.others old.seen) (sym is)) (lower_may level old deep is)
 
 pub committed_follows : (units more : List JournalUnit) (old new : Held) → old.state.level ≡ 1 → HasEnded Committed units more old new → Follows Commit committed_reply old new
 committed_follows units more old new one h = record {
@@ -312,7 +323,7 @@ committed_follows units more old new one h = record {
       (more_asked (IsLockOf Commit) front old.receipts (length units + 1) (whole_of old.state) (λ j all each. tt));
   went = λ n front s stands gone.
       subst (λ (x : Held). HasGoneBack n (told_commit old.state.work.job (transaction_of old.state.work.job s) s) x) (sym h.1.1)
-      (commit_back n s (ended (and_receipt (length units + 1) (whole_of old.state) old)) (transaction_of old.state.work.job s) refl gone.0);
+      (commit_back n s (ended (and_receipt units (whole_of old.state) old)) (transaction_of old.state.work.job s) refl gone.0);
   grows = same_count old new (ap (λ (x : Held). x.others) h.1.1);
   may = committed_may old one;
   granted = λ n front s gone granted.
@@ -325,7 +336,7 @@ committed_follows units more old new one h = record {
 anew_count : (restarts : ℕ) (units : List JournalUnit) (old new : Held) → new ≡ begun_anew units old → restarts ≡ new.state.restarts → restarts ≡ min (old.state.restarts + 1) (2 ^ 64 - 1)
 anew_count restarts units old new is counted = counted ∙ ap (λ (x : Held). x.state.restarts) is
 
-anew_at : (units : List JournalUnit) (state : JobSession) → IsBegun units (anew (length units) state)
+pub anew_at : (units : List JournalUnit) (state : JobSession) → IsBegun units (anew (length units) state)
 anew_at units state = record { level = omega arith; start = refl; work = work_nothing state.work.job (length units) (after units initial).map }
 
 -- the transaction begins anew
@@ -343,11 +354,11 @@ anew_follows command restarts units old new tells is counted may = record {
   went = λ n front s stands gone.
       subst (λ (m : Machine). HasGoneBack n m new) (sym (tells s))
       (subst (λ (x : Held). HasGoneBack n (begin old.state.work.job restarts (told_back old.state.work.job (transaction_of old.state.work.job s) s)) x) (sym is) (anew_has_gone n restarts units s old gone));
-  grows = went_count (length units) old new (ap (λ (x : Held). x.others) is);
+  grows = went_count units old new (ap (λ (x : Held). x.others) is);
   may = may;
   granted = λ n front s gone granted.
       subst (λ (m : Machine). HasGranted n front m new) (sym (tells s))
-      (subst (λ (x : Held). HasGranted n front (begin old.state.work.job restarts (told_back old.state.work.job (transaction_of old.state.work.job s) s)) x) (sym is) (back_granted n (length units) front s old gone granted));
+      (subst (λ (x : Held). HasGranted n front (begin old.state.work.job restarts (told_back old.state.work.job (transaction_of old.state.work.job s) s)) x) (sym is) (back_granted n units front s old gone granted));
   within = λ before later n front.
       subst (λ (x : Held). AreStillWithin (front ++ units_of old.receipts) (n + backs (units_of old.others)) old.state.took_lock (front ++ units_of x.receipts) (n + backs (units_of x.others)) x.state.took_lock) (sym is)
       (anew_within n front units old);
@@ -360,21 +371,21 @@ overtaken_follows restarts units more old new h = anew_follows Commit restarts m
 pub restarted_follows : (restarts : ℕ) (units : List JournalUnit) (old new : Held) → 1 ≤ old.state.level → new ≡ begun_anew units old → restarts ≡ new.state.restarts → Follows Restart (restarted_reply restarts) old new
 restarted_follows restarts units old new one is counted = anew_follows Restart restarts units old new (λ s. refl) is counted (anew_may restarts old one (anew_count restarts units old new is counted))
 
-pub rolled_back_follows : (n : ℕ) (old new : Held) → 1 ≤ old.state.level → new ≡ rolled_back n old → Follows Rollback Finished old new
-rolled_back_follows n old new one is = record {
+pub rolled_back_follows : (units : List JournalUnit) (old new : Held) → 1 ≤ old.state.level → new ≡ rolled_back units old → Follows Rollback Finished old new
+rolled_back_follows units old new one is = record {
   whose = ap (λ (x : Held). x.state.work.job) is;
   stands = λ front s stands.
       subst (λ (x : Held). Stands front (close old.state.work.job (told_back old.state.work.job (transaction_of old.state.work.job s) s)) x) (sym is)
-      (with_closed front (told_back old.state.work.job (transaction_of old.state.work.job s) s) (rolled_back n old) refl refl refl
+      (with_closed front (told_back old.state.work.job (transaction_of old.state.work.job s) s) (rolled_back units old) refl refl refl
       (subst (λ (us : List JournalUnit). IsToldIn us (front ++ units_of old.receipts)) (sym (back_given old.state.work.job (transaction_of old.state.work.job s) s)) stands.is_told));
   keeps = λ before later front. absurd (omega (arith, later, ap (λ (x : Held). x.state.level) is));
   asks = λ front. held_asked (IsLockOf Rollback) front old new (ap (λ (x : Held). x.receipts) is);
   went = λ k front s stands gone.
-      subst (λ (x : Held). HasGoneBack k (close old.state.work.job (told_back old.state.work.job (transaction_of old.state.work.job s) s)) x) (sym is) (rolled_has_gone k n s old gone);
-  grows = went_count n old new (ap (λ (x : Held). x.others) is);
+      subst (λ (x : Held). HasGoneBack k (close old.state.work.job (told_back old.state.work.job (transaction_of old.state.work.job s) s)) x) (sym is) (rolled_has_gone k units s old gone);
+  grows = went_count units old new (ap (λ (x : Held). x.others) is);
   may = rolled_back_may old one;
   granted = λ k front s gone granted.
-      subst (λ (x : Held). HasGranted k front (close old.state.work.job (told_back old.state.work.job (transaction_of old.state.work.job s) s)) x) (sym is) (back_granted k n front s old gone granted);
+      subst (λ (x : Held). HasGranted k front (close old.state.work.job (told_back old.state.work.job (transaction_of old.state.work.job s) s)) x) (sym is) (back_granted k units front s old gone granted);
   within = λ before later. absurd (omega (arith, later, ap (λ (x : Held). x.state.level) is));
   no_lock = not_anew Finished refl;
 }

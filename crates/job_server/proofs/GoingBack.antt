@@ -15,7 +15,7 @@ use Rattle.journal.specs.Story.{Transaction, Machine, transaction_of, add_unit, 
 use Rattle.serial.specs.laws.ByJob.{get_here, gone_here}
 use Rattle.job_core.specs.Sessions.{Session as JobSession, after_lock}
 use Rattle.shared_engine.specs.Receipts.{Book, claim}
-use Rattle.shared_engine.specs.Sessions.{Held, went_back, rolled_back, begun_anew, halted}
+use Rattle.shared_engine.specs.Sessions.{Held, knowing, went_back, rolled_back, begun_anew, halted}
 use Rattle.shared_engine.specs.Engines.{after_try}
 use Rattle.shared_engine.specs.Blocks.{moved, moved_open}
 use Rattle.job_server.specs.Told.{goes_back, backs, others_of, units_of}
@@ -74,33 +74,33 @@ pub same_count : (old new : Held) → new.others ≡ old.others → backs (units
 same_count old new same = at_least (backs (units_of old.others)) (backs (units_of new.others)) (ap (λ (cs : List Claim). backs (units_of cs)) same)
 
 -- a transaction that goes back is one more, if it took a LOCK
-pub went_more : (k : ℕ) (h : Held) → h.state.took_lock ≡ true → backs (units_of (went_back k h).others) ≡ backs (units_of h.others) + 1
-went_more k h took =
-    ap (λ (b : Bool). backs (units_of (if b then h.others ++ claim k (Back h.state.work.job) ∷ [] else h.others))) took ∙ others_more h.others k (Back h.state.work.job) 1 refl
+pub went_more : (units : List JournalUnit) (h : Held) → h.state.took_lock ≡ true → backs (units_of (went_back units h).others) ≡ backs (units_of h.others) + 1
+went_more units h took =
+    ap (λ (b : Bool). backs (units_of (if b then h.others ++ claim (length units) (Back h.state.work.job) ∷ [] else h.others))) took ∙ others_more h.others (length units) (Back h.state.work.job) 1 refl
 
-pub went_grows : (k : ℕ) (h : Held) → backs (units_of h.others) ≤ backs (units_of (went_back k h).others)
-went_grows k h = by_test h.state.took_lock
+pub went_grows : (units : List JournalUnit) (h : Held) → backs (units_of h.others) ≤ backs (units_of (went_back units h).others)
+went_grows units h = by_test h.state.took_lock
   where
     longer : (a b : ℕ) → b ≡ a + 1 → a ≤ b
     longer a b more = omega (arith, more)
 
-    by_test : (b : Bool) → backs (units_of h.others) ≤ backs (units_of (if b then h.others ++ claim k (Back h.state.work.job) ∷ [] else h.others))
+    by_test : (b : Bool) → backs (units_of h.others) ≤ backs (units_of (if b then h.others ++ claim (length units) (Back h.state.work.job) ∷ [] else h.others))
     by_test true =
-        longer (backs (units_of h.others)) (backs (units_of (h.others ++ claim k (Back h.state.work.job) ∷ []))) (others_more h.others k (Back h.state.work.job) 1 refl)
+        longer (backs (units_of h.others)) (backs (units_of (h.others ++ claim (length units) (Back h.state.work.job) ∷ []))) (others_more h.others (length units) (Back h.state.work.job) 1 refl)
     by_test false = at_least (backs (units_of h.others)) (backs (units_of h.others)) refl
 
-pub went_count : (k : ℕ) (old new : Held) → new.others ≡ (went_back k old).others → backs (units_of old.others) ≤ backs (units_of new.others)
-went_count k old new same = subst (λ (cs : List Claim). backs (units_of old.others) ≤ backs (units_of cs)) (sym same) (went_grows k old)
+pub went_count : (units : List JournalUnit) (old new : Held) → new.others ≡ (went_back units old).others → backs (units_of old.others) ≤ backs (units_of new.others)
+went_count units old new same = subst (λ (cs : List Claim). backs (units_of old.others) ≤ backs (units_of cs)) (sym same) (went_grows units old)
 
 -- what is told of it is there
-back_there : (n k job : ℕ) (s : Machine) (h : Held) (o : Option Transaction) → HasItsLock h.state o → backs s.units ≤ n + backs (units_of h.others) → backs (told_back job o s).units ≤ n + backs (units_of (went_back k h).others)
-back_there n k job s h None lock count = with_more n (backs s.units) (backs (units_of h.others)) (backs (units_of (went_back k h).others)) count (went_grows k h)
-back_there n k job s h (Some t) lock count = by_test t.took_lock lock
+back_there : (n : ℕ) (units : List JournalUnit) (job : ℕ) (s : Machine) (h : Held) (o : Option Transaction) → HasItsLock h.state o → backs s.units ≤ n + backs (units_of h.others) → backs (told_back job o s).units ≤ n + backs (units_of (went_back units h).others)
+back_there n units job s h None lock count = with_more n (backs s.units) (backs (units_of h.others)) (backs (units_of (went_back units h).others)) count (went_grows units h)
+back_there n units job s h (Some t) lock count = by_test t.took_lock lock
   where
-    by_test : (b : Bool) → (b ≡ true → h.state.took_lock ≡ true) → backs (if b then add_unit (Back job) s else s).units ≤ n + backs (units_of (went_back k h).others)
+    by_test : (b : Bool) → (b ≡ true → h.state.took_lock ≡ true) → backs (if b then add_unit (Back job) s else s).units ≤ n + backs (units_of (went_back units h).others)
     by_test true took =
-        one_more n (backs s.units) (backs (units_of h.others)) (backs (s.units ++ Back job ∷ [])) (backs (units_of (went_back k h).others)) count (backs_more s.units (Back job) 1 refl) (went_more k h (took refl))
-    by_test false took = with_more n (backs s.units) (backs (units_of h.others)) (backs (units_of (went_back k h).others)) count (went_grows k h)
+        one_more n (backs s.units) (backs (units_of h.others)) (backs (s.units ++ Back job ∷ [])) (backs (units_of (went_back units h).others)) count (backs_more s.units (Back job) 1 refl) (went_more units h (took refl))
+    by_test false took = with_more n (backs s.units) (backs (units_of h.others)) (backs (units_of (went_back units h).others)) count (went_grows units h)
 
 -- ---- what is told, and what is there
 
@@ -149,15 +149,15 @@ commit_back n s h (Some t) is count =
     closed_back n (add_unit (Whole h.state.work.job t.exchanges) s) h (no_back s.units (Whole h.state.work.job t.exchanges) (n + backs (units_of h.others)) refl count)
 
 -- it is rolled back
-pub rolled_has_gone : (n k : ℕ) (s : Machine) (h : Held) → HasGoneBack n s h → HasGoneBack n (close h.state.work.job (told_back h.state.work.job (transaction_of h.state.work.job s) s)) (rolled_back k h)
-rolled_has_gone n k s h went =
-    closed_back n (told_back h.state.work.job (transaction_of h.state.work.job s) s) (rolled_back k h) (back_there n k h.state.work.job s h (transaction_of h.state.work.job s) went.1 went.0)
+pub rolled_has_gone : (n : ℕ) (units : List JournalUnit) (s : Machine) (h : Held) → HasGoneBack n s h → HasGoneBack n (close h.state.work.job (told_back h.state.work.job (transaction_of h.state.work.job s) s)) (rolled_back units h)
+rolled_has_gone n units s h went =
+    closed_back n (told_back h.state.work.job (transaction_of h.state.work.job s) s) (rolled_back units h) (back_there n units h.state.work.job s h (transaction_of h.state.work.job s) went.1 went.0)
 
 -- it begins anew
 pub anew_has_gone : (n restarts : ℕ) (units : List JournalUnit) (s : Machine) (h : Held) → HasGoneBack n s h
     → HasGoneBack n (begin h.state.work.job restarts (told_back h.state.work.job (transaction_of h.state.work.job s) s)) (begun_anew units h)
 anew_has_gone n restarts units s h went =
-    begun_back n restarts (told_back h.state.work.job (transaction_of h.state.work.job s) s) (begun_anew units h) (back_there n (length units) h.state.work.job s h (transaction_of h.state.work.job s) went.1 went.0)
+    begun_back n restarts (told_back h.state.work.job (transaction_of h.state.work.job s) s) (begun_anew units h) (back_there n units h.state.work.job s h (transaction_of h.state.work.job s) went.1 went.0)
 
 -- ---- LOCK
 
@@ -166,8 +166,8 @@ noted_took true state is = refl
 noted_took false state is = is
 
 -- a try that no reply tells
-pub tried_has_gone : (n k : ℕ) (s : Machine) (h : Held) (command : LockCommand) → (after_try k command false h).state.work.job ≡ h.state.work.job → HasGoneBack n s h → HasGoneBack n s (after_try k command false h)
-tried_has_gone n k s h command job went = same_back n s h (after_try k command false h) job (noted_took (nat_lt 0 h.state.level) h.state) refl went
+pub tried_has_gone : (n : ℕ) (units : List JournalUnit) (s : Machine) (h : Held) (command : LockCommand) → (after_try units command false h).state.work.job ≡ h.state.work.job → HasGoneBack n s h → HasGoneBack n s (after_try units command false h)
+tried_has_gone n units s h command job went = same_back n s h (after_try units command false h) job (noted_took (nat_lt 0 h.state.level) h.state) refl went
 
 -- one that is told
 lock_back : (n : ℕ) (s : Machine) (h : Held) (command : LockCommand) (had : Bool) (o : Option Transaction) → transaction_of h.state.work.job s ≡ o → ((t : Transaction) → o ≡ Some t → h.state.took_lock ≡ true) → HasGoneBack n s h
@@ -180,13 +180,13 @@ lock_back n s h command had (Some t) is took went =
 pub noted_inside : (level : ℕ) (state : JobSession) → 1 ≤ level → (if nat_lt 0 level then after_lock state else state).took_lock ≡ true
 noted_inside level state one = ap (λ (b : Bool). (if b then after_lock state else state).took_lock) (lt-ltb 0 level (omega (arith, one)))
 
-pub lock_has_gone : (n k : ℕ) (s : Machine) (h : Held) (command : LockCommand) (had : Bool) → (after_try k command had h).state.work.job ≡ h.state.work.job → Shows h.state (transaction_of h.state.work.job s) → HasGoneBack n s h
-    → HasGoneBack n (told_lock h.state.work.job command had (transaction_of h.state.work.job s) s) (after_try k command had h)
-lock_has_gone n k s h command had job shows went =
-    subst (λ (j : ℕ). HasGoneBack n (told_lock j command had (transaction_of h.state.work.job s) s) (after_try k command had h)) job
-    (lock_back n s (after_try k command had h) command had (transaction_of h.state.work.job s) (ap (λ (j : ℕ). transaction_of j s) job)
+pub lock_has_gone : (n : ℕ) (units : List JournalUnit) (s : Machine) (h : Held) (command : LockCommand) (had : Bool) → (after_try units command had h).state.work.job ≡ h.state.work.job → Shows h.state (transaction_of h.state.work.job s) → HasGoneBack n s h
+    → HasGoneBack n (told_lock h.state.work.job command had (transaction_of h.state.work.job s) s) (after_try units command had h)
+lock_has_gone n units s h command had job shows went =
+    subst (λ (j : ℕ). HasGoneBack n (told_lock j command had (transaction_of h.state.work.job s) s) (after_try units command had h)) job
+    (lock_back n s (after_try units command had h) command had (transaction_of h.state.work.job s) (ap (λ (j : ℕ). transaction_of j s) job)
     (λ t is. noted_inside h.state.level h.state (subst (λ (o : Option Transaction). Shows h.state o) is shows).0)
-    (same_back n s h (after_try k command had h) job (noted_took (nat_lt 0 h.state.level) h.state) refl went))
+    (same_back n s h (after_try units command had h) job (noted_took (nat_lt 0 h.state.level) h.state) refl went))
 
 -- ---- of all sessions
 
@@ -212,20 +212,20 @@ pub opened_grows : (books : List Book) → backs (others_of books) ≤ backs (ot
 opened_grows books = opened_backs books (backs (others_of books)) (at_least (backs (others_of books)) (backs (others_of books)) refl)
 
 -- a session has ended
-halted_backs : (n : ℕ) (books : List Book) (h : Held) → backs (others_of (books ++ halted n h ∷ [])) ≡ backs (others_of books) + backs (units_of h.others)
-halted_backs n books h =
-    ap (λ (us : List JournalUnit). backs us) (flat_map-append (λ (b : Book). units_of b.others) books (halted n h ∷ []))
-    ∙ (backs_append (others_of books) (units_of (h.others ++ claim n (End h.state.work.job) ∷ []) ++ [])
+halted_backs : (now : List JournalUnit) (books : List Book) (h : Held) → backs (others_of (books ++ halted now h ∷ [])) ≡ backs (others_of books) + backs (units_of h.others)
+halted_backs now books h =
+    ap (λ (us : List JournalUnit). backs us) (flat_map-append (λ (b : Book). units_of b.others) books (halted now h ∷ []))
+    ∙ (backs_append (others_of books) (units_of (h.others ++ claim (length now + 1) (End h.state.work.job) ∷ []) ++ [])
     ∙ ap (λ (m : ℕ). backs (others_of books) + m)
-    (ap (λ (us : List JournalUnit). backs us) (append-nil (units_of (h.others ++ claim n (End h.state.work.job) ∷ [])))
-    ∙ plus_none (backs (units_of (h.others ++ claim n (End h.state.work.job) ∷ []))) (backs (units_of h.others)) (others_more h.others n (End h.state.work.job) 0 refl)))
+    (ap (λ (us : List JournalUnit). backs us) (append-nil (units_of (h.others ++ claim (length now + 1) (End h.state.work.job) ∷ [])))
+    ∙ plus_none (backs (units_of (h.others ++ claim (length now + 1) (End h.state.work.job) ∷ []))) (backs (units_of h.others)) (others_more h.others (length now + 1) (End h.state.work.job) 0 refl)))
 
-pub halted_grows : (n : ℕ) (books : List Book) (h : Held) → backs (others_of books) + backs (units_of h.others) ≤ backs (others_of (books ++ halted n h ∷ []))
-halted_grows n books h = at_least (backs (others_of books) + backs (units_of h.others)) (backs (others_of (books ++ halted n h ∷ []))) (halted_backs n books h)
+pub halted_grows : (now : List JournalUnit) (books : List Book) (h : Held) → backs (others_of books) + backs (units_of h.others) ≤ backs (others_of (books ++ halted now h ∷ []))
+halted_grows now books h = at_least (backs (others_of books) + backs (units_of h.others)) (backs (others_of (books ++ halted now h ∷ []))) (halted_backs now books h)
 
-pub halted_count : (n job : ℕ) (books : List Book) (h : Held) (units : List JournalUnit) → backs units ≤ backs (others_of books) + backs (units_of h.others) → backs (units ++ End job ∷ []) ≤ backs (others_of (books ++ halted n h ∷ []))
-halted_count n job books h units count =
-    subst (λ (m : ℕ). backs (units ++ End job ∷ []) ≤ m) (sym (halted_backs n books h)) (no_back units (End job) (backs (others_of books) + backs (units_of h.others)) refl count)
+pub halted_count : (now : List JournalUnit) (job : ℕ) (books : List Book) (h : Held) (units : List JournalUnit) → backs units ≤ backs (others_of books) + backs (units_of h.others) → backs (units ++ End job ∷ []) ≤ backs (others_of (books ++ halted now h ∷ []))
+halted_count now job books h units count =
+    subst (λ (m : ℕ). backs (units ++ End job ∷ []) ≤ m) (sym (halted_backs now books h)) (no_back units (End job) (backs (others_of books) + backs (units_of h.others)) refl count)
 
 -- an end doesn't go back
 pub end_count : (job : ℕ) (units : List JournalUnit) (books : List Book) → backs (units ++ End job ∷ []) ≤ backs (others_of books) → backs units ≤ backs (others_of books)
@@ -236,13 +236,13 @@ end_count job units books count = none_fewer (backs units) (backs (others_of boo
 pub moved_has_gone : (n : ℕ) (units : List JournalUnit) (s : Machine) (h : Held) → HasGoneBack n s h → HasGoneBack n s (moved_open units h)
 moved_has_gone n units s h went = by_test (nat_lt 0 h.state.level)
   where
-    by_test : (b : Bool) → HasGoneBack n s (if b then moved units h else h)
+    by_test : (b : Bool) → HasGoneBack n s (if b then moved units h else knowing units h)
     by_test true = same_back n s h (moved units h) refl (λ is. is) refl went
     by_test false = went
 
 pub moved_others : (units : List JournalUnit) (h : Held) → (moved_open units h).others ≡ h.others
 moved_others units h = by_test (nat_lt 0 h.state.level)
   where
-    by_test : (b : Bool) → (if b then moved units h else h).others ≡ h.others
+    by_test : (b : Bool) → (if b then moved units h else knowing units h).others ≡ h.others
     by_test true = refl
     by_test false = refl

@@ -1,34 +1,35 @@
 -- A job goes on, line by line.
-use Rattle.std.proofs.Common.{◌≡◌, ◌≢◌, ◌⊎◌, inl, inr, ℕ, zero, suc, ◌≤◌, ◌<◌, nat_lt, true, false, List, [], ◌∷◌, ◌++◌, length, take, refl, sym, ap, ◌∙◌, subst, arith, true≢false, append_assoc, append-nil}
+use Rattle.std.proofs.Common.{◌≡◌, ◌≢◌, inl, inr, ℕ, zero, suc, ◌+◌, ◌≤◌, ◌<◌, nat_lt, true, false, List, [], ◌∷◌, ◌++◌, length, take, refl, sym, ap, ◌∙◌, subst, arith, true≢false, append_assoc, append-nil}
 use Rattle.std.specs.Prelude.{Option, Some, None, Result, Ok, Err, IfOk, is_some, slice_get}
 use Rattle.std.proofs.lemmas.Bool.{ltb-true, lt-ltb}
 use Rattle.std.proofs.lemmas.Grind.{flat_map-append}
 use Rattle.std.proofs.lemmas.List.Elements.{All-push}
 use Rattle.refusal.specs.declared.Refusal.{Refusal}
 use Rattle.lock_name.specs.declared.lock.LockCommand.{LockCommand}
-use Rattle.refusal.specs.declared.Refusal.TheVariants.{OutOfMemory, StampsUsedUp}
 use Rattle.command.specs.declared.request.Command.{Command}
 use Rattle.command.specs.declared.request.Command.TheVariants.{Lock as lock_command, Start, Commit, Halt}
 use Rattle.command.specs.declared.request.Reply.{Reply}
 use Rattle.command.specs.declared.request.Reply.TheVariants.{Answered, Finished, Had, Count, AtLevel, Committed, Restarted, Refused}
 use Rattle.journal.specs.declared.unit.Unit.{Unit as JournalUnit}
 use Rattle.journal.specs.declared.unit.Unit.TheVariants.{End}
+use Rattle.journal.specs.Kept.{HasNoRoom}
 use Rattle.journal.specs.Story.{Transaction, Machine, transaction_of, told, told_level, told_back}
 use Rattle.serial.specs.laws.ByJob.{get_here, gone_here}
 use Rattle.script.specs.Line.{reading_of, HasOperands}
 use Rattle.job_core.specs.Sessions.{idle}
 use Rattle.shared_engine.specs.Receipts.{Book}
-use Rattle.shared_engine.specs.Sessions.{Held, held, halted}
+use Rattle.shared_engine.specs.Sessions.{Held, held, knowing, halted}
 use Rattle.job_scripts.specs.Lines.{lines_of_script, Asks, IsRefusedAs}
 use Rattle.job_scripts.specs.Reports.{Answers}
 use Rattle.job_server.specs.declared.cursor.Cursor.{Cursor}
 use Rattle.job_server.specs.declared.cursor.Line.{Line}
 use Rattle.job_server.specs.Causes.{IsAllowed, IsReplyTo}
-use Rattle.job_server.specs.Told.{told_by, told_by_lines, AreRepliesTo, given, IsToldIn, HasItsEnd, OneAsksFor, IsAskedFor, AreAskedFor, units_of, units_of_book, units_in, backs, others_of}
+use Rattle.shared_engine.specs.Blocks.{is_blocked}
+use Rattle.job_server.specs.Told.{told_by, told_by_lines, IsHad, IsReplyToLine, AreRepliesTo, given, IsToldIn, HasItsEnd, OneAsksFor, IsAskedFor, AreAskedFor, units_of, units_of_book, units_in, backs, others_of}
 use Rattle.job_server.specs.Served.{Wanted, IsReport, IsReportAt}
 use Rattle.job_server.specs.Telling.{Shows, Stands, HasItsLock, HasGoneBack, HasGranted, IsNoLock, Follows, is_open, units_behind, backs_behind, StandsIn, SessionsSoFar, sessions_so_far, AreKeptOn, StandsAt, GoesOnUntold, GoesOnBy, MayGoOnAt, IsOvertakenAs, IsNoCommit, Running, Leads, Serves, Keeps, HasAnswered, Advances, Reaches, HasJustBegun, Begins, IsStillOpen, WasOvertaken, IsBack, GoesOnFrom}
 use Rattle.job_server.proofs.Units.{both_more, one_given}
-use Rattle.job_server.proofs.Causes.{fault_of, asked_may}
+use Rattle.job_server.proofs.Causes.{fault_of, asked_may, room_of}
 use Rattle.job_server.proofs.Standing.{shown_none}
 use Rattle.job_server.proofs.Doing.{refused_tells}
 use Rattle.job_server.proofs.GoingBack.{same_backs, backs_then, told_then, step_backs, opened_backs, opened_grows, halted_grows, halted_count}
@@ -68,26 +69,26 @@ pub refused_goes : (job : ℕ) (line : List ℕ) (refusal : Refusal) (old new : 
 refused_goes job line refusal old new fault h = record {
   stands = λ s stands. subst (λ (m : Machine). StandsIn job new.books new.session m) (sym (refused_tells job (reading_of line) refusal s)) (h.stands s stands);
   keeps = h.keeps;
-  allowed = λ s stands never. fault_of job line refusal (transaction_of job s) fault;
+  allowed = λ s stands never. (fault_of job line refusal (transaction_of job s) fault, λ none. refl);
   asks = λ j all each asked. h.asks j all (λ c none. absurd none) asked;
   grows = h.grows;
   no_lock = not_anew (Refused refusal) refl;
 }
 
 -- what a line tells is what its command tells
-pub asked_goes : (job : ℕ) (line : List ℕ) (command : Command) (reply : Reply) (old new : SessionsSoFar) → Asks job line command → GoesOnBy job command reply old new → MayGoOnAt job line (Ok command) reply old new
-asked_goes job line command reply old new asks h = record {
+pub asked_goes : (job : ℕ) (line : List ℕ) (command : Command) (reply : Reply) (old new : SessionsSoFar) → Asks job line command → GoesOnBy job command reply old new → IsHad line reply → MayGoOnAt job line (Ok command) reply old new
+asked_goes job line command reply old new asks h had = record {
   stands = λ s stands. subst (λ (r : Result (ℕ × Command) Refusal). StandsIn job new.books new.session (told_by job r reply s)) (sym asks) (h.stands s stands);
   keeps = h.keeps;
-  allowed = λ s stands never. asked_may job line command reply (transaction_of job s) asks (h.allowed s stands never);
+  allowed = λ s stands never. (asked_may job line command reply (transaction_of job s) asks (h.allowed s stands never), had);
   asks = λ j all each asked. h.asks j all (λ c is. each c (subst (λ (x : Command). Asks job line x) is asks)) asked;
   grows = h.grows;
   no_lock = h.no_lock;
 }
 
 -- a session begins
-pub opened_goes : (job : ℕ) (books : List Book) → GoesOnUntold job (sessions_so_far books None) (sessions_so_far books (Some (held (idle job) None [] [])))
-opened_goes job books = record {
+pub opened_goes : (job : ℕ) (seen : List JournalUnit) (books : List Book) → GoesOnUntold job (sessions_so_far books None) (sessions_so_far books (Some (held (idle job) None [] [] seen)))
+opened_goes job seen books = record {
   stands = λ s stands. (
     stands.0,
     (
@@ -98,7 +99,7 @@ opened_goes job books = record {
           begun = refl;
           is_told = subst (λ (us : List JournalUnit). IsToldIn (given s) us) (sym (append-nil (units_in books))) stands.1.1.0;
         },
-        ((opened_backs books (backs s.units) stands.1.1.1.0, subst (λ (o : Option Transaction). HasItsLock (idle job) o) (sym stands.1.0) tt), opened_granted job books s stands.1.1.1.1),
+        ((opened_backs books (backs s.units) stands.1.1.1.0, subst (λ (o : Option Transaction). HasItsLock (idle job) o) (sym stands.1.0) tt), opened_granted job seen books s stands.1.1.1.1),
       ),
     ),
   );
@@ -144,23 +145,39 @@ then_goes job command reply old middle new first stays second = record {
   no_lock = second.no_lock;
 }
 
--- HALT
-pub halt_refused : (job : ℕ) (books more : List Book) (session later : Option Held) (refusal : Refusal) → more ≡ books → later ≡ session → (refusal ≡ OutOfMemory) ⊎ (refusal ≡ StampsUsedUp) → GoesOnBy job Halt (Refused refusal) (sessions_so_far books session) (sessions_so_far more later)
-halt_refused job books more session later refusal same_books same_session room =
-    let h : GoesOnUntold job (sessions_so_far books session) (sessions_so_far more later) = same_goes job books more session later same_books same_session in
-    record { stands = h.stands; keeps = h.keeps; allowed = λ s stands never. room; asks = λ j all each asked. h.asks j all (λ c none. absurd none) asked; grows = h.grows; no_lock = not_anew (Refused refusal) refl }
+-- it has seen more
+knowing_goes : (job : ℕ) (books : List Book) (units : List JournalUnit) (h : Held) → GoesOnUntold job (sessions_so_far books (Some h)) (sessions_so_far books (Some (knowing units h)))
+knowing_goes job books units h = record {
+  stands = λ s stands. (stands.0, (stands.1.0, (record { shows = stands.1.1.0.shows; begun = stands.1.1.0.begun; is_told = stands.1.1.0.is_told }, stands.1.1.1)));
+  keeps = λ before after. ((λ ts told. told), (λ most least within. within));
+  allowed = λ s stands. tt;
+  asks = λ j all each asked. asked;
+  grows = same_backs (sessions_so_far books (Some h)) (sessions_so_far books (Some (knowing units h))) refl;
+  no_lock = λ none. absurd none;
+}
 
-pub halted_some : (job n : ℕ) (books : List Book) (h : Held) → GoesOnBy job Halt Finished (sessions_so_far books (Some h)) (sessions_so_far (books ++ halted n h ∷ []) None)
-halted_some job n books h = record {
+-- HALT
+pub halt_refused : (job : ℕ) (books more : List Book) (session later : Option Held) (begun after : Held) (refusal : Refusal) → more ≡ books → session ≡ Some begun → later ≡ Some after → after ≡ knowing after.seen begun → HasNoRoom refusal 1 (length after.seen)
+    → GoesOnBy job Halt (Refused refusal) (sessions_so_far books session) (sessions_so_far more later)
+halt_refused job books more session later begun after refusal same_books was is knows room =
+    let seen : GoesOnUntold job (sessions_so_far books (Some begun)) (sessions_so_far books (Some after)) = subst (λ (x : Held). GoesOnUntold job (sessions_so_far books (Some begun)) (sessions_so_far books (Some x))) (sym knows) (knowing_goes job books after.seen begun) in
+    let h : GoesOnUntold job (sessions_so_far books session) (sessions_so_far more later) =
+    subst (λ (o : Option Held). GoesOnUntold job (sessions_so_far books o) (sessions_so_far more later)) (sym was)
+    (subst (λ (o : Option Held). GoesOnUntold job (sessions_so_far books (Some begun)) (sessions_so_far more o)) (sym is)
+    (subst (λ (bs : List Book). GoesOnUntold job (sessions_so_far books (Some begun)) (sessions_so_far bs (Some after))) (sym same_books) seen)) in
+    record { stands = h.stands; keeps = h.keeps; allowed = λ s stands never. room_of refusal 1 (length after.seen) room; asks = λ j all each asked. h.asks j all (λ c none. absurd none) asked; grows = h.grows; no_lock = not_anew (Refused refusal) refl }
+
+pub halted_some : (job : ℕ) (now : List JournalUnit) (books : List Book) (h : Held) → GoesOnBy job Halt Finished (sessions_so_far books (Some h)) (sessions_so_far (books ++ halted now h ∷ []) None)
+halted_some job now books h = record {
   stands = λ s stands. (
-    All-push (λ (b : Book). (b.job ≡ job) × HasItsEnd b) books (halted n h) stands.0 (stands.1.0, (h.others, n, refl)),
+    All-push (λ (b : Book). (b.job ≡ job) × HasItsEnd b) books (halted now h) stands.0 (stands.1.0, (h.others, length now + 1, refl)),
     (
       gone_here s.transactions job,
       (
-        subst (λ (us : List JournalUnit). IsToldIn us (units_in (books ++ halted n h ∷ []))) (sym (one_given s.units (End job) refl))
+        subst (λ (us : List JournalUnit). IsToldIn us (units_in (books ++ halted now h ∷ []))) (sym (one_given s.units (End job) refl))
             (subst (λ (us : List JournalUnit). IsToldIn (given s ++ End job ∷ []) us) (sym all_units)
             (subst (λ (j : ℕ). IsToldIn (given s ++ End job ∷ []) ((units_in books ++ units_of h.receipts) ++ End j ∷ [])) (sym stands.1.0) (both_more (given s) (units_in books ++ units_of h.receipts) (End job) stands.1.1.0.is_told))),
-        (halted_count n job books h s.units stands.1.1.1.0.0, halted_granted n job books h s all_units stands.1.1.1.1),
+        (halted_count now job books h s.units stands.1.1.1.0.0, halted_granted now job books h s all_units stands.1.1.1.1),
       ),
     ),
   );
@@ -168,12 +185,12 @@ halted_some job n books h = record {
   allowed = λ s stands never. refl;
   asks = λ j all each asked.
       subst (λ (us : List JournalUnit). AreAskedFor j all us) (sym all_units) (All-push (IsAskedFor j all) (units_in books ++ units_of h.receipts) (End h.state.work.job) asked tt);
-  grows = halted_grows n books h;
+  grows = halted_grows now books h;
   no_lock = λ again. refl;
 }
   where
-    all_units : units_in (books ++ halted n h ∷ []) ≡ (units_in books ++ units_of h.receipts) ++ End h.state.work.job ∷ []
-    all_units = flat_map-append units_of_book books (halted n h ∷ [])
+    all_units : units_in (books ++ halted now h ∷ []) ≡ (units_in books ++ units_of h.receipts) ++ End h.state.work.job ∷ []
+    all_units = flat_map-append units_of_book books (halted now h ∷ [])
         ∙ (ap (λ (us : List JournalUnit). units_in books ++ us) (append-nil (units_of h.receipts ++ End h.state.work.job ∷ [])) ∙ sym (append_assoc (units_in books) (units_of h.receipts) (End h.state.work.job ∷ [])))
 
 -- ---- lines
@@ -233,7 +250,7 @@ reaches_end job text place old new h none = subst (λ (ls : List (List ℕ)). Se
 
 -- ---- one line
 
-answered_leads : (job : ℕ) (line : List ℕ) (reply : Reply) (s : Machine) (new : SessionsSoFar) → StandsIn job new.books new.session (told_by job (reading_of line) reply s) → IsReplyTo (HasOperands line) job (reading_of line) reply (transaction_of job s) → Leads job (line ∷ []) (reply ∷ []) s new
+answered_leads : (job : ℕ) (line : List ℕ) (reply : Reply) (s : Machine) (new : SessionsSoFar) → StandsIn job new.books new.session (told_by job (reading_of line) reply s) → IsReplyToLine job line reply (transaction_of job s) → Leads job (line ∷ []) (reply ∷ []) s new
 answered_leads job line reply s new stands may = record {
   machine = told_by job (reading_of line) reply s;
   led = λ left later. refl;
@@ -406,7 +423,7 @@ begins job line old new asks h closed now = record {
   replied = h.replied;
   stands = λ s stands. (on s stands, just_begun job h.reply old.sessions new.sessions s stands closed (on s stands) now);
   allowed = λ s stands.
-      by_reply s (subst (λ (r : Result (ℕ × Command) Refusal). IsReplyTo (HasOperands line.text.now) job r h.reply (transaction_of job s)) asks (h.goes.allowed s stands));
+      by_reply s (subst (λ (r : Result (ℕ × Command) Refusal). IsReplyTo (HasOperands line.text.now) job r h.reply (transaction_of job s)) asks (h.goes.allowed s stands).0);
   asks = λ j all each asked. h.goes.asks j all (λ c lock. each c (inl lock)) asked;
   grows = h.goes.grows;
 }
@@ -418,6 +435,20 @@ begins job line old new asks h closed now = record {
     by_reply s (inl own) = own.1
     by_reply s (inr other) = absurd (other.0 refl)
 
+-- a TSTART isn't told that a LOCK was blocked
+start_had : (job : ℕ) (reply : Reply) (t : Option Transaction) → IsAllowed job Start reply t → is_blocked true reply ≡ false
+start_had job (Answered answer) t h = refl
+start_had job Finished t h = refl
+start_had job (Had had) t h = other h.1
+  where
+    other : {n : ℕ} → Had had ≡ AtLevel n → is_blocked true (Had had) ≡ false
+    other e = absurd (cc)
+start_had job (Count n) t h = refl
+start_had job (AtLevel level) t h = refl
+start_had job Committed t h = refl
+start_had job (Restarted restarts) t h = refl
+start_had job (Refused refusal) t h = refl
+
 begins_serves : (job : ℕ) (line : Line) (old new : Running) → Asks job line.text.now Start → Begins job line old new → Serves job (line.text.now ∷ lines_of_script line.next.lines.now) (lines_of_script line.next.lines.now) old new
 begins_serves job line old new asks h = record {
   lines_done = line.text.now ∷ [];
@@ -426,7 +457,7 @@ begins_serves job line old new asks h = record {
   replied = h.replied;
   leads = λ s stands. answered_leads job line.text.now h.reply s new.sessions
       (subst (λ (r : Result (ℕ × Command) Refusal). StandsIn job new.sessions.books new.sessions.session (told_by job r h.reply s)) (sym asks) (h.stands s stands).0)
-      (asked_may job line.text.now Start h.reply (transaction_of job s) asks (h.allowed s stands));
+      (asked_may job line.text.now Start h.reply (transaction_of job s) asks (h.allowed s stands), λ none. start_had job h.reply (transaction_of job s) (h.allowed s stands));
   asks = h.asks;
   grows = h.grows;
 }
@@ -501,6 +532,11 @@ pub reaches_replies : (job : ℕ) (text : List ℕ) (place : Cursor) (old new : 
 reaches_replies job text place old new h = (h.serves.their_replies, h.serves.replied)
 
 -- ---- answers and reports
+
+-- what holds of an answer, where two others do
+pub both_ok : {A E : Type 0} {P Q R : A → Type 0} (r : Result A E) → ((a : A) → P a → Q a → R a) → IfOk r P → IfOk r Q → IfOk r R
+both_ok (Ok a) f p q = f a p q
+both_ok (Err e) f p q = tt
 
 -- what holds of an answer, where another does
 pub ok_weaker : {A E : Type 0} {P Q : A → Type 0} (r : Result A E) → IfOk r P → ((a : A) → P a → Q a) → IfOk r Q

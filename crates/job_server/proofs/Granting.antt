@@ -16,7 +16,7 @@ use Rattle.journal.specs.Story.{Transaction, Machine, transaction_of, add_unit, 
 use Rattle.serial.specs.Machine.{told_had}
 use Rattle.job_core.specs.Sessions.{idle}
 use Rattle.shared_engine.specs.Receipts.{Book, claim}
-use Rattle.shared_engine.specs.Sessions.{Held, held, went_back, begun_anew, halted}
+use Rattle.shared_engine.specs.Sessions.{Held, held, knowing, and_receipt, went_back, begun_anew, halted}
 use Rattle.shared_engine.specs.Engines.{after_try, lock_unit}
 use Rattle.shared_engine.specs.Blocks.{moved, moved_open}
 use Rattle.job_server.specs.Told.{is_granted, grants, backs, units_of, units_in, others_of, AreGranted}
@@ -99,11 +99,11 @@ answer_more : (job : ℕ) (command : DataCommand) (answer : Answer) (o : Option 
 answer_more job command answer None s = one_more s.units (Lone job command answer) 0 refl refl
 answer_more job command answer (Some t) s = no_more s.units
 
-pub lone_granted : (n k : ℕ) (front : List JournalUnit) (s : Machine) (h : Held) (command : DataCommand) (answer : Answer) → HasGranted n front s h
-    → HasGranted n front (told_answer h.state.work.job command answer (transaction_of h.state.work.job s) s) (held h.state h.start (h.receipts ++ claim k (Lone h.state.work.job command answer) ∷ []) h.others)
-lone_granted n k front s h command answer =
-    granted_more n 0 front s (told_answer h.state.work.job command answer (transaction_of h.state.work.job s) s) h (held h.state h.start (h.receipts ++ claim k (Lone h.state.work.job command answer) ∷ []) h.others)
-    (answer_more h.state.work.job command answer (transaction_of h.state.work.job s) s) (receipt_more front h.receipts k (Lone h.state.work.job command answer) 0 refl) refl
+pub lone_granted : (n : ℕ) (units : List JournalUnit) (front : List JournalUnit) (s : Machine) (h : Held) (command : DataCommand) (answer : Answer) → HasGranted n front s h
+    → HasGranted n front (told_answer h.state.work.job command answer (transaction_of h.state.work.job s) s) (and_receipt units (Lone h.state.work.job command answer) h)
+lone_granted n units front s h command answer =
+    granted_more n 0 front s (told_answer h.state.work.job command answer (transaction_of h.state.work.job s) s) h (and_receipt units (Lone h.state.work.job command answer) h)
+    (answer_more h.state.work.job command answer (transaction_of h.state.work.job s) s) (receipt_more front h.receipts (length units + 1) (Lone h.state.work.job command answer) 0 refl) refl
 
 pub answer_granted : (n : ℕ) (front : List JournalUnit) (s : Machine) (h new : Held) (job : ℕ) (command : DataCommand) (answer : Answer) (o : Option Transaction) → new.receipts ≡ h.receipts → new.others ≡ h.others → HasGranted n front s h
     → HasGranted n front (told_answer job command answer o s) new
@@ -143,46 +143,46 @@ lock_more job command had None s = one_more s.units (Lock job false command had)
 lock_more job command had (Some t) s = one_more s.units (Lock job true command had) (count_of had) (lock_count job true command had) refl
 
 -- one that is told
-pub lock_granted : (n k : ℕ) (front : List JournalUnit) (s : Machine) (h : Held) (command : LockCommand) (had : Bool) → HasGranted n front s h
-    → HasGranted n front (told_lock h.state.work.job command had (transaction_of h.state.work.job s) s) (after_try k command had h)
-lock_granted n k front s h command had =
-    granted_more n (count_of had) front s (told_lock h.state.work.job command had (transaction_of h.state.work.job s) s) h (after_try k command had h) (lock_more h.state.work.job command had (transaction_of h.state.work.job s) s)
-    (receipt_more front h.receipts k (lock_unit h.state command had) (count_of had) (lock_count h.state.work.job (nat_lt 0 h.state.level) command had)) refl
+pub lock_granted : (n : ℕ) (units : List JournalUnit) (front : List JournalUnit) (s : Machine) (h : Held) (command : LockCommand) (had : Bool) → HasGranted n front s h
+    → HasGranted n front (told_lock h.state.work.job command had (transaction_of h.state.work.job s) s) (after_try units command had h)
+lock_granted n units front s h command had =
+    granted_more n (count_of had) front s (told_lock h.state.work.job command had (transaction_of h.state.work.job s) s) h (after_try units command had h) (lock_more h.state.work.job command had (transaction_of h.state.work.job s) s)
+    (receipt_more front h.receipts (length units + 1) (lock_unit h.state command had) (count_of had) (lock_count h.state.work.job (nat_lt 0 h.state.level) command had)) refl
 
 -- a try in vain, of which no reply tells
-pub tried_granted : (n k : ℕ) (front : List JournalUnit) (s : Machine) (h : Held) (command : LockCommand) → HasGranted n front s h → HasGranted n front s (after_try k command false h)
-tried_granted n k front s h command = granted_more n 0 front s s h (after_try k command false h) (no_more s.units) (receipt_more front h.receipts k (lock_unit h.state command false) 0 refl) refl
+pub tried_granted : (n : ℕ) (units : List JournalUnit) (front : List JournalUnit) (s : Machine) (h : Held) (command : LockCommand) → HasGranted n front s h → HasGranted n front s (after_try units command false h)
+tried_granted n units front s h command = granted_more n 0 front s s h (after_try units command false h) (no_more s.units) (receipt_more front h.receipts (length units + 1) (lock_unit h.state command false) 0 refl) refl
 
 -- ---- a transaction goes back
 
 -- no reply tells of it
-back_untold : (n k : ℕ) (front : List JournalUnit) (s : Machine) (h : Held) → HasGranted n front s h → HasGranted n front s (went_back k h)
-back_untold n k front s h (inl fewer) = inl fewer
-back_untold n k front s h (inr more) = inr (then_fewer (backs s.units) n (backs (units_of h.others)) (backs (units_of (went_back k h).others)) more (went_grows k h))
+back_untold : (n : ℕ) (units : List JournalUnit) (front : List JournalUnit) (s : Machine) (h : Held) → HasGranted n front s h → HasGranted n front s (went_back units h)
+back_untold n units front s h (inl fewer) = inl fewer
+back_untold n units front s h (inr more) = inr (then_fewer (backs s.units) n (backs (units_of h.others)) (backs (units_of (went_back units h).others)) more (went_grows units h))
 
 -- a reply does
-back_told : (n k job : ℕ) (front : List JournalUnit) (s : Machine) (h : Held) → h.state.took_lock ≡ true → HasGranted n front s h → HasGranted n front (add_unit (Back job) s) (went_back k h)
-back_told n k job front s h took (inl fewer) = inl (as_few (grants (front ++ units_of h.receipts)) (grants s.units) (grants (s.units ++ Back job ∷ [])) fewer (grants_more s.units (Back job) 0 refl))
-back_told n k job front s h took (inr more) =
-    inr (one_fewer (backs s.units) n (backs (units_of h.others)) (backs (s.units ++ Back job ∷ [])) (backs (units_of (went_back k h).others)) more (backs_more s.units (Back job) 1 refl) (went_more k h took))
+back_told : (n : ℕ) (units : List JournalUnit) (job : ℕ) (front : List JournalUnit) (s : Machine) (h : Held) → h.state.took_lock ≡ true → HasGranted n front s h → HasGranted n front (add_unit (Back job) s) (went_back units h)
+back_told n units job front s h took (inl fewer) = inl (as_few (grants (front ++ units_of h.receipts)) (grants s.units) (grants (s.units ++ Back job ∷ [])) fewer (grants_more s.units (Back job) 0 refl))
+back_told n units job front s h took (inr more) =
+    inr (one_fewer (backs s.units) n (backs (units_of h.others)) (backs (s.units ++ Back job ∷ [])) (backs (units_of (went_back units h).others)) more (backs_more s.units (Back job) 1 refl) (went_more units h took))
 
-back_in : (n k job : ℕ) (front : List JournalUnit) (s : Machine) (h : Held) (o : Option Transaction) → HasItsLock h.state o → HasGranted n front s h → HasGranted n front (told_back job o s) (went_back k h)
-back_in n k job front s h None lock granted = back_untold n k front s h granted
-back_in n k job front s h (Some t) lock granted = by_test t.took_lock lock
+back_in : (n : ℕ) (units : List JournalUnit) (job : ℕ) (front : List JournalUnit) (s : Machine) (h : Held) (o : Option Transaction) → HasItsLock h.state o → HasGranted n front s h → HasGranted n front (told_back job o s) (went_back units h)
+back_in n units job front s h None lock granted = back_untold n units front s h granted
+back_in n units job front s h (Some t) lock granted = by_test t.took_lock lock
   where
-    by_test : (b : Bool) → (b ≡ true → h.state.took_lock ≡ true) → HasGranted n front (if b then add_unit (Back job) s else s) (went_back k h)
-    by_test true took = back_told n k job front s h (took refl) granted
-    by_test false took = back_untold n k front s h granted
+    by_test : (b : Bool) → (b ≡ true → h.state.took_lock ≡ true) → HasGranted n front (if b then add_unit (Back job) s else s) (went_back units h)
+    by_test true took = back_told n units job front s h (took refl) granted
+    by_test false took = back_untold n units front s h granted
 
-pub back_granted : (n k : ℕ) (front : List JournalUnit) (s : Machine) (h : Held) → HasGoneBack n s h → HasGranted n front s h → HasGranted n front (told_back h.state.work.job (transaction_of h.state.work.job s) s) (went_back k h)
-back_granted n k front s h gone granted = back_in n k h.state.work.job front s h (transaction_of h.state.work.job s) gone.1 granted
+pub back_granted : (n : ℕ) (units : List JournalUnit) (front : List JournalUnit) (s : Machine) (h : Held) → HasGoneBack n s h → HasGranted n front s h → HasGranted n front (told_back h.state.work.job (transaction_of h.state.work.job s) s) (went_back units h)
+back_granted n units front s h gone granted = back_in n units h.state.work.job front s h (transaction_of h.state.work.job s) gone.1 granted
 
 -- ---- before a block
 
 pub moved_granted : (n : ℕ) (front units : List JournalUnit) (s : Machine) (h : Held) → HasGranted n front s h → HasGranted n front s (moved_open units h)
 moved_granted n front units s h granted = by_test (nat_lt 0 h.state.level)
   where
-    by_test : (b : Bool) → HasGranted n front s (if b then moved units h else h)
+    by_test : (b : Bool) → HasGranted n front s (if b then moved units h else knowing units h)
     by_test true = granted
     by_test false = granted
 
@@ -200,20 +200,20 @@ pub held_within : (n : ℕ) (front : List JournalUnit) (old new : Held) → new 
 held_within n front old new same = same_within n front old new (ap (λ (x : Held). x.receipts) same) (ap (λ (x : Held). x.others) same) (ap (λ (x : Held). x.state.took_lock) same)
 
 -- a LOCK, after which the transaction has taken one
-pub lock_within : (n k : ℕ) (front : List JournalUnit) (h : Held) (command : LockCommand) (had : Bool) → 1 ≤ h.state.level
-    → AreStillWithin (front ++ units_of h.receipts) (n + backs (units_of h.others)) h.state.took_lock (front ++ units_of (after_try k command had h).receipts) (n + backs (units_of (after_try k command had h).others)) (after_try k command had h).state.took_lock
-lock_within n k front h command had one most least within = (within.0, inr (inr (noted_inside h.state.level h.state one)))
+pub lock_within : (n : ℕ) (units : List JournalUnit) (front : List JournalUnit) (h : Held) (command : LockCommand) (had : Bool) → 1 ≤ h.state.level
+    → AreStillWithin (front ++ units_of h.receipts) (n + backs (units_of h.others)) h.state.took_lock (front ++ units_of (after_try units command had h).receipts) (n + backs (units_of (after_try units command had h).others)) (after_try units command had h).state.took_lock
+lock_within n units front h command had one most least within = (within.0, inr (inr (noted_inside h.state.level h.state one)))
 
 -- it begins anew
 pub anew_within : (n : ℕ) (front units : List JournalUnit) (h : Held)
     → AreStillWithin (front ++ units_of h.receipts) (n + backs (units_of h.others)) h.state.took_lock (front ++ units_of (begun_anew units h).receipts) (n + backs (units_of (begun_anew units h).others)) (begun_anew units h).state.took_lock
-anew_within n front units h most least within = (then_least least n (backs (units_of h.others)) (backs (units_of (begun_anew units h).others)) within.0 (went_grows (length units) h), by_case within.1)
+anew_within n front units h most least within = (then_least least n (backs (units_of h.others)) (backs (units_of (begun_anew units h).others)) within.0 (went_grows units h), by_case within.1)
   where
     by_case : (grants (front ++ units_of h.receipts) ≤ most) ⊎ ((least < n + backs (units_of h.others)) ⊎ (h.state.took_lock ≡ true))
         → (grants (front ++ units_of h.receipts) ≤ most) ⊎ ((least < n + backs (units_of (begun_anew units h).others)) ⊎ (false ≡ true))
     by_case (inl fewer) = inl fewer
-    by_case (inr (inl more)) = inr (inl (then_fewer least n (backs (units_of h.others)) (backs (units_of (begun_anew units h).others)) more (went_grows (length units) h)))
-    by_case (inr (inr took)) = inr (inl (more_now least n (backs (units_of h.others)) (backs (units_of (begun_anew units h).others)) within.0 (went_more (length units) h took)))
+    by_case (inr (inl more)) = inr (inl (then_fewer least n (backs (units_of h.others)) (backs (units_of (begun_anew units h).others)) more (went_grows units h)))
+    by_case (inr (inr took)) = inr (inl (more_now least n (backs (units_of h.others)) (backs (units_of (begun_anew units h).others)) within.0 (went_more units h took)))
 
 -- ---- replies
 
@@ -255,18 +255,18 @@ pub kept_then : (old middle new : SessionsSoFar) → AreKeptOn old middle → Ar
 kept_then old middle new first second = ((λ ts h. second.0 ts (first.0 ts h)), (λ most least h. second.1 most least (first.1 most least h)))
 
 -- a session has begun
-pub opened_granted : (job : ℕ) (books : List Book) (s : Machine) → AreGranted s.units books → HasGranted (backs (others_of books)) (units_in books) s (held (idle job) None [] [])
-opened_granted job books s (inl fewer) = inl (subst (λ (us : List JournalUnit). grants us ≤ grants s.units) (sym (append-nil (units_in books))) fewer)
-opened_granted job books s (inr more) = inr (or_none (backs s.units) (backs (others_of books)) more)
+pub opened_granted : (job : ℕ) (seen : List JournalUnit) (books : List Book) (s : Machine) → AreGranted s.units books → HasGranted (backs (others_of books)) (units_in books) s (held (idle job) None [] [] seen)
+opened_granted job seen books s (inl fewer) = inl (subst (λ (us : List JournalUnit). grants us ≤ grants s.units) (sym (append-nil (units_in books))) fewer)
+opened_granted job seen books s (inr more) = inr (or_none (backs s.units) (backs (others_of books)) more)
 
 -- a session has ended
-pub halted_granted : (n job : ℕ) (books : List Book) (h : Held) (s : Machine) → units_in (books ++ halted n h ∷ []) ≡ (units_in books ++ units_of h.receipts) ++ End h.state.work.job ∷ [] → HasGranted (backs (others_of books)) (units_in books) s h
-    → AreGranted (s.units ++ End job ∷ []) (books ++ halted n h ∷ [])
-halted_granted n job books h s all (inl fewer) =
-    inl (both_more (grants (units_in books ++ units_of h.receipts)) (grants s.units) (grants (units_in (books ++ halted n h ∷ []))) (grants (s.units ++ End job ∷ [])) 0 fewer
+pub halted_granted : (now : List JournalUnit) (job : ℕ) (books : List Book) (h : Held) (s : Machine) → units_in (books ++ halted now h ∷ []) ≡ (units_in books ++ units_of h.receipts) ++ End h.state.work.job ∷ [] → HasGranted (backs (others_of books)) (units_in books) s h
+    → AreGranted (s.units ++ End job ∷ []) (books ++ halted now h ∷ [])
+halted_granted now job books h s all (inl fewer) =
+    inl (both_more (grants (units_in books ++ units_of h.receipts)) (grants s.units) (grants (units_in (books ++ halted now h ∷ []))) (grants (s.units ++ End job ∷ [])) 0 fewer
     (ap (λ (us : List JournalUnit). grants us) all ∙ grants_more (units_in books ++ units_of h.receipts) (End h.state.work.job) 0 refl) (grants_more s.units (End job) 0 refl))
-halted_granted n job books h s all (inr more) =
-    inr (none_more (backs s.units) (backs (others_of books) + backs (units_of h.others)) (backs (others_of (books ++ halted n h ∷ []))) (backs (s.units ++ End job ∷ [])) more (halted_grows n books h) (backs_more s.units (End job) 0 refl))
+halted_granted now job books h s all (inr more) =
+    inr (none_more (backs s.units) (backs (others_of books) + backs (units_of h.others)) (backs (others_of (books ++ halted now h ∷ []))) (backs (s.units ++ End job ∷ [])) more (halted_grows now books h) (backs_more s.units (End job) 0 refl))
 
 -- an end is no LOCK, and doesn't go back
 pub end_granted : (job : ℕ) (units : List JournalUnit) (books : List Book) → AreGranted (units ++ End job ∷ []) books → AreGranted units books

@@ -50,7 +50,7 @@ one_more scripts place reports more_reports books more_books own report h at rep
     ∥∥₁_map₂ h at (λ (x : AreHanded (take place scripts) reports books) (y : IsReportAt scripts place report own). one_more_of scripts place y.script reports more_reports books more_books own report x y.at y.is_report reports_are books_are)
 
 -- all are handed over, behind what was loaded
-booked_of : (ended : ℕ) (settings : List Setting) (scripts : List Wanted) (n : ℕ) (reports : List Answers) (passes all_passes : List Book) (units : List JournalUnit) (sessions : ℕ) → AreHanded (take n scripts) reports passes → n ≡ length scripts
+booked_of : (ended : List JournalUnit) (settings : List Setting) (scripts : List Wanted) (n : ℕ) (reports : List Answers) (passes all_passes : List Book) (units : List JournalUnit) (sessions : ℕ) → AreHanded (take n scripts) reports passes → n ≡ length scripts
     → all_passes ≡ load_books ended settings ++ passes → length all_passes ≡ sessions → All (λ (b : Book). AreInJournal units b.receipts) all_passes
     → All (λ (b : Book). AreInJournal units b.others) all_passes → All (λ (b : Book). RisesFrom 0 b.receipts) all_passes → All IsOwn all_passes → AreAllReceipts units all_passes → AreAllUnits units all_passes
     → AreBooked settings scripts reports units sessions
@@ -77,7 +77,7 @@ same_length : (scripts : List Script) → length (map wanted scripts) ≡ length
 same_length [] = refl
 same_length (s ∷ ss) = ap (λ (n : ℕ). suc n) (same_length ss)
 
-pub booked : (ended : ℕ) (settings : List Setting) (scripts : List Script) (batch : List Wanted) (n : ℕ) (reports : List Answers) (loaded passes all_passes : List Book) (units : List JournalUnit) (sessions : ℕ) → map wanted scripts ≡ batch
+pub booked : (ended : List JournalUnit) (settings : List Setting) (scripts : List Script) (batch : List Wanted) (n : ℕ) (reports : List Answers) (loaded passes all_passes : List Book) (units : List JournalUnit) (sessions : ℕ) → map wanted scripts ≡ batch
     → ∥ AreHanded (take n batch) reports passes ∥₁ → n ≡ length scripts → loaded ≡ load_books ended settings → all_passes ≡ loaded ++ passes → length all_passes ≡ sessions → All (λ (b : Book). AreInJournal units b.receipts) all_passes
     → All (λ (b : Book). AreInJournal units b.others) all_passes → All (λ (b : Book). RisesFrom 0 b.receipts) all_passes → All IsOwn all_passes → AreAllReceipts units all_passes → AreAllUnits units all_passes
     → ∥ AreBooked settings (map wanted scripts) reports units sessions ∥₁
@@ -87,8 +87,8 @@ booked ended settings scripts batch n reports loaded passes all_passes units ses
     (subst (λ (ws : List Wanted). AreHanded (take n ws) reports passes) (sym same) x) (all ∙ sym (same_length scripts)) (joined ∙ ap (λ (bs : List Book). bs ++ passes) is) each written others rising own every every_unit)
 
 -- what was loaded, and what was served behind it
-pub served_of : (listing : List ℕ) (scripts : List Wanted) (reports : List Answers) (units : List JournalUnit) (sessions : ℕ) (loaded : List Book) → IsLoaded listing loaded → ((ended : ℕ) (settings : List Setting) → loaded ≡ load_books ended settings → BeginsWith settings units)
-    → ((ended : ℕ) (settings : List Setting) → loaded ≡ load_books ended settings → ∥ AreBooked settings scripts reports units sessions ∥₁) → AreServed listing scripts reports units sessions
+pub served_of : (listing : List ℕ) (scripts : List Wanted) (reports : List Answers) (units : List JournalUnit) (sessions : ℕ) (loaded : List Book) → IsLoaded listing loaded → ((ended : List JournalUnit) (settings : List Setting) → loaded ≡ load_books ended settings → BeginsWith settings units)
+    → ((ended : List JournalUnit) (settings : List Setting) → loaded ≡ load_books ended settings → ∥ AreBooked settings scripts reports units sessions ∥₁) → AreServed listing scripts reports units sessions
 served_of listing scripts reports units sessions loaded h begins booked = record {
   settings = h.settings;
   asked = h.asked;

@@ -13,7 +13,7 @@ use Rattle.command.specs.declared.request.Command.TheVariants.{Access, Lock as l
 use Rattle.command.specs.declared.request.Reply.{Reply}
 use Rattle.command.specs.declared.request.Reply.TheVariants.{AtLevel, Refused}
 use Rattle.journal.specs.declared.unit.Unit.{Unit as JournalUnit}
-use Rattle.shared_engine.specs.Sessions.{Held}
+use Rattle.shared_engine.specs.Sessions.{Held, knowing}
 use Rattle.shared_engine.specs.Blocks.{said, IsTried, IsDeeper, IsRestarted, HasDone, AreDone, moved, moved_open}
 use Rattle.job_scripts.specs.Blocks.{level_after, IsOneBlock}
 use Rattle.job_server.specs.Telling.{AreDataCommands, BeginNone, NoneAgain}
@@ -30,8 +30,8 @@ level_of_held : (old new : Held) → new ≡ old → new.state.level ≡ old.sta
 level_of_held old new same = ap (λ (h : Held). h.state.level) same
 
 tried_at : (command : LockCommand) (result : Result Bool Refusal) (units more : List JournalUnit) (old new : Held) → IsTried command result units more old new → new.state.level ≡ old.state.level
-tried_at command (Ok had) units more old new h = level_of_held _ new h.1.1 ∙ tried_level (length units + 1) command had old
-tried_at command (Err refusal) units more old new h = level_of_held old new h.1.1
+tried_at command (Ok had) units more old new h = level_of_held _ new h.1.1 ∙ tried_level units command had old
+tried_at command (Err refusal) units more old new h = level_of_held (knowing units old) new h.1.1
 
 deeper_at : (result : Result ℕ Refusal) (units more : List JournalUnit) (old new : Held) (n : ℕ) → n ≤ old.state.level → IsDeeper result units more old new → min (n + 1) most_levels ≤ new.state.level
 deeper_at (Ok level) units more old new n below h = min_below (n + 1) most_levels new.state.level (inl (omega (arith, below, h.0.0, level_of_held _ new h.1.1)))
@@ -39,7 +39,8 @@ deeper_at (Err refusal) units more old new n below h = min_below (n + 1) most_le
 
 restarted_at : (result : Result ℕ Refusal) (units more : List JournalUnit) (old new : Held) → 1 ≤ old.state.level → IsRestarted result units more old new → 1 ≤ new.state.level
 restarted_at (Ok restarts) units more old new one h = omega (arith, level_of_held _ new h.1.1)
-restarted_at (Err refusal) units more old new one h = omega (arith, one, level_of_held old new h.1.1)
+restarted_at (Err refusal) units more old new one h =
+    let same : new.state.level ≡ old.state.level = level_of_held (knowing units old) new h.1.1 in omega (arith, one, same)
 
 -- above level 1 or at it
 one_or_more : {P : Type 0} (level : ℕ) → 1 ≤ level → (level ≡ 1 → P) → (1 < level → P) → P
@@ -47,7 +48,7 @@ one_or_more zero some one deep = absurd (omega (arith, some))
 one_or_more (suc zero) some one deep = one refl
 one_or_more (suc (suc n)) some one deep = deep (omega arith)
 
-level_done : (command : Command) (reply : Reply) (units more : List JournalUnit) (old new : Held) (n : ℕ) → 1 ≤ n → n ≤ old.state.level → HasDone command reply units more old new → level_after command n ≤ new.state.level
+pub level_done : (command : Command) (reply : Reply) (units more : List JournalUnit) (old new : Held) (n : ℕ) → 1 ≤ n → n ≤ old.state.level → HasDone command reply units more old new → level_after command n ≤ new.state.level
 level_done (Access command) reply units more old new n one below h = omega (arith, below, same_level old.start command h.0 old.state new.state (h.3 (omega (arith, one, below))).0)
 level_done (lock_command command) reply units more old new n one below h = omega (arith, below, tried_at command h.0 units more old new h.2)
 level_done Start reply units more old new n one below h = deeper_at h.0 units more old new n below (h.3 (omega (arith, one, below)))
@@ -68,7 +69,7 @@ never_deeper (Err refusal) units more old new h is = by_cause h.0.0
     by_cause : refusal ≡ LevelTooDeep → ⊥
     by_cause deep = absurd (cc)
 
-never_inside : (command : Command) (reply : Reply) (units more : List JournalUnit) (old new : Held) → 1 ≤ old.state.level → HasDone command reply units more old new → command ≡ Start → reply ≢ Refused Again
+pub never_inside : (command : Command) (reply : Reply) (units more : List JournalUnit) (old new : Held) → 1 ≤ old.state.level → HasDone command reply units more old new → command ≡ Start → reply ≢ Refused Again
 never_inside command reply units more old new one h is again =
     let done : HasDone Start reply units more old new = subst (λ (c : Command). HasDone c reply units more old new) is h in
     never_deeper done.0 units more old new (done.3 one) (sym done.1 ∙ again)
@@ -96,7 +97,7 @@ none_again_of_data (c ∷ cs) (r ∷ rs) all =
 open_moved : (units : List JournalUnit) (old : Held) → 1 ≤ old.state.level → 1 ≤ (moved_open units old).state.level
 open_moved units old one = by_test (nat_lt 0 old.state.level)
   where
-    by_test : (b : Bool) → 1 ≤ (if b then moved units old else old).state.level
+    by_test : (b : Bool) → 1 ≤ (if b then moved units old else knowing units old).state.level
     by_test true = one
     by_test false = one
 

@@ -19,3 +19,4 @@ pub mod Sent
 pub mod Standing
 pub mod Turning
 pub mod Units
+pub mod Waiting

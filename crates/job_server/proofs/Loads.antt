@@ -1,5 +1,5 @@
 -- Settings that are done one after the other are the first units of a journal.
-use Rattle.std.proofs.Common.{◌≡◌, ◌≤◌, ◌<◌, ℕ, zero, suc, ◌+◌, ◌-◌, List, [], ◌∷◌, ◌++◌, length, map, take, drop, get_or, refl, sym, ap, subst, ◌∙◌, arith}
+use Rattle.std.proofs.Common.{◌≡◌, ◌≤◌, ◌<◌, ℕ, zero, suc, ◌+◌, ◌-◌, List, [], ◌∷◌, ◌++◌, length, map, take, drop, get_or, length-append, refl, sym, ap, subst, ◌∙◌, arith}
 use Rattle.std.specs.Prelude.{Some, None, slice_get, Result, Ok, Err, IfOk}
 use Rattle.std.specs.List.{All}
 use Rattle.collation.specs.Reference.{Reference}
@@ -10,7 +10,8 @@ use Rattle.journal.specs.declared.unit.Unit.{Unit as JournalUnit}
 use Rattle.journal.specs.declared.unit.Unit.TheVariants.{Lone, End}
 use Rattle.journal.specs.Kept.{Claim}
 use Rattle.job_core.specs.Sessions.{idle}
-use Rattle.pin_board.specs.Slips.{IsInJournal, AreInJournal}
+use Rattle.pin_board.specs.Slips.{IsInJournal, AreInJournal, IsBeginning}
+use Rattle.shared_engine.specs.Blocks.{IsLone}
 use Rattle.shared_engine.specs.Receipts.{Book, book, claim, number_of, RisesFrom}
 use Rattle.shared_engine.specs.Sessions.{Held, held, and_receipt, halted}
 use Rattle.loading.specs.Settings.{Setting, TextFault, before, settings_of}
@@ -87,22 +88,23 @@ pub level_set : (ss : List Setting) (h : Held) → HasSet ss h → h.state.level
 level_set ss h set = ap (λ (x : Held). x.state.level) set.is
 
 -- nothing was done
-pub none_set : (h : Held) → h ≡ held (idle 1) None [] [] → HasSet [] h
-none_set h is = record { receipts = []; are_of = tt; is = is }
+pub none_set : (h : Held) → ((units : List JournalUnit) × (h ≡ held (idle 1) None [] [] units)) → HasSet [] h
+none_set h begun = record { receipts = []; seen = begun.0; are_of = tt; is = begun.1 }
 
 -- one setting more
-pub set_more : (ss : List Setting) (s : Setting) (n : ℕ) (old new : Held) → HasSet ss old → new ≡ and_receipt n (unit_of s) old → HasSet (ss ++ s ∷ []) new
-set_more ss s n old new set is = record {
-  receipts = set.receipts ++ claim n (unit_of s) ∷ [];
-  are_of = receipt_more ss set.receipts s n set.are_of;
-  is = is ∙ ap (and_receipt n (unit_of s)) set.is;
+pub set_more : (ss : List Setting) (s : Setting) (units : List JournalUnit) (old new : Held) → HasSet ss old → new ≡ and_receipt units (unit_of s) old → HasSet (ss ++ s ∷ []) new
+set_more ss s units old new set is = record {
+  receipts = set.receipts ++ claim (length units + 1) (unit_of s) ∷ [];
+  seen = units ++ unit_of s ∷ [];
+  are_of = receipt_more ss set.receipts s (length units + 1) set.are_of;
+  is = is ∙ ap (and_receipt units (unit_of s)) set.is;
 }
 
 -- the same, of what the engine answered
-pub set_by_lone : (key : Reference) (value : List ℕ) (answer : Answer) (old new : Held) → ((n : ℕ) × (new ≡ and_receipt n (Lone old.state.work.job (Set key value) answer) old)) → answer ≡ Done → (ss : List Setting) → HasSet ss old → HasSet (ss ++ (key, value) ∷ []) new
-set_by_lone key value answer old new (n, is) done ss set =
+pub set_by_lone : (key : Reference) (value : List ℕ) (answer : Answer) (old new : Held) → ((units : List JournalUnit) × IsBeginning units old.seen × IsLone (Set key value) (Ok answer) units new.seen old new) → answer ≡ Done → (ss : List Setting) → HasSet ss old → HasSet (ss ++ (key, value) ∷ []) new
+set_by_lone key value answer old new h done ss set =
     let job : old.state.work.job ≡ 1 = ap (λ (x : Held). x.state.work.job) set.is in
-    set_more ss (key, value) n old new set (is ∙ ap (λ (j : ℕ). and_receipt n (Lone j (Set key value) answer) old) job ∙ ap (λ (a : Answer). and_receipt n (Lone 1 (Set key value) a) old) done)
+    set_more ss (key, value) h.0 old new set (h.2.1.1 ∙ ap (λ (j : ℕ). and_receipt h.0 (Lone j (Set key value) answer) old) job ∙ ap (λ (a : Answer). and_receipt h.0 (Lone 1 (Set key value) a) old) done)
 
 pub first_set : (first : Setting) (asked : Result (List Setting) TextFault) (h : Held) → HasSet (first ∷ []) h → HasSetTo first asked asked h
 first_set first asked h set = record { more = []; goes_on = before_none asked; set = set }
@@ -119,16 +121,20 @@ pub last_set : (first : Setting) (asked left : Result (List Setting) TextFault) 
 last_set first asked left h so none = record { more = so.more; is = before_end so.more asked left so.goes_on none; set = so.set }
 
 -- its book
-pub closed_book : (ss : List Setting) (h : Held) (b : Book) (ns : List ℕ) → HasSet ss h → map number_of h.receipts ≡ ns → RisesFrom 0 h.receipts → get_or ns (length ns - 1) 0 ≡ length ns → ((n : ℕ) × (b ≡ halted n h))
-    → (ended : ℕ) × (b ≡ load_book ended ss)
-closed_book ss h b ns set same rises last (n, is) =
+pub closed_book : (ss : List Setting) (h : Held) (b : Book) (ns : List ℕ) → HasSet ss h → map number_of h.receipts ≡ ns → RisesFrom 0 h.receipts → get_or ns (length ns - 1) 0 ≡ length ns → ((units : List JournalUnit) × IsBeginning units h.seen × (b ≡ halted units h))
+    → (ended : List JournalUnit) × (b ≡ load_book ended ss)
+closed_book ss h b ns set same rises last closed =
+    let units : List JournalUnit = closed.0 in
+    let now : List JournalUnit = units ++ End 1 ∷ [] in
     let receipts : h.receipts ≡ set.receipts = ap (λ (x : Held). x.receipts) set.is in
     let are : AreReceiptsOf ss h.receipts = subst (AreReceiptsOf ss) (sym receipts) set.are_of in
-    let ended : halted n h ≡ book 1 h.receipts (claim n (End 1) ∷ []) = ap (halted n) set.is ∙ ap (λ (cs : List Claim). book 1 cs (claim n (End 1) ∷ [])) (sym receipts) in
-    (n, is ∙ ended ∙ ap (λ (cs : List Claim). book 1 cs (claim n (End 1) ∷ [])) (count_up ss h.receipts ns same rises are last))
+    let number : length units + 1 ≡ length now = sym (length-append units (End 1 ∷ [])) in
+    let ended : halted units h ≡ book 1 h.receipts (claim (length now) (End 1) ∷ []) now =
+    ap (halted units) set.is ∙ (ap (λ (cs : List Claim). book 1 cs (claim (length units + 1) (End 1) ∷ []) now) (sym receipts) ∙ ap (λ (n : ℕ). book 1 h.receipts (claim n (End 1) ∷ []) now) number) in
+    (now, closed.2 ∙ ended ∙ ap (λ (cs : List Claim). book 1 cs (claim (length now) (End 1) ∷ []) now) (count_up ss h.receipts ns same rises are last))
 
 -- the same, where its session closes
-pub book_on : {E : Type 0} (r : Result Book E) (first : Setting) (asked : Result (List Setting) TextFault) (h : Held) → HasSetAll first asked h → IfOk r (λ b. (s : Setting) (more : List Setting) → HasSet (s ∷ more) h → (ended : ℕ) × (b ≡ load_book ended (s ∷ more)))
+pub book_on : {E : Type 0} (r : Result Book E) (first : Setting) (asked : Result (List Setting) TextFault) (h : Held) → HasSetAll first asked h → IfOk r (λ b. (s : Setting) (more : List Setting) → HasSet (s ∷ more) h → (ended : List JournalUnit) × (b ≡ load_book ended (s ∷ more)))
     → IfOk r (IsBookOf first asked)
 book_on (Ok b) first asked h set is = let last = is first set.more set.set in record { more = set.more; ended = last.0; is = set.is; book_is = last.1 }
 book_on (Err e) first asked h set is = tt
@@ -150,7 +156,7 @@ fault_left so_far asked left (Jobs fault) is h = tt
 
 -- it sets nothing
 pub none_loaded : (listing : List ℕ) (p : Pending) → settings_of listing ≡ asked_of p → asked_of p ≡ Ok [] → IsLoaded listing []
-none_loaded listing p is none = record { settings = []; ended = 0; asked = is ∙ none; books_are = refl }
+none_loaded listing p is none = record { settings = []; ended = []; asked = is ∙ none; books_are = refl }
 
 -- its settings have a book
 pub book_loaded : (listing : List ℕ) (first : Setting) (p later : Pending) (b : Book) (books : List Book) → settings_of listing ≡ asked_of p → asked_of p ≡ before (first ∷ []) (asked_of later) → IsBookOf first (asked_of later) b → books ≡ b ∷ [] → IsLoaded listing books
@@ -198,7 +204,7 @@ drop_none : (us : List JournalUnit) → us ≡ drop 0 us
 drop_none [] = refl
 drop_none (u ∷ us) = refl
 
-pub begins : (ended : ℕ) (ss : List Setting) (units : List JournalUnit) (loaded more all : List Book) → loaded ≡ load_books ended ss → all ≡ loaded ++ more → All (λ (b : Book). AreInJournal units b.receipts) all → BeginsWith ss units
+pub begins : (ended : List JournalUnit) (ss : List Setting) (units : List JournalUnit) (loaded more all : List Book) → loaded ≡ load_books ended ss → all ≡ loaded ++ more → All (λ (b : Book). AreInJournal units b.receipts) all → BeginsWith ss units
 begins ended [] units loaded more all is joined h = ap (take 0) (drop_none units) ∙ begins_from 0 [] units (λ k d lt. absurd (none k lt))
   where
     none : (k : ℕ) → k < 0 → ⊥

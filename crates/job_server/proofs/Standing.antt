@@ -1,5 +1,5 @@
 -- Where a session stands as a step is told.
-use Rattle.std.proofs.Common.{◌≡◌, ℕ, ◌≤◌, nat_lt, Bool, true, false, List, [], ◌∷◌, ◌++◌, length, refl, sym, ap, ◌∙◌, subst, arith}
+use Rattle.std.proofs.Common.{◌≡◌, ℕ, ◌+◌, ◌≤◌, nat_lt, Bool, true, false, List, [], ◌∷◌, ◌++◌, length, refl, sym, ap, ◌∙◌, subst, arith}
 use Rattle.std.specs.Prelude.{Option, Some, None, not, ◌||◌, if◌then◌else◌}
 use Rattle.std.proofs.lemmas.Bool.{lt-ltb}
 use Rattle.command.specs.declared.access.DataCommand.{DataCommand}
@@ -67,13 +67,13 @@ with_closed front s h level restarts begun is_told = with_none front (close h.st
 
 -- ---- what is told, where a transaction is open or none is
 
-pub told_lone : (front : List JournalUnit) (s : Machine) (h : Held) (command : DataCommand) (answer : Answer) (n : ℕ) → h.state.level ≡ 0 → Stands front s h
-    → Stands front (told_answer h.state.work.job command answer (transaction_of h.state.work.job s) s) (and_receipt n (Lone h.state.work.job command answer) h)
-told_lone front s h command answer n level stands =
+pub told_lone : (front : List JournalUnit) (s : Machine) (h : Held) (command : DataCommand) (answer : Answer) (units : List JournalUnit) → h.state.level ≡ 0 → Stands front s h
+    → Stands front (told_answer h.state.work.job command answer (transaction_of h.state.work.job s) s) (and_receipt units (Lone h.state.work.job command answer) h)
+told_lone front s h command answer units level stands =
     let none : transaction_of h.state.work.job s ≡ None = shown_none h.state (transaction_of h.state.work.job s) stands.shows level in
-    subst (λ (o : Option Transaction). Stands front (told_answer h.state.work.job command answer o s) (and_receipt n (Lone h.state.work.job command answer) h)) (sym none)
-    (with_none front (add_unit (Lone h.state.work.job command answer) s) (and_receipt n (Lone h.state.work.job command answer) h) level (none_restarts h.state (transaction_of h.state.work.job s) stands.shows level) stands.begun none
-    (told_more s.units (Lone h.state.work.job command answer) front h.receipts n refl stands.is_told))
+    subst (λ (o : Option Transaction). Stands front (told_answer h.state.work.job command answer o s) (and_receipt units (Lone h.state.work.job command answer) h)) (sym none)
+    (with_none front (add_unit (Lone h.state.work.job command answer) s) (and_receipt units (Lone h.state.work.job command answer) h) level (none_restarts h.state (transaction_of h.state.work.job s) stands.shows level) stands.begun none
+    (told_more s.units (Lone h.state.work.job command answer) front h.receipts (length units + 1) refl stands.is_told))
 
 pub told_inside : (front : List JournalUnit) (s : Machine) (h new : Held) (command : DataCommand) (answer : Answer) → 1 ≤ h.state.level → Stands front s h → new.state.level ≡ h.state.level
     → new.state.work.exchanges ≡ h.state.work.exchanges ++ record { command = command; answer = answer } ∷ [] → new.state.work.job ≡ h.state.work.job → new.state.restarts ≡ h.state.restarts → IsAt new.start new.state → new.receipts ≡ h.receipts
@@ -105,11 +105,11 @@ noted_exchanges : (b : Bool) (state : JobSession) → (if b then after_lock stat
 noted_exchanges true state = refl
 noted_exchanges false state = refl
 
-pub tried_job : (n : ℕ) (command : LockCommand) (had : Bool) (h : Held) → (after_try n command had h).state.work.job ≡ h.state.work.job
-tried_job n command had h = noted_job (nat_lt 0 h.state.level) h.state
+pub tried_job : (units : List JournalUnit) (command : LockCommand) (had : Bool) (h : Held) → (after_try units command had h).state.work.job ≡ h.state.work.job
+tried_job units command had h = noted_job (nat_lt 0 h.state.level) h.state
 
-pub tried_level : (n : ℕ) (command : LockCommand) (had : Bool) (h : Held) → (after_try n command had h).state.level ≡ h.state.level
-tried_level n command had h = noted_level (nat_lt 0 h.state.level) h.state
+pub tried_level : (units : List JournalUnit) (command : LockCommand) (had : Bool) (h : Held) → (after_try units command had h).state.level ≡ h.state.level
+tried_level units command had h = noted_level (nat_lt 0 h.state.level) h.state
 
 -- the state shows the same
 pub still_shows : (b : Bool) (state : JobSession) (t : Option Transaction) → Shows state t → Shows (if b then after_lock state else state) t
@@ -144,34 +144,34 @@ pub inside_untold : (h : Held) (command : LockCommand) (had : Bool) → 1 ≤ h.
 inside_untold h command had one = ap (λ (b : Bool). b || not had) (inside h.state.level one)
 
 -- a try that was blocked, which no reply tells
-pub tried_untold : (front : List JournalUnit) (s : Machine) (h : Held) (command : LockCommand) (n : ℕ) → Stands front s h → Stands front s (after_try n command false h)
-tried_untold front s h command n stands = record {
-  shows = subst (λ (j : ℕ). Shows (noted_lock h.state) (transaction_of j s)) (sym (tried_job n command false h)) (still_shows (nat_lt 0 h.state.level) h.state (transaction_of h.state.work.job s) stands.shows);
+pub tried_untold : (front : List JournalUnit) (s : Machine) (h : Held) (command : LockCommand) (units : List JournalUnit) → Stands front s h → Stands front s (after_try units command false h)
+tried_untold front s h command units stands = record {
+  shows = subst (λ (j : ℕ). Shows (noted_lock h.state) (transaction_of j s)) (sym (tried_job units command false h)) (still_shows (nat_lt 0 h.state.level) h.state (transaction_of h.state.work.job s) stands.shows);
   begun = noted_at h.start h.state stands.begun;
-  is_told = lock_receipt_more (given s) front h.receipts n (lock_unit h.state command false) (blocked_untold h command) stands.is_told;
+  is_told = lock_receipt_more (given s) front h.receipts (length units + 1) (lock_unit h.state command false) (blocked_untold h command) stands.is_told;
 }
 
 -- a try that a reply tells
-pub tried_told : (front : List JournalUnit) (s : Machine) (h : Held) (command : LockCommand) (had : Bool) (n : ℕ) (t : Option Transaction) → transaction_of h.state.work.job s ≡ t → Stands front s h
-    → Stands front (told_lock h.state.work.job command had t s) (after_try n command had h)
-tried_told front s h command had n None is stands =
+pub tried_told : (front : List JournalUnit) (s : Machine) (h : Held) (command : LockCommand) (had : Bool) (units : List JournalUnit) (t : Option Transaction) → transaction_of h.state.work.job s ≡ t → Stands front s h
+    → Stands front (told_lock h.state.work.job command had t s) (after_try units command had h)
+tried_told front s h command had units None is stands =
     let level : h.state.level ≡ 0 = (subst (λ (o : Option Transaction). Shows h.state o) is stands.shows).0 in
     let unit : lock_unit h.state command had ≡ Lock h.state.work.job false command had = ap (λ (b : Bool). Lock h.state.work.job b command had) (outside h.state.level level) in
     record {
-      shows = subst (λ (j : ℕ). Shows (noted_lock h.state) (transaction_of j s)) (sym (tried_job n command had h)) (still_shows (nat_lt 0 h.state.level) h.state (transaction_of h.state.work.job s) stands.shows);
+      shows = subst (λ (j : ℕ). Shows (noted_lock h.state) (transaction_of j s)) (sym (tried_job units command had h)) (still_shows (nat_lt 0 h.state.level) h.state (transaction_of h.state.work.job s) stands.shows);
       begun = noted_at h.start h.state stands.begun;
-      is_told = subst (λ (u : JournalUnit). IsToldIn (given (add_unit u s)) (front ++ units_of (h.receipts ++ claim n (lock_unit h.state command had) ∷ []))) unit
-          (told_more s.units (lock_unit h.state command had) front h.receipts n refl stands.is_told);
+      is_told = subst (λ (u : JournalUnit). IsToldIn (given (add_unit u s)) (front ++ units_of (h.receipts ++ claim (length units + 1) (lock_unit h.state command had) ∷ []))) unit
+          (told_more s.units (lock_unit h.state command had) front h.receipts (length units + 1) refl stands.is_told);
     }
-tried_told front s h command had n (Some t) is stands =
+tried_told front s h command had units (Some t) is stands =
     let shows : Shows h.state (Some t) = subst (λ (o : Option Transaction). Shows h.state o) is stands.shows in
     let unit : lock_unit h.state command had ≡ Lock h.state.work.job true command had = ap (λ (b : Bool). Lock h.state.work.job b command had) (inside h.state.level shows.0) in
     let b : Bool = nat_lt 0 h.state.level in
-    subst (λ (j : ℕ). Stands front (put_transaction j (record t { took_lock = true }) (add_unit (Lock h.state.work.job true command had) s)) (after_try n command had h)) (tried_job n command had h)
-    (with_open front (add_unit (Lock h.state.work.job true command had) s) (record t { took_lock = true }) (after_try n command had h)
+    subst (λ (j : ℕ). Stands front (put_transaction j (record t { took_lock = true }) (add_unit (Lock h.state.work.job true command had) s)) (after_try units command had h)) (tried_job units command had h)
+    (with_open front (add_unit (Lock h.state.work.job true command had) s) (record t { took_lock = true }) (after_try units command had h)
     (omega (arith, noted_level b h.state, shows.0)) (noted_level b h.state ∙ shows.1.0) (noted_exchanges b h.state ∙ shows.1.1.0) (as_often t.restarts h.state.restarts (if b then after_lock h.state else h.state).restarts (noted_restarts b h.state) shows.1.1.1) (noted_at h.start h.state stands.begun)
-    (subst (λ (u : JournalUnit). IsToldIn (given (add_unit u s)) (front ++ units_of (h.receipts ++ claim n (lock_unit h.state command had) ∷ []))) unit
-    (told_more s.units (lock_unit h.state command had) front h.receipts n refl stands.is_told)))
+    (subst (λ (u : JournalUnit). IsToldIn (given (add_unit u s)) (front ++ units_of (h.receipts ++ claim (length units + 1) (lock_unit h.state command had) ∷ []))) unit
+    (told_more s.units (lock_unit h.state command had) front h.receipts (length units + 1) refl stands.is_told)))
 
 -- ---- transactions
 

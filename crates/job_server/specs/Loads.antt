@@ -25,12 +25,12 @@ abbrev pub claims_from : ℕ → List Setting → List Claim
 claims_from n [] = []
 claims_from n (s ∷ ss) = claim n (unit_of s) ∷ claims_from (n + 1) ss
 
--- job 1's book, with the settings as the units from the first on, and its end at this number
-abbrev pub load_book : ℕ → List Setting → Book
-load_book ended settings = book 1 (claims_from 1 settings) (claim ended (End 1) ∷ [])
+-- job 1's book, with the settings as the units from the first on, and its end as the last of these units, which it has seen
+abbrev pub load_book : List JournalUnit → List Setting → Book
+load_book ended settings = book 1 (claims_from 1 settings) (claim (length ended) (End 1) ∷ []) ended
 
 -- the book of a load, if anything is set
-abbrev pub load_books : ℕ → List Setting → List Book
+abbrev pub load_books : List JournalUnit → List Setting → List Book
 load_books ended [] = []
 load_books ended (s ∷ ss) = load_book ended (s ∷ ss) ∷ []
 
@@ -41,7 +41,7 @@ BeginsWith settings units = take (length settings) units ≡ units_of settings
 -- the listing asks for settings, and their book is there
 pub record IsLoaded (listing : List ℕ) (books : List Book) : Type 0 where
   pub settings : List Setting
-  pub ended : ℕ
+  pub ended : List JournalUnit
   pub asked : settings_of listing ≡ Ok settings
   pub books_are : books ≡ load_books ended settings
 
@@ -74,8 +74,9 @@ AreReceiptsOf (s ∷ ss) (c ∷ cs) = (c ≡ claim c.number (unit_of s)) × AreR
 -- the session of job 1 has done these settings, and nothing else
 pub record HasSet (settings : List Setting) (h : Held) : Type 0 where
   pub receipts : List Claim
+  pub seen : List JournalUnit
   pub are_of : AreReceiptsOf settings receipts
-  pub is : h ≡ held (idle 1) None receipts []
+  pub is : h ≡ held (idle 1) None receipts [] seen
 
 -- it has done the first setting and those behind it that came before what is left
 pub record HasSetTo (first : Setting) (asked left : Result (List Setting) TextFault) (h : Held) : Type 0 where
@@ -92,6 +93,6 @@ pub record HasSetAll (first : Setting) (asked : Result (List Setting) TextFault)
 -- the book of the first setting and those behind it
 pub record IsBookOf (first : Setting) (asked : Result (List Setting) TextFault) (b : Book) : Type 0 where
   pub more : List Setting
-  pub ended : ℕ
+  pub ended : List JournalUnit
   pub is : asked ≡ Ok more
   pub book_is : b ≡ load_book ended (first ∷ more)

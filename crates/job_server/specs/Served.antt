@@ -65,13 +65,13 @@ pub record AreHanded (scripts : List Wanted) (reports : List Answers) (all : Lis
   pub all_is : all ≡ all_of books
 
 -- that of the settings that were loaded, which ended at this number, and those of the reports
-abbrev pub with_load : ℕ → List Setting → List (List Book) → List Book
+abbrev pub with_load : List JournalUnit → List Setting → List (List Book) → List Book
 with_load ended settings books = load_books ended settings ++ all_of books
 
--- each session has a book, whose units are its job's, in the journal, at numbers that rise; the units of all books are those of the journal, each as
--- often as it was written, and the receipts all but rollbacks and ends; and what the reports tell are the units of the books of their jobs, but for the loaded settings'
+-- each session has a book, whose units are its job's, in the journal, at numbers that rise; the units of all books are those of the journal, each at
+-- its number once, and the receipts all but rollbacks and ends; and what the reports tell are the units of the books of their jobs, but for the loaded settings'
 pub record AreBooked (settings : List Setting) (scripts : List Wanted) (reports : List Answers) (units : List JournalUnit) (sessions : ℕ) : Type 0 where
-  pub ended : ℕ
+  pub ended : List JournalUnit
   pub books : List (List Book)
   pub are_told : AreReports scripts reports books
   pub each : length (with_load ended settings books) ≡ sessions

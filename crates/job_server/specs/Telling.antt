@@ -17,16 +17,16 @@ use Rattle.script.specs.Line.{reading_of, HasOperands}
 use Rattle.job_core.specs.Common.{IsCauseOfLock}
 use Rattle.job_core.specs.Sessions.{Session as JobSession}
 use Rattle.shared_engine.specs.Receipts.{Book}
-use Rattle.shared_engine.specs.Sessions.{Held, IsAt, IsJournalOf}
-use Rattle.shared_engine.specs.Engines.{HasItsNames, WasBlocked}
-use Rattle.shared_engine.specs.Blocks.{AreDone, IsReady, moved_open}
+use Rattle.shared_engine.specs.Sessions.{Held, IsAt, IsJournalOf, knowing, begun_anew}
+use Rattle.shared_engine.specs.Blocks.{HasItsNames, WasBlocked, WasRefused, AreDone, HasCome, IsReady, moved_open}
+use Rattle.shared_engine.specs.declared.serial_run.SerialRun.{SerialRun}
 use Rattle.job_scripts.specs.declared.block.Block.{Block}
 use Rattle.job_scripts.specs.Blocks.{AreInFront, IsOneBlock}
 use Rattle.job_scripts.specs.Lines.{lines_of_script, Asks}
-use Rattle.job_server.specs.Causes.{HasRestarted, IsAllowed, IsReplyTo, IsReplyToNone}
+use Rattle.job_server.specs.Causes.{HasRestarted, IsAllowed, IsReplyToNone}
 use Rattle.job_server.specs.declared.cursor.Cursor.{Cursor}
 use Rattle.job_server.specs.declared.cursor.Line.{Line}
-use Rattle.job_server.specs.Told.{told_by, given, IsToldIn, told_by_lines, AreOf, OneAsksFor, AreAskedFor, AreRepliesTo, AreRepliesToNone, units_of, units_in, backs, others_of, grants, AreGranted}
+use Rattle.job_server.specs.Told.{told_by, given, IsToldIn, told_by_lines, AreOf, OneAsksFor, AreAskedFor, IsReplyToLine, AreRepliesTo, AreRepliesToNone, units_of, units_in, backs, others_of, grants, AreGranted}
 
 -- ---- one session
 
@@ -125,7 +125,7 @@ IsLockRefusal job command refusal = (units : List JournalUnit) × IsCauseOfLock 
 abbrev pub HasLocked : LockCommand → Result Bool Refusal → Held → Held → Type 0
 HasLocked command (Ok true) old new = HasItsNames command old new
 HasLocked command (Ok false) old new = (names_some command ≡ true) × WasBlocked command old new
-HasLocked command (Err refusal) old new = ((new ≡ old) ⊎ WasBlocked command old new) × IsLockRefusal old.state.work.job command refusal
+HasLocked command (Err refusal) old new = WasRefused command refusal old new
 
 -- ---- a job with its sessions
 
@@ -207,7 +207,7 @@ GoesOnBy job command reply old new = GoesOn (told job command reply) (λ s. (IsO
 
 -- a line is replied
 abbrev pub GoesOnAt : ℕ → List ℕ → Reply → SessionsSoFar → SessionsSoFar → Type 0
-GoesOnAt job line reply old new = GoesOn (told_by job (reading_of line) reply) (λ s. IsReplyTo (HasOperands line) job (reading_of line) reply (transaction_of job s)) (IsRestart reply) (AsksFor job line) job old new
+GoesOnAt job line reply old new = GoesOn (told_by job (reading_of line) reply) (λ s. IsReplyToLine job line reply (transaction_of job s)) (IsRestart reply) (AsksFor job line) job old new
 
 -- what was read of a line was overtaken
 abbrev pub IsOvertakenAs : Result Command Refusal → Reply → Type 0
@@ -217,7 +217,7 @@ IsOvertakenAs (Err refusal) reply = ⊥
 -- a line, of which this was read, is replied, or was overtaken
 abbrev pub MayGoOnAt : ℕ → List ℕ → Result Command Refusal → Reply → SessionsSoFar → SessionsSoFar → Type 0
 MayGoOnAt job line asked reply old new =
-    GoesOn (told_by job (reading_of line) reply) (λ s. (IsOvertakenAs asked reply → ⊥) → IsReplyTo (HasOperands line) job (reading_of line) reply (transaction_of job s)) (IsRestart reply) (AsksFor job line) job old new
+    GoesOn (told_by job (reading_of line) reply) (λ s. (IsOvertakenAs asked reply → ⊥) → IsReplyToLine job line reply (transaction_of job s)) (IsRestart reply) (AsksFor job line) job old new
 
 -- it is no TCOMMIT
 abbrev pub IsNoCommit : Result Command Refusal → Type 0
@@ -312,19 +312,36 @@ NoneAgain (command ∷ commands) (reply ∷ replies) = (command ≡ Start → re
 
 -- the lines of a block were done, whatever lines they stand in front of
 abbrev pub ServesBlock : Block → Running → Running → Type 0
-ServesBlock block old new = (job : ℕ) (lines : List (List ℕ)) → AreInFront job lines (lines_of_script block.rest.now) block.places.items block.commands.items → Serves job lines (lines_of_script block.rest.now) old new
+ServesBlock block old new = (job : ℕ) (lines : List (List ℕ)) → AreInFront job lines (lines_of_script block.rest.now) block.places.items block.commands.items block.musts.items → Serves job lines (lines_of_script block.rest.now) old new
 
--- the session did a block, before which its start was moved where a transaction was open
-abbrev pub HasRun : List Command → List Reply → Option Held → Option Held → Type 0
-HasRun commands replies None later = ⊥
-HasRun commands replies (Some old) None = ⊥
-HasRun commands replies (Some old) (Some new) = IsReady old × BeginNone commands (Some old) × (units more : List JournalUnit) × IsJournalOf units old × AreDone commands replies units more (moved_open units old) new
+-- the session did a block, or a part of it, before which its start was moved where a transaction was open
+abbrev pub HasRun : List Bool → List Command → SerialRun → Option Held → Option Held → Type 0
+HasRun musts commands run None later = ⊥
+HasRun musts commands run (Some old) None = ⊥
+HasRun musts commands run (Some old) (Some new) = IsReady old × BeginNone commands (Some old) × (units more : List JournalUnit) × IsJournalOf units old × HasCome musts commands run units more (moved_open units old) new
+
+-- a LOCK was tried in a transaction that had begun anew, and then it has begun anew once more
+pub record HasWaited (command : LockCommand) (old new : Held) : Type 0 where
+  pub first : List JournalUnit
+  pub second : List JournalUnit
+  pub done : Result Bool Refusal
+  pub locked : Held
+  pub began : 1 ≤ old.state.level
+  pub tried : HasLocked command done (begun_anew first old) locked
+  pub still : 1 ≤ locked.state.level
+  pub anew : new ≡ begun_anew second locked
+
+-- the same of a job's session
+abbrev pub HasWaitedFor : LockCommand → Option Held → Option Held → Type 0
+HasWaitedFor command None later = ⊥
+HasWaitedFor command (Some old) None = ⊥
+HasWaitedFor command (Some old) (Some new) = HasWaited command old new
 
 -- the session did commands in its transaction, and nothing was written
 abbrev pub HasReadAll : List Command → List Reply → Option Held → Option Held → Type 0
 HasReadAll commands replies None later = ⊥
 HasReadAll commands replies (Some old) None = ⊥
-HasReadAll commands replies (Some old) (Some new) = (1 ≤ old.state.level) × (units : List JournalUnit) × IsJournalOf units old × AreDone commands replies units units old new
+HasReadAll commands replies (Some old) (Some new) = (1 ≤ old.state.level) × (units : List JournalUnit) × IsJournalOf units old × AreDone commands replies units units (knowing units old) new
 
 -- a transaction has just begun
 abbrev pub HasJustBegun : Option Transaction → Type 0
@@ -358,6 +375,11 @@ abbrev pub IsBack : ℕ → List ℕ → Running → Running → Type 0
 IsBack job text old new =
     ((first : Machine) → StandsAt job old.sessions first → HasJustBegun (transaction_of job first) → StandsAt job new.sessions first)
     × (AreAskedOn (OneAsksFor job (lines_of_script text)) old.sessions new.sessions × KeepBacks old.sessions new.sessions)
+
+-- the lines of a block were done, up to this place; or the job stands again as behind its TSTART, and no reply was kept
+abbrev pub HasTriedAlone : ℕ → List ℕ → Option Cursor → Running → Running → Type 0
+HasTriedAlone job text None old new = IsBack job text old new × (new.replies ≡ old.replies)
+HasTriedAlone job text (Some behind) old new = Reaches job text behind old new
 
 -- the replies are those before and more
 abbrev pub GoesOnFrom : List Reply → List Reply → Type 0

@@ -1,6 +1,6 @@
 -- What a job's replies tell of the units that the job wrote, and what lines may be replied. Source: docs/THEOREMS.md, "Many jobs at the same time".
 -- Read told_by_lines, units_told, units_of_book, IsToldIn, IsAllTold, AreOf, AreAskedFor, AreBack,
--- AreGranted, AreRepliesTo, AreRepliesToNone, then IsTold.
+-- AreGranted, IsHad, AreRepliesTo, AreRepliesToNone, then IsTold.
 use Rattle.std.specs.Prelude.{◌≡◌, ◌⊎◌, ⊤, ℕ, ◌≤◌, ◌<◌, Bool, true, false, not, ◌||◌, List, [], ◌∷◌, ◌++◌, length, map, Option, None, Some, Result, Ok, Err}
 use Rattle.std.specs.List.{All, filter, flat_map}
 use Rattle.refusal.specs.declared.Refusal.{Refusal}
@@ -11,10 +11,12 @@ use Rattle.command.specs.declared.request.Reply.{Reply}
 use Rattle.journal.specs.declared.unit.Unit.{Unit as JournalUnit}
 use Rattle.journal.specs.declared.unit.Unit.TheVariants.{Lone, Whole, Lock, Back, End}
 use Rattle.journal.specs.Kept.{Claim}
-use Rattle.journal.specs.Story.{Machine, nothing_done, transaction_of, told}
+use Rattle.journal.specs.Story.{Transaction, Machine, nothing_done, transaction_of, told}
 use Rattle.script.specs.Line.{reading_of, HasOperands}
 use Rattle.shared_engine.specs.Receipts.{Book, claim}
+use Rattle.shared_engine.specs.Blocks.{is_blocked}
 use Rattle.job_scripts.specs.Lines.{lines_of_script, Asks}
+use Rattle.job_scripts.specs.Timeouts.{timeout_in}
 use Rattle.job_server.specs.Causes.{IsReplyTo, IsReplyToNone}
 
 -- what a line and its reply change: a line that can't be read tells nothing
@@ -136,11 +138,19 @@ grants units = length (filter is_granted units)
 abbrev pub AreGranted : List JournalUnit → List Book → Type 0
 AreGranted told books = (grants (units_in books) ≤ grants told) ⊎ (backs told < backs (others_of books))
 
+-- a line without a timeout is never told that its LOCK was blocked
+abbrev pub IsHad : List ℕ → Reply → Type 0
+IsHad line reply = timeout_in line ≡ None → is_blocked true reply ≡ false
+
+-- the reply is one to its line, and such
+abbrev pub IsReplyToLine : ℕ → List ℕ → Reply → Option Transaction → Type 0
+IsReplyToLine job line reply t = IsReplyTo (HasOperands line) job (reading_of line) reply t × IsHad line reply
+
 -- each reply is one to its line, in the transaction that the replies so far tell
 abbrev pub AreRepliesTo : ℕ → List (List ℕ) → List Reply → Machine → Type 0
 AreRepliesTo job [] replies s = ⊤
 AreRepliesTo job (line ∷ lines) [] s = ⊤
-AreRepliesTo job (line ∷ lines) (reply ∷ replies) s = IsReplyTo (HasOperands line) job (reading_of line) reply (transaction_of job s) × AreRepliesTo job lines replies (told_by job (reading_of line) reply s)
+AreRepliesTo job (line ∷ lines) (reply ∷ replies) s = IsReplyToLine job line reply (transaction_of job s) × AreRepliesTo job lines replies (told_by job (reading_of line) reply s)
 
 -- the same of lines without a job
 abbrev pub AreRepliesToNone : List (List ℕ) → List Reply → Type 0

@@ -15,7 +15,7 @@ use refusal::Refusal;
 use shared_engine::Gate;
 use std::sync::Wait;
 
-// How often a block is begun anew before it is done by itself alone.
+// How often a block is begun anew before it is done alone, with nobody between its lines.
 const MOST_RESTARTS: usize = 3;
 
 impl<'a, B: BoardName, R: Wait, G: Gate> Worker<'a, B, R, G> {
@@ -125,6 +125,12 @@ impl<'a, B: BoardName, R: Wait, G: Gate> Worker<'a, B, R, G> {
             }
             run.replies.truncate(kept);
         }
-        self.serve_serially(run, job, line.next)
+        'alone: for _ in self.calls.rt.forever() {
+            self.check_stop()?;
+            if let Some(place) = self.try_serially(run, job, line.next)? {
+                return Ok(place);
+            }
+        }
+        unreachable!()
     }
 }

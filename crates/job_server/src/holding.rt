@@ -1,9 +1,12 @@
 //! Lines of a job that are done under one hold of the engine's lock. The gate isn't told.
-ghost use Rattle.std.specs.Prelude.{◌≡◌, ◌++◌, IfOk, OnOk};
+ghost use Rattle.std.specs.Prelude.{◌≡◌, ◌≤◌, ◌++◌, List, IfOk, OnOk};
 ghost use Rattle.command.specs.declared.request.Command.{Command};
 ghost use Rattle.job_scripts.specs.Blocks.{in_place};
-ghost use Rattle.job_scripts.specs.Lines.{Asks};
-ghost use Rattle.job_server.specs.Telling.{Keeps, Advances, Reaches, HaveNoHalt, AreDataCommands, BeginNone, ServesBlock, HasRun, HasReadAll};
+ghost use Rattle.job_scripts.specs.Lines.{lines_of_script, Asks};
+ghost use Rattle.journal.specs.declared.unit.Unit.{Unit as JournalUnit};
+ghost use Rattle.shared_engine.specs.Sessions.{begun_anew};
+ghost use Rattle.job_server.specs.Told.{OneAsksFor};
+ghost use Rattle.job_server.specs.Telling.{Keeps, Advances, HaveNoHalt, AreDataCommands, BeginNone, ServesBlock, HasRun, HasReadAll, HasWaited, HasWaitedFor, HasTriedAlone};
 
 use crate::ServerFault;
 use crate::cursor::{Cursor, Line};
@@ -12,15 +15,58 @@ use crate::worker::{Worker, writes_in};
 use collation::Job;
 use command::{Command, DataCommand, Reply};
 use job_scripts::{Block, block_of, data_block, push_in_place};
+use lock_name::LockCommand;
 use pin_board::BoardName;
 use refusal::Refusal;
-use shared_engine::{Gate, Session};
+use script::Drafts;
+use shared_engine::{Gate, SerialRun, Session};
+use std::alloc::Global;
 use std::sync::Wait;
 
 // How many data commands are done under one hold of the engine's lock, at most: alone, and shared with other readers.
 const WRITES_PER_HOLD: usize = 64;
 
 const READS_PER_HOLD: usize = 16;
+
+// The LOCK at this place of the block at the front of a job's lines.
+#[tactic(auto, using(crate::proofs::Waiting::lock_found))]
+fn lock_at(
+    alloc: Global,
+    job: Job,
+    lines: &[u8],
+    place: usize,
+    drafts: &mut Drafts,
+) -> Result<LockCommand, ServerFault>
+    ensures { IfOk result (λ command. OneAsksFor job (lines_of_script lines.now) command) }
+{
+    let mut block = block_of(alloc, job, lines, drafts)?;
+    if place >= block.commands.len() {
+        return Err(ServerFault::Missing);
+    }
+    match block.commands.swap_remove(place) {
+        Command::Lock(command) => Ok(command),
+        _ => Err(ServerFault::Missing),
+    }
+}
+
+// Takes the replies to a block in. Answers the place behind it.
+fn note_block<'b>(
+    replies: &mut Vec<Reply>,
+    number: u64,
+    places: Vec<Option<Refusal>>,
+    served: Vec<Reply>,
+    rest: &'b [u8],
+) -> Result<Cursor<'b>, ServerFault>
+    ensures rest { IfOk result (λ behind. behind.lines.now ≡ rest.now) }
+    ensures replies { OnOk result (replies.new.items ≡ replies.old.items ++ in_place places.items served.items) }
+{
+    push_in_place(places.as_slice(), served, replies)?;
+    let count = places.len() as u64;
+    Ok(Cursor {
+        lines: rest,
+        number: number.saturating_add(count),
+    })
+}
 
 impl<'a, B: BoardName, R: Wait, G: Gate> Worker<'a, B, R, G> {
     // Whether a data command may be done under one hold of the engine's lock with those right behind it: no line is
@@ -35,37 +81,44 @@ impl<'a, B: BoardName, R: Wait, G: Gate> Worker<'a, B, R, G> {
 
     // Does a block of a session which has no transaction, or one that has done nothing.
     fn run_ready(
-        &self,
+        &mut self,
         session: &mut Session<B>,
         commands: Vec<Command>,
-    ) -> Result<Vec<Reply>, ServerFault>
+        musts: &[bool],
+    ) -> Result<SerialRun, ServerFault>
         requires goes_on { HaveNoHalt commands.items }
         requires begins { BeginNone commands.items (Some session.old) }
-        ensures { IfOk result (λ served. HasRun commands.items served.items (Some session.old) (Some session.new)) }
+        ensures { IfOk result (λ ran. HasRun musts.now commands.items ran (Some session.old) (Some session.new)) }
     {
         if session.tlevel() > 0 && !session.is_fresh() {
             drop(commands);
             return Err(ServerFault::Missing);
         }
         Ok(
-            self.calls
-                .engine
-                .run_serial(self.calls.rt, self.alloc, session, commands)?,
+            self.calls.engine.run_serial(
+                self.calls.rt,
+                self.alloc,
+                session,
+                commands,
+                musts,
+                &mut self.turns.next,
+            )?,
         )
     }
 
     // Does a block of a job's session.
     fn run_block(
-        &self,
+        &mut self,
         session: &mut Option<Session<B>>,
         commands: Vec<Command>,
-    ) -> Result<Vec<Reply>, ServerFault>
+        musts: &[bool],
+    ) -> Result<SerialRun, ServerFault>
         requires goes_on { HaveNoHalt commands.items }
         requires begins { BeginNone commands.items session.old }
-        ensures { IfOk result (λ served. HasRun commands.items served.items session.old session.new) }
+        ensures { IfOk result (λ ran. HasRun musts.now commands.items ran session.old session.new) }
     {
         match session {
-            Some(session) => self.run_ready(session, commands),
+            Some(session) => self.run_ready(session, commands, musts),
             None => {
                 drop(commands);
                 Err(ServerFault::Missing)
@@ -111,28 +164,6 @@ impl<'a, B: BoardName, R: Wait, G: Gate> Worker<'a, B, R, G> {
         }
     }
 
-    // Takes the replies to a block in. Answers the place behind it.
-    fn note_block<'b>(
-        &mut self,
-        replies: &mut Vec<Reply>,
-        number: u64,
-        places: Vec<Option<Refusal>>,
-        served: Vec<Reply>,
-        rest: &'b [u8],
-        writes: u64,
-    ) -> Result<Cursor<'b>, ServerFault>
-        ensures rest { IfOk result (λ behind. behind.lines.now ≡ rest.now) }
-        ensures replies { OnOk result (replies.new.items ≡ replies.old.items ++ in_place places.items served.items) }
-    {
-        push_in_place(places.as_slice(), served, replies)?;
-        let count = places.len() as u64;
-        self.note_writes(writes);
-        Ok(Cursor {
-            lines: rest,
-            number: number.saturating_add(count),
-        })
-    }
-
     // Does a block, so that nobody comes between. Answers the place behind it.
     fn serve_at_once<'b>(
         &mut self,
@@ -148,11 +179,15 @@ impl<'a, B: BoardName, R: Wait, G: Gate> Worker<'a, B, R, G> {
         let Block {
             commands,
             places,
+            musts,
             rest,
         } = block;
-        let writes = writes_in(&commands);
-        match self.run_block(&mut run.sessions.open, commands) {
-            Ok(served) => self.note_block(&mut run.replies, number, places, served, rest, writes),
+        self.turns.note_writes(writes_in(&commands));
+        match self.run_block(&mut run.sessions.open, commands, &musts) {
+            Ok(SerialRun::Done(served)) => {
+                note_block(&mut run.replies, number, places, served, rest)
+            }
+            Ok(SerialRun::Blocked(_)) => Err(ServerFault::Missing),
             Err(fault) => Err(fault),
         }
     }
@@ -172,30 +207,91 @@ impl<'a, B: BoardName, R: Wait, G: Gate> Worker<'a, B, R, G> {
         let Block {
             commands,
             places,
+            musts: _,
             rest,
         } = block;
-        let writes = writes_in(&commands);
+        self.turns.note_writes(writes_in(&commands));
         match self.read_block(&mut run.sessions.open, commands) {
-            Ok(served) => self.note_block(&mut run.replies, number, places, served, rest, writes),
+            Ok(served) => note_block(&mut run.replies, number, places, served, rest),
             Err(fault) => Err(fault),
         }
     }
 
-    /// Does the lines of a block behind its TSTART, so that nobody can overtake it. The transaction is open.
-    #[tactic(auto, using(crate::proofs::AtOnce::block_reaches))]
-    pub(crate) fn serve_serially<'b>(
+    // Begins an open transaction anew, by TRESTART.
+    fn begin_anew(&self, session: &mut Session<B>) -> Result<(), ServerFault>
+        ensures open { OnOk result (1 ≤ session.old.state.level) }
+        ensures anew { OnOk result ((units : List JournalUnit) × (session.new ≡ begun_anew units session.old)) }
+    {
+        if session.tlevel() == 0 {
+            return Err(ServerFault::Missing);
+        }
+        match self.calls.engine.trestart(self.calls.rt, session) {
+            Ok(_) => Ok(()),
+            Err(_) => Err(ServerFault::Memory),
+        }
+    }
+
+    // Begins the transaction of a block anew, waits until the job has these names, or may wait no longer, and gives them
+    // back, as the transaction begins anew once more.
+    #[tactic(auto, using(crate::proofs::Waiting::waited))]
+    fn wait_in(&self, session: &mut Session<B>, command: &LockCommand) -> Result<(), ServerFault>
+        ensures { OnOk result (HasWaited command.now session.old session.new) }
+    {
+        self.begin_anew(session)?;
+        let _had = self.calls.lock_untimed(session, command);
+        self.begin_anew(session)?;
+        Ok(())
+    }
+
+    // The same of a job's session.
+    fn wait_for(
+        &self,
+        session: &mut Option<Session<B>>,
+        command: &LockCommand,
+    ) -> Result<(), ServerFault>
+        ensures { OnOk result (HasWaitedFor command.now session.old session.new) }
+    {
+        match session {
+            Some(session) => self.wait_in(session, command),
+            None => Err(ServerFault::Missing),
+        }
+    }
+
+    /// Does the lines of a block behind its TSTART, so that nobody can overtake it. The transaction is open. Answers the
+    /// place behind the block; none where a LOCK without a timeout was blocked: then its names were waited for, and the
+    /// block may be done again.
+    pub(crate) fn try_serially<'b>(
         &mut self,
         run: &mut JobRun<B>,
         job: Job,
         begin: Cursor<'b>,
-    ) -> Result<Cursor<'b>, ServerFault>
-        ensures { IfOk result (λ behind. Reaches job begin.entry.lines.now behind run.old run.new) }
+    ) -> Result<Option<Cursor<'b>>, ServerFault>
+        ensures { IfOk result (λ ended. HasTriedAlone job begin.entry.lines.now ended run.old run.new) }
     {
         if !run.is_open() {
             return Err(ServerFault::Missing);
         }
-        let block = block_of(self.alloc, job, begin.lines, &mut run.drafts)?;
-        self.serve_at_once(run, begin.number, block)
+        let mut drafts = Drafts::new(self.alloc);
+        let block = block_of(self.alloc, job, begin.lines, &mut drafts)?;
+        let Block {
+            commands,
+            places,
+            musts,
+            rest,
+        } = block;
+        self.turns.note_writes(writes_in(&commands));
+        match self.run_block(&mut run.sessions.open, commands, &musts) {
+            Ok(SerialRun::Done(served)) => {
+                let behind = note_block(&mut run.replies, begin.number, places, served, rest)?;
+                Ok(Some(behind))
+            }
+            Ok(SerialRun::Blocked(place)) => {
+                let command = lock_at(self.alloc, job, begin.lines, place, &mut drafts)?;
+                self.wait_for(&mut run.sessions.open, &command)?;
+                Ok(None)
+            }
+            Err(fault) => Err(fault),
+        }
     }
 
     // Does a data command of a session that is there, and those right behind it.

@@ -1,8 +1,8 @@
 //! A command of a job, by the calls of its session.
-ghost use Rattle.std.specs.Prelude.{◌≡◌, ◌≢◌, ◌≤◌, true};
+ghost use Rattle.std.specs.Prelude.{◌≡◌, ◌≢◌, ◌≤◌, true, false, None, IfOk, OnOk};
 ghost use Rattle.command.specs.declared.request.Command.{Command};
 ghost use Rattle.command.specs.declared.request.Reply.{Reply};
-ghost use Rattle.shared_engine.specs.Blocks.{said};
+ghost use Rattle.shared_engine.specs.Blocks.{said, is_blocked};
 ghost use Rattle.job_server.specs.Telling.{Follows, HasLocked, names_some as has_some};
 
 use crate::replies::{answered, at_level, ended, finished, locked, restarted, written};
@@ -11,7 +11,7 @@ use command::{Answer, Command, DataCommand, Look, Reply};
 use lock_name::LockCommand;
 use pin_board::BoardName;
 use refusal::Refusal;
-use shared_engine::{Gate, Session, Shared};
+use shared_engine::{Gate, Session, Shared, Turn};
 use std::sync::Wait;
 
 /// The engine, the leave to wait, and what is called meanwhile.
@@ -32,23 +32,26 @@ impl<'a, B: BoardName, R, G> Drop for Calls<'a, B, R, G> {
 }
 
 impl<'a, B: BoardName, R: Wait, G: Gate> Calls<'a, B, R, G> {
-    /// The reply to a command of a session, but for HALT. `seconds` is a LOCK's timeout. The session goes on as the
-    /// reply tells, and a refusal has its cause.
+    /// The reply to a command of a session, but for HALT. `millis` is a LOCK's timeout; without one it isn't replied
+    /// that it was blocked. An outermost TCOMMIT takes a turn that is due. The session goes on as the reply tells, and a
+    /// refusal has its cause.
     #[tactic(auto, using(crate::proofs::Answering::follows_as, crate::proofs::Following::level_counted, crate::proofs::Following::restarts_counted))]
     pub(crate) fn reply_to(
         &self,
         session: &mut Session<B>,
         command: Command,
-        seconds: Option<u64>,
+        millis: Option<u64>,
+        turn: &mut Turn,
     ) -> Reply
         requires { command ≢ Command.Halt }
-        ensures { Follows command result session.old session.new }
+        ensures follows { Follows command result session.old session.new }
+        ensures had { millis ≡ None → is_blocked true result ≡ false }
     {
         match command {
             Command::Access(command) => answered(self.access(session, command)),
-            Command::Lock(command) => self.lock(session, command, seconds),
+            Command::Lock(command) => self.lock(session, command, millis),
             Command::Start => at_level(self.start(session)),
-            Command::Commit => self.commit(session),
+            Command::Commit => self.commit(session, turn),
             Command::Rollback => self.rollback(session),
             Command::Restart => self.restart(session),
             Command::Level => Reply::Count(session.tlevel()),
@@ -89,11 +92,12 @@ impl<'a, B: BoardName, R: Wait, G: Gate> Calls<'a, B, R, G> {
     }
 
     #[tactic(auto, using(crate::proofs::Answering::follows_as, crate::proofs::Following::locked_follows))]
-    fn lock(&self, session: &mut Session<B>, command: LockCommand, seconds: Option<u64>) -> Reply
-        ensures { Follows (Command.Lock command) result session.old session.new }
+    fn lock(&self, session: &mut Session<B>, command: LockCommand, millis: Option<u64>) -> Reply
+        ensures follows { Follows (Command.Lock command) result session.old session.new }
+        ensures had { millis ≡ None → is_blocked true result ≡ false }
     {
-        let done = match seconds {
-            Some(seconds) if has_names(&command) => self.lock_timed(session, &command, seconds),
+        let done = match millis {
+            Some(millis) if has_names(&command) => self.lock_timed(session, &command, millis),
             _ => self.lock_untimed(session, &command),
         };
         locked(&command, done)
@@ -104,17 +108,23 @@ impl<'a, B: BoardName, R: Wait, G: Gate> Calls<'a, B, R, G> {
         &self,
         session: &mut Session<B>,
         command: &LockCommand,
-        seconds: u64,
+        millis: u64,
     ) -> Result<bool, Refusal>
         requires { has_some command.now ≡ true }
         ensures { HasLocked command.now result session.old session.new }
     {
         self.engine
-            .lock_within(self.rt, session, command, seconds, self.gate)
+            .lock_within(self.rt, session, command, millis, self.gate)
     }
 
-    fn lock_untimed(&self, session: &mut Session<B>, command: &LockCommand) -> Result<bool, Refusal>
-        ensures { HasLocked command.now result session.old session.new }
+    /// LOCK without a timeout: it waits until it has its names, or is refused.
+    pub(crate) fn lock_untimed(
+        &self,
+        session: &mut Session<B>,
+        command: &LockCommand,
+    ) -> Result<bool, Refusal>
+        ensures locked { HasLocked command.now result session.old session.new }
+        ensures had { IfOk result (λ had. had ≡ true) }
     {
         match self.engine.lock(self.rt, session, command, self.gate) {
             Ok(()) => Ok(true),
@@ -140,19 +150,21 @@ impl<'a, B: BoardName, R: Wait, G: Gate> Calls<'a, B, R, G> {
     }
 
     #[tactic(auto, using(crate::proofs::Answering::follows_as, crate::proofs::Answering::commit_told, crate::proofs::Following::lower_follows, crate::proofs::Answering::no_commit))]
-    fn commit(&self, session: &mut Session<B>) -> Reply
-        ensures { Follows Command.Commit result session.old session.new }
+    fn commit(&self, session: &mut Session<B>, turn: &mut Turn) -> Reply
+        ensures follows { Follows Command.Commit result session.old session.new }
+        ensures other { is_blocked true result ≡ false }
     {
         match session.tlevel() {
             0 => Reply::Refused(Refusal::NoTransaction),
-            1 => ended(self.engine.tcommit(self.rt, session)),
+            1 => ended(self.engine.tcommit(self.rt, session, turn)),
             _ => Reply::AtLevel(session.tcommit_inner()),
         }
     }
 
     #[tactic(auto, using(crate::proofs::Answering::follows_as, crate::proofs::Answering::rollback_told, crate::proofs::Answering::no_rollback))]
     fn rollback(&self, session: &mut Session<B>) -> Reply
-        ensures { Follows Command.Rollback result session.old session.new }
+        ensures follows { Follows Command.Rollback result session.old session.new }
+        ensures other { is_blocked true result ≡ false }
     {
         if session.tlevel() == 0 {
             return Reply::Refused(Refusal::NoTransaction);
@@ -162,7 +174,8 @@ impl<'a, B: BoardName, R: Wait, G: Gate> Calls<'a, B, R, G> {
 
     #[tactic(auto, using(crate::proofs::Answering::follows_as, crate::proofs::Answering::restart_told, crate::proofs::Answering::no_restart))]
     fn restart(&self, session: &mut Session<B>) -> Reply
-        ensures { Follows Command.Restart result session.old session.new }
+        ensures follows { Follows Command.Restart result session.old session.new }
+        ensures other { is_blocked true result ≡ false }
     {
         if session.tlevel() == 0 {
             return Reply::Refused(Refusal::NoTransaction);

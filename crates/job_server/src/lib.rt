@@ -9,8 +9,10 @@
 //! by `Shared::run_serial`, under one hold of the engine's lock, which no TCOMMIT restarts. So only a TRESTART line is
 //! replied with a restart.
 //!
-//! A LOCK that is kept off waits: it tries again after each `Gate::between_tries`, and where it has a timeout after
-//! each `Gate::second`, for so many times.
+//! A LOCK that is kept off waits: it tries again after a `Gate::between_tries` or a `Gate::pause`, where it has a
+//! timeout until that is over. Without one it is never replied that it was blocked. Under `run_serial` a LOCK is one
+//! try; where one without a timeout is blocked there, the transaction begins anew, its job waits for the names, gives
+//! them back as it begins anew once more, and does the block again.
 //!
 //! | File | Does |
 //! |---|---|

@@ -1,6 +1,7 @@
 //! The listing that is loaded before the first job.
 ghost use Rattle.std.specs.Prelude.{◌≡◌, ◌<◌, ◌-◌, ◌∷◌, ◌++◌, ℕ, [], List, None, Ok, true, get_or, length, IfOk, IfErr, IfSome, IfNone, OnOk};
 ghost use Rattle.job_core.specs.Sessions.{idle};
+ghost use Rattle.journal.specs.declared.unit.Unit.{Unit as JournalUnit};
 ghost use Rattle.loading.specs.Settings.{Setting, before};
 ghost use Rattle.loading.specs.Pending.{asked_of};
 ghost use Rattle.shared_engine.specs.Sessions.{held};
@@ -43,7 +44,7 @@ fn open<B: BoardName, R: Wait>(
     alloc: Global,
     engine: &Shared<B>,
 ) -> Result<Session<B>, Unserved>
-    ensures session { IfOk result (λ session. session ≡ held (idle 1) None [] []) }
+    ensures session { IfOk result (λ session. (units : List JournalUnit) × (session ≡ held (idle 1) None [] [] units)) }
     ensures fault { IfErr result IsOfAnyLoad }
 {
     match engine.open(rt, alloc, loading_job()) {
@@ -53,7 +54,6 @@ fn open<B: BoardName, R: Wait>(
 }
 
 // Does a setting. A journal that were full would refuse it, but no listing has so many lines.
-#[tactic(auto, using(crate::proofs::Loads::set_by_lone))]
 fn set<B: BoardName, R: Wait>(
     rt: &R,
     engine: &Shared<B>,
@@ -105,7 +105,7 @@ fn close<B: BoardName, R: Wait>(
     engine: &Shared<B>,
     session: Session<B>,
 ) -> Result<Pass<B>, Unserved>
-    ensures booked { IfOk result (λ pass. (first : Setting) (more : List Setting) → HasSet (first ∷ more) session → (ended : ℕ) × (pass ≡ load_book ended (first ∷ more))) }
+    ensures booked { IfOk result (λ pass. (first : Setting) (more : List Setting) → HasSet (first ∷ more) session → (ended : List JournalUnit) × (pass ≡ load_book ended (first ∷ more))) }
     ensures fault { IfErr result IsOfAnyLoad }
 {
     if !ends_at_count(session.numbers()) {

@@ -1,8 +1,8 @@
 //! What calls of the engine are replied.
-ghost use Rattle.std.specs.Prelude.{◌≡◌};
+ghost use Rattle.std.specs.Prelude.{◌≡◌, true, false, IfOk};
 ghost use Rattle.command.specs.declared.request.Reply.TheVariants.{Answered, Finished as finished_reply, AtLevel, Restarted as restarted_reply};
 ghost use Rattle.serial.specs.Machine.{told_had};
-ghost use Rattle.shared_engine.specs.Blocks.{said};
+ghost use Rattle.shared_engine.specs.Blocks.{said, is_blocked};
 ghost use Rattle.job_server.specs.Replying.{written_as, ended_as};
 
 use command::{Answer, Reply};
@@ -12,7 +12,8 @@ use shared_engine::Ended;
 
 /// A data command's reply.
 pub(crate) fn answered(done: Result<Answer, Refusal>) -> Reply
-    ensures { result ≡ said Answered done }
+    ensures told { result ≡ said Answered done }
+    ensures other { is_blocked true result ≡ false }
 {
     match done {
         Ok(answer) => Reply::Answered(answer),
@@ -32,7 +33,8 @@ pub(crate) fn written(done: Result<(), Refusal>) -> Result<Answer, Refusal>
 
 /// The reply to a LOCK.
 pub(crate) fn locked(command: &LockCommand, done: Result<bool, Refusal>) -> Reply
-    ensures { result ≡ said (told_had command.now) done }
+    ensures told { result ≡ said (told_had command.now) done }
+    ensures had { IfOk done (λ had. had ≡ true) → is_blocked true result ≡ false }
 {
     match (command, done) {
         (_, Err(refusal)) => Reply::Refused(refusal),
@@ -43,7 +45,8 @@ pub(crate) fn locked(command: &LockCommand, done: Result<bool, Refusal>) -> Repl
 
 /// The reply to TSTART.
 pub(crate) fn at_level(done: Result<u64, Refusal>) -> Reply
-    ensures { result ≡ said AtLevel done }
+    ensures told { result ≡ said AtLevel done }
+    ensures other { is_blocked true result ≡ false }
 {
     match done {
         Ok(level) => Reply::AtLevel(level),
@@ -53,7 +56,8 @@ pub(crate) fn at_level(done: Result<u64, Refusal>) -> Reply
 
 /// The reply to the outermost TCOMMIT.
 pub(crate) fn ended(done: Result<Ended, Refusal>) -> Reply
-    ensures { result ≡ ended_as done }
+    ensures told { result ≡ ended_as done }
+    ensures other { is_blocked true result ≡ false }
 {
     match done {
         Ok(Ended::Committed) => Reply::Committed,
@@ -64,7 +68,8 @@ pub(crate) fn ended(done: Result<Ended, Refusal>) -> Reply
 
 /// The reply to TROLLBACK.
 pub(crate) fn finished(done: Result<(), Refusal>) -> Reply
-    ensures { result ≡ said (λ d. finished_reply) done }
+    ensures told { result ≡ said (λ d. finished_reply) done }
+    ensures other { is_blocked true result ≡ false }
 {
     match done {
         Ok(()) => Reply::Finished,
@@ -74,7 +79,8 @@ pub(crate) fn finished(done: Result<(), Refusal>) -> Reply
 
 /// The reply to TRESTART.
 pub(crate) fn restarted(done: Result<u64, Refusal>) -> Reply
-    ensures { result ≡ said restarted_reply done }
+    ensures told { result ≡ said restarted_reply done }
+    ensures other { is_blocked true result ≡ false }
 {
     match done {
         Ok(restarts) => Reply::Restarted(restarts),

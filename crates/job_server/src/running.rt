@@ -5,6 +5,8 @@ ghost use Rattle.command.specs.declared.request.Reply.{Reply};
 ghost use Rattle.job_scripts.specs.Lines.{IsReadFor};
 ghost use Rattle.shared_engine.specs.Receipts.{Book};
 ghost use Rattle.shared_engine.specs.Engines.{OnOkThat, OnOkNot};
+ghost use Rattle.shared_engine.specs.Blocks.{is_blocked};
+ghost use Rattle.job_server.specs.Told.{IsHad};
 ghost use Rattle.job_server.specs.Telling.{is_open as is_open_in, GoesOnUntold, GoesOnBy, MayGoOnAt, HasStopped, IsNoCommit, Keeps, HasAnswered, Advances, sessions_so_far, not_begun};
 
 use crate::ServerFault;
@@ -158,6 +160,7 @@ impl<'a, B: BoardName, R: Wait, G: Gate> Worker<'a, B, R, G> {
     // HALT of the session that is there. Where it is refused the session goes on.
     fn halt(&self, sessions: &mut Sessions<B>) -> Result<Reply, ServerFault>
         ensures told { IfOk result (λ reply. (job : ℕ) → GoesOnBy job Command.Halt reply sessions.old sessions.new) }
+        ensures other { IfOk result (λ reply. is_blocked true reply ≡ false) }
         ensures over { IfOk result (λ reply. reply ≡ Reply.Finished → sessions.new.session ≡ None) }
     {
         sessions.passes.reserve(1)?;
@@ -179,7 +182,6 @@ impl<'a, B: BoardName, R: Wait, G: Gate> Worker<'a, B, R, G> {
     }
 
     // The same, with room for the pass.
-    #[tactic(auto, using(crate::proofs::GoingOn::halt_refused))]
     fn halt_reserved(
         &self,
         session: &mut Option<Session<B>>,
@@ -187,6 +189,7 @@ impl<'a, B: BoardName, R: Wait, G: Gate> Worker<'a, B, R, G> {
     ) -> Result<Reply, ServerFault>
         requires { length passes.old.items < vec_capacity passes.old }
         ensures told { IfOk result (λ reply. (job : ℕ) → GoesOnBy job Command.Halt reply (sessions_so_far passes.old.items session.old) (sessions_so_far passes.new.items session.new)) }
+        ensures other { IfOk result (λ reply. is_blocked true reply ≡ false) }
         ensures over { IfOk result (λ reply. reply ≡ Reply.Finished → session.new ≡ None) }
     {
         let Some(begun) = session.take() else {
@@ -207,16 +210,20 @@ impl<'a, B: BoardName, R: Wait, G: Gate> Worker<'a, B, R, G> {
     // The reply to a command of a session that is there, but for HALT.
     #[tactic(auto, using(crate::proofs::GoingOn::step_goes))]
     fn reply_in(
-        &self,
+        &mut self,
         session: &mut Option<Session<B>>,
         command: Command,
         line: &[u8],
     ) -> Result<Reply, ServerFault>
         requires { command ≢ Command.Halt }
-        ensures { IfOk result (λ reply. (job : ℕ) (books : List Book) → GoesOnBy job command reply (sessions_so_far books session.old) (sessions_so_far books session.new)) }
+        ensures told { IfOk result (λ reply. (job : ℕ) (books : List Book) → GoesOnBy job command reply (sessions_so_far books session.old) (sessions_so_far books session.new)) }
+        ensures had { IfOk result (λ reply. IsHad line.now reply) }
     {
         match session {
-            Some(session) => Ok(self.calls.reply_to(session, command, timeout_of(line))),
+            Some(session) => Ok(
+                self.calls
+                    .reply_to(session, command, timeout_of(line), &mut self.turns.next),
+            ),
             None => {
                 drop(command);
                 Err(ServerFault::Missing)
@@ -226,12 +233,13 @@ impl<'a, B: BoardName, R: Wait, G: Gate> Worker<'a, B, R, G> {
 
     // The reply to a command, where a session is there.
     fn reply_opened(
-        &self,
+        &mut self,
         sessions: &mut Sessions<B>,
         command: Command,
         line: &[u8],
     ) -> Result<Reply, ServerFault>
-        ensures { IfOk result (λ reply. (job : ℕ) → GoesOnBy job command reply sessions.old sessions.new) }
+        ensures told { IfOk result (λ reply. (job : ℕ) → GoesOnBy job command reply sessions.old sessions.new) }
+        ensures had { IfOk result (λ reply. IsHad line.now reply) }
     {
         if is_halt(&command) {
             drop(command);
@@ -242,13 +250,14 @@ impl<'a, B: BoardName, R: Wait, G: Gate> Worker<'a, B, R, G> {
 
     // The reply to a command.
     fn reply_to(
-        &self,
+        &mut self,
         sessions: &mut Sessions<B>,
         job: Job,
         command: Command,
         line: &[u8],
     ) -> Result<Reply, ServerFault>
-        ensures { IfOk result (λ reply. GoesOnBy job command reply sessions.old sessions.new) }
+        ensures told { IfOk result (λ reply. GoesOnBy job command reply sessions.old sessions.new) }
+        ensures had { IfOk result (λ reply. IsHad line.now reply) }
     {
         match self.open(job, &mut sessions.open) {
             Ok(()) => self.reply_opened(sessions, command, line),
@@ -262,7 +271,7 @@ impl<'a, B: BoardName, R: Wait, G: Gate> Worker<'a, B, R, G> {
     // The reply to a line.
     #[tactic(auto, using(crate::proofs::GoingOn::asked_goes, crate::proofs::GoingOn::refused_goes, crate::proofs::GoingOn::same_goes))]
     fn reply_asked(
-        &self,
+        &mut self,
         sessions: &mut Sessions<B>,
         job: Job,
         line: &[u8],
@@ -288,12 +297,14 @@ impl<'a, B: BoardName, R: Wait, G: Gate> Worker<'a, B, R, G> {
         requires { IsReadFor job line.text.now asked }
         ensures { IfOk result (λ reply. MayGoOnAt job line.entry.text.now asked reply sessions.old sessions.new) }
     {
-        let writes = writes_of(&asked);
+        self.turns.note_writes(writes_of(&asked));
         self.calls.gate.before(job, line.number);
         match self.reply_asked(sessions, job, line.text, asked) {
             Ok(reply) => {
                 self.calls.gate.after(job, line.number);
-                self.note_writes(writes);
+                if self.calls.gate.watches_lines() {
+                    self.take_turn();
+                }
                 Ok(reply)
             }
             Err(fault) => Err(fault),

@@ -1,5 +1,6 @@
 //! The workers, the channels, the reports in order.
 ghost use Rattle.std.specs.Prelude.{◌≡◌, ◌+◌, ℕ, List, IfOk, IfErr, OnOk, map, take, length};
+ghost use Rattle.journal.specs.declared.unit.Unit.{Unit as JournalUnit};
 ghost use Rattle.loading.specs.Settings.{Setting};
 ghost use Rattle.job_server.specs.Loads.{load_books, BeginsWith, IsUnservedBy};
 ghost use Rattle.job_server.specs.Served.{Wanted, wanted, AreHanded, AreBooked, AreServed};
@@ -243,8 +244,8 @@ fn serve_on<B: BoardName + Batch + Send + Sync, R: Threads + Wait + Sync, G: Gat
     gate: &G,
 ) -> Result<Served, ServerFault>
     requires { map wanted scripts.items ≡ B.scripts }
-    ensures begins { IfOk result (λ served. (ended : ℕ) (settings : List Setting) → loaded.items ≡ load_books ended settings → BeginsWith settings served.closed.core.units) }
-    ensures booked { IfOk result (λ served. (ended : ℕ) (settings : List Setting) → loaded.items ≡ load_books ended settings → ∥ AreBooked settings (map wanted scripts.items) served.reports.items served.closed.core.units served.closed.sessions ∥₁) }
+    ensures begins { IfOk result (λ served. (ended : List JournalUnit) (settings : List Setting) → loaded.items ≡ load_books ended settings → BeginsWith settings served.closed.core.units) }
+    ensures booked { IfOk result (λ served. (ended : List JournalUnit) (settings : List Setting) → loaded.items ≡ load_books ended settings → ∥ AreBooked settings (map wanted scripts.items) served.reports.items served.closed.core.units served.closed.sessions ∥₁) }
 {
     let count = scripts.len();
     let gathered = share_out(rt, alloc, &engine, scripts, workers, gate)?;

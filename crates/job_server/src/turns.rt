@@ -1,4 +1,5 @@
 //! When a worker lets the collector look at some keys, and at how many. No proof rests on it.
+use shared_engine::Turn;
 
 // After how many lines that write there is a turn.
 const WRITES_PER_TURN: u64 = 64;
@@ -8,13 +9,18 @@ const MOST_KEYS: usize = 64;
 
 const FEWEST_KEYS: usize = 8;
 
+// The same of one in place of several that fell due before a hold came, as in a long transaction.
+const MOST_KEYS_AT_ONCE: usize = 1024;
+
 /// The turns of one worker.
 #[derive(Drop)]
 pub(crate) struct Turns {
     // How many lines that write were done.
     writes: u64,
-    // At how many keys the next turn looks.
+    // At how many keys a turn looks that falls due.
     keys: usize,
+    /// The turn that goes with the next hold of the engine's lock in which lines may write.
+    pub(crate) next: Turn,
 }
 
 impl Turns {
@@ -23,23 +29,36 @@ impl Turns {
         Turns {
             writes: 0,
             keys: MOST_KEYS,
+            next: Turn::NotDue,
         }
     }
 
-    /// Counts lines that write, once they are done; answers at how many keys to look, where a turn is due.
-    pub(crate) fn note_writes(&mut self, count: u64) -> Option<usize> {
+    /// Counts lines that write, before they are done: with each 64th a turn falls due.
+    pub(crate) fn note_writes(&mut self, count: u64) {
+        self.note_taken();
         let before = self.writes / WRITES_PER_TURN;
         self.writes = self.writes.wrapping_add(count);
-        if self.writes / WRITES_PER_TURN == before {
-            return None;
+        if self.writes / WRITES_PER_TURN != before {
+            self.next = self.next_with_one_more();
         }
-        Some(self.keys)
     }
 
-    /// Takes in a turn that dropped so many versions: after one that found none the next looks at half as many keys,
-    /// else at twice as many.
-    pub(crate) fn note_dropped(&mut self, dropped: usize) {
-        self.keys = if dropped == 0 {
+    // The turn that is due where one more falls due.
+    fn next_with_one_more(&self) -> Turn {
+        match self.next {
+            Turn::Due(keys) => Turn::Due(keys.saturating_add(self.keys).min(MOST_KEYS_AT_ONCE)),
+            Turn::NotDue | Turn::Taken(_) => Turn::Due(self.keys),
+        }
+    }
+
+    // Takes in a turn that was taken: after one that found nothing the next looks at half as many keys, else at twice
+    // as many.
+    fn note_taken(&mut self) {
+        let Turn::Taken(progress) = self.next else {
+            return;
+        };
+        self.next = Turn::NotDue;
+        self.keys = if progress.dropped == 0 {
             (self.keys / 2).max(FEWEST_KEYS)
         } else {
             self.keys.saturating_mul(2).min(MOST_KEYS)

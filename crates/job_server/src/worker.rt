@@ -21,7 +21,7 @@ use job_scripts::{Report, Script, read_for};
 use pin_board::BoardName;
 use refusal::Refusal;
 use script::{Drafts, LineFault, read_line};
-use shared_engine::{Gate, Pass, Stop};
+use shared_engine::{Gate, Pass, Stop, Turn};
 use std::alloc::{AllocError, Global};
 use std::marker::{Brand, PhantomData};
 use std::sync::Wait;
@@ -210,13 +210,12 @@ impl<'a, B: BoardName, R, G> Drop for Worker<'a, B, R, G> {
 }
 
 impl<'a, B: BoardName, R: Wait, G: Gate> Worker<'a, B, R, G> {
-    /// Counts lines that write, once they are done, and lets the collector look at some keys where a turn is due. One
-    /// that finds no memory is passed over.
-    pub(crate) fn note_writes(&mut self, count: u64) {
-        if let Some(keys) = self.turns.note_writes(count)
-            && let Ok(turn) = self.calls.engine.collect(self.calls.rt, keys)
+    /// Takes a turn that is due in a hold of its own. Where lines are watched none of them shares a hold.
+    pub(crate) fn take_turn(&mut self) {
+        if let Turn::Due(keys) = self.turns.next
+            && let Ok(progress) = self.calls.engine.collect(self.calls.rt, keys)
         {
-            self.turns.note_dropped(turn.dropped);
+            self.turns.next = Turn::Taken(progress);
         }
     }
 
@@ -287,8 +286,8 @@ impl<'a, B: BoardName, R: Wait, G: Gate> Worker<'a, B, R, G> {
         }
     }
 
-    // The fault with which jobs end, where the gate stops them.
-    fn check_stop(&self) -> Result<(), ServerFault> {
+    /// The fault with which jobs end, where the gate stops them.
+    pub(crate) fn check_stop(&self) -> Result<(), ServerFault> {
         match self.calls.gate.stop() {
             Some(stop) => Err(fault_of_stop(stop)),
             None => Ok(()),

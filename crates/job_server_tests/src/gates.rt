@@ -33,7 +33,13 @@ impl Gate for Yielding {
         thread::yield_now();
     }
 
-    fn second(&self, _job: Job) {}
+    fn pause(&self, _job: Job, _millis: u64) {
+        thread::yield_now();
+    }
+
+    fn now(&self) -> u64 {
+        0
+    }
 
     fn waits(&self, _job: Job, _command: &LockCommand) -> Mark {
         Mark {
@@ -65,7 +71,7 @@ pub struct Counts {
     before: Vec<AtomicU64>,
     after: Vec<AtomicU64>,
     tries: Vec<AtomicU64>,
-    seconds: AtomicU64,
+    paused: AtomicU64,
     late: AtomicU64,
 }
 
@@ -102,7 +108,7 @@ impl Counts {
             before: zeros(alloc, (JOBS + 1) * LINES)?,
             after: zeros(alloc, (JOBS + 1) * LINES)?,
             tries: zeros(alloc, JOBS + 1)?,
-            seconds: AtomicU64::new(0),
+            paused: AtomicU64::new(0),
             late: AtomicU64::new(0),
         })
     }
@@ -116,6 +122,11 @@ impl Counts {
         add_one(&self.after, place(job.number() as u64, line));
     }
 
+    /// How often the line was done.
+    pub fn times(&self, job: u64, line: u64) -> u64 {
+        count_at(&self.after, place(job, line))
+    }
+
     pub fn note_try(&self, job: Job) {
         add_one(&self.tries, job.number() as usize);
     }
@@ -125,13 +136,13 @@ impl Counts {
         count_at(&self.tries, job.min(JOBS as u64) as usize)
     }
 
-    pub fn note_second(&self) {
-        self.seconds.fetch_add(1, Ordering::SeqCst);
+    pub fn note_pause(&self, millis: u64) {
+        self.paused.fetch_add(millis, Ordering::SeqCst);
     }
 
-    /// How many seconds passed.
-    pub fn seconds(&self) -> u64 {
-        self.seconds.load(Ordering::SeqCst)
+    /// How many milliseconds passed in pauses.
+    pub fn paused(&self) -> u64 {
+        self.paused.load(Ordering::SeqCst)
     }
 
     /// How many waits were in vain.

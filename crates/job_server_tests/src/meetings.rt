@@ -15,6 +15,9 @@ use std::test::Fail;
 use std::thread;
 use std::thread::Threads;
 
+// How often a block is tried before it is done alone.
+const TRIES: u64 = 3;
+
 // What the jobs of a test wait for.
 #[derive(Clone, Copy, PartialEq, Eq)]
 enum Plan {
@@ -26,6 +29,10 @@ enum Plan {
     Timeout,
     // Each try of job 1's block is overtaken by a line of job 2.
     Overtaking,
+    // The same, and job 2 has locked a name behind the third try; it goes on once job 1 waits.
+    Held,
+    // The same, and job 2 goes on once job 1's line behind its block was done.
+    HeldOn,
     // The second line of each comes after the other's first, and jobs are stopped once each has tried a LOCK in vain.
     Crossing,
     // Nothing.
@@ -57,11 +64,26 @@ impl<'a, P: Clock> Meeting<'a, P> {
             (Plan::Timeout, 2, 1) => self.counts.wait_for_line(self.rt, 1, 1, 1),
             (Plan::Timeout, 1, 2) => self.counts.wait_for_line(self.rt, 2, 1, 1),
             (Plan::Handover, 1, 2) => self.counts.wait_for_try(self.rt, 2),
-            (Plan::Overtaking, 2, _) => self.counts.wait_for_line(self.rt, 1, 2, line),
-            (Plan::Overtaking, 1, 4) => self.counts.wait_for_line(self.rt, 2, times, 1),
+            (Plan::Held | Plan::HeldOn, 2, 4) => self.counts.wait_for_line(self.rt, 1, 4, TRIES),
+            (Plan::Held, 2, 5) => self.counts.wait_for_try(self.rt, 1),
+            (Plan::HeldOn, 2, 5) => self.counts.wait_for_line(self.rt, 1, 4, TRIES + 1),
+            (Plan::Overtaking | Plan::Held | Plan::HeldOn, 2, 1..=3) => {
+                self.counts.wait_for_line(self.rt, 1, 2, line)
+            }
+            (Plan::Overtaking | Plan::Held | Plan::HeldOn, 1, 4) => {
+                self.counts.wait_for_line(self.rt, 2, times, 1)
+            }
             (Plan::Crossing, 1, 2) => self.counts.wait_for_line(self.rt, 2, 1, 1),
             (Plan::Crossing, 2, 2) => self.counts.wait_for_line(self.rt, 1, 1, 1),
             _ => {}
+        }
+    }
+
+    // Waits behind job 1's last try but the one alone, until job 2 has the name.
+    fn wait_behind(&self, job: u64, line: u64) {
+        let is_held = matches!(self.plan, Plan::Held | Plan::HeldOn);
+        if is_held && job == 1 && line == 4 && self.counts.times(1, 4) == TRIES {
+            self.counts.wait_for_line(self.rt, 2, 4, 1);
         }
     }
 }
@@ -78,6 +100,7 @@ impl<'a, P: Clock> Gate for Meeting<'a, P> {
 
     fn after(&self, job: Job, line: u64) {
         self.counts.note_after(job, line);
+        self.wait_behind(job.number() as u64, line);
     }
 
     fn between_tries(&self, job: Job) {
@@ -85,8 +108,13 @@ impl<'a, P: Clock> Gate for Meeting<'a, P> {
         thread::yield_now();
     }
 
-    fn second(&self, _job: Job) {
-        self.counts.note_second();
+    fn pause(&self, _job: Job, millis: u64) {
+        self.counts.note_pause(millis);
+        thread::yield_now();
+    }
+
+    fn now(&self) -> u64 {
+        0
     }
 
     fn waits(&self, _job: Job, _command: &LockCommand) -> Mark {
@@ -120,7 +148,7 @@ impl<'a, P: Clock> Gate for Meeting<'a, P> {
     fn job_done(&self, _done: u64, _jobs: u64, _lines: u64) {}
 }
 
-// What a script writes on two workers, how many waits were in vain, and how many seconds passed.
+// What a script writes on two workers, how many waits were in vain, and how many milliseconds passed in pauses.
 fn met<P: Clock + Threads + Wait + Sync>(
     rt: &P,
     alloc: Global,
@@ -137,7 +165,7 @@ fn met<P: Clock + Threads + Wait + Sync>(
     let mut writer = Counted::new(Vec::new(alloc));
     run_jobs(rt, alloc, b"", &mut reader, &mut writer, 2, &gate)?;
     let text = Vec::from_slice(alloc, writer.inner())?;
-    Ok((text, counts.late(), counts.seconds()))
+    Ok((text, counts.late(), counts.paused()))
 }
 
 // Whether a script writes this, with no wait in vain.
@@ -262,23 +290,52 @@ fn a_block_is_run_alone_after_three_restarts(rt: HostRuntime) -> Result<(), Fail
     Ok(())
 }
 
-// Whether a script writes this within so many seconds, with no wait in vain.
+// Job 2's lines in front of those behind its LOCK.
+const HOLDING: &[u8] = b"2 SET ^X=1\n2 SET ^X=2\n2 SET ^X=3\n2 LOCK +^L\n";
+
+fn held_script(alloc: Global, block: &[u8], rest: &[u8]) -> Result<Vec<u8>, AllocError> {
+    let mut script = Vec::from_slice(alloc, block)?;
+    script.extend_from_slice(HOLDING)?;
+    script.extend_from_slice(rest)?;
+    Ok(script)
+}
+
+#[test]
+fn a_block_done_alone_waits_for_names_and_begins_anew(rt: HostRuntime) -> Result<(), Fail> {
+    let block = b"1 TSTART\n1 $GET(^X)\n1 LOCK +^L\n1 TCOMMIT\n";
+    let script = held_script(rt.alloc(), block, b"2 SET ^X=4\n2 LOCK -^L\n")?;
+    let want = b"1 level 1\n1 4\n1 1\n1 committed\n2 ok\n2 ok\n2 ok\n2 1\n2 ok\n2 1\n--\n^X=4\n";
+    assert!(rt; is_met(&rt, rt.alloc(), Plan::Held, &script, want)?);
+    Ok(())
+}
+
+#[test]
+fn a_lock_with_a_timeout_in_a_block_done_alone_is_one_try(rt: HostRuntime) -> Result<(), Fail> {
+    let block = b"1 TSTART\n1 $GET(^X)\n1 LOCK +^L:9\n1 TCOMMIT\n1 SET ^Y=1\n";
+    let script = held_script(rt.alloc(), block, b"2 SET ^X=4\n")?;
+    let want =
+        b"1 level 1\n1 3\n1 0\n1 committed\n1 ok\n2 ok\n2 ok\n2 ok\n2 1\n2 ok\n--\n^X=4\n^Y=1\n";
+    assert!(rt; is_met(&rt, rt.alloc(), Plan::HeldOn, &script, want)?);
+    Ok(())
+}
+
+// Whether a script writes this with pauses of so many milliseconds, and no wait in vain.
 fn is_met_in<P: Clock + Threads + Wait + Sync>(
     rt: &P,
     alloc: Global,
     input: &[u8],
     want: &[u8],
-    seconds: u64,
+    millis: u64,
 ) -> Result<bool, Fail> {
-    let (text, late, passed) = met(rt, alloc, Plan::Timeout, input)?;
-    Ok(late == 0 && passed == seconds && text.as_slice() == want)
+    let (text, late, paused) = met(rt, alloc, Plan::Timeout, input)?;
+    Ok(late == 0 && paused == millis && text.as_slice() == want)
 }
 
 #[test]
 fn a_lock_with_a_timeout_gives_up(rt: HostRuntime) -> Result<(), Fail> {
     let script = b"1 LOCK +^A\n1 TSTART\n2 LOCK +^A:3\n2 LOCK -^A:9\n1 TROLLBACK\n";
     let want = b"1 1\n1 level 1\n1 ok\n2 0\n2 1\n--\n";
-    assert!(rt; is_met_in(&rt, rt.alloc(), script, want, 3)?);
+    assert!(rt; is_met_in(&rt, rt.alloc(), script, want, 3_000)?);
     Ok(())
 }
 

@@ -6,7 +6,7 @@ use job_server::{run_jobs, serve};
 use listing::Counted;
 use loading::NoLog;
 use script_run::{Upkeep, run_script};
-use std::alloc::Global;
+use std::alloc::{AllocError, Global};
 use std::sync::Wait;
 use std::test::Fail;
 use std::thread::Threads;
@@ -173,5 +173,38 @@ fn transactions_of_one_job_are_answered_as_by_mrun(rt: HostRuntime) -> Result<()
 fn locks_of_one_job_are_answered_as_by_mrun(rt: HostRuntime) -> Result<(), Fail> {
     assert_eq!(rt; first_other(&rt, rt.alloc(), &OUTSIDE)?, None);
     assert_eq!(rt; first_other(&rt, rt.alloc(), &INSIDE)?, None);
+    Ok(())
+}
+
+// How many lone SETs a job has, and how many blocks: more than a turn of the collector waits for.
+const SETS: u64 = 150;
+
+const BLOCKS: u64 = 50;
+
+// A job's lines, on nodes of its own: a run of SETs, then blocks.
+fn push_job(alloc: Global, text: &mut Vec<u8>, job: u64) -> Result<(), AllocError> {
+    for i in 0..SETS {
+        let node = i % 10;
+        let line = format!(in alloc; "{job} SET ^A({job},{node})={i}\n")?;
+        text.extend_from_slice(line.as_bytes())?;
+    }
+    for i in 0..BLOCKS {
+        let node = i % 10;
+        let block = format!(in alloc;
+            "{job} TSTART\n{job} SET ^A({job})={i}\n{job} KILL ^A({job},{node})\n{job} $GET(^A({job}))\n{job} TCOMMIT\n"
+        )?;
+        text.extend_from_slice(block.as_bytes())?;
+    }
+    Ok(())
+}
+
+#[test]
+fn jobs_apart_are_answered_as_one_after_the_other(rt: HostRuntime) -> Result<(), Fail> {
+    let mut script = Vec::new(rt.alloc());
+    for job in 1..=4u64 {
+        push_job(rt.alloc(), &mut script, job)?;
+    }
+    let (text, refused) = output_of_one(rt.alloc(), &script)?;
+    assert!(rt; writes(&rt, rt.alloc(), &script, 4, &text, refused)?);
     Ok(())
 }

@@ -56,7 +56,13 @@ impl Gate for Yielding {
         thread::yield_now();
     }
 
-    fn second(&self, _job: collation::Job) {}
+    fn pause(&self, _job: collation::Job, _millis: u64) {
+        thread::yield_now();
+    }
+
+    fn now(&self) -> u64 {
+        0
+    }
 
     fn waits(&self, _job: collation::Job, _command: &LockCommand) -> Mark {
         Mark {

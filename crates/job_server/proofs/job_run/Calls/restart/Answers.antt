@@ -5,7 +5,7 @@ use Rattle.shared_engine.specs.Blocks.{said}
 use Rattle.job_server.proofs.Answering.{follows_as, restart_told}
 use Rattle.job_server.proofs.job_run.Calls.restart.Goals as goal
 
-pub returns : goal.returns
-returns g c =
+pub returns-clause-follows : goal.returns-clause-follows
+returns-clause-follows g c =
     follows_as Restart (said restarted_reply c.trestart.result) c.restarted.result c.args.session.now c.trestart.new.session
-    (restart_told c.trestart.result c.args.session.now c.trestart.new.session (search rules) c.trestart.ensures.anew c.trestart.ensures.refused c.trestart.ensures.cause) c.restarted.ensures
+    (restart_told c.trestart.result c.args.session.now c.trestart.new.session (search rules) c.trestart.ensures.done) c.restarted.ensures.told

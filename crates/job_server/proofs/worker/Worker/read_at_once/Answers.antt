@@ -16,7 +16,7 @@ returns-in-Ok-clause-served g c =
     let same : running replies (sessions_so_far books sessions.open) ≡ c.args.run.now = (λ i. running (c.run-inside.view_is i).replies.items (c.run-inside.view_is i).sessions) ∙ c.run.view_is in
     on_ok_weaker c.note_block.result
     (λ is job lines in_front. subst (λ (x : Running). Serves job lines rest x new) same
-    (reads_serve job lines rest block.places.items block.commands.items c.in-Ok.served.items replies c.note_block.new.replies.items books sessions.open c.read_block.new.session c.requires in_front c.in-Ok.ensures is))
+    (reads_serve job lines rest block.places.items block.commands.items block.musts.items c.in-Ok.served.items replies c.note_block.new.replies.items books sessions.open c.read_block.new.session c.requires in_front c.in-Ok.ensures is))
     c.note_block.ensures.replies
 
 pub returns-in-Ok-clause-keeps : goal.returns-in-Ok-clause-keeps

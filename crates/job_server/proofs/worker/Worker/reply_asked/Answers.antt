@@ -1,11 +1,10 @@
 use Rattle.std.proofs.Common.{sym, subst}
 use Rattle.std.specs.Prelude.{Result}
-use Rattle.std.proofs.lemmas.Result.{IfOk-weaker}
 use Rattle.refusal.specs.declared.Refusal.{Refusal}
 use Rattle.command.specs.declared.request.Command.{Command}
 use Rattle.job_scripts.specs.Lines.{IsReadFor}
 use Rattle.job_server.specs.Telling.{MayGoOnAt}
-use Rattle.job_server.proofs.GoingOn.{asked_goes}
+use Rattle.job_server.proofs.GoingOn.{asked_goes, both_ok}
 use Rattle.job_server.proofs.worker.Worker.reply_asked.Goals as goal
 
 pub returns-in-Ok : goal.returns-in-Ok
@@ -15,6 +14,6 @@ returns-in-Ok g c =
     let old = c.args.sessions.now in
     let new = c.reply_to.new.sessions in
     let asks = subst (λ (a : Result Command Refusal). IsReadFor job line a) c.in-Ok.is c.requires in
-    IfOk-weaker c.reply_to.result _ _
-    (λ reply h. subst (λ (a : Result Command Refusal). MayGoOnAt job line a reply old new) (sym c.in-Ok.is) (asked_goes job line c.in-Ok.command reply old new asks h))
-    c.reply_to.ensures
+    both_ok c.reply_to.result
+    (λ reply h had. subst (λ (a : Result Command Refusal). MayGoOnAt job line a reply old new) (sym c.in-Ok.is) (asked_goes job line c.in-Ok.command reply old new asks h had))
+    c.reply_to.ensures.told c.reply_to.ensures.had

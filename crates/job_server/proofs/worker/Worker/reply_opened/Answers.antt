@@ -6,12 +6,12 @@ use Rattle.job_server.specs.Telling.{GoesOnBy, sessions_so_far}
 use Rattle.job_server.proofs.GoingOn.{goes_from}
 use Rattle.job_server.proofs.worker.Worker.reply_opened.Goals as goal
 
-pub returns-then-is_halt : goal.returns-then-is_halt
-returns-then-is_halt g c =
+pub returns-then-is_halt-clause-told : goal.returns-then-is_halt-clause-told
+returns-then-is_halt-clause-told g c =
     subst (λ (x : Command). IfOk c.halt.result (λ (reply : Reply). (job : ℕ) → GoesOnBy job x reply c.args.sessions.now c.halt.new.sessions)) (sym (c.is_halt.ensures.halts c.if-is_halt.true)) c.halt.ensures.told
 
-pub returns : goal.returns
-returns g c =
+pub returns-clause-told : goal.returns-clause-told
+returns-clause-told g c =
     let books = c.sessions.inside.passes.items in
     IfOk-weaker c.reply_in.result _ _
-    (λ reply h job. goes_from job c.args.command reply (sessions_so_far books c.sessions.inside.open) c.args.sessions.now (sessions_so_far books c.reply_in.new.session) c.sessions.view_is (h job books)) c.reply_in.ensures
+    (λ reply h job. goes_from job c.args.command reply (sessions_so_far books c.sessions.inside.open) c.args.sessions.now (sessions_so_far books c.reply_in.new.session) c.sessions.view_is (h job books)) c.reply_in.ensures.told

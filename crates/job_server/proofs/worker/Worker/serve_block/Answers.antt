@@ -1,8 +1,8 @@
-use Rattle.std.proofs.Common.{length, take, sym, ap, ◌∙◌}
-use Rattle.std.proofs.lemmas.Result.{IfOk-weaker}
+use Rattle.std.proofs.Common.{length, take, refl, sym, ap, ◌∙◌}
 use Rattle.job_server.specs.Telling.{Running, running, Reaches}
 use Rattle.job_server.proofs.GoingOn.{begins_again, begins_advances, cut_back}
 use Rattle.job_server.proofs.Ending.{where_none, where_some}
+use Rattle.job_server.proofs.Waiting.{tried_alone, tried_back}
 use Rattle.job_server.proofs.worker.Worker.serve_block.Goals as goal
 
 pub returns-in-Some : goal.returns-in-Some
@@ -25,7 +25,12 @@ tries-preserved g c =
       began = begins_again c.args.job c.args.line c.args.run.now before tried (running cut c.run-in-tries.inside.sessions) c.tries.invariant.began (where_none c.in_ok-place.field-0 c.in_ok-place.ensures.again none) (ap (λ (r : Running). r.sessions) view) same;
     }
 
-pub returns : goal.returns
-returns g c =
-    IfOk-weaker c.serve_serially.result _ _
-    (λ behind h. begins_advances c.args.job c.args.line behind c.args.run.now c.tries.run c.serve_serially.new.run c.requires.asks c.tries.invariant.began h) c.serve_serially.ensures
+pub returns-in-Some-3 : goal.returns-in-Some-3
+returns-in-Some-3 g c =
+    begins_advances c.args.job c.args.line c.in-Some-3.place c.args.run.now c.alone.run c.try_serially.new.run c.requires.asks c.alone.invariant.began
+    (tried_alone c.args.job c.args.line.next.lines.now c.in_ok-place-2.field-0 c.in-Some-3.place c.alone.run c.try_serially.new.run c.in_ok-place-2.ensures c.in-Some-3.is)
+
+pub alone-preserved : goal.alone-preserved
+alone-preserved g c =
+    let back = tried_back c.args.job c.args.line.next.lines.now c.in_ok-place-2.field-0 c.alone.run c.try_serially.new.run c.in_ok-place-2.ensures c.in_default-2.is in
+    record { began = begins_again c.args.job c.args.line c.args.run.now c.alone.run c.try_serially.new.run c.try_serially.new.run c.alone.invariant.began back.0 refl back.1 }

@@ -8,3 +8,9 @@ invariant-tries g l = record {
   kept : l.kept ≡ length l.run.replies;
   began : Begins l.fn.job l.fn.line l.fn.run l.run;
 }
+
+-- the same
+abbrev pub invariant-alone : goal.invariant-alone
+invariant-alone g l = record {
+  began : Begins l.fn.job l.fn.line l.fn.run l.run;
+}
