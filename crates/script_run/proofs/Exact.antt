@@ -7,7 +7,8 @@ use Rattle.command.specs.declared.request.Reply.{Reply}
 use Rattle.journal.specs.Story.{Machine}
 use Rattle.serial.specs.Memory.{is_out_of_memory}
 use Rattle.script.specs.Line.{reading_of}
-use Rattle.script_run.specs.Output.{Answer, told_by, IsReplyDue, IsAnswer, AreAnswers, IsOutput, exact_reply, exact_answers, text_with_ending, output_of, some_wanting}
+use Rattle.serial.specs.Answers.{IsReplyDue, told_by}
+use Rattle.script_run.specs.Output.{Answer, IsAnswer, AreAnswers, IsOutput, exact_reply, exact_answers, text_with_ending, output_of, some_wanting}
 use Rattle.script_run.specs.declared.outcome.Outcome.{Outcome}
 
 -- a reply that isn't refused memory is the one that is due

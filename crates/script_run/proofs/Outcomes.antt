@@ -3,7 +3,8 @@ use Rattle.std.proofs.Common.{◌≡◌, Bool, ◌||◌, List, [], ◌∷◌, �
 use Rattle.std.proofs.lemmas.List.Folds.{list_any-append}
 use Rattle.std.proofs.Math.Bool.{or-false, or_assoc}
 use Rattle.serial.specs.Memory.{is_out_of_memory}
-use Rattle.script_run.specs.Output.{Answer, is_refused, some_refused, some_wanting, with_reply, noted}
+use Rattle.command.specs.Replies.{is_refused}
+use Rattle.script_run.specs.Output.{Answer, some_refused, some_wanting, with_reply, noted}
 use Rattle.script_run.specs.declared.outcome.Outcome.{Outcome}
 
 -- fields alone

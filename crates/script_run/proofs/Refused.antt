@@ -7,7 +7,8 @@ use Rattle.command.specs.declared.request.Command.{Command}
 use Rattle.command.specs.declared.request.Reply.TheVariants.{Refused}
 use Rattle.journal.specs.Story.{Machine}
 use Rattle.script.specs.Line.{IsRefusalOf, reading_of}
-use Rattle.script_run.specs.Output.{IsReplyDue, IsAnswer, accepted_job}
+use Rattle.serial.specs.Answers.{IsReplyDue}
+use Rattle.script_run.specs.Output.{IsAnswer, accepted_job}
 
 pub refused_answer : (s : Machine) (line : List ℕ) (refusal : Refusal) → IsRefusalOf line refusal → IsAnswer s line (Refused refusal)
 refused_answer s line OutOfMemory h = inr (refl, h)

@@ -1,6 +1,6 @@
 -- Lines that were answered, and their replies gathered.
 use Rattle.std.proofs.Common.{◌≡◌, inl, ℕ, Bool, true, false, not, ◌&&◌, ◌||◌, List, ◌++◌, Option, None, Some, Ok, Err, Result, refl, sym, ap, subst, ◌∙◌}
-use Rattle.std.specs.Prelude.{if◌then◌else◌, is_some}
+use Rattle.std.specs.Prelude.{if◌then◌else◌}
 use Rattle.std.proofs.Math.Bool.{and-false, or-false}
 use Rattle.refusal.specs.declared.Refusal.{Refusal}
 use Rattle.command.specs.declared.access.DataCommand.{DataCommand}
@@ -10,23 +10,20 @@ use Rattle.command.specs.declared.request.Command.{Command}
 use Rattle.command.specs.declared.request.Command.TheVariants.{Access}
 use Rattle.command.specs.declared.request.Reply.{Reply}
 use Rattle.command.specs.declared.request.Reply.TheVariants.{Answered, Refused}
-use Rattle.journal.specs.Story.{Machine, Transaction, told}
+use Rattle.journal.specs.Story.{Machine, told}
 use Rattle.serial.specs.Machine.{IsReply}
 use Rattle.serial.specs.Memory.{is_out_of_memory}
 use Rattle.script.specs.Line.{IsReading, IsRefusalOf, reading_of, job_of_line}
 use Rattle.script.specs.Text.{reply_text}
 use Rattle.script_run.specs.OpenJobs.{open_after}
-use Rattle.script_run.specs.Output.{IsReplyDue, accepted_job, asks_halt, ends_session, is_halt, is_refused, told_by, with_reply}
+use Rattle.command.specs.Replies.{is_refused}
+use Rattle.serial.specs.Answers.{IsReplyDue, told_by}
+use Rattle.script_run.specs.Output.{accepted_job, asks_halt, ends_session, is_halt, with_reply}
 use Rattle.script_run.specs.Replies.{IsAnswered, IsGathered, IsLost}
 use Rattle.script_run.specs.declared.answers.Script.{Script}
 use Rattle.script_run.specs.declared.outcome.Outcome.{Outcome}
 use Rattle.script_run.proofs.Outcomes.{outcome_is}
 use Rattle.script_run.proofs.Refused.{refused_answer, none_accepted}
-
--- no transaction is open
-pub outside : (t : Option Transaction) → is_some t ≡ false → t ≡ None
-outside None h = refl
-outside (Some t) h = absurd (let both : true ≡ false = h in cc)
 
 -- a step's reply answers the line that asks for it
 pub of_step : (line : List ℕ) (job : ℕ) (command : Command) (reply : Reply) (s t : Machine) → IsReading line (Ok (job, command)) → IsReply job command reply s → t ≡ told job command reply s

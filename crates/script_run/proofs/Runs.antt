@@ -25,7 +25,8 @@ use Rattle.std.specs.Io.KnownBytes.{Appends}
 use Rattle.bstr.specs.Find.{IsFirstByte, is_byte}
 use Rattle.script_run.specs.Lines.{nonempty_line, lines_of, has_no_end, AreLinesBefore}
 use Rattle.script_run.proofs.Cut.{end_of, first_line, no_end, joined_line, has_no_end-append, none_before, line_before, lines_before}
-use Rattle.script_run.specs.Output.{Answer, IsReplyDue, IsAnswer, AreAnswers, told_by, left_by, exact_reply, exact_answers, ends_session, accepted_job, left_open, halts_of, left_at_end, text_of, with_reply, noted, ending}
+use Rattle.serial.specs.Answers.{IsReplyDue, told_by}
+use Rattle.script_run.specs.Output.{Answer, IsAnswer, AreAnswers, left_by, exact_reply, exact_answers, ends_session, accepted_job, left_open, halts_of, left_at_end, text_of, with_reply, noted, ending}
 use Rattle.script_run.proofs.Outcomes.{noted-none, noted-one, noted-then}
 use Rattle.script_run.specs.Replies.{IsGathered, IsLost}
 use Rattle.script_run.specs.Runs.{Ran, Broke, RanFront, BrokeFront, RanEnd, BrokeEnd}

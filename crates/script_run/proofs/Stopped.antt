@@ -25,7 +25,8 @@ use Rattle.script_run.specs.declared.fault.Fault.TheVariants.{Memory}
 use Rattle.script_run.specs.Faults.{fault_of}
 use Rattle.script_run.specs.Lines.{nonempty_line, lines_of, has_no_end}
 use Rattle.script.specs.Line.{reading_of}
-use Rattle.script_run.specs.Output.{Answer, IsAnswer, AreAnswers, told_by, left_by, left_open, left_at_end, halts_of, text_of, outcome_of, ending, IsBegun, IsEndingFront, HasKept}
+use Rattle.serial.specs.Answers.{told_by}
+use Rattle.script_run.specs.Output.{Answer, IsAnswer, AreAnswers, left_by, left_open, left_at_end, halts_of, text_of, outcome_of, ending, IsBegun, IsEndingFront, HasKept}
 use Rattle.script_run.specs.Replies.{IsLost}
 use Rattle.script_run.specs.Runs.{Ran, RanFront, HasRead, Stopped, StoppedFront, EndedFront, StoppedEnd, HasGathered}
 use Rattle.script_run.specs.declared.answers.Script.{Script}

@@ -1,4 +1,4 @@
--- The text of a fault, and which fault of a script a fault of its output is. Source: docs/FORMATS.md, "Faults of a run".
+-- The text of a fault, and which fault of a script a fault of its output is. Source: docs/PROGRAMS.md, "Exit status".
 use Rattle.std.specs.Prelude.{ℕ, List, codes}
 use Rattle.listing.specs.declared.nodes.ListingFault.{ListingFault}
 use Rattle.listing.specs.declared.nodes.ListingFault.TheVariants.{Write as ListingWrite, Memory as ListingMemory}

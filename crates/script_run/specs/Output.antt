@@ -4,15 +4,16 @@ use Rattle.std.specs.Prelude.{◌≡◌, ◌⊎◌, ⊤, ℕ, Bool, true, false,
 use Rattle.std.specs.List.{flat_map, list_any}
 use Rattle.std.specs.Io.KnownBytes.{Appends}
 use Rattle.refusal.specs.declared.Refusal.{Refusal}
-use Rattle.refusal.specs.declared.Refusal.TheVariants.{OutOfMemory}
 use Rattle.collation.specs.Database.{Database}
 use Rattle.command.specs.declared.request.Command.{Command}
 use Rattle.command.specs.declared.request.Command.TheVariants.{Access, Lock, Start, Commit, Rollback, Restart, Level, Restarts, Halt}
 use Rattle.command.specs.declared.request.Reply.{Reply}
-use Rattle.command.specs.declared.request.Reply.TheVariants.{Answered, Finished, Had, Count, AtLevel, Committed, Restarted, Refused}
+use Rattle.command.specs.declared.request.Reply.TheVariants.{Refused}
+use Rattle.command.specs.Replies.{is_refused}
 use Rattle.journal.specs.History.{initial, after, IsLegal}
-use Rattle.journal.specs.Story.{Machine, told}
-use Rattle.serial.specs.Machine.{IsReply, reply_of, run_of}
+use Rattle.journal.specs.Story.{Machine}
+use Rattle.serial.specs.Answers.{IsReplyOrMemory, told_by}
+use Rattle.serial.specs.Machine.{reply_of, run_of}
 use Rattle.serial.specs.Memory.{is_out_of_memory}
 use Rattle.script.specs.Line.{reading_of, job_of_line, HasOperands}
 use Rattle.script.specs.Text.{reply_text}
@@ -26,19 +27,9 @@ use Rattle.script_run.specs.declared.outcome.Outcome.{Outcome}
 abbrev pub Answer : Type 0
 Answer = List ℕ × Reply
 
--- what asks something gets a reply of the machine, what asks nothing its refusal
-abbrev pub IsReplyDue : Machine → Result (ℕ × Command) Refusal → Reply → Type 0
-IsReplyDue s (Ok step) reply = IsReply step.0 step.1 reply s
-IsReplyDue s (Err refusal) reply = reply ≡ Refused refusal
-
--- a line gets that, or, only where it has operands to be read, the refusal of memory
+-- the reply to a line, as it was read; where it has operands, memory to read them may be refused
 abbrev pub IsAnswer : Machine → List ℕ → Reply → Type 0
-IsAnswer s line reply = IsReplyDue s (reading_of line) reply ⊎ ((reply ≡ Refused OutOfMemory) × HasOperands line)
-
--- what a line and its reply change
-abbrev pub told_by : Result (ℕ × Command) Refusal → Reply → Machine → Machine
-told_by (Ok step) reply s = told step.0 step.1 reply s
-told_by (Err refusal) reply s = s
+IsAnswer s line reply = IsReplyOrMemory (HasOperands line) s (reading_of line) reply
 
 -- what lines and their replies leave, each in its turn
 abbrev pub left_by : List Answer → Machine → Machine
@@ -52,16 +43,6 @@ AreAnswers s (a ∷ answers) = IsAnswer s a.0 a.1 × AreAnswers (told_by (readin
 
 abbrev pub text_of : List Answer → List ℕ
 text_of answers = flat_map (λ a. reply_text (job_of_line a.0) a.1) answers
-
-abbrev pub is_refused : Reply → Bool
-is_refused (Answered answer) = false
-is_refused Finished = false
-is_refused (Had had) = false
-is_refused (Count n) = false
-is_refused (AtLevel n) = false
-is_refused Committed = false
-is_refused (Restarted n) = false
-is_refused (Refused refusal) = true
 
 abbrev pub some_refused : List Answer → Bool
 some_refused answers = list_any (λ a. is_refused a.1) answers

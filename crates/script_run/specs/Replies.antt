@@ -2,10 +2,11 @@
 use Rattle.std.specs.Prelude.{◌≡◌, ℕ, Bool, List, ◌++◌, Option}
 use Rattle.command.specs.declared.request.Reply.{Reply}
 use Rattle.journal.specs.Story.{Machine}
+use Rattle.serial.specs.Answers.{told_by}
 use Rattle.script.specs.Line.{reading_of, job_of_line}
 use Rattle.script.specs.Text.{reply_text}
 use Rattle.script_run.specs.OpenJobs.{open_after}
-use Rattle.script_run.specs.Output.{IsAnswer, accepted_job, ends_session, told_by, with_reply}
+use Rattle.script_run.specs.Output.{IsAnswer, accepted_job, ends_session, with_reply}
 use Rattle.script_run.specs.declared.answers.Script.{Script}
 use Rattle.script_run.specs.declared.outcome.Outcome.{Outcome}
 

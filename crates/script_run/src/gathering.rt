@@ -4,7 +4,7 @@ ghost use Rattle.command.specs.declared.request.Command.TheVariants.{Access};
 ghost use Rattle.command.specs.declared.request.Reply.TheVariants.{Refused};
 ghost use Rattle.command.specs.declared.access.DataCommand.TheVariants.{Set, Look as look};
 ghost use Rattle.command.specs.declared.access.Look.TheVariants.{Get};
-ghost use Rattle.journal.specs.Story.{Machine, transaction_of};
+ghost use Rattle.journal.specs.Story.{Machine};
 ghost use Rattle.serial.specs.Memory.{is_out_of_memory};
 ghost use Rattle.script.specs.Asked.{IsAsked};
 ghost use Rattle.script.specs.Line.{IsReading, job_of_line};
@@ -130,7 +130,7 @@ fn answer_line(
     }
 }
 
-// A line that asks something else than a lone SET or a lone $GET.
+// A line that asks something else than a SET or a $GET without a default.
 #[inline(always)]
 fn gather_answer(
     alloc: Global,
@@ -154,7 +154,7 @@ fn gather_answer(
     gather_reply(script, Some(job), accepted, ended, &reply, line, log)
 }
 
-// A $GET of a job without a transaction. The reply is written from the value that the journal keeps.
+// A $GET. The reply is written from the value where the journal, or the job's transaction, keeps it.
 fn gather_got(
     script: &mut Script,
     job: Job,
@@ -163,14 +163,13 @@ fn gather_got(
     log: &mut impl RunLog,
 ) -> Result<(), AllocError>
     requires asked { IsReading line.now (Ok (job, Access (look (Get key.now None)))) }
-    requires outside { transaction_of job script.old.core.machine ≡ None }
     ensures gathered { OnOk result (IsGathered line.now script.old.core.machine script.old.out.items script.old.outcome script.old.jobs script.new) }
     ensures lost { OnErr result (IsLost line.now script.old.core.machine script.old.out.items script.new) }
 {
-    match script.core.get_lone(job, key) {
+    match script.core.get(job, key) {
         Ok(size) => {
             script.jobs.note_line(&Some(job), false);
-            write_got(job, script.core.value_got(size), &mut script.out)
+            write_got(job, script.core.value_got(job, size), &mut script.out)
         }
         Err(refusal) => {
             let accepted = accepted(job, &Reply::Refused(refusal));
@@ -179,7 +178,7 @@ fn gather_got(
     }
 }
 
-// A SET of a job without a transaction, whose value lies in the drafts.
+// A SET, whose value lies in the drafts.
 fn gather_done(
     alloc: Global,
     script: &mut Script,
@@ -189,11 +188,10 @@ fn gather_done(
     log: &mut impl RunLog,
 ) -> Result<(), AllocError>
     requires asked { IsReading line.now (Ok (job, Access (Set key.now (value_in script.old.drafts)))) }
-    requires outside { transaction_of job script.old.core.machine ≡ None }
     ensures gathered { OnOk result (IsGathered line.now script.old.core.machine script.old.out.items script.old.outcome script.old.jobs script.new) }
     ensures lost { OnErr result (IsLost line.now script.old.core.machine script.old.out.items script.new) }
 {
-    match script.core.set_lone(job, key, script.drafts.value_mut()) {
+    match script.core.set(job, key, script.drafts.value_mut()) {
         Ok(()) => {
             script.jobs.note_line(&Some(job), false);
             write_done(job, &mut script.out)
@@ -206,7 +204,7 @@ fn gather_done(
     }
 }
 
-// A $GET of a job without a transaction, whose line is read as far as its sentence.
+// A $GET without a default, whose line is read as far as its sentence.
 fn gather_get(
     alloc: Global,
     script: &mut Script,
@@ -215,7 +213,6 @@ fn gather_get(
     log: &mut impl RunLog,
 ) -> Result<(), AllocError>
     requires asked { IsAsked line.now script.old.drafts job (Sentence.Access DataSentence.Get) }
-    requires outside { transaction_of job script.old.core.machine ≡ None }
     ensures gathered { OnOk result (IsGathered line.now script.old.core.machine script.old.out.items script.old.outcome script.old.jobs script.new) }
     ensures lost { OnErr result (IsLost line.now script.old.core.machine script.old.out.items script.new) }
 {
@@ -234,7 +231,6 @@ fn gather_set(
     log: &mut impl RunLog,
 ) -> Result<(), AllocError>
     requires asked { IsAsked line.now script.old.drafts job (Sentence.Access DataSentence.Set) }
-    requires outside { transaction_of job script.old.core.machine ≡ None }
     ensures gathered { OnOk result (IsGathered line.now script.old.core.machine script.old.out.items script.old.outcome script.old.jobs script.new) }
     ensures lost { OnErr result (IsLost line.now script.old.core.machine script.old.out.items script.new) }
 {
@@ -244,8 +240,7 @@ fn gather_set(
     }
 }
 
-// A line that is read as far as its sentence. A SET and a $GET without a default take the short way where their job has
-// no transaction.
+// A line that is read as far as its sentence. A SET and a $GET without a default take the short way.
 fn gather_asked(
     alloc: Global,
     script: &mut Script,
@@ -258,11 +253,10 @@ fn gather_asked(
     ensures gathered { OnOk result (IsGathered line.now script.old.core.machine script.old.out.items script.old.outcome script.old.jobs script.new) }
     ensures lost { OnErr result (IsLost line.now script.old.core.machine script.old.out.items script.new) }
 {
-    let is_inside = script.core.is_inside(job);
-    match (sentence, is_inside) {
-        (Sentence::Access(DataSentence::Set), false) => gather_set(alloc, script, job, line, log),
-        (Sentence::Access(DataSentence::Get), false) => gather_get(alloc, script, job, line, log),
-        (sentence, _) => gather_answer(alloc, script, job, sentence, line, log),
+    match sentence {
+        Sentence::Access(DataSentence::Set) => gather_set(alloc, script, job, line, log),
+        Sentence::Access(DataSentence::Get) => gather_get(alloc, script, job, line, log),
+        sentence => gather_answer(alloc, script, job, sentence, line, log),
     }
 }
 

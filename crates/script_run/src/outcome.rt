@@ -1,7 +1,8 @@
 //! How a script went.
 ghost use Rattle.std.specs.Prelude.{◌≡◌, ◌||◌, []};
 ghost use Rattle.serial.specs.Memory.{is_out_of_memory};
-ghost use Rattle.script_run.specs.Output.{is_refused, outcome_of, with_reply};
+ghost use Rattle.command.specs.Replies.{is_refused};
+ghost use Rattle.script_run.specs.Output.{outcome_of, with_reply};
 
 use command::Reply;
 use refusal::Refusal;

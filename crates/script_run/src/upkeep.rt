@@ -10,7 +10,8 @@ use job_core::JobCore;
 pub struct Upkeep {
     /// For the collector's pass.
     pub collect_every: u64,
-    /// For a checkpoint, which comes after a pass at the same line.
+    /// For a checkpoint, which comes after a pass at the same line. It is left out where it would drop fewer units than
+    /// the journal's base has nodes and held names, since these it moves and copies.
     pub checkpoint_every: u64,
 }
 
@@ -90,13 +91,13 @@ fn collect_when_due(countdown: &mut Countdown, core: &mut JobCore)
     }
 }
 
-// A checkpoint, where one is due.
+// A checkpoint, where one is due and drops enough; else it is left out.
 fn checkpoint_when_due(countdown: &mut Countdown, core: &mut JobCore)
     ensures machine { core.new.machine ≡ core.old.machine }
     ensures only_when_due { (countdown.old.left == 1) ≡ false → core.new ≡ core.old }
     ensures next { countdown.new ≡ counted countdown.old }
 {
-    if countdown.count_line() {
+    if countdown.count_line() && core.checkpoint_pays() {
         let _ = core.checkpoint();
     }
 }

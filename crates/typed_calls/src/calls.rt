@@ -5,9 +5,9 @@ ghost use Rattle.typed_calls.specs.Typed.{IsCauseBefore, IsFoundCall, IsMemory, 
 
 use crate::commands::{
     LockForm, data_command, get_command, kill_command, lock_command, merge_command, order_command,
-    query_command, set_command,
+    query_command,
 };
-use crate::steps::{run_command, run_found, run_numbered, run_step, run_valued, set_alone};
+use crate::steps::{run_command, run_found, run_numbered, run_step, run_valued, set_lent};
 use collation::{Direction, Job, LONGEST_VALUE};
 use embedded::{Embedded, Outcome};
 use key_codec::Key;
@@ -24,21 +24,8 @@ pub fn set(engine: &mut Embedded, alloc: Global, job: u64, key: &Key, value: &[u
         return Outcome::Refused(Refusal::ValueTooLong);
     }
     match Job::new(job) {
-        Ok(job) => set_either(engine, alloc, job, key, value),
+        Ok(job) => set_lent(engine, alloc, job, key, value),
         Err(refusal) => Outcome::Refused(refusal),
-    }
-}
-
-// Does a SET of a value that isn't too long: outside a transaction by reference, in one by its command.
-fn set_either(engine: &mut Embedded, alloc: Global, job: Job, key: &Key, value: &[u8]) -> Outcome
-    ensures { IsTypedCall (λ refusal. IsMemory refusal) job (set_of key.now value.now) engine.old engine.new result }
-{
-    if !engine.core.is_inside(job) {
-        return set_alone(engine, alloc, job, key, value);
-    }
-    match set_command(alloc, key, value) {
-        Ok(command) => run_step(engine, job, command),
-        Err(_) => Outcome::Refused(Refusal::OutOfMemory),
     }
 }
 

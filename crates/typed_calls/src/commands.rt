@@ -1,10 +1,10 @@
 //! Commands on keys, built for one step.
 ghost use Rattle.std.specs.Prelude.{◌≡◌, IfErr, IfOk};
-ghost use Rattle.typed_calls.specs.Commands.{data_command as data_of, get_command as get_of, kill_command as kill_of, lock_command as lock_of_key, lock_of, merge_command as merge_of, order_command as order_of, query_command as query_of, set_command as set_of};
+ghost use Rattle.typed_calls.specs.Commands.{data_command as data_of, get_command as get_of, kill_command as kill_of, lock_command as lock_of_key, lock_of, merge_command as merge_of, order_command as order_of, query_command as query_of};
 ghost use Rattle.typed_calls.specs.Typed.{IsMemory, IsPlaceCause};
 
 use crate::keys::place_below;
-use collation::{Direction, Text};
+use collation::Direction;
 use command::{Command, DataCommand, Look};
 use key_codec::{Key, Place};
 use lock_name::{LockCommand, LockName, LockNames};
@@ -33,15 +33,6 @@ impl LockForm {
             LockForm::Fewer => LockCommand::Fewer(names),
         }
     }
-}
-
-// SET of this key and a copy of the value.
-pub(crate) fn set_command(alloc: Global, key: &Key, value: &[u8]) -> Result<Command, AllocError>
-    ensures { IfOk result (λ command. command ≡ set_of key.now value.now) }
-{
-    let key = key.clone()?;
-    let value = Text::from_slice(alloc, value)?;
-    Ok(Command::Access(DataCommand::Set(key, value)))
 }
 
 pub(crate) fn kill_command(key: &Key) -> Result<Command, Refusal>
