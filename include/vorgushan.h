@@ -7,9 +7,9 @@
  *     char value[64];
  *     size_t length;
  *     if (vg_new(&engine) != VG_DONE) return 1;
- *     vg_line(&engine, VG_TEXT("1 SET ^Account(\"ann\")=100"), value, sizeof value, &length);   copies "1 ok\n"
+ *     vg_line(&engine, VG_TEXT("1 SET ^Account(\"ann\")=100"), value, sizeof value, &length);   // copies "1 ok\n"
  *     vg_key_spell(&key, VG_TEXT("Account"), subscripts, 1);
- *     vg_look(&engine, &key, value, sizeof value, &length);                                     copies "100"
+ *     vg_look(&engine, &key, value, sizeof value, &length);                                     // copies "100"
  *     vg_key_end(&key);
  *     vg_end(&engine);
  *
@@ -20,7 +20,7 @@
  * have nothing in common.
  *
  * Reads by vg_get, vg_data, vg_order and vg_query are commands, and stay in the journal until vg_checkpoint. Use
- * vg_look, vg_look_data, vg_look_order, vg_look_query and vg_walk where that isn't wanted, and a view (vg_view_begin)
+ * vg_look, its like and vg_walk where that isn't wanted, and a view (vg_view_begin)
  * to see one moment in many calls.
  *
  * Every call returns an outcome: VG_DONE, a refusal (1 to 15; 16 to 18 come from no call here), or one of the library's
@@ -43,7 +43,7 @@ extern "C" {
 #endif
 
 /* The version of this header: 10,000 times its first number, 100 times its second, and its third. vorgushan_version()
- * tells the library's. */
+ * returns the library's. */
 #define VG_VERSION 100
 
 /* A literal as the two arguments of a text: its bytes and its length, without the byte 0 at its end. */
@@ -79,7 +79,7 @@ enum {
     VG_BUFFER_TOO_SHORT = 34, /* the length that is needed is given, nothing is copied; a reply is kept for vg_reply */
     VG_REPLY_KEPT = 35,       /* the line or step was run; no memory for its reply's text or key: vg_reply copies it */
     VG_NO_REPLY = 36,         /* no line or step was run yet */
-    VG_AT_END = 37,           /* no node is left, to list, for vg_query or for vg_walk */
+    VG_AT_END = 37,           /* no node or name is left: to list, for vg_query, vg_walk, .. */
     VG_UNKNOWN_NUMBER = 38,   /* no outcome has that number */
     VG_NO_KEY = 39,           /* none was made, or it was ended */
     VG_RESTARTED = 40,        /* the transaction restarts: what it did is dropped */
@@ -87,7 +87,7 @@ enum {
     VG_TRANSACTION_OPEN = 42  /* the job has an open transaction or a view already */
 };
 
-/* The ways in which vg_order and vg_query go. Any other number is backward too. */
+/* The ways in which vg_order, vg_query and their like go. Any other number is backward too. */
 enum { VG_FORWARD = 0, VG_BACKWARD = 1 };
 
 /* Where vg_query starts: at the key, or at an empty subscript below it, as in ^A(1,""). Any other number is as 1. */
@@ -165,6 +165,7 @@ vg_outcome vorgushan_list_next(vg_engine *engine, uint64_t moment, char *node, s
 vg_outcome vorgushan_collect(vg_engine *engine, size_t nodes);
 vg_outcome vorgushan_checkpoint(vg_engine *engine);
 vg_outcome vorgushan_statistics(vg_engine *engine, vg_statistics *statistics);
+vg_outcome vorgushan_units(vg_engine *engine, uint64_t *units);
 vg_outcome vorgushan_key_name(vg_key *key, const char *name, size_t name_length);
 vg_outcome vorgushan_key_subscript(vg_key *key, const char *subscript, size_t subscript_length);
 vg_outcome vorgushan_key_spell(vg_key *key, vg_draft *draft, const char *name, size_t name_length,
@@ -189,6 +190,11 @@ vg_outcome vorgushan_look_order(vg_engine *engine, uint64_t moment, vg_key *key,
                                 size_t start_length, uint32_t backward, char *subscript, size_t subscript_size,
                                 size_t *subscript_length);
 vg_outcome vorgushan_look_query(vg_engine *engine, uint64_t moment, vg_key *key, uint32_t is_open, uint32_t backward);
+vg_outcome vorgushan_look_name(vg_engine *engine, uint64_t moment, const char *start, size_t start_length,
+                               uint32_t backward, char *name, size_t name_size, size_t *name_length);
+vg_outcome vorgushan_look_children(vg_engine *engine, uint64_t moment, vg_key *key, const char *start,
+                                   size_t start_length, char *children, size_t children_size,
+                                   size_t *children_length);
 vg_outcome vorgushan_walk(vg_engine *engine, uint64_t moment, vg_key *root, vg_key *place, char *nodes,
                           size_t nodes_size, size_t *nodes_length);
 vg_outcome vorgushan_lock(vg_engine *engine, uint64_t job, vg_key *key, uint64_t *had);
@@ -200,6 +206,8 @@ vg_outcome vorgushan_tcommit(vg_engine *engine, uint64_t job, uint64_t *number);
 vg_outcome vorgushan_trollback(vg_engine *engine, uint64_t job, uint64_t *number);
 vg_outcome vorgushan_trestart(vg_engine *engine, uint64_t job, uint64_t *restarts);
 vg_outcome vorgushan_halt(vg_engine *engine, uint64_t job, uint64_t *number);
+vg_outcome vorgushan_tlevel(vg_engine *engine, uint64_t job, uint64_t *level);
+vg_outcome vorgushan_trestarts(vg_engine *engine, uint64_t job, uint64_t *restarts);
 vg_outcome vorgushan_outcome_name(uint32_t outcome, char *name, size_t name_size, size_t *name_length);
 
 /* ---- Engines ---- */
@@ -297,6 +305,16 @@ static inline vg_outcome vg_checkpoint(vg_engine *engine) {
 static inline vg_outcome vg_count(vg_engine *engine, vg_statistics *statistics) {
     vg_statistics unwanted = {0, 0, 0};
     return engine ? vorgushan_statistics(engine, statistics ? statistics : &unwanted) : (vg_outcome)VG_NO_ENGINE;
+}
+
+/* How many units the journal has, those too that vg_checkpoint dropped: after a command that leaves one, such as a
+ * commit, its place in the journal, counted from 1. It walks over nothing. */
+static inline vg_outcome vg_units(vg_engine *engine, uint64_t *units) {
+    uint64_t told = 0;
+    vg_outcome outcome = engine ? vorgushan_units(engine, &told) : (vg_outcome)VG_NO_ENGINE;
+    if (units)
+        *units = told;
+    return outcome;
 }
 
 /* ---- Keys ---- */
@@ -424,11 +442,14 @@ static inline vg_outcome vg_data(vg_engine *engine, uint64_t job, vg_key *key, u
 
 /* ---- Walks by commands ---- */
 
-/* Copies a start, so that it and the answer may be the same bytes; of one over 255 bytes so many that it is refused. */
+/* Copies a start, so that it and the answer may be the same bytes. In place of one over 255 bytes, which is refused
+ * whatever they are, 256 are put. */
 static inline size_t vg_start_copied(char from[256], const char *start, size_t start_length) {
     size_t length = start ? start_length : 0;
-    if (length > 256)
-        length = 256;
+    if (length > 255) {
+        memset(from, 0, 256);
+        return 256;
+    }
     if (length)
         memcpy(from, start, length);
     return length;
@@ -469,7 +490,8 @@ static inline vg_outcome vg_query(vg_engine *engine, uint64_t job, vg_key *key, 
 /* A view is a moment that is looked at. It shows the database as it was when it was begun, whatever is set, killed,
  * committed, collected or dropped by checkpoints since. It is never restarted, has no limit of looks, and leaves
  * nothing in the journal; while it lasts the engine keeps what it shows. It goes by the number of a job, 1 to 4,096,
- * that does nothing else meanwhile: it is this job's transaction, looked at as it began, and ends with it.
+ * that does nothing else meanwhile: it is this job's transaction, looked at as it began, and ends with it. So the calls
+ * below take any open transaction of a job for a view of its start, and vg_view_end drops it.
  *
  * Where the calls below are given VG_NOW in place of a view they look at the database as it is now. They return
  * VG_NO_TRANSACTION where no view of that number is there, or it was ended, and VG_BAD_JOB over 4,096. */
@@ -536,6 +558,39 @@ static inline vg_outcome vg_view_query(vg_engine *engine, uint64_t view, vg_key 
     return key ? vorgushan_look_query(engine, view, key, from, direction) : (vg_outcome)VG_NO_KEY;
 }
 
+/* As vg_look_name, in a view. */
+static inline vg_outcome vg_view_name(vg_engine *engine, uint64_t view, const char *start, size_t start_length,
+                                      uint32_t direction, char *name, size_t name_size, size_t *name_length) {
+    char from[256];
+    char nothing = 0;
+    size_t length = 0;
+    size_t from_length = vg_start_copied(from, start, start_length);
+    vg_outcome outcome = VG_NO_ENGINE;
+    if (engine)
+        outcome = vorgushan_look_name(engine, view, from, from_length, direction, name ? name : &nothing,
+                                      name ? name_size : 0, &length);
+    if (name_length)
+        *name_length = length;
+    return outcome;
+}
+
+/* As vg_children, in a view. */
+static inline vg_outcome vg_view_children(vg_engine *engine, uint64_t view, vg_key *key, const char *start,
+                                          size_t start_length, char *children, size_t children_size,
+                                          size_t *children_length) {
+    char from[256];
+    char nothing = 0;
+    size_t length = 0;
+    size_t from_length = vg_start_copied(from, start, start_length);
+    vg_outcome outcome = engine ? VG_NO_KEY : VG_NO_ENGINE;
+    if (engine && key)
+        outcome = vorgushan_look_children(engine, view, key, from, from_length, children ? children : &nothing,
+                                          children ? children_size : 0, &length);
+    if (children_length)
+        *children_length = length;
+    return outcome;
+}
+
 /* As vg_walk, in a view. */
 static inline vg_outcome vg_view_walk(vg_engine *engine, uint64_t view, vg_key *root, vg_key *place, char *nodes,
                                       size_t nodes_size, size_t *nodes_length) {
@@ -574,10 +629,21 @@ static inline vg_outcome vg_look_order(vg_engine *engine, vg_key *key, const cha
                          subscript_length);
 }
 
-/* As vg_query, without a command of a job: VG_OUT_OF_MEMORY where memory is refused for a long key. vg_key_bytes tells
+/* As vg_query, without a command of a job: VG_OUT_OF_MEMORY where memory is refused for a long key. vg_key_bytes copies
  * what was found. */
 static inline vg_outcome vg_look_query(vg_engine *engine, vg_key *key, uint32_t from, uint32_t direction) {
     return vg_view_query(engine, VG_NOW, key, from, direction);
+}
+
+/* Copies the name of the next global after `start` (before it, where direction is VG_BACKWARD) that has a node, without
+ * its caret, at most 31 bytes. No global need have the name `start`; an empty one asks for the first, backward for the
+ * last. `start` and `name` may be the same bytes. It is no command, as vg_look.
+ *
+ * VG_AT_END where no name is left. VG_BAD_NAME where `start` is neither empty nor a name; VG_OUT_OF_MEMORY,
+ * VG_BUFFER_TOO_SHORT: then nothing is copied. */
+static inline vg_outcome vg_look_name(vg_engine *engine, const char *start, size_t start_length, uint32_t direction,
+                                      char *name, size_t name_size, size_t *name_length) {
+    return vg_view_name(engine, VG_NOW, start, start_length, direction, name, name_size, name_length);
 }
 
 /* Copies as many nodes as the buffer has room for, in order, without a command of a job, as vg_look: those at and under
@@ -660,6 +726,43 @@ static inline size_t vg_part_next(const vg_node *node, const char **at, char *pa
     return length;
 }
 
+/* Copies as many children of a key as the buffer has room for, in order, without a command of a job, as vg_look: the
+ * subscripts one level below it, each with its value and what $DATA tells of it. They are those after `start`, which
+ * need not be there; an empty one asks for the first. What lies below a child is passed over. vg_child_next reads them;
+ * the last one's subscript is the next `start`, and may lie in the buffer.
+ *
+ * VG_AT_END where no child is left. VG_BUFFER_TOO_SHORT where the next alone is longer than the buffer: children_length
+ * is the length that is needed, at most 33,046. VG_SUBSCRIPT_TOO_LONG, VG_TOO_MANY_SUBSCRIPTS as vg_order;
+ * VG_OUT_OF_MEMORY. Then nothing is copied. */
+static inline vg_outcome vg_children(vg_engine *engine, vg_key *key, const char *start, size_t start_length,
+                                     char *children, size_t children_size, size_t *children_length) {
+    return vg_view_children(engine, VG_NOW, key, start, start_length, children, children_size, children_length);
+}
+
+/* A child that vg_children copied: its subscript and its value, both in the buffer. data is 1 where it has a value, 10
+ * where a node below it has one, 11 for both. */
+typedef struct vg_child {
+    const char *subscript;
+    size_t subscript_length;
+    const char *value;
+    size_t value_length;
+    uint64_t data;
+} vg_child;
+
+/* Reads the child at *at, which is the start of the buffer first, and moves *at after it. Returns 0 where *at is `end`,
+ * the start and children_length bytes, else 1. */
+static inline int vg_child_next(const char **at, const char *end, vg_child *child) {
+    if (*at >= end)
+        return 0;
+    child->subscript = *at + 24;
+    child->subscript_length = vg_length_at(*at);
+    child->value = child->subscript + child->subscript_length;
+    child->value_length = vg_length_at(*at + 8);
+    child->data = vg_length_at(*at + 16);
+    *at = child->value + child->value_length;
+    return 1;
+}
+
 /* ---- Locks ---- */
 
 /* LOCK of a key's name, with its caret: the job's names are released, and then this one is asked for. Nobody waits: had
@@ -711,8 +814,9 @@ static inline vg_outcome vg_tstart(vg_engine *engine, uint64_t job, uint64_t *le
 }
 
 /* TCOMMIT: VG_DONE where all that the transaction did is done, and number is 0; above level 1 it lowers the level, and
- * number is that. VG_RESTARTED where another job was quicker: nothing of it is done, it restarts, the job does its
- * calls again, and number is how often it has restarted. VG_NO_TRANSACTION. */
+ * number is that. VG_RESTARTED where another job has since set or removed something that it had read: nothing of it is
+ * done, it restarts at level 1, the job does its calls after the first TSTART again, and number is how often it has
+ * restarted. VG_NO_TRANSACTION. */
 static inline vg_outcome vg_tcommit(vg_engine *engine, uint64_t job, uint64_t *number) {
     uint64_t told = 0;
     vg_outcome outcome = engine ? vorgushan_tcommit(engine, job, &told) : (vg_outcome)VG_NO_ENGINE;
@@ -721,7 +825,7 @@ static inline vg_outcome vg_tcommit(vg_engine *engine, uint64_t job, uint64_t *n
     return outcome;
 }
 
-/* TROLLBACK: drops what was done since the start, and ends the transaction. VG_NO_TRANSACTION. */
+/* TROLLBACK, at any level: drops all that the transaction did, and ends it. VG_NO_TRANSACTION. */
 static inline vg_outcome vg_trollback(vg_engine *engine, uint64_t job) {
     uint64_t told = 0;
     return engine ? vorgushan_trollback(engine, job, &told) : (vg_outcome)VG_NO_ENGINE;
@@ -740,6 +844,24 @@ static inline vg_outcome vg_trestart(vg_engine *engine, uint64_t job, uint64_t *
 static inline vg_outcome vg_halt(vg_engine *engine, uint64_t job) {
     uint64_t told = 0;
     return engine ? vorgushan_halt(engine, job, &told) : (vg_outcome)VG_NO_ENGINE;
+}
+
+/* $TLEVEL: how deep the job's transaction is, and 0 where it has none. It is no command, as vg_look. VG_BAD_JOB. */
+static inline vg_outcome vg_tlevel(vg_engine *engine, uint64_t job, uint64_t *level) {
+    uint64_t told = 0;
+    vg_outcome outcome = engine ? vorgushan_tlevel(engine, job, &told) : (vg_outcome)VG_NO_ENGINE;
+    if (level)
+        *level = told;
+    return outcome;
+}
+
+/* $TRESTART: how often the job's transaction was restarted, and 0 where it has none, as vg_tlevel. */
+static inline vg_outcome vg_trestarts(vg_engine *engine, uint64_t job, uint64_t *restarts) {
+    uint64_t told = 0;
+    vg_outcome outcome = engine ? vorgushan_trestarts(engine, job, &told) : (vg_outcome)VG_NO_ENGINE;
+    if (restarts)
+        *restarts = told;
+    return outcome;
 }
 
 /* ---- Names of outcomes ---- */

@@ -436,6 +436,115 @@ static void use_views(vg_engine *engine) {
     vg_key_end(&second);
 }
 
+/* Whether the name after a start, or before it, is this one; an empty one where none is left. */
+static int name_is(vg_engine *engine, uint64_t view, const char *start, uint32_t direction, const char *wanted) {
+    size_t from = strlen(start);
+    vg_outcome told = vg_view_name(engine, view, start, from, direction, reply, sizeof reply, &length);
+    return told == (*wanted ? VG_DONE : VG_AT_END) && is_reply(wanted);
+}
+
+/* Names of globals: of ^%A, ^Ab(1,2) and ^zzzzzzzzzzzzzzzzzzzzzzzzzzzzzzz, the last of which comes while a view is there. */
+static void use_global_names(void) {
+    const char *last = "zzzzzzzzzzzzzzzzzzzzzzzzzzzzzzz";
+    char same[32] = "%A";
+    vg_engine own = VG_ENGINE_NONE;
+    CHECK(vg_look_name(NULL, NULL, 0, VG_FORWARD, same, sizeof same, &length) == VG_NO_ENGINE && !length);
+    CHECK(vg_look_name(&own, NULL, 0, VG_FORWARD, same, sizeof same, &length) == VG_NO_ENGINE && !length);
+    CHECK(vg_new(&own) == VG_DONE && name_is(&own, VG_NOW, "", VG_FORWARD, ""));
+    CHECK(name_is(&own, VG_NOW, "", VG_BACKWARD, ""));
+    vg_line(&own, VG_TEXT("1 SET ^Ab(1,2)=1"), reply, sizeof reply, NULL);
+    vg_line(&own, VG_TEXT("1 SET ^Ab(3)=1"), reply, sizeof reply, NULL);
+    vg_line(&own, VG_TEXT("1 SET ^%A=1"), reply, sizeof reply, NULL);
+    CHECK(vg_view_begin(&own, 7) == VG_DONE);
+    vg_line(&own, VG_TEXT("1 SET ^zzzzzzzzzzzzzzzzzzzzzzzzzzzzzzz(1)=1"), reply, sizeof reply, NULL);
+    CHECK(name_is(&own, VG_NOW, "", VG_FORWARD, "%A") && name_is(&own, VG_NOW, "%A", VG_FORWARD, "Ab"));
+    CHECK(name_is(&own, VG_NOW, "Ab", VG_FORWARD, last) && name_is(&own, VG_NOW, last, VG_FORWARD, ""));
+    CHECK(name_is(&own, VG_NOW, "", VG_BACKWARD, last) && name_is(&own, VG_NOW, last, VG_BACKWARD, "Ab"));
+    CHECK(name_is(&own, VG_NOW, "Aa", VG_FORWARD, "Ab") && name_is(&own, VG_NOW, "Ac", VG_BACKWARD, "Ab"));
+    CHECK(name_is(&own, VG_NOW, "%A", VG_BACKWARD, ""));
+    CHECK(name_is(&own, 7, "", VG_BACKWARD, "Ab") && name_is(&own, 7, "Ab", VG_FORWARD, ""));
+    CHECK(vg_look_name(&own, same, 2, VG_FORWARD, same, sizeof same, &length) == VG_DONE && !memcmp(same, "Ab", 2));
+    CHECK(vg_look_name(&own, VG_TEXT("%A"), VG_FORWARD, same, 1, &length) == VG_BUFFER_TOO_SHORT && length == 2);
+    CHECK(vg_look_name(&own, VG_TEXT("1"), VG_FORWARD, same, 1, &length) == VG_BAD_NAME && !length);
+    CHECK(vg_look_name(&own, reply, 300, VG_FORWARD, same, 1, &length) == VG_BAD_NAME && !length);
+    CHECK(vg_view_name(&own, 8, NULL, 0, VG_FORWARD, same, 1, &length) == VG_NO_TRANSACTION && !length);
+    CHECK(vg_end(&own) == VG_DONE);
+}
+
+/* The units of the journal: one more after each command outside a transaction, and as many as vg_count tells. */
+static void use_units(vg_engine *engine) {
+    vg_key key = VG_KEY_NONE;
+    uint64_t before = 7, after = 7;
+    vg_statistics held;
+    vg_key_name(&key, VG_TEXT("Units"));
+    CHECK(vg_units(NULL, &before) == VG_NO_ENGINE && !before && vg_units(engine, NULL) == VG_DONE);
+    CHECK(vg_units(engine, &before) == VG_DONE && vg_set(engine, 1, &key, VG_TEXT("1")) == VG_DONE);
+    CHECK(vg_units(engine, &after) == VG_DONE && after == before + 1 && after > 1);
+    CHECK(vg_count(engine, &held) == VG_DONE && held.units == after);
+    CHECK(vg_kill(engine, 1, &key) == VG_DONE);
+    vg_key_end(&key);
+}
+
+/* Whether a child is this one, its value too. */
+static int is_child(const vg_child *child, const char *subscript, const char *value, uint64_t data) {
+    return child->subscript_length == strlen(subscript) && !memcmp(child->subscript, subscript, strlen(subscript)) &&
+           child->value_length == strlen(value) && !memcmp(child->value, value, strlen(value)) && child->data == data;
+}
+
+/* The children of ^Ch: 2="two", 10 with ^Ch(10,1,1) alone, "x"="ex" with ^Ch("x",1); "y"="why" once a view is there. */
+static void use_children(vg_engine *engine) {
+    vg_key key = VG_KEY_NONE;
+    vg_child child;
+    const char *at = reply;
+    CHECK(vg_children(NULL, &key, NULL, 0, NULL, 0, &length) == VG_NO_ENGINE && !length);
+    CHECK(vg_children(engine, NULL, NULL, 0, NULL, 0, NULL) == VG_NO_KEY);
+    CHECK(vg_children(engine, &key, NULL, 0, NULL, 0, NULL) == VG_NO_KEY);
+    vg_key_name(&key, VG_TEXT("Ch"));
+    CHECK(vg_children(engine, &key, NULL, 0, NULL, 0, &length) == VG_AT_END && !length);
+    vg_line(engine, VG_TEXT("1 SET ^Ch(2)=\"two\""), reply, sizeof reply, NULL);
+    vg_line(engine, VG_TEXT("1 SET ^Ch(10,1,1)=1"), reply, sizeof reply, NULL);
+    vg_line(engine, VG_TEXT("1 SET ^Ch(\"x\")=\"ex\""), reply, sizeof reply, NULL);
+    vg_line(engine, VG_TEXT("1 SET ^Ch(\"x\",1)=1"), reply, sizeof reply, NULL);
+    CHECK(vg_view_begin(engine, 7) == VG_DONE);
+    vg_line(engine, VG_TEXT("1 SET ^Ch(\"y\")=\"why\""), reply, sizeof reply, NULL);
+    CHECK(vg_children(engine, &key, NULL, 0, reply, sizeof reply, &length) == VG_DONE);
+    CHECK(vg_child_next(&at, reply + length, &child) && is_child(&child, "2", "two", 1));
+    CHECK(vg_child_next(&at, reply + length, &child) && is_child(&child, "10", "", 10));
+    CHECK(vg_child_next(&at, reply + length, &child) && is_child(&child, "x", "ex", 11));
+    CHECK(vg_child_next(&at, reply + length, &child) && is_child(&child, "y", "why", 1));
+    CHECK(!vg_child_next(&at, reply + length, &child));
+    CHECK(vg_children(engine, &key, "y", 1, reply, sizeof reply, &length) == VG_AT_END && !length);
+    CHECK(vg_children(engine, &key, NULL, 0, reply, 27, &length) == VG_BUFFER_TOO_SHORT && length == 28);
+    CHECK(vg_children(engine, &key, NULL, 0, reply, 28 + 25, &length) == VG_DONE && length == 28);
+    CHECK(vg_children(engine, &key, NULL, 0, reply, 28 + 26, &length) == VG_DONE && length == 28 + 26);
+    CHECK(vg_children(engine, &key, "3", 1, reply, 26, &length) == VG_DONE && length == 26);
+    CHECK(vg_children(engine, &key, reply + 24, 2, reply, sizeof reply, &length) == VG_DONE && length == 27 + 28);
+    CHECK(vg_view_children(engine, 7, &key, "x", 1, reply, sizeof reply, &length) == VG_AT_END && !length);
+    CHECK(vg_view_children(engine, 8, &key, "x", 1, reply, sizeof reply, &length) == VG_NO_TRANSACTION);
+    CHECK(vg_children(engine, &key, reply, 256, reply, sizeof reply, &length) == VG_SUBSCRIPT_TOO_LONG && !length);
+    CHECK(vg_view_end(engine, 7) == VG_DONE && vg_kill(engine, 1, &key) == VG_DONE);
+    vg_key_end(&key);
+}
+
+/* Level and restarts of a job, told without a command. */
+static void use_levels(vg_engine *engine) {
+    uint64_t number = 7;
+    vg_statistics before, after;
+    CHECK(vg_tlevel(NULL, 1, &number) == VG_NO_ENGINE && !number && vg_trestarts(NULL, 1, NULL) == VG_NO_ENGINE);
+    CHECK(vg_tlevel(engine, 0, &number) == VG_BAD_JOB && !number && vg_trestarts(engine, 4097, NULL) == VG_BAD_JOB);
+    CHECK(vg_tlevel(engine, 1, &number) == VG_DONE && !number && vg_tstart(engine, 1, NULL) == VG_DONE);
+    CHECK(vg_trestart(engine, 1, NULL) == VG_RESTARTED && vg_trestart(engine, 1, NULL) == VG_RESTARTED);
+    CHECK(vg_tstart(engine, 1, NULL) == VG_DONE && vg_tstart(engine, 1, NULL) == VG_DONE);
+    CHECK(vg_reply(engine, reply, sizeof reply, NULL) == VG_DONE && vg_count(engine, &before) == VG_DONE);
+    CHECK(vg_tlevel(engine, 1, &number) == VG_DONE && number == 3);
+    CHECK(vg_trestarts(engine, 1, &number) == VG_DONE && number == 2);
+    CHECK(vg_tlevel(engine, 2, &number) == VG_DONE && number == 0);
+    CHECK(vg_trestarts(engine, 2, &number) == VG_DONE && number == 0);
+    CHECK(vg_reply(engine, reply, sizeof reply, &length) == VG_DONE && is_reply("1 level 3\n"));
+    CHECK(vg_count(engine, &after) == VG_DONE && !memcmp(&before, &after, sizeof before));
+    CHECK(vg_trollback(engine, 1) == VG_DONE && vg_trestarts(engine, 1, &number) == VG_DONE && number == 0);
+}
+
 /* LOCK in its four forms: what job 1 holds is seen by what job 2 gets. */
 static void use_locks(vg_engine *engine) {
     vg_key bed = VG_KEY_NONE, ward = VG_KEY_NONE;
@@ -500,6 +609,7 @@ int main(void) {
     CHECK(vorgushan_version() == VG_VERSION);
     use_nothing();
     use_names();
+    use_global_names();
     use_digits();
     use_lines(&engine);
     use_no_key(&engine);
@@ -508,6 +618,9 @@ int main(void) {
     use_walks(&engine);
     use_orders(&engine);
     use_views(&engine);
+    use_children(&engine);
+    use_units(&engine);
+    use_levels(&engine);
     use_locks(&engine);
     use_transactions(&engine);
     CHECK(vg_end(&engine) == VG_DONE && vg_end(&engine) == VG_NO_ENGINE);

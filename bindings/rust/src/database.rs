@@ -7,7 +7,7 @@ use crate::key::Key;
 use crate::raw::{self, outcome, RawStatistics};
 use crate::transaction::Transaction;
 use crate::view::View;
-use crate::walk::Walk;
+use crate::walk::{Level, Names, Walk};
 use std::cell::RefCell;
 use std::fmt;
 
@@ -169,6 +169,39 @@ impl Database {
         Walk::new(self, raw::NOW, None)
     }
 
+    /// The children of a key in order, each with its value, as they are committed, without a command.
+    ///
+    /// ```
+    /// # use vorgushan::{Database, Key};
+    /// let database = Database::new()?;
+    /// database.line("1 SET ^Visit(101)=\"cardiology\"")?;
+    /// database.line("1 SET ^Visit(102,1)=\"surgery\"")?;
+    /// let visits = Key::new("Visit")?;
+    /// let children: Result<Vec<_>, _> = database.children(&visits).collect();
+    /// let children = children?;
+    /// assert_eq!((&children[0].subscript[..], children[0].value.as_deref()), (&b"101"[..], Some(&b"cardiology"[..])));
+    /// assert_eq!((&children[1].subscript[..], children[1].has_descendants), (&b"102"[..], true));
+    /// # Ok::<(), vorgushan::Error>(())
+    /// ```
+    pub fn children<'a>(&'a self, key: &'a Key) -> Level<'a> {
+        Level::new(self, raw::NOW, key)
+    }
+
+    /// The names of the globals that have a node, in order, as they are committed, without a command.
+    ///
+    /// ```
+    /// # use vorgushan::Database;
+    /// let database = Database::new()?;
+    /// database.line("1 SET ^Visit(101)=\"cardiology\"")?;
+    /// database.line("1 SET ^Account=1")?;
+    /// let names: Result<Vec<String>, _> = database.names().collect();
+    /// assert_eq!(names?, ["Account", "Visit"]);
+    /// # Ok::<(), vorgushan::Error>(())
+    /// ```
+    pub fn names(&self) -> Names<'_> {
+        Names::new(self, raw::NOW)
+    }
+
     /// All nodes with a value as lines, each with its end, as `^A(1)=5`.
     ///
     /// [`OutOfMemory`](Error::OutOfMemory).
@@ -201,6 +234,14 @@ impl Database {
     /// [`OutOfMemory`](Error::OutOfMemory).
     pub fn collect(&self, nodes: usize) -> Result<(), Error> {
         self.with(|engine| done(raw::vorgushan_collect(engine.raw(), nodes)))
+    }
+
+    /// How many units the journal has, those too that a checkpoint dropped: after a commit, the place of its unit in the
+    /// journal, counted from 1.
+    pub fn units(&self) -> Result<u64, Error> {
+        let mut units = 0;
+        done(self.with(|engine| raw::vorgushan_units(engine.raw(), &mut units)))?;
+        Ok(units)
     }
 
     /// What the database holds; it walks over all nodes.

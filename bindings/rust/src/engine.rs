@@ -84,6 +84,16 @@ impl Engine {
         self.copied(|engine, found, length| raw::look_order(engine, moment, &mut from, found, length))
     }
 
+    /// The next name that a node has, in the database of a moment.
+    pub(crate) fn look_name(&mut self, moment: u64, from: raw::NamePlace<'_>) -> Copied<'_> {
+        self.copied(|engine, name, length| raw::look_name(engine, moment, from, name, length))
+    }
+
+    /// The next children of a key, in the database of a moment.
+    pub(crate) fn look_children(&mut self, moment: u64, key: &mut RawKey, start: &[u8]) -> Copied<'_> {
+        self.copied(|engine, children, length| raw::look_children(engine, moment, key, start, children, length))
+    }
+
     /// A key's own bytes.
     pub(crate) fn key_bytes(&mut self, key: &mut RawKey) -> Copied<'_> {
         self.copied(|_, bytes, length| raw::key_bytes(key, bytes, length))

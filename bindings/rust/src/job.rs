@@ -265,6 +265,16 @@ impl<'a> Job<'a> {
         self.alone(raw::vorgushan_trollback).map(|_| ())
     }
 
+    /// $TLEVEL: how deep its transaction is, 0 where it has none, without a command.
+    pub fn level(&self) -> Result<u64, Error> {
+        self.alone(raw::vorgushan_tlevel)
+    }
+
+    /// $TRESTART: how often its transaction was restarted, 0 where it has none, without a command.
+    pub fn restarts(&self) -> Result<u64, Error> {
+        self.alone(raw::vorgushan_trestarts)
+    }
+
     /// HALT: ends the job. Its transaction is dropped, and its names are released.
     pub fn halt(&self) -> Result<(), Error> {
         self.alone(raw::vorgushan_halt).map(|_| ())

@@ -63,4 +63,4 @@ pub use job::{Data, Direction, Job, Start};
 pub use key::{Key, Reference, Subscript};
 pub use transaction::Transaction;
 pub use view::View;
-pub use walk::{Children, Node, Walk};
+pub use walk::{Child, Children, Level, Names, Node, Walk};

@@ -86,6 +86,7 @@ unsafe extern "C" {
     pub(crate) safe fn vorgushan_collect(engine: &mut RawEngine, nodes: usize) -> u32;
     pub(crate) safe fn vorgushan_checkpoint(engine: &mut RawEngine) -> u32;
     pub(crate) safe fn vorgushan_statistics(engine: &mut RawEngine, statistics: &mut RawStatistics) -> u32;
+    pub(crate) safe fn vorgushan_units(engine: &mut RawEngine, units: &mut u64) -> u32;
     fn vorgushan_key_subscript(key: &mut RawKey, subscript: *const u8, subscript_length: usize) -> u32;
     fn vorgushan_key_spell(
         key: *mut RawKey,
@@ -161,6 +162,26 @@ unsafe extern "C" {
         value_size: usize,
         value_length: &mut usize,
     ) -> u32;
+    fn vorgushan_look_name(
+        engine: &mut RawEngine,
+        moment: u64,
+        start: *const u8,
+        start_length: usize,
+        backward: u32,
+        name: *mut u8,
+        name_size: usize,
+        name_length: &mut usize,
+    ) -> u32;
+    fn vorgushan_look_children(
+        engine: &mut RawEngine,
+        moment: u64,
+        key: &mut RawKey,
+        start: *const u8,
+        start_length: usize,
+        children: *mut u8,
+        children_size: usize,
+        children_length: &mut usize,
+    ) -> u32;
     fn vorgushan_walk(
         engine: &mut RawEngine,
         moment: u64,
@@ -179,6 +200,8 @@ unsafe extern "C" {
     pub(crate) safe fn vorgushan_trollback(engine: &mut RawEngine, job: u64, number: &mut u64) -> u32;
     pub(crate) safe fn vorgushan_trestart(engine: &mut RawEngine, job: u64, restarts: &mut u64) -> u32;
     pub(crate) safe fn vorgushan_halt(engine: &mut RawEngine, job: u64, number: &mut u64) -> u32;
+    pub(crate) safe fn vorgushan_tlevel(engine: &mut RawEngine, job: u64, level: &mut u64) -> u32;
+    pub(crate) safe fn vorgushan_trestarts(engine: &mut RawEngine, job: u64, restarts: &mut u64) -> u32;
     fn vorgushan_outcome_name(outcome: u32, name: *mut u8, name_size: usize, name_length: &mut usize) -> u32;
 }
 
@@ -299,6 +322,41 @@ pub(crate) fn look_order(
         let found = found.as_mut_ptr();
         vorgushan_look_order(engine, moment, from.key, start.as_ptr(), start.len(), from.backward, found, size, length)
     }
+}
+
+/// The place where a search for names starts: at a name, in a direction.
+#[derive(Clone, Copy)]
+pub(crate) struct NamePlace<'a> {
+    pub(crate) start: &'a [u8],
+    pub(crate) backward: u32,
+}
+
+pub(crate) fn look_name(
+    engine: &mut RawEngine,
+    moment: u64,
+    from: NamePlace,
+    name: &mut [u8],
+    length: &mut usize,
+) -> u32 {
+    let (start, size) = (from.start, name.len());
+    // SAFETY: pointers and lengths are those of two slices, which are lent for the call and don't overlap.
+    unsafe {
+        let name = name.as_mut_ptr();
+        vorgushan_look_name(engine, moment, start.as_ptr(), start.len(), from.backward, name, size, length)
+    }
+}
+
+pub(crate) fn look_children(
+    engine: &mut RawEngine,
+    moment: u64,
+    key: &mut RawKey,
+    start: &[u8],
+    children: &mut [u8],
+    length: &mut usize,
+) -> u32 {
+    let (from, size) = (start.as_ptr(), children.len());
+    // SAFETY: pointers and lengths are those of two slices, which are lent for the call and don't overlap.
+    unsafe { vorgushan_look_children(engine, moment, key, from, start.len(), children.as_mut_ptr(), size, length) }
 }
 
 pub(crate) fn walk(

@@ -5,7 +5,7 @@ use crate::error::{done, Error};
 use crate::job::{Data, Direction, Start};
 use crate::key::{Key, Reference, Subscript};
 use crate::raw::{self, outcome};
-use crate::walk::Walk;
+use crate::walk::{Level, Names, Walk};
 
 /// The database as it was at one moment, of [`Database::view`]. It is ended when it is dropped.
 ///
@@ -90,6 +90,16 @@ impl<'a> View<'a> {
     /// All nodes with a value, in order.
     pub fn walk_all(&self) -> Walk<'_> {
         Walk::new(self.database, self.number, None)
+    }
+
+    /// The children of a key in order, each with its value.
+    pub fn children<'w>(&'w self, key: &'w Key) -> Level<'w> {
+        Level::new(self.database, self.number, key)
+    }
+
+    /// The names of the globals that have a node, in order.
+    pub fn names(&self) -> Names<'_> {
+        Names::new(self.database, self.number)
     }
 
     /// All nodes with a value as lines, as [`Database::listing`].

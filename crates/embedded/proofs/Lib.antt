@@ -1,4 +1,5 @@
 mod Nodes
+mod Siblings
 mod Starts
 mod Walked
 pub mod Refused

@@ -7,7 +7,8 @@ use Rattle.command.specs.declared.request.Command.{Command}
 use Rattle.command.specs.declared.request.Reply.TheVariants.{Refused}
 use Rattle.journal.specs.Story.{Machine}
 use Rattle.script.specs.Line.{IsRefusalOf}
-use Rattle.embedded.specs.Calls.{IsReplyDue, IsAnswer}
+use Rattle.serial.specs.Answers.{IsReplyDue}
+use Rattle.embedded.specs.Calls.{IsAnswer}
 
 pub refused_answer : (s : Machine) (line : List ℕ) (refusal : Refusal) → IsRefusalOf line refusal → IsAnswer s line (Refused refusal)
 refused_answer s line OutOfMemory h = inr (refl, h)

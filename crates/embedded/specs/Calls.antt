@@ -1,23 +1,20 @@
 -- What the calls of an embedded engine answer, leave and copy.
--- Read IsAnswer, told_by, copied_onto, outcome_of_copy, then IsLineCall, IsReplyCall and IsListCall.
-use Rattle.std.specs.Prelude.{◌≡◌, ◌≢◌, ◌⊎◌, ℕ, ◌-◌, ◌^◌, min, Bool, true, false, not, nat_le, if◌then◌else◌, List, ◌++◌, length, drop, Option, None, Some, Result, Ok, Err}
+-- Read IsAnswer, copied_onto, outcome_of_copy, then IsLineCall, IsReplyCall and IsListCall.
+use Rattle.std.specs.Prelude.{◌≡◌, ◌≢◌, ◌⊎◌, ℕ, ◌-◌, ◌^◌, min, Bool, true, false, not, nat_le, if◌then◌else◌, List, ◌++◌, length, drop, Option, None, Some}
 use Rattle.std.specs.List.{find, flat_map}
 use Rattle.std.specs.Option.{MatchOption, is_some}
 use Rattle.std.specs.Ordering.{is_lt}
 use Rattle.std.specs.FinMap as finmap
-use Rattle.refusal.specs.declared.Refusal.{Refusal}
 use Rattle.refusal.specs.declared.Refusal.TheVariants.{OutOfMemory}
 use Rattle.collation.specs.Reference.{Reference}
 use Rattle.collation.specs.Order.{ref_cmp}
 use Rattle.collation.specs.Database.{Database}
-use Rattle.command.specs.declared.request.Command.{Command}
 use Rattle.command.specs.declared.request.Reply.{Reply}
-use Rattle.command.specs.declared.request.Reply.TheVariants.{Refused}
 use Rattle.journal.specs.Checkpoints.{IsCheckpoint}
 use Rattle.journal.specs.Format.{unit_bytes}
 use Rattle.journal.specs.History.{initial, after as left_by}
-use Rattle.journal.specs.Story.{Machine, told}
-use Rattle.serial.specs.Machine.{IsReply}
+use Rattle.journal.specs.Story.{Machine}
+use Rattle.serial.specs.Answers.{IsReplyOrMemory, told_by}
 use Rattle.script.specs.Line.{reading_of, job_of_line, HasOperands}
 use Rattle.script.specs.Text.{reply_text}
 use Rattle.listing.specs.Listing.{node_text}
@@ -30,19 +27,9 @@ use Rattle.embedded.specs.declared.engine.Embedded.{Embedded}
 
 -- ---- a line's reply
 
--- what asks something gets a reply of the machine, what asks nothing its refusal
-abbrev pub IsReplyDue : Machine → Result (ℕ × Command) Refusal → Reply → Type 0
-IsReplyDue s (Ok step) reply = IsReply step.0 step.1 reply s
-IsReplyDue s (Err refusal) reply = reply ≡ Refused refusal
-
--- a line gets that, or, only where it has operands to be read, the refusal of memory
+-- the reply to a line, as it was read; where it has operands, memory to read them may be refused
 abbrev pub IsAnswer : Machine → List ℕ → Reply → Type 0
-IsAnswer s line reply = IsReplyDue s (reading_of line) reply ⊎ ((reply ≡ Refused OutOfMemory) × HasOperands line)
-
--- what a line and its reply change
-abbrev pub told_by : Result (ℕ × Command) Refusal → Reply → Machine → Machine
-told_by (Ok step) reply s = told step.0 step.1 reply s
-told_by (Err refusal) reply s = s
+IsAnswer s line reply = IsReplyOrMemory (HasOperands line) s (reading_of line) reply
 
 -- ---- a text in a buffer
 

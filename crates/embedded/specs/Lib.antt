@@ -1,6 +1,9 @@
 pub mod Calls
+pub mod Children
+pub mod Followed
 pub mod Gathered
 pub mod Looks
 pub mod Moments
+pub mod Names
 pub mod Outcomes
 pub mod laws

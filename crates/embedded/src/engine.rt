@@ -3,7 +3,8 @@ ghost use Rattle.std.specs.Prelude.{◌≡◌, Some, None, OnOk};
 ghost use Rattle.journal.specs.Story.{nothing_done};
 ghost use Rattle.script.specs.Line.{reading_of, job_of_line};
 ghost use Rattle.script.specs.Text.{reply_text};
-ghost use Rattle.embedded.specs.Calls.{IsAnswer, told_by, IsReplyCopied, IsLineCall, IsReplyCall};
+ghost use Rattle.embedded.specs.Calls.{IsAnswer, IsReplyCopied, IsLineCall, IsReplyCall};
+ghost use Rattle.serial.specs.Answers.{told_by};
 
 use crate::Outcome;
 use crate::copied::copied_as;

@@ -7,16 +7,18 @@
 //!
 //! (1) a line is run once, whether or not its reply fits into the buffer: where it doesn't, the reply is kept, its
 //!     length is told, and `copy_reply` copies it into a longer one;
-//! (2) nothing is written into a buffer that is too short, and nothing behind what is copied; (3) a refusal is told by
-//! its own number; (4) a look at the database, one value, the nodes of a walk, or what $ORDER, $DATA and $QUERY answer,
-//! is no command: no unit, no reply, and the machine stays
-//!     (`specs/Looks.antt`). A walk's place is a key of the caller's; (5) a look sees the database of a moment, which is
-//! now, or that at which a job's open transaction began (`specs/Moments.antt`).
+//! (2) nothing is written into a buffer that is too short, and nothing behind what is copied;
+//! (3) a refusal is told by its own number;
+//! (4) a look at the database, one value, the nodes of a walk, the next name, children with their values, or what
+//!     $ORDER, $DATA and $QUERY answer, is no command: no unit, no reply, and the machine stays
+//!     (`specs/Looks.antt`, `specs/Names.antt`, `specs/Children.antt`); a walk's place is a key of the caller's;
+//! (5) a look sees the database of a moment, which is now, or that at which a job's open transaction began
+//!     (`specs/Moments.antt`).
 //!
 //! A C program reaches these calls through `vorgushan_c`.
 //!
-//! Read `specs/Calls.antt`, `specs/Outcomes.antt`, `specs/Moments.antt`, `specs/Looks.antt`, then `engine.rt`,
-//! `listed.rt`, `looked.rt`, `asked.rt`.
+//! Read `specs/Calls.antt`, `specs/Outcomes.antt`, `specs/Moments.antt`, `specs/Looks.antt`, `specs/Names.antt`,
+//! `specs/Children.antt`, then `engine.rt`, `listed.rt`, `looked.rt`, `asked.rt`, `named.rt`, `children.rt`.
 //! Not promised: the time of a call.
 #![tactic(auto)]
 
@@ -26,10 +28,12 @@ pub use outcome::Outcome;
 pub use statistics::Statistics;
 
 mod asked;
+mod children;
 mod copied;
 mod engine;
 mod listed;
 mod looked;
 mod moments;
+mod named;
 mod outcome;
 mod statistics;

@@ -1,5 +1,5 @@
 //! What an engine holds, in numbers.
-ghost use Rattle.std.specs.Prelude.{◌≡◌};
+ghost use Rattle.std.specs.Prelude.{◌≡◌, length};
 ghost use Rattle.embedded.specs.Calls.{count_of, IsCheckpointCall, IsCollectCall, IsCount};
 
 use crate::{Embedded, Outcome};
@@ -38,6 +38,14 @@ impl Embedded {
             journal_bytes: journal.size() as u64,
             nodes: count_nodes(&self.core.content()),
         }
+    }
+
+    /// How many units the journal has, those too that a checkpoint dropped: after a command that leaves one, such as a
+    /// commit, this is its place in the journal, counted from 1. Takes no memory, and no walk.
+    pub fn units(&self) -> u64
+        ensures { result ≡ length self.now.core.machine.units }
+    {
+        self.core.journal().len()
     }
 
     /// Lets the collector look at so many nodes, from where it stopped: it drops what nobody can read any more. No

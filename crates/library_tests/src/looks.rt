@@ -1,11 +1,13 @@
 //! Looks, listings and figures, which are no commands: include/vorgushan.h.
 use crate::copies::{holds, put};
 use crate::keys::child;
+use collation::Direction;
 use embedded::{Embedded, Outcome, Statistics};
 use key_codec::Key;
 use refusal::Refusal;
 use std::alloc::Global;
 use std::test::*;
+use typed_calls::{key_of_name, look_children};
 
 // Whether the next line of the listing is this.
 fn is_listed(engine: &mut Embedded, line: &[u8]) -> bool {
@@ -107,6 +109,87 @@ fn nodes_are_walked(rt: HostRuntime) -> Result<(), Fail> {
     Ok(())
 }
 
+// What is told of the name next to a start, with so much room.
+fn named(
+    alloc: Global,
+    engine: &Embedded,
+    start: &[u8],
+    direction: Direction,
+    room: &mut [u8],
+) -> (Outcome, usize) {
+    let mut wanted = 99;
+    let outcome = engine.look_name(alloc, 0, start, direction, room, &mut wanted);
+    (outcome, wanted)
+}
+
+#[test]
+fn the_next_name_is_looked_at(rt: HostRuntime) -> Result<(), Fail> {
+    let mut engine = Embedded::new(rt.alloc());
+    let are_set = put_two(rt.alloc(), &mut engine);
+    let mut buffer = [0; 1];
+    let first = named(rt.alloc(), &engine, b"", Direction::Forward, &mut buffer);
+    let last = named(rt.alloc(), &engine, b"", Direction::Backward, &mut []);
+    let end = named(rt.alloc(), &engine, b"A", Direction::Forward, &mut []);
+    let refused = named(rt.alloc(), &engine, b"1", Direction::Forward, &mut []);
+    drop(engine);
+    assert_eq!(rt;
+        (are_set, buffer, first),
+        (Ok(true), *b"A", (Outcome::Done, 1))
+    );
+    assert_eq!(rt;
+        (last, end),
+        ((Outcome::BufferTooShort, 1), (Outcome::AtEnd, 0))
+    );
+    assert_eq!(rt; refused, (Outcome::Refused(Refusal::BadName), 0));
+    Ok(())
+}
+
+// 7="5" and 10="x" as children in a buffer: how long subscript and value are, what $DATA tells, and both.
+const SEVEN: &[u8] = b"\x01\0\0\0\0\0\0\0\x01\0\0\0\0\0\0\0\x01\0\0\0\0\0\0\x0075";
+
+const TEN: &[u8] = b"\x02\0\0\0\0\0\0\0\x01\0\0\0\0\0\0\0\x01\0\0\0\0\0\0\x0010x";
+
+// Whether the children of ^A after a start are told so, where there is room for one.
+fn is_child(alloc: Global, engine: &mut Embedded, start: &[u8], want: &[u8]) -> bool {
+    let Ok(key) = key_of_name(alloc, b"A") else {
+        return false;
+    };
+    let mut buffer = [0; 30];
+    let mut wanted = 99;
+    let outcome = look_children(engine, alloc, 0, &key, start, &mut buffer, &mut wanted);
+    outcome == Outcome::Done && holds(&buffer, wanted, want)
+}
+
+// What is told of the children of ^A after a start, with so much room.
+fn children(
+    alloc: Global,
+    engine: &mut Embedded,
+    start: &[u8],
+    room: &mut [u8],
+) -> Result<(Outcome, usize), Refusal> {
+    let key = key_of_name(alloc, b"A")?;
+    let mut wanted = 99;
+    let outcome = look_children(engine, alloc, 0, &key, start, room, &mut wanted);
+    Ok((outcome, wanted))
+}
+
+#[test]
+fn children_are_looked_at(rt: HostRuntime) -> Result<(), Fail> {
+    let mut engine = Embedded::new(rt.alloc());
+    let are_set = put_two(rt.alloc(), &mut engine);
+    let first = is_child(rt.alloc(), &mut engine, b"", SEVEN);
+    let second = is_child(rt.alloc(), &mut engine, b"7", TEN);
+    let end = children(rt.alloc(), &mut engine, b"10", &mut []);
+    let short = children(rt.alloc(), &mut engine, b"", &mut []);
+    drop(engine);
+    assert_eq!(rt; (are_set, first, second), (Ok(true), true, true));
+    assert_eq!(rt;
+        (end, short),
+        (Ok((Outcome::AtEnd, 0)), Ok((Outcome::BufferTooShort, 26)))
+    );
+    Ok(())
+}
+
 // What the engine tells of its units and nodes, and whether its journal has bytes.
 fn counted(engine: &Embedded) -> (u64, u64, bool) {
     let Statistics {
@@ -125,9 +208,10 @@ fn a_checkpoint_drops_the_journals_bytes(rt: HostRuntime) -> Result<(), Fail> {
     let dropped = engine.checkpoint();
     let collected = engine.collect(100);
     let after = counted(&engine);
+    let units = engine.units();
     drop(engine);
     assert_eq!(rt; (are_set, before), (Ok(true), (2, 2, true)));
     assert_eq!(rt; (dropped, collected), (Outcome::Done, Outcome::Done));
-    assert_eq!(rt; after, (2, 2, false));
+    assert_eq!(rt; (after, units), ((2, 2, false), 2));
     Ok(())
 }

@@ -5,7 +5,7 @@ use embedded::{Embedded, Outcome};
 use refusal::Refusal;
 use std::alloc::Global;
 use std::test::*;
-use typed_calls::{run_command, run_numbered};
+use typed_calls::{level, restarts, run_command, run_numbered};
 
 // What a command of job 1 tells.
 fn told(engine: &mut Embedded, command: Command) -> (Outcome, u64) {
@@ -38,6 +38,45 @@ fn a_transaction_begins_anew(rt: HostRuntime) -> Result<(), Fail> {
     assert_eq!(rt;
         (anew, count),
         ((Outcome::Restarted, 1), (Outcome::Done, 1))
+    );
+    Ok(())
+}
+
+// What is told of a job's level and restarts without a command.
+fn looked(engine: &mut Embedded, job: u64) -> ((Outcome, u64), (Outcome, u64)) {
+    let mut deep = 99;
+    let mut often = 99;
+    let of_level = level(engine, job, &mut deep);
+    let of_restarts = restarts(engine, job, &mut often);
+    ((of_level, deep), (of_restarts, often))
+}
+
+#[test]
+fn levels_and_restarts_are_looked_at(rt: HostRuntime) -> Result<(), Fail> {
+    let mut engine = Embedded::new(rt.alloc());
+    let start = told(&mut engine, Command::Start);
+    let anew = told(&mut engine, Command::Restart);
+    let inner = told(&mut engine, Command::Start);
+    let inside = looked(&mut engine, 1);
+    let outside = looked(&mut engine, 2);
+    let none = looked(&mut engine, 0);
+    drop(engine);
+    assert_eq!(rt;
+        (start, anew, inner),
+        (
+            (Outcome::Done, 1),
+            (Outcome::Restarted, 1),
+            (Outcome::Done, 2)
+        )
+    );
+    assert_eq!(rt; inside, ((Outcome::Done, 2), (Outcome::Done, 1)));
+    assert_eq!(rt; outside, ((Outcome::Done, 0), (Outcome::Done, 0)));
+    assert_eq!(rt;
+        none,
+        (
+            (Outcome::Refused(Refusal::BadJob), 0),
+            (Outcome::Refused(Refusal::BadJob), 0)
+        )
     );
     Ok(())
 }

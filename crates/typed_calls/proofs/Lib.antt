@@ -1,3 +1,3 @@
-pub mod Alone
 pub mod Below
 pub mod InTurn
+pub mod Asked

@@ -6,7 +6,7 @@
 //! `specs/Typed.antt`); or it was refused before the step, and then nothing has changed (`IsRefusedCall`). A value that
 //! is answered is copied as its bytes are, bytes 0 too; a number is told; the reference that $QUERY finds comes to be
 //! the key's. A look answers what $ORDER and $QUERY would, in the database of a moment, and is no step; a view is such a
-//! moment, from a TSTART on (`specs/Looks.antt`).
+//! moment, from a TSTART on; a job's level and restarts are told without a step too (`specs/Looks.antt`).
 //!
 //! Read `specs/Commands.antt`, `specs/Spelled.antt`, `specs/Typed.antt`, `specs/Looks.antt`, then `keys.rt`,
 //! `commands.rt`, `steps.rt`, `calls.rt`, `looks.rt`.
@@ -16,7 +16,7 @@
 pub use calls::{data, get, kill, lock, merge, order, query, set};
 pub use commands::LockForm;
 pub use keys::{LentText, key_below, key_of_name, spell_key};
-pub use looks::{begin_view, look_order, look_query};
+pub use looks::{begin_view, level, look_children, look_order, look_query, restarts};
 pub use steps::{copy_value, run_command, run_numbered};
 
 mod calls;

@@ -1,6 +1,5 @@
 //! A step of a command, and what its reply tells.
-ghost use Rattle.std.specs.Prelude.{◌≡◌, false, is_some, Some};
-ghost use Rattle.journal.specs.Story.{transaction_of};
+ghost use Rattle.std.specs.Prelude.{◌≡◌, Some};
 ghost use Rattle.job_core.specs.Lent.{done_reply};
 ghost use Rattle.typed_calls.specs.Commands.{set_command};
 ghost use Rattle.typed_calls.specs.Typed as typed;
@@ -47,25 +46,23 @@ fn reply_of_set(done: Result<(), Refusal>) -> Reply
     }
 }
 
-// Does a SET of a job that has no open transaction by reference, without making the command, and keeps its reply.
+// Does a SET of a value that isn't too long by reference, without making the command, and keeps its reply.
 //
 // Outcomes: the reply's own; before the step `OutOfMemory`.
-#[tactic(auto, using(crate::proofs::Alone::none_open))]
-pub(crate) fn set_alone(
+pub(crate) fn set_lent(
     engine: &mut Embedded,
     alloc: Global,
     job: Job,
     key: &Key,
     value: &[u8],
 ) -> Outcome
-    requires { is_some (transaction_of job engine.old.core.machine) ≡ false }
     ensures { IsTypedCall (λ refusal. IsMemory refusal) job (set_command key.now value.now) engine.old engine.new result }
 {
     let mut text = match Text::from_slice(alloc, value) {
         Ok(text) => text,
         Err(_) => return Outcome::Refused(Refusal::OutOfMemory),
     };
-    let done = engine.core.set_lone(job, key, &mut text);
+    let done = engine.core.set(job, key, &mut text);
     keep_reply(engine, job, reply_of_set(done))
 }
 
@@ -86,7 +83,7 @@ pub fn run_command(engine: &mut Embedded, job: u64, command: Command) -> Outcome
 }
 
 // The number that a reply tells.
-fn number_of(reply: &Reply) -> u64
+pub(crate) fn number_of(reply: &Reply) -> u64
     ensures { result ≡ typed.number_of reply.now }
 {
     match reply {

@@ -1,5 +1,5 @@
 //! What C calls. Each of them is declared in `include/vorgushan.h`, with its meaning for a C programmer.
-ghost use Rattle.std.specs.Prelude.{◌≡◌, ⊤, None};
+ghost use Rattle.std.specs.Prelude.{◌≡◌, ⊤, None, length};
 ghost use Rattle.std.specs.Option.{MatchOption};
 ghost use Rattle.embedded.specs.Calls.{IsCheckpointCall, IsCollectCall, IsLineCall, IsListCall, IsReplyCall, IsRestart};
 ghost use Rattle.embedded.specs.Outcomes.{outcome_number};
@@ -198,6 +198,22 @@ pub extern "C" fn vorgushan_statistics(
         journal_bytes: counted.journal_bytes,
         nodes: counted.nodes,
     };
+    engine.put(there);
+    Outcome::Done.number()
+}
+
+/// Tells how many units the journal has, those too that a checkpoint dropped.
+///
+/// `NoEngine` where none is; then nothing is written.
+#[unsafe(no_mangle)]
+pub extern "C" fn vorgushan_units(alloc: Global, engine: &mut VgEngine, number: &mut u64) -> u32
+    ensures { IsCalled engine.old.inside engine.new.inside result (number.new ≡ number.old)
+        (λ before after outcome. (after ≡ before) × ((number.new ≡ length before.core.machine.units) × (outcome ≡ Outcome.Done))) }
+{
+    let Some(there) = engine.take(alloc) else {
+        return Outcome::NoEngine.number();
+    };
+    *number = there.units();
     engine.put(there);
     Outcome::Done.number()
 }

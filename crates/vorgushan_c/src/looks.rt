@@ -2,7 +2,8 @@
 //! declared in `include/vorgushan.h`, with its meaning for a C programmer.
 ghost use Rattle.std.specs.Prelude.{◌≡◌, ⊤};
 ghost use Rattle.embedded.specs.Looks.{IsDataAt, IsLookAt, IsWalkCall};
-ghost use Rattle.typed_calls.specs.Looks.{IsOrderLook, IsQueryLook, IsViewBegun};
+ghost use Rattle.embedded.specs.Names.{IsNameAt};
+ghost use Rattle.typed_calls.specs.Looks.{IsChildrenLook, IsOrderLook, IsQueryLook, IsViewBegun};
 ghost use Rattle.vorgushan_c.specs.Exports.{IsCalled};
 ghost use Rattle.vorgushan_c.specs.Keys as spec;
 ghost use Rattle.vorgushan_c.specs.Keys.{IsKeyCalled, IsMoved};
@@ -12,7 +13,7 @@ use crate::key_handle::VgKey;
 use crate::typed::direction_of;
 use embedded::Outcome;
 use std::alloc::Global;
-use typed_calls::{begin_view, look_order, look_query};
+use typed_calls::{begin_view, look_children, look_order, look_query};
 
 /// Begins a view for a job that has no open transaction: from then on its number is a moment for looks, until TROLLBACK.
 ///
@@ -178,6 +179,63 @@ pub extern "C" fn vorgushan_walk(
     let outcome = there.copy_nodes(alloc, moment, &within, &mut behind, nodes, wanted);
     root.put_back(within);
     place.put_back(behind);
+    engine.put(there);
+    outcome.number()
+}
+
+/// Copies the next name after `start`, or backward the one before it, that a node has in the database of a moment.
+/// Backward where `backward` isn't 0.
+///
+/// Outcomes: as of `Embedded::look_name`; `NoEngine`.
+#[unsafe(no_mangle)]
+pub extern "C" fn vorgushan_look_name(
+    alloc: Global,
+    engine: &mut VgEngine,
+    moment: u64,
+    start: &[u8],
+    backward: u32,
+    name: &mut [u8],
+    wanted: &mut usize,
+) -> u32
+    ensures { IsCalled engine.old.inside engine.new.inside result ((name.new ≡ name.old) × (wanted.new ≡ wanted.old)) (λ before after outcome.
+        (after ≡ before) × IsNameAt moment before.core.machine start.now (spec.direction_of backward) outcome name.old name.new wanted.new) }
+{
+    let Some(there) = engine.take(alloc) else {
+        return Outcome::NoEngine.number();
+    };
+    let direction = direction_of(backward);
+    let outcome = there.look_name(alloc, moment, start, direction, name, wanted);
+    engine.put(there);
+    outcome.number()
+}
+
+/// Copies the children of a key that come after `start`, in the database of a moment, as many as the buffer has room for,
+/// and tells how long their records are together.
+///
+/// Outcomes: as of `typed_calls::look_children`; `NoEngine`, `NoKey`.
+#[unsafe(no_mangle)]
+pub extern "C" fn vorgushan_look_children(
+    alloc: Global,
+    engine: &mut VgEngine,
+    moment: u64,
+    key: &mut VgKey,
+    start: &[u8],
+    children: &mut [u8],
+    wanted: &mut usize,
+) -> u32
+    ensures called { IsKeyCalled engine.old.inside engine.new.inside key.old.inside result ((children.new ≡ children.old) × (wanted.new ≡ wanted.old)) (λ reference before after outcome.
+        IsChildrenLook moment reference start.now before after outcome children.old children.new wanted.new) }
+    ensures key { key.new.inside ≡ key.old.inside }
+{
+    let Some(mut there) = engine.take(alloc) else {
+        return Outcome::NoEngine.number();
+    };
+    let Some(at) = key.take(alloc) else {
+        engine.put(there);
+        return Outcome::NoKey.number();
+    };
+    let outcome = look_children(&mut there, alloc, moment, &at, start, children, wanted);
+    key.put(at);
     engine.put(there);
     outcome.number()
 }

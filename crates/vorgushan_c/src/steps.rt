@@ -1,6 +1,7 @@
-//! What C calls on an engine alone: LOCK without names, and the commands of transactions. Each of them is declared in
+//! What C calls on an engine alone: LOCK without names, the commands of transactions, and a job's level and restarts. Each of them is declared in
 //! `include/vorgushan.h`, with its meaning for a C programmer.
 ghost use Rattle.std.specs.Prelude.{◌≡◌};
+ghost use Rattle.typed_calls.specs.Looks.{IsNumberLook};
 ghost use Rattle.typed_calls.specs.Typed.{IsJobCause, IsNumberCall};
 ghost use Rattle.vorgushan_c.specs.Exports.{IsCalled};
 
@@ -9,7 +10,7 @@ use command::Command;
 use embedded::Outcome;
 use lock_name::LockCommand;
 use std::alloc::Global;
-use typed_calls::run_numbered;
+use typed_calls::{level, restarts, run_numbered};
 
 // Does a command of a job, and tells its reply's number.
 fn step(alloc: Global, engine: &mut VgEngine, job: u64, command: Command, number: &mut u64) -> u32
@@ -126,4 +127,46 @@ pub extern "C" fn vorgushan_halt(
         IsNumberCall (λ refusal. IsJobCause job refusal) job Command.Halt before after outcome number.new) }
 {
     step(alloc, engine, job, Command::Halt, number)
+}
+
+/// $TLEVEL: tells how deep a job's transaction is, 0 where it has none; it is no command.
+///
+/// Outcomes: as of `typed_calls::level`; `NoEngine`.
+#[unsafe(no_mangle)]
+pub extern "C" fn vorgushan_tlevel(
+    alloc: Global,
+    engine: &mut VgEngine,
+    job: u64,
+    number: &mut u64,
+) -> u32
+    ensures { IsCalled engine.old.inside engine.new.inside result (number.new ≡ number.old) (λ before after outcome.
+        IsNumberLook job Command.Level before after outcome number.new) }
+{
+    let Some(mut there) = engine.take(alloc) else {
+        return Outcome::NoEngine.number();
+    };
+    let outcome = level(&mut there, job, number);
+    engine.put(there);
+    outcome.number()
+}
+
+/// $TRESTART: tells how often a job's transaction was restarted, 0 where it has none; it is no command.
+///
+/// Outcomes: as of `typed_calls::restarts`; `NoEngine`.
+#[unsafe(no_mangle)]
+pub extern "C" fn vorgushan_trestarts(
+    alloc: Global,
+    engine: &mut VgEngine,
+    job: u64,
+    number: &mut u64,
+) -> u32
+    ensures { IsCalled engine.old.inside engine.new.inside result (number.new ≡ number.old) (λ before after outcome.
+        IsNumberLook job Command.Restarts before after outcome number.new) }
+{
+    let Some(mut there) = engine.take(alloc) else {
+        return Outcome::NoEngine.number();
+    };
+    let outcome = restarts(&mut there, job, number);
+    engine.put(there);
+    outcome.number()
 }

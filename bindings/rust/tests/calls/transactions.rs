@@ -138,3 +138,18 @@ fn a_transaction_may_be_too_long() -> Result<(), Error> {
     assert_eq!(database.look_text(&a)?.as_deref(), Some("65534"));
     Ok(())
 }
+
+#[test]
+fn a_job_tells_its_level_and_restarts() -> Result<(), Error> {
+    let database = empty();
+    let job = database.job(1)?;
+    assert_eq!((job.level()?, job.restarts()?), (0, 0));
+    database.line("1 TSTART")?;
+    database.line("1 TRESTART").err();
+    database.line("1 TSTART")?;
+    assert_eq!((job.level()?, job.restarts()?), (2, 1));
+    assert_eq!((database.statistics()?.units, database.units()?), (0, 0));
+    database.line("2 SET ^A=1")?;
+    assert_eq!(database.units()?, 1);
+    job.rollback()
+}

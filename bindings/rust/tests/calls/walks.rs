@@ -1,7 +1,7 @@
 //! Walks: over a level, over a subtree, over all.
 
 use crate::{empty, key, with};
-use vorgushan::{Database, Error, Key, Node};
+use vorgushan::{Child, Database, Error, Key, Names, Node};
 
 /// The subscripts of a level as text.
 fn texts(children: impl Iterator<Item = Result<Vec<u8>, Error>>) -> Result<Vec<String>, Error> {
@@ -160,5 +160,57 @@ fn numbers_come_back_from_key_bytes() -> Result<(), Error> {
         texts(job.children(&a))?,
         nodes.iter().map(|node| String::from_utf8_lossy(&node.value)).collect::<Vec<_>>()
     );
+    Ok(())
+}
+
+/// The names that come next.
+fn some(names: Names<'_>) -> Result<Vec<String>, Error> {
+    names.collect()
+}
+
+#[test]
+fn names_come_in_order() -> Result<(), Error> {
+    let database = with(&["^B(1,2)=1", "^B(3)=1", "^%A=1"]);
+    let view = database.view(9)?;
+    database.job(1)?.set(&key("^z"), "1")?;
+    assert_eq!(some(database.names())?, ["%A", "B", "z"]);
+    assert_eq!(some(database.names().backward())?, ["z", "B", "%A"]);
+    assert_eq!(some(database.names().after("A"))?, ["B", "z"]);
+    assert_eq!(some(database.names().after("B").backward())?, ["%A"]);
+    assert_eq!(some(view.names())?, ["%A", "B"]);
+    let mut refused = database.names().after("1");
+    assert_eq!((refused.next(), refused.next()), (Some(Err(Error::BadName)), None));
+    Ok(())
+}
+
+#[test]
+fn each_command_is_a_unit() -> Result<(), Error> {
+    let database = with(&["^A=1", "^A=2"]);
+    assert_eq!((database.units()?, database.statistics()?.units), (2, 2));
+    Ok(())
+}
+
+/// A child by its texts.
+fn child(subscript: &str, value: Option<&str>, has_descendants: bool) -> Child {
+    let value = value.map(|value| value.as_bytes().to_vec());
+    Child { subscript: subscript.as_bytes().to_vec(), value, has_descendants }
+}
+
+#[test]
+fn children_come_with_their_values() -> Result<(), Error> {
+    let database = with(&["^A(2)=\"two\"", "^A(10,1,1)=1", "^A(\"x\")=\"\"", "^A(\"x\",1)=1"]);
+    let (a, view) = (key("^A"), database.view(9)?);
+    database.job(1)?.set(&key("^A(\"y\")"), "why")?;
+    let all = [child("2", Some("two"), false), child("10", None, true), child("x", Some(""), true), child("y", Some("why"), false)];
+    assert_eq!(database.children(&a).collect::<Result<Vec<_>, _>>()?, all);
+    assert_eq!(database.children(&a).after("3").collect::<Result<Vec<_>, _>>()?, all[1..]);
+    assert_eq!(view.children(&a).collect::<Result<Vec<_>, _>>()?, all[..3]);
+    assert_eq!(database.children(&key("^B")).next(), None);
+    let (long, mut steps) = ("s".repeat(256), 0);
+    let mut refused = database.children(&a).after(long.as_str());
+    while refused.next().is_some() {
+        steps += 1;
+    }
+    assert_eq!(steps, 1);
     Ok(())
 }
