@@ -1,6 +1,7 @@
 //! C's allocation, counted. Before each write to standard output it reports on standard error how many bytes are
-//! allocated apart from the largest block; where `WHOLE` is set, the most of all blocks since the last write. To be
-//! preloaded, into a program of one thread.
+//! allocated apart from the largest block; where `WHOLE` is set, the most of all blocks since the last write. Where `ROOM`
+//! is set, what isn't large is refused once it would take so many bytes more than at the 21st write. To be preloaded, into
+//! a program of one thread.
 use std::ffi::{c_char, c_void};
 use std::sync::atomic::{AtomicUsize, Ordering::Relaxed};
 
@@ -12,6 +13,7 @@ extern "C" {
     fn malloc_usable_size(block: *mut c_void) -> usize;
     fn __write(file: i32, bytes: *const u8, count: usize) -> isize;
     fn getenv(name: *const c_char) -> *const c_char;
+    fn atol(text: *const c_char) -> i64;
 }
 
 /// Only blocks of at least this many bytes may be the largest.
@@ -21,6 +23,18 @@ const LARGE: usize = 65_536;
 static LIVE: AtomicUsize = AtomicUsize::new(0);
 static MOST: AtomicUsize = AtomicUsize::new(0);
 static SIZES: [AtomicUsize; 64] = [const { AtomicUsize::new(0) }; 64];
+
+/// The write at which `ROOM` begins to count.
+const FIRST_IN_ROOM: usize = 20;
+
+/// The bytes of the blocks that aren't large, how many these may become, and how many writes there were.
+static SMALL: AtomicUsize = AtomicUsize::new(0);
+static MOST_SMALL: AtomicUsize = AtomicUsize::new(usize::MAX);
+static WRITES: AtomicUsize = AtomicUsize::new(0);
+
+fn is_refused(size: usize) -> bool {
+    size < LARGE && SMALL.load(Relaxed) + size > MOST_SMALL.load(Relaxed)
+}
 
 /// A place that has this size gets another.
 fn exchange(old: usize, new: usize) {
@@ -33,6 +47,8 @@ fn count(block: *mut c_void) -> *mut c_void {
     MOST.fetch_max(LIVE.fetch_add(size, Relaxed) + size, Relaxed);
     if size >= LARGE {
         exchange(0, size);
+    } else {
+        SMALL.fetch_add(size, Relaxed);
     }
     block
 }
@@ -42,11 +58,16 @@ fn uncount(block: *mut c_void) {
     LIVE.fetch_sub(size, Relaxed);
     if size >= LARGE {
         exchange(size, 0);
+    } else {
+        SMALL.fetch_sub(size, Relaxed);
     }
 }
 
 #[no_mangle]
 pub unsafe extern "C" fn malloc(size: usize) -> *mut c_void {
+    if is_refused(size) {
+        return std::ptr::null_mut();
+    }
     count(__libc_malloc(size))
 }
 
@@ -57,6 +78,9 @@ pub unsafe extern "C" fn calloc(number: usize, size: usize) -> *mut c_void {
 
 #[no_mangle]
 pub unsafe extern "C" fn realloc(old: *mut c_void, size: usize) -> *mut c_void {
+    if is_refused(size) {
+        return std::ptr::null_mut();
+    }
     uncount(old);
     count(__libc_realloc(old, size))
 }
@@ -87,6 +111,10 @@ pub unsafe extern "C" fn write(file: i32, bytes: *const u8, count: usize) -> isi
         let (live, largest) = (LIVE.load(Relaxed), SIZES.iter().map(|size| size.load(Relaxed)).max().unwrap_or(0));
         let most = MOST.swap(live, Relaxed);
         tell(if getenv(c"WHOLE".as_ptr()).is_null() { live - largest } else { most });
+        let room = getenv(c"ROOM".as_ptr());
+        if !room.is_null() && WRITES.fetch_add(1, Relaxed) == FIRST_IN_ROOM {
+            MOST_SMALL.store(SMALL.load(Relaxed) + atol(room) as usize, Relaxed);
+        }
     }
     __write(file, bytes, count)
 }

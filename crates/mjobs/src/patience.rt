@@ -10,7 +10,7 @@ use std::rt::Clock;
 use std::sync::atomic::{AtomicBool, Ordering};
 use std::sync::{Mutex, Wait};
 use std::thread;
-use std::time::Duration;
+use std::time::{Duration, Instant};
 
 // Tells on standard error how many jobs are done, in one line that is written over, and clears it at the end.
 fn tell_progress(
@@ -40,10 +40,12 @@ fn tell_waiting(rt: &(impl Eprint + AllocGlobal), job: Job, command: &LockComman
     }
 }
 
-/// Lets other threads go on between two tries of a LOCK, and a second pass where it has a timeout; stops all jobs where
-/// one fails, or all wait; on a terminal it tells how many jobs are done.
+/// Lets other threads go on, or time pass, between two tries of a LOCK; stops all jobs where one fails, or all wait; on
+/// a terminal it tells how many jobs are done.
 pub(crate) struct Patience<'a, P> {
     rt: &'a P,
+    // When it was made, where there is time.
+    begun: Option<Instant>,
     progress: Option<Progress>,
     waiting: Mutex<Waiting>,
     // Whether `waiting` says that jobs are stopped. It is asked for each line, without that lock.
@@ -54,6 +56,7 @@ impl<'a, P> Drop for Patience<'a, P> {
     fn drop(self) {
         let Patience {
             rt: _,
+            begun: _,
             progress: _,
             waiting: _,
             is_stopped: _,
@@ -61,14 +64,21 @@ impl<'a, P> Drop for Patience<'a, P> {
     }
 }
 
-impl<'a, P> Patience<'a, P> {
+impl<'a, P: Clock> Patience<'a, P> {
     pub(crate) fn new(rt: &'a P, progress: Option<Progress>) -> Patience<'a, P> {
         Patience {
             rt,
+            begun: Instant::now(rt).ok(),
             progress,
             waiting: Mutex::new(Waiting::new()),
             is_stopped: AtomicBool::new(false),
         }
+    }
+
+    // How many milliseconds have passed since then, where there is time.
+    fn passed(&self) -> Option<u64> {
+        let passed = self.begun?.elapsed(self.rt).ok()?;
+        u64::try_from(passed.as_millis()).ok()
     }
 }
 
@@ -85,8 +95,12 @@ impl<'a, P: Clock + Eprint + AllocGlobal + Wait> Gate for Patience<'a, P> {
         thread::yield_now();
     }
 
-    fn second(&self, _job: Job) {
-        thread::sleep(self.rt, Duration::from_secs(1));
+    fn pause(&self, _job: Job, millis: u64) {
+        thread::sleep(self.rt, Duration::from_millis(millis));
+    }
+
+    fn now(&self) -> u64 {
+        self.passed().unwrap_or(0)
     }
 
     fn waits(&self, _job: Job, _command: &LockCommand) -> Mark {

@@ -61,14 +61,14 @@ fn print_nodes(
     };
     for (key, value) in walk_between(&content, first, end) {
         if count >= MOST_NODES {
-            let _ = eprintln!(rt; "{program}: these are the first {count} nodes");
+            let _ = eprintln!(rt; "{program}: these are the first {count} committed nodes");
             return Ok(());
         }
         count += 1;
         print_node(rt, key, value.as_slice(), &mut line)?;
     }
     let nodes = if count == 1 { "node" } else { "nodes" };
-    let _ = eprintln!(rt; "{program}: {count} {nodes}");
+    let _ = eprintln!(rt; "{program}: {count} committed {nodes}");
     Ok(())
 }
 

@@ -58,7 +58,7 @@ mrun --help names them:
   2 $GET(^Stock(\"apples\"))
 
 All input is read first. A job's lines are done in order by one worker,
-different jobs at the same time. A transaction that was overtaken is done again
+different jobs at the same time. A transaction that has a conflict is done again
 by itself, with the same constants, so a script that sends its commands again
 is for mrun. A LOCK waits until it has its names, with `:5` for some 5 seconds
 at most.
@@ -132,7 +132,7 @@ fn command<'a>(alloc: Global) -> Result<Command<'a>, Error> {
         .value_parser(ValueParser::string())
         .default_value("2")
         .help(
-            "How many jobs are done at the same time, 1 to{n}16; auto: as many as there are processors{n}",
+            "How many jobs are done at the same time, 1 to 16;{n}auto is the number of processors",
         );
     let command = Command::new(alloc, "mjobs")
         .version(VERSION)

@@ -122,7 +122,7 @@ pub fn print_greeting(rt: &impl Eprint, program: &str, listed: bool) {
         ""
     };
     let _ = eprintln!(rt;
-        "{program}: type lines such as 1 SET ^A(1)=5 and 1 $GET(^A(1)); Enter alone shows what stands there and below, Ctrl-D ends the input{listing}"
+        "{program}: type lines such as 1 SET ^A(1)=5 and 1 $GET(^A(1)); Enter alone shows the nodes there and below, Ctrl-D ends the input{listing}"
     );
 }
 
@@ -137,7 +137,7 @@ pub fn print_jobs_greeting(rt: &impl Eprint, program: &str, listed: bool) {
 /// Prints why a TCOMMIT, TROLLBACK or TRESTART of a job may have found no transaction.
 pub fn print_no_transaction(rt: &impl Eprint, program: &str) {
     let _ = eprintln!(rt;
-        "{program}: NoTransaction: a transaction that is overtaken is done again by itself here: a script that sends its commands again is for mrun"
+        "{program}: NoTransaction: a transaction that has a conflict is done again by itself here; a script that sends its commands again is for mrun"
     );
 }
 
@@ -152,7 +152,7 @@ pub fn print_wanting(rt: &impl Eprint, program: &str) {
 pub fn print_unopened(rt: &impl Eprint, program: &str, name: &str, why: io::Error) -> u8
     ensures { result ≡ FAULT_STATUS }
 {
-    let _ = eprintln!(rt; "{program}: cannot read input: {name}: {why}");
+    let _ = eprintln!(rt; "{program}: cannot read {name}: {why}");
     FAULT_STATUS
 }
 

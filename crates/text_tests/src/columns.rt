@@ -60,6 +60,8 @@ fn operands_stop_where_the_grammar_does(rt: HostRuntime) -> Result<(), Fail> {
         ("1 $DATA(^A,1)", BAD, 11, Expected::Closing),
         ("1 $ORDER(^A(1),2)", BAD, 16, Expected::Direction),
         ("1 LOCK ^A:", BAD, 11, Expected::Timeout),
+        ("1 LOCK ^A:.", BAD, 12, Expected::Timeout),
+        ("1 LOCK ^A:5.x", BAD, 13, Expected::Timeout),
         ("1 LOCK ()", BAD, 9, Expected::LockName),
         ("1 LOCK (^A,^B", BAD, 14, Expected::CommaOrClosing),
         ("1 MERGE ^A=B", BAD, 12, Expected::Reference),

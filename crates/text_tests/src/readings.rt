@@ -164,6 +164,8 @@ fn locks_are_read_in_all_their_forms(rt: HostRuntime) -> Result<(), Fail> {
         ("1 LOCK ^A:0", "only ^A"),
         ("1 LOCK +(^A,B):123456789 ", "more ^A B"),
         ("1 LOCK -A(1):5", "fewer A/1"),
+        ("1 LOCK ^A:1.5", "only ^A"),
+        ("1 LOCK ^A:.123456789 ", "only ^A"),
         ("1 LOCK", "release"),
     ];
     assert_eq!(rt; first_other(rt.alloc(), rows)?, None);
@@ -196,7 +198,11 @@ fn lines_that_are_no_locks_get_bad_line(rt: HostRuntime) -> Result<(), Fail> {
         "1 LOCK ^A:",
         "1 LOCK ^A :5",
         "1 LOCK ^A:1234567890",
-        "1 LOCK ^A:1.5",
+        "1 LOCK ^A:5.",
+        "1 LOCK ^A:.",
+        "1 LOCK ^A:1.5.5",
+        "1 LOCK ^A:1.1234567890",
+        "1 LOCK ^A:1234567890.5",
         "1 LOCK ^A:5x",
         "4097 LOCK 5 x",
     ];

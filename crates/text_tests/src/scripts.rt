@@ -174,9 +174,12 @@ fn replies_of_a_block_stand_in_their_places(rt: HostRuntime) -> Result<(), Fail>
 #[test]
 fn timeouts_are_seconds_behind_the_last_colon(rt: HostRuntime) -> Result<(), Fail> {
     let rows: &[(&[u8], Option<u64>)] = &[
-        (b"1 LOCK +^A:5", Some(5)),
+        (b"1 LOCK +^A:5", Some(5_000)),
         (b"1 LOCK +(^A,B(\":\")):0 ", Some(0)),
-        (b"1 L ^A:123456789", Some(123456789)),
+        (b"1 L ^A:123456789", Some(123_456_789_000)),
+        (b"1 LOCK ^A:0.5", Some(500)),
+        (b"1 LOCK ^A:.25 ", Some(250)),
+        (b"1 LOCK ^A:1.0019", Some(1_001)),
         (b"1 LOCK +^A(\":5\")", None),
         (b"1 LOCK", None),
     ];
