@@ -357,7 +357,9 @@ fn job_of(digits: &[u8]) -> Option<u16> {
 fn past_timeout(text: &[u8]) -> Option<&[u8]> {
     let [b':', more @ ..] = text else { return Some(text) };
     let (digits, rest) = split_digits(more);
-    (1..=9).contains(&digits.len()).then_some(rest)
+    let [b'.', fraction @ ..] = rest else { return (1..=9).contains(&digits.len()).then_some(rest) };
+    let (parts, rest) = split_digits(fraction);
+    (digits.len() <= 9 && (1..=9).contains(&parts.len())).then_some(rest)
 }
 
 fn default(text: &[u8]) -> Option<(Option<Value<'_>>, &[u8])> {
