@@ -22,6 +22,7 @@ use std::alloc::{AllocError, AllocFailed, Global};
 use std::marker::Model;
 use std::mem;
 
+pub mod alone;
 pub mod places;
 pub mod values;
 

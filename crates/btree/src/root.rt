@@ -1,9 +1,9 @@
 //! The tree: its root, and how many pairs there are.
-ghost use Rattle.std.specs.Prelude.{◌≡◌, ◌+◌, ◌*◌, ◌-◌, ◌^◌, ◌<◌, ◌≤◌, ◌==◌, [], length, map, reverse, not, true, cond, is_some, None, Some, IfSome, IfOk, IfErr, OnOk, OnErr, IsOk};
+ghost use Rattle.std.specs.Prelude.{◌≡◌, ◌+◌, ◌*◌, ◌-◌, ◌^◌, ◌<◌, ◌≤◌, ◌==◌, [], length, map, reverse, not, true, false, cond, is_some, None, Some, IsSome, IfSome, IfOk, IfErr, OnOk, OnErr, IsOk};
 ghost use Rattle.std.specs.Option.{option_map};
 ghost use Rattle.std.specs.List.{filter, find};
 ghost use Rattle.std.specs.FinMap.Entries as entries;
-ghost use Rattle.btree.specs.Order.{Ascends, Each, find_last, without};
+ghost use Rattle.btree.specs.Order.{Ascends, Each, IsAfter, find_last, without};
 ghost use Rattle.btree.specs.Parts.{IsSure};
 ghost use Rattle.btree.specs.Rows.{IsSize};
 ghost use Rattle.btree.specs.Stretch.{IsStretch};
@@ -180,6 +180,28 @@ impl<K: Ord + Drop, V: Drop> Tree<K, V> {
         ensures kept { OnErr result (self.new ≡ self.old) }
     {
         self.root.replace(key, value)
+    }
+
+    /// Takes out the pair of a key, and gives its value, where nothing but its leaf changes: that keeps 16 others, and
+    /// the next of them doesn't stand before a point. So no pair after the key's stands before that point. Takes no
+    /// memory.
+    ///
+    /// Where it gives none nothing has changed, and the key may be there or not.
+    pub fn take_alone<P: Point<K>>(&mut self, key: &K, past: &P) -> Option<V>
+        ensures value { IfSome result (λ value. entries.find K.cmp key.now self.old.pairs ≡ Some value) }
+        ensures pairs { IsSome result → self.new.pairs ≡ without K.cmp key.now self.old.pairs }
+        ensures alone { IsSome result → Each (λ e. IsAfter K.cmp key.now e → P.before past.now e.0 ≡ false) self.old.pairs }
+        ensures depth { (self.new.depth ≤ self.old.depth) × (self.old.depth ≤ self.new.depth + 1) }
+        ensures missed { result ≡ None → self.new ≡ self.old }
+    {
+        match self.root.take_alone(key, past) {
+            Some(value) => {
+                self.root.fall();
+                self.len -= 1;
+                Some(value)
+            }
+            None => None,
+        }
     }
 
     /// Takes out all pairs. It takes no memory, and keeps a row for the root.

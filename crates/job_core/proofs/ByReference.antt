@@ -1,6 +1,6 @@
--- A SET and a $GET outside a transaction, of which key and value are lent.
-use Rattle.std.proofs.Common.{◌≡◌, ◌≤◌, ◌-◌, ℕ, List, [], ◌∷◌, ◌++◌, length, drop, refl, sym, ap, subst, ◌∙◌, arith, length-append, append-nil, append_assoc, inl, inr}
-use Rattle.std.specs.Prelude.{max, unwrap_or, is_some, Option, Some, None, IfSome, IfOk, IfErr, OnOk, OnErr, IsErrOf, Result, Ok, Err}
+-- Data commands outside a transaction, of which key or place and value are lent.
+use Rattle.std.proofs.Common.{◌≡◌, ◌≤◌, ◌+◌, ◌-◌, ◌*◌, ℕ, List, [], ◌∷◌, ◌++◌, length, drop, refl, sym, ap, subst, ◌∙◌, arith, length-append, append-nil, append_assoc, inl, inr}
+use Rattle.std.specs.Prelude.{false, max, unwrap_or, is_some, Option, Some, None, IfSome, IfOk, IfErr, OnOk, OnErr, IsErrOf, Result, Ok, Err}
 use Rattle.std.specs.List.{flat_map}
 use Rattle.std.specs.Option.{option_map}
 use Rattle.std.specs.FinMap as finmap
@@ -12,15 +12,16 @@ use Rattle.collation.specs.Reference.{Reference}
 use Rattle.collation.specs.Database.{Database}
 use Rattle.lock_name.specs.Locks.{LockState}
 use Rattle.command.specs.declared.access.DataCommand.{DataCommand}
-use Rattle.command.specs.declared.access.DataCommand.TheVariants.{Set, Look}
-use Rattle.command.specs.declared.access.Look.TheVariants.{Get}
+use Rattle.command.specs.declared.access.DataCommand.TheVariants.{Set, Kill, Look}
+use Rattle.command.specs.declared.access.Look.{Look as LookCommand}
+use Rattle.command.specs.declared.access.Look.TheVariants.{Get, Order}
 use Rattle.command.specs.declared.access.Answer.{Answer}
 use Rattle.command.specs.declared.access.Answer.TheVariants.{Value}
 use Rattle.command.specs.Data.{data_after, data_refusal}
 use Rattle.globals.specs.Answering.{early_refusal}
 use Rattle.journal.specs.declared.unit.Unit.{Unit as JournalUnit}
 use Rattle.journal.specs.declared.unit.Unit.TheVariants.{Lone}
-use Rattle.journal.specs.Format.{number_bytes, reference_bytes, unit_bytes}
+use Rattle.journal.specs.Format.{number_bytes, look_bytes, look_kind, unit_bytes}
 use Rattle.journal.specs.Kept.{Claim, HasNoRoom, job_of}
 use Rattle.journal.specs.History.{initial, after}
 use Rattle.journal.specs.Story.{transaction_of}
@@ -59,6 +60,18 @@ pub unchanged_one : {A : Type 0} (result : Result A Refusal) (old new : Common) 
 unchanged_one (Ok r) old new units base cut mark rows bare = tt
 unchanged_one (Err e) old new units base cut mark rows bare = record { units = units; base = base; cut = cut; mark = mark; rows = rows; bare = bare }
 
+-- a store that a refusal leaves as it was
+pub unchanged_kept : {A : Type 0} (result : Result A Refusal) (old new : Common) → OnErr result (new.units ≡ old.units) → new.base ≡ old.base → OnErr result (new.store ≡ old.store) → OnErr result (IsUnchanged old new)
+unchanged_kept (Ok r) old new units base store = tt
+unchanged_kept (Err e) old new units base store = record {
+  units = units;
+  base = base;
+  cut = ap (λ (s : Stored). s.cut) store;
+  mark = ap (λ (s : Stored). s.mark) store;
+  rows = λ x. ap (λ (s : Stored). versions_of s.versions x) store;
+  bare = subst (λ (s : Stored). AddsNoneBare old.store.versions s.versions) (sym store) (λ x bare. bare);
+}
+
 pub unchanged_same : (old new : Common) → new ≡ old → IsUnchanged old new
 unchanged_same old new same = record {
   units = ap (λ (c : Common). c.units) same;
@@ -82,38 +95,41 @@ added_quiet p u told o old new mid is same more base receipt cut agreed versions
   mark = mark;
 }
 
--- neither has a rule of its own
+-- none of these has a rule of its own
 pub set_never_early : {A : Type 0} (key : Reference) (value : List ℕ) (told rule : Refusal) → early_refusal (Set key value) ≡ Some rule → IsErrOf {T = A} (Err told) rule
 set_never_early key value told rule is = absurd (cc)
+
+pub kill_never_early : {A : Type 0} (key : Reference) (told rule : Refusal) → early_refusal (Kill key) ≡ Some rule → IsErrOf {T = A} (Err told) rule
+kill_never_early key told rule is = absurd (cc)
 
 pub get_never_early : {A : Type 0} (key : Reference) (told rule : Refusal) → early_refusal (Look (Get key None)) ≡ Some rule → IsErrOf {T = A} (Err told) rule
 get_never_early key told rule is = absurd (cc)
 
 -- ---- the newest unit
 
--- a $GET's unit ends with its value
-abbrev got_front : ℕ → Reference → List ℕ → List ℕ
-got_front job key value = number_bytes job ++ (17 ∷ (reference_bytes key ++ number_bytes (length value)))
+-- the unit of a command that looks ends with the value that it was answered
+abbrev got_front : ℕ → LookCommand → List ℕ → List ℕ
+got_front job look value = number_bytes job ++ ((4 * look_kind look + 1) ∷ (look_bytes look ++ number_bytes (length value)))
 
-got_ends : (job : ℕ) (key : Reference) (value : List ℕ) → unit_bytes (Lone job (Look (Get key None)) (Value value)) ≡ got_front job key value ++ value
-got_ends job key value =
-    ap (λ bs. number_bytes job ++ (17 ∷ bs)) (sym (append_assoc (reference_bytes key) (number_bytes (length value)) value))
-    ∙ sym (append_assoc (number_bytes job) (17 ∷ (reference_bytes key ++ number_bytes (length value))) value)
+got_ends : (job : ℕ) (look : LookCommand) (value : List ℕ) → unit_bytes (Lone job (Look look) (Value value)) ≡ got_front job look value ++ value
+got_ends job look value =
+    ap (λ bs. number_bytes job ++ ((4 * look_kind look + 1) ∷ bs)) (sym (append_assoc (look_bytes look) (number_bytes (length value)) value))
+    ∙ sym (append_assoc (number_bytes job) ((4 * look_kind look + 1) ∷ (look_bytes look ++ number_bytes (length value))) value)
 
-pub just_got : (value : List ℕ) (told : Claim) (o : Option ℕ) (job : ℕ) (key : Reference) (old new : Common) → HasAdded (Lone job (Look (Get key None)) (Value value)) told o old new → old.base ≤ length old.units → HasJustGot value new.base new.units
-just_got value told o job key old new added within = record { before = old.units; job = job; key = key; newest = added.units; kept = omega (arith, added.base, within) }
+pub just_got : (value : List ℕ) (told : Claim) (o : Option ℕ) (job : ℕ) (look : LookCommand) (old new : Common) → HasAdded (Lone job (Look look) (Value value)) told o old new → old.base ≤ length old.units → HasJustGot value new.base new.units
+just_got value told o job look old new added within = record { before = old.units; job = job; look = look; newest = added.units; kept = omega (arith, added.base, within) }
 
 -- so the bytes after the base end with it
 pub bytes_end : (value : List ℕ) (base : ℕ) (units : List JournalUnit) → HasJustGot value base units → (front : List ℕ) × (flat_map unit_bytes (drop base units) ≡ front ++ value)
 bytes_end value base units is =
-    let u = Lone is.job (Look (Get is.key None)) (Value value) in
+    let u = Lone is.job (Look is.look) (Value value) in
     let first = flat_map unit_bytes (drop base is.before) in (
-      first ++ got_front is.job is.key value,
+      first ++ got_front is.job is.look value,
       ap (λ us. flat_map unit_bytes (drop base us)) is.newest
           ∙ ap (flat_map unit_bytes) (drop-append-le base is.before (u ∷ []) is.kept)
           ∙ flat_map-append unit_bytes (drop base is.before) (u ∷ [])
-          ∙ ap (λ bs. first ++ bs) (append-nil (unit_bytes u) ∙ got_ends is.job is.key value)
-          ∙ sym (append_assoc first (got_front is.job is.key value) value),
+          ∙ ap (λ bs. first ++ bs) (append-nil (unit_bytes u) ∙ got_ends is.job is.look value)
+          ∙ sym (append_assoc first (got_front is.job is.look value) value),
     )
 
 pub last_is : (bytes front last : List ℕ) (size start : ℕ) → bytes ≡ front ++ last → size ≡ length last → start ≡ length bytes - size → drop start bytes ≡ last
@@ -129,3 +145,10 @@ shown_some (Some s) = refl
 
 pub inside_is : (us : List JournalUnit) (ss : Sessions) (job : ℕ) → is_some (transaction_of job (machine_of us ss)) ≡ is_some (finmap.get ss job)
 inside_is us ss job = ap is_some (transaction_is us ss job (finmap.get ss job) refl) ∙ shown_some (finmap.get ss job)
+
+pub none_inside : (us : List JournalUnit) (ss : Sessions) (job : ℕ) → transaction_of job (machine_of us ss) ≡ None → finmap.get ss job ≡ None
+none_inside us ss job none = by_found (finmap.get ss job) (sym (inside_is us ss job) ∙ ap is_some none)
+  where
+    by_found : (o : Option Session) → is_some o ≡ false → o ≡ None
+    by_found None is = refl
+    by_found (Some s) is = absurd (cc)

@@ -15,7 +15,7 @@ use Rattle.journal.specs.Kept.{HasNoRoom}
 use Rattle.version_store.specs.Versions.{Stored, content_now}
 use Rattle.validate_commit.specs.Agreement.{Agreement, IsNextKill}
 use Rattle.job_core.specs.Causes.{IsCauseOf}
-use Rattle.job_core.specs.Changes.{found_changes, own_change, is_lone_kill, row_changed, row_done, IsLoneOf}
+use Rattle.job_core.specs.Changes.{found_changes, own_change, is_lone_kill, row_changed, row_done}
 use Rattle.job_core.proofs.ChangeLemmas.{next_lone}
 
 pub kill_reply : (command : DataCommand) (oldest : Option ℕ) (m : Database) → is_lone_kill command oldest ≡ true → Done ≡ data_reply command m
@@ -50,15 +50,12 @@ kill_cause refusal command m units accepted (inl memory) = inl (inr memory)
 kill_cause refusal command m units accepted (inr full) = inr (full.0, accepted, omega (arith, full.1))
 
 -- its unit is the next, and leaves nothing at and under its reference
-pub next_kill : (p : Option JournalUnit) (store : Stored) (units : List JournalUnit) (command : DataCommand) (r : Reference) → Agreement store units → command ≡ Kill r → IfSome p (λ unit. IsLoneOf command Done unit) → IfSome p (λ unit. IsNextKill r unit units)
-next_kill None store units command r is kill lone = tt
-next_kill (Some unit) store units command r is kill lone =
-    let same : unit ≡ Lone lone.0 (Kill r) Done = lone.1 ∙ ap (λ c. Lone lone.0 c Done) kill in
-    subst (λ u. IsNextKill r u units) (sym same) record {
-      changes = found_changes (Kill r) (content_now store) ++ own_change (Kill r);
-      next = next_lone store units lone.0 (Kill r) Done (found_changes (Kill r) (content_now store)) is refl refl refl;
-      leaves = refl;
-    }
+pub next_kill : (store : Stored) (units : List JournalUnit) (job : ℕ) (r : Reference) → Agreement store units → IsNextKill r (Lone job (Kill r) Done) units
+next_kill store units job r is = record {
+  changes = found_changes (Kill r) (content_now store) ++ own_change (Kill r);
+  next = next_lone store units job (Kill r) Done (found_changes (Kill r) (content_now store)) is refl refl refl;
+  leaves = refl;
+}
 
 -- every other command changes what it finds and its own
 pub not_alone : (command : DataCommand) (oldest : Option ℕ) (stamp cut : ℕ) (old : Stored) (x : Reference) → is_lone_kill command oldest ≡ false → row_changed command stamp cut old x ≡ row_done command oldest stamp cut old x

@@ -1,11 +1,11 @@
--- A SET and a $GET, of which key and value are lent: the replies that their results stand for, and the value that was got.
+-- Data commands of which key or place and value are lent: the replies that their results stand for, and the value that was got.
 use Rattle.std.specs.Prelude.{◌≡◌, ◌≤◌, ℕ, List, [], ◌∷◌, ◌++◌, length, Option, None, Some, Result, Ok, Err, unwrap_or}
 use Rattle.std.specs.FinMap as finmap
 use Rattle.refusal.specs.declared.Refusal.{Refusal}
 use Rattle.collation.specs.Reference.{Reference}
 use Rattle.collation.specs.Database.{Database}
 use Rattle.command.specs.declared.access.DataCommand.TheVariants.{Look}
-use Rattle.command.specs.declared.access.Look.TheVariants.{Get}
+use Rattle.command.specs.declared.access.Look.{Look as LookCommand}
 use Rattle.command.specs.declared.access.Answer.{Answer}
 use Rattle.command.specs.declared.access.Answer.TheVariants.{Done, Value}
 use Rattle.command.specs.declared.request.Reply.{Reply}
@@ -18,7 +18,7 @@ use Rattle.serial.specs.Machine.{seen_by}
 use Rattle.validate_commit.specs.Working.{HasLastGot, value_seen}
 use Rattle.job_core.specs.Sessions.{Session, began_with}
 
--- a SET is done, or refused
+-- a SET or a KILL is done, or refused
 abbrev pub done_reply : Result (Unit {0}) Refusal → Reply
 done_reply (Ok done) = Answered Done
 done_reply (Err refusal) = Refused refusal
@@ -27,7 +27,7 @@ done_reply (Err refusal) = Refused refusal
 abbrev pub value_at : Reference → Database → List ℕ
 value_at r m = unwrap_or (finmap.get m r) []
 
--- a $GET is answered with this value, or refused
+-- a $GET or a $ORDER is answered with this value, or refused
 abbrev pub got_reply : List ℕ → Result ℕ Refusal → Reply
 got_reply value (Ok size) = Answered (Value value)
 got_reply value (Err refusal) = Refused refusal
@@ -62,12 +62,12 @@ value_of job r s = value_at r (seen_in (transaction_of job s) s.units)
 
 -- ---- where the value lies
 
--- the newest unit is a $GET's that was answered with this value, and it isn't among those that the journal has dropped
+-- the newest unit is that of a command that looks and was answered with this value, and it isn't among those that the journal has dropped
 pub record HasJustGot (value : List ℕ) (base : ℕ) (units : List JournalUnit) : Type 0 where
   pub before : List JournalUnit
   pub job : ℕ
-  pub key : Reference
-  pub newest : units ≡ before ++ Lone job (Look (Get key None)) (Value value) ∷ []
+  pub look : LookCommand
+  pub newest : units ≡ before ++ Lone job (Look look) (Value value) ∷ []
   pub kept : base ≤ length before
 
 -- the last command of the job's transaction is a $GET that was answered with this value, and outside the newest unit is

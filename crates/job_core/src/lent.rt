@@ -1,10 +1,15 @@
-//! A SET and a $GET outside a transaction, of which key and value are lent.
-ghost use Rattle.std.specs.Prelude.{◌≡◌, ◌≤◌, ◌<◌, ◌^◌, ◌-◌, ℕ, List, [], ◌∷◌, ◌++◌, None, Some, max, length, unwrap_or, IfSome, IfOk, OnOk, OnErr, IfErr};
+//! A SET, a KILL, a $GET and a $ORDER outside a transaction, of which key or place and the value are lent.
+ghost use Rattle.std.specs.Prelude.{◌≡◌, ◌≤◌, ◌<◌, ◌^◌, ◌-◌, ℕ, List, [], ◌∷◌, ◌++◌, None, Some, max, length, unwrap_or, IfSome, IfOk, OnOk, OnErr, IfErr, IsErrOf};
 ghost use Rattle.std.specs.Option.{option_copied};
 ghost use Rattle.refusal.specs.declared.Refusal.{Refusal};
 ghost use Rattle.collation.specs.Reference.{Reference};
-ghost use Rattle.command.specs.declared.access.DataCommand.TheVariants.{Set, Look};
-ghost use Rattle.command.specs.declared.access.Look.TheVariants.{Get};
+ghost use Rattle.collation.specs.Answers.{is_forward, order_of};
+ghost use Rattle.command.specs.Data.{look_refusal};
+ghost use Rattle.globals.specs.Answering.{IsRuleOrMemory};
+ghost use Rattle.stretches.specs.Empty.{AreEmpty};
+ghost use Rattle.job_core.specs.Causes.{IsCauseOf};
+ghost use Rattle.command.specs.declared.access.DataCommand.TheVariants.{Set, Kill, Look};
+ghost use Rattle.command.specs.declared.access.Look.TheVariants.{Get, Order};
 ghost use Rattle.command.specs.declared.access.Answer.TheVariants.{Done, Value};
 ghost use Rattle.journal.specs.declared.unit.Unit.TheVariants.{Lone};
 ghost use Rattle.journal.specs.Kept.{HasNoRoom};
@@ -13,13 +18,14 @@ ghost use Rattle.validate_commit.specs.Agreement.{Agreement};
 ghost use Rattle.job_core.specs.Changes.{row_done};
 ghost use Rattle.job_core.specs.Lent.{value_at};
 
-use collation::{Job, Text};
-use globals::OrderedView;
+use collation::{Direction, Job, Text};
+use globals::{OrderedView, order};
 use journal::{Journal, Receipt};
-use key_codec::Key;
+use key_codec::{Key, Place};
 use refusal::Refusal;
 use std::alloc::Global;
-use validate_commit::write_set;
+use stretches::{Skipping, Stretches};
+use validate_commit::{write_kill, write_set};
 use version_store::KeyedStore;
 
 /// A SET of a job outside a transaction, on a store and a journal that agree: as `lone` of that command, but the value
@@ -61,6 +67,36 @@ pub(crate) fn set_lent(
     }
 }
 
+/// A KILL of a job outside a transaction, on a store and a journal that agree, where no stamp before now is asked for:
+/// no list of its nodes is made.
+///
+/// Refusals: `StampsUsedUp`, where the journal is full; `OutOfMemory`, for its unit alone. They leave all as it was.
+pub(crate) fn kill_lent(
+    store: &mut KeyedStore,
+    journal: &mut Journal,
+    job: Job,
+    key: &Key,
+) -> Result<Receipt, Refusal>
+    requires { Agreement store.old journal.old.units }
+    ensures unit { OnOk result (journal.new.units ≡ journal.old.units ++ Lone job (Kill key.now) Done ∷ []) }
+    ensures receipt { IfOk result (λ receipt. receipt ≡ record { job = job; number = length journal.new.units; unit = Lone job (Kill key.now) Done }) }
+    ensures counted { OnOk result (length journal.old.units < 2 ^ 64 - 1) }
+    ensures base { journal.new.base ≡ journal.old.base }
+    ensures refused { OnErr result (journal.new.units ≡ journal.old.units) }
+    ensures cause { IfErr result (λ refusal. HasNoRoom refusal 1 (length journal.old.units)) }
+    ensures agreed { Agreement store.new journal.new.units }
+    ensures left { OnOk result (store.new.cut ≡ max store.old.cut (length journal.new.units)) }
+    ensures written { OnOk result ((x : Reference) → versions_of store.new.versions x ≡ row_done (Kill key.now) None (length journal.new.units) store.new.cut store.old x) }
+    ensures same { OnErr result (store.new ≡ store.old) }
+    ensures bare { AddsNoneBare store.old.versions store.new.versions }
+    ensures mark { store.new.mark ≡ store.old.mark }
+{
+    match journal.prepare_kill(job, key) {
+        Ok(()) => Ok(write_kill(store, journal, key)),
+        Err(refusal) => Err(refusal),
+    }
+}
+
 /// Writes the unit of a $GET of a job outside a transaction, behind the units, and answers how many bytes its value
 /// has.
 ///
@@ -82,6 +118,58 @@ pub(crate) fn prepare_got(
     let value = bytes_of(view.get(key));
     match journal.prepare_get(job, key, value) {
         Ok(()) => Ok(value.len()),
+        Err(refusal) => Err(refusal),
+    }
+}
+
+// The answer of a $ORDER, on a store of which no node stands in the stretches.
+fn order_past(
+    alloc: Global,
+    store: &KeyedStore,
+    stretches: &Stretches,
+    place: &Place,
+    direction: Direction,
+) -> Result<Option<Text>, Refusal>
+    requires { AreEmpty stretches.now (content_now store.now) }
+    ensures answer { IfOk result (λ answer. unwrap_or answer [] ≡ order_of (is_forward direction) place.now (content_now store.now)) }
+    ensures accepted { OnOk result (look_refusal (Order place.now direction) ≡ None) }
+    ensures early { (refusal : Refusal) → look_refusal (Order place.now direction) ≡ Some refusal → IsErrOf result refusal }
+    ensures cause { IfErr result (λ refusal. IsRuleOrMemory refusal (look_refusal (Order place.now direction))) }
+{
+    let view = store.view_now();
+    if stretches.are_none() {
+        return order(alloc, &view, place, direction);
+    }
+    order(alloc, &Skipping::new(&view, stretches), place, direction)
+}
+
+/// Writes the unit of a $ORDER of a job outside a transaction, behind the units, and answers how many bytes its answer
+/// has. No node of the store stands in the stretches.
+///
+/// Refusals: `NeedSubscript`, where the place has no subscript; then those of `prepare_order`.
+pub(crate) fn prepare_ordered(
+    alloc: Global,
+    store: &KeyedStore,
+    journal: &mut Journal,
+    stretches: &Stretches,
+    job: Job,
+    place: &Place,
+    direction: Direction,
+) -> Result<usize, Refusal>
+    requires { AreEmpty stretches.now (content_now store.now) }
+    ensures units { journal.new.units ≡ journal.old.units }
+    ensures base { journal.new.base ≡ journal.old.base }
+    ensures prepared { OnOk result (journal.new.prepared ≡ Some (Lone job (Look (Order place.now direction)) (Value (order_of (is_forward direction) place.now (content_now store.now))))) }
+    ensures counted { OnOk result (length journal.old.units < 2 ^ 64 - 1) }
+    ensures accepted { OnOk result (look_refusal (Order place.now direction) ≡ None) }
+    ensures size { IfOk result (λ size. size ≡ length (order_of (is_forward direction) place.now (content_now store.now))) }
+    ensures early { (refusal : Refusal) → look_refusal (Order place.now direction) ≡ Some refusal → IsErrOf result refusal }
+    ensures cause { IfErr result (λ refusal. IsCauseOf refusal (Look (Order place.now direction)) (content_now store.now) (length journal.old.units)) }
+{
+    let answer = order_past(alloc, store, stretches, place, direction)?;
+    let bytes = bytes_of(answer.as_ref());
+    match journal.prepare_order(job, place, direction, bytes) {
+        Ok(()) => Ok(bytes.len()),
         Err(refusal) => Err(refusal),
     }
 }

@@ -7,9 +7,10 @@ ghost use Rattle.stretches.specs.Empty.{AreEmpty, IsEmpty};
 ghost use Rattle.version_store.specs.Versions.{content_now};
 
 use crate::absences::Absences;
+use collation::Direction;
 use command::{DataCommand, Look};
 use globals::Cut;
-use key_codec::Key;
+use key_codec::{Key, Place};
 use key_map::CutPoint;
 use read_ranges::ReadRange;
 use std::alloc::Global;
@@ -70,6 +71,24 @@ impl Passing {
             DataCommand::Look(look) => self.look_ahead(alloc, store, look),
             DataCommand::Kill(_) => self.begin_kill(store, oldest),
             _ => self.leave(alloc, command),
+        }
+    }
+
+    /// Before a lone $ORDER: it looks for the stretch over which it will pass, where killed nodes may lie in its way.
+    pub(crate) fn seek_order(
+        &mut self,
+        alloc: Global,
+        store: &KeyedStore,
+        place: &Place,
+        direction: Direction,
+    )
+        requires { AreEmpty self.old (content_now store.now) }
+        ensures { AreEmpty self.new (content_now store.now) }
+    {
+        if self.absences.are_sought() {
+            if let Ok(copy) = place.clone() {
+                self.note_ahead(alloc, store, &Look::Order(copy, direction));
+            }
         }
     }
 

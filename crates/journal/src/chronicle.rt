@@ -13,8 +13,8 @@ ghost use Rattle.journal.specs.Based.{IsBaseOf, database_of};
 ghost use Rattle.journal.specs.Format.{unit_bytes};
 ghost use Rattle.journal.specs.History.{initial, after};
 ghost use Rattle.journal.specs.Log.{unit_in, IsUnitOf};
-ghost use Rattle.command.specs.declared.access.DataCommand.TheVariants.{Set, Look};
-ghost use Rattle.command.specs.declared.access.Look.TheVariants.{Get};
+ghost use Rattle.command.specs.declared.access.DataCommand.TheVariants.{Set, Kill, Look};
+ghost use Rattle.command.specs.declared.access.Look.TheVariants.{Get, Order};
 ghost use Rattle.command.specs.declared.access.Answer.TheVariants.{Done, Value};
 ghost use Rattle.journal.specs.Stored.{Each, FitsUnit};
 
@@ -23,9 +23,9 @@ use crate::base::Base;
 use crate::exchanges::ExchangeLog;
 use crate::log::Log;
 use crate::past::Past;
-use collation::{Job, Text};
+use collation::{Direction, Job, Text};
 use command::{Answer, DataCommand};
-use key_codec::Key;
+use key_codec::{Key, Place};
 use lock_name::LockCommand;
 use refusal::Refusal;
 use std::alloc::{AllocError, Global};
@@ -151,6 +151,34 @@ impl Chronicle {
         ensures err { OnErr result (self.new.behind ≡ []) }
     {
         self.log.write_get(job, key, value)
+    }
+
+    /// Writes a $ORDER outside a transaction, from its place and what it was answered; refused as `write_lone`.
+    pub(crate) fn write_order(
+        &mut self,
+        job: Job,
+        place: &Place,
+        direction: Direction,
+        value: &[u8],
+    ) -> Result<(), AllocError>
+        requires { self.old.behind ≡ [] }
+        ensures units { self.new.units ≡ self.old.units }
+        ensures base { self.new.base ≡ self.old.base }
+        ensures ok { OnOk result (IsUnitOf self.new.behind job (Lone job (Look (Order place.now direction)) (Value value.now))) }
+        ensures err { OnErr result (self.new.behind ≡ []) }
+    {
+        self.log.write_order(job, place, direction, value)
+    }
+
+    /// Writes a KILL outside a transaction, from its key; refused as `write_lone`.
+    pub(crate) fn write_kill(&mut self, job: Job, key: &Key) -> Result<(), AllocError>
+        requires { self.old.behind ≡ [] }
+        ensures units { self.new.units ≡ self.old.units }
+        ensures base { self.new.base ≡ self.old.base }
+        ensures ok { OnOk result (IsUnitOf self.new.behind job (Lone job (Kill key.now) Done)) }
+        ensures err { OnErr result (self.new.behind ≡ []) }
+    {
+        self.log.write_kill(job, key)
     }
 
     /// Writes a transaction; refused as `write_lone`.

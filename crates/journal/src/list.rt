@@ -12,8 +12,8 @@ ghost use Rattle.journal.specs.Based.{IsBaseOf, database_of};
 ghost use Rattle.journal.specs.Format.{unit_bytes};
 ghost use Rattle.journal.specs.History.{initial, after};
 ghost use Rattle.journal.specs.Kept.{job_of, since, HasNoRoom};
-ghost use Rattle.command.specs.declared.access.DataCommand.TheVariants.{Set, Look};
-ghost use Rattle.command.specs.declared.access.Look.TheVariants.{Get};
+ghost use Rattle.command.specs.declared.access.DataCommand.TheVariants.{Set, Kill, Look};
+ghost use Rattle.command.specs.declared.access.Look.TheVariants.{Get, Order};
 ghost use Rattle.command.specs.declared.access.Answer.TheVariants.{Done, Value};
 ghost use Rattle.journal.specs.Stored.{Each, FitsUnit};
 
@@ -22,9 +22,9 @@ use crate::base::Base;
 use crate::before::Before;
 use crate::chronicle::Chronicle;
 use crate::exchanges::ExchangeLog;
-use collation::{Job, Text};
+use collation::{Direction, Job, Text};
 use command::{Answer, DataCommand};
-use key_codec::Key;
+use key_codec::{Key, Place};
 use lock_name::LockCommand;
 use refusal::Refusal;
 use std::alloc::{AllocError, Global};
@@ -192,6 +192,45 @@ impl Journal {
         self.prepared = None;
         self.log.begin()?;
         self.log.write_get(job, key, value)?;
+        self.prepared = Some(job);
+        Ok(())
+    }
+
+    /// Writes the unit of a $ORDER outside a transaction, from its place and what it was answered; refused as
+    /// `prepare_lone`.
+    pub fn prepare_order(
+        &mut self,
+        job: Job,
+        place: &Place,
+        direction: Direction,
+        value: &[u8],
+    ) -> Result<(), Refusal>
+        ensures units { self.new.units ≡ self.old.units }
+        ensures base { self.new.base ≡ self.old.base }
+        ensures prepared { OnOk result (self.new.prepared ≡ Some (Lone job (Look (Order place.now direction)) (Value value.now))) }
+        ensures refused { OnErr result (self.new.prepared ≡ None) }
+        ensures used_up { 2 ^ 64 - 1 < length self.old.units + 1 → IsErrOf result Refusal.StampsUsedUp }
+        ensures cause { IfErr result (λ refusal. HasNoRoom refusal 1 (length self.old.units)) }
+    {
+        self.prepared = None;
+        self.log.begin()?;
+        self.log.write_order(job, place, direction, value)?;
+        self.prepared = Some(job);
+        Ok(())
+    }
+
+    /// Writes the unit of a KILL outside a transaction, from its key; refused as `prepare_lone`.
+    pub fn prepare_kill(&mut self, job: Job, key: &Key) -> Result<(), Refusal>
+        ensures units { self.new.units ≡ self.old.units }
+        ensures base { self.new.base ≡ self.old.base }
+        ensures prepared { OnOk result (self.new.prepared ≡ Some (Lone job (Kill key.now) Done)) }
+        ensures refused { OnErr result (self.new.prepared ≡ None) }
+        ensures used_up { 2 ^ 64 - 1 < length self.old.units + 1 → IsErrOf result Refusal.StampsUsedUp }
+        ensures cause { IfErr result (λ refusal. HasNoRoom refusal 1 (length self.old.units)) }
+    {
+        self.prepared = None;
+        self.log.begin()?;
+        self.log.write_kill(job, key)?;
         self.prepared = Some(job);
         Ok(())
     }

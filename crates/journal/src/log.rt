@@ -5,17 +5,20 @@ ghost use Rattle.journal.specs.declared.unit.Unit.{Unit as JournalUnit};
 ghost use Rattle.journal.specs.declared.unit.Unit.TheVariants.{Lone, Whole, Lock, Back, End};
 ghost use Rattle.journal.specs.Format.{unit_bytes};
 ghost use Rattle.journal.specs.Log.{unit_in, Stands, IsUnitOf};
-ghost use Rattle.command.specs.declared.access.DataCommand.TheVariants.{Set, Look};
-ghost use Rattle.command.specs.declared.access.Look.TheVariants.{Get};
+ghost use Rattle.command.specs.declared.access.DataCommand.TheVariants.{Set, Kill, Look};
+ghost use Rattle.command.specs.declared.access.Look.TheVariants.{Get, Order};
 ghost use Rattle.command.specs.declared.access.Answer.TheVariants.{Done, Value};
 ghost use Rattle.journal.specs.Stored.{Each, FitsUnit};
 
 use crate::Units;
 use crate::exchanges::ExchangeLog;
-use crate::write::{push_back, push_end, push_get, push_lock, push_lone, push_set, push_whole};
-use collation::Job;
+use crate::write::{
+    push_back, push_end, push_get, push_kill, push_lock, push_lone, push_order, push_set,
+    push_whole,
+};
+use collation::{Direction, Job};
 use command::{Answer, DataCommand};
-use key_codec::Key;
+use key_codec::{Key, Place};
 use lock_name::LockCommand;
 use std::alloc::{AllocError, Global};
 use std::marker::Model;
@@ -148,6 +151,34 @@ impl Log {
         ensures err { OnErr result (self.new.behind ≡ []) }
     {
         let written = push_get(&mut self.bytes, job, key, value);
+        settle(&mut self.bytes, self.end, written)
+    }
+
+    /// Writes a $ORDER outside a transaction, from its place and what it was answered; refused as `write_lone`.
+    pub(crate) fn write_order(
+        &mut self,
+        job: Job,
+        place: &Place,
+        direction: Direction,
+        value: &[u8],
+    ) -> Result<(), AllocError>
+        requires { self.old.behind ≡ [] }
+        ensures units { self.new.units ≡ self.old.units }
+        ensures ok { OnOk result (IsUnitOf self.new.behind job (Lone job (Look (Order place.now direction)) (Value value.now))) }
+        ensures err { OnErr result (self.new.behind ≡ []) }
+    {
+        let written = push_order(&mut self.bytes, job, place, direction, value);
+        settle(&mut self.bytes, self.end, written)
+    }
+
+    /// Writes a KILL outside a transaction, from its key; refused as `write_lone`.
+    pub(crate) fn write_kill(&mut self, job: Job, key: &Key) -> Result<(), AllocError>
+        requires { self.old.behind ≡ [] }
+        ensures units { self.new.units ≡ self.old.units }
+        ensures ok { OnOk result (IsUnitOf self.new.behind job (Lone job (Kill key.now) Done)) }
+        ensures err { OnErr result (self.new.behind ≡ []) }
+    {
+        let written = push_kill(&mut self.bytes, job, key);
         settle(&mut self.bytes, self.end, written)
     }
 

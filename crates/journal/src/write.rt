@@ -5,7 +5,7 @@ ghost use Rattle.collation.specs.Limits.{most_jobs};
 ghost use Rattle.key_codec.specs.Grown.{GoesOnFrom};
 ghost use Rattle.journal.specs.Format as format;
 ghost use Rattle.journal.specs.declared.unit.Unit.TheVariants.{Lone, Whole, Lock, Back, End};
-ghost use Rattle.command.specs.declared.access.DataCommand.TheVariants.{Set};
+ghost use Rattle.command.specs.declared.access.DataCommand.TheVariants.{Set, Kill};
 ghost use Rattle.command.specs.declared.access.Answer.TheVariants.{Done, Value};
 ghost use Rattle.journal.specs.Stored.{FitsUnit, FitsString, FitsReference, FitsName, FitNames, FitsLook, FitsCommand, FitsAnswer, FitsLock, Each};
 
@@ -197,7 +197,8 @@ fn push_names(bytes: &mut Vec<u8>, names: &LockNames) -> Result<(), AllocError>
 }
 
 fn order_kind(place: &Place, direction: Direction) -> u8
-    ensures { result ≡ format.order_kind place.now.is_open direction }
+    ensures kind { result ≡ format.order_kind place.now.is_open direction }
+    ensures low { result ≤ 9 }
 {
     match direction {
         Direction::Forward => { if place.is_open() { 8 } else { 6 } }
@@ -393,6 +394,10 @@ pub(crate) fn push_lone(
         (DataCommand::Look(Look::Get(key, None)), Answer::Value(value)) => {
             push_get(bytes, job, key, value.as_slice())
         }
+        (DataCommand::Look(Look::Order(place, direction)), Answer::Value(value)) => {
+            push_order(bytes, job, place, *direction, value.as_slice())
+        }
+        (DataCommand::Kill(key), Answer::Done) => push_kill(bytes, job, key),
         _ => push_other(bytes, job, command, answer),
     }
 }
@@ -510,6 +515,32 @@ pub(crate) fn push_get(
     ensures kept { GoesOnFrom bytes.old.items bytes.new.items }
 {
     push_pair(bytes, job, 17, key, value)
+}
+
+// The unit of a $ORDER outside a transaction, from its place and what it was answered.
+pub(crate) fn push_order(
+    bytes: &mut Vec<u8>,
+    job: Job,
+    place: &Place,
+    direction: Direction,
+    value: &[u8],
+) -> Result<(), AllocError>
+    ensures bytes { OnOk result (bytes.new.items ≡ bytes.old.items ++ format.unit_bytes (Lone job (DataCommand.Look (Look.Order place.now direction)) (Value value.now))) }
+    ensures fits { OnOk result (FitsUnit (Lone job (DataCommand.Look (Look.Order place.now direction)) (Value value.now))) }
+    ensures kept { GoesOnFrom bytes.old.items bytes.new.items }
+{
+    let tag = 4 * order_kind(place, direction) + 1;
+    push_pair(bytes, job, tag, place.key(), value)
+}
+
+// The unit of a KILL outside a transaction, from its key.
+pub(crate) fn push_kill(bytes: &mut Vec<u8>, job: Job, key: &Key) -> Result<(), AllocError>
+    ensures bytes { OnOk result (bytes.new.items ≡ bytes.old.items ++ format.unit_bytes (Lone job (Kill key.now) Done)) }
+    ensures fits { OnOk result (FitsUnit (Lone job (Kill key.now) Done)) }
+    ensures kept { GoesOnFrom bytes.old.items bytes.new.items }
+{
+    push_head(bytes, job, 4)?;
+    push_key(bytes, key)
 }
 
 // The unit of a LOCK.

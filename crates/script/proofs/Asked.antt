@@ -1,16 +1,17 @@
--- What is left of a line after its sentence: of a SET and a $GET the key.
+-- What is left of a line after its sentence: of a SET, a KILL and a $GET the key, and of a $ORDER the place.
 use Rattle.std.proofs.Common.{◌≡◌, ℕ, List, Option, Some, None, Result, Ok, Err, sym, ap, ◌∙◌}
 use Rattle.refusal.specs.declared.Refusal.{Refusal}
 use Rattle.refusal.specs.declared.Refusal.TheVariants.{OutOfMemory}
 use Rattle.collation.specs.Reference.{Reference}
+use Rattle.collation.specs.declared.direction.Direction.{Direction}
 use Rattle.key_codec.specs.Draft.{IsDraft}
 use Rattle.command.specs.declared.access.DataCommand.{DataCommand}
-use Rattle.command.specs.declared.access.DataCommand.TheVariants.{Set, Look}
-use Rattle.command.specs.declared.access.Look.TheVariants.{Get}
+use Rattle.command.specs.declared.access.DataCommand.TheVariants.{Set, Kill, Look}
+use Rattle.command.specs.declared.access.Look.TheVariants.{Get, Order}
 use Rattle.command.specs.declared.request.Command.{Command}
 use Rattle.command.specs.declared.request.Command.TheVariants.{Access}
 use Rattle.m_text.specs.Reading.{IsDue}
-use Rattle.m_text.specs.Place.{unless}
+use Rattle.m_text.specs.Place.{spot_of, unless}
 use Rattle.m_text.specs.laws.Faults.{unless_ok}
 use Rattle.script.specs.Commands.{command_fault, data_fault}
 use Rattle.script.specs.Line.{HasOperands, IsReading, IsRefusalOf, job_of_line, reading_of, spelled_by}
@@ -40,6 +41,18 @@ pub of_set : (line : List ℕ) (drafts : Drafts) (job : ℕ) → IsAsked line dr
 of_set line drafts job asked =
     let said = asked.said in
     let spelled : SpellsData drafts data_sentences.Set said.0 = said.2 in
+    (spelled.reference, spelled.drafted, record { read = asked.read ∙ ap (λ (c : Command). Some c) (said.1 ∙ ap (λ (d : DataCommand). Access d) spelled.said); owner = asked.owner; operands = asked.operands tt })
+
+pub of_kill : (line : List ℕ) (drafts : Drafts) (job : ℕ) → IsAsked line drafts job (sentences.Access data_sentences.Kill) → (r : Reference) × IsDraft drafts.first r × IsAskedData line job (Kill r)
+of_kill line drafts job asked =
+    let said = asked.said in
+    let spelled : SpellsData drafts data_sentences.Kill said.0 = said.2 in
+    (spelled.reference, spelled.drafted, record { read = asked.read ∙ ap (λ (c : Command). Some c) (said.1 ∙ ap (λ (d : DataCommand). Access d) spelled.said); owner = asked.owner; operands = asked.operands tt })
+
+pub of_order : (line : List ℕ) (drafts : Drafts) (job : ℕ) (direction : Direction) → IsAsked line drafts job (sentences.Access (data_sentences.Order direction)) → (r : Reference) × IsDraft drafts.first r × IsAskedData line job (Look (Order (spot_of r) direction))
+of_order line drafts job direction asked =
+    let said = asked.said in
+    let spelled : SpellsData drafts (data_sentences.Order direction) said.0 = said.2 in
     (spelled.reference, spelled.drafted, record { read = asked.read ∙ ap (λ (c : Command). Some c) (said.1 ∙ ap (λ (d : DataCommand). Access d) spelled.said); owner = asked.owner; operands = asked.operands tt })
 
 pub data_read : (line : List ℕ) (job : ℕ) (c d : DataCommand) → IsAskedData line job c → unless (data_fault c) c ≡ Ok d → IsReading line (Ok (job, Access d))

@@ -1,11 +1,12 @@
 -- A line read as far as its sentence: the references, lock names and value stand in drafts.
 use Rattle.std.specs.Prelude.{◌≡◌, ℕ, List, None, Option, Some, Result, Ok, Err}
-use Rattle.collation.specs.Reference.{Reference}
+use Rattle.collation.specs.Reference.{Reference, Spot}
+use Rattle.collation.specs.declared.direction.Direction.{Direction}
 use Rattle.command.specs.declared.request.Command.{Command}
 use Rattle.command.specs.declared.request.Command.TheVariants.{Access}
 use Rattle.command.specs.declared.access.DataCommand.{DataCommand}
-use Rattle.command.specs.declared.access.DataCommand.TheVariants.{Set, Look}
-use Rattle.command.specs.declared.access.Look.TheVariants.{Get}
+use Rattle.command.specs.declared.access.DataCommand.TheVariants.{Set, Kill, Look}
+use Rattle.command.specs.declared.access.Look.TheVariants.{Get, Order}
 use Rattle.script.specs.declared.line.LineFault.{LineFault}
 use Rattle.script.specs.declared.sentence.Drafts.{Drafts}
 use Rattle.script.specs.declared.sentence.Sentence.{Sentence}
@@ -39,3 +40,13 @@ IsKeyOfGet line job (Err fault) = IsReading line (Err fault)
 abbrev pub IsKeyOfSet : List ℕ → ℕ → List ℕ → Result Reference LineFault → Type 0
 IsKeyOfSet line job value (Ok key) = IsReading line (Ok (job, Access (Set key value)))
 IsKeyOfSet line job value (Err fault) = IsReading line (Err fault)
+
+-- of a KILL
+abbrev pub IsKeyOfKill : List ℕ → ℕ → Result Reference LineFault → Type 0
+IsKeyOfKill line job (Ok key) = IsReading line (Ok (job, Access (Kill key)))
+IsKeyOfKill line job (Err fault) = IsReading line (Err fault)
+
+-- and of a $ORDER, of which the place is left
+abbrev pub IsPlaceOfOrder : List ℕ → ℕ → Direction → Result Spot LineFault → Type 0
+IsPlaceOfOrder line job direction (Ok place) = IsReading line (Ok (job, Access (Look (Order place direction))))
+IsPlaceOfOrder line job direction (Err fault) = IsReading line (Err fault)

@@ -28,9 +28,9 @@ rule_text Ahead = codes "a stamp that has come"
 
 -- what should stand there
 abbrev pub expected_text : Expected → List ℕ
-expected_text expectations.Job = codes "a job, 1 to 4096, first in the line, without a byte order mark"
+expected_text expectations.Job = codes "a job, 1 to 4096, first in the line"
 expected_text expectations.Blank = codes "a blank"
-expected_text expectations.Operand = codes "a blank and ^ and a name; there are no post-conditionals"
+expected_text expectations.Operand = codes "a blank and ^ and a name"
 expected_text expectations.Command = codes "SET, KILL, MERGE, LOCK, TSTART, TCOMMIT, TROLLBACK, TRESTART or HALT, or $ and a function"
 expected_text expectations.Function = codes "DATA, GET, ORDER, QUERY, TLEVEL or TRESTART"
 expected_text expectations.Reference = codes "^ and a name"

@@ -51,9 +51,9 @@ impl Expected {
         ensures { result.now ≡ expected.expected_text self }
     {
         match self {
-            Expected::Job => "a job, 1 to 4096, first in the line, without a byte order mark",
+            Expected::Job => "a job, 1 to 4096, first in the line",
             Expected::Blank => "a blank",
-            Expected::Operand => "a blank and ^ and a name; there are no post-conditionals",
+            Expected::Operand => "a blank and ^ and a name",
             Expected::Command =>
                 "SET, KILL, MERGE, LOCK, TSTART, TCOMMIT, TROLLBACK, TRESTART or HALT, or $ and a function",
             Expected::Function => "DATA, GET, ORDER, QUERY, TLEVEL or TRESTART",

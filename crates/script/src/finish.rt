@@ -91,6 +91,26 @@ pub(crate) fn get_key(alloc: Global, draft: &KeyDraft) -> Result<Key, Refusal>
     draft.key(alloc)
 }
 
+/// The key of a KILL, or its fault.
+pub(crate) fn kill_key(alloc: Global, draft: &KeyDraft) -> Result<Key, Refusal>
+    requires { IsSpelled draft.now }
+    ensures { (r : Reference) → IsDraft draft.now r → Answers (λ key. DataCommand.Kill key) result (unless (data_fault (DataCommand.Kill r)) (DataCommand.Kill r)) }
+{
+    draft.key(alloc)
+}
+
+/// The place of a $ORDER, or its fault.
+pub(crate) fn order_place(
+    alloc: Global,
+    draft: &KeyDraft,
+    direction: Direction,
+) -> Result<Place, Refusal>
+    requires { IsSpelled draft.now }
+    ensures { (r : Reference) → IsDraft draft.now r → Answers (λ place. DataCommand.Look (Look.Order place direction)) result (unless (data_fault (DataCommand.Look (Look.Order (spot_of r) direction))) (DataCommand.Look (Look.Order (spot_of r) direction))) }
+{
+    draft.place(alloc)
+}
+
 /// The key of a SET to this value, or the first fault of both.
 pub(crate) fn set_key(alloc: Global, draft: &KeyDraft, value: &Text) -> Result<Key, Refusal>
     requires { IsSpelled draft.now }

@@ -25,7 +25,8 @@
 pub use expected::Expected;
 pub use laws::lines_are_read_as_spelled;
 pub use line::{
-    LineFault, finish_request, job_of_line, key_of_get, key_of_set, read_line, read_request,
+    LineFault, finish_request, job_of_line, key_of_get, key_of_kill, key_of_set, place_of_order,
+    read_line, read_request,
 };
 pub use locate::{LocatedFault, locate_fault};
 pub use lock::Form;

@@ -2,16 +2,16 @@
 ghost use Rattle.std.specs.Prelude.{◌≡◌, ℕ, List, Some, None, false, true, IfOk, OnOk, OnErr, if◌then◌else◌};
 ghost use Rattle.m_text.specs.Literal.{front_digits, past_digits, number_from};
 ghost use Rattle.script.specs.Sentence.{FindsAll, HasNoNames, HasNoValue, ReadsOperands, SpellsSome, leaves_names, leaves_value, value_in};
-ghost use Rattle.script.specs.Asked.{IsAsked, IsFinished, IsKeyOfGet, IsKeyOfSet, IsRequest};
+ghost use Rattle.script.specs.Asked.{IsAsked, IsFinished, IsKeyOfGet, IsKeyOfKill, IsKeyOfSet, IsPlaceOfOrder, IsRequest};
 ghost use Rattle.script.specs.Line.{HasOperands, IsReading, IsRefusalOf, is_job, ends_digits as ends_digits_spec, spelled_by, reading_of, job_of_line as job_of_line_spec};
 
 use crate::blank::{begins_blank, past_blank, skip_blank};
-use crate::finish::{finish, get_key, set_key};
+use crate::finish::{finish, get_key, kill_key, order_place, set_key};
 use crate::names::Names;
 use crate::sentence::{DataSentence, Drafts, Sentence, read_sentence};
-use collation::{Job, MOST_JOBS, Text};
+use collation::{Direction, Job, MOST_JOBS, Text};
 use command::Command;
-use key_codec::Key;
+use key_codec::{Key, Place};
 use m_text::{number_up_to, split_digits};
 use refusal::Refusal;
 use std::alloc::Global;
@@ -170,6 +170,39 @@ pub fn key_of_set(alloc: Global, job: Job, drafts: &mut Drafts) -> Result<Key, L
 {
     match set_key(alloc, &drafts.first, &drafts.value) {
         Ok(key) => Ok(key),
+        Err(refusal) => Err(refuse(alloc, drafts, refusal, Some(job))),
+    }
+}
+
+/// The key of a KILL, which is all that is left of its line. Refusals: those of `finish_request`.
+pub fn key_of_kill(alloc: Global, job: Job, drafts: &mut Drafts) -> Result<Key, LineFault>
+    requires { SpellsSome drafts.old (Sentence.Access DataSentence.Kill) }
+    ensures key { (line : List ℕ) → IsAsked line drafts.old job (Sentence.Access DataSentence.Kill) → IsKeyOfKill line job result }
+    ensures value { OnErr result (HasNoValue drafts.new) }
+    ensures kept { OnOk result (drafts.new ≡ drafts.old) }
+    ensures names { OnErr result (HasNoNames drafts.new) }
+{
+    match kill_key(alloc, &drafts.first) {
+        Ok(key) => Ok(key),
+        Err(refusal) => Err(refuse(alloc, drafts, refusal, Some(job))),
+    }
+}
+
+/// The place of a $ORDER, which is all that is left of its line. Refusals: those of `finish_request`.
+pub fn place_of_order(
+    alloc: Global,
+    job: Job,
+    direction: Direction,
+    drafts: &mut Drafts,
+) -> Result<Place, LineFault>
+    requires { SpellsSome drafts.old (Sentence.Access (DataSentence.Order direction)) }
+    ensures place { (line : List ℕ) → IsAsked line drafts.old job (Sentence.Access (DataSentence.Order direction)) → IsPlaceOfOrder line job direction result }
+    ensures value { OnErr result (HasNoValue drafts.new) }
+    ensures kept { OnOk result (drafts.new ≡ drafts.old) }
+    ensures names { OnErr result (HasNoNames drafts.new) }
+{
+    match order_place(alloc, &drafts.first, direction) {
+        Ok(place) => Ok(place),
         Err(refusal) => Err(refuse(alloc, drafts, refusal, Some(job))),
     }
 }

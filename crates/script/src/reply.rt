@@ -139,6 +139,7 @@ pub fn write_reply(job: Option<Job>, reply: &Reply, out: &mut Vec<u8>) -> Result
     }
 }
 
+#[inline(always)]
 fn push_got(job: Job, value: &[u8], out: &mut Vec<u8>) -> Result<(), AllocError>
     ensures ok { OnOk result (out.new.items ≡ out.old.items ++ text.reply_text (Some job) (Reply.Answered (Answer.Value value.now))) }
     ensures kept { GoesOnFrom out.old.items out.new.items }
@@ -150,7 +151,8 @@ fn push_got(job: Job, value: &[u8], out: &mut Vec<u8>) -> Result<(), AllocError>
     Ok(())
 }
 
-/// Writes the reply to a $GET, from the value that is answered; refused as `write_reply`.
+/// Writes the reply to a $GET or a $ORDER, from the value that is answered; refused as `write_reply`.
+#[inline(always)]
 #[tactic(auto, using(key_codec::specs::laws::Grown::back_to))]
 pub fn write_got(job: Job, value: &[u8], out: &mut Vec<u8>) -> Result<(), AllocError>
     ensures ok { OnOk result (out.new.items ≡ out.old.items ++ text.reply_text (Some job) (Reply.Answered (Answer.Value value.now))) }
@@ -166,6 +168,7 @@ pub fn write_got(job: Job, value: &[u8], out: &mut Vec<u8>) -> Result<(), AllocE
     }
 }
 
+#[inline(always)]
 fn push_done(job: Job, out: &mut Vec<u8>) -> Result<(), AllocError>
     ensures ok { OnOk result (out.new.items ≡ out.old.items ++ text.reply_text (Some job) (Reply.Answered Answer.Done)) }
     ensures kept { GoesOnFrom out.old.items out.new.items }
@@ -174,7 +177,8 @@ fn push_done(job: Job, out: &mut Vec<u8>) -> Result<(), AllocError>
     out.extend_from_slice(b" ok\n")
 }
 
-/// Writes the reply to a SET; refused as `write_reply`.
+/// Writes the reply to a SET or a KILL; refused as `write_reply`.
+#[inline(always)]
 #[tactic(auto, using(key_codec::specs::laws::Grown::back_to))]
 pub fn write_done(job: Job, out: &mut Vec<u8>) -> Result<(), AllocError>
     ensures ok { OnOk result (out.new.items ≡ out.old.items ++ text.reply_text (Some job) (Reply.Answered Answer.Done)) }

@@ -1,3 +1,4 @@
 mod HiddenKeys
 mod RunsTaken
 mod Shows
+mod Alones

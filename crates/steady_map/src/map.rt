@@ -1,10 +1,10 @@
 //! The map, its look-ups and its changes.
-ghost use Rattle.std.specs.Prelude.{◌≡◌, ◌+◌, ◌-◌, ◌<◌, ◌^◌, [], length, reverse, not, true, cond, is_some, None, Some, IfSome, IfOk, IfErr, OnOk, OnErr};
+ghost use Rattle.std.specs.Prelude.{◌≡◌, ◌+◌, ◌-◌, ◌<◌, ◌^◌, [], length, reverse, not, true, false, cond, is_some, None, Some, IsSome, IfSome, IfOk, IfErr, OnOk, OnErr};
 ghost use Rattle.std.specs.Option.{option_map};
 ghost use Rattle.std.specs.List.{filter, find};
 ghost use Rattle.std.specs.FinMap.{IsAntisymmetric};
 ghost use Rattle.std.specs.FinMap.Entries as entries;
-ghost use Rattle.btree.specs.Order.{Each, find_last, without};
+ghost use Rattle.btree.specs.Order.{Each, IsAfter, find_last, without};
 ghost use Rattle.btree.specs.Parts.{IsSure};
 ghost use Rattle.steady_map.specs.Shown.{shown, hidden_keys, joined as joined_spec, pair_of, others, is_between, HaveAll};
 
@@ -164,6 +164,23 @@ impl<K: Ord + Drop, V: Drop> SteadyMap<K, V> {
         }
     }
 
+    /// Takes out the pair of a key, and gives its value, where the tree takes it out of its leaf alone: no pair after
+    /// the key's stands before the point then. Takes no memory, and hides no key.
+    ///
+    /// Where it gives none all pairs are left, and the key may be there or not; one that was hidden may be gone.
+    pub fn take_alone<P: Point<K>>(&mut self, key: &K, past: &P) -> Option<V>
+        ensures value { IfSome result (λ value. entries.find K.cmp key.now self.old.pairs ≡ Some value) }
+        ensures pairs { IsSome result → self.new.pairs ≡ without K.cmp key.now self.old.pairs }
+        ensures alone { IsSome result → Each (λ e. IsAfter K.cmp key.now e → P.before past.now e.0 ≡ false) self.old.pairs }
+        ensures missed { result ≡ None → self.new.pairs ≡ self.old.pairs }
+        ensures others { others K.cmp key.now self.new.hidden ≡ others K.cmp key.now self.old.hidden }
+    {
+        let _count = self.tree.len();
+        let taken = take_from_leaf(&mut self.tree, key, past);
+        self.len -= count(&taken);
+        taken
+    }
+
     /// Takes out all pairs, and the hidden ones. It takes no memory.
     pub fn clear(&mut self)
         ensures empty { self.new.pairs ≡ [] }
@@ -298,6 +315,22 @@ fn take_or_hide_between<K: Ord + Clone, V: Drop, P: Point<K>, Q: Point<K>>(
             }
         }
     }
+}
+
+// Takes out the pair of a key where it is taken out of its leaf alone, and answers the value that was shown.
+fn take_from_leaf<K: Ord + Drop, V: Drop, P: Point<K>>(
+    tree: &mut Tree<K, Option<V>>,
+    key: &K,
+    past: &P,
+) -> Option<V>
+    requires sorted { entries.is_sorted K.cmp tree.old.pairs ≡ true }
+    ensures value { IfSome result (λ value. entries.find K.cmp key.now (shown tree.old.pairs) ≡ Some value) }
+    ensures pairs { IsSome result → shown tree.new.pairs ≡ without K.cmp key.now (shown tree.old.pairs) }
+    ensures alone { IsSome result → Each (λ e. IsAfter K.cmp key.now e → P.before past.now e.0 ≡ false) (shown tree.old.pairs) }
+    ensures missed { result ≡ None → shown tree.new.pairs ≡ shown tree.old.pairs }
+    ensures others { others K.cmp key.now (hidden_keys tree.new.pairs) ≡ others K.cmp key.now (hidden_keys tree.old.pairs) }
+{
+    joined(tree.take_alone(key, past))
 }
 
 // Takes out the pair of a key, or hides it where that is refused memory.

@@ -39,6 +39,14 @@ fn key_of(order: Order, step: u64) -> u64 {
     }
 }
 
+// Takes the key out, out of its leaf alone where the next key shows that none is in between.
+fn taken(tree: &mut Tree<u64, u64>, key: u64) -> Result<Option<u64>, AllocError> {
+    match tree.take_alone(&key, &Before(key.saturating_add(1))) {
+        Some(value) => Ok(Some(value)),
+        None => tree.remove(&key),
+    }
+}
+
 // Does one step on both maps: every third one removes the key of an earlier step. Whether they answer alike.
 fn is_step_alike(
     alloc: Global,
@@ -49,7 +57,12 @@ fn is_step_alike(
 ) -> Result<bool, AllocError> {
     if step % 3 == 2 {
         let key = key_of(order, step / 2);
-        return Ok(tree.remove(&key)? == map.remove(&key));
+        let removed = if step % 2 == 0 {
+            tree.remove(&key)?
+        } else {
+            taken(tree, key)?
+        };
+        return Ok(removed == map.remove(&key));
     }
     let key = key_of(order, step);
     let before = tree.insert(alloc, key, step)?;
@@ -355,6 +368,27 @@ fn are_values_emptied(alloc: Global) -> Result<bool, AllocError> {
         }
     }
     Ok(tree.len() == 2_000)
+}
+
+// Whether a key goes alone just where the next one isn't before the point, and its leaf keeps 16 others.
+fn goes_alone(alloc: Global) -> Result<bool, AllocError> {
+    let mut tree = Tree::new(alloc);
+    for number in 0_u64..18 {
+        tree.insert(alloc, number, number)?;
+    }
+    let with_more = tree.take_alone(&5, &Before(7)).is_none();
+    let last = tree.take_alone(&17, &Before(18)).is_none();
+    let missed = tree.take_alone(&18, &Before(19)).is_none();
+    let first = tree.take_alone(&5, &Before(6)) == Some(5);
+    let second = tree.take_alone(&7, &Before(8)) == Some(7);
+    let few = tree.take_alone(&9, &Before(10)).is_none();
+    Ok(with_more && last && missed && first && second && few && tree.len() == 16)
+}
+
+#[test]
+fn key_goes_alone_where_none_follows_before_the_point(rt: HostRuntime) -> Result<(), AllocError> {
+    assert!(rt; goes_alone(rt.alloc())?);
+    Ok(())
 }
 
 // Whether a run of a steady map goes, and no pair beside it.

@@ -15,7 +15,7 @@ use std::marker::Model;
 /// Names a chain from `open` to `close`. A chain that is opened later may get the same id.
 #[derive(Clone, Copy, Debug, PartialEq, Eq)]
 pub struct ChainId {
-    number: usize,
+    number: u32,
 }
 
 impl Model for ChainId {
@@ -123,7 +123,8 @@ impl<V: Drop> Chains<V> {
 
     /// Opens a chain without versions. Ids that were closed are used again before there is a new one.
     ///
-    /// Refusals: `AllocError` where no closed id is left and memory is wanting. After it nothing has changed.
+    /// Refusals: `AllocError` where no closed id is left, and memory is wanting or 2^32 chains are open. After it nothing
+    /// has changed.
     pub fn open(&mut self) -> Result<ChainId, AllocError>
         ensures vacant { IfOk result (λ id. chain_at self.old id ≡ None) }
         ensures chains { IfOk result (λ id. Updates self.old self.new id (Some [])) }
@@ -143,7 +144,7 @@ impl<V: Drop> Chains<V> {
     pub fn is_open(&self, id: ChainId) -> bool
         ensures { IsTrue result ↔ IsOpen self.now id }
     {
-        self.lines.contains(id.number)
+        self.lines.contains(id.number as usize)
     }
 
     // The newest version of an open chain.
@@ -152,7 +153,7 @@ impl<V: Drop> Chains<V> {
         ensures there { chain_at self.now id ≡ Some (line_versions (lent result)) }
         ensures falls { IsFalling (line_versions (lent result)) }
     {
-        self.lines.get(id.number)
+        self.lines.get(id.number as usize)
     }
 
     /// The stamp of the newest version, or none where there is no version.
@@ -191,9 +192,9 @@ impl<V: Drop> Chains<V> {
         ensures spare { self.new.spare + cells_at self.new id ≡ self.old.spare + cells_at self.old id }
         ensures least { self.old.spare ≤ self.new.spare + 1 }
     {
-        let line = self.lines.replace(id.number, None);
+        let line = self.lines.replace(id.number as usize, None);
         let line = push(&mut self.pool, line, stamp, value);
-        put(&mut self.lines, id.number, line);
+        put(&mut self.lines, id.number as usize, line);
         self.since = self.since.max(stamp);
         self.latest = self.latest.max(stamp);
     }
@@ -209,9 +210,9 @@ impl<V: Drop> Chains<V> {
         ensures least { self.old.spare ≤ self.new.spare + 1 }
     {
         let since = since_at(horizon, self.horizon, self.since, self.latest);
-        let line = self.lines.replace(id.number, None);
+        let line = self.lines.replace(id.number as usize, None);
         let line = push_and_cut(&mut self.pool, line, since, stamp, value, horizon);
-        put(&mut self.lines, id.number, line);
+        put(&mut self.lines, id.number as usize, line);
         self.horizon = horizon;
         self.since = since;
         self.latest = self.latest.max(stamp);
@@ -227,9 +228,9 @@ impl<V: Drop> Chains<V> {
         ensures spare { self.new.spare + cells_at self.new id ≡ self.old.spare + cells_at self.old id }
         ensures least { self.old.spare ≤ self.new.spare }
     {
-        let line = self.lines.replace(id.number, None);
+        let line = self.lines.replace(id.number as usize, None);
         let (line, count) = cut(&mut self.pool, line, horizon);
-        put(&mut self.lines, id.number, line);
+        put(&mut self.lines, id.number as usize, line);
         count
     }
 
@@ -239,7 +240,7 @@ impl<V: Drop> Chains<V> {
         ensures chains { Updates self.old self.new id None }
         ensures spare { self.new.spare ≡ self.old.spare + cells_at self.old id }
     {
-        let line = self.lines.remove(id.number);
+        let line = self.lines.remove(id.number as usize);
         end(&mut self.pool, line);
     }
 }

@@ -1,3 +1,4 @@
+pub mod AloneLemmas
 pub mod CellLemmas
 pub mod CutLemmas
 pub mod DropLemmas

@@ -78,6 +78,26 @@ fn take_under(tree: &mut SteadyMap<Key, ChainId>, root: &Key, placed: Placed)
     }
 }
 
+// Takes out the references at and under this one, and closes their chains. One alone is mostly taken out of its leaf at
+// once.
+fn close_and_take(tree: &mut SteadyMap<Key, ChainId>, chains: &mut Chains<Text>, root: &Key)
+    requires { (now : ℕ) × IsTied tree.old.pairs chains.old now }
+    ensures pairs { tree.new.pairs ≡ filter (λ e. not (is_under root.now e.0)) tree.old.pairs }
+    ensures tied { (now : ℕ) → IsTied tree.old.pairs chains.old now → IsTied tree.new.pairs chains.new now }
+    ensures versions { versions_in chains.new tree.new.pairs ≡ finmap.retain_keys (versions_in chains.old tree.old.pairs) (λ x. not (is_under root.now x)) }
+    ensures spare { chains.old.spare ≤ chains.new.spare }
+    ensures cells { chains.new.spare + cells_in (rows chains.new tree.new.pairs) ≡ chains.old.spare + cells_in (rows chains.old tree.old.pairs) }
+{
+    let cut = Cut::Past(root);
+    match tree.take_alone(root, &CutPoint { cut }) {
+        Some(id) => chains.close(id),
+        None => {
+            let placed = close_under(tree, chains, root);
+            take_under(tree, root, placed);
+        }
+    }
+}
+
 impl KeyedStore {
     /// Takes out all placed references at and under this one, with all their versions, and reserves their cells. The
     /// stamp is now from here on, and the oldest one at which content is kept: as if an absence were written at each of
@@ -94,8 +114,7 @@ impl KeyedStore {
         ensures spare { self.old.spare ≤ self.new.spare }
         ensures cells { self.new.spare + cells_in (finmap.entries self.new.versions) ≡ self.old.spare + cells_in (finmap.entries self.old.versions) }
     {
-        let placed = close_under(&self.tree, &mut self.chains, root);
-        take_under(&mut self.tree, root, placed);
+        close_and_take(&mut self.tree, &mut self.chains, root);
         self.present = stamp;
         self.cut = stamp;
     }

@@ -55,7 +55,7 @@ returns-in-Ok-clause-got c =
     let unit : Database → JournalUnit = λ m. Lone c.args.job (Look (Get c.args.key.now None)) (Value (value_at c.args.key.now m)) in
     let wrote = c.write_none-receipt.ensures in
     let now = agreed_now store units c.self.invariant.agreed in
-    rw (← c.self.view_is) (just_got (value_at c.args.key.now (after units initial).map) c.write_none-receipt.result c.args.oldest c.args.job c.args.key.now old new
+    rw (← c.self.view_is) (just_got (value_at c.args.key.now (after units initial).map) c.write_none-receipt.result c.args.oldest c.args.job (Get c.args.key.now None) old new
     (added_quiet c.prepare_got.new.journal.prepared (unit (after units initial).map) c.write_none-receipt.result c.args.oldest old new c.prepare_got.new.journal.units (c.in-Ok.ensures.prepared ∙ ap (λ m. Some (unit m)) now) c.prepare_got.ensures.units
     wrote.units (wrote.base ∙ c.prepare_got.ensures.base) wrote.receipt wrote.cut wrote.agreed wrote.versions wrote.mark) c.self.invariant.within)
 
