@@ -15,6 +15,7 @@ use Rattle.shared_engine.specs.Receipts.{receipts_in, others_in, IsBook}
 use Rattle.shared_engine.specs.Sessions.{held, start_in, IsSession, HasBegun, IsJournalOf}
 use Rattle.shared_engine.proofs.Booking.{in_journal_receipts}
 use Rattle.shared_engine.proofs.Starting.{start_settled, at_settled}
+use Rattle.shared_engine.proofs.Prefixes.{start_there}
 use Rattle.shared_engine.proofs.Writing.{shown}
 
 -- the seat is settled on these units, and the state begins there
@@ -44,9 +45,9 @@ met_journal units desk pin s legal log met = record {
     by_settled false = tt
 
 -- the session whose transaction has just begun on these units
-pub session_begun : (s t : JobSession) (pin later : PinView) (ns : List ℕ) (base : List JournalUnit) (start : ℕ) → IsSession s pin ns → later.place ≡ pin.place → later.slips ≡ pin.slips → later.mine ≡ pin.mine → later.settled ≡ true → later.base ≡ base → start ≡ length base
+pub session_begun : (s t : JobSession) (pin later : PinView) (ns : List ℕ) (base : List JournalUnit) (start : ℕ) → IsSession s pin ns → later.place ≡ pin.place → later.slips ≡ pin.slips → later.mine ≡ pin.mine → later.settled ≡ true → later.base ≡ base → later.seen ≡ base → start ≡ length base
     → 0 < t.level → t.work ≡ just_begun s.work.job start → IsSession t later ns
-session_begun s t pin later ns base start is place slips mine settled here long deep work =
+session_begun s t pin later ns base start is place slips mine settled here knows long deep work =
     let job : t.work.job ≡ s.work.job = ap (λ (w : Working). w.job) work in record {
       place = ap (λ (n : ℕ). n + 1) place ∙ (is.place ∙ sym job);
       slip = slips ∙ is.slip;
@@ -55,10 +56,11 @@ session_begun s t pin later ns base start is place slips mine settled here long 
         start = ap (λ (w : Working). w.start) work ∙ (long ∙ ap length (sym here));
         work = subst (λ (w : Working). IsWorkOn w (after later.base initial).map) (sym work) (work_nothing s.work.job start (after later.base initial).map);
       });
+      start = start_there later settled (knows ∙ sym here);
       book = subst (λ (j : ℕ). IsBook j ns later.mine) (sym job) (subst (λ (m : List Claim). IsBook s.work.job ns m) (sym mine) is.book);
     }
 
 -- the same where the seat was settled, and its start moves to now
 pub session_rebegun : (s t : JobSession) (desk : DeskView) (pin later : PinView) (ns : List ℕ) (start : ℕ) → IsSession s pin ns → pin.settled ≡ true → later ≡ rebased desk pin → start ≡ length desk.log → 0 < t.level → t.work ≡ just_begun s.work.job start → IsSession t later ns
 session_rebegun s t desk pin later ns start is settled step long deep work =
-    session_begun s t pin later ns desk.log start is (ap (λ (p : PinView). p.place) step) (ap (λ (p : PinView). p.slips) step) (ap (λ (p : PinView). p.mine) step) (ap (λ (p : PinView). p.settled) step ∙ settled) (ap (λ (p : PinView). p.base) step) long deep work
+    session_begun s t pin later ns desk.log start is (ap (λ (p : PinView). p.place) step) (ap (λ (p : PinView). p.slips) step) (ap (λ (p : PinView). p.mine) step) (ap (λ (p : PinView). p.settled) step ∙ settled) (ap (λ (p : PinView). p.base) step) (ap (λ (p : PinView). p.seen) step) long deep work

@@ -1,5 +1,6 @@
 pub mod Booking
 pub mod Starting
+pub mod Prefixes
 pub mod Writing
 pub mod Keeping
 pub mod Lending

@@ -1,7 +1,6 @@
 -- What a session has seen after a step, and what a call says of the journal that it had.
-use Rattle.std.proofs.Common.{◌≡◌, ◌⊎◌, inl, inr, ℕ, zero, suc, ◌+◌, ◌<◌, ◌≤◌, le_refl, Bool, true, false, List, [], ◌∷◌, ◌++◌, length, length-append, Some, None, refl, sym, ap, ◌∙◌, subst, arith, Result, Ok, Err, IfOk, OnOk, OnErr}
+use Rattle.std.proofs.Common.{◌≡◌, ◌⊎◌, inl, inr, ℕ, zero, suc, ◌+◌, ◌<◌, ◌≤◌, Bool, true, false, List, [], ◌∷◌, ◌++◌, length, Some, None, refl, sym, ap, ◌∙◌, subst, arith, Result, Ok, Err, IfOk, OnOk, OnErr}
 use Rattle.std.specs.Prelude.{IfErr, IsErrOf, Option, take, nat_lt, if◌then◌else◌}
-use Rattle.std.proofs.lemmas.List.{take_all, take-append-le}
 use Rattle.refusal.specs.declared.Refusal.{Refusal}
 use Rattle.refusal.specs.declared.Refusal.TheVariants.{OutOfMemory}
 use Rattle.lock_name.specs.declared.lock.LockCommand.{LockCommand}
@@ -27,14 +26,9 @@ use Rattle.shared_engine.specs.Sessions.{Held, knowing, ended, and_receipt, went
 use Rattle.shared_engine.specs.Engines.{HasEnded, IsCauseAtRestart, gone_back, lock_unit, after_try, OnOkThat, OnOkNot}
 use Rattle.shared_engine.specs.declared.locked.Ended.{Ended}
 use Rattle.shared_engine.specs.declared.locked.Ended.TheVariants.{Committed, Restarted}
+use Rattle.shared_engine.proofs.Prefixes.{begins_longer}
 use Rattle.shared_engine.proofs.Writing.{back_free}
 use Rattle.shared_engine.specs.Blocks.{HasSeen, AreSame, IsLone, IsTried, WasTried, IsOpened, IsDeeper, IsCommitted, IsRolledBack, IsRestarted, HasDone, moved, moved_open}
-
-pub begins_itself : (log : List JournalUnit) → IsBeginning log log
-begins_itself log = record { within = le_refl (length log); is = sym (take_all (length log) log (le_refl (length log))) }
-
-begins_longer : (log more seen : List JournalUnit) → IsBeginning log seen → IsBeginning (log ++ more) seen
-begins_longer log more seen b = record { within = omega (arith, b.within, length-append log more); is = b.is ∙ sym (take-append-le (length seen) log more b.within) }
 
 -- a transaction goes back on a journal that goes on from what the session had seen
 pub anew_goes_on : (s : Held) (units more : List JournalUnit) → more ≡ gone_back s.state units → (s.state.took_lock ≡ true → IsBeginning units s.seen) → IsBeginning more (went_back more s).seen → IsBeginning more s.seen

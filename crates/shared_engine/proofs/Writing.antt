@@ -10,11 +10,12 @@ use Rattle.job_core.specs.Sessions.{Session as JobSession, idle}
 use Rattle.pin_board.specs.declared.view.DeskView.{DeskView}
 use Rattle.pin_board.specs.declared.view.PinView.{PinView}
 use Rattle.pin_board.specs.Views.{wrote, aware, rested}
-use Rattle.pin_board.specs.Slips.{AreInJournal}
+use Rattle.pin_board.specs.Slips.{AreInJournal, IsBeginning}
 use Rattle.shared_engine.specs.Receipts.{has_receipt, receipts_in, others_in, seen_in, claim, book, IsBook}
-use Rattle.shared_engine.specs.Sessions.{Held, held, start_in, IsSession, knowing, and_receipt, went_back, halted, noted_lock}
+use Rattle.shared_engine.specs.Sessions.{Held, held, start_in, GoesOnFromStart, IsSession, knowing, and_receipt, went_back, halted, noted_lock}
 use Rattle.shared_engine.proofs.Booking.{book_nothing, receipts_nothing, booked_next, booked_quiet, received, received_none, others_same, others_more, others_nothing}
 use Rattle.shared_engine.proofs.Starting.{start_free, at_noted, noted_work}
+use Rattle.shared_engine.proofs.Prefixes.{start_later, start_longer, start_none}
 
 -- what is seen of a session with this state and this seat
 abbrev pub shown : JobSession → PinView → Held
@@ -24,13 +25,18 @@ shown s p = held s (start_in p) (receipts_in p.mine) (others_in p.mine) p.seen
 pub seen_next : (u : JournalUnit) (told : Claim) (oldest : Option ℕ) (old new : Common) (desk : DeskView) (pin later : PinView) → desk.log ≡ old.units → HasAdded u told oldest old new → later ≡ wrote desk pin told → later.seen ≡ old.units ++ u ∷ []
 seen_next u told oldest old new desk pin later same h step = ap (λ (p : PinView). p.seen) step ∙ (λ i. same i ++ (ap (λ (c : Claim). c.unit) h.receipt) i ∷ [])
 
+-- what it has seen goes on from its start
+start_written : (desk : DeskView) (told : Claim) (pin later : PinView) → later ≡ wrote desk pin told → IsBeginning desk.log pin.seen → GoesOnFromStart (start_in pin) pin.seen → GoesOnFromStart (start_in later) later.seen
+start_written desk told pin later step goes_on from = subst (λ (p : PinView). GoesOnFromStart (start_in p) p.seen) (sym step) (start_longer (start_in pin) pin.seen desk.log (told.unit ∷ []) goes_on from)
+
 -- a unit that gives a receipt
 pub session_next : (u : JournalUnit) (told : Claim) (oldest : Option ℕ) (old new : Common) (desk : DeskView) (s : JobSession) (pin later : PinView) (ns more : List ℕ) → IsSession s pin ns → desk.log ≡ old.units → HasAdded u told oldest old new
-    → AreInJournal desk.log pin.mine → later ≡ wrote desk pin told → more ≡ ns ++ told.number ∷ [] → has_receipt u ≡ true → job_of u ≡ s.work.job → IsSession s later more
-session_next u told oldest old new desk s pin later ns more is same h in_log step m has own = record {
+    → AreInJournal desk.log pin.mine → IsBeginning desk.log pin.seen → later ≡ wrote desk pin told → more ≡ ns ++ told.number ∷ [] → has_receipt u ≡ true → job_of u ≡ s.work.job → IsSession s later more
+session_next u told oldest old new desk s pin later ns more is same h in_log goes_on step m has own = record {
   place = ap (λ (p : PinView). p.place + 1) step ∙ is.place;
   slip = ap (λ (p : PinView). p.slips) step ∙ is.slip;
   at = rw (ap start_in step) is.at;
+  start = start_written desk told pin later step goes_on is.start;
   book = booked_next u told oldest old new desk.log s.work.job ns more pin.mine later.mine is.book same h in_log (ap (λ (p : PinView). p.mine) step) m has own;
 }
 
@@ -44,12 +50,13 @@ view_next u told oldest old new desk s pin later log h step has =
     λ i. held s (start i) (more i) (same i) (seen i)
 
 -- a unit that gives none
-pub session_quiet : (u : JournalUnit) (told : Claim) (oldest : Option ℕ) (old new : Common) (desk : DeskView) (s : JobSession) (pin later : PinView) (ns : List ℕ) → IsSession s pin ns → HasAdded u told oldest old new → later ≡ wrote desk pin told → has_receipt u ≡ false → job_of u ≡ s.work.job
+pub session_quiet : (u : JournalUnit) (told : Claim) (oldest : Option ℕ) (old new : Common) (desk : DeskView) (s : JobSession) (pin later : PinView) (ns : List ℕ) → IsSession s pin ns → HasAdded u told oldest old new → IsBeginning desk.log pin.seen → later ≡ wrote desk pin told → has_receipt u ≡ false → job_of u ≡ s.work.job
     → IsSession s later ns
-session_quiet u told oldest old new desk s pin later ns is h step has own = record {
+session_quiet u told oldest old new desk s pin later ns is h goes_on step has own = record {
   place = ap (λ (p : PinView). p.place + 1) step ∙ is.place;
   slip = ap (λ (p : PinView). p.slips) step ∙ is.slip;
   at = rw (ap start_in step) is.at;
+  start = start_written desk told pin later step goes_on is.start;
   book = booked_quiet u told oldest old new s.work.job ns pin.mine later.mine is.book h (ap (λ (p : PinView). p.mine) step) has own;
 }
 
@@ -99,8 +106,9 @@ pub numbers_next : (ns kept more : List ℕ) (n m : ℕ) → more ≡ kept ++ n 
 numbers_next ns kept more n m push same is = push ∙ (λ i. same i ++ is i ∷ [])
 
 -- the seat has met the desk
-pub session_met : (s : JobSession) (desk : DeskView) (pin met : PinView) (ns : List ℕ) → IsSession s pin ns → met ≡ aware desk pin → IsSession s met ns
-session_met s desk pin met ns is step = subst (λ (p : PinView). IsSession s p ns) (sym step) (record { place = is.place; slip = is.slip; at = is.at; book = is.book })
+pub session_met : (s : JobSession) (desk : DeskView) (pin met : PinView) (ns : List ℕ) → IsSession s pin ns → IsBeginning desk.log pin.seen → met ≡ aware desk pin → IsSession s met ns
+session_met s desk pin met ns is goes_on step =
+    subst (λ (p : PinView). IsSession s p ns) (sym step) (record { place = is.place; slip = is.slip; at = is.at; start = start_later (start_in pin) pin.seen desk.log goes_on is.start; book = is.book })
 
 pub view_met : (units : List JournalUnit) (desk : DeskView) (s : JobSession) (pin met : PinView) → met ≡ aware desk pin → desk.log ≡ units → shown s met ≡ knowing units (shown s pin)
 view_met units desk s pin met step log = ap (shown s) step ∙ ap (held s (start_in pin) (receipts_in pin.mine) (others_in pin.mine)) log
@@ -112,6 +120,7 @@ session_noted s pin ns is =
       place = is.place ∙ sym job;
       slip = is.slip;
       at = at_noted (start_in pin) s is.at;
+      start = is.start;
       book = subst (λ (j : ℕ). IsBook j ns pin.mine) (sym job) is.book;
     }
 
@@ -121,6 +130,7 @@ session_left s pin later ns is step = record {
   place = ap (λ (p : PinView). p.place + 1) step ∙ is.place;
   slip = ap (λ (p : PinView). p.slips) step ∙ is.slip;
   at = rw (ap start_in step) refl;
+  start = start_none later (ap (λ (p : PinView). p.settled) step);
   book = subst (λ (m : List Claim). IsBook s.work.job ns m) (sym (ap (λ (p : PinView). p.mine) step)) is.book;
 }
 
@@ -132,6 +142,7 @@ session_opened s job log pin later ns is step here free empty none =
       place = ap (λ (p : PinView). p.place + 1) step ∙ (here ∙ sym own);
       slip = ap (λ (p : PinView). p.slips) step;
       at = rw (ap start_in step ∙ start_free pin free) (is ∙ ap idle (sym own));
+      start = start_none later (ap (λ (p : PinView). p.settled) step ∙ free);
       book = rw (none, mine) (book_nothing s.work.job);
     }
 

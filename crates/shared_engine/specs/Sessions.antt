@@ -37,11 +37,16 @@ abbrev pub IsAt : Option (List JournalUnit) → JobSession → Type 0
 IsAt None s = s ≡ idle s.work.job
 IsAt (Some base) s = IsBegun base s
 
--- what a session keeps: its seat is its job's, and has a slip, on which its units are
+-- where a transaction is open, what was seen goes on from its start
+abbrev pub GoesOnFromStart : Option (List JournalUnit) → List JournalUnit → Type 0
+GoesOnFromStart start seen = IfSome start (λ base. IsBeginning seen base)
+
+-- what a session keeps: its seat is its job's, has seen the start, and has a slip, on which its units are
 pub record IsSession (state : JobSession) (pin : PinView) (numbers : List ℕ) : Type 0 where
   pub place : pin.place + 1 ≡ state.work.job
   pub slip : pin.slips ≡ 1
   pub at : IsAt (start_in pin) state
+  pub start : GoesOnFromStart (start_in pin) pin.seen
   pub book : IsBook state.work.job numbers pin.mine
 
 -- ---- steps of one session

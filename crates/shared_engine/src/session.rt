@@ -10,7 +10,7 @@ ghost use Rattle.workspace.specs.Layers.{decides};
 ghost use Rattle.validate_commit.specs.Working.{IsCauseAlone, IsWorkOn, seen};
 ghost use Rattle.job_core.specs.Sessions.{at_level, HasWritten};
 ghost use Rattle.shared_engine.specs.Receipts.{number_of, RisesFrom};
-ghost use Rattle.shared_engine.specs.Sessions.{held};
+ghost use Rattle.shared_engine.specs.Sessions.{held, GoesOnFromStart};
 
 use collation::{Job, Text};
 use command::Answer;
@@ -137,6 +137,7 @@ impl<B: BoardName> Session<B> {
         requires { 1 ≤ self.old.state.level }
         ensures deeper { IfOk result (λ level. (level ≡ self.old.state.level + 1) × ((self.old.state.level < most_levels) × (self.new ≡ held (at_level level self.old.state) self.old.start self.old.receipts self.old.others self.old.seen))) }
         ensures refused { IfErr result (λ refusal. (refusal ≡ Refusal.LevelTooDeep) × ((most_levels ≤ self.old.state.level) × (self.new ≡ self.old))) }
+        ensures start { GoesOnFromStart self.old.start self.old.seen }
     {
         self.state.start_inner()
     }
@@ -146,11 +147,12 @@ impl<B: BoardName> Session<B> {
         requires { 1 < self.old.state.level }
         ensures level { result ≡ self.old.state.level - 1 }
         ensures session { self.new ≡ held (at_level (self.old.state.level - 1) self.old.state) self.old.start self.old.receipts self.old.others self.old.seen }
+        ensures start { GoesOnFromStart self.old.start self.old.seen }
     {
         self.state.commit_inner()
     }
 
-    /// SET in a transaction, which is open. Takes no lock, and waits for nobody.
+    /// SET in a transaction, which is open. The session has seen the start of that. Takes no lock, and waits for nobody.
     ///
     /// Refusals, after which nothing has changed: `TransactionTooLong` where the transaction holds 65,535 data
     /// commands, else `OutOfMemory`.
@@ -161,6 +163,7 @@ impl<B: BoardName> Session<B> {
         ensures others { (self.new.others ≡ self.old.others) × (self.new.seen ≡ self.old.seen) }
         ensures refused { OnErr result (self.new ≡ self.old) }
         ensures cause { IfErr result (λ refusal. IsCauseAlone refusal self.old.state.work) }
+        ensures start { GoesOnFromStart self.old.start self.old.seen }
     {
         self.state.set(key, value)
     }
@@ -173,6 +176,7 @@ impl<B: BoardName> Session<B> {
         ensures others { (self.new.others ≡ self.old.others) × (self.new.seen ≡ self.old.seen) }
         ensures refused { OnErr result (self.new ≡ self.old) }
         ensures cause { IfErr result (λ refusal. IsCauseAlone refusal self.old.state.work) }
+        ensures start { GoesOnFromStart self.old.start self.old.seen }
     {
         self.state.kill(key)
     }

@@ -4,7 +4,7 @@ use Rattle.shared_engine.proofs.Writing.{session_quiet, view_back}
 use Rattle.shared_engine.proofs.locked.go_back.Goals as goal
 
 pub invariant_of-session : goal.invariant_of-session
-invariant_of-session g c = session_quiet _ _ _ _ _ c.args.desk.now _ _ _ _ c.session.invariant c.in_ok-receipt.ensures.added c.write.ensures.pin refl c.job.ensures
+invariant_of-session g c = session_quiet _ _ _ _ _ c.args.desk.now _ _ _ _ c.session.invariant c.in_ok-receipt.ensures.added c.write.ensures.goes_on c.write.ensures.pin refl c.job.ensures
 
 pub returns-clause-session : goal.returns-clause-session
 returns-clause-session g c =

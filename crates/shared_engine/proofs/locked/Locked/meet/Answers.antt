@@ -3,7 +3,7 @@ use Rattle.shared_engine.proofs.Writing.{session_met, view_met}
 use Rattle.shared_engine.proofs.locked.Locked.meet.Goals as goal
 
 pub invariant_of-session : goal.invariant_of-session
-invariant_of-session g c = session_met _ c.self.inside.desk _ _ _ c.session.invariant c.meet.ensures.pin
+invariant_of-session g c = session_met _ c.self.inside.desk _ _ _ c.session.invariant c.meet.ensures.met.seen c.meet.ensures.pin
 
 pub returns-clause-same : goal.returns-clause-same
 returns-clause-same g c = rw (← c.self.view_is, ← c.session.view_is) (view_met _ c.self.inside.desk c.session.inside.state c.session.inside.pin _ c.meet.ensures.pin c.self.invariant.log)

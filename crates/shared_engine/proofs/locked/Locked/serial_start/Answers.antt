@@ -32,6 +32,7 @@ invariant_of-session g c =
     (ap (λ (p : PinView). p.mine) settled)
     (ap (λ (p : PinView). p.settled) settled)
     (ap (λ (p : PinView). p.base) settled)
+    (ap (λ (p : PinView). p.seen) settled)
     c.settle_now-now.ensures.start
     (omega (arith, ap (λ s. s.level) t))
     (ap (λ s. s.work) t)

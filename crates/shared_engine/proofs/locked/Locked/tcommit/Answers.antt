@@ -13,7 +13,7 @@ pub invariant_of-session-in-Committed : goal.invariant_of-session-in-Committed
 invariant_of-session-in-Committed g c =
     let h = committed_added _ _ _ _ _ _ c.in-Committed.is c.in_ok-receipt.ensures.verdict in
     let numbers = numbers_next _ _ _ _ _ c.push_reserved.ensures.items c.reserve.ensures.items c.number-in-Committed.ensures in
-    let next = session_next _ _ _ _ _ c.self.inside.desk _ _ _ _ _ (session_met _ c.self.inside.desk _ _ _ c.session.invariant c.meet.ensures.pin) c.self.invariant.log h c.write.ensures.in_journal c.write.ensures.pin numbers refl refl in
+    let next = session_next _ _ _ _ _ c.self.inside.desk _ _ _ _ _ (session_met _ c.self.inside.desk _ _ _ c.session.invariant c.meet.ensures.met.seen c.meet.ensures.pin) c.self.invariant.log h c.write.ensures.in_journal c.write.ensures.goes_on c.write.ensures.pin numbers refl refl in
     rw c.end.ensures (session_left _ _ _ _ next c.leave.ensures.left)
 
 pub returns-in-Committed-clause-ended : goal.returns-in-Committed-clause-ended

@@ -11,7 +11,7 @@ pub invariant_of-session-2 : goal.invariant_of-session-2
 invariant_of-session-2 g c =
     let numbers = numbers_next _ _ _ _ _ c.push_reserved.ensures.items c.reserve.ensures.items c.number.ensures in
     rw c.note_lock.ensures
-    (session_noted _ _ _ (session_next _ _ _ _ _ c.self.inside.desk _ _ _ _ _ c.session.invariant c.self.invariant.log c.in_ok-had.ensures.added c.write.ensures.in_journal c.write.ensures.pin numbers refl c.job-2.ensures))
+    (session_noted _ _ _ (session_next _ _ _ _ _ c.self.inside.desk _ _ _ _ _ c.session.invariant c.self.invariant.log c.in_ok-had.ensures.added c.write.ensures.in_journal c.write.ensures.goes_on c.write.ensures.pin numbers refl c.job-2.ensures))
 
 pub returns-clause-receipt : goal.returns-clause-receipt
 returns-clause-receipt g c =

@@ -8,7 +8,7 @@ use Rattle.shared_engine.proofs.locked.Locked.write_lone.Goals as goal
 pub invariant_of-session-2 : goal.invariant_of-session-2
 invariant_of-session-2 g c =
     let numbers = numbers_next _ _ _ _ _ c.push_reserved.ensures.items c.reserve.ensures.items c.number-2.ensures in
-    session_next _ _ _ _ _ c.self.inside.desk _ _ _ _ _ c.session.invariant c.self.invariant.log c.in_ok-answer.ensures.added c.write.ensures.in_journal c.write.ensures.pin numbers refl c.job.ensures
+    session_next _ _ _ _ _ c.self.inside.desk _ _ _ _ _ c.session.invariant c.self.invariant.log c.in_ok-answer.ensures.added c.write.ensures.in_journal c.write.ensures.goes_on c.write.ensures.pin numbers refl c.job.ensures
 
 pub returns-clause-receipt : goal.returns-clause-receipt
 returns-clause-receipt g c =

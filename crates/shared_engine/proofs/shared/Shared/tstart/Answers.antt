@@ -15,4 +15,4 @@ invariant_of-session g c =
     let same = c.in-Ok.ensures.same in
     let ok = c.in-Ok.ensures.ok in
     let t = c.begin.ensures in
-    session_begun _ _ _ _ _ c.settle.new.pin.base _ c.session.invariant same.0 same.1 same.2 ok.0 refl ok.1 (omega (arith, ap (λ s. s.level) t)) (ap (λ s. s.work) t)
+    session_begun _ _ _ _ _ c.settle.new.pin.base _ c.session.invariant same.0 same.1 same.2 ok.0 refl c.in-Ok.ensures.seen ok.1 (omega (arith, ap (λ s. s.level) t)) (ap (λ s. s.work) t)
