@@ -6,11 +6,14 @@
 //! so one journal is listed and kept. The exit status is
 //! `job_server::status_of` of the outcome and the text of a fault is `job_server::JobsFault::text`; what its words ask
 //! for is `program_front::mjobs_args_with`. This program only opens files, lets time pass for LOCKs that wait
-//! (`patience.rt`), stops jobs that can't go on (`waiting.rt`), and prints what went wrong:
+//! (`patience.rt`), stops jobs that can't go on (`waiting.rt`), and prints what went wrong. With `--live` (`live.rt`)
+//! lines are done as they come, and what is written is what `live_server::relay_live` promises.
 //!
-//! 0, all replies are accepted; 1, a reply is an `error`; 2, a fault, or wrong arguments; standard error says which.
+//! Exit status: 0, all replies are accepted; 1, a reply is an `error`; 2, a fault, or wrong arguments; standard error
+//! says which.
 #![tactic(auto)]
 
+use crate::live::run_live_on;
 use crate::patience::Patience;
 use bstr::ByteSlice;
 use job_server::{JobsFault, Served, serve_text, status_of, write_served};
@@ -30,6 +33,7 @@ use std::sync::Wait;
 use std::thread::Threads;
 use std::{io, thread};
 
+mod live;
 mod patience;
 mod waiting;
 
@@ -183,9 +187,15 @@ fn run_input<P: Files + Print + Eprint + Input + AllocGlobal + Clock + Threads +
     args: MjobsArgs,
     file: &ListingFile<'_>,
     terminals: Terminals,
-) -> u8 {
+) -> u8
+where
+    P::Reader: Send,
+{
     if let Err(status) = look_at_input(rt, PROGRAM) {
         return status;
+    }
+    if args.live {
+        return run_live_on(rt, arguments, args, file, terminals.told, rt.reader());
     }
     if terminals.typed {
         print_jobs_greeting(rt, PROGRAM, args.listed);
@@ -200,7 +210,11 @@ fn run_on<P: Files + Print + Eprint + Input + AllocGlobal + Clock + Threads + Wa
     args: MjobsArgs,
     file: &ListingFile<'_>,
     terminals: Terminals,
-) -> u8 {
+) -> u8
+where
+    P::Reader: Send,
+    P::File: Send,
+{
     let Some(name) = args.file.and_then(|place| arguments.get(place)) else {
         return run_input(rt, arguments, args, file, terminals);
     };
@@ -208,6 +222,9 @@ fn run_on<P: Files + Print + Eprint + Input + AllocGlobal + Clock + Threads + Wa
         return print_bad_name(rt, PROGRAM);
     };
     match open_input(rt, PROGRAM, path) {
+        Ok(script) if args.live => {
+            run_live_on(rt, arguments, args, file, terminals.told, script)
+        }
         Ok(script) => run_and_tell(rt, arguments, args, file, terminals.told, script),
         Err(status) => status,
     }
@@ -215,7 +232,11 @@ fn run_on<P: Files + Print + Eprint + Input + AllocGlobal + Clock + Threads + Wa
 
 fn run_with_arguments<
     P: Files + Print + Eprint + Input + AllocGlobal + Clock + Threads + Wait + Sync,
->(rt: &P, arguments: &[Vec<u8>], terminals: Terminals) -> u8 {
+>(rt: &P, arguments: &[Vec<u8>], terminals: Terminals) -> u8
+where
+    P::Reader: Send,
+    P::File: Send,
+{
     let args = match mjobs_args_with(rt, arguments) {
         Ok(args) => args,
         Err(error) => return print_help_or_error(rt, PROGRAM, error),

@@ -83,6 +83,10 @@ pub(crate) fn hint_of(line: &[u8], found: LocatedFault) -> &'static str {
     match (found.expected, *at) {
         (Expected::Job, b';') => "; there are no comments",
         (Expected::Job, b'^') => "; --load reads listings",
+        (Expected::Job, 0xef) if line.starts_with(BYTE_ORDER_MARK) => {
+            "; the line begins with a byte order mark"
+        }
+        (Expected::Operand, b':') => "; there are no post-conditionals",
         (Expected::Equals, b'_') => "; a name has letters and digits alone",
         (Expected::Value, b'^') => reference_hint(line),
         (Expected::Value | Expected::Subscript, at) => value_hint(line, at, line.get(column + 1)),

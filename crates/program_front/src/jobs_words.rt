@@ -3,8 +3,9 @@ ghost use Rattle.std.specs.Prelude.{◌≡◌, ◌<◌, ◌≤◌};
 
 use crate::in_use::{file_conflict, name_conflict};
 use crate::words::{
-    FileNames, NamePlace, VERSION, errors_word, file_of, file_place, file_word, journal_of,
-    journal_word, load_of, load_word, no_listing_word, save_of, save_word, texts_of,
+    DROPPED, FileNames, NamePlace, VERSION, checkpoint_word, collect_word, errors_word, file_of,
+    file_place, file_word, journal_of, journal_word, load_of, load_word, no_listing_word, save_of,
+    save_word, texts_of,
 };
 use clap::builder::ValueParser;
 use clap::error::ErrorKind;
@@ -20,6 +21,10 @@ const USUAL_WORKERS: u64 = 2;
 
 // What `--errors` does.
 const ERRORS: &str = "Print the number, column and fault of each line{n}that can't be read";
+
+// What is said where the upkeep of a live run is asked for without one.
+const LIVE_ALONE: &str =
+    "'--collect-every <N>' and '--checkpoint-every <M>' other than 0 are for '--live' alone";
 
 // What is said where the word for workers has another value.
 const WORKERS: &str = "'--workers <N>' takes a number from 1 to 16, or auto";
@@ -67,6 +72,12 @@ Replies are printed by job, in order of the jobs' first lines, then `--` and the
 listing of the database. Where jobs use the same nodes, replies and listing
 depend on which job was first.
 
+With --live a line is done as it comes, by one worker, and its reply is printed
+at once: programs can talk through one run. A LOCK then waits with its job until
+it has its names, its time is over or the input has ended, while other jobs go
+on. A TCOMMIT that has a conflict is answered `restart`, as in mrun.
+--collect-every and --checkpoint-every are for --live, and as in mrun.
+
 At the top of the repository, or of the package, four jobs share a queue:
 
   mjobs --load examples/mjobs/queue.txt --workers 4 examples/mjobs/workers.txt
@@ -76,8 +87,8 @@ To keep a database from run to run:
   mjobs --load kept.txt --save kept.txt today.txt
 
 --load starts from a listing instead of an empty database: lines
-^Stock(\"apples\")=3, as they are printed or as other M systems write them in ZWR
-form. They are read before the first job; if one can't be read, nothing runs.
+^Stock(\"apples\")=3, as they are printed or as GT.M and YottaDB write them in
+ZWR form. They are read before the first job; if one can't be read, nothing runs.
 --save puts the listing in a file, --journal what was done, in its order: after
 mjobs --journal done.txt today.txt, mrun done.txt leaves the same listing.
 Each is written to a new file in the same folder, named as it is with .new-1
@@ -91,7 +102,8 @@ fault, the refusal and what was expected there, on standard error.
 Exit status: 0, all replies are accepted; 1, a reply is an `error`; 2, input
 can't be read, output, the listing or the journal can't be written, memory ran
 out, a listing can't be loaded, a report is missing, all jobs wait for names
-that others of them hold, or an option or its value is wrong.";
+that others of them hold, at the end with --live, or an option or its value is
+wrong.";
 
 /// What the arguments of `mjobs` ask for.
 #[derive(Clone, Copy, Debug, PartialEq, Eq)]
@@ -110,6 +122,13 @@ pub struct MjobsArgs {
     pub errors: bool,
     /// How many workers there are.
     pub workers: Workers,
+    /// Whether lines are done as they come.
+    pub live: bool,
+    /// After how many printed lines the collector passes over the database, again and again, where lines are done as
+    /// they come; 0 for never.
+    pub collect_every: u64,
+    /// After how many a checkpoint is taken then; 0 for never.
+    pub checkpoint_every: u64,
 }
 
 impl MjobsArgs {
@@ -134,6 +153,10 @@ fn command<'a>(alloc: Global) -> Result<Command<'a>, Error> {
         .help(
             "How many jobs are done at the same time, 1 to 16;{n}auto is the number of processors",
         );
+    let live = Arg::new(alloc, "live")
+        .long("live")
+        .action(ArgAction::SetTrue)
+        .help("Do lines as they come, with one worker, and print{n}each reply at once");
     let command = Command::new(alloc, "mjobs")
         .version(VERSION)
         .about(
@@ -146,7 +169,10 @@ fn command<'a>(alloc: Global) -> Result<Command<'a>, Error> {
         .arg(journal_word(alloc))?
         .arg(no_listing_word(alloc))?
         .arg(errors_word(alloc, ERRORS))?
-        .arg(workers)?;
+        .arg(workers)?
+        .arg(live)?
+        .arg(collect_word(alloc))?
+        .arg(checkpoint_word(alloc))?;
     Ok(command)
 }
 
@@ -185,6 +211,17 @@ fn workers_of(alloc: Global, matches: &ArgMatches<'_>) -> Result<Workers, Error>
     }
 }
 
+// Why the words don't go together, if they alone show it.
+fn conflict_in(arguments: &[Vec<u8>], args: MjobsArgs) -> Option<&'static str> {
+    if !args.live && (args.collect_every != 0 || args.checkpoint_every != 0) {
+        return Some(LIVE_ALONE);
+    }
+    if args.journal.is_some() && args.checkpoint_every != 0 {
+        return Some(DROPPED);
+    }
+    name_conflict(arguments, args.names())
+}
+
 /// What the arguments of `mjobs` ask for; the first is the program's name. An error's text is for the user: help and
 /// the version too.
 pub fn mjobs_args_of(alloc: Global, arguments: &[Vec<u8>]) -> Result<MjobsArgs, Error> {
@@ -198,8 +235,11 @@ pub fn mjobs_args_of(alloc: Global, arguments: &[Vec<u8>]) -> Result<MjobsArgs, 
         listed: !matches.get_flag("no-listing"),
         errors: matches.get_flag("errors"),
         workers: workers_of(alloc, &matches)?,
+        live: matches.get_flag("live"),
+        collect_every: matches.get_one("collect-every").unwrap_or(0),
+        checkpoint_every: matches.get_one("checkpoint-every").unwrap_or(0),
     };
-    match name_conflict(arguments, args.names()) {
+    match conflict_in(arguments, args) {
         Some(why) => Err(error_of(alloc, ErrorKind::ArgumentConflict, why)?),
         None => Ok(args),
     }

@@ -1,24 +1,17 @@
 //! The words of `mrun`.
 use crate::in_use::{file_conflict, name_conflict};
 use crate::words::{
-    FileNames, NamePlace, VERSION, errors_word, file_of, file_place, file_word, journal_of,
-    journal_word, load_of, load_word, no_listing_word, save_of, save_word, stats_word, texts_of,
+    DROPPED, FileNames, NamePlace, VERSION, checkpoint_word, collect_word, errors_word, file_of,
+    file_place, file_word, journal_of, journal_word, load_of, load_word, no_listing_word, save_of,
+    save_word, stats_word, texts_of,
 };
-use clap::builder::ValueParser;
 use clap::error::ErrorKind;
-use clap::{Arg, ArgAction, ArgMatches, Command, Error};
+use clap::{ArgMatches, Command, Error};
 use std::alloc::Global;
 use std::rt::Files;
 
-// The most printed lines from one pass of the collector, or one checkpoint, to the next that may be asked for.
-const MOST_LINES: u64 = 1000000;
-
 // What `--errors` does.
 const ERRORS: &str = "Print each refused line's number, column and fault";
-
-// What is said where a journal is asked for that would drop its beginning.
-const DROPPED: &str =
-    "'--journal <JOURNAL>' cannot be used with '--checkpoint-every <M>' other than 0, by which the journal drops its beginning";
 
 // What `--help` prints under the options.
 const LINES: &str = "Each line is a job, 1 to 4096, a blank, and SET, KILL, MERGE, LOCK, TSTART,
@@ -43,7 +36,7 @@ To keep a database from run to run:
   mrun --load kept.txt --save kept.txt today.txt
 
 --load starts from a listing instead: lines ^Fruit(\"apple\",\"price\")=1.2, as
-they are printed or as other M systems write them in ZWR form. If a line of it
+they are printed or as GT.M and YottaDB write them in ZWR form. If a line of it
 can't be read, nothing runs.
 --save puts the listing in a file, --journal what was done: after
 mrun --journal done.txt script.txt, mrun done.txt leaves the same listing.
@@ -101,30 +94,7 @@ impl MrunArgs {
     }
 }
 
-// A word for something that is done after each so many printed lines.
-fn every_word<'a>(alloc: Global, name: &'a str, value: &'a str, help: &'a str) -> Arg<'a> {
-    Arg::new(alloc, name)
-        .long(name)
-        .action(ArgAction::Set)
-        .value_name(value)
-        .value_parser(ValueParser::unsigned(0, MOST_LINES))
-        .default_value("0")
-        .help(help)
-}
-
 fn command<'a>(alloc: Global) -> Result<Command<'a>, Error> {
-    let collect_every = every_word(
-        alloc,
-        "collect-every",
-        "N",
-        "Let the collector pass after each Nth printed{n}line, 0 to 1000000; 0 is never",
-    );
-    let checkpoint_every = every_word(
-        alloc,
-        "checkpoint-every",
-        "M",
-        "Let the journal drop its beginning after each{n}Mth printed line, 0 to 1000000; 0 is{n}never",
-    );
     let command = Command::new(alloc, "mrun")
         .version(VERSION)
         .about(
@@ -138,8 +108,8 @@ fn command<'a>(alloc: Global) -> Result<Command<'a>, Error> {
         .arg(no_listing_word(alloc))?
         .arg(errors_word(alloc, ERRORS))?
         .arg(stats_word(alloc))?
-        .arg(collect_every)?
-        .arg(checkpoint_every)?;
+        .arg(collect_word(alloc))?
+        .arg(checkpoint_word(alloc))?;
     Ok(command)
 }
 

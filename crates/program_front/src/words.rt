@@ -1,4 +1,5 @@
 //! The words that both programs know, and the arguments as texts.
+use clap::builder::ValueParser;
 use clap::{Arg, ArgAction, ArgMatches, Error};
 use std::alloc::{AllocError, Global};
 
@@ -34,6 +35,44 @@ pub struct FileNames {
 
 /// The version of both programs.
 pub(crate) const VERSION: &str = "0.1.0";
+
+/// What is said where a journal is asked for that would drop its beginning.
+pub(crate) const DROPPED: &str =
+    "'--journal <JOURNAL>' cannot be used with '--checkpoint-every <M>' other than 0, by which the journal drops its beginning";
+
+// The most printed lines from one pass of the collector, or one checkpoint, to the next that may be asked for.
+const MOST_LINES: u64 = 1000000;
+
+// A word for something that is done after each so many printed lines.
+fn every_word<'a>(alloc: Global, name: &'a str, value: &'a str, help: &'a str) -> Arg<'a> {
+    Arg::new(alloc, name)
+        .long(name)
+        .action(ArgAction::Set)
+        .value_name(value)
+        .value_parser(ValueParser::unsigned(0, MOST_LINES))
+        .default_value("0")
+        .help(help)
+}
+
+/// The word for passes of the collector.
+pub(crate) fn collect_word<'a>(alloc: Global) -> Arg<'a> {
+    every_word(
+        alloc,
+        "collect-every",
+        "N",
+        "Let the collector pass after each Nth printed{n}line, 0 to 1000000; 0 is never",
+    )
+}
+
+/// The word for checkpoints.
+pub(crate) fn checkpoint_word<'a>(alloc: Global) -> Arg<'a> {
+    every_word(
+        alloc,
+        "checkpoint-every",
+        "M",
+        "Let the journal drop its beginning after each{n}Mth printed line, 0 to 1000000; 0 is{n}never",
+    )
+}
 
 /// The word for the script's file.
 pub(crate) fn file_word<'a>(alloc: Global) -> Arg<'a> {

@@ -1,8 +1,6 @@
-pub mod Cut
 pub mod Exact
 pub mod Flags
 pub mod Halts
-pub mod Outcomes
 pub mod Runs
 pub mod Stands
 pub mod Stopped

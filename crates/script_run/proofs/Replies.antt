@@ -19,10 +19,10 @@ use Rattle.script_run.specs.OpenJobs.{open_after}
 use Rattle.command.specs.Replies.{is_refused}
 use Rattle.serial.specs.Answers.{IsReplyDue, told_by}
 use Rattle.script_run.specs.Output.{accepted_job, asks_halt, ends_session, is_halt, with_reply}
-use Rattle.script_run.specs.Replies.{IsAnswered, IsGathered, IsLost}
+use Rattle.script_run.specs.Replies.{IsAnswered, IsGathered, IsGatheredAs, IsLost, IsLostAs}
 use Rattle.script_run.specs.declared.answers.Script.{Script}
 use Rattle.script_run.specs.declared.outcome.Outcome.{Outcome}
-use Rattle.script_run.proofs.Outcomes.{outcome_is}
+use Rattle.script_run.specs.laws.Outcomes.{outcome_is}
 use Rattle.script_run.proofs.Refused.{refused_answer, none_accepted}
 
 -- a step's reply answers the line that asks for it
@@ -72,6 +72,21 @@ lost line start now accepted ended reply out new said core text = record {
   machine = core ∙ said.machine;
   text = text;
 }
+
+pub gathered_as : (line : List ℕ) (start now : Machine) (accepted : Option ℕ) (ended : Bool) (reply : Reply) (job : Option ℕ) (out : List ℕ) (before : Outcome) (were : List ℕ) (new : Script)
+    → IsAnswered line start now accepted ended reply → new.core.machine ≡ now → job ≡ job_of_line line → new.out.items ≡ out ++ reply_text job reply → new.outcome ≡ with_reply reply before → new.jobs ≡ open_after accepted ended were
+    → IsGatheredAs reply line start out before were new
+gathered_as line start now accepted ended reply job out before were new said core owner text outcome jobs = record {
+  answer = said.answer;
+  machine = core ∙ said.machine;
+  text = text ∙ ap (λ (j : Option ℕ). out ++ reply_text j reply) owner;
+  outcome = outcome;
+  jobs = jobs ∙ ap (λ (j : Option ℕ). open_after j ended were) said.joins ∙ ap (λ (e : Bool). open_after (accepted_job (reading_of line) reply) e were) said.session;
+}
+
+pub lost_as : (line : List ℕ) (start now : Machine) (accepted : Option ℕ) (ended : Bool) (reply : Reply) (out : List ℕ) (new : Script)
+    → IsAnswered line start now accepted ended reply → new.core.machine ≡ now → new.out.items ≡ out → IsLostAs reply line start out new
+lost_as line start now accepted ended reply out new said core text = record { answer = said.answer; machine = core ∙ said.machine; text = text }
 
 -- an answer is no refusal, so the script goes as before
 answered_alike : (answer : Answer) (before : Outcome) → before ≡ with_reply (Answered answer) before

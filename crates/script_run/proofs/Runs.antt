@@ -11,7 +11,6 @@ use Rattle.journal.specs.Story.{Machine}
 use Rattle.serial.specs.Machine.{run_of}
 use Rattle.serial.specs.Soundness.{IsGood}
 use Rattle.serial.specs.laws.Good.{good_step, good_run}
-use Rattle.serial.specs.laws.Runs.{good_reply}
 use Rattle.script_run.specs.OpenJobs.{open_after}
 use Rattle.refusal.specs.declared.Refusal.{Refusal}
 use Rattle.refusal.specs.declared.Refusal.TheVariants.{OutOfMemory}
@@ -24,29 +23,17 @@ use Rattle.listing.specs.laws.Bytes.{rest_of, Appends-nothing, WritesBeginning-a
 use Rattle.std.specs.Io.KnownBytes.{Appends}
 use Rattle.bstr.specs.Find.{IsFirstByte, is_byte}
 use Rattle.script_run.specs.Lines.{nonempty_line, lines_of, has_no_end, AreLinesBefore}
-use Rattle.script_run.proofs.Cut.{end_of, first_line, no_end, joined_line, has_no_end-append, none_before, line_before, lines_before}
+use Rattle.script_run.specs.laws.Good.{answered-good}
+use Rattle.script_run.specs.laws.Cut.{end_of, first_line, no_end, joined_line, has_no_end-append, none_before, line_before, lines_before}
 use Rattle.serial.specs.Answers.{IsReplyDue, told_by}
 use Rattle.script_run.specs.Output.{Answer, IsAnswer, AreAnswers, left_by, exact_reply, exact_answers, ends_session, accepted_job, left_open, halts_of, left_at_end, text_of, with_reply, noted, ending}
-use Rattle.script_run.proofs.Outcomes.{noted-none, noted-one, noted-then}
+use Rattle.script_run.specs.laws.Outcomes.{noted-none, noted-one, noted-then}
 use Rattle.script_run.specs.Replies.{IsGathered, IsLost}
 use Rattle.script_run.specs.Runs.{Ran, Broke, RanFront, BrokeFront, RanEnd, BrokeEnd}
 use Rattle.script_run.specs.declared.answers.Script.{Script}
 
 one-text : (line : List ℕ) (reply : Reply) (out text : List ℕ) → text ≡ out ++ reply_text (job_of_line line) reply → text ≡ out ++ text_of ((line, reply) ∷ [])
 one-text line reply out text t = t ∙ ap (λ (ts : List ℕ). out ++ ts) (sym (append-nil _))
-
--- a line's answer keeps the machine good
-due-good : (s t : Machine) (asked : Result (ℕ × Command) Refusal) (reply : Reply) → IsReplyDue s asked reply → t ≡ told_by asked reply s → IsGood s → IsGood t
-due-good s t (Ok step) reply is left good = subst IsGood (sym left) (good_reply step reply s is good)
-due-good s t (Err refusal) reply is left good = subst IsGood (sym left) good
-
-none-told : (s t : Machine) (asked : Result (ℕ × Command) Refusal) (reply : Reply) → reply ≡ Refused OutOfMemory → t ≡ told_by asked reply s → IsGood s → IsGood t
-none-told s t (Ok step) reply memory left good = subst IsGood (sym (left ∙ ap (λ r. told_by (Ok step) r s) memory)) good
-none-told s t (Err refusal) reply memory left good = subst IsGood (sym left) good
-
-answered-good : (s t : Machine) (line : List ℕ) (reply : Reply) → IsAnswer s line reply → t ≡ told_by (reading_of line) reply s → IsGood s → IsGood t
-answered-good s t line reply (inl due) left good = due-good s t (reading_of line) reply due left good
-answered-good s t line reply (inr memory) left good = none-told s t (reading_of line) reply memory.0 left good
 
 -- nothing was written
 pub nothing_begun : (a : Option (List ℕ)) (x : List ℕ) → WritesBeginning a a x

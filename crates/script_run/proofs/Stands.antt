@@ -14,9 +14,9 @@ use Rattle.serial.specs.Soundness.{IsGood, IsSound}
 use Rattle.serial.specs.laws.Good.{good_run}
 use Rattle.listing.specs.Bytes.{WritesBeginning, WritesFront}
 use Rattle.script_run.specs.Lines.{nonempty_line, lines_of, has_no_end, AreLinesBefore}
-use Rattle.script_run.proofs.Cut.{none_before, lines_before, lines_before_more}
+use Rattle.script_run.specs.laws.Cut.{none_before, lines_before, lines_before_more}
 use Rattle.script_run.proofs.Exact.{exact_output}
-use Rattle.script_run.proofs.Outcomes.{noted-then}
+use Rattle.script_run.specs.laws.Outcomes.{noted-then}
 use Rattle.script_run.specs.declared.outcome.Outcome.{Outcome}
 use Rattle.script_run.specs.Output.{Answer, AreAnswers, left_by, exact_answers, left_open, halts_of, left_at_end, text_of, noted, outcome_of, ending, IsOutput, Wrote, IsBegun, HasAnsweredLines}
 use Rattle.script_run.specs.Runs.{RanFront, BrokeFront, RanEnd, BrokeEnd, HasRead}
@@ -52,13 +52,6 @@ Precedes-piece (Some all) (Some more) None begun piece rest h k b = absurd k
 Precedes-piece (Some all) (Some more) (Some more') begun piece rest h k b =
     let same : begun ++ more ≡ (begun ++ piece) ++ more' = ap (λ (m : List ℕ). begun ++ m) k ∙ sym (append_assoc begun piece more') in
     lines_before all ((begun ++ piece) ++ more') (rest ++ more') (subst (λ (t : List ℕ). AreLinesBefore t all) same h) (lines_before_more (begun ++ piece) rest more' b)
-
--- legal units without open transactions
-pub good_start : (s : Machine) → IsLegal s.units initial → s.transactions ≡ finmap.empty → IsGood s
-good_start s legal closed = record { legal = legal; sound = λ job t is. none_open job t (sym is ∙ ap (λ (ts : FinMap nat_cmp Transaction). finmap.get ts job) closed ∙ finmap.get-empty nat_cmp job) }
-  where
-    none_open : (job : ℕ) (t : Transaction) → ◌≡◌ {A = Option Transaction} (Some t) None → IsSound s.units t
-    none_open job t e = absurd cc
 
 -- lines were answered and the answers written, and a line has begun
 pub record Stands (start : Machine) (all left : Option (List ℕ)) (begun : List ℕ) (old new : Option (List ℕ)) (script : Script) : Type 0 where

@@ -26,9 +26,23 @@ pub record IsGathered (line : List ℕ) (start : Machine) (out : List ℕ) (befo
   pub outcome : new.outcome ≡ with_reply reply before
   pub jobs : new.jobs ≡ open_after (accepted_job (reading_of line) reply) (ends_session line reply) were
 
+-- the same with just this reply
+pub record IsGatheredAs (reply : Reply) (line : List ℕ) (start : Machine) (out : List ℕ) (before : Outcome) (were : List ℕ) (new : Script) : Type 0 where
+  pub answer : IsAnswer start line reply
+  pub machine : new.core.machine ≡ told_by (reading_of line) reply start
+  pub text : new.out.items ≡ out ++ reply_text (job_of_line line) reply
+  pub outcome : new.outcome ≡ with_reply reply before
+  pub jobs : new.jobs ≡ open_after (accepted_job (reading_of line) reply) (ends_session line reply) were
+
 -- a line was answered, but its reply found no memory
 pub record IsLost (line : List ℕ) (start : Machine) (out : List ℕ) (new : Script) : Type 0 where
   pub reply : Reply
+  pub answer : IsAnswer start line reply
+  pub machine : new.core.machine ≡ told_by (reading_of line) reply start
+  pub text : new.out.items ≡ out
+
+-- the same with just this reply
+pub record IsLostAs (reply : Reply) (line : List ℕ) (start : Machine) (out : List ℕ) (new : Script) : Type 0 where
   pub answer : IsAnswer start line reply
   pub machine : new.core.machine ≡ told_by (reading_of line) reply start
   pub text : new.out.items ≡ out

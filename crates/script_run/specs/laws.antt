@@ -1,1 +1,4 @@
 pub mod Lines
+pub mod Cut
+pub mod Good
+pub mod Outcomes

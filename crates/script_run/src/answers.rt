@@ -14,18 +14,23 @@ use script::Drafts;
 use std::alloc::Global;
 use std::io::Write;
 
-// The machine, the open jobs, the references of the line that is read, the text that is gathered and not yet written,
-// how it went so far, how many lines came, empty ones too, and when the collector passes and a checkpoint is taken
-// next. The number of lines saturates.
+/// A script that runs.
 #[derive(Drop)]
-pub(crate) struct Script {
-    pub(crate) core: JobCore,
-    pub(crate) jobs: OpenJobs,
-    pub(crate) drafts: Drafts,
-    pub(crate) out: Vec<u8>,
-    pub(crate) outcome: Outcome,
-    pub(crate) lines: u64,
-    pub(crate) due: Due,
+pub struct Script {
+    /// The machine.
+    pub core: JobCore,
+    /// The jobs whose sessions are open.
+    pub jobs: OpenJobs,
+    /// The references of the line that is read.
+    pub drafts: Drafts,
+    /// The text that is gathered and not yet written.
+    pub out: Vec<u8>,
+    /// How it went so far.
+    pub outcome: Outcome,
+    /// How many lines came, empty ones too, up to 2^64 - 1: the number of the line that is done, for the log.
+    pub lines: u64,
+    /// When the collector passes and a checkpoint is taken next.
+    pub due: Due,
 }
 
 // The reply is gathered, and what is gathered written once it is enough. Then come the collector's pass and a

@@ -6,8 +6,8 @@
 //! text of the replies, `--`, and the listing of the map that the journal leaves. After a fault what was written is a
 //! beginning of such a text.
 //!
-//! A job is open from its first accepted line, one that is read as a command and not refused memory, until a HALT that is
-//! done; its next accepted line opens it anew.
+//! A job is open from its first accepted line, one that is read as a command and not refused memory, until a HALT that
+//! is done; its next accepted line opens it anew.
 //!
 //! Input is read in pieces. The whole lines of a piece are run and their replies written before the next read,
 //! so that a person or a program at the other end of a pipe gets its replies at once; where a read fails, just the
@@ -19,17 +19,24 @@
 //! (`upkeep.rt`). Both leave the machine, so no clause names them. Nor does one name a log, which is told of lines and
 //! may ask to be shown the core after one (`log.rt`): what is written is promised alike for each.
 //!
+//! The parts of a run are public for `live_server`, whose jobs may wait: `Script`, what gathers a reply, cuts lines,
+//! halts open jobs and writes the ending.
+//!
 //! Read `specs/Lines.antt`, `specs/OpenJobs.antt`, `specs/Output.antt`, then `outcome.rt`, `gathering.rt`,
-//! `answers.rt`, `open_jobs.rt`, `upkeep.rt`, `lines.rt`, `run.rt`. Not promised: that memory is there; how the text is cut into
-//! writes; what a log is told.
+//! `answers.rt`, `open_jobs.rt`, `upkeep.rt`, `lines.rt`, `run.rt`. Not promised: that memory is there; how the text is
+//! cut into writes; what a log is told.
 #![tactic(auto)]
 
+pub use answers::Script;
 pub use fault::{Fault, status_of};
+pub use gathering::{answer_command, gather_asked, gather_reply, gather_unread};
 pub use laws::lines_are_cut_at_their_ends;
+pub use lines::{end_begun, extend_line, line_end, strip_return};
 pub use log::{NoLog, RunLog};
+pub use open_jobs::{OpenJobs, halt_open};
 pub use outcome::Outcome;
-pub use run::{run_script, run_with, run_with_core};
-pub use upkeep::Upkeep;
+pub use run::{PIECE_BYTES, read_piece, run_script, run_with, run_with_core, write_ending};
+pub use upkeep::{Due, Upkeep, keep_up};
 
 mod answers;
 mod fault;

@@ -17,7 +17,8 @@ use std::io::Write;
 // A line that took more room than this gives it back.
 const LONG_LINE_BYTES: usize = 1048576;
 
-fn strip_return(line: &[u8]) -> &[u8]
+/// A line without the byte 13 at its end, where it has one.
+pub fn strip_return(line: &[u8]) -> &[u8]
     ensures { result.now ≡ strip_last byte.carriage_return line.now }
 {
     if !line.is_empty() && line[line.len() - 1] == 13 {
@@ -26,7 +27,8 @@ fn strip_return(line: &[u8]) -> &[u8]
     line
 }
 
-fn line_end(text: &[u8]) -> Option<usize>
+/// Where the first byte 10 stands, the end of a line.
+pub fn line_end(text: &[u8]) -> Option<usize>
     ensures { IsFirstByte (is_byte byte.line_feed) text.now result }
 {
     text.find_byte(b'\n')
@@ -59,8 +61,8 @@ fn run_lines<W: Write>(
     Ok(at)
 }
 
-// More of a line. Where room for twice as much is refused, just what is needed is asked for.
-fn extend_line(begun: &mut Vec<u8>, text: &[u8]) -> Result<(), AllocError>
+/// More of a line. Where room for twice as much is refused, just what is needed is asked for.
+pub fn extend_line(begun: &mut Vec<u8>, text: &[u8]) -> Result<(), AllocError>
     ensures { begun.new.items ≡ (if is_ok result then begun.old.items ++ text.now else begun.old.items) }
 {
     if begun.extend_from_slice(text).is_ok() {
@@ -70,8 +72,8 @@ fn extend_line(begun: &mut Vec<u8>, text: &[u8]) -> Result<(), AllocError>
     begun.extend_from_slice(text)
 }
 
-// The line that had begun is done. What a long one took is given back.
-fn end_begun(alloc: Global, begun: &mut Vec<u8>)
+/// The line that had begun is done. What a long one took is given back.
+pub fn end_begun(alloc: Global, begun: &mut Vec<u8>)
     ensures empty { begun.new.items ≡ [] }
     ensures room { vec_capacity begun.new ≤ LONG_LINE_BYTES }
 {

@@ -17,10 +17,10 @@ use std::marker::Model;
 // One more than the greatest number of a job.
 const JOB_FLAGS: usize = 4097;
 
-// The open jobs. Contracts see their numbers. Beside them stands a flag for each number that a job may have, so that a
-// line is noted without a look at the other jobs; a HALT that is done looks at all. There is room for all jobs.
+/// The open jobs. Contracts see their numbers. Beside them stands a flag for each number that a job may have, so that a
+/// line is noted without a look at the other jobs; a HALT that is done looks at all. There is room for all jobs.
 #[derive(Drop)]
-pub(crate) struct OpenJobs {
+pub struct OpenJobs {
     order: Vec<Job>,
     flags: Vec<bool>,
 }
@@ -37,8 +37,8 @@ impl Model for OpenJobs {
 }
 
 impl OpenJobs {
-    // None, with room for all.
-    pub(crate) fn new(alloc: Global) -> Result<OpenJobs, AllocError>
+    /// None, with room for all.
+    pub fn new(alloc: Global) -> Result<OpenJobs, AllocError>
         ensures { IfOk result (λ jobs. jobs ≡ []) }
     {
         let order = Vec::with_capacity(alloc, JOB_FLAGS)?;
@@ -46,8 +46,8 @@ impl OpenJobs {
         Ok(OpenJobs { order, flags })
     }
 
-    // The jobs in order of their first accepted lines.
-    pub(crate) fn as_slice(&self) -> &[Job]
+    /// The jobs in order of their first accepted lines.
+    pub fn as_slice(&self) -> &[Job]
         ensures { result.now ≡ self.now }
     {
         self.order.as_slice()
@@ -77,9 +77,9 @@ impl OpenJobs {
         }
     }
 
-    // After an accepted line of the job: its session is open, unless it has ended with the line. A line that isn't
-    // accepted opens none.
-    pub(crate) fn note_line(&mut self, job: &Option<Job>, ended: bool)
+    /// After an accepted line of the job: its session is open, unless it has ended with the line. A line that isn't
+    /// accepted opens none.
+    pub fn note_line(&mut self, job: &Option<Job>, ended: bool)
         ensures { self.new ≡ open_after job.now ended self.old }
     {
         match job {
@@ -108,9 +108,9 @@ fn halt(core: &mut JobCore, job: Job) -> bool
     }
 }
 
-// Halts these jobs in order, and passes over those whose HALT finds no memory. Answers whether there was none. Either
-// way the database is as all their HALTs leave it.
-pub(crate) fn halt_open(core: &mut JobCore, jobs: &[Job]) -> bool
+/// Halts these jobs in order, and passes over those whose HALT finds no memory. Answers whether there was none. Either
+/// way the database is as all their HALTs leave it.
+pub fn halt_open(core: &mut JobCore, jobs: &[Job]) -> bool
     ensures done { result ≡ true → core.new.machine ≡ run_of (halts_of jobs.now) core.old.machine }
     ensures nodes { (after core.new.machine.units initial).map ≡ (after (run_of (halts_of jobs.now) core.old.machine).units initial).map }
 {

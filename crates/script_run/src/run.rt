@@ -21,15 +21,15 @@ use script::Drafts;
 use std::alloc::{AllocError, Global};
 use std::io::{Read, Write};
 
-// How many bytes are asked for at a time.
-const PIECE_BYTES: usize = 65536;
+/// How many bytes are asked for at a time.
+pub const PIECE_BYTES: usize = 65536;
 
 // The buffer of replies and of the listing. Text is written once 16,384 bytes are gathered, and the longest line comes
 // to some 265,000: a value of 32,767 bytes and 31 subscripts of 255, at six and a half bytes for each.
 const OUT_BYTES: usize = 294912;
 
-// Reads once. Nothing came only where nothing is left.
-fn read_piece<'a, R: Read>(
+/// Reads once. Nothing came only where nothing is left.
+pub fn read_piece<'a, R: Read>(
     reader: &mut Counted<R>,
     buffer: &'a mut [u8],
 ) -> Result<&'a [u8], ReadFault>
@@ -77,8 +77,8 @@ fn take_piece<W: Write>(
     Ok(())
 }
 
-// What is gathered, and the line before the listing with the listing, where it is asked for.
-fn write_ending<W: Write>(
+/// Writes what is gathered, and the line before the listing with the listing, where it is asked for.
+pub fn write_ending<W: Write>(
     alloc: Global,
     listed: bool,
     script: &mut Script,
@@ -170,6 +170,33 @@ fn end(script: Script, log: &mut impl RunLog) {
     drop(script);
 }
 
+impl Script {
+    /// A script that begins on what a core holds. Refusals: `AllocError`, memory for the list of open jobs or the buffer
+    /// of replies; then the core is given up.
+    pub fn new(alloc: Global, core: JobCore, upkeep: Upkeep) -> Result<Script, AllocError>
+        ensures core { IfOk result (λ script. script.core ≡ core) }
+        ensures jobs { IfOk result (λ script. script.jobs ≡ []) }
+        ensures out { IfOk result (λ script. script.out.items ≡ []) }
+        ensures outcome { IfOk result (λ script. script.outcome ≡ outcome_of []) }
+    {
+        match new_room(alloc) {
+            Ok((jobs, out)) => Ok(Script {
+                core,
+                jobs,
+                drafts: Drafts::new(alloc),
+                out,
+                outcome: Outcome::new(),
+                lines: 0,
+                due: Due::new(upkeep),
+            }),
+            Err(AllocError) => {
+                drop(core);
+                Err(AllocError)
+            }
+        }
+    }
+}
+
 // A script that is new, to its end.
 fn run_whole<R: Read, W: Write>(
     alloc: Global,
@@ -245,23 +272,9 @@ pub fn run_with_core<R: Read, W: Write>(
     ensures unlost { IsErrOf result Fault.Memory → IfSome (R.remaining reader.old.inner)
         (λ bytes. HasKept core.machine listed bytes (W.contents writer.old.inner) (W.contents writer.new.inner)) }
 {
-    match new_room(alloc) {
-        Ok((jobs, out)) => {
-            let script = Script {
-                core,
-                jobs,
-                drafts: Drafts::new(alloc),
-                out,
-                outcome: Outcome::new(),
-                lines: 0,
-                due: Due::new(upkeep),
-            };
-            run_whole(alloc, listed, script, reader, writer, log)
-        }
-        Err(AllocError) => {
-            drop(core);
-            Err(Fault::Memory)
-        }
+    match Script::new(alloc, core, upkeep) {
+        Ok(script) => run_whole(alloc, listed, script, reader, writer, log),
+        Err(AllocError) => Err(Fault::Memory),
     }
 }
 

@@ -64,14 +64,14 @@ impl Countdown {
 
 /// When the next pass and the next checkpoint are due.
 #[derive(Clone, Copy, Drop)]
-pub(crate) struct Due {
+pub struct Due {
     collector: Countdown,
     checkpoint: Countdown,
 }
 
 impl Due {
     /// Before the first line.
-    pub(crate) fn new(upkeep: Upkeep) -> Due
+    pub fn new(upkeep: Upkeep) -> Due
         ensures { result ≡ record { collector = counting upkeep.collect_every; checkpoint = counting upkeep.checkpoint_every } }
     {
         Due {
@@ -105,7 +105,7 @@ fn checkpoint_when_due(countdown: &mut Countdown, core: &mut JobCore)
 /// After a printed line: a pass of the collector and a checkpoint, where they are due. The machine stays, and where no
 /// checkpoint is due the base does. What finds no memory is passed over: what it would have dropped is kept until a
 /// later one.
-pub(crate) fn keep_up(due: &mut Due, core: &mut JobCore)
+pub fn keep_up(due: &mut Due, core: &mut JobCore)
     ensures machine { core.new.machine ≡ core.old.machine }
     ensures only_when_due { (due.old.checkpoint.left == 1) ≡ false → core.new ≡ core.old }
     ensures next { due.new ≡ record { collector = counted due.old.collector; checkpoint = counted due.old.checkpoint } }

@@ -331,6 +331,9 @@ const PLAIN_JOBS: MjobsArgs = MjobsArgs {
     listed: true,
     errors: false,
     workers: Workers::Number(2),
+    live: false,
+    collect_every: 0,
+    checkpoint_every: 0,
 };
 
 // Words, and what they ask `mjobs` for.
@@ -366,13 +369,45 @@ const JOBS: [JobsRow; 5] = [
             ..PLAIN_JOBS
         }),
     ),
-    (&[b"--collect-every", b"1"], Err(ErrorKind::UnknownArgument)),
+    (
+        &[b"--collect-every", b"1"],
+        Err(ErrorKind::ArgumentConflict),
+    ),
     (
         &[b"--checkpoint-every", b"1"],
-        Err(ErrorKind::UnknownArgument),
+        Err(ErrorKind::ArgumentConflict),
     ),
     (&[b"--help"], Err(ErrorKind::DisplayHelp)),
 ];
+
+const LIVE_JOBS: [JobsRow; 3] = [
+    (
+        &[b"--live", b"-"],
+        Ok(MjobsArgs {
+            live: true,
+            ..PLAIN_JOBS
+        }),
+    ),
+    (
+        &[b"--live", b"--collect-every=7", b"--checkpoint-every", b"9"],
+        Ok(MjobsArgs {
+            live: true,
+            collect_every: 7,
+            checkpoint_every: 9,
+            ..PLAIN_JOBS
+        }),
+    ),
+    (
+        &[b"--live", b"--journal=j.txt", b"--checkpoint-every=1"],
+        Err(ErrorKind::ArgumentConflict),
+    ),
+];
+
+#[test]
+fn words_ask_for_live_jobs(rt: HostRuntime) -> Result<(), Fail> {
+    assert_eq!(rt; first_other_of_jobs(rt.alloc(), &LIVE_JOBS)?, None);
+    Ok(())
+}
 
 #[test]
 fn words_ask_for_jobs(rt: HostRuntime) -> Result<(), Fail> {

@@ -1,5 +1,5 @@
 use Rattle.std.proofs.Common.{Bool, ◌||◌, ◌∙◌, ap}
-use Rattle.script_run.proofs.Outcomes.{outcome_is}
+use Rattle.script_run.specs.laws.Outcomes.{outcome_is}
 use Rattle.script_run.proofs.outcome.Outcome.with.Goals as goal
 
 pub returns : goal.returns

@@ -1,0 +1,22 @@
+use Rattle.std.proofs.Common.{refl}
+use Rattle.listing.specs.laws.Bytes.{on_err}
+use Rattle.live_server.proofs.Steps.{nothing_begun, Ran-none, Ran-and-none, Broke-and-none, Broke-after}
+use Rattle.live_server.proofs.run.settle.Goals as goal
+
+pub rounds-init : goal.rounds-init
+rounds-init g c = Ran-none _ _ _ refl refl refl refl refl
+
+pub rounds-preserved : goal.rounds-preserved
+rounds-preserved g c = Ran-and-none _ _ _ _ _ _ _ (Ran-and-none _ _ _ _ _ _ _ c.rounds.invariant c.in_ok-go_on.ensures.ran) c.in_ok-try_all.ensures.ran
+
+pub returns-then-are_empty-clause-empty : goal.returns-then-are_empty-clause-empty
+returns-then-are_empty-clause-empty g c = c.are_empty.ensures c.if-are_empty.true
+
+pub returns-in_err-go_on-clause-err : goal.returns-in_err-go_on-clause-err
+returns-in_err-go_on-clause-err g c = on_err _ _ (Broke-and-none _ _ _ _ _ _ c.rounds.invariant c.in_err-go_on.ensures.err)
+
+pub returns-in_err-try_all-clause-err : goal.returns-in_err-try_all-clause-err
+returns-in_err-try_all-clause-err g c = on_err _ _ (Broke-and-none _ _ _ _ _ _ (Ran-and-none _ _ _ _ _ _ _ c.rounds.invariant c.in_ok-go_on.ensures.ran) c.in_err-try_all.ensures.err)
+
+pub returns-clause-err : goal.returns-clause-err
+returns-clause-err g c = Broke-after _ _ _ _ _ _ c.rounds.invariant (nothing_begun _ _)

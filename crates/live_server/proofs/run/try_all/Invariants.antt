@@ -1,0 +1,6 @@
+use Rattle.std.proofs.Common.{[]}
+use Rattle.live_server.specs.Runs.{Ran}
+use Rattle.live_server.proofs.run.try_all.Given as goal
+
+abbrev pub invariant-tries : goal.invariant-tries
+invariant-tries g l = Ran [] l.fn.live l.live (g.W.Write.contents l.fn.writer.inner) (g.W.Write.contents l.writer.inner)

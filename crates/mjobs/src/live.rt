@@ -1,0 +1,165 @@
+//! Jobs that live: lines are done as they come.
+ghost use Rattle.std.specs.Prelude.{◌≡◌, IfOk};
+ghost use Rattle.std.specs.FinMap as finmap;
+ghost use Rattle.journal.specs.History.{initial, IsLegal};
+
+use crate::PROGRAM;
+use collation::Job;
+use job_core::JobCore;
+use listing::Counted;
+use live_server::{Live, LiveFault, Lived, Teller, relay_live, status_of};
+use loading::load_with;
+use program_front::{
+    Keeping, ListingFile, MjobsArgs, Piped, Ticker, keeping_of, print_fault, print_load_fault,
+    print_refused,
+};
+use refusal::Refusal;
+use script_run::{RunLog, Upkeep};
+use std::alloc::AllocError;
+use std::io;
+use std::io::{Read, Write};
+use std::rt::{Clock, Files};
+use std::sync::Wait;
+use std::thread::Threads;
+
+// Tells on standard error of refused lines, where that is asked for, and of jobs that wait for ever.
+struct Told<'a, P> {
+    rt: &'a P,
+    errors: bool,
+}
+
+impl<'a, P> Drop for Told<'a, P> {
+    fn drop(self) {
+        let Told { rt: _, errors: _ } = self;
+    }
+}
+
+impl<'a, P: Eprint + AllocGlobal> RunLog for Told<'a, P> {
+    fn refused(&mut self, number: u64, line: &[u8], refusal: Refusal) {
+        if self.errors {
+            print_refused(self.rt, PROGRAM, number, line, refusal);
+        }
+    }
+
+    fn done(&mut self, _number: u64, _line: &[u8]) -> bool {
+        false
+    }
+
+    fn shown(&mut self, _core: &JobCore) {}
+
+    fn ended(&mut self, _core: &JobCore) {}
+}
+
+impl<'a, P: Eprint + AllocGlobal> Teller for Told<'a, P> {
+    fn tell_waits(&self, job: Job, line: &[u8]) {
+        if let Ok(text) = str::from_utf8(line) {
+            let _ = eprintln!(self.rt; "{PROGRAM}: still waits: {text}");
+        } else {
+            let _ = eprintln!(self.rt; "{PROGRAM}: job {} waits", job.number());
+        }
+    }
+}
+
+// The core of the listing, or the exit status where there is none.
+fn first_core(
+    rt: &(impl Eprint + AllocGlobal + Clock),
+    file: &ListingFile<'_>,
+    tells: bool,
+) -> Result<JobCore, u8>
+    ensures legal { IfOk result (λ core. IsLegal core.machine.units initial) }
+    ensures closed { IfOk result (λ core. core.machine.transactions ≡ finmap.empty) }
+{
+    let mut ticker = Ticker::new(rt, PROGRAM, file.name, tells);
+    let loaded = load_with(rt.alloc(), &file.text, &mut ticker);
+    ticker.clear();
+    match loaded {
+        Ok(core) => Ok(core),
+        Err(fault) => Err(print_load_fault(rt, PROGRAM, file, fault)),
+    }
+}
+
+// Prints a fault, unless it is that nobody reads the output.
+fn tell_fault(rt: &impl Eprint, fault: LiveFault, is_closed: bool) {
+    match fault {
+        LiveFault::Write if is_closed => {}
+        _ => {
+            let _status = print_fault(rt, PROGRAM, fault.text());
+        }
+    }
+}
+
+// Prints why a run ended early, keeps what is to be kept, and answers the exit status.
+fn end_live<P: Files + Eprint + AllocGlobal, W: Write + Drop, F: Write + Drop>(
+    rt: &P,
+    lived: Lived<Piped<W>>,
+    keeping: Keeping<'_, F>,
+) -> u8 {
+    if let Err(fault) = &lived.outcome {
+        tell_fault(rt, *fault, lived.writer.inner().is_closed());
+    }
+    let core = lived.live.core();
+    match keeping.write(rt, PROGRAM, core.journal(), &core.content()) {
+        Ok(drafts) => drafts.end(rt, PROGRAM, status_of(&lived.outcome)),
+        Err(status) => status,
+    }
+}
+
+// Runs live from a core, and answers the exit status.
+fn run_live_from<
+    P: Files + Print + Eprint + AllocGlobal + Clock + Threads + Wait + Sync,
+    R: Read + Send + Drop,
+    F: Write + Drop,
+>(rt: &P, args: MjobsArgs, core: JobCore, input: R, keeping: Keeping<'_, F>) -> u8
+    requires legal { IsLegal core.machine.units initial }
+    requires closed { core.machine.transactions ≡ finmap.empty }
+{
+    let upkeep = Upkeep {
+        collect_every: args.collect_every,
+        checkpoint_every: args.checkpoint_every,
+    };
+    match Live::new(rt.alloc(), core, upkeep) {
+        Ok(live) => {
+            let writer = Counted::new(Piped::new(io::writer(rt)));
+            let teller = Told { rt, errors: false };
+            let log = Told {
+                rt,
+                errors: args.errors,
+            };
+            let lived = relay_live(
+                rt,
+                rt.alloc(),
+                args.listed,
+                live,
+                input,
+                writer,
+                &teller,
+                log,
+            );
+            end_live(rt, lived, keeping)
+        }
+        Err(AllocError) => print_fault(rt, PROGRAM, LiveFault::Memory.text()),
+    }
+}
+
+/// Runs live on the listing, once it is known that what is to be kept can be written, and answers the exit status. The
+/// input is read by another thread.
+pub(crate) fn run_live_on<
+    P: Files + Print + Eprint + AllocGlobal + Clock + Threads + Wait + Sync,
+    R: Read + Send + Drop,
+>(
+    rt: &P,
+    arguments: &[Vec<u8>],
+    args: MjobsArgs,
+    file: &ListingFile<'_>,
+    told: bool,
+    input: R,
+) -> u8 {
+    let keeping = match keeping_of(rt, PROGRAM, arguments, args.names()) {
+        Ok(keeping) => keeping,
+        Err(status) => return status,
+    };
+    match first_core(rt, file, told) {
+        Ok(core) => run_live_from(rt, args, core, input, keeping),
+        Err(status) => status,
+    }
+}
