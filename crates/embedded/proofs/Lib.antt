@@ -1,3 +1,4 @@
+mod Given
 mod Nodes
 mod Siblings
 mod Starts

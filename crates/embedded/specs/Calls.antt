@@ -71,13 +71,15 @@ pub record IsLineCall (line : List ℕ) (before after : Embedded) (outcome : Out
   pub answer : IsAnswer before.core.machine line last.reply
   pub machine : after.core.machine ≡ told_by (reading_of line) last.reply before.core.machine
   pub listed : after.listed ≡ before.listed
+  pub journal_place : after.journal_place ≡ before.journal_place
   pub copied : IsReplyCopied (Some last) outcome old new wanted
 
--- the machine, the last reply and the place of the listing are as they were
+-- the machine, the last reply and the places in the listing and in the journal are as they were
 pub record IsKept (before after : Embedded) : Type 0 where
   pub core : after.core ≡ before.core
   pub last : after.last ≡ before.last
   pub listed : after.listed ≡ before.listed
+  pub journal_place : after.journal_place ≡ before.journal_place
 
 -- the last reply was copied, and nothing else has changed
 pub record IsReplyCall (before after : Embedded) (outcome : Outcome) (old new : List ℕ) (wanted : ℕ) : Type 0 where
@@ -130,12 +132,14 @@ pub record IsListCall (moment : ℕ) (before after : Embedded) (outcome : Outcom
       (λ m. IsNodeCopied m before.listed after.listed outcome old new wanted)
   pub core : after.core ≡ before.core
   pub last : after.last ≡ before.last
+  pub journal_place : after.journal_place ≡ before.journal_place
 
 -- the listing begins anew, and nothing else has changed
 pub record IsRestart (before after : Embedded) : Type 0 where
   pub listed : after.listed ≡ None
   pub core : after.core ≡ before.core
   pub last : after.last ≡ before.last
+  pub journal_place : after.journal_place ≡ before.journal_place
 
 -- ---- what an engine holds
 
@@ -160,6 +164,7 @@ pub record IsCheckpointCall (before after : Embedded) (outcome : Outcome) : Type
   pub moved : ((outcome ≡ Done) × IsCheckpoint after.core.base before.core.machine) ⊎ ((outcome ≡ RefusedCall OutOfMemory) × (after.core ≡ before.core))
   pub last : after.last ≡ before.last
   pub listed : after.listed ≡ before.listed
+  pub journal_place : after.journal_place ≡ before.journal_place
 
 -- ---- the name of a number
 

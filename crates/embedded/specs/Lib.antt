@@ -2,6 +2,8 @@ pub mod Calls
 pub mod Children
 pub mod Followed
 pub mod Gathered
+pub mod JournalReads
+pub mod Loads
 pub mod Looks
 pub mod Moments
 pub mod Names

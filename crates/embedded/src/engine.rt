@@ -4,6 +4,7 @@ ghost use Rattle.journal.specs.Story.{nothing_done};
 ghost use Rattle.script.specs.Line.{reading_of, job_of_line};
 ghost use Rattle.script.specs.Text.{reply_text};
 ghost use Rattle.embedded.specs.Calls.{IsAnswer, IsReplyCopied, IsLineCall, IsReplyCall};
+ghost use Rattle.journal_lines.specs.Places.{placed_at};
 ghost use Rattle.serial.specs.Answers.{told_by};
 
 use crate::Outcome;
@@ -11,6 +12,7 @@ use crate::copied::copied_as;
 use collation::Job;
 use command::Reply;
 use job_core::JobCore;
+use journal_lines::JournalPlace;
 use key_codec::Key;
 use script::{Drafts, read_line, write_reply};
 use std::alloc::{AllocError, Global};
@@ -24,7 +26,7 @@ pub struct Answered {
     pub reply: Reply,
 }
 
-/// A core, the reply of its last line, and what was listed last.
+/// A core, the reply of its last line, what was listed last, and up to where the journal's lines were copied.
 #[derive(Drop)]
 pub struct Embedded {
     /// The machine of all jobs.
@@ -33,6 +35,8 @@ pub struct Embedded {
     pub last: Option<Answered>,
     /// The reference that was listed last; none where the next is the first.
     pub listed: Option<Key>,
+    /// Up to where the journal's lines were copied.
+    pub journal_place: JournalPlace,
     drafts: Drafts,
     // A reply or a node as text, made anew by each call that copies one.
     pub(crate) text: Vec<u8>,
@@ -86,11 +90,23 @@ impl Embedded {
         ensures core { result.core.machine ≡ nothing_done }
         ensures last { result.last ≡ None }
         ensures listed { result.listed ≡ None }
+        ensures journal_place { result.journal_place ≡ placed_at 0 }
+    {
+        Embedded::of(alloc, JobCore::new(alloc))
+    }
+
+    // An engine of a core, without a reply; the next node to list is the first.
+    pub(crate) fn of(alloc: Global, core: JobCore) -> Embedded
+        ensures core { result.core ≡ core }
+        ensures last { result.last ≡ None }
+        ensures listed { result.listed ≡ None }
+        ensures journal_place { result.journal_place ≡ placed_at 0 }
     {
         Embedded {
-            core: JobCore::new(alloc),
+            core,
             last: None,
             listed: None,
+            journal_place: JournalPlace::new(alloc, 0),
             drafts: Drafts::new(alloc),
             text: Vec::new(alloc),
         }

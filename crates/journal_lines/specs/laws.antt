@@ -1,3 +1,4 @@
 pub mod Spelled
+pub mod Places
 pub mod Plain
 pub mod Askable

@@ -1,5 +1,5 @@
 //! The lines of one unit.
-ghost use Rattle.std.specs.Prelude.{◌≡◌, ◌++◌, ◌∷◌, [], OnOk, map};
+ghost use Rattle.std.specs.Prelude.{◌≡◌, ◌++◌, ◌∷◌, [], OnErr, OnOk, map};
 ghost use Rattle.command.specs.declared.request.Command.TheVariants.{Access, Lock as lock_command};
 ghost use Rattle.journal.specs.declared.unit.Unit.TheVariants.{Whole, Lock};
 ghost use Rattle.journal_lines.specs.Journals as lines;
@@ -46,7 +46,11 @@ fn push_inside(
 }
 
 // The lines of a unit, where these LOCKs are pending.
-fn push_unit(unit: &Unit, pending: &[Pending], out: &mut Vec<u8>) -> Result<(), AllocError>
+pub(crate) fn push_unit(
+    unit: &Unit,
+    pending: &[Pending],
+    out: &mut Vec<u8>,
+) -> Result<(), AllocError>
     ensures { OnOk result (out.new.items ≡ out.old.items ++ lines.lines_of (lines.unit_steps unit.now pending.now)) }
 {
     match unit {
@@ -67,7 +71,8 @@ fn note_lock(
     had: bool,
     pending: &mut Vec<Pending>,
 ) -> Result<(), AllocError>
-    ensures { OnOk result (pending.new.items ≡ lines.still_pending (Lock job inside command had) pending.old.items) }
+    ensures noted { OnOk result (pending.new.items ≡ lines.still_pending (Lock job inside command had) pending.old.items) }
+    ensures kept { OnErr result (pending.new.items ≡ pending.old.items) }
 {
     if inside {
         push_pending(job, had, command, pending)
@@ -78,8 +83,9 @@ fn note_lock(
 }
 
 // Notes which LOCKs are pending after a unit.
-fn note_unit(unit: Unit, pending: &mut Vec<Pending>) -> Result<(), AllocError>
-    ensures { OnOk result (pending.new.items ≡ lines.still_pending unit pending.old.items) }
+pub(crate) fn note_unit(unit: Unit, pending: &mut Vec<Pending>) -> Result<(), AllocError>
+    ensures noted { OnOk result (pending.new.items ≡ lines.still_pending unit pending.old.items) }
+    ensures kept { OnErr result (pending.new.items ≡ pending.old.items) }
 {
     match unit {
         Unit::Lone(_job, command, answer) => {

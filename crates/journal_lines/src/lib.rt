@@ -25,16 +25,20 @@
 //!
 //! Proved: what is written, or a beginning of it after a fault; and that each step's text is one line and read as just
 //! that step, where its command has no fault, so that this holds for each line of a journal of such commands
-//! (`steps_are_read_again`). Only tested, by the program `journal_replays`: that the lines leave the same database,
+//! (`steps_are_read_again`). Only tested, by the program `random_runs`: that the lines leave the same database,
 //! lone commands and transactions, and that none of them is refused or restarts.
 //!
-//! Read `specs/Steps.antt`, `specs/Journals.antt`, `specs/Statements.antt`, then `step.rt`, `pending.rt`,
-//! `done_again.rt`, `whole.rt`.
+//! Whoever keeps a journal while it grows takes the lines unit by unit, from one `JournalPlace` to the next
+//! (`specs/Places.antt`).
+//!
+//! Read `specs/Steps.antt`, `specs/Journals.antt`, `specs/Places.antt`, `specs/Statements.antt`, then `step.rt`,
+//! `pending.rt`, `done_again.rt`, `whole.rt`, `place.rt`.
 //! Not promised: that memory is there; how the text is cut into writes.
 #![tactic(auto)]
 
 pub use laws::steps_are_read_again;
 pub use locking::write_lock;
+pub use place::{JournalPlace, units_behind};
 pub use step::write_step;
 pub use whole::{JournalFault, write_journal};
 
@@ -43,5 +47,6 @@ mod done_again;
 mod laws;
 mod locking;
 mod pending;
+mod place;
 mod step;
 mod whole;

@@ -1,5 +1,5 @@
 //! The LOCKs of open transactions, which are done once more at the commit.
-ghost use Rattle.std.specs.Prelude.{◌≡◌, ◌++◌, ◌∷◌, [], OnOk};
+ghost use Rattle.std.specs.Prelude.{◌≡◌, ◌++◌, ◌∷◌, [], OnErr, OnOk};
 ghost use Rattle.std.specs.List.{flat_map};
 ghost use Rattle.journal_lines.specs.Journals as lines;
 
@@ -47,7 +47,8 @@ pub(crate) fn push_pending(
     command: LockCommand,
     pending: &mut Vec<Pending>,
 ) -> Result<(), AllocError>
-    ensures { OnOk result (pending.new.items ≡ pending.old.items ++ (job, lines.kept_of had command) ∷ []) }
+    ensures pushed { OnOk result (pending.new.items ≡ pending.old.items ++ (job, lines.kept_of had command) ∷ []) }
+    ensures kept { OnErr result (pending.new.items ≡ pending.old.items) }
 {
     let kept = kept_of(had, command);
     pending.push(Pending { job, kept })?;

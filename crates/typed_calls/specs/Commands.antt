@@ -1,6 +1,6 @@
 -- The commands that the typed calls do. Source: docs/RULES.md, "Data commands", "Locks".
 -- Read below_fault, then the commands in turn.
-use Rattle.std.specs.Prelude.{ℕ, ◌+◌, Bool, true, if◌then◌else◌, nat_lt, List, [], ◌∷◌, Option, None, Some}
+use Rattle.std.specs.Prelude.{ℕ, ◌+◌, Bool, true, if◌then◌else◌, nat_lt, List, [], ◌∷◌, map, Option, None, Some}
 use Rattle.refusal.specs.declared.Refusal.{Refusal}
 use Rattle.refusal.specs.declared.Refusal.TheVariants.{TooManySubscripts}
 use Rattle.collation.specs.Faults.{subscripts_fault}
@@ -51,6 +51,14 @@ lock_of Only names = OnlyThese names
 lock_of More names = TheseToo names
 lock_of Fewer names = FewerOfThese names
 
+-- a reference as a lock name, with its caret
+abbrev pub caret_name : Reference → Resource
+caret_name r = record { has_caret = true; reference = r }
+
+-- LOCK of the references of keys, with their carets
+abbrev pub lock_names_command : LockForm → List Reference → Command
+lock_names_command form rs = Lock (lock_of form (map caret_name rs))
+
 -- LOCK of the key's reference, with its caret
 abbrev pub lock_command : LockForm → Reference → Command
-lock_command form r = Lock (lock_of form (record { has_caret = true; reference = r } ∷ []))
+lock_command form r = Lock (lock_of form (caret_name r ∷ []))

@@ -31,6 +31,7 @@ pub record IsStep (job : ℕ) (command : Command) (before after : Embedded) : Ty
   pub answer : IsReply job command last.reply before.core.machine
   pub machine : after.core.machine ≡ told job command last.reply before.core.machine
   pub listed : after.listed ≡ before.listed
+  pub journal_place : after.journal_place ≡ before.journal_place
 
 -- the call was refused for this cause, and nothing has changed
 pub record IsRefusedCall (IsCause : Refusal → Type 0) (before after : Embedded) (outcome : Outcome) : Type 0 where

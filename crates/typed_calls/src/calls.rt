@@ -1,16 +1,18 @@
 //! Typed calls on keys.
-ghost use Rattle.std.specs.Prelude.{◌≡◌};
-ghost use Rattle.typed_calls.specs.Commands.{data_command as data_of, get_command as get_of, kill_command as kill_of, lock_command as lock_of_key, merge_command as merge_of, order_command as order_of, query_command as query_of, set_command as set_of};
-ghost use Rattle.typed_calls.specs.Typed.{IsCauseBefore, IsFoundCall, IsMemory, IsNumberCall, IsPlaceCause, IsTypedCall, IsValueCall, IsValueCause};
+ghost use Rattle.std.specs.Prelude.{◌≡◌, ◌++◌, ◌∷◌, [], IfErr, OnErr, OnOk};
+ghost use Rattle.typed_calls.specs.Commands.{caret_name, data_command as data_of, get_command as get_of, kill_command as kill_of, lock_command as lock_of_key, lock_of, merge_command as merge_of, order_command as order_of, query_command as query_of, set_command as set_of};
+ghost use Rattle.typed_calls.specs.Typed.{IsCauseBefore, IsFoundCall, IsJobCause, IsMemory, IsNumberCall, IsPlaceCause, IsTypedCall, IsValueCall, IsValueCause};
 
 use crate::commands::{
-    LockForm, data_command, get_command, kill_command, lock_command, merge_command, order_command,
-    query_command,
+    LockForm, data_command, get_command, kill_command, lock_command, lock_names_command,
+    merge_command, order_command, query_command,
 };
 use crate::steps::{run_command, run_found, run_numbered, run_step, run_valued, set_lent};
 use collation::{Direction, Job, LONGEST_VALUE};
+use command::Command;
 use embedded::{Embedded, Outcome};
 use key_codec::Key;
+use lock_name::LockName;
 use refusal::Refusal;
 use std::alloc::Global;
 
@@ -89,6 +91,35 @@ pub fn lock(
             Outcome::Refused(refusal)
         }
     }
+}
+
+/// Puts a key's name, with its caret, behind those of a list for `lock_names`.
+///
+/// `OutOfMemory`, and the list is as it was.
+pub fn push_name(names: &mut Vec<LockName>, key: &Key) -> Result<(), Refusal>
+    ensures pushed { OnOk result (names.new.items ≡ names.old.items ++ caret_name key.now ∷ []) }
+    ensures kept { OnErr result (names.new.items ≡ names.old.items) }
+    ensures refused { IfErr result (λ refusal. IsMemory refusal) }
+{
+    let key = key.clone()?;
+    names.push(LockName::new(true, key))?;
+    Ok(())
+}
+
+/// Does a LOCK of names at once, and tells 1 where all of them were had. Where another job is in the way of one, it
+/// tells 0, and none was had. It answers at once.
+///
+/// Outcomes: those of `run_numbered`.
+pub fn lock_names(
+    engine: &mut Embedded,
+    job: u64,
+    form: LockForm,
+    names: Vec<LockName>,
+    had: &mut u64,
+) -> Outcome
+    ensures { IsNumberCall (λ refusal. IsJobCause job refusal) job (Command.Lock (lock_of form names.items)) engine.old engine.new result had.new }
+{
+    run_numbered(engine, job, lock_names_command(form, names), had)
 }
 
 /// Copies the bytes of the reference's value, or none where it has none, and tells how many they are.

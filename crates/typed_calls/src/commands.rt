@@ -103,6 +103,13 @@ pub(crate) fn query_command(
     Ok(Command::Access(DataCommand::Look(Look::Query(place, direction))))
 }
 
+// LOCK of these names.
+pub(crate) fn lock_names_command(form: LockForm, names: Vec<LockName>) -> Command
+    ensures { result ≡ Command.Lock (lock_of form names.items) }
+{
+    Command::Lock(form.of(LockNames::new(names)))
+}
+
 // LOCK of the key's reference, with its caret.
 pub(crate) fn lock_command(alloc: Global, form: LockForm, key: &Key) -> Result<Command, Refusal>
     ensures ok { IfOk result (λ command. command ≡ lock_of_key form key.now) }

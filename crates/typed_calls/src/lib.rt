@@ -13,7 +13,7 @@
 //! Not promised: the time of a call.
 #![tactic(auto)]
 
-pub use calls::{data, get, kill, lock, merge, order, query, set};
+pub use calls::{data, get, kill, lock, lock_names, merge, order, push_name, query, set};
 pub use commands::LockForm;
 pub use keys::{LentText, key_below, key_of_name, spell_key};
 pub use looks::{begin_view, level, look_children, look_order, look_query, restarts};

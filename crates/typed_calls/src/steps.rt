@@ -17,6 +17,7 @@ fn keep_reply(engine: &mut Embedded, job: Job, reply: Reply) -> Outcome
     ensures last { engine.new.last ≡ Some (record { job = Some job; reply = reply }) }
     ensures core { engine.new.core ≡ engine.old.core }
     ensures listed { engine.new.listed ≡ engine.old.listed }
+    ensures journal_place { engine.new.journal_place ≡ engine.old.journal_place }
     ensures outcome { result ≡ last_outcome engine.new.last }
 {
     let outcome = Outcome::of(&reply);

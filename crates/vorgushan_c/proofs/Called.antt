@@ -9,6 +9,7 @@ use Rattle.embedded.specs.declared.engine.Embedded.{Embedded}
 use Rattle.embedded.specs.declared.outcome.Outcome.{Outcome}
 use Rattle.journal.specs.Story.{nothing_done}
 use Rattle.embedded.specs.declared.outcome.Outcome.TheVariants.{Done}
+use Rattle.journal_lines.specs.Places.{placed_at}
 use Rattle.vorgushan_c.specs.Exports.{IsCalled, IsMade}
 use Rattle.vorgushan_c.specs.Keys.{IsKeyCalled, IsKeysCalled}
 
@@ -33,10 +34,10 @@ keys_called old now key other number Does before after r x outcome was at from i
     (subst (λ (k : Option Reference). IsKeysCalled (Some before) now (Some r) k number Does) (sym from) (record { after = after; outcome = outcome; there = is; told = told; done = done })))
 
 -- an engine was made where none was
-pub made_new : (old now : Option Embedded) (number : ℕ) (made : Embedded) → old ≡ None → now ≡ Some made → made.core.machine ≡ nothing_done → made.last ≡ None → made.listed ≡ None
+pub made_new : (old now : Option Embedded) (number : ℕ) (made : Embedded) → old ≡ None → now ≡ Some made → made.core.machine ≡ nothing_done → made.last ≡ None → made.listed ≡ None → made.journal_place ≡ placed_at 0
     → number ≡ outcome_number Done → IsMade old now number
-made_new old now number made was is core last listed told =
-    subst (λ (o : Option Embedded). IsMade o now number) (sym was) (inl (record { made = made; there = is; core = core; last = last; listed = listed; told = told }))
+made_new old now number made was is core last listed place told =
+    subst (λ (o : Option Embedded). IsMade o now number) (sym was) (inl (record { made = made; there = is; core = core; last = last; listed = listed; journal_place = place; told = told }))
 
 -- what was taken is what was there
 pub held_is : {X : Type 0} (value : X → Reference) (o : Option X) (inside : Option Reference) → MatchOption o (inside ≡ None) (λ x. inside ≡ Some (value x)) → option_map value o ≡ inside

@@ -3,6 +3,7 @@
 use Rattle.std.specs.Prelude.{◌≡◌, ◌⊎◌, ℕ, List, Option, Some, None}
 use Rattle.refusal.specs.declared.Refusal.TheVariants.{OutOfMemory}
 use Rattle.journal.specs.Story.{nothing_done}
+use Rattle.journal_lines.specs.Places.{placed_at}
 use Rattle.embedded.specs.Calls.{IsCount, IsNamed}
 use Rattle.embedded.specs.Outcomes.{outcome_number}
 use Rattle.embedded.specs.declared.engine.Embedded.{Embedded}
@@ -30,6 +31,7 @@ pub record IsNew (now : Option Embedded) (number : ℕ) : Type 0 where
   pub core : made.core.machine ≡ nothing_done
   pub last : made.last ≡ None
   pub listed : made.listed ≡ None
+  pub journal_place : made.journal_place ≡ placed_at 0
   pub told : number ≡ outcome_number Done
 
 -- an engine was made where none was; where one is it stays, and where memory is refused there is none
