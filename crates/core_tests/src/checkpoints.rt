@@ -119,12 +119,22 @@ fn locks_go_on_over_checkpoints(rt: HostRuntime) -> Result<(), Fail> {
     Ok(())
 }
 
-fn checkpoints(alloc: Global) -> Result<Vec<Step>, Refusal> {
-    let mut steps = Vec::new(alloc);
+fn push_checkpoints(steps: &mut Vec<Step>) -> Result<(), AllocError> {
     steps.push(Step::Checkpoint)?;
     steps.push(Step::Collect(1))?;
     steps.push(Step::Checkpoint)?;
-    Ok(steps)
+    Ok(())
+}
+
+fn checkpoints(alloc: Global) -> Result<Vec<Step>, Refusal> {
+    let mut steps = Vec::new(alloc);
+    match push_checkpoints(&mut steps) {
+        Ok(()) => Ok(steps),
+        Err(AllocError) => {
+            drop(steps);
+            Err(Refusal::OutOfMemory)
+        }
+    }
 }
 
 // How many replies these steps have.

@@ -11,8 +11,7 @@ ghost use Rattle.std.specs.Prelude.{◌≡◌, ◌≤◌};
 mod turns;
 
 use crate::turns::{
-    SEED_LINE, begin_often, collect_often, job_of, lone_sets, set_in_core, set_often, sets_apart,
-    transactions, transactions_apart,
+    SEED_LINE, begin_often, collect_often, job_of, set_in_core, set_often, work, work_apart,
 };
 use anyhow::Result;
 use job_core::JobCore;
@@ -26,11 +25,12 @@ use std::sync::Wait;
 use std::thread::{Threads, map_indices};
 use std::time::Instant;
 
-// What threads are measured at: how many nodes each transaction reads, whether it commits, and each how many-th, 0 for
-// none, sets a node and commits.
+// What threads are measured at: lone SETs; or how many nodes each transaction reads, whether it commits, and each how
+// many-th, 0 for none, sets a node and commits.
 #[derive(Clone, Copy)]
 struct Kind {
     name: &'static str,
+    lone: bool,
     reads: u64,
     commits: bool,
     each: u64,
@@ -39,36 +39,48 @@ struct Kind {
 // Four threads, each with an engine of its own.
 const APART: &str = "four threads apart";
 
-const KINDS: [Kind; 5] = [
+const KINDS: [Kind; 6] = [
     Kind {
         name: "8 reads, rolled back",
+        lone: false,
         reads: 8,
         commits: false,
         each: 0,
     },
     Kind {
         name: "100 reads, rolled back",
+        lone: false,
         reads: 100,
         commits: false,
         each: 0,
     },
     Kind {
         name: "8 reads, committed",
+        lone: false,
         reads: 8,
         commits: true,
         each: 0,
     },
     Kind {
         name: "100 reads, committed",
+        lone: false,
         reads: 100,
         commits: true,
         each: 0,
     },
     Kind {
         name: "8 reads, nine of ten rolled back, one with a SET committed",
+        lone: false,
         reads: 8,
         commits: false,
         each: 10,
+    },
+    Kind {
+        name: "lone SETs",
+        lone: true,
+        reads: 0,
+        commits: false,
+        each: 0,
     },
 ];
 
@@ -154,7 +166,7 @@ fn who_of(threads: usize) -> &'static str {
     }
 }
 
-// Transactions of so many threads, each with a session of its own.
+// The work of so many threads, each with a session of its own.
 fn together<B: BoardName + Send + Sync, R: Threads + Wait + Clock + Eprint + Sync>(
     rt: &R,
     alloc: Global,
@@ -164,35 +176,27 @@ fn together<B: BoardName + Send + Sync, R: Threads + Wait + Clock + Eprint + Syn
     turns: u64,
 ) -> Result<u64> {
     let begun = Instant::now(rt)?;
-    let (reads, commits, each) = (kind.reads, kind.commits, kind.each);
+    let (lone, reads, commits, each) = (kind.lone, kind.reads, kind.commits, kind.each);
     let made = map_indices(
         rt,
         alloc,
         threads,
-        &|i| transactions(rt, alloc, engine, i as u64 + 1, reads, commits, each, turns),
+        &|i| work(
+            rt,
+            alloc,
+            engine,
+            i as u64 + 1,
+            lone,
+            reads,
+            commits,
+            each,
+            turns,
+        ),
     )?;
     tell_together(rt, kind.name, who_of(threads), turns, begun, made)
 }
 
-// Lone SETs of so many threads.
-fn sets_together<B: BoardName + Send + Sync, R: Threads + Wait + Clock + Eprint + Sync>(
-    rt: &R,
-    alloc: Global,
-    engine: &Shared<B>,
-    threads: usize,
-    turns: u64,
-) -> Result<u64> {
-    let begun = Instant::now(rt)?;
-    let made = map_indices(
-        rt,
-        alloc,
-        threads,
-        &|i| lone_sets(rt, alloc, engine, i as u64 + 1, turns),
-    )?;
-    tell_together(rt, "lone SETs", who_of(threads), turns, begun, made)
-}
-
-// Transactions of four threads, each with an engine of its own.
+// The work of four threads, each with an engine of its own.
 fn apart<R: Threads + Wait + Clock + Eprint + Sync>(
     rt: &R,
     alloc: Global,
@@ -200,30 +204,14 @@ fn apart<R: Threads + Wait + Clock + Eprint + Sync>(
     turns: u64,
 ) -> Result<u64> {
     let begun = Instant::now(rt)?;
-    let (reads, commits, each) = (kind.reads, kind.commits, kind.each);
+    let (lone, reads, commits, each) = (kind.lone, kind.reads, kind.commits, kind.each);
     let made = map_indices(
         rt,
         alloc,
         4,
-        &|i| transactions_apart(rt, alloc, i as u64 + 1, reads, commits, each, turns),
+        &|i| work_apart(rt, alloc, i as u64 + 1, lone, reads, commits, each, turns),
     )?;
     tell_together(rt, kind.name, APART, turns, begun, made)
-}
-
-// Lone SETs of four threads, each with an engine of its own.
-fn lone_apart<R: Threads + Wait + Clock + Eprint + Sync>(
-    rt: &R,
-    alloc: Global,
-    turns: u64,
-) -> Result<u64> {
-    let begun = Instant::now(rt)?;
-    let made = map_indices(
-        rt,
-        alloc,
-        4,
-        &|i| sets_apart(rt, alloc, i as u64 + 1, turns),
-    )?;
-    tell_together(rt, "lone SETs", APART, turns, begun, made)
 }
 
 // A session of one thread, and what it does beside a core of one thread.
@@ -252,10 +240,6 @@ fn of_threads<B: BoardName + Send + Sync, R: Threads + Wait + Clock + Print + Ep
         let alone = apart(rt, alloc, *kind, turns)?;
         println!(rt; "{one} {four} {alone}")?;
     }
-    let one = sets_together(rt, alloc, engine, 1, turns)?;
-    let four = sets_together(rt, alloc, engine, 4, turns)?;
-    let alone = lone_apart(rt, alloc, turns)?;
-    println!(rt; "{one} {four} {alone}")?;
     Ok(())
 }
 

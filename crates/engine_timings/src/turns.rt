@@ -79,10 +79,10 @@ fn set_once<B: BoardName, R: Wait>(
     session: &mut Session<B>,
     line: &str,
 ) -> Option<()> {
-    let command = command_of(alloc, line)?;
     if session.tlevel() != 0 {
         return None;
     }
+    let command = command_of(alloc, line)?;
     engine.lone(rt, session, command).ok()?;
     Some(())
 }
@@ -185,11 +185,10 @@ fn read_often<B: BoardName, R: Wait>(
 
 // Sets a node in the transaction.
 fn set_inside<B: BoardName>(alloc: Global, session: &mut Session<B>, line: &str) -> Option<()> {
-    let command = command_of(alloc, line)?;
     if session.tlevel() == 0 {
         return None;
     }
-    match command {
+    match command_of(alloc, line)? {
         DataCommand::Set(key, value) => session.set(key, value).ok(),
         other => {
             drop(other);
@@ -284,9 +283,9 @@ fn ended<B: BoardName, R: Wait>(rt: &R, engine: &Shared<B>, session: Session<B>,
     }
 }
 
-/// Transactions of so many reads, of a session of the job's own. All commit, or are rolled back but for each so
-/// many-th, 0 for none, which also sets a node and commits.
-pub fn transactions<B: BoardName, R: Wait>(
+// Transactions of so many reads, of a session of the job's own. All commit, or are rolled back but for each so
+// many-th, 0 for none, which also sets a node and commits.
+fn transactions<B: BoardName, R: Wait>(
     rt: &R,
     alloc: Global,
     engine: &Shared<B>,
@@ -336,23 +335,32 @@ fn sets_of<B: BoardName, R: Wait>(
     ended(rt, engine, session, done)
 }
 
-/// Lone SETs of a session of the job's own.
-pub fn lone_sets<B: BoardName, R: Wait>(
+/// What a session of the job's own does: lone SETs, or transactions.
+pub fn work<B: BoardName, R: Wait>(
     rt: &R,
     alloc: Global,
     engine: &Shared<B>,
     number: u64,
+    lone: bool,
+    reads: u64,
+    commits: bool,
+    each: u64,
     turns: u64,
 ) -> u64 {
-    sets_of(rt, alloc, engine, number, own_line(number), turns)
+    if lone {
+        sets_of(rt, alloc, engine, number, own_line(number), turns)
+    } else {
+        transactions(rt, alloc, engine, number, reads, commits, each, turns)
+    }
 }
 
-// Transactions on an engine that nobody else has, whose node that is read has a value.
-fn transactions_on<B: BoardName, R: Wait>(
+// `work` on an engine that nobody else has, whose node that transactions read has a value.
+fn work_on<B: BoardName, R: Wait>(
     rt: &R,
     alloc: Global,
     blank: Blank,
     number: u64,
+    lone: bool,
     reads: u64,
     commits: bool,
     each: u64,
@@ -361,48 +369,29 @@ fn transactions_on<B: BoardName, R: Wait>(
     requires { (blank.seat.table_id ≡ B.table) × (blank.words.seats ≡ 4096) }
 {
     let engine = Shared::<B>::new(alloc, blank);
-    if sets_of(rt, alloc, &engine, number, SEED_LINE, 1) == 0 {
+    if !lone && sets_of(rt, alloc, &engine, number, SEED_LINE, 1) == 0 {
         return 0;
     }
-    transactions(rt, alloc, &engine, number, reads, commits, each, turns)
+    work(
+        rt, alloc, &engine, number, lone, reads, commits, each, turns,
+    )
 }
 
-/// `transactions` on an engine of the thread's own.
-pub fn transactions_apart<R: Wait>(
+/// `work` on an engine of the thread's own.
+pub fn work_apart<R: Wait>(
     rt: &R,
     alloc: Global,
     number: u64,
+    lone: bool,
     reads: u64,
     commits: bool,
     each: u64,
     turns: u64,
 ) -> u64 {
     match Blank::new(alloc, SEATS) {
-        Ok(blank) => transactions_on::<Brand, R>(
-            rt, alloc, blank, number, reads, commits, each, turns,
+        Ok(blank) => work_on::<Brand, R>(
+            rt, alloc, blank, number, lone, reads, commits, each, turns,
         ),
-        Err(_) => 0,
-    }
-}
-
-// Lone SETs on an engine that nobody else has.
-fn sets_on<B: BoardName, R: Wait>(
-    rt: &R,
-    alloc: Global,
-    blank: Blank,
-    number: u64,
-    turns: u64,
-) -> u64
-    requires { (blank.seat.table_id ≡ B.table) × (blank.words.seats ≡ 4096) }
-{
-    let engine = Shared::<B>::new(alloc, blank);
-    lone_sets(rt, alloc, &engine, number, turns)
-}
-
-/// `lone_sets` on an engine of the thread's own.
-pub fn sets_apart<R: Wait>(rt: &R, alloc: Global, number: u64, turns: u64) -> u64 {
-    match Blank::new(alloc, SEATS) {
-        Ok(blank) => sets_on::<Brand, R>(rt, alloc, blank, number, turns),
         Err(_) => 0,
     }
 }

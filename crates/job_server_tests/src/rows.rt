@@ -1,7 +1,7 @@
 //! Worked rows: the row of two jobs, and scripts of one job, which are answered as `mrun` answers them.
 use crate::gates::Yielding;
 use collation::Job;
-use job_scripts::{Script, write_reports};
+use job_scripts::{Report, Script, write_reports};
 use job_server::{run_jobs, serve};
 use listing::Counted;
 use loading::NoLog;
@@ -73,25 +73,33 @@ fn nothing_is_answered_with_the_listing_alone(rt: HostRuntime) -> Result<(), Fai
     Ok(())
 }
 
-// What a script of job 1 with so many lines is replied, of which some are other jobs'.
+// A script of job 1 with so many lines, alone.
+fn script_of(alloc: Global, text: &[u8], lines: usize) -> Result<Vec<Script>, Fail> {
+    let job = Some(Job::new(1)?);
+    let text = Vec::from_slice(alloc, text)?;
+    let mut scripts = Vec::new(alloc);
+    scripts.push(Script { job, text, lines })?;
+    Ok(scripts)
+}
+
+fn written_reports(alloc: Global, reports: &[Report]) -> Result<Vec<u8>, Fail> {
+    let mut writer = Counted::new(Vec::new(alloc));
+    write_reports(reports, &mut writer)?;
+    Ok(Vec::from_slice(alloc, writer.inner())?)
+}
+
+// What such a script is replied, of which some lines are other jobs'.
 fn replies_of<R: Threads + Wait + Sync>(
     rt: &R,
     alloc: Global,
     text: &[u8],
     lines: usize,
 ) -> Result<Vec<u8>, Fail> {
-    let mut scripts = Vec::new(alloc);
-    scripts.push(Script {
-        job: Some(Job::new(1)?),
-        text: Vec::from_slice(alloc, text)?,
-        lines,
-    })?;
+    let scripts = script_of(alloc, text, lines)?;
     let served = serve(rt, alloc, b"", &mut NoLog, scripts, 1, &Yielding)?;
-    let mut writer = Counted::new(Vec::new(alloc));
-    let written = write_reports(served.reports.as_slice(), &mut writer);
+    let written = written_reports(alloc, served.reports.as_slice());
     drop(served);
-    written?;
-    Ok(Vec::from_slice(alloc, writer.inner())?)
+    written
 }
 
 #[test]

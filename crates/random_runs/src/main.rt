@@ -1,8 +1,8 @@
 //! Random steps of eight jobs on a core and on a plain model of docs/RULES.md: it prints `alike` for each seed where
 //! 500 replies, the listing, and $TLEVEL and $TRESTART on the way are the same. After some steps the collector takes a
-//! turn.
+//! turn. `tests/random_steps` does the same with more commands and names, over as many seeds as one likes.
 //!
-//! `tests/random_steps` does the same with more commands and names, over as many seeds as one likes.
+//! Then journals written as scripts are run (`replays.rt`). It ends with status 1 where something differs.
 #![tactic(auto)]
 
 use acts::{Act, Numbers, push_act, push_number, push_place};
@@ -15,11 +15,13 @@ use places::PLACES;
 use script::{Drafts, read_line, write_reply};
 use std::alloc::{AllocError, Global};
 use std::io;
+use std::process::ExitCode;
 
 mod acts;
 mod locks;
 mod model;
 mod places;
+mod replays;
 mod seen;
 
 const STEPS: usize = 500;
@@ -166,10 +168,26 @@ fn told(alloc: Global, seed: u64) -> Result<&'static str, AllocError> {
     outcome
 }
 
-fn main(rt: HostRuntime) -> io::Result<()> {
+fn print_steps(rt: &(impl Print + AllocGlobal), status: &mut u8) -> io::Result<()> {
     for seed in 1..=4u64 {
         let outcome = told(rt.alloc(), seed)?;
+        if outcome != "alike" {
+            *status = 1;
+        }
         println!(rt; "seed {seed}: {outcome}")?;
     }
     Ok(())
+}
+
+fn print_all(rt: &(impl Print + AllocGlobal), status: &mut u8) -> io::Result<()> {
+    print_steps(rt, status)?;
+    replays::print_all(rt, status)
+}
+
+fn main(rt: HostRuntime) -> ExitCode {
+    let mut status = 0;
+    match print_all(&rt, &mut status) {
+        Ok(()) => ExitCode::from(status),
+        Err(_) => ExitCode::from(2),
+    }
 }

@@ -1,99 +1,125 @@
-//! What a core does where memory is refused: the lines that were not answered `OutOfMemory`, given to a second core,
-//! get the same replies, and leave the same journal and the same listing. It prints `alike` where that is so.
+//! What is refused for want of memory changes nothing, and is done at the next try. It prints what was compared, and
+//! `alike`, or what differs. Its parts, by number:
 //!
-//! The lists are the worked rows and those of `lines.rt`. Each is run twice: the first core's collector passes after
-//! each line, and in the second run it takes a checkpoint after each line too; the second core does neither. Where a
-//! line, a pass or a checkpoint is refused, journals and listings are compared there and then. In the end both take a
-//! checkpoint, and have the same base.
+//! 1. a transaction's commit, beside one that isn't refused (`commit.rt`);
+//! 2. two sessions of a shared engine, against what they should come to (`sessions.rt`);
+//! 3. the rekey of a store of old keys (`rekeying.rt`);
+//! 4. a core that takes such a store over (`adopting.rt`);
+//! 5. a thousand units, had back from a journal's bytes, or 60 where this part is run alone (`units.rt`);
+//! 6. and further: one list of lines each, on a core beside one that isn't given what was refused (`lists.rt`).
 //!
-//! Standard input may ask for one list of one run alone, from 1 on, and for allocations that are taken before
-//! (`allocation_turns`); so `tests/refused_allocations` has each allocation of each list refused in turn. Where that
-//! one isn't reached the program says how many are granted after the list.
+//! Standard input may ask for one part alone, and for allocations that are taken before (`allocations.rt`); so
+//! `tests/refused_allocations` has each allocation of each part refused in turn. Where that one isn't reached the
+//! program says how many are granted after the part.
 #![tactic(auto)]
 
-use allocation_turns::{asked_by, granted, take};
-use cores::{Checkpoints, Replies, is_alike};
+use allocations::{asked_by, granted, take};
+use commit::comparing::Tally;
 use refusal::Refusal;
 use std::alloc::Global;
 use std::io;
 use std::io::Read;
-use worked_rows::Row;
+use std::sync::Wait;
+use turns::Turn;
 
-mod cores;
-mod lines;
+mod adopting;
+mod allocations;
+mod commit;
+mod lists;
+mod rekeying;
+mod sessions;
+mod turns;
+mod units;
 
-// Which list is the next, and which alone is run, 0 for each; and when checkpoints are taken.
-#[derive(Clone, Copy)]
-struct Turn {
-    number: u64,
-    chosen: u64,
-    checkpoints: Checkpoints,
-}
+// How many units are pushed where all is run, and where they are run alone.
+const MANY_UNITS: u64 = 1000;
 
-impl Turn {
-    fn is_next(&mut self) -> bool {
-        self.number = self.number.saturating_add(1);
-        self.chosen == 0 || self.chosen == self.number
-    }
+const FEW_UNITS: u64 = 60;
 
-    // Whether a list is chosen that isn't there.
-    fn is_past(&self) -> bool {
-        self.chosen > self.number
-    }
-}
-
-fn lists_are_alike(
+// What differs in the parts on a core, if anything does.
+fn difference_on_cores(
     alloc: Global,
     turn: &mut Turn,
-    replies: &mut Replies,
     refused: &mut u64,
-) -> Result<bool, Refusal> {
-    for script in lines::LISTS {
-        if turn.is_next() && !is_alike(alloc, script, turn.checkpoints, replies, refused)? {
-            return Ok(false);
+) -> Result<Option<&'static str>, Refusal> {
+    if turn.is_next() {
+        let found = rekeying::difference(alloc, refused)?;
+        if found.is_some() {
+            return Ok(found);
         }
     }
-    Ok(true)
-}
-
-fn rows_are_alike(
-    alloc: Global,
-    rows: &[Row],
-    turn: &mut Turn,
-    replies: &mut Replies,
-    refused: &mut u64,
-) -> Result<bool, Refusal> {
-    for (script, _) in rows {
-        if turn.is_next() && !is_alike(alloc, script, turn.checkpoints, replies, refused)? {
-            return Ok(false);
+    if turn.is_next() {
+        let found = adopting::difference(alloc, refused)?;
+        if found.is_some() {
+            return Ok(found);
         }
     }
-    Ok(true)
+    if turn.is_next() {
+        let count = if turn.is_alone() {
+            FEW_UNITS
+        } else {
+            MANY_UNITS
+        };
+        let found = units::difference(alloc, count, refused)?;
+        if found.is_some() {
+            return Ok(found);
+        }
+    }
+    lists::difference(alloc, turn, refused)
 }
 
-// One run of all lists.
-fn run_is_alike(
+// What differs in the parts that are asked for, if anything does.
+fn difference<R: Wait>(
+    rt: &R,
     alloc: Global,
     turn: &mut Turn,
-    texts: &mut Replies,
-    n: &mut u64,
-) -> Result<bool, Refusal> {
-    let lists = lists_are_alike(alloc, turn, texts, n)?;
-    let answered = rows_are_alike(alloc, &worked_rows::ANSWERED, turn, texts, n)?;
-    let wrong = rows_are_alike(alloc, &worked_rows::REFUSED, turn, texts, n)?;
-    let commits = rows_are_alike(alloc, &worked_rows::COMMITS, turn, texts, n)?;
-    let levels = rows_are_alike(alloc, &worked_rows::LEVELS, turn, texts, n)?;
-    let outside = rows_are_alike(alloc, &worked_rows::OUTSIDE, turn, texts, n)?;
-    let inside = rows_are_alike(alloc, &worked_rows::INSIDE, turn, texts, n)?;
-    Ok(lists && answered && wrong && commits && levels && outside && inside)
+    tally: &mut Tally,
+    refused: &mut u64,
+) -> Result<Option<&'static str>, Refusal> {
+    if turn.is_next() {
+        let found = commit::difference(alloc, tally, refused)?;
+        if found.is_some() {
+            return Ok(found);
+        }
+    }
+    if turn.is_next() {
+        let found = sessions::difference(rt, alloc, refused)?;
+        if found.is_some() {
+            return Ok(found);
+        }
+    }
+    difference_on_cores(alloc, turn, refused)
 }
 
-fn all_are_alike(alloc: Global, turn: &mut Turn, refused: &mut u64) -> Result<bool, Refusal> {
-    let mut replies = Replies::new(alloc)?;
-    let without = run_is_alike(alloc, turn, &mut replies, refused)?;
-    turn.checkpoints = Checkpoints::AfterEachLine;
-    let with = run_is_alike(alloc, turn, &mut replies, refused)?;
-    Ok(without && with)
+fn print_tally(rt: &impl Print, tally: &Tally) -> io::Result<()> {
+    println!(rt;
+        "contents compared: {}, their nodes: {}",
+        tally.contents, tally.nodes
+    )?;
+    println!(rt; "newest stamps of keys compared: {}", tally.keys)?;
+    println!(rt; "bytes of journals compared: {}", tally.bytes)?;
+    println!(rt;
+        "replies to a LOCK compared: {}, lock counts: {}",
+        tally.locks, tally.counts
+    )?;
+    println!(rt; "answers compared: {}", tally.answers)
+}
+
+// What the parts come to; `left` is how many allocations are granted after them, where one part was asked for.
+fn print_outcome(
+    rt: &impl Print,
+    outcome: Result<Option<&'static str>, Refusal>,
+    refused: u64,
+    left: Option<u64>,
+) -> io::Result<()> {
+    match (outcome, left) {
+        (Ok(None), None) => println!(rt; "alike, steps refused: {refused}"),
+        (Ok(None), Some(left)) => println!(rt; "alike, granted after it: {left}"),
+        (Ok(Some(what)), _) => println!(rt; "they differ: {what}"),
+        // Memory was refused outside the steps that are tried again.
+        (Err(Refusal::OutOfMemory), _) => println!(rt; "nothing to compare"),
+        (Err(refusal), _) => println!(rt; "a line is refused: {refusal}"),
+    }
 }
 
 fn main(rt: HostRuntime) -> io::Result<()> {
@@ -101,25 +127,18 @@ fn main(rt: HostRuntime) -> io::Result<()> {
     rt.reader().read(&mut digits)?;
     let asked = asked_by(&digits);
     take(rt.alloc(), asked.taken)?;
-    let mut turn = Turn {
-        number: 0,
-        chosen: asked.part,
-        checkpoints: Checkpoints::Never,
-    };
+    let mut turn = Turn::new(asked.part);
+    let mut tally = Tally::new();
     let mut refused: u64 = 0;
-    let outcome = all_are_alike(rt.alloc(), &mut turn, &mut refused);
-    let left = if asked.part == 0 {
-        None
-    } else {
+    let outcome = difference(&rt, rt.alloc(), &mut turn, &mut tally, &mut refused);
+    let left = if turn.is_alone() {
         granted(rt.alloc())
+    } else {
+        None
     };
-    match (outcome, left) {
-        (Ok(_), _) if turn.is_past() => println!(rt; "no such list"),
-        (Ok(true), None) => println!(rt; "alike, steps refused: {refused}"),
-        (Ok(true), Some(left)) => println!(rt; "alike, granted after it: {left}"),
-        (Ok(false), _) => println!(rt; "they differ"),
-        // The second core met the refusal, or a listing did.
-        (Err(Refusal::OutOfMemory), _) => println!(rt; "nothing to compare"),
-        (Err(refusal), _) => println!(rt; "a line is refused: {refusal}"),
+    if turn.is_past() {
+        return println!(rt; "no such list");
     }
+    print_tally(&rt, &tally)?;
+    print_outcome(&rt, outcome, refused, left)
 }

@@ -82,7 +82,10 @@ pub fn command_of(alloc: Global, line: &str) -> Option<Command> {
 pub fn data_of(alloc: Global, line: &str) -> Option<DataCommand> {
     match command_of(alloc, line)? {
         Command::Access(command) => Some(command),
-        _ => None,
+        other => {
+            drop(other);
+            None
+        }
     }
 }
 
@@ -102,12 +105,21 @@ fn get<B: BoardName, R: Wait>(
 ) -> Result<Answer, Refusal>
     requires { 1 ≤ session.old.state.level }
 {
-    if let Look::Get(key, default) = &look {
-        if let Some(answer) = session.own_get(key, default)? {
-            return Ok(answer);
+    let own = match &look {
+        Look::Get(key, default) => session.own_get(key, default),
+        _ => Ok(None),
+    };
+    match own {
+        Ok(None) => engine.read(rt, session, DataCommand::Look(look)),
+        Ok(Some(answer)) => {
+            drop(look);
+            Ok(answer)
+        }
+        Err(refusal) => {
+            drop(look);
+            Err(refusal)
         }
     }
-    engine.read(rt, session, DataCommand::Look(look))
 }
 
 // A data command in a transaction.
@@ -207,7 +219,11 @@ fn done<B: BoardName, R: Wait>(
 ) -> Result<Reply, Refusal> {
     match command {
         Command::Access(command) => Ok(Reply::Answered(access(rt, engine, session, command)?)),
-        Command::Lock(command) => lock(rt, engine, session, &command),
+        Command::Lock(command) => {
+            let reply = lock(rt, engine, session, &command);
+            drop(command);
+            reply
+        }
         Command::Start => Ok(Reply::AtLevel(start(engine, session)?)),
         Command::Commit => commit(rt, engine, session),
         Command::Rollback => {

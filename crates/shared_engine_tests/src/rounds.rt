@@ -70,26 +70,52 @@ fn beside_a_transaction<B: BoardName, R: Wait>(
     }
 }
 
+// The turns after the SETs, beside the transaction, and after its end.
 fn both<B: BoardName, R: Wait>(
     rt: &R,
     alloc: Global,
     engine: &Shared<B>,
+    session: &mut Session<B>,
+    other: &mut Session<B>,
 ) -> Option<([usize; 4], [usize; 4], [usize; 4])> {
-    let mut session = opened(rt, alloc, engine, 1)?;
-    let mut other = opened(rt, alloc, engine, 2)?;
-    let alone = after_three_sets(rt, alloc, engine, &mut session);
-    let beside = beside_a_transaction(rt, alloc, engine, &mut session, &mut other);
-    let is_over = is_replied(rt, alloc, engine, &mut other, "2 TROLLBACK", "0 ok\n");
+    let alone = after_three_sets(rt, alloc, engine, session);
+    let beside = beside_a_transaction(rt, alloc, engine, session, other);
+    let is_over = is_replied(rt, alloc, engine, other, "2 TROLLBACK", "0 ok\n");
     let over = if is_over {
         four_turns(rt, engine)
     } else {
         [9; 4]
     };
-    let is_read = is_replied(rt, alloc, engine, &mut session, "1 $GET(^A(1))", "0 4\n");
+    let is_read = is_replied(rt, alloc, engine, session, "1 $GET(^A(1))", "0 4\n");
     if is_read && visited(rt, engine) == 0 {
         Some((alone, beside, over))
     } else {
         None
+    }
+}
+
+// The other session, of job 2.
+fn turns_beside<B: BoardName, R: Wait>(
+    rt: &R,
+    alloc: Global,
+    engine: &Shared<B>,
+    session: &mut Session<B>,
+) -> Option<([usize; 4], [usize; 4], [usize; 4])> {
+    match opened(rt, alloc, engine, 2) {
+        Some(mut other) => both(rt, alloc, engine, session, &mut other),
+        None => None,
+    }
+}
+
+// The session that writes, of job 1.
+fn turns_here<B: BoardName, R: Wait>(
+    rt: &R,
+    alloc: Global,
+    engine: &Shared<B>,
+) -> Option<([usize; 4], [usize; 4], [usize; 4])> {
+    match opened(rt, alloc, engine, 1) {
+        Some(mut session) => turns_beside(rt, alloc, engine, &mut session),
+        None => None,
     }
 }
 
@@ -101,7 +127,7 @@ fn turns<B: BoardName, R: Wait>(
     requires { (blank.seat.table_id ≡ B.table) × (blank.words.seats ≡ 4096) }
 {
     let engine = Shared::<B>::new(alloc, blank);
-    both(rt, alloc, &engine)
+    turns_here(rt, alloc, &engine)
 }
 
 // Three keys are visited by two turns, and then none until something is written; beside a transaction that began before
@@ -128,20 +154,45 @@ fn bases<B: BoardName, R: Wait>(
     rt: &R,
     alloc: Global,
     engine: &Shared<B>,
+    session: &mut Session<B>,
+    other: &mut Session<B>,
 ) -> Option<(u64, u64, u64)> {
-    let mut session = opened(rt, alloc, engine, 1)?;
-    let mut other = opened(rt, alloc, engine, 2)?;
-    let one = is_set(rt, alloc, engine, &mut session, "1 SET ^A=1");
-    let is_begun = is_replied(rt, alloc, engine, &mut other, "2 TSTART", "0 level 1\n");
-    let two = is_set(rt, alloc, engine, &mut session, "1 SET ^A=2");
+    let one = is_set(rt, alloc, engine, session, "1 SET ^A=1");
+    let is_begun = is_replied(rt, alloc, engine, other, "2 TSTART", "0 level 1\n");
+    let two = is_set(rt, alloc, engine, session, "1 SET ^A=2");
     let first = engine.checkpoint(rt).ok()?;
-    let is_over = is_replied(rt, alloc, engine, &mut other, "2 TROLLBACK", "0 ok\n");
+    let is_over = is_replied(rt, alloc, engine, other, "2 TROLLBACK", "0 ok\n");
     let second = engine.checkpoint(rt).ok()?;
-    let three = is_set(rt, alloc, engine, &mut session, "1 SET ^A=3");
+    let three = is_set(rt, alloc, engine, session, "1 SET ^A=3");
     if one && is_begun && two && is_over && three {
-        Some((first, second, newest_of(&session)))
+        Some((first, second, newest_of(session)))
     } else {
         None
+    }
+}
+
+// The other session, of job 2.
+fn bases_beside<B: BoardName, R: Wait>(
+    rt: &R,
+    alloc: Global,
+    engine: &Shared<B>,
+    session: &mut Session<B>,
+) -> Option<(u64, u64, u64)> {
+    match opened(rt, alloc, engine, 2) {
+        Some(mut other) => bases(rt, alloc, engine, session, &mut other),
+        None => None,
+    }
+}
+
+// The session that writes, of job 1.
+fn bases_here<B: BoardName, R: Wait>(
+    rt: &R,
+    alloc: Global,
+    engine: &Shared<B>,
+) -> Option<(u64, u64, u64)> {
+    match opened(rt, alloc, engine, 1) {
+        Some(mut session) => bases_beside(rt, alloc, engine, &mut session),
+        None => None,
     }
 }
 
@@ -149,7 +200,7 @@ fn bases_of<B: BoardName, R: Wait>(rt: &R, alloc: Global, blank: Blank) -> Optio
     requires { (blank.seat.table_id ≡ B.table) × (blank.words.seats ≡ 4096) }
 {
     let engine = Shared::<B>::new(alloc, blank);
-    bases(rt, alloc, &engine)
+    bases_here(rt, alloc, &engine)
 }
 
 // A unit after the base goes on with its number.

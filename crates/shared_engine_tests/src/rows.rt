@@ -71,11 +71,27 @@ fn do_here<B: BoardName, R: Wait>(
 ) -> Option<Reply> {
     match room {
         Some(session) => Some(reply_to(rt, engine, session, command)),
-        None => None,
+        None => {
+            drop(command);
+            None
+        }
     }
 }
 
-// Does a job's command; its session begins here where it has none.
+// The job's session begins here where it has none.
+fn enter<B: BoardName, R: Wait>(
+    rt: &R,
+    alloc: Global,
+    engine: &Shared<B>,
+    room: &mut Option<Session<B>>,
+    job: Job,
+) {
+    if room.is_none() {
+        *room = engine.open(rt, alloc, job).ok();
+    }
+}
+
+// Does a job's command.
 fn step<B: BoardName, R: Wait>(
     rt: &R,
     alloc: Global,
@@ -85,12 +101,11 @@ fn step<B: BoardName, R: Wait>(
     job: Job,
     command: Command,
 ) -> Option<Reply> {
-    if room.is_none() {
-        *room = engine.open(rt, alloc, job).ok();
-    }
+    enter(rt, alloc, engine, room, job);
     if !matches!(&command, Command::Halt) {
         return do_here(rt, engine, room, command);
     }
+    drop(command);
     if halt(rt, engine, room, passes) {
         Some(Reply::Finished)
     } else {

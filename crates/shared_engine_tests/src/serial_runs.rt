@@ -12,25 +12,40 @@ use std::marker::Brand;
 use std::sync::Wait;
 use std::test::*;
 
-// A block, and the replies to it, with the job 0. Another job has set ^X to 2 since the transaction began.
-const BLOCK: [(&str, &str); 10] = [
-    ("1 $GET(^X)", "0 2\n"),
-    ("1 SET ^X=3", "0 ok\n"),
-    ("1 LOCK +^X", "0 1\n"),
-    ("1 TSTART", "0 level 2\n"),
-    ("1 TCOMMIT", "0 level 1\n"),
-    ("1 TCOMMIT", "0 committed\n"),
-    ("1 TROLLBACK", "0 error 9 NoTransaction\n"),
-    ("1 SET ^Y=1", "0 ok\n"),
-    ("1 TSTART", "0 level 1\n"),
-    ("1 $GET(^Y)", "0 1\n"),
+// A block. Another job has set ^X to 2 since the transaction began.
+const BLOCK: [&str; 10] = [
+    "1 $GET(^X)",
+    "1 SET ^X=3",
+    "1 LOCK +^X",
+    "1 TSTART",
+    "1 TCOMMIT",
+    "1 TCOMMIT",
+    "1 TROLLBACK",
+    "1 SET ^Y=1",
+    "1 TSTART",
+    "1 $GET(^Y)",
 ];
 
-fn block_of(alloc: Global) -> Option<Vec<Command>>
+// The replies to it, with the job 0.
+const WANTED: [&str; 10] = [
+    "0 2\n",
+    "0 ok\n",
+    "0 1\n",
+    "0 level 2\n",
+    "0 level 1\n",
+    "0 committed\n",
+    "0 error 9 NoTransaction\n",
+    "0 ok\n",
+    "0 level 1\n",
+    "0 1\n",
+];
+
+// The commands of lines, of which none is a HALT.
+pub(crate) fn block_of(alloc: Global, lines: &[&str]) -> Option<Vec<Command>>
     ensures { IfSome result (λ block. All (λ (c : Command). c ≢ Command.Halt) block.items) }
 {
     let mut block = Vec::new(alloc);
-    'lines: for (line, _) in &BLOCK {
+    'lines: for line in lines {
         match command_of(alloc, line)? {
             Command::Halt => return None,
             command => block.push(command).ok()?,
@@ -41,12 +56,12 @@ fn block_of(alloc: Global) -> Option<Vec<Command>>
 
 fn are_wanted(alloc: Global, replies: &[Reply]) -> bool {
     let mut good = 0usize;
-    for ((_, want), reply) in BLOCK.iter().zip(replies) {
+    for (want, reply) in WANTED.iter().zip(replies) {
         if is_written(alloc, reply, want) {
             good = good.wrapping_add(1);
         }
     }
-    good == BLOCK.len() && replies.len() == BLOCK.len()
+    good == WANTED.len() && replies.len() == WANTED.len()
 }
 
 // Begins a transaction, lets another job write what it will read, and runs the block.
@@ -57,14 +72,13 @@ fn run<B: BoardName, R: Wait>(
     mine: &mut Session<B>,
     other: &mut Session<B>,
 ) -> Option<Vec<Reply>> {
-    let block = block_of(alloc)?;
-    if !is_replied(rt, alloc, engine, mine, "1 SET ^X=1", "0 ok\n")
-        || !is_replied(rt, alloc, engine, mine, "1 TSTART", "0 level 1\n")
-        || !is_replied(rt, alloc, engine, other, "2 SET ^X=2", "0 ok\n")
-        || !mine.is_fresh()
-    {
+    let is_ready = is_replied(rt, alloc, engine, mine, "1 SET ^X=1", "0 ok\n")
+        && is_replied(rt, alloc, engine, mine, "1 TSTART", "0 level 1\n")
+        && is_replied(rt, alloc, engine, other, "2 SET ^X=2", "0 ok\n");
+    if !is_ready || !mine.is_fresh() {
         return None;
     }
+    let block = block_of(alloc, &BLOCK)?;
     match engine.run_serial(rt, alloc, mine, block, &[true; 3], &mut Turn::NotDue) {
         Ok(SerialRun::Done(replies)) => Some(replies),
         _ => None,
@@ -88,16 +102,24 @@ fn is_as_wanted<B: BoardName, R: Wait>(
     }
 }
 
-fn two_sessions<B: BoardName, R: Wait>(
+// The other session, of job 2.
+fn is_done_beside<B: BoardName, R: Wait>(
     rt: &R,
     alloc: Global,
     engine: &Shared<B>,
-    mine: Option<Session<B>>,
-    other: Option<Session<B>>,
+    mine: &mut Session<B>,
 ) -> bool {
-    match (mine, other) {
-        (Some(mut mine), Some(mut other)) => is_as_wanted(rt, alloc, engine, &mut mine, &mut other),
-        _ => false,
+    match opened(rt, alloc, engine, 2) {
+        Some(mut other) => is_as_wanted(rt, alloc, engine, mine, &mut other),
+        None => false,
+    }
+}
+
+// The session of the block, of job 1.
+fn is_done<B: BoardName, R: Wait>(rt: &R, alloc: Global, engine: &Shared<B>) -> bool {
+    match opened(rt, alloc, engine, 1) {
+        Some(mut mine) => is_done_beside(rt, alloc, engine, &mut mine),
+        None => false,
     }
 }
 
@@ -105,9 +127,7 @@ fn is_block_done<B: BoardName, R: Wait>(rt: &R, alloc: Global, blank: Blank) -> 
     requires { (blank.seat.table_id ≡ B.table) × (blank.words.seats ≡ 4096) }
 {
     let engine = Shared::<B>::new(alloc, blank);
-    let mine = opened(rt, alloc, &engine, 1);
-    let other = opened(rt, alloc, &engine, 2);
-    two_sessions(rt, alloc, &engine, mine, other)
+    is_done(rt, alloc, &engine)
 }
 
 #[test]
@@ -121,19 +141,6 @@ fn a_block_commits_though_others_wrote(rt: HostRuntime) -> Result<(), Fail> {
 // The lines of a block whose LOCK is blocked, by another job that holds ^X.
 const CUT: [&str; 3] = ["1 SET ^Y=1", "1 LOCK +^X", "1 SET ^Y=2"];
 
-fn cut_block(alloc: Global) -> Option<Vec<Command>>
-    ensures { IfSome result (λ block. All (λ (c : Command). c ≢ Command.Halt) block.items) }
-{
-    let mut block = Vec::new(alloc);
-    'lines: for line in &CUT {
-        match command_of(alloc, line)? {
-            Command::Halt => return None,
-            command => block.push(command).ok()?,
-        }
-    }
-    Some(block)
-}
-
 // What comes of that block of a session without a transaction, where the LOCK has to have its names or not.
 fn cut<B: BoardName, R: Wait>(
     rt: &R,
@@ -145,13 +152,41 @@ fn cut<B: BoardName, R: Wait>(
     if mine.tlevel() > 0 {
         return None;
     }
-    let block = cut_block(alloc)?;
+    let block = block_of(alloc, &CUT)?;
     engine
         .run_serial(rt, alloc, mine, block, &[false, must], &mut Turn::NotDue)
         .ok()
 }
 
-// Whether the block ends at the LOCK where that has to have its names, and else goes on behind it.
+// Whether the block ends at the LOCK where that has to have its names.
+fn ends_at_lock<B: BoardName, R: Wait>(
+    rt: &R,
+    alloc: Global,
+    engine: &Shared<B>,
+    mine: &mut Session<B>,
+) -> bool {
+    match cut(rt, alloc, engine, mine, true) {
+        Some(SerialRun::Blocked(place)) => place == 1,
+        _ => false,
+    }
+}
+
+// Whether it goes on behind the LOCK where that need not.
+fn goes_on_behind<B: BoardName, R: Wait>(
+    rt: &R,
+    alloc: Global,
+    engine: &Shared<B>,
+    mine: &mut Session<B>,
+) -> bool {
+    match cut(rt, alloc, engine, mine, false) {
+        Some(SerialRun::Done(replies)) => {
+            replies.len() == 3 && is_written(alloc, &replies[1], "0 0\n")
+        }
+        _ => false,
+    }
+}
+
+// Both, and what another job sees behind each.
 fn is_cut_as_wanted<B: BoardName, R: Wait>(
     rt: &R,
     alloc: Global,
@@ -159,34 +194,39 @@ fn is_cut_as_wanted<B: BoardName, R: Wait>(
     mine: &mut Session<B>,
     other: &mut Session<B>,
 ) -> bool {
-    if !is_replied(rt, alloc, engine, other, "2 LOCK +^X", "0 1\n") {
-        return false;
+    is_replied(rt, alloc, engine, other, "2 LOCK +^X", "0 1\n")
+        && ends_at_lock(rt, alloc, engine, mine)
+        && is_replied(rt, alloc, engine, other, "2 $GET(^Y)", "0 1\n")
+        && goes_on_behind(rt, alloc, engine, mine)
+        && is_replied(rt, alloc, engine, other, "2 $GET(^Y)", "0 2\n")
+}
+
+// The other session, of job 2.
+fn is_cut_beside<B: BoardName, R: Wait>(
+    rt: &R,
+    alloc: Global,
+    engine: &Shared<B>,
+    mine: &mut Session<B>,
+) -> bool {
+    match opened(rt, alloc, engine, 2) {
+        Some(mut other) => is_cut_as_wanted(rt, alloc, engine, mine, &mut other),
+        None => false,
     }
-    let is_cut = matches!(
-        cut(rt, alloc, engine, mine, true),
-        Some(SerialRun::Blocked(1))
-    ) && is_replied(rt, alloc, engine, other, "2 $GET(^Y)", "0 1\n");
-    let replied = match cut(rt, alloc, engine, mine, false) {
-        Some(SerialRun::Done(replies)) => {
-            replies.len() == 3 && is_written(alloc, &replies[1], "0 0\n")
-        }
-        _ => false,
-    };
-    is_cut && replied && is_replied(rt, alloc, engine, other, "2 $GET(^Y)", "0 2\n")
+}
+
+// The session of the block, of job 1.
+fn is_cut<B: BoardName, R: Wait>(rt: &R, alloc: Global, engine: &Shared<B>) -> bool {
+    match opened(rt, alloc, engine, 1) {
+        Some(mut mine) => is_cut_beside(rt, alloc, engine, &mut mine),
+        None => false,
+    }
 }
 
 fn is_block_cut<B: BoardName, R: Wait>(rt: &R, alloc: Global, blank: Blank) -> bool
     requires { (blank.seat.table_id ≡ B.table) × (blank.words.seats ≡ 4096) }
 {
     let engine = Shared::<B>::new(alloc, blank);
-    let mine = opened(rt, alloc, &engine, 1);
-    let other = opened(rt, alloc, &engine, 2);
-    match (mine, other) {
-        (Some(mut mine), Some(mut other)) => {
-            is_cut_as_wanted(rt, alloc, &engine, &mut mine, &mut other)
-        }
-        _ => false,
-    }
+    is_cut(rt, alloc, &engine)
 }
 
 #[test]

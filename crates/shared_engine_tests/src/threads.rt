@@ -2,6 +2,7 @@
 ghost use Rattle.std.specs.Prelude.{◌≡◌};
 
 use crate::kinds::kinds_of;
+use command::Reply;
 use pin_board::{Blank, BoardName, SEATS};
 use session_acts::{data_of, is_replied, opened, reply_to_line};
 use shared_engine::{Pass, Session, Shared};
@@ -20,8 +21,11 @@ fn lone<B: BoardName, R: Wait>(
     session: &mut Session<B>,
     line: &str,
 ) -> bool {
+    if session.tlevel() != 0 {
+        return false;
+    }
     match data_of(alloc, line) {
-        Some(command) => session.tlevel() == 0 && engine.lone(rt, session, command).is_ok(),
+        Some(command) => engine.lone(rt, session, command).is_ok(),
         None => false,
     }
 }
@@ -151,6 +155,20 @@ fn reads<B: BoardName, R: Wait>(
     }
 }
 
+// Whether the reference that all set is answered so once more.
+fn is_again<B: BoardName, R: Wait>(
+    rt: &R,
+    alloc: Global,
+    engine: &Shared<B>,
+    session: &mut Session<B>,
+    first: &Reply,
+) -> bool {
+    match reply_to_line(rt, alloc, engine, session, "1 $GET(^R)") {
+        Some(second) => second == *first,
+        None => false,
+    }
+}
+
 // Whether the reference that all set is answered alike twice, while the others go on.
 fn is_steady<B: BoardName, R: Wait>(
     rt: &R,
@@ -158,10 +176,13 @@ fn is_steady<B: BoardName, R: Wait>(
     engine: &Shared<B>,
     session: &mut Session<B>,
 ) -> bool {
-    let first = reply_to_line(rt, alloc, engine, session, "1 $GET(^R)");
-    thread::yield_now();
-    let second = reply_to_line(rt, alloc, engine, session, "1 $GET(^R)");
-    first.is_some() && first == second
+    match reply_to_line(rt, alloc, engine, session, "1 $GET(^R)") {
+        Some(first) => {
+            thread::yield_now();
+            is_again(rt, alloc, engine, session, &first)
+        }
+        None => false,
+    }
 }
 
 // Whether a transaction that has begun sees what its session set alone, and the same of what all set as long as it is

@@ -1,11 +1,10 @@
 //! Turns of the collector that go with a call which writes.
-ghost use Rattle.std.specs.Prelude.{◌≡◌, ◌≢◌, IfSome};
-ghost use Rattle.std.specs.List.{All};
-ghost use Rattle.command.specs.declared.request.Command.{Command};
+ghost use Rattle.std.specs.Prelude.{◌≡◌};
 
-use command::Command;
+use crate::serial_runs::block_of;
+use command::Reply;
 use pin_board::{Blank, BoardName, SEATS};
-use session_acts::{command_of, is_replied, is_written, opened};
+use session_acts::{is_replied, is_written, opened};
 use shared_engine::{SerialRun, Session, Shared, Turn};
 use std::alloc::Global;
 use std::marker::Brand;
@@ -15,16 +14,12 @@ use std::test::*;
 // The turn that is handed to each call.
 const DUE: Turn = Turn::Due(64);
 
-// A block of one line.
-fn block_of(alloc: Global, line: &str) -> Option<Vec<Command>>
-    ensures { IfSome result (λ block. All (λ (c : Command). c ≢ Command.Halt) block.items) }
-{
-    let mut block = Vec::new(alloc);
-    match command_of(alloc, line)? {
-        Command::Halt => return None,
-        command => block.push(command).ok()?,
+// Whether the first of the replies is written so.
+fn are_replied(alloc: Global, replies: &[Reply], want: &str) -> bool {
+    match replies.first() {
+        Some(reply) => is_written(alloc, reply, want),
+        None => false,
     }
-    Some(block)
 }
 
 // The turn that was handed to a block of this line, once it was replied to so.
@@ -40,11 +35,12 @@ fn turn_with<B: BoardName, R: Wait>(
         return None;
     }
     let mut turn = DUE;
-    let block = block_of(alloc, line)?;
-    match engine.run_serial(rt, alloc, session, block, &[], &mut turn) {
-        Ok(SerialRun::Done(replies)) if is_written(alloc, replies.first()?, want) => Some(turn),
-        _ => None,
-    }
+    let block = block_of(alloc, &[line])?;
+    let is_done = match engine.run_serial(rt, alloc, session, block, &[], &mut turn) {
+        Ok(SerialRun::Done(replies)) => are_replied(alloc, &replies, want),
+        _ => false,
+    };
+    if is_done { Some(turn) } else { None }
 }
 
 // The turn that was handed to a commit of this line's SET.
@@ -95,16 +91,32 @@ fn are_taken<B: BoardName, R: Wait>(
         && turn_with(rt, alloc, engine, mine, "1 $GET(^X)", "0 3\n") == Some(DUE)
 }
 
+// The other session, of job 2.
+fn are_taken_beside<B: BoardName, R: Wait>(
+    rt: &R,
+    alloc: Global,
+    engine: &Shared<B>,
+    mine: &mut Session<B>,
+) -> bool {
+    match opened(rt, alloc, engine, 2) {
+        Some(mut other) => are_taken(rt, alloc, engine, mine, &mut other),
+        None => false,
+    }
+}
+
+// The session that writes, of job 1.
+fn are_taken_here<B: BoardName, R: Wait>(rt: &R, alloc: Global, engine: &Shared<B>) -> bool {
+    match opened(rt, alloc, engine, 1) {
+        Some(mut mine) => are_taken_beside(rt, alloc, engine, &mut mine),
+        None => false,
+    }
+}
+
 fn are_taken_by_two<B: BoardName, R: Wait>(rt: &R, alloc: Global, blank: Blank) -> bool
     requires { (blank.seat.table_id ≡ B.table) × (blank.words.seats ≡ 4096) }
 {
     let engine = Shared::<B>::new(alloc, blank);
-    let mine = opened(rt, alloc, &engine, 1);
-    let other = opened(rt, alloc, &engine, 2);
-    match (mine, other) {
-        (Some(mut mine), Some(mut other)) => are_taken(rt, alloc, &engine, &mut mine, &mut other),
-        _ => false,
-    }
+    are_taken_here(rt, alloc, &engine)
 }
 
 #[test]

@@ -100,7 +100,10 @@ impl<'a, B: BoardName, R: Wait> Gate for Pausing<'a, B, R> {
 fn names(alloc: Global) -> Option<LockCommand> {
     match command_of(alloc, "2 LOCK +^A")? {
         Command::Lock(command) => Some(command),
-        _ => None,
+        other => {
+            drop(other);
+            None
+        }
     }
 }
 
@@ -136,34 +139,48 @@ fn is_stopped<B: BoardName, R: Wait>(
     had == Err(Refusal::OutOfMemory) && gate.calls.load(Ordering::SeqCst) > MOST_CALLS
 }
 
-// Whether job 2 waits for job 1's name as it should.
-fn waits_beside<B: BoardName, R: Wait>(
+// Whether job 2 waits for a name that is held as it should.
+fn waits_for_names<B: BoardName, R: Wait>(
     rt: &R,
     alloc: Global,
     engine: &Shared<B>,
-    holding: &mut Session<B>,
     waiting: &mut Session<B>,
 ) -> bool {
-    let Some(command) = names(alloc) else {
-        return false;
-    };
-    is_replied(rt, alloc, engine, holding, "1 LOCK +^A", "0 1\n")
-        && is_timed(rt, engine, waiting, &command)
-        && is_stopped(rt, engine, waiting, &command)
+    match names(alloc) {
+        Some(command) => {
+            let is_right = is_timed(rt, engine, waiting, &command)
+                && is_stopped(rt, engine, waiting, &command);
+            drop(command);
+            is_right
+        }
+        None => false,
+    }
+}
+
+// The session that waits, of job 2.
+fn waits_beside<B: BoardName, R: Wait>(rt: &R, alloc: Global, engine: &Shared<B>) -> bool {
+    match opened(rt, alloc, engine, 2) {
+        Some(mut waiting) => waits_for_names(rt, alloc, engine, &mut waiting),
+        None => false,
+    }
+}
+
+// The session that holds the name, of job 1.
+fn holds_and_waits<B: BoardName, R: Wait>(rt: &R, alloc: Global, engine: &Shared<B>) -> bool {
+    match opened(rt, alloc, engine, 1) {
+        Some(mut holding) => {
+            is_replied(rt, alloc, engine, &mut holding, "1 LOCK +^A", "0 1\n")
+                && waits_beside(rt, alloc, engine)
+        }
+        None => false,
+    }
 }
 
 fn waits<B: BoardName, R: Wait>(rt: &R, alloc: Global, blank: Blank) -> bool
     requires { (blank.seat.table_id ≡ B.table) × (blank.words.seats ≡ 4096) }
 {
     let engine = Shared::<B>::new(alloc, blank);
-    let holding = opened(rt, alloc, &engine, 1);
-    let waiting = opened(rt, alloc, &engine, 2);
-    match (holding, waiting) {
-        (Some(mut holding), Some(mut waiting)) => {
-            waits_beside(rt, alloc, &engine, &mut holding, &mut waiting)
-        }
-        _ => false,
-    }
+    holds_and_waits(rt, alloc, &engine)
 }
 
 #[test]

@@ -14,7 +14,9 @@ fn reference(alloc: Global, name: &[u8]) -> Result<Ref, Refusal> {
 
 fn key_of(alloc: Global, name: &[u8]) -> Result<Key, Refusal> {
     let reference = reference(alloc, name)?;
-    match Key::of(alloc, &reference) {
+    let made = Key::of(alloc, &reference);
+    drop(reference);
+    match made {
         Ok(key) => Ok(key),
         Err(_) => Err(Refusal::OutOfMemory),
     }
@@ -34,10 +36,17 @@ fn change(alloc: Global, name: &[u8], value: &[u8]) -> Result<(Key, Option<Text>
     }
 }
 
-fn changes(alloc: Global, name: &[u8], value: &[u8]) -> Result<Vec<(Key, Option<Text>)>, Refusal> {
-    let mut changes = Vec::new(alloc);
+// Puts the one change into the list, and its key into the store.
+fn place(
+    alloc: Global,
+    store: &mut KeyedStore,
+    name: &[u8],
+    value: &[u8],
+    changes: &mut Vec<(Key, Option<Text>)>,
+) -> Result<(), Refusal> {
     changes.push(change(alloc, name, value)?)?;
-    Ok(changes)
+    store.place_keys(alloc, changes.as_slice())?;
+    Ok(())
 }
 
 fn write_placed(store: &mut KeyedStore, stamp: u64, changes: Vec<(Key, Option<Text>)>) -> bool {
@@ -61,12 +70,14 @@ pub(crate) fn write(
     stamp: u64,
     value: &[u8],
 ) -> Result<bool, Refusal> {
-    let changes = changes(alloc, name, value)?;
-    if store.place_keys(alloc, changes.as_slice()).is_err() {
-        drop(changes);
-        return Err(Refusal::OutOfMemory);
+    let mut changes = Vec::new(alloc);
+    match place(alloc, store, name, value, &mut changes) {
+        Ok(()) => Ok(write_placed(store, stamp, changes)),
+        Err(refusal) => {
+            drop(changes);
+            Err(refusal)
+        }
     }
-    Ok(write_placed(store, stamp, changes))
 }
 
 // ^A at 4 "x" and 2 absent, and ^B at 3 "y".
@@ -97,14 +108,22 @@ fn newest(store: &KeyedStore, low: &Key, high: &Key) -> Option<u64> {
     store.newest_in(Cut::Before(low), Cut::Past(high))
 }
 
+fn are_shown(alloc: Global, store: &mut KeyedStore) -> Result<bool, Refusal> {
+    Ok(
+        worked(alloc, store)?
+            && first_at(store, 2) == Ok(None)
+            && first_at(store, 3) == Ok(Some(b'B'))
+            && first_at(store, 4) == Ok(Some(b'A'))
+            && first_at(store, 5) == Err(Refusal::Ahead),
+    )
+}
+
 #[test]
 fn worked_versions_show_their_contents(rt: HostRuntime) -> Result<(), Fail> {
     let mut store = KeyedStore::new(rt.alloc());
-    assert!(rt; worked(rt.alloc(), &mut store)?);
-    assert_eq!(rt; first_at(&store, 2), Ok(None));
-    assert_eq!(rt; first_at(&store, 3), Ok(Some(b'B')));
-    assert_eq!(rt; first_at(&store, 4), Ok(Some(b'A')));
-    assert_eq!(rt; first_at(&store, 5), Err(Refusal::Ahead));
+    let are_shown = are_shown(rt.alloc(), &mut store);
+    drop(store);
+    assert_eq!(rt; are_shown, Ok(true));
     Ok(())
 }
 
@@ -122,13 +141,21 @@ fn gathered_at(store: &KeyedStore, stamp: u64) -> Result<(usize, Option<u8>), Re
     Ok((run.len(), last_name(&run)))
 }
 
+fn are_gathered(alloc: Global, store: &mut KeyedStore) -> Result<bool, Refusal> {
+    Ok(
+        worked(alloc, store)?
+            && gathered_at(store, 2) == Ok((0, None))
+            && gathered_at(store, 3) == Ok((1, Some(b'B')))
+            && gathered_at(store, 4) == Ok((2, Some(b'B'))),
+    )
+}
+
 #[test]
 fn snapshots_gather_what_has_a_value(rt: HostRuntime) -> Result<(), Fail> {
     let mut store = KeyedStore::new(rt.alloc());
-    assert!(rt; worked(rt.alloc(), &mut store)?);
-    assert_eq!(rt; gathered_at(&store, 2), Ok((0, None)));
-    assert_eq!(rt; gathered_at(&store, 3), Ok((1, Some(b'B'))));
-    assert_eq!(rt; gathered_at(&store, 4), Ok((2, Some(b'B'))));
+    let are_gathered = are_gathered(rt.alloc(), &mut store);
+    drop(store);
+    assert_eq!(rt; are_gathered, Ok(true));
     Ok(())
 }
 
@@ -146,11 +173,17 @@ fn newest_to(alloc: Global, store: &KeyedStore, low: &Key) -> Result<Option<u64>
     Ok(newest)
 }
 
+fn newest_of_worked(alloc: Global, store: &mut KeyedStore) -> Result<Option<u64>, Refusal> {
+    worked(alloc, store)?;
+    newest_of_both(alloc, store)
+}
+
 #[test]
 fn newest_in_a_range_counts_its_first_key(rt: HostRuntime) -> Result<(), Fail> {
     let mut store = KeyedStore::new(rt.alloc());
-    worked(rt.alloc(), &mut store)?;
-    assert_eq!(rt; newest_of_both(rt.alloc(), &store)?, Some(4));
+    let newest = newest_of_worked(rt.alloc(), &mut store);
+    drop(store);
+    assert_eq!(rt; newest, Ok(Some(4)));
     Ok(())
 }
 
@@ -177,17 +210,25 @@ fn collect_key(store: &mut KeyedStore, key: &Key, horizon: u64) -> (usize, bool)
 }
 
 // A key with values at 1 and 2 and an absence at 3.
+fn is_gone(alloc: Global, store: &mut KeyedStore) -> Result<bool, Refusal> {
+    write(alloc, store, b"A", 1, b"x")?;
+    write(alloc, store, b"A", 2, b"y")?;
+    write(alloc, store, b"A", 3, b"")?;
+    Ok(
+        collect(alloc, store, b"A", 3)? == (3, true)
+            && store.key_after(None).is_none()
+            && store.marked().is_some()
+            && first_at(store, 2) == Err(Refusal::Gone)
+            && first_at(store, 3) == Ok(None),
+    )
+}
+
 #[test]
 fn key_that_is_absent_at_the_horizon_goes_with_its_versions(rt: HostRuntime) -> Result<(), Fail> {
     let mut store = KeyedStore::new(rt.alloc());
-    write(rt.alloc(), &mut store, b"A", 1, b"x")?;
-    write(rt.alloc(), &mut store, b"A", 2, b"y")?;
-    write(rt.alloc(), &mut store, b"A", 3, b"")?;
-    assert_eq!(rt; collect(rt.alloc(), &mut store, b"A", 3)?, (3, true));
-    assert!(rt; store.key_after(None).is_none());
-    assert!(rt; store.marked().is_some());
-    assert_eq!(rt; first_at(&store, 2), Err(Refusal::Gone));
-    assert_eq!(rt; first_at(&store, 3), Ok(None));
+    let is_gone = is_gone(rt.alloc(), &mut store);
+    drop(store);
+    assert_eq!(rt; is_gone, Ok(true));
     Ok(())
 }
 
@@ -202,13 +243,21 @@ fn kill(alloc: Global, store: &mut KeyedStore, name: &[u8], stamp: u64) -> Resul
     Ok(is_later)
 }
 
+fn is_killed(alloc: Global, store: &mut KeyedStore) -> Result<bool, Refusal> {
+    Ok(
+        worked(alloc, store)?
+            && kill(alloc, store, b"A", 5)?
+            && store.placed_count() == 1
+            && first_at(store, 4) == Err(Refusal::Gone)
+            && first_at(store, 5) == Ok(Some(b'B')),
+    )
+}
+
 #[test]
 fn killed_key_goes_with_its_versions_and_no_other(rt: HostRuntime) -> Result<(), Fail> {
     let mut store = KeyedStore::new(rt.alloc());
-    assert!(rt; worked(rt.alloc(), &mut store)?);
-    assert!(rt; kill(rt.alloc(), &mut store, b"A", 5)?);
-    assert_eq!(rt; store.placed_count(), 1);
-    assert_eq!(rt; first_at(&store, 4), Err(Refusal::Gone));
-    assert_eq!(rt; first_at(&store, 5), Ok(Some(b'B')));
+    let is_killed = is_killed(rt.alloc(), &mut store);
+    drop(store);
+    assert_eq!(rt; is_killed, Ok(true));
     Ok(())
 }

@@ -41,47 +41,82 @@ fn marked(store: &KeyedStore) -> Option<u8> {
     }
 }
 
+// Whether a turn takes out a key that is absent at its horizon.
+fn is_turned(alloc: Global, store: &mut KeyedStore) -> Result<bool, Refusal> {
+    Ok(
+        one_gone(alloc, store)?
+            && turn(alloc, store, 3, 1)? == counts(1, 3, 1)
+            && store.key_after(None).is_none()
+            && marked(store) == Some(b'A')
+            && first_at(store, 2) == Err(Refusal::Gone)
+            && first_at(store, 3) == Ok(None),
+    )
+}
+
 #[test]
 fn a_turn_takes_out_a_key_that_is_absent_at_the_horizon(rt: HostRuntime) -> Result<(), Fail> {
     let mut store = KeyedStore::new(rt.alloc());
-    assert!(rt; one_gone(rt.alloc(), &mut store)?);
-    assert_eq!(rt; turn(rt.alloc(), &mut store, 3, 1)?, counts(1, 3, 1));
-    assert!(rt; store.key_after(None).is_none());
-    assert_eq!(rt; marked(&store), Some(b'A'));
-    assert_eq!(rt; first_at(&store, 2), Err(Refusal::Gone));
-    assert_eq!(rt; first_at(&store, 3), Ok(None));
+    let is_turned = is_turned(rt.alloc(), &mut store);
+    drop(store);
+    assert_eq!(rt; is_turned, Ok(true));
     Ok(())
+}
+
+// Whether a pass takes it out, and the next visits nothing.
+fn is_passed(alloc: Global, store: &mut KeyedStore) -> Result<bool, Refusal> {
+    Ok(
+        one_gone(alloc, store)?
+            && pass(alloc, store, 3)? == counts(1, 3, 1)
+            && pass(alloc, store, 3)? == counts(0, 0, 0)
+            && marked(store) == Some(b'A'),
+    )
 }
 
 #[test]
 fn a_pass_takes_out_a_key_that_is_absent_at_the_horizon(rt: HostRuntime) -> Result<(), Fail> {
     let mut store = KeyedStore::new(rt.alloc());
-    assert!(rt; one_gone(rt.alloc(), &mut store)?);
-    assert_eq!(rt; pass(rt.alloc(), &mut store, 3)?, counts(1, 3, 1));
-    assert_eq!(rt; pass(rt.alloc(), &mut store, 3)?, counts(0, 0, 0));
-    assert_eq!(rt; marked(&store), Some(b'A'));
+    let is_passed = is_passed(rt.alloc(), &mut store);
+    drop(store);
+    assert_eq!(rt; is_passed, Ok(true));
     Ok(())
 }
 
 // Two turns of two keys each visit the three keys, and one of them again.
+fn do_turns_go_on(alloc: Global, store: &mut KeyedStore) -> Result<bool, Refusal> {
+    Ok(
+        three(alloc, store)?
+            && turn(alloc, store, 4, 2)? == counts(2, 1, 0)
+            && marked(store) == Some(b'B')
+            && turn(alloc, store, 5, 2)? == counts(2, 2, 1)
+            && marked(store) == Some(b'A')
+            && first_at(store, 5) == Ok(Some(b'B')),
+    )
+}
+
 #[test]
 fn turns_go_on_behind_the_mark(rt: HostRuntime) -> Result<(), Fail> {
     let mut store = KeyedStore::new(rt.alloc());
-    assert!(rt; three(rt.alloc(), &mut store)?);
-    assert_eq!(rt; turn(rt.alloc(), &mut store, 4, 2)?, counts(2, 1, 0));
-    assert_eq!(rt; marked(&store), Some(b'B'));
-    assert_eq!(rt; turn(rt.alloc(), &mut store, 5, 2)?, counts(2, 2, 1));
-    assert_eq!(rt; marked(&store), Some(b'A'));
-    assert_eq!(rt; first_at(&store, 5), Ok(Some(b'B')));
+    let do_go_on = do_turns_go_on(rt.alloc(), &mut store);
+    drop(store);
+    assert_eq!(rt; do_go_on, Ok(true));
     Ok(())
+}
+
+// Whether a turn and a pass at a horizon after now are refused, and nothing is marked.
+fn are_refused(alloc: Global, store: &mut KeyedStore) -> Result<bool, Refusal> {
+    Ok(
+        three(alloc, store)?
+            && turn(alloc, store, 6, 1) == Err(Refusal::Ahead)
+            && pass(alloc, store, 6) == Err(Refusal::Ahead)
+            && marked(store).is_none(),
+    )
 }
 
 #[test]
 fn a_horizon_after_now_is_refused(rt: HostRuntime) -> Result<(), Fail> {
     let mut store = KeyedStore::new(rt.alloc());
-    assert!(rt; three(rt.alloc(), &mut store)?);
-    assert_eq!(rt; turn(rt.alloc(), &mut store, 6, 1), Err(Refusal::Ahead));
-    assert_eq!(rt; pass(rt.alloc(), &mut store, 6), Err(Refusal::Ahead));
-    assert_eq!(rt; marked(&store), None);
+    let are_refused = are_refused(rt.alloc(), &mut store);
+    drop(store);
+    assert_eq!(rt; are_refused, Ok(true));
     Ok(())
 }

@@ -23,7 +23,7 @@ map_indices-requires-sync-F g c κs within =
             ((λ q. tt), heap.sync.shared x.1.now x.1.ref_ptr.0 x.1.ref_ptr.1 κ),
             (
               ((λ q. tt), s.shared x.2.now x.2.ref_ptr.0 x.2.ref_ptr.1 _),
-              (((λ q. tt), number.shared x.3.now x.3.ref_ptr.0 x.3.ref_ptr.1 κ), (((λ q. tt), flag.shared x.4.now x.4.ref_ptr.0 x.4.ref_ptr.1 κ), (((λ q. tt), number.shared x.5.now x.5.ref_ptr.0 x.5.ref_ptr.1 κ), (((λ q. tt), number.shared x.6.now x.6.ref_ptr.0 x.6.ref_ptr.1 κ), tt)))),
+              (((λ q. tt), flag.shared x.3.now x.3.ref_ptr.0 x.3.ref_ptr.1 κ), (((λ q. tt), number.shared x.4.now x.4.ref_ptr.0 x.4.ref_ptr.1 κ), (((λ q. tt), flag.shared x.5.now x.5.ref_ptr.0 x.5.ref_ptr.1 κ), (((λ q. tt), number.shared x.6.now x.6.ref_ptr.0 x.6.ref_ptr.1 κ), (((λ q. tt), number.shared x.7.now x.7.ref_ptr.0 x.7.ref_ptr.1 κ), tt))))),
             ),
           ),
         ),
