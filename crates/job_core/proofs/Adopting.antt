@@ -80,10 +80,11 @@ module _ (store new : Stored) (nodes : List (Reference × List ℕ)) (units : Li
     empty = subst (λ (ss : List ReadRange). AreEmpty ss (after units initial).map) (sym no_stretch) (none_are_empty (after units initial).map);
   }
 
-  pub has_adopted : HasAdopted store (record { store = new; units = units; base = base })
-  has_adopted = record {
+  pub has_adopted : (ends : ℕ) → ends ≡ 0 → HasAdopted store (record { store = new; units = units; base = base; ends = ends })
+  has_adopted ends no_end = record {
     units = made;
     base = at_base ∙ now;
+    ends = no_end;
     cut = raised ∙ ap (λ (k : ℕ). record store { cut = k }) at_now;
     state = there;
     agreed = agreed;

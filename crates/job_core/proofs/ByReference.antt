@@ -40,10 +40,10 @@ use Rattle.job_core.proofs.Machines.{transaction_is}
 
 -- ---- one unit, or a refusal
 
-pub added_one : (result : Result Claim Refusal) (u : JournalUnit) (o : Option ℕ) (old new : Common) → OnOk result (new.units ≡ old.units ++ u ∷ []) → new.base ≡ old.base → IfOk result (λ r. r ≡ record { job = job_of u; number = length new.units; unit = u })
+pub added_one : (result : Result Claim Refusal) (u : JournalUnit) (o : Option ℕ) (old new : Common) → OnOk result (new.units ≡ old.units ++ u ∷ []) → new.base ≡ old.base → new.ends ≡ old.ends → IfOk result (λ r. r ≡ record { job = job_of u; number = length new.units; unit = u })
     → OnOk result (new.store.cut ≡ max old.store.cut (unwrap_or o (length new.units))) → Agreement new.store new.units → AddsNoneBare old.store.versions new.store.versions → new.store.mark ≡ old.store.mark → IfOk result (λ r. HasAdded u r o old new)
-added_one (Ok r) u o old new more base receipt cut agreed bare mark = record { units = more; base = base; receipt = receipt; cut = cut; agreed = agreed; bare = bare; mark = mark }
-added_one (Err e) u o old new more base receipt cut agreed bare mark = tt
+added_one (Ok r) u o old new more base ends receipt cut agreed bare mark = record { units = more; base = base; ends = ends; receipt = receipt; cut = cut; agreed = agreed; bare = bare; mark = mark }
+added_one (Err e) u o old new more base ends receipt cut agreed bare mark = tt
 
 pub core_one : {A : Type 0} (result : Result A Refusal) (job : ℕ) (command : DataCommand) (answer : Answer) (store new : Stored) (units more : List JournalUnit) (base kept : ℕ) (table : LockState) (rs ss : List ReadRange) → IsCore store units base table rs → OnOk result (more ≡ units ++ Lone job command answer ∷ [])
     → OnErr result (more ≡ units) → kept ≡ base → Agreement new more → AreEmpty ss (after units initial).map → AreEmpty ss (data_after command (after units initial).map) → IsCore new more kept table ss
@@ -55,17 +55,18 @@ pub cause_one : {A : Type 0} (result : Result A Refusal) (command : DataCommand)
 cause_one (Ok r) command m units accepted cause = tt
 cause_one (Err e) command m units accepted cause = kill_cause e command m units accepted cause
 
-pub unchanged_one : {A : Type 0} (result : Result A Refusal) (old new : Common) → OnErr result (new.units ≡ old.units) → new.base ≡ old.base → OnErr result (new.store.cut ≡ old.store.cut) → new.store.mark ≡ old.store.mark
+pub unchanged_one : {A : Type 0} (result : Result A Refusal) (old new : Common) → OnErr result (new.units ≡ old.units) → new.base ≡ old.base → new.ends ≡ old.ends → OnErr result (new.store.cut ≡ old.store.cut) → new.store.mark ≡ old.store.mark
     → OnErr result ((x : Reference) → versions_of new.store.versions x ≡ versions_of old.store.versions x) → AddsNoneBare old.store.versions new.store.versions → OnErr result (IsUnchanged old new)
-unchanged_one (Ok r) old new units base cut mark rows bare = tt
-unchanged_one (Err e) old new units base cut mark rows bare = record { units = units; base = base; cut = cut; mark = mark; rows = rows; bare = bare }
+unchanged_one (Ok r) old new units base ends cut mark rows bare = tt
+unchanged_one (Err e) old new units base ends cut mark rows bare = record { units = units; base = base; ends = ends; cut = cut; mark = mark; rows = rows; bare = bare }
 
 -- a store that a refusal leaves as it was
-pub unchanged_kept : {A : Type 0} (result : Result A Refusal) (old new : Common) → OnErr result (new.units ≡ old.units) → new.base ≡ old.base → OnErr result (new.store ≡ old.store) → OnErr result (IsUnchanged old new)
-unchanged_kept (Ok r) old new units base store = tt
-unchanged_kept (Err e) old new units base store = record {
+pub unchanged_kept : {A : Type 0} (result : Result A Refusal) (old new : Common) → OnErr result (new.units ≡ old.units) → new.base ≡ old.base → new.ends ≡ old.ends → OnErr result (new.store ≡ old.store) → OnErr result (IsUnchanged old new)
+unchanged_kept (Ok r) old new units base ends store = tt
+unchanged_kept (Err e) old new units base ends store = record {
   units = units;
   base = base;
+  ends = ends;
   cut = ap (λ (s : Stored). s.cut) store;
   mark = ap (λ (s : Stored). s.mark) store;
   rows = λ x. ap (λ (s : Stored). versions_of s.versions x) store;
@@ -76,6 +77,7 @@ pub unchanged_same : (old new : Common) → new ≡ old → IsUnchanged old new
 unchanged_same old new same = record {
   units = ap (λ (c : Common). c.units) same;
   base = ap (λ (c : Common). c.base) same;
+  ends = ap (λ (c : Common). c.ends) same;
   cut = ap (λ (c : Common). c.store.cut) same;
   mark = ap (λ (c : Common). c.store.mark) same;
   rows = λ x. ap (λ (c : Common). versions_of c.store.versions x) same;
@@ -83,11 +85,12 @@ unchanged_same old new same = record {
 }
 
 -- a unit that changes no reference was prepared, and pushed
-pub added_quiet : (p : Option JournalUnit) (u : JournalUnit) (told : Claim) (o : Option ℕ) (old new : Common) (mid : List JournalUnit) → p ≡ Some u → mid ≡ old.units → IfSome p (λ v. new.units ≡ mid ++ v ∷ []) → new.base ≡ old.base
+pub added_quiet : (p : Option JournalUnit) (u : JournalUnit) (told : Claim) (o : Option ℕ) (old new : Common) (mid : List JournalUnit) → p ≡ Some u → mid ≡ old.units → IfSome p (λ v. new.units ≡ mid ++ v ∷ []) → new.base ≡ old.base → new.ends ≡ old.ends
     → IfSome p (λ v. told ≡ record { job = job_of v; number = length new.units; unit = v }) → new.store.cut ≡ max old.store.cut (unwrap_or o (length new.units)) → Agreement new.store new.units → new.store.versions ≡ old.store.versions → new.store.mark ≡ old.store.mark → HasAdded u told o old new
-added_quiet p u told o old new mid is same more base receipt cut agreed versions mark = record {
+added_quiet p u told o old new mid is same more base ends receipt cut agreed versions mark = record {
   units = of_unit (λ v. new.units ≡ mid ++ v ∷ []) p u is more ∙ ap (λ us. us ++ u ∷ []) same;
   base = base;
+  ends = ends;
   receipt = of_unit (λ v. told ≡ record { job = job_of v; number = length new.units; unit = v }) p u is receipt;
   cut = cut;
   agreed = agreed;

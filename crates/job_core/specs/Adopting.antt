@@ -18,10 +18,11 @@ units_for store = adopted_units store.present (finmap.entries (content_now store
 abbrev pub state_for : Stored → State
 state_for store = record { map = content_now store; locks = finmap.empty }
 
--- the units are these, and all of them are dropped; the store is cut at now; store and journal agree
+-- the units are these, and all of them are dropped; room is kept for no session's end; the store is cut at now; store and journal agree
 pub record HasAdopted (store : Stored) (core : Common) : Type 0 where
   pub units : core.units ≡ units_for store
   pub base : core.base ≡ store.present
+  pub ends : core.ends ≡ 0
   pub cut : core.store ≡ record store { cut = store.present }
   pub state : after core.units initial ≡ state_for store
   pub agreed : Agreement core.store core.units

@@ -47,6 +47,7 @@ pub(crate) fn set_lent(
     ensures unit { OnOk result (journal.new.units ≡ journal.old.units ++ Lone job (Set key.now value.old) Done ∷ []) }
     ensures receipt { IfOk result (λ receipt. receipt ≡ record { job = job; number = length journal.new.units; unit = Lone job (Set key.now value.old) Done }) }
     ensures base { journal.new.base ≡ journal.old.base }
+    ensures ends { journal.new.ends ≡ journal.old.ends }
     ensures refused { OnErr result (journal.new.units ≡ journal.old.units) }
     ensures cause { IfErr result (λ refusal. HasNoRoom refusal 1 (length journal.old.units)) }
     ensures agreed { Agreement store.new journal.new.units }
@@ -82,6 +83,7 @@ pub(crate) fn kill_lent(
     ensures receipt { IfOk result (λ receipt. receipt ≡ record { job = job; number = length journal.new.units; unit = Lone job (Kill key.now) Done }) }
     ensures counted { OnOk result (length journal.old.units < 2 ^ 64 - 1) }
     ensures base { journal.new.base ≡ journal.old.base }
+    ensures ends { journal.new.ends ≡ journal.old.ends }
     ensures refused { OnErr result (journal.new.units ≡ journal.old.units) }
     ensures cause { IfErr result (λ refusal. HasNoRoom refusal 1 (length journal.old.units)) }
     ensures agreed { Agreement store.new journal.new.units }
@@ -109,6 +111,7 @@ pub(crate) fn prepare_got(
 ) -> Result<usize, Refusal>
     ensures units { journal.new.units ≡ journal.old.units }
     ensures base { journal.new.base ≡ journal.old.base }
+    ensures ends { journal.new.ends ≡ journal.old.ends }
     ensures prepared { OnOk result (journal.new.prepared ≡ Some (Lone job (Look (Get key.now None)) (Value (value_at key.now (content_now store.now))))) }
     ensures counted { OnOk result (length journal.old.units < 2 ^ 64 - 1) }
     ensures size { IfOk result (λ size. size ≡ length (value_at key.now (content_now store.now))) }
@@ -159,6 +162,7 @@ pub(crate) fn prepare_ordered(
     requires { AreEmpty stretches.now (content_now store.now) }
     ensures units { journal.new.units ≡ journal.old.units }
     ensures base { journal.new.base ≡ journal.old.base }
+    ensures ends { journal.new.ends ≡ journal.old.ends }
     ensures prepared { OnOk result (journal.new.prepared ≡ Some (Lone job (Look (Order place.now direction)) (Value (order_of (is_forward direction) place.now (content_now store.now))))) }
     ensures counted { OnOk result (length journal.old.units < 2 ^ 64 - 1) }
     ensures accepted { OnOk result (look_refusal (Order place.now direction) ≡ None) }

@@ -1,6 +1,6 @@
 -- A log and what stands behind its units, step by step.
-use Rattle.std.proofs.Common.{take, drop, length-append, ◌≡◌, ℕ, ◌+◌, ◌≤◌, ◌<◌, List, [], ◌∷◌, ◌++◌, length, refl, ap, sym, ◌∙◌, subst, arith, suc, Option, Some, None, Result, Ok, Err, OnOk, OnErr}
-use Rattle.std.specs.Prelude.{IfSome}
+use Rattle.std.proofs.Common.{take, drop, length-append, ◌≡◌, ℕ, ◌+◌, ◌≤◌, ◌<◌, List, [], ◌∷◌, ◌++◌, length, refl, ap, sym, ◌∙◌, subst, arith, suc, true≢false, Option, Some, None, Result, Ok, Err, OnOk, OnErr}
+use Rattle.std.specs.Prelude.{IfSome, IsOk}
 use Rattle.std.specs.List.{flat_map}
 use Rattle.std.proofs.lemmas.List.{drop_at, take_at, take_all, drop_all, take-append-drop, length-drop, length-take-le}
 use Rattle.std.proofs.lemmas.Option.{some_pair_parts}
@@ -8,7 +8,7 @@ use Rattle.key_codec.specs.Grown.{GoesOnFrom}
 use Rattle.journal.specs.declared.unit.Unit.{Unit as JournalUnit}
 use Rattle.journal.specs.Format.{unit_bytes}
 use Rattle.journal.specs.Kept.{job_of}
-use Rattle.journal.specs.Log.{units_in, unit_in, Stands, KeepsUnits, IsUnitOf}
+use Rattle.journal.specs.Log.{units_in, unit_in, Stands, KeepsUnits, KeepsRoom, IsUnitOf}
 use Rattle.journal.specs.Reading.{unit_at}
 use Rattle.journal.specs.Stored.{FitsUnit}
 use Rattle.journal.specs.laws.Log.{units_again, unit_again, stands_none, stands_more}
@@ -64,24 +64,36 @@ pub record Settled {T E : Type 0} (r : Result T E) (bytes new : List ℕ) (end c
 written_is : (bytes : List ℕ) (job : ℕ) (u : JournalUnit) → bytes ≡ unit_bytes u → FitsUnit u → job ≡ job_of u → IsUnitOf bytes job u
 written_is bytes job u written fits owner = record { is = ap unit_in written ∙ unit_again u fits; written = written; fits = fits; owner = owner }
 
-settled_by : {T E : Type 0} (r : Result T E) (bytes mid new : List ℕ) (end count job : ℕ) (u : JournalUnit) → KeepsUnits bytes end count → drop end bytes ≡ [] → OnOk r (mid ≡ bytes ++ unit_bytes u) → OnOk r (FitsUnit u) → GoesOnFrom bytes mid →
-    OnOk r (new ≡ mid) → OnErr r (new ≡ take end mid) → job ≡ job_of u → Settled r bytes new end count job u
-settled_by (Ok x) bytes mid new end count job u h none w fits on same back owner =
+pub settled : {T E : Type 0} (r written : Result T E) (bytes mid new : List ℕ) (end count job : ℕ) (u : JournalUnit) → KeepsUnits bytes end count → drop end bytes ≡ [] → OnOk written (mid ≡ bytes ++ unit_bytes u) → OnOk written (FitsUnit u) → GoesOnFrom bytes mid →
+    OnOk r (IsOk written × (new ≡ mid)) → OnErr r (new ≡ take end mid) → job ≡ job_of u → Settled r bytes new end count job u
+settled (Ok x) (Ok y) bytes mid new end count job u h none w fits on same back owner =
     let long = ends_there bytes end h.within none in
-    let e : new ≡ bytes ++ unit_bytes u = same ∙ w in
+    let e : new ≡ bytes ++ unit_bytes u = same.1 ∙ w in
     let l : length new ≡ length bytes + length (unit_bytes u) = ap length e ∙ length-append bytes (unit_bytes u) in
     let front : take end new ≡ take end bytes = ap (take end) e ∙ take_at bytes (unit_bytes u) end long ∙ sym (take_all end bytes (omega arith)) in
     let behind : drop end new ≡ unit_bytes u = ap (drop end) e ∙ drop_at bytes (unit_bytes u) end long in
     record { stays = stays bytes new end count h (omega arith) front; ok = written_is (drop end new) job u behind fits owner; err = tt }
-settled_by (Err x) bytes mid new end count job u h none w fits on same back owner =
+settled (Ok x) (Err y) bytes mid new end count job u h none w fits on same back owner = absurd (true≢false (sym same.0))
+settled (Err x) written bytes mid new end count job u h none w fits on same back owner =
     let long = ends_there bytes end h.within none in
     let e : new ≡ bytes = back ∙ ap (take end) on.split ∙ take_at bytes on.more end long in
     let l : length new ≡ length bytes = ap length e in
     record { stays = stays bytes new end count h (omega arith) (ap (take end) e); ok = tt; err = ap (drop end) e ∙ none }
 
-pub settled : {T E : Type 0} (r written : Result T E) (bytes mid new : List ℕ) (end count job : ℕ) (u : JournalUnit) → r ≡ written → KeepsUnits bytes end count → drop end bytes ≡ [] → OnOk written (mid ≡ bytes ++ unit_bytes u) → OnOk written (FitsUnit u) → GoesOnFrom bytes mid →
-    OnOk written (new ≡ mid) → OnErr written (new ≡ take end mid) → job ≡ job_of u → Settled r bytes new end count job u
-settled r written bytes mid new end count job u is h none w fits on same back owner = subst (λ x. Settled x bytes new end count job u) (sym is) (settled_by written bytes mid new end count job u h none w fits on same back owner)
+-- there is as much room behind the units as behind all that stands there, and what was written left it
+pub room_left : (end ends len long capacity more : ℕ) → KeepsRoom len ends capacity → end ≤ long → len ≡ long → capacity ≤ more → KeepsRoom end ends more
+room_left end ends len long capacity more room within same on = omega (arith, room, within, same, on)
+
+-- a unit was written behind them, and that can't be refused
+pub record Written (bytes new : List ℕ) (end count job : ℕ) (u : JournalUnit) : Type 0 where
+  pub stays : Stays bytes new end count
+  pub is : IsUnitOf (drop end new) job u
+
+pub written_there : (bytes new : List ℕ) (end count job : ℕ) (u : JournalUnit) → KeepsUnits bytes end count → drop end bytes ≡ [] → new ≡ bytes ++ unit_bytes u → FitsUnit u → job ≡ job_of u → Written bytes new end count job u
+written_there bytes new end count job u h none w fits owner =
+    let r : Result ℕ ℕ = Ok 0 in
+    let done = settled r r bytes new new end count job u h none w fits (record { more = unit_bytes u; split = w }) (refl, refl) tt owner in
+    record { stays = done.stays; is = done.ok }
 
 -- ---- a unit more
 

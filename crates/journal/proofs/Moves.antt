@@ -1,18 +1,15 @@
 -- A base that is moved on by units.
 use Rattle.std.proofs.Common.{◌≡◌, ℕ, ◌+◌, ◌-◌, ◌^◌, ◌≤◌, ◌<◌, min, List, [], ◌∷◌, ◌++◌, length, take, drop, Bool, true, false, refl, sym, ap, subst, ◌∙◌, arith, ◌⊎◌, inl, inr, length-append, append_assoc, append-nil, suc}
-use Rattle.std.specs.Prelude.{cond, filter, ◌==◌, Some, unwrap_or}
-use Rattle.std.specs.Ordering.{nat_cmp, eq_by_cmp, is_eq}
-use Rattle.std.specs.Cmp.{nat_cmp_total, tied_itself}
+use Rattle.std.specs.Prelude.{cond, filter, ◌==◌, Option, None, Some, IfSome}
 use Rattle.std.specs.FinMap as finmap
-use Rattle.std.specs.FinMap.{nat_cmp-IsAntisymmetric, is_sorted}
-use Rattle.std.proofs.lemmas.List.{take-append-drop, length-take-le, length-drop}
+use Rattle.std.specs.FinMap.{is_sorted}
+use Rattle.std.proofs.lemmas.List.{take-append-drop, take_all, length-take-le, length-drop}
 use Rattle.std.proofs.lemmas.List.Elements.{filter-append}
 use Rattle.std.proofs.lemmas.Bool.Decides.{eqb_tells}
 use Rattle.std.proofs.Math.Seq.{take-append-add}
 use Rattle.collation.specs.Reference.{Reference}
 use Rattle.lock_name.specs.Locks.{LockState}
 use Rattle.collation.specs.Order.{ref_cmp}
-use Rattle.collation.specs.laws.Order.{is_equal}
 use Rattle.collation.specs.laws.Entries.{true_of}
 use Rattle.collation.specs.Changes.{Change, changed}
 use Rattle.collation.specs.Database.{Database}
@@ -24,9 +21,12 @@ use Rattle.journal.specs.History.{State, initial, after, after_unit}
 use Rattle.journal.specs.laws.History.{after-append}
 use Rattle.journal.specs.laws.Adopted.{of_entries, sorted_entries, adopted_number, adopted_state, adopted_tally}
 use Rattle.journal.specs.Adopted.{adopted_units}
-use Rattle.journal.specs.Counting.{is_counted, tally_of, Tallies, tally_in, AreTallies, one_more, counted_unit, counted_on}
+use Rattle.journal.specs.Counting.{is_counted, is_tallied, tally_of, Tallies, tally_in, AreTallies, one_more, counted_unit, counted_on}
+use Rattle.journal.specs.Kept.{job_of}
+use Rattle.journal.specs.declared.list.Prepared.{Prepared}
 use Rattle.journal.specs.Based.{Based, IsBaseOf, database_of, map_in, locks_in, locks_of_unit, locks_on, HasPassed}
-use Rattle.journal.specs.Log.{KeepsBase, Stands, Recorded}
+use Rattle.journal.specs.Log.{KeepsBase, Stands, Recorded, IsUnitOf, unit_in, IsTallied, HoldsPrepared}
+use Rattle.journal.proofs.Tallied.{one_here, one_apart}
 
 -- ---- locks
 
@@ -42,16 +42,6 @@ all_locks [] s = refl
 all_locks (u ∷ us) s = all_locks us (after_unit u s) ∙ ap (locks_on us) (one_locks u s)
 
 -- ---- tallies
-
-here : (job : ℕ) → eq_by_cmp nat_cmp job job ≡ true
-here job = ap is_eq (tied_itself nat_cmp_total job)
-
-apart : (q job : ℕ) → (q ≡ job → ⊥) → eq_by_cmp nat_cmp q job ≡ false
-apart q job ne = by_test (eq_by_cmp nat_cmp q job) refl
-  where
-    by_test : (b : Bool) → eq_by_cmp nat_cmp q job ≡ b → b ≡ false
-    by_test true e = absurd (ne (nat_cmp-IsAntisymmetric q job (is_equal (nat_cmp q job) e)))
-    by_test false e = refl
 
 no_more : (p : JournalUnit → Bool) (us : List JournalUnit) → length (filter p us) ≤ length us
 no_more p [] = omega arith
@@ -74,15 +64,14 @@ more_counted ts us u job h less is j some = by_case (eqb_tells job j)
     by_case : (((job == j) ≡ true) × (job ≡ j)) ⊎ (((job == j) ≡ false) × (job ≡ j → ⊥)) → tally_in (one_more job ts) j ≡ tally_of j (us ++ u ∷ [])
     by_case (inl same) =
         let x = min (tally_in ts job + 1) (2 ^ 64 - 1) in
-        let put : tally_in (one_more job ts) job ≡ x = ap (λ o. unwrap_or o 0) (finmap.get-insert nat_cmp_total ts job x job ∙ ap (λ b. cond b (Some x) (finmap.get ts job)) (here job)) in
+        let put : tally_in (one_more job ts) job ≡ x = one_here job ts in
         let few : tally_of j us ≤ length us = no_more (is_counted j) us in
         let was : tally_in ts job ≡ tally_of j us = ap (tally_in ts) same.1 ∙ h j some in
         let now : tally_of j (us ++ u ∷ []) ≡ tally_of j us + 1 = one_counted j us u true (is j ∙ same.0) in
         let e : x ≡ tally_of j us + 1 = omega arith in
         ap (tally_in (one_more job ts)) (sym same.1) ∙ put ∙ e ∙ sym now
     by_case (inr other) =
-        let x = min (tally_in ts job + 1) (2 ^ 64 - 1) in
-        let put : tally_in (one_more job ts) j ≡ tally_in ts j = ap (λ o. unwrap_or o 0) (finmap.get-insert nat_cmp_total ts job x j ∙ ap (λ b. cond b (Some x) (finmap.get ts j)) (apart j job (λ e. other.1 (sym e)))) in
+        let put : tally_in (one_more job ts) j ≡ tally_in ts j = one_apart job j ts other.1 in
         let now : tally_of j (us ++ u ∷ []) ≡ tally_of j us + 0 = one_counted j us u false (is j ∙ other.0) in
         let z : tally_of j us + 0 ≡ tally_of j us = omega arith in
         put ∙ h j some ∙ sym z ∙ sym now
@@ -144,11 +133,11 @@ none_there = nil_of (finmap.entries (database_of [])) (sym (finmap.len-entries (
 pub none_sorted : (nodes : List (Reference × List ℕ)) → nodes ≡ [] → nodes ≡ finmap.entries (database_of nodes)
 none_sorted nodes e = subst (λ xs. xs ≡ finmap.entries (database_of xs)) (sym e) (sym none_there)
 
-pub no_base : (b : Based) → b.number ≡ 0 → b.state ≡ initial → b.tallies ≡ finmap.empty → (us : List JournalUnit) → us ≡ [] → IsBaseOf b us
+pub no_base : (b : Based) → b.number ≡ 0 → b.state ≡ initial → b.tallies ≡ [] → (us : List JournalUnit) → us ≡ [] → IsBaseOf b us
 no_base b n s t us e = record {
   number = n ∙ ap length (sym e);
   state = s ∙ ap (λ xs. after xs initial) (sym e);
-  tallies = subst (AreTallies b.tallies) (sym e) (λ job some. ap (λ ts. tally_in ts job) t ∙ ap (λ o. unwrap_or o 0) (finmap.get-empty nat_cmp job));
+  tallies = subst (AreTallies b.tallies) (sym e) (λ job some. ap (λ ts. tally_in ts job) t);
 }
 
 -- changes in a list of nodes are those in its database
@@ -211,7 +200,7 @@ moved old new n count past units map keeps c from to are m =
       number = omega arith;
     }
 
-pub new_keeps : (b : Based) → b.number ≡ 0 → b.state ≡ initial → b.tallies ≡ finmap.empty → (past units : List JournalUnit) → past ≡ [] → units ≡ [] → KeepsBase b past units
+pub new_keeps : (b : Based) → b.number ≡ 0 → b.state ≡ initial → b.tallies ≡ [] → (past units : List JournalUnit) → past ≡ [] → units ≡ [] → KeepsBase b past units
 new_keeps b n s t past units p u = let l : length units ≡ 0 = ap length u in record { base = no_base b n s t past p; counted = omega arith }
 
 -- a chronicle whose base was moved on
@@ -245,7 +234,7 @@ checked old new n count left past new_past units mid rest all m bytes keeps c fr
 
 -- ---- a database that was taken over
 
-pub adopted_keeps : (b : Based) (n : ℕ) (nodes : List (Reference × List ℕ)) (past units : List JournalUnit) → b.number ≡ n → b.state ≡ record { map = database_of nodes; locks = finmap.empty } → b.tallies ≡ finmap.empty →
+pub adopted_keeps : (b : Based) (n : ℕ) (nodes : List (Reference × List ℕ)) (past units : List JournalUnit) → b.number ≡ n → b.state ≡ record { map = database_of nodes; locks = finmap.empty } → b.tallies ≡ [] →
     past ≡ adopted_units n nodes → units ≡ [] → (n ≡ 0 → nodes ≡ []) → n < 2 ^ 64 → KeepsBase b past units
 adopted_keeps b n nodes past units number state tallies p u none counted =
     let l : length units ≡ 0 = ap length u in
@@ -253,7 +242,53 @@ adopted_keeps b n nodes past units number state tallies p u none counted =
       base = record {
         number = number ∙ sym (ap length p ∙ adopted_number n nodes);
         state = state ∙ sym (ap (λ us. after us initial) p ∙ adopted_state n nodes none);
-        tallies = λ job some. ap (λ ts. tally_in ts job) tallies ∙ ap (λ o. unwrap_or o 0) (finmap.get-empty nat_cmp job) ∙ sym (ap (tally_of job) p ∙ adopted_tally n nodes job some);
+        tallies = λ job some. ap (λ ts. tally_in ts job) tallies ∙ sym (ap (tally_of job) p ∙ adopted_tally n nodes job some);
       };
       counted = omega (arith, number, l, counted);
     }
+
+-- ---- tallies of all units
+
+-- one unit more, which counts or not as is noted
+pub tallied_on : (ts : Tallies) (us : List JournalUnit) (u : JournalUnit) (b : Bool) → AreTallies ts us → length us + 1 < 2 ^ 64 → b ≡ is_tallied u → AreTallies (cond b (one_more (job_of u) ts) ts) (us ++ u ∷ [])
+tallied_on ts us (Lone job command answer) b h less is = subst (λ x. AreTallies (cond x (one_more job ts) ts) (us ++ Lone job command answer ∷ [])) (sym is) (unit_counted ts us (Lone job command answer) h (omega (arith, less)))
+tallied_on ts us (Whole job exchanges) b h less is = subst (λ x. AreTallies (cond x (one_more job ts) ts) (us ++ Whole job exchanges ∷ [])) (sym is) (unit_counted ts us (Whole job exchanges) h (omega (arith, less)))
+tallied_on ts us (Lock job inside command had) b h less is = subst (λ x. AreTallies (cond x (one_more job ts) ts) (us ++ Lock job inside command had ∷ [])) (sym is) (unit_counted ts us (Lock job inside command had) h (omega (arith, less)))
+tallied_on ts us (Back job) b h less is = subst (λ x. AreTallies (cond x (one_more job ts) ts) (us ++ Back job ∷ [])) (sym is) (unit_counted ts us (Back job) h (omega (arith, less)))
+tallied_on ts us (End job) b h less is = subst (λ x. AreTallies (cond x (one_more job ts) ts) (us ++ End job ∷ [])) (sym is) (unit_counted ts us (End job) h (omega (arith, less)))
+
+-- more room for numbers
+pub as_tallied : (old new : Tallies) (us vs : List JournalUnit) → AreTallies old us → ((q : ℕ) → tally_in new q ≡ tally_in old q) → vs ≡ us → AreTallies new vs
+as_tallied old new us vs h same e = subst (AreTallies new) (sym e) (λ job some. same job ∙ h job some)
+
+-- all units are dropped
+pub all_dropped : (old new : Based) (past units new_past rest all : List JournalUnit) (nodes : List (Reference × List ℕ)) (locks : LockState) (ts : Tallies) → KeepsBase old past units → past ++ units ≡ all → new.number ≡ length all →
+    new.state ≡ record { map = database_of nodes; locks = locks } → new.tallies ≡ ts → nodes ≡ finmap.entries (after all initial).map → locks ≡ (after all initial).locks → AreTallies ts all → new_past ≡ past ++ take (length units) units → rest ≡ [] →
+    KeepsBase new new_past rest × (new_past ++ rest ≡ all)
+all_dropped old new past units new_past rest all nodes locks ts keeps whole number state tallies are held counted dropped none =
+    let passed : new_past ≡ all = dropped ∙ ap (λ us. past ++ us) (take_all (length units) units (omega arith)) ∙ whole in
+    let map_is : database_of nodes ≡ (after all initial).map = ap database_of are ∙ of_entries (after all initial).map in
+    let state_is : new.state ≡ after all initial = state ∙ (λ i. record { map = map_is i; locks = held i }) in
+    let few : length all ≡ length past + length units = ap length (sym whole) ∙ length-append past units in
+    let nothing : length rest ≡ 0 = ap length none in
+    let was : old.number ≡ length past = keeps.base.number in
+    let limit : old.number + length units < 2 ^ 64 = keeps.counted in (
+      record {
+        base = record {
+          number = number ∙ ap length (sym passed);
+          state = state_is ∙ ap (λ us. after us initial) (sym passed);
+          tallies = subst (AreTallies new.tallies) (sym passed) (subst (λ xs. AreTallies xs all) (sym tallies) counted);
+        };
+        counted = omega arith;
+      },
+      ap (λ us. new_past ++ us) none ∙ append-nil new_past ∙ passed,
+    )
+
+-- a unit was pushed, and counts or not
+pub pushed_tallies : (p : Prepared) (log new : Recorded) (ts now : Tallies) (places : ℕ) → HoldsPrepared (Some p) log places → AreTallies ts log.units → IfSome (unit_in log.behind) (λ u. new.units ≡ log.units ++ u ∷ []) →
+    now ≡ cond p.is_tallied (one_more p.job ts) ts → AreTallies now new.units
+pushed_tallies p log new ts now places h are more is =
+    let unit = h.1.0 in
+    let told : new.units ≡ log.units ++ unit ∷ [] = subst (λ o. IfSome o (λ u. new.units ≡ log.units ++ u ∷ [])) h.1.1.0.is more in
+    let same : cond p.is_tallied (one_more (job_of unit) ts) ts ≡ now = ap (λ j. cond p.is_tallied (one_more j ts) ts) (sym h.1.1.0.owner) ∙ sym is in
+    subst (AreTallies now) (sym told) (subst (λ xs. AreTallies xs (log.units ++ unit ∷ [])) same (tallied_on ts log.units unit p.is_tallied are h.0 h.1.1.1.is))

@@ -1,8 +1,7 @@
 -- What is kept of the units that are dropped.
 use Rattle.std.specs.Prelude.{◌≡◌, ℕ, List, [], ◌∷◌, length, refl}
 use Rattle.std.specs.FinMap as finmap
-use Rattle.std.specs.FinMap.{code}
-use Rattle.std.specs.Coded.{Coded, code_by, coded×, coded_ℕ}
+use Rattle.std.specs.Coded.{Coded, code_by, coded×, coded_ℕ, coded_list}
 use Rattle.collation.specs.Reference.{Reference}
 use Rattle.collation.specs.Database.{Database, database_code}
 use Rattle.lock_name.specs.Locks.{LockState, locks_after, locks_after_commit, locks_after_back, locks_after_end}
@@ -20,7 +19,7 @@ pub record Based : Type 0 where
 
 abbrev pub based_code : Coded Based
 based_code =
-    code_by (ℕ × (Database × (LockState × Tallies))) (coded× coded_ℕ (coded× database_code (coded× lock_state_code (code coded_ℕ coded_ℕ))))
+    code_by (ℕ × (Database × (LockState × Tallies))) (coded× coded_ℕ (coded× database_code (coded× lock_state_code (coded_list coded_ℕ))))
     (λ b. (b.number, (b.state.map, (b.state.locks, b.tallies)))) (λ p. record { number = p.0; state = record { map = p.1.0; locks = p.1.1.0 }; tallies = p.1.1.1 }) (λ _. refl)
 
 -- it is what these units leave

@@ -1,8 +1,5 @@
 -- How many units each job has: its tally.
-use Rattle.std.specs.Prelude.{◌≡◌, ℕ, ◌+◌, ◌-◌, ◌^◌, ◌<◌, ◌==◌, min, Bool, false, List, [], ◌∷◌, filter, length, unwrap_or}
-use Rattle.std.specs.Ordering.{nat_cmp}
-use Rattle.std.specs.FinMap as finmap
-use Rattle.std.specs.FinMap.{FinMap}
+use Rattle.std.specs.Prelude.{◌≡◌, ℕ, zero, suc, ◌+◌, ◌-◌, ◌^◌, ◌<◌, ◌==◌, min, Bool, true, false, List, [], ◌∷◌, filter, length, slice_index}
 use Rattle.journal.specs.declared.unit.Unit.{Unit as JournalUnit}
 use Rattle.journal.specs.declared.unit.Unit.TheVariants.{Lone, Whole, Lock, Back, End}
 
@@ -18,12 +15,20 @@ is_counted job (End j) = false
 abbrev pub tally_of : ℕ → List JournalUnit → ℕ
 tally_of job us = length (filter (is_counted job) us)
 
--- a number for each job; one without an entry has 0
+-- whether a unit counts in its job's tally
+abbrev pub is_tallied : JournalUnit → Bool
+is_tallied (Lone job command answer) = true
+is_tallied (Whole job exchanges) = true
+is_tallied (Lock job inside command had) = true
+is_tallied (Back job) = false
+is_tallied (End job) = false
+
+-- numbers by the numbers of jobs, from 0 on; a job behind them has 0
 abbrev pub Tallies : Type 0
-Tallies = FinMap nat_cmp ℕ
+Tallies = List ℕ
 
 abbrev pub tally_in : Tallies → ℕ → ℕ
-tally_in ts job = unwrap_or (finmap.get ts job) 0
+tally_in ts job = slice_index ts job
 
 -- these are the tallies of these units; jobs have numbers from 1 on
 abbrev pub AreTallies : Tallies → List JournalUnit → Type 0
@@ -31,7 +36,10 @@ AreTallies ts us = (job : ℕ) → 0 < job → tally_in ts job ≡ tally_of job 
 
 -- one more of the job, up to 2^64 - 1
 abbrev pub one_more : ℕ → Tallies → Tallies
-one_more job ts = finmap.insert ts job (min (tally_in ts job + 1) (2 ^ 64 - 1))
+one_more zero [] = 1 ∷ []
+one_more zero (n ∷ ns) = min (n + 1) (2 ^ 64 - 1) ∷ ns
+one_more (suc job) [] = 0 ∷ one_more job []
+one_more (suc job) (n ∷ ns) = n ∷ one_more job ns
 
 abbrev pub counted_unit : JournalUnit → Tallies → Tallies
 counted_unit (Lone job command answer) ts = one_more job ts

@@ -1,5 +1,5 @@
 //! What the units leave that are dropped, and how it is moved on.
-ghost use Rattle.std.specs.Prelude.{◌≡◌, ◌≤◌, ◌<◌, ◌^◌, ◌+◌, true, OnOk, OnErr, IfOk, take, drop, length};
+ghost use Rattle.std.specs.Prelude.{◌≡◌, ◌≤◌, ◌<◌, ◌^◌, ◌+◌, [], true, OnOk, OnErr, IfOk, take, drop, length, vec_len, vec_capacity};
 ghost use Rattle.std.specs.FinMap as finmap;
 ghost use Rattle.std.specs.FinMap.{is_sorted};
 ghost use Rattle.collation.specs.Changes.{changed};
@@ -7,7 +7,7 @@ ghost use Rattle.collation.specs.Order.{ref_cmp};
 ghost use Rattle.journal.specs.Based.{database_of, locks_of_unit, locks_on, map_in, locks_in, HasPassed};
 ghost use Rattle.journal.specs.Counting.{tally_in, counted_unit, counted_on};
 ghost use Rattle.journal.specs.History.{initial};
-ghost use Rattle.journal.specs.Log.{Stands};
+ghost use Rattle.journal.specs.Log.{Stands, KeepsRoom};
 
 use crate::log::Log;
 use crate::merging::{make_room, merged};
@@ -50,7 +50,7 @@ impl Base {
     pub(crate) fn new(alloc: Global) -> Base
         ensures number { result.number ≡ 0 }
         ensures state { result.state ≡ initial }
-        ensures tallies { result.tallies ≡ finmap.empty }
+        ensures tallies { result.tallies ≡ [] }
     {
         Base {
             number: 0,
@@ -65,7 +65,7 @@ impl Base {
         requires { nodes.items ≡ finmap.entries (database_of nodes.items) }
         ensures number { result.number ≡ number }
         ensures state { result.state ≡ record { map = database_of nodes.items; locks = finmap.empty } }
-        ensures tallies { result.tallies ≡ finmap.empty }
+        ensures tallies { result.tallies ≡ [] }
     {
         Base {
             number,
@@ -121,14 +121,35 @@ impl Base {
         ensures locks { IfOk result (λ p. p.moving.locks ≡ locks_on (take count log.now.units) (locks_in self.now)) }
         ensures tallies { IfOk result (λ p. p.moving.tallies ≡ counted_on (take count log.now.units) self.now.tallies) }
         ensures rest { IfOk result (λ p. Stands p.rest.bytes.items p.rest.left (drop count log.now.units)) }
+        ensures room { IfOk result (λ p. KeepsRoom (vec_len p.rest.bytes) log.now.ends (vec_capacity p.rest.bytes)) }
     {
         let mut moving = self.as_moving()?;
         let mut units = log.units();
         moving.pass_over(&mut units, count)?;
         let (bytes, left) = units.rest();
-        let bytes = bytes.to_vec(alloc)?;
+        let bytes = log.copy(alloc, bytes)?;
         let rest = Rest { bytes, left };
         Ok(Passed { moving, rest })
+    }
+
+    /// The base of all units: so many, which leave this.
+    pub(crate) fn of_all(
+        number: u64,
+        nodes: Vec<(Key, Text)>,
+        locks: LockTable,
+        tallies: Tallies,
+    ) -> Base
+        requires { nodes.items ≡ finmap.entries (database_of nodes.items) }
+        ensures number { result.number ≡ number }
+        ensures state { result.state ≡ record { map = database_of nodes.items; locks = locks } }
+        ensures tallies { result.tallies ≡ tallies }
+    {
+        Base {
+            number,
+            nodes,
+            locks,
+            tallies,
+        }
     }
 
     /// The base is moved on by so many units of the log, which leave the database with these changes. Answers what
@@ -147,6 +168,7 @@ impl Base {
         ensures state { OnOk result (self.new.state ≡ (record { map = changed changes.items (map_in self.old); locks = locks_on (take count log.now.units) (locks_in self.old) })) }
         ensures tallies { OnOk result (self.new.tallies ≡ counted_on (take count log.now.units) self.old.tallies) }
         ensures rest { IfOk result (λ r. Stands r.bytes.items r.left (drop count log.now.units)) }
+        ensures room { IfOk result (λ r. KeepsRoom (vec_len r.bytes) log.now.ends (vec_capacity r.bytes)) }
         ensures refused { OnErr result (self.new ≡ self.old) }
     {
         let passed = self.passed(alloc, log, count)?;
@@ -176,14 +198,14 @@ impl Moving {
         ensures tallies { OnOk result (self.new.tallies ≡ counted_unit unit.now self.old.tallies) }
     {
         match unit {
-            Unit::Lone(job, _, _) => self.tallies.add(*job),
+            Unit::Lone(job, _, _) => self.tallies.count_one(*job),
             Unit::Whole(job, _) => {
                 self.locks.commit_job(*job);
-                self.tallies.add(*job)
+                self.tallies.count_one(*job)
             }
             Unit::Lock(job, inside, command, _) => {
                 match self.locks.do_lock(*job, *inside, command) {
-                    Ok(()) => self.tallies.add(*job),
+                    Ok(()) => self.tallies.count_one(*job),
                     Err(_) => Err(AllocError),
                 }
             }

@@ -10,6 +10,7 @@ ghost use Rattle.collation.specs.Changes.{changed};
 ghost use Rattle.collation.specs.Order.{ref_cmp};
 ghost use Rattle.journal.specs.Adopted.{adopted_units};
 ghost use Rattle.journal.specs.Based.{IsBaseOf, database_of};
+ghost use Rattle.journal.specs.Counting.{AreTallies};
 ghost use Rattle.journal.specs.Format.{unit_bytes};
 ghost use Rattle.journal.specs.History.{initial, after};
 ghost use Rattle.journal.specs.Log.{unit_in, IsUnitOf};
@@ -23,10 +24,12 @@ use crate::base::Base;
 use crate::exchanges::ExchangeLog;
 use crate::log::Log;
 use crate::past::Past;
+use crate::tallies::Tallies;
 use collation::{Direction, Job, Text};
 use command::{Answer, DataCommand};
 use key_codec::{Key, Place};
 use lock_name::LockCommand;
+use lock_table::LockTable;
 use refusal::Refusal;
 use std::alloc::{AllocError, Global};
 use std::marker::Model;
@@ -46,7 +49,7 @@ impl Model for Chronicle {
 
     ghost Value = { Recorded };
 
-    ghost view = { λ c. record { units = joined c.past ++ c.log.units; base = c.base.number; behind = c.log.behind } };
+    ghost view = { λ c. record { units = joined c.past ++ c.log.units; base = c.base.number; behind = c.log.behind; ends = c.log.ends } };
 
     ghost invariant = { λ c. KeepsBase c.base (joined c.past) c.log.units };
 }
@@ -55,6 +58,7 @@ impl Chronicle {
     pub(crate) fn new(alloc: Global) -> Chronicle
         ensures units { result.units ≡ [] }
         ensures base { result.base ≡ 0 }
+        ensures ends { result.ends ≡ 0 }
         ensures behind { result.behind ≡ [] }
     {
         Chronicle {
@@ -70,6 +74,7 @@ impl Chronicle {
         requires nothing { number ≡ 0 → nodes.items ≡ [] }
         ensures units { result.units ≡ adopted_units number nodes.items }
         ensures base { result.base ≡ number }
+        ensures ends { result.ends ≡ 0 }
         ensures behind { result.behind ≡ [] }
     {
         let past = Past::adopt(number, &nodes);
@@ -103,6 +108,7 @@ impl Chronicle {
     pub(crate) fn begin(&mut self) -> Result<(), Refusal>
         ensures units { self.new.units ≡ self.old.units }
         ensures base { self.new.base ≡ self.old.base }
+        ensures ends { self.new.ends ≡ self.old.ends }
         ensures behind { self.new.behind ≡ [] }
         ensures ok { OnOk result (length self.old.units + 1 < 2 ^ 64) }
         ensures err { IfErr result (λ refusal. (refusal ≡ StampsUsedUp) × (2 ^ 64 - 1 < length self.old.units + 1)) }
@@ -125,6 +131,7 @@ impl Chronicle {
         requires { self.old.behind ≡ [] }
         ensures units { self.new.units ≡ self.old.units }
         ensures base { self.new.base ≡ self.old.base }
+        ensures ends { self.new.ends ≡ self.old.ends }
         ensures ok { OnOk result (IsUnitOf self.new.behind job (Lone job command.now answer.now)) }
         ensures err { OnErr result (self.new.behind ≡ []) }
     {
@@ -136,6 +143,7 @@ impl Chronicle {
         requires { self.old.behind ≡ [] }
         ensures units { self.new.units ≡ self.old.units }
         ensures base { self.new.base ≡ self.old.base }
+        ensures ends { self.new.ends ≡ self.old.ends }
         ensures ok { OnOk result (IsUnitOf self.new.behind job (Lone job (Set key.now value.now) Done)) }
         ensures err { OnErr result (self.new.behind ≡ []) }
     {
@@ -147,6 +155,7 @@ impl Chronicle {
         requires { self.old.behind ≡ [] }
         ensures units { self.new.units ≡ self.old.units }
         ensures base { self.new.base ≡ self.old.base }
+        ensures ends { self.new.ends ≡ self.old.ends }
         ensures ok { OnOk result (IsUnitOf self.new.behind job (Lone job (Look (Get key.now None)) (Value value.now))) }
         ensures err { OnErr result (self.new.behind ≡ []) }
     {
@@ -164,6 +173,7 @@ impl Chronicle {
         requires { self.old.behind ≡ [] }
         ensures units { self.new.units ≡ self.old.units }
         ensures base { self.new.base ≡ self.old.base }
+        ensures ends { self.new.ends ≡ self.old.ends }
         ensures ok { OnOk result (IsUnitOf self.new.behind job (Lone job (Look (Order place.now direction)) (Value value.now))) }
         ensures err { OnErr result (self.new.behind ≡ []) }
     {
@@ -175,6 +185,7 @@ impl Chronicle {
         requires { self.old.behind ≡ [] }
         ensures units { self.new.units ≡ self.old.units }
         ensures base { self.new.base ≡ self.old.base }
+        ensures ends { self.new.ends ≡ self.old.ends }
         ensures ok { OnOk result (IsUnitOf self.new.behind job (Lone job (Kill key.now) Done)) }
         ensures err { OnErr result (self.new.behind ≡ []) }
     {
@@ -190,6 +201,7 @@ impl Chronicle {
         requires { self.old.behind ≡ [] }
         ensures units { self.new.units ≡ self.old.units }
         ensures base { self.new.base ≡ self.old.base }
+        ensures ends { self.new.ends ≡ self.old.ends }
         ensures ok { OnOk result (IsUnitOf self.new.behind job (Whole job exchanges.now)) }
         ensures err { OnErr result (self.new.behind ≡ []) }
     {
@@ -207,6 +219,7 @@ impl Chronicle {
         requires { self.old.behind ≡ [] }
         ensures units { self.new.units ≡ self.old.units }
         ensures base { self.new.base ≡ self.old.base }
+        ensures ends { self.new.ends ≡ self.old.ends }
         ensures ok { OnOk result (IsUnitOf self.new.behind job (Lock job inside command.now had)) }
         ensures err { OnErr result (self.new.behind ≡ []) }
     {
@@ -218,6 +231,7 @@ impl Chronicle {
         requires { self.old.behind ≡ [] }
         ensures units { self.new.units ≡ self.old.units }
         ensures base { self.new.base ≡ self.old.base }
+        ensures ends { self.new.ends ≡ self.old.ends }
         ensures ok { OnOk result (IsUnitOf self.new.behind job (Back job)) }
         ensures err { OnErr result (self.new.behind ≡ []) }
     {
@@ -229,10 +243,31 @@ impl Chronicle {
         requires { self.old.behind ≡ [] }
         ensures units { self.new.units ≡ self.old.units }
         ensures base { self.new.base ≡ self.old.base }
+        ensures ends { self.new.ends ≡ self.old.ends }
         ensures ok { OnOk result (IsUnitOf self.new.behind job (End job)) }
         ensures err { OnErr result (self.new.behind ≡ []) }
     {
         self.log.write_end(job)
+    }
+
+    /// Keeps room for the end of one session more. Where memory is refused all is as it was.
+    pub(crate) fn keep_end(&mut self) -> Result<(), AllocError>
+        ensures ok { OnOk result (self.new ≡ record self.old { ends = self.old.ends + 1 }) }
+        ensures err { OnErr result (self.new ≡ self.old) }
+    {
+        self.log.keep_end()
+    }
+
+    /// Writes the end of a session for which room is kept, into that room. Takes no memory.
+    pub(crate) fn write_kept_end(&mut self, job: Job)
+        requires behind { self.old.behind ≡ [] }
+        requires room { 1 ≤ self.old.ends }
+        ensures units { self.new.units ≡ self.old.units }
+        ensures base { self.new.base ≡ self.old.base }
+        ensures ends { self.new.ends ≡ self.old.ends - 1 }
+        ensures written { IsUnitOf self.new.behind job (End job) }
+    {
+        self.log.write_kept_end(job);
     }
 
     /// Makes the unit behind the units the last of them. Nothing is copied.
@@ -241,6 +276,7 @@ impl Chronicle {
         requires number { length self.old.units + 1 < 2 ^ 64 }
         ensures units { IfSome (unit_in self.old.behind) (λ unit. self.new.units ≡ self.old.units ++ unit ∷ []) }
         ensures base { self.new.base ≡ self.old.base }
+        ensures ends { self.new.ends ≡ self.old.ends }
         ensures behind { self.new.behind ≡ [] }
     {
         self.log.push();
@@ -268,6 +304,7 @@ impl Chronicle {
         ensures units { self.new.units ≡ self.old.units }
         ensures base { OnOk result (self.new.base ≡ number) }
         ensures refused { OnErr result (self.new.base ≡ self.old.base) }
+        ensures ends { self.new.ends ≡ self.old.ends }
         ensures behind { self.new.behind ≡ [] }
     {
         self.log.begin();
@@ -278,5 +315,28 @@ impl Chronicle {
         self.log.keep_rest(rest.bytes, rest.left);
         self.past = past;
         Ok(())
+    }
+
+    /// The base is moved on behind all units, which leave these nodes and these locks, and count so; all units are dropped.
+    /// Takes no memory.
+    pub(crate) fn checkpoint_all(
+        &mut self,
+        nodes: Vec<(Key, Text)>,
+        locks: LockTable,
+        tallies: Tallies,
+    )
+        requires nodes { nodes.items ≡ finmap.entries (after self.old.units initial).map }
+        requires locks { locks ≡ (after self.old.units initial).locks }
+        requires tallies { AreTallies tallies self.old.units }
+        ensures units { self.new.units ≡ self.old.units }
+        ensures ends { self.new.ends ≡ self.old.ends }
+        ensures base { self.new.base ≡ length self.old.units }
+        ensures behind { self.new.behind ≡ [] }
+    {
+        let number = self.len();
+        let past = self.past.with(&self.log, self.log.len());
+        self.log.clear();
+        self.past = past;
+        self.base = Base::of_all(number, nodes, locks, tallies);
     }
 }

@@ -15,7 +15,8 @@
 //!
 //! A `prepare_..` writes a unit at the end of the bytes, behind those of the units, and may be refused; `push_prepared`
 //! then counts it among them, copies nothing and can't be refused. A unit that is prepared and not pushed leaves nothing
-//! but room.
+//! but room. Room for the ends of sessions can be kept (`keep_end`): whatever is written then leaves it, and
+//! `prepare_kept_end` takes from it and needs no memory.
 //! SET ^A(12345)=12345 of job 1 has 19 bytes: 01 00, 0A 41 00 04 01 05 02 03 04 05 06, 05 31 32 33 34 35.
 //!
 //! Read `specs/History.antt`, `specs/Touching.antt`, `specs/Story.antt`; then `specs/Format.antt` and
@@ -36,6 +37,7 @@ pub use units::Units;
 
 mod base;
 mod before;
+mod buffer;
 mod chronicle;
 mod exchanges;
 mod laws;

@@ -11,7 +11,7 @@ ghost use Rattle.journal.specs.Adopted.{adopted_units};
 ghost use Rattle.journal.specs.Based.{IsBaseOf, database_of};
 ghost use Rattle.journal.specs.Format.{unit_bytes};
 ghost use Rattle.journal.specs.History.{initial, after};
-ghost use Rattle.journal.specs.Kept.{job_of, since, HasNoRoom};
+ghost use Rattle.journal.specs.Kept.{job_of, since, HasNoNumber, HasNoRoom};
 ghost use Rattle.command.specs.declared.access.DataCommand.TheVariants.{Set, Kill, Look};
 ghost use Rattle.command.specs.declared.access.Look.TheVariants.{Get, Order};
 ghost use Rattle.command.specs.declared.access.Answer.TheVariants.{Done, Value};
@@ -22,30 +22,45 @@ use crate::base::Base;
 use crate::before::Before;
 use crate::chronicle::Chronicle;
 use crate::exchanges::ExchangeLog;
+use crate::tallies::Tallies;
 use collation::{Direction, Job, Text};
 use command::{Answer, DataCommand};
 use key_codec::{Key, Place};
 use lock_name::LockCommand;
+use lock_table::LockTable;
 use refusal::Refusal;
 use std::alloc::{AllocError, Global};
 use std::marker::Model;
 
-/// The units after the base, as bytes, and behind them one that is prepared or none.
+// Whose unit is prepared, and whether it counts in the job's tally.
+#[derive(Clone, Copy, Drop)]
+pub(crate) struct Prepared {
+    pub(crate) job: Job,
+    pub(crate) is_tallied: bool,
+}
+
+/// The units after the base, as bytes, and behind them one that is prepared or none. Room is kept for the ends of as many
+/// sessions as asked for it, whatever is written meanwhile.
 #[derive(Drop)]
 pub struct Journal {
     log: Chronicle,
-    prepared: Option<Job>,
+    prepared: Option<Prepared>,
+    // Of all units, those that are dropped among them.
+    tallies: Tallies,
 }
 
 impl Model for Journal {
+    ghost use Rattle.std.specs.Prelude.{length};
+    ghost use Rattle.std.specs.Option.{option_map};
+    ghost use Rattle.journal.specs.Counting.{AreTallies};
     ghost use Rattle.journal.specs.Kept.{Kept};
     ghost use Rattle.journal.specs.Log.{prepared_in, HoldsPrepared};
 
     ghost Value = { Kept };
 
-    ghost view = { λ j. record { units = j.log.units; base = j.log.base; prepared = prepared_in j.prepared j.log } };
+    ghost view = { λ j. record { units = j.log.units; base = j.log.base; prepared = prepared_in (option_map (λ p. p.job) j.prepared) j.log; ends = j.log.ends } };
 
-    ghost invariant = { λ j. HoldsPrepared j.prepared j.log };
+    ghost invariant = { λ j. HoldsPrepared j.prepared j.log (length j.tallies) × AreTallies j.tallies j.log.units };
 }
 
 /// Says that a unit stands in the journal. It can't be copied.
@@ -87,11 +102,13 @@ impl Journal {
     pub fn new(alloc: Global) -> Journal
         ensures units { result.units ≡ [] }
         ensures base { result.base ≡ 0 }
+        ensures ends { result.ends ≡ 0 }
         ensures prepared { result.prepared ≡ None }
     {
         Journal {
             log: Chronicle::new(alloc),
             prepared: None,
+            tallies: Tallies::new(alloc),
         }
     }
 
@@ -103,11 +120,13 @@ impl Journal {
         requires nothing { number ≡ 0 → nodes.items ≡ [] }
         ensures units { result.units ≡ adopted_units number nodes.items }
         ensures base { result.base ≡ number }
+        ensures ends { result.ends ≡ 0 }
         ensures prepared { result.prepared ≡ None }
     {
         Journal {
             log: Chronicle::adopt(alloc, number, nodes),
             prepared: None,
+            tallies: Tallies::new(alloc),
         }
     }
 
@@ -152,6 +171,7 @@ impl Journal {
     ) -> Result<(), Refusal>
         ensures units { self.new.units ≡ self.old.units }
         ensures base { self.new.base ≡ self.old.base }
+        ensures ends { self.new.ends ≡ self.old.ends }
         ensures prepared { OnOk result (self.new.prepared ≡ Some (Lone job command.now answer.now)) }
         ensures refused { OnErr result (self.new.prepared ≡ None) }
         ensures used_up { 2 ^ 64 - 1 < length self.old.units + 1 → IsErrOf result Refusal.StampsUsedUp }
@@ -159,8 +179,12 @@ impl Journal {
     {
         self.prepared = None;
         self.log.begin()?;
+        self.tallies.make_room(job)?;
         self.log.write_lone(job, command, answer)?;
-        self.prepared = Some(job);
+        self.prepared = Some(Prepared {
+            job,
+            is_tallied: true,
+        });
         Ok(())
     }
 
@@ -168,6 +192,7 @@ impl Journal {
     pub fn prepare_set(&mut self, job: Job, key: &Key, value: &[u8]) -> Result<(), Refusal>
         ensures units { self.new.units ≡ self.old.units }
         ensures base { self.new.base ≡ self.old.base }
+        ensures ends { self.new.ends ≡ self.old.ends }
         ensures prepared { OnOk result (self.new.prepared ≡ Some (Lone job (Set key.now value.now) Done)) }
         ensures refused { OnErr result (self.new.prepared ≡ None) }
         ensures used_up { 2 ^ 64 - 1 < length self.old.units + 1 → IsErrOf result Refusal.StampsUsedUp }
@@ -175,8 +200,12 @@ impl Journal {
     {
         self.prepared = None;
         self.log.begin()?;
+        self.tallies.make_room(job)?;
         self.log.write_set(job, key, value)?;
-        self.prepared = Some(job);
+        self.prepared = Some(Prepared {
+            job,
+            is_tallied: true,
+        });
         Ok(())
     }
 
@@ -184,6 +213,7 @@ impl Journal {
     pub fn prepare_get(&mut self, job: Job, key: &Key, value: &[u8]) -> Result<(), Refusal>
         ensures units { self.new.units ≡ self.old.units }
         ensures base { self.new.base ≡ self.old.base }
+        ensures ends { self.new.ends ≡ self.old.ends }
         ensures prepared { OnOk result (self.new.prepared ≡ Some (Lone job (Look (Get key.now None)) (Value value.now))) }
         ensures refused { OnErr result (self.new.prepared ≡ None) }
         ensures used_up { 2 ^ 64 - 1 < length self.old.units + 1 → IsErrOf result Refusal.StampsUsedUp }
@@ -191,8 +221,12 @@ impl Journal {
     {
         self.prepared = None;
         self.log.begin()?;
+        self.tallies.make_room(job)?;
         self.log.write_get(job, key, value)?;
-        self.prepared = Some(job);
+        self.prepared = Some(Prepared {
+            job,
+            is_tallied: true,
+        });
         Ok(())
     }
 
@@ -207,6 +241,7 @@ impl Journal {
     ) -> Result<(), Refusal>
         ensures units { self.new.units ≡ self.old.units }
         ensures base { self.new.base ≡ self.old.base }
+        ensures ends { self.new.ends ≡ self.old.ends }
         ensures prepared { OnOk result (self.new.prepared ≡ Some (Lone job (Look (Order place.now direction)) (Value value.now))) }
         ensures refused { OnErr result (self.new.prepared ≡ None) }
         ensures used_up { 2 ^ 64 - 1 < length self.old.units + 1 → IsErrOf result Refusal.StampsUsedUp }
@@ -214,8 +249,12 @@ impl Journal {
     {
         self.prepared = None;
         self.log.begin()?;
+        self.tallies.make_room(job)?;
         self.log.write_order(job, place, direction, value)?;
-        self.prepared = Some(job);
+        self.prepared = Some(Prepared {
+            job,
+            is_tallied: true,
+        });
         Ok(())
     }
 
@@ -223,6 +262,7 @@ impl Journal {
     pub fn prepare_kill(&mut self, job: Job, key: &Key) -> Result<(), Refusal>
         ensures units { self.new.units ≡ self.old.units }
         ensures base { self.new.base ≡ self.old.base }
+        ensures ends { self.new.ends ≡ self.old.ends }
         ensures prepared { OnOk result (self.new.prepared ≡ Some (Lone job (Kill key.now) Done)) }
         ensures refused { OnErr result (self.new.prepared ≡ None) }
         ensures used_up { 2 ^ 64 - 1 < length self.old.units + 1 → IsErrOf result Refusal.StampsUsedUp }
@@ -230,8 +270,12 @@ impl Journal {
     {
         self.prepared = None;
         self.log.begin()?;
+        self.tallies.make_room(job)?;
         self.log.write_kill(job, key)?;
-        self.prepared = Some(job);
+        self.prepared = Some(Prepared {
+            job,
+            is_tallied: true,
+        });
         Ok(())
     }
 
@@ -239,6 +283,7 @@ impl Journal {
     pub fn prepare_whole(&mut self, job: Job, exchanges: &ExchangeLog) -> Result<(), Refusal>
         ensures units { self.new.units ≡ self.old.units }
         ensures base { self.new.base ≡ self.old.base }
+        ensures ends { self.new.ends ≡ self.old.ends }
         ensures prepared { OnOk result (self.new.prepared ≡ Some (Whole job exchanges.now)) }
         ensures refused { OnErr result (self.new.prepared ≡ None) }
         ensures used_up { 2 ^ 64 - 1 < length self.old.units + 1 → IsErrOf result Refusal.StampsUsedUp }
@@ -246,8 +291,12 @@ impl Journal {
     {
         self.prepared = None;
         self.log.begin()?;
+        self.tallies.make_room(job)?;
         self.log.write_whole(job, exchanges)?;
-        self.prepared = Some(job);
+        self.prepared = Some(Prepared {
+            job,
+            is_tallied: true,
+        });
         Ok(())
     }
 
@@ -261,6 +310,7 @@ impl Journal {
     ) -> Result<(), Refusal>
         ensures units { self.new.units ≡ self.old.units }
         ensures base { self.new.base ≡ self.old.base }
+        ensures ends { self.new.ends ≡ self.old.ends }
         ensures prepared { OnOk result (self.new.prepared ≡ Some (Lock job inside command.now had)) }
         ensures refused { OnErr result (self.new.prepared ≡ None) }
         ensures used_up { 2 ^ 64 - 1 < length self.old.units + 1 → IsErrOf result Refusal.StampsUsedUp }
@@ -268,8 +318,12 @@ impl Journal {
     {
         self.prepared = None;
         self.log.begin()?;
+        self.tallies.make_room(job)?;
         self.log.write_lock(job, inside, command, had)?;
-        self.prepared = Some(job);
+        self.prepared = Some(Prepared {
+            job,
+            is_tallied: true,
+        });
         Ok(())
     }
 
@@ -277,6 +331,7 @@ impl Journal {
     pub fn prepare_back(&mut self, job: Job) -> Result<(), Refusal>
         ensures units { self.new.units ≡ self.old.units }
         ensures base { self.new.base ≡ self.old.base }
+        ensures ends { self.new.ends ≡ self.old.ends }
         ensures prepared { OnOk result (self.new.prepared ≡ Some (Back job)) }
         ensures refused { OnErr result (self.new.prepared ≡ None) }
         ensures used_up { 2 ^ 64 - 1 < length self.old.units + 1 → IsErrOf result Refusal.StampsUsedUp }
@@ -285,7 +340,10 @@ impl Journal {
         self.prepared = None;
         self.log.begin()?;
         self.log.write_back(job)?;
-        self.prepared = Some(job);
+        self.prepared = Some(Prepared {
+            job,
+            is_tallied: false,
+        });
         Ok(())
     }
 
@@ -293,6 +351,7 @@ impl Journal {
     pub fn prepare_end(&mut self, job: Job) -> Result<(), Refusal>
         ensures units { self.new.units ≡ self.old.units }
         ensures base { self.new.base ≡ self.old.base }
+        ensures ends { self.new.ends ≡ self.old.ends }
         ensures prepared { OnOk result (self.new.prepared ≡ Some (End job)) }
         ensures refused { OnErr result (self.new.prepared ≡ None) }
         ensures used_up { 2 ^ 64 - 1 < length self.old.units + 1 → IsErrOf result Refusal.StampsUsedUp }
@@ -301,7 +360,49 @@ impl Journal {
         self.prepared = None;
         self.log.begin()?;
         self.log.write_end(job)?;
-        self.prepared = Some(job);
+        self.prepared = Some(Prepared {
+            job,
+            is_tallied: false,
+        });
+        Ok(())
+    }
+
+    /// Keeps room for the end of one session more.
+    ///
+    /// Refusals, after which nothing has changed: `OutOfMemory`.
+    pub fn keep_end(&mut self) -> Result<(), Refusal>
+        ensures kept { OnOk result (self.new ≡ record self.old { ends = self.old.ends + 1 }) }
+        ensures refused { OnErr result (self.new ≡ self.old) }
+        ensures cause { IfErr result (λ refusal. refusal ≡ Refusal.OutOfMemory) }
+    {
+        match self.log.keep_end() {
+            Ok(()) => Ok(()),
+            Err(_) => Err(Refusal::OutOfMemory),
+        }
+    }
+
+    /// Writes the unit of the end of a session for which room is kept, into that room. Takes no memory.
+    ///
+    /// Refusals: `StampsUsedUp` where the journal would pass 2^64 - 1 units. After it the units are as they were, and none
+    /// is prepared.
+    pub fn prepare_kept_end(&mut self, job: Job) -> Result<(), Refusal>
+        requires { 1 ≤ self.old.ends }
+        ensures units { self.new.units ≡ self.old.units }
+        ensures base { self.new.base ≡ self.old.base }
+        ensures ends { OnOk result (self.new.ends ≡ self.old.ends - 1) }
+        ensures prepared { OnOk result (self.new.prepared ≡ Some (End job)) }
+        ensures refused { OnErr result (self.new.prepared ≡ None) }
+        ensures same_ends { OnErr result (self.new.ends ≡ self.old.ends) }
+        ensures used_up { 2 ^ 64 - 1 < length self.old.units + 1 → IsErrOf result Refusal.StampsUsedUp }
+        ensures cause { IfErr result (λ refusal. HasNoNumber refusal 1 (length self.old.units)) }
+    {
+        self.prepared = None;
+        self.log.begin()?;
+        self.log.write_kept_end(job);
+        self.prepared = Some(Prepared {
+            job,
+            is_tallied: false,
+        });
         Ok(())
     }
 
@@ -310,17 +411,21 @@ impl Journal {
         requires { IsSome self.old.prepared }
         ensures units { IfSome self.old.prepared (λ unit. self.new.units ≡ self.old.units ++ unit ∷ []) }
         ensures base { self.new.base ≡ self.old.base }
+        ensures ends { self.new.ends ≡ self.old.ends }
         ensures none_left { self.new.prepared ≡ None }
         ensures receipt { IfSome self.old.prepared (λ unit. result ≡ record { job = job_of unit; number = length self.new.units; unit = unit }) }
     {
-        let Some(job) = self.prepared else {
+        let Some(prepared) = self.prepared else {
             unreachable!()
         };
         let before = Before::of(&*self);
         self.log.push();
+        if prepared.is_tallied {
+            self.tallies.add(prepared.job);
+        }
         self.prepared = None;
         Receipt {
-            job,
+            job: prepared.job,
             number: self.log.len(),
             before,
         }
@@ -351,12 +456,41 @@ impl Journal {
         ensures units { self.new.units ≡ self.old.units }
         ensures base { OnOk result (self.new.base ≡ number) }
         ensures refused { OnErr result (self.new.base ≡ self.old.base) }
+        ensures ends { self.new.ends ≡ self.old.ends }
         ensures prepared { self.new.prepared ≡ None }
         ensures cause { IfErr result (λ refusal. refusal ≡ Refusal.OutOfMemory) }
     {
         self.prepared = None;
         match self.log.checkpoint(number, changes) {
             Ok(()) => Ok(()),
+            Err(_) => Err(Refusal::OutOfMemory),
+        }
+    }
+
+    /// Moves the base on behind all units, which leave these nodes and these locks: no bytes are left. Reads nothing back;
+    /// memory is taken for a copy of the tallies. A unit that was prepared is gone.
+    ///
+    /// Refusals: `OutOfMemory`, after which nothing has changed.
+    pub fn checkpoint_all(
+        &mut self,
+        nodes: Vec<(Key, Text)>,
+        locks: LockTable,
+    ) -> Result<(), Refusal>
+        requires nodes { nodes.items ≡ finmap.entries (after self.old.units initial).map }
+        requires locks { locks ≡ (after self.old.units initial).locks }
+        ensures units { self.new.units ≡ self.old.units }
+        ensures ends { self.new.ends ≡ self.old.ends }
+        ensures base { OnOk result (self.new.base ≡ length self.old.units) }
+        ensures prepared { OnOk result (self.new.prepared ≡ None) }
+        ensures refused { OnErr result (self.new ≡ self.old) }
+        ensures cause { IfErr result (λ refusal. refusal ≡ Refusal.OutOfMemory) }
+    {
+        match self.tallies.copy() {
+            Ok(tallies) => {
+                self.prepared = None;
+                self.log.checkpoint_all(nodes, locks, tallies);
+                Ok(())
+            }
             Err(_) => Err(Refusal::OutOfMemory),
         }
     }

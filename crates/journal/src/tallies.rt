@@ -1,39 +1,35 @@
 //! How many units each job has.
-ghost use Rattle.std.specs.Prelude.{◌≡◌, OnOk, IfOk};
-ghost use Rattle.std.specs.FinMap as finmap;
+ghost use Rattle.std.specs.Prelude.{◌≡◌, ◌<◌, ℕ, [], OnOk, IfOk, length};
 ghost use Rattle.journal.specs.Counting.{tally_in, one_more};
 
 use collation::Job;
 use std::alloc::{AllocError, Global};
-use std::collections::BTreeMap;
 use std::marker::Model;
 
-/// A number for each job that has units.
+/// A number for each job that has units, at the job's own number.
 #[derive(Drop)]
 pub(crate) struct Tallies {
-    counts: BTreeMap<u16, u64>,
+    counts: Vec<u64>,
 }
 
 impl Model for Tallies {
-    ghost use Rattle.std.specs.FinMap as finmap;
-    ghost use Rattle.std.specs.FinMap.{code};
-    ghost use Rattle.std.specs.Coded.{coded_ℕ};
+    ghost use Rattle.std.specs.Coded.{coded_ℕ, coded_list};
     ghost use Rattle.journal.specs.Counting as counting;
 
     ghost Value = { counting.Tallies };
 
-    ghost coded = { code coded_ℕ coded_ℕ };
+    ghost coded = { coded_list coded_ℕ };
 
-    ghost view = { λ t. finmap.from_entries t.counts.entries };
+    ghost view = { λ t. t.counts.items };
 }
 
 impl Tallies {
-    /// No job has a unit.
+    /// No job has a unit. Takes no memory.
     pub(crate) fn new(alloc: Global) -> Tallies
-        ensures { result ≡ finmap.empty }
+        ensures { result ≡ [] }
     {
         Tallies {
-            counts: BTreeMap::new(alloc),
+            counts: Vec::new(alloc),
         }
     }
 
@@ -41,24 +37,42 @@ impl Tallies {
     pub(crate) fn count(&self, job: Job) -> u64
         ensures { result ≡ tally_in self.now job }
     {
-        match self.counts.get(&job.number()) {
+        match self.counts.get(job.number() as usize) {
             Some(count) => *count,
             None => 0,
         }
     }
 
+    /// Room for the job's number.
+    pub(crate) fn make_room(&mut self, job: Job) -> Result<(), AllocError>
+        ensures same { (q : ℕ) → tally_in self.new q ≡ tally_in self.old q }
+        ensures one { one_more job self.new ≡ one_more job self.old }
+        ensures room { OnOk result (job < length self.new) }
+    {
+        let number = job.number() as usize;
+        while self.counts.len() <= number {
+            self.counts.push(0)?;
+        }
+        Ok(())
+    }
+
+    /// One more of the job, whose number has room. Takes no memory.
+    pub(crate) fn add(&mut self, job: Job)
+        requires { job < length self.old }
+        ensures { self.new ≡ one_more job self.old }
+    {
+        let number = job.number() as usize;
+        let count = self.counts[number].saturating_add(1);
+        self.counts[number] = count;
+    }
+
     /// One more of the job.
-    pub(crate) fn add(&mut self, job: Job) -> Result<(), AllocError>
+    pub(crate) fn count_one(&mut self, job: Job) -> Result<(), AllocError>
         ensures { OnOk result (self.new ≡ one_more job self.old) }
     {
-        let count = self.count(job).saturating_add(1);
-        match self.counts.insert(job.number(), count) {
-            Ok(_) => Ok(()),
-            Err(failed) => {
-                drop(failed);
-                Err(AllocError)
-            }
-        }
+        self.make_room(job)?;
+        self.add(job);
+        Ok(())
     }
 
     /// A copy.

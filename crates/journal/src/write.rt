@@ -9,6 +9,9 @@ ghost use Rattle.command.specs.declared.access.DataCommand.TheVariants.{Set, Kil
 ghost use Rattle.command.specs.declared.access.Answer.TheVariants.{Done, Value};
 ghost use Rattle.journal.specs.Stored.{FitsUnit, FitsString, FitsReference, FitsName, FitNames, FitsLook, FitsCommand, FitsAnswer, FitsLock, Each};
 
+use crate::buffer::{
+    make_room, push_byte, push_head, push_number, write_bytes, write_head, write_number,
+};
 use crate::exchanges::ExchangeLog;
 use collation::{Direction, Job};
 use command::{Answer, DataCommand, Look};
@@ -16,129 +19,12 @@ use key_codec::{Key, Place};
 use lock_name::{LockCommand, LockName, LockNames};
 use std::alloc::AllocError;
 
-// Makes room for so many bytes more, where there is too little: twice the memory, or where that is refused as much as is needed.
-#[inline(never)]
-fn grow(bytes: &mut Vec<u8>, more: usize) -> Result<(), AllocError>
-    ensures items { bytes.new.items ≡ bytes.old.items }
-    ensures len { vec_len bytes.new ≡ vec_len bytes.old }
-    ensures room { OnOk result (vec_len bytes.new + more ≤ vec_capacity bytes.new) }
-{
-    match bytes.reserve(more) {
-        Ok(()) => Ok(()),
-        Err(_) => bytes.reserve_exact(more),
-    }
-}
-
-// Room for so many bytes more.
-fn make_room(bytes: &mut Vec<u8>, more: usize) -> Result<(), AllocError>
-    ensures items { bytes.new.items ≡ bytes.old.items }
-    ensures len { vec_len bytes.new ≡ vec_len bytes.old }
-    ensures room { OnOk result (vec_len bytes.new + more ≤ vec_capacity bytes.new) }
-    ensures sure { vec_len bytes.old + more ≤ vec_capacity bytes.old → IsOk result }
-{
-    if more <= bytes.capacity() - bytes.len() {
-        return Ok(());
-    }
-    grow(bytes, more)
-}
-
-// These bytes, where there is room for them.
-fn write_bytes(bytes: &mut Vec<u8>, more: &[u8])
-    requires { vec_len bytes.old + length more.now ≤ vec_capacity bytes.old }
-    ensures items { bytes.new.items ≡ bytes.old.items ++ more.now }
-    ensures len { vec_len bytes.new ≡ vec_len bytes.old + length more.now }
-    ensures capacity { vec_capacity bytes.old ≤ vec_capacity bytes.new }
-{
-    match bytes.extend_from_slice(more) {
-        Ok(()) => {}
-        Err(_) => unreachable!(),
-    }
-}
-
-// A number of more than one byte, where there is room for nine.
-#[inline(never)]
-#[tactic(auto, unfolding(crate::specs::Format::number_bytes))]
-fn write_wide(bytes: &mut Vec<u8>, number: u64)
-    requires wide { 254 ≤ number }
-    requires room { vec_len bytes.old + 9 ≤ vec_capacity bytes.old }
-    ensures items { bytes.new.items ≡ bytes.old.items ++ format.number_bytes number }
-    ensures len { vec_len bytes.new ≤ vec_len bytes.old + 9 }
-    ensures capacity { vec_capacity bytes.old ≤ vec_capacity bytes.new }
-{
-    if number < 65536 {
-        bytes.push_reserved(254);
-        write_bytes(bytes, &(number as u16).to_be_bytes());
-    } else {
-        bytes.push_reserved(255);
-        write_bytes(bytes, &number.to_be_bytes());
-    }
-}
-
-// A number, where there is room for nine bytes.
-#[tactic(auto, unfolding(crate::specs::Format::number_bytes))]
-fn write_number(bytes: &mut Vec<u8>, number: u64)
-    requires { vec_len bytes.old + 9 ≤ vec_capacity bytes.old }
-    ensures items { bytes.new.items ≡ bytes.old.items ++ format.number_bytes number }
-    ensures len { vec_len bytes.new ≤ vec_len bytes.old + 9 }
-    ensures capacity { vec_capacity bytes.old ≤ vec_capacity bytes.new }
-{
-    if number < 254 {
-        bytes.push_reserved(number as u8);
-    } else {
-        write_wide(bytes, number);
-    }
-}
-
-// A unit's job and tag, where there is room for ten bytes.
-fn write_head(bytes: &mut Vec<u8>, job: Job, tag: u8)
-    requires { vec_len bytes.old + 10 ≤ vec_capacity bytes.old }
-    ensures items { bytes.new.items ≡ bytes.old.items ++ (format.number_bytes job ++ tag ∷ []) }
-    ensures len { vec_len bytes.new ≤ vec_len bytes.old + 10 }
-    ensures capacity { vec_capacity bytes.old ≤ vec_capacity bytes.new }
-    ensures low { 1 ≤ job }
-    ensures high { job ≤ most_jobs }
-{
-    write_number(bytes, u64::from(job.number()));
-    bytes.push_reserved(tag);
-}
-
-fn push_byte(bytes: &mut Vec<u8>, byte: u8) -> Result<(), AllocError>
-    ensures bytes { OnOk result (bytes.new.items ≡ bytes.old.items ++ byte ∷ []) }
-    ensures kept { GoesOnFrom bytes.old.items bytes.new.items }
-    ensures sure { vec_len bytes.old + 1 ≤ vec_capacity bytes.old → IsOk result }
-{
-    make_room(bytes, 1)?;
-    bytes.push_reserved(byte);
-    Ok(())
-}
-
-fn push_number(bytes: &mut Vec<u8>, number: u64) -> Result<(), AllocError>
-    ensures bytes { OnOk result (bytes.new.items ≡ bytes.old.items ++ format.number_bytes number) }
-    ensures kept { GoesOnFrom bytes.old.items bytes.new.items }
-    ensures sure { vec_len bytes.old + 9 ≤ vec_capacity bytes.old → IsOk result }
-{
-    make_room(bytes, 9)?;
-    write_number(bytes, number);
-    Ok(())
-}
-
-fn push_head(bytes: &mut Vec<u8>, job: Job, tag: u8) -> Result<(), AllocError>
-    ensures bytes { OnOk result (bytes.new.items ≡ bytes.old.items ++ (format.number_bytes job ++ tag ∷ [])) }
-    ensures low { OnOk result (1 ≤ job) }
-    ensures high { OnOk result (job ≤ most_jobs) }
-    ensures kept { GoesOnFrom bytes.old.items bytes.new.items }
-    ensures sure { vec_len bytes.old + 10 ≤ vec_capacity bytes.old → IsOk result }
-{
-    make_room(bytes, 10)?;
-    write_head(bytes, job, tag);
-    Ok(())
-}
-
 fn push_string(bytes: &mut Vec<u8>, string: &[u8]) -> Result<(), AllocError>
     ensures bytes { OnOk result (bytes.new.items ≡ bytes.old.items ++ format.string_bytes string.now) }
     ensures fits { FitsString string.now }
     ensures kept { GoesOnFrom bytes.old.items bytes.new.items }
     ensures sure { vec_len bytes.old + (length string.now + 9) ≤ vec_capacity bytes.old → IsOk result }
+    ensures capacity { vec_capacity bytes.old ≤ vec_capacity bytes.new }
 {
     make_room(bytes, string.len() + 9)?;
     write_number(bytes, string.len() as u64);
@@ -162,6 +48,7 @@ fn push_key(bytes: &mut Vec<u8>, key: &Key) -> Result<(), AllocError>
     ensures bytes { OnOk result (bytes.new.items ≡ bytes.old.items ++ format.reference_bytes key.now) }
     ensures fits { OnOk result (FitsReference key.now) }
     ensures kept { GoesOnFrom bytes.old.items bytes.new.items }
+    ensures capacity { vec_capacity bytes.old ≤ vec_capacity bytes.new }
 {
     push_string(bytes, without_end(key.as_slice()))
 }
@@ -170,6 +57,7 @@ fn push_name(bytes: &mut Vec<u8>, name: &LockName) -> Result<(), AllocError>
     ensures bytes { OnOk result (bytes.new.items ≡ bytes.old.items ++ format.name_bytes name.now) }
     ensures fits { OnOk result (FitsName name.now) }
     ensures kept { GoesOnFrom bytes.old.items bytes.new.items }
+    ensures capacity { vec_capacity bytes.old ≤ vec_capacity bytes.new }
 {
     push_byte(bytes, u8::from(name.has_caret()))?;
     push_key(bytes, name.key())
@@ -179,6 +67,7 @@ fn push_each(bytes: &mut Vec<u8>, names: &[LockName]) -> Result<(), AllocError>
     ensures bytes { OnOk result (bytes.new.items ≡ bytes.old.items ++ flat_map format.name_bytes names.now) }
     ensures fits { OnOk result (Each FitsName names.now) }
     ensures kept { GoesOnFrom bytes.old.items bytes.new.items }
+    ensures capacity { vec_capacity bytes.old ≤ vec_capacity bytes.new }
 {
     for name in names {
         push_name(bytes, name)?;
@@ -190,6 +79,7 @@ fn push_names(bytes: &mut Vec<u8>, names: &LockNames) -> Result<(), AllocError>
     ensures bytes { OnOk result (bytes.new.items ≡ bytes.old.items ++ format.names_bytes names.now) }
     ensures fits { OnOk result (FitNames names.now) }
     ensures kept { GoesOnFrom bytes.old.items bytes.new.items }
+    ensures capacity { vec_capacity bytes.old ≤ vec_capacity bytes.new }
 {
     let names = names.as_slice();
     push_number(bytes, names.len() as u64)?;
@@ -233,6 +123,7 @@ fn push_look(bytes: &mut Vec<u8>, look: &Look) -> Result<(), AllocError>
     ensures bytes { OnOk result (bytes.new.items ≡ bytes.old.items ++ format.look_bytes look.now) }
     ensures fits { OnOk result (FitsLook look.now) }
     ensures kept { GoesOnFrom bytes.old.items bytes.new.items }
+    ensures capacity { vec_capacity bytes.old ≤ vec_capacity bytes.new }
 {
     match look {
         Look::Data(key) => push_key(bytes, key),
@@ -262,6 +153,7 @@ fn push_command(bytes: &mut Vec<u8>, command: &DataCommand) -> Result<(), AllocE
     ensures bytes { OnOk result (bytes.new.items ≡ bytes.old.items ++ format.command_bytes command.now) }
     ensures fits { OnOk result (FitsCommand command.now) }
     ensures kept { GoesOnFrom bytes.old.items bytes.new.items }
+    ensures capacity { vec_capacity bytes.old ≤ vec_capacity bytes.new }
 {
     match command {
         DataCommand::Set(key, value) => {
@@ -293,6 +185,7 @@ fn push_answer(bytes: &mut Vec<u8>, answer: &Answer) -> Result<(), AllocError>
     ensures bytes { OnOk result (bytes.new.items ≡ bytes.old.items ++ format.answer_bytes answer.now) }
     ensures fits { OnOk result (FitsAnswer answer.now) }
     ensures kept { GoesOnFrom bytes.old.items bytes.new.items }
+    ensures capacity { vec_capacity bytes.old ≤ vec_capacity bytes.new }
 {
     match answer {
         Answer::Done => Ok(()),
@@ -319,6 +212,7 @@ fn push_tagged(
     ensures command_fits { OnOk result (FitsCommand command.now) }
     ensures answer_fits { OnOk result (FitsAnswer answer.now) }
     ensures kept { GoesOnFrom bytes.old.items bytes.new.items }
+    ensures capacity { vec_capacity bytes.old ≤ vec_capacity bytes.new }
 {
     push_command(bytes, command)?;
     push_answer(bytes, answer)
@@ -367,6 +261,7 @@ fn push_lock_names(bytes: &mut Vec<u8>, command: &LockCommand) -> Result<(), All
     ensures bytes { OnOk result (bytes.new.items ≡ bytes.old.items ++ format.lock_bytes command.now) }
     ensures fits { OnOk result (FitsLock command.now) }
     ensures kept { GoesOnFrom bytes.old.items bytes.new.items }
+    ensures capacity { vec_capacity bytes.old ≤ vec_capacity bytes.new }
 {
     match command {
         LockCommand::Release => Ok(()),
@@ -386,6 +281,7 @@ pub(crate) fn push_lone(
     ensures bytes { OnOk result (bytes.new.items ≡ bytes.old.items ++ format.unit_bytes (Lone job command.now answer.now)) }
     ensures fits { OnOk result (FitsUnit (Lone job command.now answer.now)) }
     ensures kept { GoesOnFrom bytes.old.items bytes.new.items }
+    ensures capacity { vec_capacity bytes.old ≤ vec_capacity bytes.new }
 {
     match (command, answer) {
         (DataCommand::Set(key, value), Answer::Done) => {
@@ -412,6 +308,7 @@ fn push_other(
     ensures bytes { OnOk result (bytes.new.items ≡ bytes.old.items ++ format.unit_bytes (Lone job command.now answer.now)) }
     ensures fits { OnOk result (FitsUnit (Lone job command.now answer.now)) }
     ensures kept { GoesOnFrom bytes.old.items bytes.new.items }
+    ensures capacity { vec_capacity bytes.old ≤ vec_capacity bytes.new }
 {
     push_head(bytes, job, answered_tag(command, answer))?;
     push_tagged(bytes, command, answer)
@@ -420,7 +317,8 @@ fn push_other(
 // A key without its end and a string, where there is room for them and for a length of nine bytes before each.
 fn write_pair(bytes: &mut Vec<u8>, key: &[u8], value: &[u8])
     requires { vec_len bytes.old + (length key.now + length value.now + 18) ≤ vec_capacity bytes.old }
-    ensures { bytes.new.items ≡ bytes.old.items ++ (format.string_bytes key.now ++ format.string_bytes value.now) }
+    ensures items { bytes.new.items ≡ bytes.old.items ++ (format.string_bytes key.now ++ format.string_bytes value.now) }
+    ensures capacity { vec_capacity bytes.old ≤ vec_capacity bytes.new }
 {
     write_number(bytes, key.len() as u64);
     write_bytes(bytes, key);
@@ -442,6 +340,7 @@ fn push_pair(
     ensures low { OnOk result (1 ≤ job) }
     ensures high { OnOk result (job ≤ most_jobs) }
     ensures kept { GoesOnFrom bytes.old.items bytes.new.items }
+    ensures capacity { vec_capacity bytes.old ≤ vec_capacity bytes.new }
 {
     let key = without_end(key.as_slice());
     let Some(more) = (key.len() + value.len()).checked_add(28) else {
@@ -499,6 +398,7 @@ pub(crate) fn push_set(
     ensures bytes { OnOk result (bytes.new.items ≡ bytes.old.items ++ format.unit_bytes (Lone job (Set key.now value.now) Done)) }
     ensures fits { OnOk result (FitsUnit (Lone job (Set key.now value.now) Done)) }
     ensures kept { GoesOnFrom bytes.old.items bytes.new.items }
+    ensures capacity { vec_capacity bytes.old ≤ vec_capacity bytes.new }
 {
     push_pair(bytes, job, 0, key, value)
 }
@@ -513,6 +413,7 @@ pub(crate) fn push_get(
     ensures bytes { OnOk result (bytes.new.items ≡ bytes.old.items ++ format.unit_bytes (Lone job (DataCommand.Look (Look.Get key.now None)) (Value value.now))) }
     ensures fits { OnOk result (FitsUnit (Lone job (DataCommand.Look (Look.Get key.now None)) (Value value.now))) }
     ensures kept { GoesOnFrom bytes.old.items bytes.new.items }
+    ensures capacity { vec_capacity bytes.old ≤ vec_capacity bytes.new }
 {
     push_pair(bytes, job, 17, key, value)
 }
@@ -528,6 +429,7 @@ pub(crate) fn push_order(
     ensures bytes { OnOk result (bytes.new.items ≡ bytes.old.items ++ format.unit_bytes (Lone job (DataCommand.Look (Look.Order place.now direction)) (Value value.now))) }
     ensures fits { OnOk result (FitsUnit (Lone job (DataCommand.Look (Look.Order place.now direction)) (Value value.now))) }
     ensures kept { GoesOnFrom bytes.old.items bytes.new.items }
+    ensures capacity { vec_capacity bytes.old ≤ vec_capacity bytes.new }
 {
     let tag = 4 * order_kind(place, direction) + 1;
     push_pair(bytes, job, tag, place.key(), value)
@@ -538,6 +440,7 @@ pub(crate) fn push_kill(bytes: &mut Vec<u8>, job: Job, key: &Key) -> Result<(), 
     ensures bytes { OnOk result (bytes.new.items ≡ bytes.old.items ++ format.unit_bytes (Lone job (Kill key.now) Done)) }
     ensures fits { OnOk result (FitsUnit (Lone job (Kill key.now) Done)) }
     ensures kept { GoesOnFrom bytes.old.items bytes.new.items }
+    ensures capacity { vec_capacity bytes.old ≤ vec_capacity bytes.new }
 {
     push_head(bytes, job, 4)?;
     push_key(bytes, key)
@@ -554,6 +457,7 @@ pub(crate) fn push_lock(
     ensures bytes { OnOk result (bytes.new.items ≡ bytes.old.items ++ format.unit_bytes (Lock job inside command.now had)) }
     ensures fits { OnOk result (FitsUnit (Lock job inside command.now had)) }
     ensures kept { GoesOnFrom bytes.old.items bytes.new.items }
+    ensures capacity { vec_capacity bytes.old ≤ vec_capacity bytes.new }
 {
     push_head(bytes, job, 4 * lock_kind(command) + lock_flags(inside, had))?;
     push_lock_names(bytes, command)
@@ -564,6 +468,7 @@ pub(crate) fn push_back(bytes: &mut Vec<u8>, job: Job) -> Result<(), AllocError>
     ensures bytes { OnOk result (bytes.new.items ≡ bytes.old.items ++ format.unit_bytes (Back job)) }
     ensures fits { OnOk result (FitsUnit (Back job)) }
     ensures kept { GoesOnFrom bytes.old.items bytes.new.items }
+    ensures capacity { vec_capacity bytes.old ≤ vec_capacity bytes.new }
 {
     push_head(bytes, job, 57)
 }
@@ -573,8 +478,20 @@ pub(crate) fn push_end(bytes: &mut Vec<u8>, job: Job) -> Result<(), AllocError>
     ensures bytes { OnOk result (bytes.new.items ≡ bytes.old.items ++ format.unit_bytes (End job)) }
     ensures fits { OnOk result (FitsUnit (End job)) }
     ensures kept { GoesOnFrom bytes.old.items bytes.new.items }
+    ensures capacity { vec_capacity bytes.old ≤ vec_capacity bytes.new }
 {
     push_head(bytes, job, 58)
+}
+
+// The same, where there is room for ten bytes.
+pub(crate) fn write_end(bytes: &mut Vec<u8>, job: Job)
+    requires { vec_len bytes.old + 10 ≤ vec_capacity bytes.old }
+    ensures bytes { bytes.new.items ≡ bytes.old.items ++ format.unit_bytes (End job) }
+    ensures fits { FitsUnit (End job) }
+    ensures len { vec_len bytes.new ≤ vec_len bytes.old + 10 }
+    ensures capacity { vec_capacity bytes.old ≤ vec_capacity bytes.new }
+{
+    write_head(bytes, job, 58);
 }
 
 // The unit of a transaction, from its exchanges' bytes.
@@ -586,6 +503,7 @@ pub(crate) fn push_whole(
     ensures bytes { OnOk result (bytes.new.items ≡ bytes.old.items ++ format.unit_bytes (Whole job exchanges.now)) }
     ensures fits { OnOk result (FitsUnit (Whole job exchanges.now)) }
     ensures kept { GoesOnFrom bytes.old.items bytes.new.items }
+    ensures capacity { vec_capacity bytes.old ≤ vec_capacity bytes.new }
 {
     let text = exchanges.as_slice();
     make_room(bytes, text.len() + 19)?;

@@ -1,14 +1,14 @@
 -- The steps again, for a seat of which its role is known.
-use Rattle.std.proofs.Common.{◌≡◌, ◌==◌, ℕ, ◌+◌, ◌<◌, max, true, false, length, sym, subst}
+use Rattle.std.proofs.Common.{◌≡◌, ◌==◌, ℕ, ◌+◌, ◌<◌, max, true, false, [], length, sym, subst}
 use mathlib.Core.Option.{some, none}
 use prog.Atomic.{either}
 use Rattle.atomic_table.specs.Table.{step, Allows, Splits, Joins}
 use Rattle.journal.specs.Kept.{Claim}
-use Rattle.pin_board.specs.Views.{SeatState, idle, IsPin, IsDesk, IsBoth, IsSlip, IsTally, pin_in, desk_in, desk_only, slip_only, nobody}
+use Rattle.pin_board.specs.Views.{SeatState, idle, IsPin, IsDesk, IsBoth, IsSlip, IsTally, pin_in, desk_in, desk_only, slip_only, pin_only, nobody, nowhere}
 use Rattle.pin_board.specs.Slips.{IsNext}
 use Rattle.pin_board.specs.Rule.{slot_word, BoardRule}
-use Rattle.pin_board.specs.Steps.{clocks, stores, checks, rests, begins, lifts, passes, draws, writes, rebases, settles, meets, gives_slip, learns, left_of, right_of, lent_of, own_of, back_of, kept_of, slip_of, added_of}
-use Rattle.pin_board.proofs.StepLemmas.{clocks_kept, stores_kept, checks_kept, rests_kept, begins_kept, lifts_kept, passes_kept, draws_kept, deals_kept, lends_kept, writes_kept, rebases_kept, settles_kept, meets_kept, gives_back_kept, gives_slip_kept, takes_slip_kept, adds_kept, learns_kept}
+use Rattle.pin_board.specs.Steps.{clocks, stores, checks, rests, begins, lifts, passes, draws, writes, rebases, settles, meets, gives_slip, learns, left_of, right_of, lent_of, own_of, back_of, kept_of, slip_of, added_of, clashed_of, never}
+use Rattle.pin_board.proofs.StepLemmas.{clocks_kept, stores_kept, checks_kept, rests_kept, begins_kept, lifts_kept, passes_kept, draws_kept, deals_kept, lends_kept, writes_kept, rebases_kept, settles_kept, meets_kept, gives_back_kept, gives_slip_kept, takes_slip_kept, adds_kept, learns_kept, clashes_kept, never_kept}
 
 module _ (seats slots id : ℕ) (m : SeatState) (is : IsPin m) where
   pub clocks_at : (pin_in m.0).settled ≡ false → Allows (BoardRule seats) slots id m 0 (λ n. n) (clocks (step slots 0 0 0 none) m)
@@ -54,6 +54,13 @@ module _ (seats slots id : ℕ) (m : SeatState) (is : IsDesk m) where
 pub lends_at : (seats id other : ℕ) (m n : SeatState) → IsPin m → IsDesk n → Joins (BoardRule seats) id m.0 other n.0 (lent_of m.0 n.0) nobody
 lends_at seats id other m n is there = subst (λ (x : SeatState). Joins (BoardRule seats) id m.0 other x.0 (lent_of m.0 x.0) nobody) (sym there)
     (subst (λ (z : SeatState). Joins (BoardRule seats) id z.0 other (desk_only (desk_in n.0)) (lent_of z.0 (desk_only (desk_in n.0))) nobody) (sym is) (lends_kept seats id other (pin_in m.0) (desk_in n.0)))
+
+pub clashes_at : (seats id other : ℕ) (m n : SeatState) → IsPin m → IsPin n → (pin_in n.0).place ≡ (pin_in m.0).place → Joins (BoardRule seats) id m.0 other n.0 (clashed_of m.0 n.0) nobody
+clashes_at seats id other m n is there same = subst (λ (x : SeatState). Joins (BoardRule seats) id m.0 other x.0 nowhere nobody) (sym there)
+    (subst (λ (z : SeatState). Joins (BoardRule seats) id z.0 other (pin_only (pin_in n.0)) nowhere nobody) (sym is) (clashes_kept seats id other (pin_in m.0) (pin_in n.0) nowhere same))
+
+pub never_at : (seats slots id : ℕ) (m : SeatState) → m ≡ (nowhere, []) → Allows (BoardRule seats) slots id m 0 (λ n. n) (never (step slots 0 0 0 none) m)
+never_at seats slots id m is = subst (λ (v : SeatState). Allows (BoardRule seats) slots id v 0 (λ n. n) (never (step slots 0 0 0 none) v)) (sym is) (never_kept seats slots id)
 
 module _ (seats slots id : ℕ) (m : SeatState) (is : IsBoth m) where
   pub writes_at : (c : Claim) (old new : ℕ) → IsNext (desk_in m.0).log c → (pin_in m.0).slips ≡ 1 → old ≡ length (desk_in m.0).log → new ≡ length (desk_in m.0).log + 1

@@ -21,9 +21,9 @@ use Rattle.pin_board.specs.declared.view.PinView.{PinView}
 use Rattle.pin_board.specs.declared.view.SeatView.{SeatView}
 use Rattle.pin_board.specs.Slips.{AreInJournal, IsBeginning, IsNext, SlipFacts, SlipsAddUp}
 use Rattle.pin_board.proofs.SlipLemmas.{slips_same, slips_given, slips_written, slips_beside, slips_off, slips_joined, slips_all, slips_few, writes_nothing, begins_itself, begins_longer}
-use Rattle.pin_board.specs.Views.{idle, least, new_desk, new_pin, desk_only, pin_only, pin_with_desk, slip_only, tally_only, nobody, starting, desk_or, pin_or, clocked, stored, checked, rested, began, lifted, passed, drew, dealt_one, logged, wrote, rebased, aware, settled_now, gave, with_slip, without_slip}
+use Rattle.pin_board.specs.Views.{idle, least, new_desk, new_pin, desk_only, pin_only, pin_with_desk, slip_only, tally_only, nobody, starting, desk_or, pin_or, clocked, stored, checked, rested, began, lifted, passed, drew, dealt_one, logged, wrote, rebased, aware, settled_now, gave, with_slip, without_slip, nowhere}
 use Rattle.pin_board.specs.Rule.{slot_word, DeskFacts, IsSettled, PinFacts, SeatFacts, BoardRule}
-use Rattle.pin_board.specs.Steps.{clocks, stores, checks, rests, begins, lifts, passes, draws, writes, rebases, settles, meets, gives_slip, learns}
+use Rattle.pin_board.specs.Steps.{clocks, stores, checks, rests, begins, lifts, passes, draws, writes, rebases, settles, meets, gives_slip, learns, never}
 
 abbrev St : Type 0
 St = State Claim SeatView
@@ -518,7 +518,7 @@ module _ (seats slots id : ℕ) (d : DeskView) (p : PinView) where
             (record { placed = own.placed; alone = own.alone; held = own.held; before = le_refl (length d.log); base = sym (take_all (length d.log) d.log (le_refl (length d.log))); seen = begins_itself d.log; settled = λ e. let z = own.settled e in let y = z.within in record { within = omega arith; high = z.high; passed = z.passed } })
             (λ j q o. o)
             (slips_same d.log d.given s.views id (pin_with_desk d p) (both_slips seats slots id d p s r at) at (pin_with_desk d (rebased d p)) refl refl refl)),
-        (refl, k.clock_is, record { below = λ e. let z = own.settled e in le_trans z.high z.within; slot = λ e. let z = own.settled e in (z.high, z.within); before = own.before; base = own.base; mine = both_in_journal seats slots id d p s r at; seen = own.seen; high = k.high_now; floor = k.floor_now }),
+        (refl, k.clock_is, record { below = λ e. let z = own.settled e in le_trans z.high z.within; slot = λ e. let z = own.settled e in (z.high, z.within); before = own.before; base = own.base; mine = both_in_journal seats slots id d p s r at; seen = own.seen; high = k.high_now; floor = k.floor_now; placed = own.placed }),
       )
 
   -- no draw goes on meanwhile: the least so far is not above the clock
@@ -563,7 +563,7 @@ module _ (seats slots id : ℕ) (d : DeskView) (p : PinView) where
             (record { placed = own.placed; alone = own.alone; held = own.held; before = own.before; base = own.base; seen = begins_itself d.log; settled = λ e. let z = own.settled e in record { within = z.within; high = z.high; passed = z.passed } })
             (λ j q o. o)
             (slips_same d.log d.given s.views id (pin_with_desk d p) (both_slips seats slots id d p s r at) at (pin_with_desk d (aware d p)) refl refl refl)),
-        (refl, record { below = λ e. let z = own.settled e in le_trans z.high z.within; slot = λ e. let z = own.settled e in (z.high, z.within); before = own.before; base = own.base; mine = both_in_journal seats slots id d p s r at; seen = own.seen; high = k.high_now; floor = k.floor_now }),
+        (refl, record { below = λ e. let z = own.settled e in le_trans z.high z.within; slot = λ e. let z = own.settled e in (z.high, z.within); before = own.before; base = own.base; mine = both_in_journal seats slots id d p s r at; seen = own.seen; high = k.high_now; floor = k.floor_now; placed = own.placed }),
       )
 
   pub gives_slip_kept : p.slips ≡ 0 → Allows (BoardRule seats) slots id (pin_with_desk d p, []) 0 (λ n. n) (gives_slip (step slots 0 0 0 none) (pin_with_desk d p, []))
@@ -655,6 +655,16 @@ learns_kept seats slots id d n back known s r deep at small =
       subst (λ (x : List ℕ × List SeatView). BoardRule seats record { words = x.0; homes = s.homes; views = x.1 }) (λ i. (sym (set-get_or s.words 0 0) i, sym (set_again s.views id (tally_only d n back known) at) i)) r,
       (refl, ((k.writes id (tally_only d n back known) at).in_journal, (λ all. slips_all d.log d.given s.views id (tally_only d n back known) k at all, (slips_few d.log d.given s.views id (tally_only d n back known) k at, (k.writes id (tally_only d n back known) at).known)))),
     )
+
+-- two sessions' seats are never at one place
+pub clashes_kept : (seats id other : ℕ) (p q : PinView) (both : SeatView) → q.place ≡ p.place → Joins (BoardRule seats) id (pin_only p) other (pin_only q) both nobody
+clashes_kept seats id other p q both same s r at apart there =
+    let was : get_elem? s.views other ≡ some (pin_only q) = ⊎_elim (λ (t : (other ≡ id) × (both ≡ pin_only q)). absurd (apart t.0)) (λ (t : (other ≢ id) × (get_elem? s.views other ≡ some (pin_only q))). t.1) (at_set s.views id other both (pin_only q) there) in
+    absurd (apart (sym ((r.each other (pin_only q) was).pins q refl).alone ∙ ap r.owner same ∙ ((r.each id (pin_only p) at).pins p refl).alone))
+
+-- a seat that can't be does no step
+pub never_kept : (seats slots id : ℕ) → Allows (BoardRule seats) slots id (nowhere, []) 0 (λ n. n) (never (step slots 0 0 0 none) (nowhere, []))
+never_kept seats slots id s r deep at small = let none_there : nowhere.back ≡ [] = (r.slips.writes id nowhere at).empty refl in absurd (omega (arith, ap length none_there))
 
 single : (v u : SeatView) (j : ℕ) → get_elem? (v ∷ []) j ≡ some u → (j ≡ 0) × (v ≡ u)
 single v u zero e = (refl, some-injective v u e)

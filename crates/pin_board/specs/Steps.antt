@@ -5,7 +5,7 @@ use Rattle.atomic_table.specs.Table.{Step}
 use Rattle.journal.specs.Kept.{Claim}
 use Rattle.pin_board.specs.declared.view.SeatView.{SeatView}
 use Rattle.pin_board.specs.Slips.{AreInJournal, IsBeginning}
-use Rattle.pin_board.specs.Views.{SeatState, Met, Learned, pin_in, desk_in, pin_only, desk_only, pin_with_desk, slip_only, tally_only, clocked, stored, checked, rested, began, lifted, passed, drew, dealt_one, new_pin, logged, wrote, rebased, aware, settled_now, gave, with_slip, without_slip}
+use Rattle.pin_board.specs.Views.{SeatState, Met, Learned, pin_in, desk_in, pin_only, desk_only, pin_with_desk, slip_only, tally_only, clocked, stored, checked, rested, began, lifted, passed, drew, dealt_one, new_pin, logged, wrote, rebased, aware, settled_now, gave, with_slip, without_slip, nowhere}
 
 -- a session reads the clock: its base is the journal of that moment, and its units are in it
 abbrev pub clocks : Step Claim → SeatState → ℕ → SeatState → Type 0
@@ -93,3 +93,10 @@ slip_of v = slip_only (pin_in v).mine ((pin_in v).seen ∷ [])
 
 abbrev pub added_of : SeatView → SeatView → SeatView
 added_of v w = tally_only (desk_in v) (v.slips + w.slips) (v.back ++ w.back) (v.known ++ w.known)
+
+-- two seats at one place would be a seat that can't be, which does no step
+abbrev pub clashed_of : SeatView → SeatView → SeatView
+clashed_of v w = nowhere
+
+abbrev pub never : Step Claim → SeatState → ℕ → SeatState → Type 0
+never st m n m' = ⊥

@@ -1,8 +1,9 @@
 -- What seats know, and how each call changes it. The contracts of the board cite this file.
-use Rattle.std.specs.Prelude.{◌≡◌, ℕ, ◌+◌, ◌≤◌, ltb, min, max, true, false, cond, List, [], ◌∷◌, ◌++◌, length, take, Option, Some, None}
+use Rattle.std.specs.Prelude.{◌≡◌, ℕ, ◌+◌, ◌<◌, ◌≤◌, ltb, min, max, true, false, cond, List, [], ◌∷◌, ◌++◌, length, take, Option, Some, None}
 use Rattle.std.specs.List.{fold, All}
 use Rattle.atomic_table.specs.Table.{Me}
 use Rattle.journal.specs.declared.unit.Unit.{Unit as JournalUnit}
+use Rattle.journal.specs.declared.unit.Unit.TheVariants.{End}
 use Rattle.journal.specs.Kept.{Claim}
 use Rattle.pin_board.specs.declared.view.DeskView.{DeskView}
 use Rattle.pin_board.specs.declared.view.PinView.{PinView}
@@ -89,8 +90,8 @@ with_slip d p = record p { slips = 1; seen = d.log }
 abbrev pub without_slip : PinView → PinView
 without_slip p = record p { slips = 0; mine = [] }
 
--- what a session learns under the lock: no horizon is above its stamp, its base begins the journal, and neither a horizon
--- nor the floor is above the number of units
+-- what a session learns under the lock: no horizon is above its stamp, its base begins the journal, neither a horizon nor
+-- the floor is above the number of units, and its seat was dealt
 pub record Met (d : DeskView) (p : PinView) : Type 0 where
   pub below : p.settled ≡ true → d.high ≤ length p.base
   pub slot : p.settled ≡ true → (d.high ≤ p.held) × (p.held ≤ length p.base)
@@ -100,10 +101,15 @@ pub record Met (d : DeskView) (p : PinView) : Type 0 where
   pub seen : IsBeginning d.log p.seen
   pub high : d.high ≤ length d.log
   pub floor : d.floor ≤ length d.log
+  pub placed : p.place < d.dealt
 
 -- the units on the slips that came back are in the journal, and where all came back they are all of it; no more came back than were given
 abbrev pub Learned : DeskView → ℕ → List Claim → List (List JournalUnit) → Type 0
 Learned d n back known = AreInJournal d.log back × ((n ≡ d.given → AreAll d.log back) × ((n ≤ d.given) × All (IsBeginning d.log) known))
+
+-- a seat that can't be: it has a unit, and no slip on which that would be
+abbrev pub nowhere : SeatView
+nowhere = record { desk = None; pin = None; slips = 0; back = record { job = 0; number = 0; unit = End 0 } ∷ []; known = [] }
 
 -- which seat it is
 abbrev pub desk_only : DeskView → SeatView

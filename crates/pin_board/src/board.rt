@@ -1,5 +1,5 @@
 //! The board, the desk and the seats of sessions, each tied to one table by its type.
-ghost use Rattle.std.specs.Prelude.{◌≡◌, ℕ, ◌+◌, ◌<◌, ◌≤◌, max, true, false, List, [], ◌∷◌, ◌++◌, length, take, IfOk, OnErr, Option, Some, None};
+ghost use Rattle.std.specs.Prelude.{◌≡◌, ◌≢◌, ℕ, ◌+◌, ◌<◌, ◌≤◌, max, true, false, List, [], ◌∷◌, ◌++◌, length, take, IfOk, OnErr, Option, Some, None};
 ghost use Rattle.std.specs.List.{All};
 ghost use Rattle.pin_board.specs.Slips.{AreInJournal, IsBeginning, AreAll, IsNext};
 ghost use Rattle.pin_board.specs.Tally.{tallied, slipped};
@@ -433,9 +433,9 @@ impl<B: BoardName> Board<B> {
     }
 
     /// Shows that no horizon is above the session's stamp, that its base and all that it has seen begin the journal,
-    /// that its units are in the journal, and that the floor isn't above the number of all units. From then on it has
-    /// seen the whole journal; nothing else changes. Sessions that share the lock may meet the desk in turn. Takes no
-    /// memory.
+    /// that its units are in the journal, that the floor isn't above the number of all units, and that its seat was
+    /// dealt. From then on it has seen the whole journal; nothing else changes. Sessions that share the lock may meet the
+    /// desk in turn. Takes no memory.
     pub fn meet<R: Wait>(&self, rt: &R, desk: &Desk<B>, pin: &mut Pin<B>)
         ensures pin { pin.new ≡ aware desk.now pin.old }
         ensures met { Met desk.now pin.old }
@@ -443,6 +443,18 @@ impl<B: BoardName> Board<B> {
         let loan = self.words.borrow_desk(rt, &desk.perch, &mut pin.seat);
         self.words.meet(&mut pin.seat);
         self.words.return_desk(&desk.perch, &mut pin.seat, loan);
+    }
+
+    /// Shows that a seat that no session has isn't at the place of this session's: no two seats are at one place. Takes no
+    /// memory.
+    pub fn part<R: Wait>(&self, rt: &R, pin: &mut Pin<B>, seat: &FreeSeat<B>)
+        ensures same { pin.new ≡ pin.old }
+        ensures apart { seat.now ≢ pin.old.place }
+    {
+        if seat.place == pin.place {
+            let other = lift(rt, &seat.perch);
+            self.words.clash(&mut pin.seat, other);
+        }
     }
 
     /// Draws a horizon: the least of the clock and of the stamps in the slots of all seats dealt. The floor is raised

@@ -1,5 +1,5 @@
 //! The kinds of atomic steps, and what each tells: `specs/Steps.antt`.
-ghost use Rattle.pin_board.specs.Steps.{clocks, stores, checks, rests, begins, lifts, passes, draws, writes, rebases, settles, meets, gives_slip, learns, kept_of, slip_of, added_of, left_of, right_of, lent_of, own_of, back_of};
+ghost use Rattle.pin_board.specs.Steps.{clocks, stores, checks, rests, begins, lifts, passes, draws, writes, rebases, settles, meets, gives_slip, learns, kept_of, slip_of, added_of, left_of, right_of, lent_of, own_of, back_of, clashed_of, never};
 ghost use Rattle.pin_board.specs.Views.{nobody};
 
 use crate::view::SeatView;
@@ -128,4 +128,18 @@ impl Split<SeatView> for GiveBack {
     ghost left = { own_of };
 
     ghost right = { back_of };
+}
+
+pub(crate) struct Clash;
+
+impl Join<SeatView> for Clash {
+    ghost both = { clashed_of };
+
+    ghost spent = { nobody };
+}
+
+pub(crate) struct Never;
+
+impl Play<Receipt, SeatView> for Never {
+    ghost then = { never };
 }

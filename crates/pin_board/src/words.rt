@@ -8,8 +8,8 @@ ghost use Rattle.pin_board.specs.Slips.{AreInJournal, IsBeginning, IsNext};
 ghost use Rattle.pin_board.specs.Views.{IsPin, IsDesk, IsBoth, IsSlip, IsTally, Met, Learned, pin_in, desk_in, pin_only, desk_only, pin_with_desk, slip_only, tally_only, clocked, stored, checked, rested, began, lifted, passed, drew, new_pin, new_desk, dealt_one, starting, least, idle, logged, wrote, rebased, aware, settled_now, gave, with_slip, without_slip};
 
 use crate::step_kinds::{
-    Begin, CheckFloor, Deal, Draw, GiveBack, GiveSlip, Learn, Lend, Lift, Meet, Pass, ReadClock,
-    Rebase, Rest, ReturnSlip, SettleNow, Store, TakeSlip, Write,
+    Begin, CheckFloor, Clash, Deal, Draw, GiveBack, GiveSlip, Learn, Lend, Lift, Meet, Never, Pass,
+    ReadClock, Rebase, Rest, ReturnSlip, SettleNow, Store, TakeSlip, Write,
 };
 use crate::view::{BoardRules, SeatView};
 use atomic_table::{Seat, Table};
@@ -299,6 +299,18 @@ impl Words {
         // What the clock holds is of no use here: the step is there for the rule. Only who has the desk writes units or
         // draws horizons, and that is this seat.
         self.table.shared.load::<Meet>(seat, CLOCK);
+    }
+
+    /// Two seats would be at one place, which can't be.
+    pub(crate) fn clash(&self, seat: &mut Place, other: Place)
+        requires own { (seat.old.table_id ≡ self.now.table.shared.table_id) × (other.table_id ≡ self.now.table.shared.table_id) }
+        requires pins { IsPin seat.old.me × IsPin other.me }
+        requires place { (pin_in other.me.0).place ≡ (pin_in seat.old.me.0).place }
+        ensures never { ⊥ }
+    {
+        self.table.shared.join_seat::<Clash>(seat, other);
+        // What the clock holds is of no use here: the step is there for the rule.
+        self.table.shared.load::<Never>(seat, CLOCK);
     }
 
     /// All slots are loaded: the least so far is a horizon.

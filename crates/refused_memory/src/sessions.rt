@@ -21,15 +21,20 @@ mod lines;
 // How many keys a turn of the collector looks at.
 const KEYS: usize = 8;
 
-// How many calls of the engine were refused memory.
+// How many calls of the engine were refused memory, and how many of them were HALTs, which take none.
 #[derive(Clone, Copy, Debug)]
 struct Tried {
     refused: u64,
+    halts: u64,
 }
 
 impl Tried {
     fn note(&mut self) {
         self.refused = self.refused.wrapping_add(1);
+    }
+
+    fn note_halt(&mut self) {
+        self.halts = self.halts.wrapping_add(1);
     }
 }
 
@@ -141,7 +146,7 @@ fn collect<B: BoardName, R: Wait>(
     Ok(())
 }
 
-// Ends a session, at the second try where memory is refused.
+// Ends a session. It is noted where that is refused.
 fn halt<B: BoardName, R: Wait>(
     rt: &R,
     engine: &Shared<B>,
@@ -151,7 +156,7 @@ fn halt<B: BoardName, R: Wait>(
     match engine.halt(rt, session) {
         Ok(pass) => Ok(pass),
         Err((session, _)) => {
-            tried.note();
+            tried.note_halt();
             match engine.halt(rt, session) {
                 Ok(pass) => Ok(pass),
                 Err((_, refusal)) => Err(refusal),
@@ -257,6 +262,7 @@ fn run<B: BoardName, R: Wait>(
     let has_receipts = has_numbers(&passes, 1, &FIRST) && has_numbers(&passes, 2, &SECOND);
     let closed = engine.finish(rt, passes);
     match other {
+        Ok(None) if tried.halts > 0 => Ok(Some("a HALT")),
         Ok(None) if has_receipts => closed_difference(alloc, &closed),
         Ok(None) => Ok(Some("receipts")),
         other => other,
@@ -270,7 +276,10 @@ pub fn difference<R: Wait>(
     refused: &mut u64,
 ) -> Result<Option<&'static str>, Refusal> {
     let blank = Blank::new(alloc, SEATS)?;
-    let mut tried = Tried { refused: 0 };
+    let mut tried = Tried {
+        refused: 0,
+        halts: 0,
+    };
     let what = run::<Brand, _>(rt, alloc, blank, &mut tried)?;
     *refused = refused.saturating_add(tried.refused);
     Ok(what)

@@ -148,6 +148,14 @@ fn prepare_lock(alloc: Global, journal: &mut Journal, n: u64) -> Result<(), Refu
     prepared
 }
 
+// The end of a session, in room that was kept for it before.
+fn prepare_kept_end(journal: &mut Journal, job: Job) -> Result<(), Refusal>
+    ensures { OnOk result (IsSome journal.new.prepared) }
+{
+    journal.keep_end()?;
+    journal.prepare_kept_end(job)
+}
+
 fn prepare(alloc: Global, journal: &mut Journal, n: u64) -> Result<(), Refusal>
     ensures { OnOk result (IsSome journal.new.prepared) }
 {
@@ -156,7 +164,8 @@ fn prepare(alloc: Global, journal: &mut Journal, n: u64) -> Result<(), Refusal>
         1 => prepare_whole(alloc, journal, n),
         2 => prepare_lock(alloc, journal, n),
         3 => journal.prepare_back(job_of(n)?),
-        _ => journal.prepare_end(job_of(n)?),
+        _ if n % 2 == 0 => journal.prepare_end(job_of(n)?),
+        _ => prepare_kept_end(journal, job_of(n)?),
     }
 }
 

@@ -18,4 +18,4 @@ invariant_of-result c =
 pub returns : goal.returns
 returns c =
     has_adopted c.args.store c.raise_cut.new.self c.args.nodes.items c.adopt.result.units c.adopt.result.base c.now-number.result c.now-number.ensures.nothing c.now-number.type_inv c.now-number.ensures.present
-    c.now-number.ensures.cut c.in-Ok.ensures.ok c.requires c.adopt.ensures.units c.adopt.ensures.base
+    c.now-number.ensures.cut c.in-Ok.ensures.ok c.requires c.adopt.ensures.units c.adopt.ensures.base c.adopt.result.ends c.adopt.ensures.ends

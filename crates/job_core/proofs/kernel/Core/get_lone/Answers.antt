@@ -31,7 +31,7 @@ invariant_of-self c =
     let unit : Database → JournalUnit = λ m. Lone c.args.job (Look (Get c.args.key.now None)) (Value (value_at c.args.key.now m)) in
     let wrote = c.write_none-receipt.ensures in
     let added : HasAdded (unit (content_now store)) c.write_none-receipt.result c.args.oldest old new = added_quiet c.prepare_got.new.journal.prepared (unit (content_now store)) c.write_none-receipt.result c.args.oldest old new c.prepare_got.new.journal.units c.in-Ok.ensures.prepared c.prepare_got.ensures.units
-    wrote.units (wrote.base ∙ c.prepare_got.ensures.base) wrote.receipt wrote.cut wrote.agreed wrote.versions wrote.mark in
+    wrote.units (wrote.base ∙ c.prepare_got.ensures.base) (wrote.ends ∙ c.prepare_got.ensures.ends) wrote.receipt wrote.cut wrote.agreed wrote.versions wrote.mark in
     core_added (unit (content_now store)) c.write_none-receipt.result c.args.oldest old new c.self.inside.locks c.self.inside.locks c.self.inside.passing c.self.invariant added c.self.invariant.locks refl
 
 pub returns-in-Ok-clause-added : goal.returns-in-Ok-clause-added
@@ -44,7 +44,7 @@ returns-in-Ok-clause-added c =
     let wrote = c.write_none-receipt.ensures in
     let now = agreed_now store units c.self.invariant.agreed in
     rw (← c.self.view_is) (added_quiet c.prepare_got.new.journal.prepared (unit (after units initial).map) c.write_none-receipt.result c.args.oldest old new c.prepare_got.new.journal.units (c.in-Ok.ensures.prepared ∙ ap (λ m. Some (unit m)) now) c.prepare_got.ensures.units
-    wrote.units (wrote.base ∙ c.prepare_got.ensures.base) wrote.receipt wrote.cut wrote.agreed wrote.versions wrote.mark)
+    wrote.units (wrote.base ∙ c.prepare_got.ensures.base) (wrote.ends ∙ c.prepare_got.ensures.ends) wrote.receipt wrote.cut wrote.agreed wrote.versions wrote.mark)
 
 pub returns-in-Ok-clause-got : goal.returns-in-Ok-clause-got
 returns-in-Ok-clause-got c =
@@ -57,7 +57,7 @@ returns-in-Ok-clause-got c =
     let now = agreed_now store units c.self.invariant.agreed in
     rw (← c.self.view_is) (just_got (value_at c.args.key.now (after units initial).map) c.write_none-receipt.result c.args.oldest c.args.job (Get c.args.key.now None) old new
     (added_quiet c.prepare_got.new.journal.prepared (unit (after units initial).map) c.write_none-receipt.result c.args.oldest old new c.prepare_got.new.journal.units (c.in-Ok.ensures.prepared ∙ ap (λ m. Some (unit m)) now) c.prepare_got.ensures.units
-    wrote.units (wrote.base ∙ c.prepare_got.ensures.base) wrote.receipt wrote.cut wrote.agreed wrote.versions wrote.mark) c.self.invariant.within)
+    wrote.units (wrote.base ∙ c.prepare_got.ensures.base) (wrote.ends ∙ c.prepare_got.ensures.ends) wrote.receipt wrote.cut wrote.agreed wrote.versions wrote.mark) c.self.invariant.within)
 
 pub returns-in-Ok-clause-size : goal.returns-in-Ok-clause-size
 returns-in-Ok-clause-size c =

@@ -37,7 +37,7 @@ invariant_of-self c =
     let unit : Database → JournalUnit = λ m. Lone c.args.job (Look (Order c.args.place.now c.args.direction)) (Value (order_of (is_forward c.args.direction) c.args.place.now m)) in
     let wrote = c.write_none-told.ensures in
     let added : HasAdded (unit (content_now store)) c.write_none-told.result c.args.oldest (common_of store c.self.inside.journal) (common_of c.write_none-told.new.store c.write_none-told.new.journal) = added_quiet c.prepare_ordered.new.journal.prepared (unit (content_now store)) c.write_none-told.result c.args.oldest _ _ c.prepare_ordered.new.journal.units c.in-Ok.ensures.prepared c.prepare_ordered.ensures.units
-    wrote.units (wrote.base ∙ c.prepare_ordered.ensures.base) wrote.receipt wrote.cut wrote.agreed wrote.versions wrote.mark in
+    wrote.units (wrote.base ∙ c.prepare_ordered.ensures.base) (wrote.ends ∙ c.prepare_ordered.ensures.ends) wrote.receipt wrote.cut wrote.agreed wrote.versions wrote.mark in
     let empty = subst (AreEmpty c.seek_order.new.self) (agreed_now store units c.self.invariant.agreed) c.seek_order.ensures in
     core_unit store c.write_none-told.new.store units c.write_none-told.new.journal.units c.self.inside.journal.base c.write_none-told.new.journal.base c.self.inside.locks c.self.inside.locks c.self.inside.passing c.seek_order.new.self (unit (content_now store)) c.self.invariant added.units added.base added.agreed c.self.invariant.locks empty
 
@@ -58,7 +58,7 @@ returns-in-Ok-clause-added c =
     let wrote = c.write_none-told.ensures in
     let now = agreed_now store units c.self.invariant.agreed in
     rw (← c.self.view_is) (added_quiet c.prepare_ordered.new.journal.prepared (unit (after units initial).map) c.write_none-told.result c.args.oldest old new c.prepare_ordered.new.journal.units (c.in-Ok.ensures.prepared ∙ ap (λ m. Some (unit m)) now) c.prepare_ordered.ensures.units
-    wrote.units (wrote.base ∙ c.prepare_ordered.ensures.base) wrote.receipt wrote.cut wrote.agreed wrote.versions wrote.mark)
+    wrote.units (wrote.base ∙ c.prepare_ordered.ensures.base) (wrote.ends ∙ c.prepare_ordered.ensures.ends) wrote.receipt wrote.cut wrote.agreed wrote.versions wrote.mark)
 
 pub returns-in-Ok-clause-got : goal.returns-in-Ok-clause-got
 returns-in-Ok-clause-got c =
@@ -71,7 +71,7 @@ returns-in-Ok-clause-got c =
     let now = agreed_now store units c.self.invariant.agreed in
     rw (← c.self.view_is) (just_got (order_of (is_forward c.args.direction) c.args.place.now (after units initial).map) c.write_none-told.result c.args.oldest c.args.job (Order c.args.place.now c.args.direction) old new
     (added_quiet c.prepare_ordered.new.journal.prepared (unit (after units initial).map) c.write_none-told.result c.args.oldest old new c.prepare_ordered.new.journal.units (c.in-Ok.ensures.prepared ∙ ap (λ m. Some (unit m)) now) c.prepare_ordered.ensures.units
-    wrote.units (wrote.base ∙ c.prepare_ordered.ensures.base) wrote.receipt wrote.cut wrote.agreed wrote.versions wrote.mark) c.self.invariant.within)
+    wrote.units (wrote.base ∙ c.prepare_ordered.ensures.base) (wrote.ends ∙ c.prepare_ordered.ensures.ends) wrote.receipt wrote.cut wrote.agreed wrote.versions wrote.mark) c.self.invariant.within)
 
 pub returns-in-Ok-clause-size : goal.returns-in-Ok-clause-size
 returns-in-Ok-clause-size c =

@@ -7,8 +7,8 @@ use Rattle.journal.specs.Log.{Recorded}
 use Rattle.journal.proofs.Moves.{checked, leads_on}
 use Rattle.journal.proofs.chronicle.Chronicle.checkpoint.Goals as goal
 
-pub keep_rest-requires : goal.keep_rest-requires
-keep_rest-requires c =
+pub keep_rest-requires-clause-rest : goal.keep_rest-requires-clause-rest
+keep_rest-requires-clause-rest c =
     let k = c.args.number - c.number.result in
     let us = c.begin.new.self.units in
     (take k us, drop k us, (sym (take-append-drop k us), c.in_ok-rest.ensures.rest))
@@ -32,3 +32,6 @@ returns-clause-units c =
     c.self.invariant (ap (λ b. c.args.number - b) c.number.ensures) (omega (arith, c.requires.from, ap (λ (k : Recorded). k.base) c.self.view_is)) c.requires.to (ap (λ (k : Recorded). k.units) c.self.view_is)
     (leads_on s.base c.args.changes.items c.args.number c.args.self.now (joined s.past) s.log.units c.self.invariant (ap (λ (k : Recorded). k.base) c.self.view_is) (ap (λ (k : Recorded). k.units) c.self.view_is) c.requires.changes) c.begin.ensures.units
     (record { number = told.number; state = told.state; tallies = told.tallies }) c.with-past.ensures told.rest c.keep_rest.ensures.units).whole
+
+pub keep_rest-requires-clause-room : goal.keep_rest-requires-clause-room
+keep_rest-requires-clause-room c = c.in_ok-rest.ensures.room
