@@ -17,25 +17,27 @@ use Rattle.shared_engine.specs.Receipts.{Book}
 use Rattle.shared_engine.specs.Sessions.{Held, knowing}
 use Rattle.shared_engine.specs.declared.serial_run.SerialRun.{SerialRun}
 use Rattle.shared_engine.specs.declared.serial_run.SerialRun.TheVariants.{Done, Blocked}
-use Rattle.shared_engine.specs.Blocks.{said, HasDone, AreDone, is_blocked, AreHad, HasCome, IsReady, moved_open}
+use Rattle.shared_engine.specs.Blocks.{said, HasDone, AreDone, is_blocked, AreHad, HasCome}
 use Rattle.job_scripts.specs.declared.block.Block.{Block}
-use Rattle.job_scripts.specs.Blocks.{in_place, AreInFront}
+use Rattle.job_scripts.specs.Blocks.{in_place, AreInFront, IsOneBlock}
 use Rattle.job_scripts.specs.Lines.{lines_of_script}
 use Rattle.job_server.specs.declared.cursor.Cursor.{Cursor}
 use Rattle.job_server.specs.declared.cursor.Line.{Line}
 use Rattle.job_server.specs.Told.{IsToldIn, OneAsksFor, AreAskedFor, units_of, units_in, backs, others_of}
-use Rattle.job_server.specs.Telling.{is_open, StandsIn, sessions_so_far, GoesOnUntold, Running, running, Serves, Keeps, Advances, Reaches, ServesBlock, HasRun, HasReadAll, AreDataCommands, NoneAgain}
+use Rattle.job_server.specs.Steps.{sessions_so_far, IsBetween, AreShown}
+use Rattle.job_server.specs.Telling.{is_open, StandsIn, GoesOnUntold, Running, running, Serves, Keeps, Advances, Reaches, ServesBlock, HasRunOutside, HasReadAll, AreDataCommands, NoneAgain}
 use Rattle.job_server.proofs.Levels.{none_again, none_again_of_data}
-use Rattle.job_server.proofs.Doing.{HasTold, block_told, block_asks, block_grows, knowing_stands, moved_stands, moved_job, moved_receipts, reads_keep}
-use Rattle.job_server.proofs.GoingBack.{backs_then, step_backs, moved_has_gone, moved_others}
-use Rattle.job_server.proofs.Granting.{moved_granted, same_within, kept_then}
+use Rattle.job_server.proofs.Doing.{HasTold, block_told, block_asks, block_grows, knowing_stands, reads_keep}
+use Rattle.job_server.proofs.GoingBack.{backs_then, step_backs}
+use Rattle.job_server.proofs.Granting.{same_within, kept_then}
 use Rattle.job_server.proofs.Asking.{asks_front}
+use Rattle.job_server.proofs.Stepping.{between_knowing, no_steps, steps_behind, done_then, block_steps, block_shown}
 
 -- done from a session that stands so
 block_from : (job : ℕ) (before rest : List (List ℕ)) (places : List (Option Refusal)) (commands : List Command) (musts : List Bool) (served replies more_replies : List Reply) (books : List Book) (units more : List JournalUnit) (old start new : Held)
-    → AreInFront job before rest places commands musts → start.receipts ≡ old.receipts → start.others ≡ old.others → ((s : Machine) → StandsIn job books (Some old) s → StandsIn job books (Some start) s) → AreDone commands served units more start new → AreHad musts served → NoneAgain commands served → more_replies ≡ replies ++ in_place places served
+    → AreInFront job before rest places commands musts → start.receipts ≡ old.receipts → start.others ≡ old.others → start.seen ≡ units → IsBetween job (sessions_so_far books (Some old)) (sessions_so_far books (Some start)) → ((s : Machine) → StandsIn job books (Some old) s → StandsIn job books (Some start) s) → AreDone commands served units more start new → AreHad musts served → NoneAgain commands served → more_replies ≡ replies ++ in_place places served
     → Serves job before rest (running replies (sessions_so_far books (Some old))) (running more_replies (sessions_so_far books (Some new)))
-block_from job before rest places commands musts served replies more_replies books units more old start new in_front same others moves done had never is = record {
+block_from job before rest places commands musts served replies more_replies books units more old start new in_front same others seen between moves done had never is = record {
   lines_done = in_front.front;
   their_replies = in_place places served;
   split = in_front.split;
@@ -49,16 +51,12 @@ block_from job before rest places commands musts served replies more_replies boo
       (λ c asks. each c (subst (λ (ls : List (List ℕ)). OneAsksFor job ls c) (sym in_front.split) (asks_front job in_front.front rest c asks)))
       (subst (λ (cs : List Claim). AreAskedFor j all (units_in books ++ units_of cs)) (sym same) asked);
   grows = step_backs books old new (subst (λ (cs : List Claim). backs (units_of cs) ≤ backs (units_of new.others)) others (block_grows commands served units more start new done never));
+  steps = (let block = block_steps job books commands served units more start new seen done in
+      (block.0, block_shown job before in_front.front places commands served block.0 in_front.asked block.1, steps_behind job block.0 (sessions_so_far books (Some old)) (sessions_so_far books (Some start)) (sessions_so_far books (Some new)) between block.2));
 }
 
 knowing_on : (job : ℕ) (books : List Book) (units : List JournalUnit) (old : Held) (s : Machine) → StandsIn job books (Some old) s → StandsIn job books (Some (knowing units old)) s
 knowing_on job books units old s stands = (stands.0, (stands.1.0, (knowing_stands (units_in books) units s old stands.1.1.0, stands.1.1.1)))
-
-moved_on : (job : ℕ) (books : List Book) (units : List JournalUnit) (old : Held) (s : Machine) → IsReady old → StandsIn job books (Some old) s → StandsIn job books (Some (moved_open units old)) s
-moved_on job books units old s ready stands = (
-  stands.0,
-  (moved_job units old ∙ stands.1.0, (moved_stands (units_in books) units s old ready stands.1.1.0, (moved_has_gone (backs (others_of books)) units s old stands.1.1.1.0, moved_granted (backs (others_of books)) (units_in books) units s old stands.1.1.1.1))),
-)
 
 -- all was done, and replied so
 abbrev pub IsAll : SerialRun → List Reply → Type 0
@@ -70,13 +68,20 @@ all_done musts commands (Done replies) served units more old new all come = subs
 all_done musts commands (Blocked place) served units more old new all come = absurd all
 
 pub run_serves : (job : ℕ) (before rest : List (List ℕ)) (places : List (Option Refusal)) (commands : List Command) (musts : List Bool) (run : SerialRun) (served replies more_replies : List Reply) (books : List Book) (session later : Option Held) → AreInFront job before rest places commands musts
-    → HasRun musts commands run session later → IsAll run served → more_replies ≡ replies ++ in_place places served → Serves job before rest (running replies (sessions_so_far books session)) (running more_replies (sessions_so_far books later))
+    → HasRunOutside musts commands run session later → IsAll run served → more_replies ≡ replies ++ in_place places served → Serves job before rest (running replies (sessions_so_far books session)) (running more_replies (sessions_so_far books later))
 run_serves job before rest places commands musts run served replies more_replies books None later in_front ran all is = absurd ran
 run_serves job before rest places commands musts run served replies more_replies books (Some old) None in_front ran all is = absurd ran
 run_serves job before rest places commands musts run served replies more_replies books (Some old) (Some new) in_front ran all is =
-    let come = all_done musts commands run served ran.2 ran.3 (moved_open ran.2 old) new all ran.5 in
-    block_from job before rest places commands musts served replies more_replies books ran.2 ran.3 old (moved_open ran.2 old) new in_front (moved_receipts ran.2 old) (moved_others ran.2 old) (λ s stands. moved_on job books ran.2 old s ran.0 stands) come.0 come.1
-    (none_again commands served ran.2 ran.3 old new ran.1 come.0) is
+    let come = all_done musts commands run served ran.1 new.seen (knowing ran.1 old) new all ran.3 in
+    block_from job before rest places commands musts served replies more_replies books ran.1 new.seen old (knowing ran.1 old) new in_front refl refl refl (between_knowing job books ran.1 old ran.2.goes_on) (λ s stands. knowing_on job books ran.1 old s stands) come.0 come.1 (none_again_of_data commands served ran.0) is
+
+-- where the transaction began anew, from there
+pub anew_serves : (job : ℕ) (before rest : List (List ℕ)) (places : List (Option Refusal)) (commands : List Command) (musts : List Bool) (run : SerialRun) (served replies more_replies : List Reply) (books : List Book) (units more : List JournalUnit) (middle new : Held) → 1 ≤ middle.state.level → middle.seen ≡ units → IsOneBlock 1 commands
+    → AreInFront job before rest places commands musts → HasCome musts commands run units more middle new → IsAll run served → more_replies ≡ replies ++ in_place places served
+    → Serves job before rest (running replies (sessions_so_far books (Some middle))) (running more_replies (sessions_so_far books (Some new)))
+anew_serves job before rest places commands musts run served replies more_replies books units more middle new inside seen one in_front come all is =
+    let done = all_done musts commands run served units more middle new all come in
+    block_from job before rest places commands musts served replies more_replies books units more middle middle new in_front refl refl seen (no_steps job (sessions_so_far books (Some middle))) (λ s stands. stands) done.0 done.1 (none_again commands served units more middle new inside one done.0) is
 
 -- what data commands are replied says of no LOCK that it was blocked
 answer_had : (must : Bool) (result : Result Answer Refusal) → is_blocked must (said Answered result) ≡ false
@@ -104,7 +109,7 @@ pub reads_serve : (job : ℕ) (before rest : List (List ℕ)) (places : List (Op
 reads_serve job before rest places commands musts served replies more_replies books None later all in_front reads is = absurd reads
 reads_serve job before rest places commands musts served replies more_replies books (Some old) None all in_front reads is = absurd reads
 reads_serve job before rest places commands musts served replies more_replies books (Some old) (Some new) all in_front reads is =
-    block_from job before rest places commands musts served replies more_replies books reads.1 reads.1 old (knowing reads.1 old) new in_front refl refl (λ s stands. knowing_on job books reads.1 old s stands) reads.3 (data_had musts commands served reads.1 reads.1 (knowing reads.1 old) new all reads.3) (none_again_of_data commands served all) is
+    block_from job before rest places commands musts served replies more_replies books reads.1 reads.1 old (knowing reads.1 old) new in_front refl refl refl (between_knowing job books reads.1 old reads.2.goes_on) (λ s stands. knowing_on job books reads.1 old s stands) reads.3 (data_had musts commands served reads.1 reads.1 (knowing reads.1 old) new all reads.3) (none_again_of_data commands served all) is
 
 -- reads of a transaction leave the receipts as they are
 pub reads_keep_all : (commands : List Command) (served replies more_replies : List Reply) (books : List Book) (session later : Option Held) → All (λ (c : Command). (d : DataCommand) × (c ≡ Access d)) commands → HasReadAll commands served session later
@@ -150,6 +155,7 @@ opened_advances job line behind same old middle new is replied opened h = subst 
     leads = λ s stands. h.serves.leads s (opened.stands s stands);
     asks = λ j all each asked. h.serves.asks j all each (opened.asks j all (λ c none. absurd none) asked);
     grows = backs_then same.sessions middle.sessions new.sessions opened.grows h.serves.grows;
+    steps = done_then (AreShown job (line.text.now ∷ lines_of_script line.next.lines.now) h.serves.lines_done h.serves.their_replies) job same.sessions middle.sessions new.sessions opened.steps h.serves.steps;
   };
 })
 

@@ -1,6 +1,6 @@
 -- A block of lines, done under one hold of the lock.
-use Rattle.std.proofs.Common.{◌≡◌, ◌≢◌, inl, inr, ℕ, zero, suc, ◌+◌, ◌-◌, ◌≤◌, ◌<◌, nat_lt, Bool, true, false, List, [], ◌∷◌, ◌++◌, length, refl, sym, ap, ◌∙◌, subst, arith}
-use Rattle.std.specs.Prelude.{Option, Some, None, Result, Ok, Err, if◌then◌else◌}
+use Rattle.std.proofs.Common.{◌≡◌, ◌≢◌, inl, inr, ℕ, zero, suc, ◌+◌, ◌-◌, ◌≤◌, ◌<◌, Bool, false, List, [], ◌∷◌, ◌++◌, length, refl, sym, ap, ◌∙◌, subst, arith}
+use Rattle.std.specs.Prelude.{Option, Some, None, Result, Ok, Err}
 use Rattle.std.specs.List.{All}
 use Rattle.std.proofs.lemmas.List.Elements.{All-rest}
 use Rattle.refusal.specs.declared.Refusal.{Refusal}
@@ -12,19 +12,17 @@ use Rattle.command.specs.declared.request.Command.TheVariants.{Access, Lock as l
 use Rattle.command.specs.declared.request.Reply.{Reply}
 use Rattle.command.specs.declared.request.Reply.TheVariants.{Answered, Finished, Count, AtLevel, Committed as committed_reply, Restarted as restarted_reply, Refused}
 use Rattle.journal.specs.declared.unit.Unit.{Unit as JournalUnit}
-use Rattle.journal.specs.History.{initial, after}
-use Rattle.journal.specs.Story.{Transaction, Machine, transaction_of, told}
-use Rattle.script.specs.Line.{reading_of, HasOperands}
+use Rattle.journal.specs.Story.{Machine, transaction_of, told}
+use Rattle.script.specs.Line.{reading_of}
 use Rattle.serial.specs.Machine.{told_had}
 use Rattle.job_core.specs.Sessions.{Session as JobSession}
-use Rattle.validate_commit.specs.laws.Working.{work_nothing}
-use Rattle.shared_engine.specs.Sessions.{Held, knowing, IsBegun}
-use Rattle.shared_engine.specs.Blocks.{said, IsLone, IsReadAt, IsOpened, IsDeeper, IsNone, IsCommitted, IsLower, IsRolledBack, IsRestarted, HasDone, AreDone, is_blocked, AreHad, IsReady, moved, moved_open}
+use Rattle.shared_engine.specs.Sessions.{Held, knowing}
+use Rattle.shared_engine.specs.Blocks.{said, IsLone, IsReadAt, IsOpened, IsDeeper, IsNone, IsCommitted, IsLower, IsRolledBack, IsRestarted, HasDone, AreDone, is_blocked, AreHad}
 use Rattle.job_scripts.specs.Blocks.{in_place, AreAsked, AreMusts}
 use Rattle.job_scripts.specs.Lines.{Asks}
 use Rattle.job_server.specs.Causes.{IsAllowed}
 use Rattle.job_server.specs.Told.{told_by, told_by_lines, OneAsksFor, IsReplyToLine, AreRepliesTo, units_of, backs}
-use Rattle.job_server.specs.Telling.{Shows, Stands, HasGoneBack, HasGranted, AreStillAsked, IsOvertaken, MayReply, Follows, NoneAgain}
+use Rattle.job_server.specs.Telling.{Stands, HasGoneBack, HasGranted, AreStillAsked, IsOvertaken, MayReply, Follows, NoneAgain}
 use Rattle.job_server.proofs.Causes.{lone_may, deeper_may, commit_may, rollback_may, restart_may, no_commit_may, no_rollback_may, no_restart_may, room_of, room_at_commit, fault_of, asked_may}
 use Rattle.job_server.proofs.Following.{refused_follows, knowing_follows, level_counted, restarts_counted, lone_follows, read_at_follows, try_follows, begun_follows, deeper_follows, lower_follows, committed_follows, restarted_follows, rolled_back_follows}
 use Rattle.job_server.proofs.Answering.{follows_as}
@@ -216,34 +214,6 @@ block_asks job front (line ∷ lines) (None ∷ places) (command ∷ commands) (
 -- it has seen more
 pub knowing_stands : (front units : List JournalUnit) (s : Machine) (h : Held) → Stands front s h → Stands front s (knowing units h)
 knowing_stands front units s h stands = record { shows = stands.shows; begun = stands.begun; is_told = stands.is_told }
-
--- its start is moved where a transaction is open, which has done nothing
-pub moved_stands : (front : List JournalUnit) (units : List JournalUnit) (s : Machine) (h : Held) → IsReady h → Stands front s h → Stands front s (moved_open units h)
-moved_stands front units s h (inl none) stands = subst (λ (x : Held). Stands front s x) (sym (ap (λ (b : Bool). if b then moved units h else knowing units h) (ap (λ (n : ℕ). nat_lt 0 n) none))) (knowing_stands front units s h stands)
-moved_stands front units s h (inr fresh) stands =
-    subst (λ (x : Held). Stands front s x) (sym (ap (λ (b : Bool). if b then moved units h else knowing units h) (ap (λ (n : ℕ). nat_lt 0 n) fresh.0)))
-    (record { shows = still (transaction_of h.state.work.job s) stands.shows; begun = moved_at; is_told = stands.is_told })
-  where
-    moved_at : IsBegun units (moved units h).state
-    moved_at = record { level = omega (arith, fresh.0); start = refl; work = work_nothing h.state.work.job (length units) (after units initial).map }
-
-    still : (t : Option Transaction) → Shows h.state t → Shows (moved units h).state t
-    still None shows = shows
-    still (Some t) shows = (shows.0, (shows.1.0, (sym fresh.1.0 ∙ shows.1.1.0, shows.1.1.1)))
-
-pub moved_job : (units : List JournalUnit) (h : Held) → (moved_open units h).state.work.job ≡ h.state.work.job
-moved_job units h = by_test (nat_lt 0 h.state.level)
-  where
-    by_test : (b : Bool) → (if b then moved units h else knowing units h).state.work.job ≡ h.state.work.job
-    by_test true = refl
-    by_test false = refl
-
-pub moved_receipts : (units : List JournalUnit) (h : Held) → (moved_open units h).receipts ≡ h.receipts
-moved_receipts units h = by_test (nat_lt 0 h.state.level)
-  where
-    by_test : (b : Bool) → (if b then moved units h else knowing units h).receipts ≡ h.receipts
-    by_test true = refl
-    by_test false = refl
 
 -- ---- data commands in a transaction
 

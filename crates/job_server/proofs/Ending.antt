@@ -1,5 +1,5 @@
 -- A session ends, a job ends, and a call's answer is of one kind.
-use Rattle.std.proofs.Common.{◌≡◌, inl, inr, ℕ, ◌≤◌, Bool, true, false, not, List, [], ◌∷◌, ◌++◌, refl, sym, ap, ◌∙◌, subst, arith, true≢false, append-nil}
+use Rattle.std.proofs.Common.{◌≡◌, ◌⊎◌, inl, inr, ℕ, ◌≤◌, Bool, true, false, not, List, [], ◌∷◌, ◌++◌, refl, sym, ap, ◌∙◌, subst, arith, true≢false, append-nil}
 use Rattle.std.specs.FinMap as finmap
 use Rattle.std.specs.Ordering.{nat_cmp}
 use Rattle.std.specs.Prelude.{Option, Some, None, Result, Ok, Err, is_some, IfSome, IfNone}
@@ -10,19 +10,20 @@ use Rattle.command.specs.declared.request.Reply.TheVariants.{Finished}
 use Rattle.journal.specs.declared.unit.Unit.{Unit as JournalUnit}
 use Rattle.journal.specs.declared.unit.Unit.TheVariants.{End}
 use Rattle.journal.specs.Story.{Machine, nothing_done, told}
-use Rattle.job_core.specs.Sessions.{idle}
 use Rattle.pin_board.specs.Slips.{IsBeginning}
 use Rattle.shared_engine.specs.Receipts.{Book}
-use Rattle.shared_engine.specs.Sessions.{Held, held, halted}
+use Rattle.shared_engine.specs.Sessions.{Held, halted}
 use Rattle.shared_engine.specs.Engines.{OnOkThat, OnOkNot}
 use Rattle.job_scripts.specs.Lines.{lines_of_script}
 use Rattle.job_server.specs.Told.{told_by_lines, AreRepliesTo, given, IsToldIn, IsAllTold, AreOf, AreAskedFor, IsTold, units_in, backs, others_of, AreBack, grants, AreGranted}
-use Rattle.job_server.specs.Telling.{units_behind, StandsIn, StandsAt, SessionsSoFar, sessions_so_far, GoesOnUntold, GoesOnBy, HasStopped, Running, not_begun, Leads, Serves}
+use Rattle.job_server.specs.Steps.{SessionsSoFar, sessions_so_far, IsBegunBehind, HasDoneSteps, IsReplied, AreShown, AreShownToEnd}
+use Rattle.job_server.specs.Telling.{units_behind, StandsIn, StandsAt, GoesOnUntold, GoesOnBy, HasStopped, Running, not_begun, Leads, Serves}
 use Rattle.job_server.proofs.Units.{one_given}
 use Rattle.job_server.proofs.Asking.{none_asked}
 use Rattle.job_server.proofs.GoingBack.{end_count}
 use Rattle.job_server.proofs.Granting.{end_granted}
 use Rattle.job_server.proofs.GoingOn.{opened_goes, halted_some}
+use Rattle.job_server.proofs.Stepping.{shown_to_end}
 
 -- a test found none
 pub none_where : (o : Option Held) (b : Bool) → is_some o ≡ not b → b ≡ true → o ≡ None
@@ -30,8 +31,8 @@ none_where None b is found = refl
 none_where (Some h) b is found = absurd (true≢false (is ∙ ap not found))
 
 -- a session begins where there was none
-pub opened_from : (job : ℕ) (books : List Book) (session : Option Held) (begun : Held) → is_some session ≡ false → ((units : List JournalUnit) × (begun ≡ held (idle job) None [] [] units)) → GoesOnUntold job (sessions_so_far books session) (sessions_so_far books (Some begun))
-opened_from job books None begun none (units, is) = subst (λ (h : Held). GoesOnUntold job (sessions_so_far books None) (sessions_so_far books (Some h))) (sym is) (opened_goes job units books)
+pub opened_from : (job : ℕ) (books : List Book) (session : Option Held) (begun : Held) → is_some session ≡ false → IsBegunBehind job books begun → GoesOnUntold job (sessions_so_far books session) (sessions_so_far books (Some begun))
+opened_from job books None begun none (units, before, is) = subst (λ (h : Held). GoesOnUntold job (sessions_so_far books None) (sessions_so_far books (Some h))) (sym is) (opened_goes job units books before)
 opened_from job books (Some h) begun none is = absurd (true≢false none)
 
 -- HALT of a session, which gives its book
@@ -40,7 +41,7 @@ pub some_halted : (job : ℕ) (books more : List Book) (old later : Option Held)
 some_halted job books more old later h pass was is (units, goes_on, gives) one_more =
     subst (λ (o : Option Held). GoesOnBy job Halt Finished (sessions_so_far books o) (sessions_so_far more later)) (sym was)
     (subst (λ (o : Option Held). GoesOnBy job Halt Finished (sessions_so_far books (Some h)) (sessions_so_far more o)) (sym is)
-    (subst (λ (bs : List Book). GoesOnBy job Halt Finished (sessions_so_far books (Some h)) (sessions_so_far bs None)) (sym (one_more ∙ ap (λ (p : Book). books ++ p ∷ []) gives)) (halted_some job units books h)))
+    (subst (λ (bs : List Book). GoesOnBy job Halt Finished (sessions_so_far books (Some h)) (sessions_so_far bs None)) (sym (one_more ∙ ap (λ (p : Book). books ++ p ∷ []) gives)) (halted_some job units books h goes_on)))
 
 -- the same books
 pub from_books : (job : ℕ) (reply : Reply) (books other : List Book) (session : Option Held) (new : SessionsSoFar) → other ≡ books → GoesOnBy job Halt reply (sessions_so_far other session) new → GoesOnBy job Halt reply (sessions_so_far books session) new
@@ -75,6 +76,27 @@ all_asked job lines old new asked (inr halted) =
   where
     is_no_lock : (c : LockCommand) → Halt ≡ lock_command c → ⊥
     is_no_lock c is = absurd (cc)
+
+-- its steps
+pub run_steps : (job : ℕ) (text : List ℕ) (old new : Running) (later : SessionsSoFar) → old ≡ not_begun → Serves job (lines_of_script text) [] old new → HasStopped job new.sessions later → later.session ≡ None
+    → HasDoneSteps (AreShownToEnd job (lines_of_script text) new.replies) job (sessions_so_far [] None) (sessions_so_far later.books None)
+run_steps job text old new later first serves stopped closed =
+    let h : Serves job (lines_of_script text) [] not_begun new = subst (λ (x : Running). Serves job (lines_of_script text) [] x new) first serves in
+    let lines : h.lines_done ≡ lines_of_script text = sym (h.split ∙ append-nil h.lines_done) in
+    let shown : HasDoneSteps (AreShown job (lines_of_script text) (lines_of_script text) new.replies) job (sessions_so_far [] None) new.sessions =
+    subst (λ (ls : List (List ℕ)). HasDoneSteps (AreShown job (lines_of_script text) ls new.replies) job (sessions_so_far [] None) new.sessions) lines
+    (subst (λ (rs : List Reply). HasDoneSteps (AreShown job (lines_of_script text) h.lines_done rs) job (sessions_so_far [] None) new.sessions) (sym h.replied) h.steps) in
+    subst (λ (o : Option Held). HasDoneSteps (AreShownToEnd job (lines_of_script text) new.replies) job (sessions_so_far [] None) (sessions_so_far later.books o)) closed
+    (shown_to_end job (lines_of_script text) new.replies (sessions_so_far [] None) new.sessions later shown (by_stop stopped))
+  where
+    by_stop : HasStopped job new.sessions later → (later ≡ new.sessions) ⊎ HasDoneSteps (IsReplied Halt Finished) job new.sessions later
+    by_stop (inl same) = inl same.0
+    by_stop (inr over) = inr over.0.steps
+
+-- the job has no session any more
+pub none_left : (job : ℕ) (old new : SessionsSoFar) → HasStopped job old new → new.session ≡ None
+none_left job old new (inl same) = ap (λ (x : SessionsSoFar). x.session) same.0 ∙ same.1
+none_left job old new (inr over) = over.1
 
 pub run_told : (job : ℕ) (text : List ℕ) (old new : Running) (later : SessionsSoFar) → old ≡ not_begun → Serves job (lines_of_script text) [] old new → HasStopped job new.sessions later → IsTold (Some job) text new.replies later.books
 run_told job text old new later first serves stopped =

@@ -15,11 +15,11 @@ use Rattle.journal.specs.Story.{Transaction, Machine, transaction_of, add_unit, 
 use Rattle.serial.specs.laws.ByJob.{get_here, gone_here}
 use Rattle.job_core.specs.Sessions.{Session as JobSession, after_lock}
 use Rattle.shared_engine.specs.Receipts.{Book, claim}
-use Rattle.shared_engine.specs.Sessions.{Held, knowing, went_back, rolled_back, begun_anew, halted}
+use Rattle.shared_engine.specs.Sessions.{Held, went_back, rolled_back, begun_anew, halted}
 use Rattle.shared_engine.specs.Engines.{after_try}
-use Rattle.shared_engine.specs.Blocks.{moved, moved_open}
 use Rattle.job_server.specs.Told.{goes_back, backs, others_of, units_of}
-use Rattle.job_server.specs.Telling.{Shows, HasItsLock, HasGoneBack, SessionsSoFar, backs_behind}
+use Rattle.job_server.specs.Steps.{SessionsSoFar}
+use Rattle.job_server.specs.Telling.{Shows, HasItsLock, HasGoneBack, backs_behind}
 use Rattle.job_server.proofs.Units.{units_more}
 
 -- ---- numbers
@@ -230,19 +230,3 @@ halted_count now job books h units count =
 -- an end doesn't go back
 pub end_count : (job : ℕ) (units : List JournalUnit) (books : List Book) → backs (units ++ End job ∷ []) ≤ backs (others_of books) → backs units ≤ backs (others_of books)
 end_count job units books count = none_fewer (backs units) (backs (others_of books)) (backs (units ++ End job ∷ [])) count (backs_more units (End job) 0 refl)
-
--- ---- before a block
-
-pub moved_has_gone : (n : ℕ) (units : List JournalUnit) (s : Machine) (h : Held) → HasGoneBack n s h → HasGoneBack n s (moved_open units h)
-moved_has_gone n units s h went = by_test (nat_lt 0 h.state.level)
-  where
-    by_test : (b : Bool) → HasGoneBack n s (if b then moved units h else knowing units h)
-    by_test true = same_back n s h (moved units h) refl (λ is. is) refl went
-    by_test false = went
-
-pub moved_others : (units : List JournalUnit) (h : Held) → (moved_open units h).others ≡ h.others
-moved_others units h = by_test (nat_lt 0 h.state.level)
-  where
-    by_test : (b : Bool) → (if b then moved units h else knowing units h).others ≡ h.others
-    by_test true = refl
-    by_test false = refl

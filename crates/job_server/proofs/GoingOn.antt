@@ -26,8 +26,10 @@ use Rattle.job_server.specs.declared.cursor.Line.{Line}
 use Rattle.job_server.specs.Causes.{IsAllowed, IsReplyTo}
 use Rattle.shared_engine.specs.Blocks.{is_blocked}
 use Rattle.job_server.specs.Told.{told_by, told_by_lines, IsHad, IsReplyToLine, AreRepliesTo, given, IsToldIn, HasItsEnd, OneAsksFor, IsAskedFor, AreAskedFor, units_of, units_of_book, units_in, backs, others_of}
-use Rattle.job_server.specs.Served.{Wanted, IsReport, IsReportAt}
-use Rattle.job_server.specs.Telling.{Shows, Stands, HasItsLock, HasGoneBack, HasGranted, IsNoLock, Follows, is_open, units_behind, backs_behind, StandsIn, SessionsSoFar, sessions_so_far, AreKeptOn, StandsAt, GoesOnUntold, GoesOnBy, MayGoOnAt, IsOvertakenAs, IsNoCommit, Running, Leads, Serves, Keeps, HasAnswered, Advances, Reaches, HasJustBegun, Begins, IsStillOpen, WasOvertaken, IsBack, GoesOnFrom}
+use Rattle.job_server.specs.Served.{Wanted, IsReport, HasRunAs, IsReportAt}
+use Rattle.job_server.specs.Steps.{SessionsSoFar, sessions_so_far, AreBefore, HasDoneSteps, IsNoStep, IsReplied, IsShownBy, AreShown}
+use Rattle.pin_board.specs.Slips.{IsBeginning}
+use Rattle.job_server.specs.Telling.{Shows, Stands, HasItsLock, HasGoneBack, HasGranted, IsNoLock, Tells, is_open, units_behind, backs_behind, StandsIn, AreKeptOn, StandsAt, GoesOnUntold, GoesOnBy, MayGoOnAt, IsOvertakenAs, IsNoCommit, Running, Leads, Serves, Keeps, HasAnswered, Advances, Reaches, HasJustBegun, Begins, IsStillOpen, WasOvertaken, IsBack, GoesOnFrom}
 use Rattle.job_server.proofs.Units.{both_more, one_given}
 use Rattle.job_server.proofs.Causes.{fault_of, asked_may, room_of}
 use Rattle.job_server.proofs.Standing.{shown_none}
@@ -35,6 +37,8 @@ use Rattle.job_server.proofs.Doing.{refused_tells}
 use Rattle.job_server.proofs.GoingBack.{same_backs, backs_then, told_then, step_backs, opened_backs, opened_grows, halted_grows, halted_count}
 use Rattle.job_server.proofs.Granting.{not_anew, AreGrantedIn, none_kept, same_kept, kept_then, opened_granted, halted_granted, still_granted}
 use Rattle.job_server.proofs.Asking.{same_asked, one_command, asks_behind}
+use Rattle.job_server.proofs.Stepped.{halt_stepped}
+use Rattle.job_server.proofs.Stepping.{between_same, between_knowing, between_opened, no_steps, none_done, done_then, shows_other, call_steps, halt_steps, line_shown, shown_behind, shown_tried, tried_to, replied_commit}
 
 positive : (n : ℕ) → nat_lt 0 n ≡ true → 1 ≤ n
 positive n h = omega (arith, ltb-true 0 n h)
@@ -44,6 +48,7 @@ positive n h = omega (arith, ltb-true 0 n h)
 -- nothing has changed, and nothing is told
 pub same_goes : (job : ℕ) (books more : List Book) (session later : Option Held) → more ≡ books → later ≡ session → GoesOnUntold job (sessions_so_far books session) (sessions_so_far more later)
 same_goes job books more session later same_books same_session = record {
+  steps = none_done job (sessions_so_far books session) (sessions_so_far more later) (between_same job books more session later same_books same_session);
   stands = λ s stands. subst (λ (bs : List Book). StandsIn job bs later s) (sym same_books) (subst (λ (h : Option Held). StandsIn job books h s) (sym same_session) stands);
   keeps = λ before after. same_kept books more session later same_books same_session;
   allowed = λ s stands. tt;
@@ -55,7 +60,7 @@ same_goes job books more session later same_books same_session = record {
 }
 
 pub none_goes : (job : ℕ) (now : SessionsSoFar) → GoesOnUntold job now now
-none_goes job now = record { stands = λ s stands. stands; keeps = λ before after. none_kept now; allowed = λ s stands. tt; asks = λ j all each h. h; grows = same_backs now now refl; no_lock = λ none. absurd none }
+none_goes job now = record { steps = none_done job now now (no_steps job now); stands = λ s stands. stands; keeps = λ before after. none_kept now; allowed = λ s stands. tt; asks = λ j all each h. h; grows = same_backs now now refl; no_lock = λ none. absurd none }
 
 -- from the same sessions
 pub goes_from : (job : ℕ) (command : Command) (reply : Reply) (same old new : SessionsSoFar) → same ≡ old → GoesOnBy job command reply same new → GoesOnBy job command reply old new
@@ -67,6 +72,7 @@ untold_from job same old new is h = subst (λ (x : SessionsSoFar). GoesOnUntold 
 -- a refusal tells nothing
 pub refused_goes : (job : ℕ) (line : List ℕ) (refusal : Refusal) (old new : SessionsSoFar) → IsRefusedAs job line refusal → GoesOnUntold job old new → MayGoOnAt job line (Err refusal) (Refused refusal) old new
 refused_goes job line refusal old new fault h = record {
+  steps = shows_other IsNoStep (IsShownBy job line (Refused refusal)) job old new (λ xs none. inl (refusal, fault, refl, none)) h.steps;
   stands = λ s stands. subst (λ (m : Machine). StandsIn job new.books new.session m) (sym (refused_tells job (reading_of line) refusal s)) (h.stands s stands);
   keeps = h.keeps;
   allowed = λ s stands never. (fault_of job line refusal (transaction_of job s) fault, λ none. refl);
@@ -78,6 +84,7 @@ refused_goes job line refusal old new fault h = record {
 -- what a line tells is what its command tells
 pub asked_goes : (job : ℕ) (line : List ℕ) (command : Command) (reply : Reply) (old new : SessionsSoFar) → Asks job line command → GoesOnBy job command reply old new → IsHad line reply → MayGoOnAt job line (Ok command) reply old new
 asked_goes job line command reply old new asks h had = record {
+  steps = shows_other (IsReplied command reply) (IsShownBy job line reply) job old new (λ xs replied. inr (command, asks, replied)) h.steps;
   stands = λ s stands. subst (λ (r : Result (ℕ × Command) Refusal). StandsIn job new.books new.session (told_by job r reply s)) (sym asks) (h.stands s stands);
   keeps = h.keeps;
   allowed = λ s stands never. (asked_may job line command reply (transaction_of job s) asks (h.allowed s stands never), had);
@@ -87,8 +94,9 @@ asked_goes job line command reply old new asks h had = record {
 }
 
 -- a session begins
-pub opened_goes : (job : ℕ) (seen : List JournalUnit) (books : List Book) → GoesOnUntold job (sessions_so_far books None) (sessions_so_far books (Some (held (idle job) None [] [] seen)))
-opened_goes job seen books = record {
+pub opened_goes : (job : ℕ) (seen : List JournalUnit) (books : List Book) → AreBefore (length seen) books → GoesOnUntold job (sessions_so_far books None) (sessions_so_far books (Some (held (idle job) None [] [] seen)))
+opened_goes job seen books before = record {
+  steps = none_done job (sessions_so_far books None) (sessions_so_far books (Some (held (idle job) None [] [] seen))) (between_opened job books seen before);
   stands = λ s stands. (
     stands.0,
     (
@@ -111,32 +119,34 @@ opened_goes job seen books = record {
 }
 
 -- a step of a session
-pub step_goes : (job : ℕ) (books : List Book) (command : Command) (reply : Reply) (old new : Held) → Follows command reply old new → GoesOnBy job command reply (sessions_so_far books (Some old)) (sessions_so_far books (Some new))
-step_goes job books command reply old new h = record {
+pub step_goes : (job : ℕ) (books : List Book) (command : Command) (reply : Reply) (old new : Held) → Tells command reply old new → GoesOnBy job command reply (sessions_so_far books (Some old)) (sessions_so_far books (Some new))
+step_goes job books command reply old new says = record {
+  steps = call_steps job books command reply old new says.done;
   stands = λ s stands. (
     stands.0,
     (
-      h.whose ∙ stands.1.0,
+      says.follows.whose ∙ stands.1.0,
       (
-        subst (λ (j : ℕ). Stands (units_in books) (told j command reply s) new) stands.1.0 (h.stands (units_in books) s stands.1.1.0),
+        subst (λ (j : ℕ). Stands (units_in books) (told j command reply s) new) stands.1.0 (says.follows.stands (units_in books) s stands.1.1.0),
         (
-          subst (λ (j : ℕ). HasGoneBack (backs (others_of books)) (told j command reply s) new) stands.1.0 (h.went (backs (others_of books)) (units_in books) s stands.1.1.0 stands.1.1.1.0),
-          subst (λ (j : ℕ). HasGranted (backs (others_of books)) (units_in books) (told j command reply s) new) stands.1.0 (h.granted (backs (others_of books)) (units_in books) s stands.1.1.1.0 stands.1.1.1.1),
+          subst (λ (j : ℕ). HasGoneBack (backs (others_of books)) (told j command reply s) new) stands.1.0 (says.follows.went (backs (others_of books)) (units_in books) s stands.1.1.0 stands.1.1.1.0),
+          subst (λ (j : ℕ). HasGranted (backs (others_of books)) (units_in books) (told j command reply s) new) stands.1.0 (says.follows.granted (backs (others_of books)) (units_in books) s stands.1.1.1.0 stands.1.1.1.1),
         ),
       ),
     ),
   );
   keeps = λ before after.
-      (h.keeps (positive old.state.level before) (positive new.state.level after) (units_in books), h.within (positive old.state.level before) (positive new.state.level after) (backs (others_of books)) (units_in books));
-  allowed = λ s stands never. subst (λ (j : ℕ). IsAllowed j command reply (transaction_of j s)) stands.1.0 (h.may never (transaction_of old.state.work.job s) stands.1.1.0.shows stands.1.1.0.begun);
-  asks = h.asks (units_in books);
-  grows = step_backs books old new h.grows;
-  no_lock = h.no_lock;
+      (says.follows.keeps (positive old.state.level before) (positive new.state.level after) (units_in books), says.follows.within (positive old.state.level before) (positive new.state.level after) (backs (others_of books)) (units_in books));
+  allowed = λ s stands never. subst (λ (j : ℕ). IsAllowed j command reply (transaction_of j s)) stands.1.0 (says.follows.may never (transaction_of old.state.work.job s) stands.1.1.0.shows stands.1.1.0.begun);
+  asks = says.follows.asks (units_in books);
+  grows = step_backs books old new says.follows.grows;
+  no_lock = says.follows.no_lock;
 }
 
 -- one step behind another that tells nothing
 pub then_goes : (job : ℕ) (command : Command) (reply : Reply) (old middle new : SessionsSoFar) → GoesOnUntold job old middle → (is_open old.session ≡ true → is_open middle.session ≡ true) → GoesOnBy job command reply middle new → GoesOnBy job command reply old new
 then_goes job command reply old middle new first stays second = record {
+  steps = done_then (IsReplied command reply) job old middle new first.steps second.steps;
   stands = λ s stands. second.stands s (first.stands s stands);
   keeps = λ before after. kept_then old middle new (first.keeps before (stays before)) (second.keeps (stays before) after);
   allowed = λ s stands. second.allowed s (first.stands s stands);
@@ -146,8 +156,9 @@ then_goes job command reply old middle new first stays second = record {
 }
 
 -- it has seen more
-knowing_goes : (job : ℕ) (books : List Book) (units : List JournalUnit) (h : Held) → GoesOnUntold job (sessions_so_far books (Some h)) (sessions_so_far books (Some (knowing units h)))
-knowing_goes job books units h = record {
+knowing_goes : (job : ℕ) (books : List Book) (units : List JournalUnit) (h : Held) → IsBeginning units h.seen → GoesOnUntold job (sessions_so_far books (Some h)) (sessions_so_far books (Some (knowing units h)))
+knowing_goes job books units h goes_on = record {
+  steps = none_done job (sessions_so_far books (Some h)) (sessions_so_far books (Some (knowing units h))) (between_knowing job books units h goes_on);
   stands = λ s stands. (stands.0, (stands.1.0, (record { shows = stands.1.1.0.shows; begun = stands.1.1.0.begun; is_told = stands.1.1.0.is_told }, stands.1.1.1)));
   keeps = λ before after. ((λ ts told. told), (λ most least within. within));
   allowed = λ s stands. tt;
@@ -157,18 +168,24 @@ knowing_goes job books units h = record {
 }
 
 -- HALT
-pub halt_refused : (job : ℕ) (books more : List Book) (session later : Option Held) (begun after : Held) (refusal : Refusal) → more ≡ books → session ≡ Some begun → later ≡ Some after → after ≡ knowing after.seen begun → HasNoRoom refusal 1 (length after.seen)
+pub halt_refused : (job : ℕ) (books more : List Book) (session later : Option Held) (begun after : Held) (refusal : Refusal) → more ≡ books → session ≡ Some begun → later ≡ Some after → IsBeginning after.seen begun.seen → after ≡ knowing after.seen begun → HasNoRoom refusal 1 (length after.seen)
     → GoesOnBy job Halt (Refused refusal) (sessions_so_far books session) (sessions_so_far more later)
-halt_refused job books more session later begun after refusal same_books was is knows room =
-    let seen : GoesOnUntold job (sessions_so_far books (Some begun)) (sessions_so_far books (Some after)) = subst (λ (x : Held). GoesOnUntold job (sessions_so_far books (Some begun)) (sessions_so_far books (Some x))) (sym knows) (knowing_goes job books after.seen begun) in
+halt_refused job books more session later begun after refusal same_books was is goes_on knows room =
+    let seen : GoesOnUntold job (sessions_so_far books (Some begun)) (sessions_so_far books (Some after)) = subst (λ (x : Held). GoesOnUntold job (sessions_so_far books (Some begun)) (sessions_so_far books (Some x))) (sym knows) (knowing_goes job books after.seen begun goes_on) in
     let h : GoesOnUntold job (sessions_so_far books session) (sessions_so_far more later) =
     subst (λ (o : Option Held). GoesOnUntold job (sessions_so_far books o) (sessions_so_far more later)) (sym was)
     (subst (λ (o : Option Held). GoesOnUntold job (sessions_so_far books (Some begun)) (sessions_so_far more o)) (sym is)
     (subst (λ (bs : List Book). GoesOnUntold job (sessions_so_far books (Some begun)) (sessions_so_far bs (Some after))) (sym same_books) seen)) in
-    record { stands = h.stands; keeps = h.keeps; allowed = λ s stands never. room_of refusal 1 (length after.seen) room; asks = λ j all each asked. h.asks j all (λ c none. absurd none) asked; grows = h.grows; no_lock = not_anew (Refused refusal) refl }
+    let step : HasDoneSteps (IsReplied Halt (Refused refusal)) job (sessions_so_far books session) (sessions_so_far more later) =
+    subst (λ (o : Option Held). HasDoneSteps (IsReplied Halt (Refused refusal)) job (sessions_so_far books o) (sessions_so_far more later)) (sym was)
+    (subst (λ (o : Option Held). HasDoneSteps (IsReplied Halt (Refused refusal)) job (sessions_so_far books (Some begun)) (sessions_so_far more o)) (sym is)
+    (subst (λ (bs : List Book). HasDoneSteps (IsReplied Halt (Refused refusal)) job (sessions_so_far books (Some begun)) (sessions_so_far bs (Some after))) (sym same_books)
+    (call_steps job books Halt (Refused refusal) begun after (halt_stepped refusal begun after goes_on knows room)))) in
+    record { steps = step; stands = h.stands; keeps = h.keeps; allowed = λ s stands never. room_of refusal 1 (length after.seen) room; asks = λ j all each asked. h.asks j all (λ c none. absurd none) asked; grows = h.grows; no_lock = not_anew (Refused refusal) refl }
 
-pub halted_some : (job : ℕ) (now : List JournalUnit) (books : List Book) (h : Held) → GoesOnBy job Halt Finished (sessions_so_far books (Some h)) (sessions_so_far (books ++ halted now h ∷ []) None)
-halted_some job now books h = record {
+pub halted_some : (job : ℕ) (now : List JournalUnit) (books : List Book) (h : Held) → IsBeginning now h.seen → GoesOnBy job Halt Finished (sessions_so_far books (Some h)) (sessions_so_far (books ++ halted now h ∷ []) None)
+halted_some job now books h goes_on = record {
+  steps = halt_steps job books now h goes_on;
   stands = λ s stands. (
     All-push (λ (b : Book). (b.job ≡ job) × HasItsEnd b) books (halted now h) stands.0 (stands.1.0, (h.others, length now + 1, refl)),
     (
@@ -218,6 +235,7 @@ serves_then job lines middle rest old between new h k = record {
   asks = λ j all each asked.
       k.asks j all (λ c later. each c (subst (λ (ls : List (List ℕ)). OneAsksFor job ls c) (sym h.split) (asks_behind job h.lines_done middle c later))) (h.asks j all each asked);
   grows = backs_then old.sessions between.sessions new.sessions h.grows k.grows;
+  steps = shown_behind job lines h.lines_done middle k.lines_done h.their_replies k.their_replies old.sessions between.sessions new.sessions h.split h.steps k.steps;
 }
 
 -- no line
@@ -230,6 +248,7 @@ serves_none job lines now = record {
   leads = λ s stands. record { machine = s; led = λ left later. refl; replies_are = λ left later rest. rest; stands = stands };
   asks = λ j all each asked. asked;
   grows = same_backs now.sessions now.sessions refl;
+  steps = ([], refl, no_steps job now.sessions);
 }
 
 pub reaches_none : (job : ℕ) (text : List ℕ) (place : Cursor) (now : Running) → place.lines.now ≡ text → Reaches job text place now now
@@ -267,6 +286,7 @@ answered_serves job line rest old new h = record {
   leads = λ s stands. answered_leads job line.text.now h.reply s new.sessions (h.goes.stands s stands) (h.goes.allowed s stands);
   asks = λ j all each asked. h.goes.asks j all (λ c asks. each c (inl asks)) asked;
   grows = h.goes.grows;
+  steps = shows_other (IsShownBy job line.text.now h.reply) (AreShown job (line.text.now ∷ rest) (line.text.now ∷ []) (h.reply ∷ [])) job old.sessions new.sessions (λ xs shown. line_shown job (line.text.now ∷ rest) line.text.now h.reply xs shown) h.goes.steps;
 }
 
 pub answered_advances : (job : ℕ) (line : Line) (old new : Running) → HasAnswered job line old new → Advances job line line.next old new
@@ -280,7 +300,7 @@ pub has_answered_as : (job : ℕ) (line : Line) (asked : Result Command Refusal)
 has_answered_as job line asked reply old new replied goes never = record {
   reply = reply;
   replied = replied;
-  goes = record { stands = goes.stands; keeps = goes.keeps; allowed = λ s stands. goes.allowed s stands never; asks = goes.asks; grows = goes.grows; no_lock = goes.no_lock };
+  goes = record { steps = goes.steps; stands = goes.stands; keeps = goes.keeps; allowed = λ s stands. goes.allowed s stands never; asks = goes.asks; grows = goes.grows; no_lock = goes.no_lock };
 }
 
 -- one that is no TCOMMIT
@@ -299,11 +319,13 @@ committed_tried job line reply old new kept goes =
 
 -- one that is
 pub was_overtaken : (job : ℕ) (line : List ℕ) (reply : Reply) (old new : Running) → Asks job line Commit → MayGoOnAt job line (Ok Commit) reply old.sessions new.sessions → (new.replies ≡ old.replies) × (restarts : ℕ) × (reply ≡ Restarted restarts)
-    → WasOvertaken job old new
+    → WasOvertaken job line old new
 was_overtaken job line reply old new asks goes again = (
   again.0,
   again.1,
   record {
+    steps = subst (λ (r : Reply). HasDoneSteps (IsReplied Commit r) job old.sessions new.sessions) again.2
+        (shows_other (IsShownBy job line reply) (IsReplied Commit reply) job old.sessions new.sessions (λ xs shown. replied_commit job line reply again.1 xs asks again.2 shown) goes.steps);
     stands = λ s stands.
         subst (λ (r : Reply). StandsAt job new.sessions (told job Commit r s)) again.2
         (subst (λ (r : Result (ℕ × Command) Refusal). StandsAt job new.sessions (told_by job r reply s)) asks (goes.stands s stands));
@@ -313,6 +335,7 @@ was_overtaken job line reply old new asks goes again = (
     grows = goes.grows;
     no_lock = λ is. goes.no_lock (again.1, again.2);
   },
+  asks,
 )
 
 -- ---- blocks that are tried
@@ -426,6 +449,8 @@ begins job line old new asks h closed now = record {
       by_reply s (subst (λ (r : Result (ℕ × Command) Refusal). IsReplyTo (HasOperands line.text.now) job r h.reply (transaction_of job s)) asks (h.goes.allowed s stands).0);
   asks = λ j all each asked. h.goes.asks j all (λ c lock. each c (inl lock)) asked;
   grows = h.goes.grows;
+  steps = shows_other (IsShownBy job line.text.now h.reply) (AreShown job (line.text.now ∷ lines_of_script line.next.lines.now) (line.text.now ∷ []) (h.reply ∷ [])) job old.sessions new.sessions
+      (λ xs shown. line_shown job (line.text.now ∷ lines_of_script line.next.lines.now) line.text.now h.reply xs shown) h.goes.steps;
 }
   where
     on : (s : Machine) → StandsAt job old.sessions s → StandsAt job new.sessions (told job Start h.reply s)
@@ -460,18 +485,21 @@ begins_serves job line old new asks h = record {
       (asked_may job line.text.now Start h.reply (transaction_of job s) asks (h.allowed s stands), λ none. start_had job h.reply (transaction_of job s) (h.allowed s stands));
   asks = h.asks;
   grows = h.grows;
+  steps = h.steps;
 }
 
 -- the same behind a try
-pub begins_again : (job : ℕ) (line : Line) (old middle tried new : Running) → Begins job line old middle → IsBack job line.next.lines.now middle tried → new.sessions ≡ tried.sessions → new.replies ≡ middle.replies → Begins job line old new
-begins_again job line old middle tried new h back kept same = record {
+pub begins_again : (job : ℕ) (line : Line) (old middle tried new : Running) → Asks job line.text.now Start → Begins job line old middle → IsBack job line.next.lines.now middle tried → new.sessions ≡ tried.sessions → new.replies ≡ middle.replies → Begins job line old new
+begins_again job line old middle tried new asks h back kept same = record {
   reply = h.reply;
   replied = same ∙ h.replied;
   stands = λ s stands. (subst (λ (x : SessionsSoFar). StandsIn job x.books x.session (told job Start h.reply s)) (sym kept) (back.0 (told job Start h.reply s) (h.stands s stands).0 (h.stands s stands).1), (h.stands s stands).1);
   allowed = h.allowed;
   asks = λ j all each asked.
       subst (λ (x : SessionsSoFar). AreAskedFor j all (units_behind x.books x.session)) (sym kept) (back.1.0 j all (λ c later. each c (inr later)) (h.asks j all each asked));
-  grows = subst (λ (x : SessionsSoFar). backs_behind old.sessions.books old.sessions.session ≤ backs_behind x.books x.session) (sym kept) (backs_then old.sessions middle.sessions tried.sessions h.grows back.1.1);
+  grows = subst (λ (x : SessionsSoFar). backs_behind old.sessions.books old.sessions.session ≤ backs_behind x.books x.session) (sym kept) (backs_then old.sessions middle.sessions tried.sessions h.grows back.1.1.0);
+  steps = subst (λ (x : SessionsSoFar). HasDoneSteps (AreShown job (line.text.now ∷ lines_of_script line.next.lines.now) (line.text.now ∷ []) (h.reply ∷ [])) job old.sessions x) (sym kept)
+      (shown_tried job line.text.now (lines_of_script line.next.lines.now) h.reply old.sessions middle.sessions tried.sessions asks h.steps back.1.1.1);
 }
 
 -- the lines behind the TSTART were done
@@ -482,9 +510,9 @@ begins_advances job line behind old middle new asks h reached = record {
 }
 
 -- the TCOMMIT of a try found that it was overtaken
-stands_back : (job : ℕ) (text : List ℕ) (place : Cursor) (old middle new : Running) → Reaches job text place old middle → IsStillOpen old middle → WasOvertaken job middle new → (first : Machine) → StandsAt job old.sessions first → HasJustBegun (transaction_of job first)
+stands_back : (job : ℕ) (text line : List ℕ) (place : Cursor) (old middle new : Running) → Reaches job text place old middle → IsStillOpen old middle → WasOvertaken job line middle new → (first : Machine) → StandsAt job old.sessions first → HasJustBegun (transaction_of job first)
     → StandsAt job new.sessions first
-stands_back job text place old middle new h still over first stands just =
+stands_back job text line place old middle new h still over first stands just =
     let led : Leads job h.serves.lines_done h.serves.their_replies first middle.sessions = h.serves.leads first stands in
     let now : is_open old.sessions.session ≡ true = open_where_begun job old.sessions.books old.sessions.session first stands just in
     let s : Machine = led.machine in
@@ -498,17 +526,23 @@ stands_back job text place old middle new h still over first stands just =
     (told_then (backs first.units) old.sessions new.sessions gone kept)
     (still_granted first.units old.sessions new.sessions on (over.2.no_lock (over.1, refl)) gone (granted_in job old.sessions.books old.sessions.session first stands))
 
-pub is_back : (job : ℕ) (text : List ℕ) (place : Cursor) (old middle new : Running) → Reaches job text place old middle → IsStillOpen old middle → WasOvertaken job middle new → IsBack job text old new
-is_back job text place old middle new h still over = (
-  (λ first stands just. stands_back job text place old middle new h still over first stands just),
-  ((λ j all each asked. over.2.asks j all (λ c is. absurd (is_no_lock c is)) (h.serves.asks j all each asked)), backs_then old.sessions middle.sessions new.sessions h.serves.grows over.2.grows),
+pub is_back : (job : ℕ) (text : List ℕ) (place : Cursor) (line : Line) (old middle new : Running) → Reaches job text place old middle → IsStillOpen old middle → lines_of_script place.lines.now ≡ line.text.now ∷ lines_of_script line.next.lines.now → WasOvertaken job line.text.now middle new → IsBack job text old new
+is_back job text place line old middle new h still next over = (
+  (λ first stands just. stands_back job text line.text.now place old middle new h still over first stands just),
+  (
+    (λ j all each asked. over.2.asks j all (λ c is. absurd (is_no_lock c is)) (h.serves.asks j all each asked)),
+    (
+      backs_then old.sessions middle.sessions new.sessions h.serves.grows over.2.grows,
+      tried_to job (lines_of_script text) h.serves.lines_done (lines_of_script place.lines.now) (lines_of_script line.next.lines.now) line.text.now h.serves.their_replies over.1 old.sessions middle.sessions new.sessions h.serves.split next over.3 h.serves.steps over.2.steps,
+    ),
+  ),
 )
   where
     is_no_lock : (c : LockCommand) → Commit ≡ lock_command c → ⊥
     is_no_lock c is = absurd (cc)
 
-pub tried_replies : (job : ℕ) (text : List ℕ) (place : Cursor) (old middle new : Running) → Reaches job text place old middle → WasOvertaken job middle new → GoesOnFrom old.replies new.replies
-tried_replies job text place old middle new h over = (h.serves.their_replies, over.0 ∙ h.serves.replied)
+pub tried_replies : (job : ℕ) (text line : List ℕ) (place : Cursor) (old middle new : Running) → Reaches job text place old middle → WasOvertaken job line middle new → GoesOnFrom old.replies new.replies
+tried_replies job text line place old middle new h over = (h.serves.their_replies, over.0 ∙ h.serves.replied)
 
 pub still_none : (now : Running) → IsStillOpen now now
 still_none now before = (before, none_kept now.sessions)
@@ -543,5 +577,5 @@ pub ok_weaker : {A E : Type 0} {P Q : A → Type 0} (r : Result A E) → IfOk r 
 ok_weaker (Ok a) h f = f a h
 ok_weaker (Err e) h f = tt
 
-pub at_place : (scripts : List Wanted) (place : ℕ) (w : Wanted) (report : Answers) (books : List Book) → slice_get scripts place ≡ Some w → IsReport w report books → ∥ IsReportAt scripts place report books ∥₁
-at_place scripts place w report books at is = ∣ record { script = w; at = at; is_report = is } ∣₁
+pub at_place : (scripts : List Wanted) (place : ℕ) (w : Wanted) (report : Answers) (books : List Book) → slice_get scripts place ≡ Some w → IsReport w report books → HasRunAs w report books → ∥ IsReportAt scripts place report books ∥₁
+at_place scripts place w report books at is run = ∣ record { script = w; at = at; is_report = is; has_run = run } ∣₁

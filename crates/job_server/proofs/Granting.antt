@@ -16,11 +16,11 @@ use Rattle.journal.specs.Story.{Transaction, Machine, transaction_of, add_unit, 
 use Rattle.serial.specs.Machine.{told_had}
 use Rattle.job_core.specs.Sessions.{idle}
 use Rattle.shared_engine.specs.Receipts.{Book, claim}
-use Rattle.shared_engine.specs.Sessions.{Held, held, knowing, and_receipt, went_back, begun_anew, halted}
+use Rattle.shared_engine.specs.Sessions.{Held, held, and_receipt, went_back, begun_anew, halted}
 use Rattle.shared_engine.specs.Engines.{after_try, lock_unit}
-use Rattle.shared_engine.specs.Blocks.{moved, moved_open}
 use Rattle.job_server.specs.Told.{is_granted, grants, backs, units_of, units_in, others_of, AreGranted}
-use Rattle.job_server.specs.Telling.{HasItsLock, HasGoneBack, HasGranted, IsWithin, AreStillWithin, IsRestart, SessionsSoFar, sessions_so_far, units_behind, backs_behind, has_taken_lock, AreKeptOn}
+use Rattle.job_server.specs.Steps.{SessionsSoFar, sessions_so_far}
+use Rattle.job_server.specs.Telling.{HasItsLock, HasGoneBack, HasGranted, IsWithin, AreStillWithin, IsRestart, units_behind, backs_behind, has_taken_lock, AreKeptOn}
 use Rattle.job_server.proofs.Units.{units_more}
 use Rattle.job_server.proofs.GoingBack.{plus_none, backs_more, went_more, went_grows, noted_inside, halted_grows}
 
@@ -176,15 +176,6 @@ back_in n units job front s h (Some t) lock granted = by_test t.took_lock lock
 
 pub back_granted : (n : ℕ) (units : List JournalUnit) (front : List JournalUnit) (s : Machine) (h : Held) → HasGoneBack n s h → HasGranted n front s h → HasGranted n front (told_back h.state.work.job (transaction_of h.state.work.job s) s) (went_back units h)
 back_granted n units front s h gone granted = back_in n units h.state.work.job front s h (transaction_of h.state.work.job s) gone.1 granted
-
--- ---- before a block
-
-pub moved_granted : (n : ℕ) (front units : List JournalUnit) (s : Machine) (h : Held) → HasGranted n front s h → HasGranted n front s (moved_open units h)
-moved_granted n front units s h granted = by_test (nat_lt 0 h.state.level)
-  where
-    by_test : (b : Bool) → HasGranted n front s (if b then moved units h else knowing units h)
-    by_test true = granted
-    by_test false = granted
 
 -- ---- while a transaction stays open
 

@@ -1,7 +1,6 @@
 -- The level of a session in a block: no TSTART of it begins a transaction.
-use Rattle.std.proofs.Common.{◌≡◌, ◌≢◌, ◌⊎◌, inl, inr, ℕ, zero, suc, ◌+◌, ◌≤◌, ◌<◌, nat_lt, Bool, true, false, List, [], ◌∷◌, length, refl, sym, ap, ◌∙◌, subst, arith}
-use Rattle.std.specs.Prelude.{Some, Result, Ok, Err, min, if◌then◌else◌}
-use Rattle.std.proofs.lemmas.Bool.{ltb-true}
+use Rattle.std.proofs.Common.{◌≡◌, ◌≢◌, ◌⊎◌, inl, inr, ℕ, zero, suc, ◌+◌, ◌≤◌, ◌<◌, Bool, List, [], ◌∷◌, refl, sym, ap, ◌∙◌, subst, arith}
+use Rattle.std.specs.Prelude.{Result, Ok, Err, min}
 use Rattle.std.proofs.lemmas.List.Elements.{All-rest}
 use Rattle.refusal.specs.declared.Refusal.{Refusal}
 use Rattle.refusal.specs.declared.Refusal.TheVariants.{LevelTooDeep, Again}
@@ -14,9 +13,9 @@ use Rattle.command.specs.declared.request.Reply.{Reply}
 use Rattle.command.specs.declared.request.Reply.TheVariants.{AtLevel, Refused}
 use Rattle.journal.specs.declared.unit.Unit.{Unit as JournalUnit}
 use Rattle.shared_engine.specs.Sessions.{Held, knowing}
-use Rattle.shared_engine.specs.Blocks.{said, IsTried, IsDeeper, IsRestarted, HasDone, AreDone, moved, moved_open}
+use Rattle.shared_engine.specs.Blocks.{said, IsTried, IsDeeper, IsRestarted, HasDone, AreDone}
 use Rattle.job_scripts.specs.Blocks.{level_after, IsOneBlock}
-use Rattle.job_server.specs.Telling.{AreDataCommands, BeginNone, NoneAgain}
+use Rattle.job_server.specs.Telling.{HaveNoHalt, AreDataCommands, NoneAgain}
 use Rattle.job_server.proofs.Standing.{tried_level}
 use Rattle.job_server.proofs.Doing.{same_level}
 
@@ -94,14 +93,13 @@ none_again_of_data (c ∷ cs) (r ∷ rs) all =
     not_start : (d : DataCommand) → Access d ≢ Start
     not_start d is = absurd (cc)
 
-open_moved : (units : List JournalUnit) (old : Held) → 1 ≤ old.state.level → 1 ≤ (moved_open units old).state.level
-open_moved units old one = by_test (nat_lt 0 old.state.level)
+-- nor HALT
+pub no_halts : (commands : List Command) → AreDataCommands commands → HaveNoHalt commands
+no_halts commands all k command lt is = absurd (not_halt (all k command lt).0 (sym (all k command lt).1 ∙ is))
   where
-    by_test : (b : Bool) → 1 ≤ (if b then moved units old else knowing units old).state.level
-    by_test true = one
-    by_test false = one
+    not_halt : (d : DataCommand) → Access d ≢ Halt
+    not_halt d same = absurd (cc)
 
-pub none_again : (commands : List Command) (replies : List Reply) (units more : List JournalUnit) (old new : Held) → BeginNone commands (Some old) → AreDone commands replies units more (moved_open units old) new → NoneAgain commands replies
-none_again commands replies units more old new (inl all) done = none_again_of_data commands replies all
-none_again commands replies units more old new (inr inside) done =
-    again_inside commands replies units more (moved_open units old) new 1 (omega arith) (open_moved units old (omega (arith, ltb-true 0 old.state.level inside.0))) inside.1 done
+-- in one that has begun anew none begins another
+pub none_again : (commands : List Command) (replies : List Reply) (units more : List JournalUnit) (old new : Held) → 1 ≤ old.state.level → IsOneBlock 1 commands → AreDone commands replies units more old new → NoneAgain commands replies
+none_again commands replies units more old new inside one done = again_inside commands replies units more old new 1 (omega arith) inside one done

@@ -12,11 +12,14 @@ pub mod Granting
 pub mod Handing
 pub mod Levels
 pub mod Loads
+pub mod OneRun
 pub mod Outputs
 pub mod Reading
 pub mod Refusing
 pub mod Sent
 pub mod Standing
+pub mod Stepped
+pub mod Stepping
 pub mod Turning
 pub mod Units
 pub mod Waiting

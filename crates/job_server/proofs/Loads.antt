@@ -6,9 +6,12 @@ use Rattle.collation.specs.Reference.{Reference}
 use Rattle.command.specs.declared.access.Answer.{Answer}
 use Rattle.command.specs.declared.access.Answer.TheVariants.{Done}
 use Rattle.command.specs.declared.access.DataCommand.TheVariants.{Set}
+use Rattle.command.specs.declared.request.Command.TheVariants.{Access}
+use Rattle.command.specs.declared.request.Reply.TheVariants.{Answered}
 use Rattle.journal.specs.declared.unit.Unit.{Unit as JournalUnit}
 use Rattle.journal.specs.declared.unit.Unit.TheVariants.{Lone, End}
 use Rattle.journal.specs.Kept.{Claim}
+use Rattle.serial.specs.Interleaving.{Told}
 use Rattle.job_core.specs.Sessions.{idle}
 use Rattle.pin_board.specs.Slips.{IsInJournal, AreInJournal, IsBeginning}
 use Rattle.shared_engine.specs.Blocks.{IsLone}
@@ -19,7 +22,10 @@ use Rattle.loading.specs.Pending.{Pending, asked_of}
 use Rattle.loading.specs.Loaded.{units_of}
 use Rattle.loading.specs.laws.Before.{before_none, before_next, before_end, fault_before}
 use Rattle.loading.specs.declared.fault.LoadFault.TheVariants as load_faults
-use Rattle.job_server.specs.Loads.{unit_of, claims_from, load_book, load_books, BeginsWith, AreReceiptsOf, HasSet, HasSetTo, HasSetAll, IsBookOf, IsLoaded, IsOfAnyLoad, IsUnservedOf}
+use Rattle.job_server.specs.Loads.{unit_of, claims_from, load_book, load_books, BeginsWith, AreSets, AreLoadSteps, HasRunLoad, AreReceiptsOf, HasSet, HasSetTo, HasSetAll, IsBookOf, IsLoaded, IsOfAnyLoad, IsUnservedOf}
+use Rattle.job_server.specs.Steps.{SessionsSoFar, sessions_so_far, WasDoneBy, AreSteps, HasDoneSteps}
+use Rattle.job_server.proofs.Stepped.{lone_stepped}
+use Rattle.job_server.proofs.Stepping.{between_opened, steps_then, one_call, halt_call}
 use Rattle.job_server.specs.declared.fault.Unserved.{Unserved}
 use Rattle.job_server.specs.declared.fault.Unserved.TheVariants.{Load, Jobs}
 
@@ -81,6 +87,23 @@ count_up ss cs ns same rises are h =
     let last : last_from 0 (map number_of cs) ≡ length cs = ap (last_from 0) same ∙ last_is ns h ∙ sym (ap length same) ∙ length_numbers cs in
     exact 0 ss cs rises are (omega (arith, last))
 
+-- ---- steps
+
+sets_push : (ss : List Setting) (s : Setting) (xs : List Told) (x : Told) → AreSets ss xs → (x.command ≡ Access (Set s.0 s.1)) × (x.reply ≡ Answered Done) → AreSets (ss ++ s ∷ []) (xs ++ x ∷ [])
+sets_push [] s [] x are is = (is, tt)
+sets_push [] s (y ∷ ys) x are is = absurd are
+sets_push (t ∷ ts) s [] x are is = absurd are
+sets_push (t ∷ ts) s (y ∷ ys) x are is = (are.0, sets_push ts s ys x are.1 is)
+
+sets_then : (ss : List Setting) (s : Setting) (a b c : SessionsSoFar) → HasDoneSteps (AreSets ss) 1 a b → (x : Told) × ((x.command ≡ Access (Set s.0 s.1)) × (x.reply ≡ Answered Done)) × AreSteps 1 (x ∷ []) b c → HasDoneSteps (AreSets (ss ++ s ∷ [])) 1 a c
+sets_then ss s a b c h one = (h.0 ++ one.0 ∷ [], sets_push ss s h.0 one.0 h.1 one.1, steps_then 1 h.0 (one.0 ∷ []) a b c h.2 one.2)
+
+load_steps : (ss : List Setting) (h : Held) (b : Book) (units : List JournalUnit) → IsBeginning units h.seen → b ≡ halted units h → HasDoneSteps (AreSets ss) 1 (sessions_so_far [] None) (sessions_so_far [] (Some h)) → HasDoneSteps (AreLoadSteps ss) 1 (sessions_so_far [] None) (sessions_so_far (b ∷ []) None)
+load_steps ss h b units goes_on is sets =
+    let end = halt_call 1 [] units h goes_on in
+    subst (λ (p : Book). HasDoneSteps (AreLoadSteps ss) 1 (sessions_so_far [] None) (sessions_so_far (p ∷ []) None)) (sym is)
+    (sets.0 ++ end.0 ∷ [], (sets.0, end.0, refl, sets.1, end.1), steps_then 1 sets.0 (end.0 ∷ []) (sessions_so_far [] None) (sessions_so_far [] (Some h)) (sessions_so_far (halted units h ∷ []) None) sets.2 end.2)
+
 -- ---- the session
 
 -- no transaction is open
@@ -89,15 +112,22 @@ level_set ss h set = ap (λ (x : Held). x.state.level) set.is
 
 -- nothing was done
 pub none_set : (h : Held) → ((units : List JournalUnit) × (h ≡ held (idle 1) None [] [] units)) → HasSet [] h
-none_set h begun = record { receipts = []; seen = begun.0; are_of = tt; is = begun.1 }
+none_set h begun = record {
+  receipts = [];
+  seen = begun.0;
+  are_of = tt;
+  is = begun.1;
+  steps = subst (λ (x : Held). HasDoneSteps (AreSets []) 1 (sessions_so_far [] None) (sessions_so_far [] (Some x))) (sym begun.1) ([], tt, between_opened 1 [] begun.0 tt);
+}
 
 -- one setting more
-pub set_more : (ss : List Setting) (s : Setting) (units : List JournalUnit) (old new : Held) → HasSet ss old → new ≡ and_receipt units (unit_of s) old → HasSet (ss ++ s ∷ []) new
-set_more ss s units old new set is = record {
+pub set_more : (ss : List Setting) (s : Setting) (units : List JournalUnit) (old new : Held) → HasSet ss old → new ≡ and_receipt units (unit_of s) old → WasDoneBy (Access (Set s.0 s.1)) (Answered Done) old new → HasSet (ss ++ s ∷ []) new
+set_more ss s units old new set is done = record {
   receipts = set.receipts ++ claim (length units + 1) (unit_of s) ∷ [];
   seen = units ++ unit_of s ∷ [];
   are_of = receipt_more ss set.receipts s (length units + 1) set.are_of;
   is = is ∙ ap (and_receipt units (unit_of s)) set.is;
+  steps = sets_then ss s (sessions_so_far [] None) (sessions_so_far [] (Some old)) (sessions_so_far [] (Some new)) set.steps (one_call 1 [] (Set s.0 s.1) (Answered Done) old new done);
 }
 
 -- the same, of what the engine answered
@@ -105,6 +135,7 @@ pub set_by_lone : (key : Reference) (value : List ℕ) (answer : Answer) (old ne
 set_by_lone key value answer old new h done ss set =
     let job : old.state.work.job ≡ 1 = ap (λ (x : Held). x.state.work.job) set.is in
     set_more ss (key, value) h.0 old new set (h.2.1.1 ∙ ap (λ (j : ℕ). and_receipt h.0 (Lone j (Set key value) answer) old) job ∙ ap (λ (a : Answer). and_receipt h.0 (Lone 1 (Set key value) a) old) done)
+    (subst (λ (a : Answer). WasDoneBy (Access (Set key value)) (Answered a) old new) done (lone_stepped (Set key value) (Ok answer) old new (level_set ss old set) h))
 
 pub first_set : (first : Setting) (asked : Result (List Setting) TextFault) (h : Held) → HasSet (first ∷ []) h → HasSetTo first asked asked h
 first_set first asked h set = record { more = []; goes_on = before_none asked; set = set }
@@ -122,7 +153,7 @@ last_set first asked left h so none = record { more = so.more; is = before_end s
 
 -- its book
 pub closed_book : (ss : List Setting) (h : Held) (b : Book) (ns : List ℕ) → HasSet ss h → map number_of h.receipts ≡ ns → RisesFrom 0 h.receipts → get_or ns (length ns - 1) 0 ≡ length ns → ((units : List JournalUnit) × IsBeginning units h.seen × (b ≡ halted units h))
-    → (ended : List JournalUnit) × (b ≡ load_book ended ss)
+    → (ended : List JournalUnit) × (b ≡ load_book ended ss) × HasDoneSteps (AreLoadSteps ss) 1 (sessions_so_far [] None) (sessions_so_far (b ∷ []) None)
 closed_book ss h b ns set same rises last closed =
     let units : List JournalUnit = closed.0 in
     let now : List JournalUnit = units ++ End 1 ∷ [] in
@@ -131,12 +162,12 @@ closed_book ss h b ns set same rises last closed =
     let number : length units + 1 ≡ length now = sym (length-append units (End 1 ∷ [])) in
     let ended : halted units h ≡ book 1 h.receipts (claim (length now) (End 1) ∷ []) now =
     ap (halted units) set.is ∙ (ap (λ (cs : List Claim). book 1 cs (claim (length units + 1) (End 1) ∷ []) now) (sym receipts) ∙ ap (λ (n : ℕ). book 1 h.receipts (claim n (End 1) ∷ []) now) number) in
-    (now, closed.2 ∙ ended ∙ ap (λ (cs : List Claim). book 1 cs (claim (length now) (End 1) ∷ []) now) (count_up ss h.receipts ns same rises are last))
+    (now, closed.2 ∙ ended ∙ ap (λ (cs : List Claim). book 1 cs (claim (length now) (End 1) ∷ []) now) (count_up ss h.receipts ns same rises are last), load_steps ss h b units closed.1 closed.2 set.steps)
 
 -- the same, where its session closes
-pub book_on : {E : Type 0} (r : Result Book E) (first : Setting) (asked : Result (List Setting) TextFault) (h : Held) → HasSetAll first asked h → IfOk r (λ b. (s : Setting) (more : List Setting) → HasSet (s ∷ more) h → (ended : List JournalUnit) × (b ≡ load_book ended (s ∷ more)))
+pub book_on : {E : Type 0} (r : Result Book E) (first : Setting) (asked : Result (List Setting) TextFault) (h : Held) → HasSetAll first asked h → IfOk r (λ b. (s : Setting) (more : List Setting) → HasSet (s ∷ more) h → (ended : List JournalUnit) × (b ≡ load_book ended (s ∷ more)) × HasRunLoad (s ∷ more) (b ∷ []))
     → IfOk r (IsBookOf first asked)
-book_on (Ok b) first asked h set is = let last = is first set.more set.set in record { more = set.more; ended = last.0; is = set.is; book_is = last.1 }
+book_on (Ok b) first asked h set is = let last = is first set.more set.set in record { more = set.more; ended = last.0; is = set.is; book_is = last.1; has_run = last.2 }
 book_on (Err e) first asked h set is = tt
 
 -- ---- faults
@@ -156,7 +187,7 @@ fault_left so_far asked left (Jobs fault) is h = tt
 
 -- it sets nothing
 pub none_loaded : (listing : List ℕ) (p : Pending) → settings_of listing ≡ asked_of p → asked_of p ≡ Ok [] → IsLoaded listing []
-none_loaded listing p is none = record { settings = []; ended = []; asked = is ∙ none; books_are = refl }
+none_loaded listing p is none = record { settings = []; ended = []; asked = is ∙ none; books_are = refl; has_run = tt }
 
 -- its settings have a book
 pub book_loaded : (listing : List ℕ) (first : Setting) (p later : Pending) (b : Book) (books : List Book) → settings_of listing ≡ asked_of p → asked_of p ≡ before (first ∷ []) (asked_of later) → IsBookOf first (asked_of later) b → books ≡ b ∷ [] → IsLoaded listing books
@@ -165,6 +196,7 @@ book_loaded listing first p later b books is next h are = record {
   ended = h.ended;
   asked = is ∙ next ∙ ap (before (first ∷ [])) h.is;
   books_are = are ∙ ap (λ (x : Book). x ∷ []) h.book_is;
+  has_run = subst (λ (bs : List Book). HasRunLoad (first ∷ h.more) bs) (sym are) h.has_run;
 }
 
 -- ---- the journal

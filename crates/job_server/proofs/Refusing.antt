@@ -1,6 +1,6 @@
 -- Lines without a job are refused, each for its own fault.
 use Rattle.std.proofs.Common.{◌≡◌, inl, inr, ℕ, List, [], ◌∷◌, ◌++◌, refl, sym, ◌∙◌, ap, subst, append_assoc, append-nil}
-use Rattle.std.specs.Prelude.{None, Result, Ok, Err}
+use Rattle.std.specs.Prelude.{Option, None, Result, Ok, Err}
 use Rattle.refusal.specs.declared.Refusal.{Refusal}
 use Rattle.refusal.specs.declared.Refusal.TheVariants.{BadJob, OutOfMemory}
 use Rattle.command.specs.declared.request.Command.{Command}
@@ -11,6 +11,7 @@ use Rattle.shared_engine.specs.Receipts.{Book}
 use Rattle.job_scripts.specs.Lines.{lines_of_script}
 use Rattle.job_server.specs.Causes.{IsReplyToNone}
 use Rattle.job_server.specs.Told.{AreRepliesToNone, IsTold}
+use Rattle.job_server.specs.Steps.{HasRunScript}
 use Rattle.job_server.specs.Telling.{Refuses, IsFaultOfNone}
 
 -- a line that can be read
@@ -47,3 +48,7 @@ refuses_then lines middle rest old between new h k = record {
 pub none_told : (text : List ℕ) (none replies : List Reply) (books : List Book) → none ≡ [] → books ≡ [] → Refuses (lines_of_script text) [] none replies → IsTold None text replies books
 none_told text none replies books empty no_books h =
     (no_books, subst (λ (rs : List Reply). AreRepliesToNone (lines_of_script text) rs) (append-nil h.their_replies ∙ sym (h.replied ∙ ap (λ (rs : List Reply). rs ++ h.their_replies) empty)) (h.replies_are [] tt))
+
+-- and no step is done
+pub none_run : (job : Option ℕ) (text : List ℕ) (replies : List Reply) (books : List Book) → job ≡ None → HasRunScript job text replies books
+none_run job text replies books none = subst (λ (o : Option ℕ). HasRunScript o text replies books) (sym none) tt

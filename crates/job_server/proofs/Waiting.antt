@@ -1,7 +1,6 @@
 -- A block whose LOCK was blocked: its job waits for the names, and stands again as behind its TSTART.
-use Rattle.std.proofs.Common.{◌≡◌, ◌≢◌, inl, inr, ℕ, zero, suc, ◌+◌, ◌≤◌, ◌<◌, nat_lt, Bool, true, false, List, [], ◌∷◌, ◌++◌, length, refl, sym, ap, ◌∙◌, subst, arith, true≢false}
-use Rattle.std.specs.Prelude.{⊤, Option, Some, None, Result, Ok, Err, slice_index_or, if◌then◌else◌}
-use Rattle.std.proofs.lemmas.Bool.{lt-ltb, ltb-true}
+use Rattle.std.proofs.Common.{◌≡◌, ◌≢◌, inl, inr, ℕ, zero, suc, ◌+◌, ◌≤◌, ◌<◌, Bool, true, false, List, [], ◌∷◌, ◌++◌, length, refl, sym, ap, ◌∙◌, subst, arith, true≢false}
+use Rattle.std.specs.Prelude.{⊤, Option, Some, None, Result, Ok, slice_index_or}
 use Rattle.refusal.specs.declared.Refusal.{Refusal}
 use Rattle.lock_name.specs.declared.lock.LockCommand.{LockCommand}
 use Rattle.command.specs.declared.request.Command.{Command}
@@ -12,22 +11,27 @@ use Rattle.journal.specs.declared.unit.Unit.{Unit as JournalUnit}
 use Rattle.journal.specs.Story.{Transaction, Machine, transaction_of}
 use Rattle.serial.specs.Machine.{told_had}
 use Rattle.shared_engine.specs.Receipts.{Book}
-use Rattle.shared_engine.specs.Sessions.{Held, IsAt, knowing, begun_anew}
+use Rattle.shared_engine.specs.Sessions.{Held, begun_anew}
 use Rattle.shared_engine.specs.declared.serial_run.SerialRun.{SerialRun}
-use Rattle.shared_engine.specs.declared.serial_run.SerialRun.TheVariants.{Done, Blocked}
+use Rattle.shared_engine.specs.declared.serial_run.SerialRun.TheVariants.{Blocked}
 use Rattle.pin_board.specs.Slips.{IsBeginning}
-use Rattle.shared_engine.specs.Blocks.{said, IsRestarted, HasDone, AreDone, HasCome, moved, moved_open}
-use Rattle.job_scripts.specs.Blocks.{level_after, IsOneBlock, AreAsked, AreInFront}
+use Rattle.shared_engine.specs.Blocks.{said, IsRestarted, AreDone, HasCome}
+use Rattle.shared_engine.specs.Engines.{gone_back}
+use Rattle.job_scripts.specs.Blocks.{level_after, IsOneBlock, in_place, AreAsked, AreInFront}
 use Rattle.job_scripts.specs.Lines.{lines_of_script, Asks}
 use Rattle.job_server.specs.declared.cursor.Cursor.{Cursor}
 use Rattle.job_server.specs.Told.{given, units_of, units_in, backs, others_of, OneAsksFor}
-use Rattle.job_server.specs.Telling.{Shows, HasItsLock, IsLockOf, Follows, AreStillTold, AreStillAsked, AreStillWithin, HasLocked, is_open, StandsIn, sessions_so_far, AreKeptOn, Running, running, HasRun, HasWaited, HasWaitedFor, HasJustBegun, Serves, Reaches, IsBack, HasTriedAlone}
-use Rattle.job_server.proofs.Doing.{done_follows, moved_job, moved_receipts}
+use Rattle.job_server.specs.Steps.{SessionsSoFar, sessions_so_far, WasDoneBy, HasDoneSteps, AreTries}
+use Rattle.job_server.specs.Telling.{Shows, HasItsLock, IsNoLock, IsLockOf, Follows, AreStillTold, AreStillAsked, AreStillWithin, HasLocked, StandsIn, AreKeptOn, Running, running, BeganAnew, HasRunAnew, HasWaited, HasWaitedFor, HasJustBegun, Serves, Reaches, IsBackAt, HasTriedAlone}
+use Rattle.job_server.proofs.Doing.{done_follows}
 use Rattle.job_server.proofs.Following.{same_told, anew_at, locked_follows, restarted_follows}
 use Rattle.job_server.proofs.Levels.{level_done, never_inside}
-use Rattle.job_server.proofs.GoingBack.{moved_others, same_count, step_backs, told_then}
+use Rattle.job_server.proofs.GoingBack.{same_count, step_backs, told_then}
 use Rattle.job_server.proofs.Granting.{same_within, still_granted}
 use Rattle.job_server.proofs.Asking.{held_asked, asks_front}
+use Rattle.job_server.proofs.AtOnce.{IsAll, anew_serves}
+use Rattle.job_server.proofs.Stepped.{restart_stepped, locked_stepped}
+use Rattle.job_server.proofs.Stepping.{tries_done, restart_tries, cut_tries, lock_tries, waited_tries}
 
 -- ---- a transaction that stays open
 
@@ -130,31 +134,10 @@ done_stays locks (c ∷ (d ∷ cs)) (r ∷ rs) units more old new n one below bl
     (stays_on locks c r old done.1 (done_follows c r units done.0 old done.1 (never_inside c r units done.0 old done.1 (omega (arith, one, below)) done.2) done.2) (omega (arith, one, below)) (omega (arith, block.0, level)) all.0)
     (done_stays locks (d ∷ cs) rs done.0 more done.1 new (level_after c n) block.0 level block.1 all.1 done.3 after)
 
--- its start was moved
-moved_took : (units : List JournalUnit) (h : Held) → (moved_open units h).state.took_lock ≡ h.state.took_lock
-moved_took units h = by_test (nat_lt 0 h.state.level)
-  where
-    by_test : (b : Bool) → (if b then moved units h else knowing units h).state.took_lock ≡ h.state.took_lock
-    by_test true = refl
-    by_test false = refl
-
-moved_level : (units : List JournalUnit) (h : Held) → (moved_open units h).state.level ≡ h.state.level
-moved_level units h = by_test (nat_lt 0 h.state.level)
-  where
-    by_test : (b : Bool) → (if b then moved units h else knowing units h).state.level ≡ h.state.level
-    by_test true = refl
-    by_test false = refl
-
-moved_stays : (locks : LockCommand → Type 0) (units : List JournalUnit) (h : Held) → Stays locks h (moved_open units h)
-moved_stays locks units h = stays_same locks h (moved_open units h) (moved_job units h) (moved_receipts units h) (moved_others units h) (moved_took units h)
-
 -- it was done up to a LOCK that was blocked
-pub cut_stays : (locks : LockCommand → Type 0) (musts : List Bool) (commands : List Command) (place : ℕ) (units more : List JournalUnit) (old new : Held) → 1 ≤ old.state.level → IsOneBlock 1 commands → AreLocks locks commands → HasCome musts commands (Blocked place) units more (moved_open units old) new
-    → 1 ≤ new.state.level → Stays locks old new
+cut_stays : (locks : LockCommand → Type 0) (musts : List Bool) (commands : List Command) (place : ℕ) (units more : List JournalUnit) (old new : Held) → 1 ≤ old.state.level → IsOneBlock 1 commands → AreLocks locks commands → HasCome musts commands (Blocked place) units more old new → 1 ≤ new.state.level → Stays locks old new
 cut_stays locks musts commands place units more old new inside one all cut after =
-    stays_then locks old (moved_open units old) new (moved_stays locks units old)
-    (done_stays locks cut.front (cut.before ++ cut.last ∷ []) units more (moved_open units old) new 1 (omega arith) (omega (arith, inside, moved_level units old))
-    (one_front 1 cut.front cut.back (subst (λ (cs : List Command). IsOneBlock 1 cs) cut.split one)) (locks_front locks cut.front cut.back (subst (λ (cs : List Command). AreLocks locks cs) cut.split all)) cut.done after)
+    done_stays locks cut.front (cut.before ++ cut.last ∷ []) units more old new 1 (omega arith) inside (one_front 1 cut.front cut.back (subst (λ (cs : List Command). IsOneBlock 1 cs) cut.split one)) (locks_front locks cut.front cut.back (subst (λ (cs : List Command). AreLocks locks cs) cut.split all)) cut.done after
 
 -- ---- waiting
 
@@ -165,11 +148,15 @@ begun_stays locks units old one =
     no_lock : (c : LockCommand) → Restart ≡ lock_command c → ⊥
     no_lock c is = absurd (cc)
 
-pub began_anew : (old new : Held) → (restarts : ℕ) → ((units : List JournalUnit) × IsBeginning units old.seen × IsRestarted (Ok restarts) units new.seen old new) → (units : List JournalUnit) × (new ≡ begun_anew units old)
-began_anew old new restarts h = (new.seen, h.2.1.1)
+-- a TRESTART by the server
+begins_anew : (units : List JournalUnit) (old : Held) → 1 ≤ old.state.level → IsBeginning units old.seen → WasDoneBy Restart (Restarted (begun_anew (gone_back old.state units) old).state.restarts) old (begun_anew (gone_back old.state units) old)
+begins_anew units old one goes_on =
+    let begun : Held = begun_anew (gone_back old.state units) old in restart_stepped (Ok begun.state.restarts) old begun one (units, goes_on, (refl, (refl, refl)))
 
-pub waited : (command : LockCommand) (done : Result Bool Refusal) (old anew locked new : Held) → 1 ≤ old.state.level → ((units : List JournalUnit) × (anew ≡ begun_anew units old)) → HasLocked command done anew locked → 1 ≤ locked.state.level
-    → ((units : List JournalUnit) × (new ≡ begun_anew units locked)) → HasWaited command old new
+pub began_anew : (old new : Held) → (restarts : ℕ) → 1 ≤ old.state.level → ((units : List JournalUnit) × IsBeginning units old.seen × IsRestarted (Ok restarts) units new.seen old new) → BeganAnew old new
+began_anew old new restarts one h = (new.seen, h.2.1.1, subst (λ (n : ℕ). WasDoneBy Restart (Restarted n) old new) h.2.0 (restart_stepped (Ok restarts) old new one h))
+
+pub waited : (command : LockCommand) (done : Result Bool Refusal) (old anew locked new : Held) → 1 ≤ old.state.level → BeganAnew old anew → HasLocked command done anew locked → 1 ≤ locked.state.level → BeganAnew locked new → HasWaited command old new
 waited command done old anew locked new began first tried still second = record {
   first = first.0;
   second = second.0;
@@ -179,6 +166,8 @@ waited command done old anew locked new began first tried still second = record 
   tried = subst (λ (h : Held). HasLocked command done h locked) first.1 tried;
   still = still;
   anew = second.1;
+  first_done = subst (λ (h : Held). WasDoneBy Restart (Restarted h.state.restarts) old h) first.1 first.2;
+  last_done = subst (λ (h : Held). WasDoneBy Restart (Restarted h.state.restarts) locked h) second.1 second.2;
 }
 
 waited_stays : (locks : LockCommand → Type 0) (command : LockCommand) (old new : Held) → locks command → HasWaited command old new → Stays locks old new
@@ -235,33 +224,59 @@ stands_again locks job books units old last first stays one stands begun = (
     lock_begun None b = absurd b
     lock_begun (Some x) b = λ took. absurd (true≢false (sym took ∙ b.1.1.1))
 
-is_level : (n : ℕ) → nat_lt 0 n ≡ true → 1 ≤ n
-is_level n h = omega (arith, ltb-true 0 n h)
-
--- a block's LOCK was blocked, and its job has waited for these names
-pub blocked_back : (job : ℕ) (text : List ℕ) (rest : List (List ℕ)) (places : List (Option Refusal)) (commands : List Command) (musts : List Bool) (run : SerialRun) (place : ℕ) (command : LockCommand) (replies more_replies : List Reply) (books : List Book) (session middle later : Option Held)
-    → is_open session ≡ true → IsOneBlock 1 commands → AreInFront job (lines_of_script text) rest places commands musts → HasRun musts commands run session middle → run ≡ Blocked place → OneAsksFor job (lines_of_script text) command → HasWaitedFor command middle later → more_replies ≡ replies
-    → IsBack job text (running replies (sessions_so_far books session)) (running more_replies (sessions_so_far books later)) × (more_replies ≡ replies)
-blocked_back job text rest places commands musts run place command replies more_replies books None middle later inside one in_front ran blocked asks waited same = absurd ran
-blocked_back job text rest places commands musts run place command replies more_replies books (Some old) None later inside one in_front ran blocked asks waited same = absurd ran
-blocked_back job text rest places commands musts run place command replies more_replies books (Some old) (Some middle) None inside one in_front ran blocked asks waited same = absurd waited
-blocked_back job text rest places commands musts run place command replies more_replies books (Some old) (Some middle) (Some new) inside one in_front ran blocked asks waited same = (
+-- it stands so behind a TRESTART
+back_stands : (locks : LockCommand → Type 0) (job : ℕ) (text : List ℕ) (units : List JournalUnit) (replies more_replies : List Reply) (books : List Book) (old last : Held) → ((c : LockCommand) → locks c → OneAsksFor job (lines_of_script text) c) → 1 ≤ old.state.level → Stays locks old (begun_anew units last) → HasDoneSteps (AreTries job (lines_of_script text)) job (sessions_so_far books (Some old)) (sessions_so_far books (Some (begun_anew units last))) → more_replies ≡ replies
+    → IsBackAt job text (running replies (sessions_so_far books (Some old))) (running more_replies (sessions_so_far books (Some (begun_anew units last))))
+back_stands locks job text units replies more_replies books old last each inside stays steps same = (
   (
-    (λ first stands begun. subst (λ (h : Held). StandsIn job books (Some h) first) (sym waited.anew)
-        (stands_again locks job books waited.second old waited.locked first (subst (λ (h : Held). Stays locks old h) waited.anew stays) (is_level old.state.level inside) stands begun)),
-    (stays.asks (units_in books), step_backs books old new stays.grows),
+    (λ first stands begun. stands_again locks job books units old last first stays inside stands begun),
+    ((λ j all asks asked. stays.asks (units_in books) j all (λ c lock. asks c (each c lock)) asked), (step_backs books old (begun_anew units last) stays.grows, steps)),
   ),
   same,
 )
+
+-- where a block's LOCK was blocked, its job has waited for these names
+pub blocked_back : (job : ℕ) (text : List ℕ) (rest : List (List ℕ)) (places : List (Option Refusal)) (commands : List Command) (musts : List Bool) (run : SerialRun) (place : ℕ) (command : LockCommand) (replies more_replies : List Reply) (books : List Book) (session middle later : Option Held)
+    → AreInFront job (lines_of_script text) rest places commands musts → HasRunAnew musts commands run session middle → run ≡ Blocked place → OneAsksFor job (lines_of_script text) command → HasWaitedFor command middle later → more_replies ≡ replies
+    → IsBackAt job text (running replies (sessions_so_far books session)) (running more_replies (sessions_so_far books later))
+blocked_back job text rest places commands musts run place command replies more_replies books None middle later in_front ran blocked asks waited same = absurd ran
+blocked_back job text rest places commands musts run place command replies more_replies books (Some old) None later in_front ran blocked asks waited same = absurd ran
+blocked_back job text rest places commands musts run place command replies more_replies books (Some old) (Some middle) None in_front ran blocked asks waited same = absurd waited
+blocked_back job text rest places commands musts run place command replies more_replies books (Some old) (Some middle) (Some new) in_front ran blocked asks waited same =
+    subst (λ (h : Held). IsBackAt job text (running replies (sessions_so_far books (Some old))) (running more_replies (sessions_so_far books (Some h)))) (sym waited.anew)
+    (back_stands locks job text waited.second replies more_replies books old waited.locked (λ c lock. lock) ran.0.0 (subst (λ (h : Held). Stays locks old h) waited.anew stays) tries same)
   where
     locks : LockCommand → Type 0
     locks = OneAsksFor job (lines_of_script text)
 
+    units : List JournalUnit
+    units = gone_back old.state ran.1
+
+    begun : Held
+    begun = begun_anew units old
+
     stays : Stays locks old new
-    stays = stays_then locks old middle new
-        (cut_stays locks musts commands place ran.2 ran.3 old middle (is_level old.state.level inside) one (block_locks job (lines_of_script text) rest places commands musts in_front)
-        (subst (λ (r : SerialRun). HasCome musts commands r ran.2 ran.3 (moved_open ran.2 old) middle) blocked ran.5) waited.began)
-        (waited_stays locks command middle new asks waited)
+    stays = stays_then locks old begun new (begun_stays locks units old ran.0.0)
+        (stays_then locks begun middle new
+        (cut_stays locks musts commands place units middle.seen begun middle (omega arith) ran.0.1 (block_locks job (lines_of_script text) rest places commands musts in_front) (subst (λ (r : SerialRun). HasCome musts commands r units middle.seen begun middle) blocked ran.3) waited.began)
+        (waited_stays locks command middle new asks waited))
+
+    lines : List (List ℕ)
+    lines = lines_of_script text
+
+    stands_with : Held → SessionsSoFar
+    stands_with h = sessions_so_far books (Some h)
+
+    cut : HasCome musts commands (Blocked place) units middle.seen begun middle
+    cut = subst (λ (r : SerialRun). HasCome musts commands r units middle.seen begun middle) blocked ran.3
+
+    tries : HasDoneSteps (AreTries job lines) job (stands_with old) (stands_with (begun_anew waited.second waited.locked))
+    tries = waited_tries job lines (stands_with old) (stands_with begun) (stands_with middle) (stands_with (begun_anew waited.first middle)) (stands_with waited.locked) (stands_with (begun_anew waited.second waited.locked))
+        (restart_tries job lines books begun.state.restarts old begun (begins_anew ran.1 old ran.0.0 ran.2))
+        (cut_tries job books lines rest places musts commands cut.front cut.back (cut.before ++ cut.last ∷ []) units middle.seen begun middle in_front cut.split refl cut.done)
+        (restart_tries job lines books (begun_anew waited.first middle).state.restarts middle (begun_anew waited.first middle) waited.first_done)
+        (lock_tries job books lines command (said (told_had command) waited.done) (begun_anew waited.first middle) waited.locked asks (locked_stepped command waited.done (begun_anew waited.first middle) waited.locked waited.tried))
+        (restart_tries job lines books (begun_anew waited.second waited.locked).state.restarts waited.locked (begun_anew waited.second waited.locked) waited.last_done)
 
 -- ---- the end of a try
 
@@ -272,8 +287,25 @@ run_reaches job text rest behind old new fewer same serves = record {
   serves = subst (λ (l : List ℕ). Serves job (lines_of_script text) (lines_of_script l) old new) (sym same) serves;
 }
 
-pub tried_alone : (job : ℕ) (text : List ℕ) (ended : Option Cursor) (behind : Cursor) (old new : Running) → HasTriedAlone job text ended old new → ended ≡ Some behind → Reaches job text behind old new
+-- the lines of a block were done from where its transaction began anew
+pub anew_reaches : (job : ℕ) (text rest : List ℕ) (behind : Cursor) (places : List (Option Refusal)) (commands : List Command) (musts : List Bool) (run : SerialRun) (served replies more_replies : List Reply) (books : List Book) (session later : Option Held) → length rest ≤ length text → behind.lines.now ≡ rest
+    → AreInFront job (lines_of_script text) (lines_of_script rest) places commands musts → HasRunAnew musts commands run session later → IsAll run served → more_replies ≡ replies ++ in_place places served
+    → HasTriedAlone job text (Some behind) (running replies (sessions_so_far books session)) (running more_replies (sessions_so_far books later))
+anew_reaches job text rest behind places commands musts run served replies more_replies books None later fewer same in_front ran all is = absurd ran
+anew_reaches job text rest behind places commands musts run served replies more_replies books (Some old) None fewer same in_front ran all is = absurd ran
+anew_reaches job text rest behind places commands musts run served replies more_replies books (Some old) (Some new) fewer same in_front ran all is =
+    let units : List JournalUnit = gone_back old.state ran.1 in
+    let begun : Held = begun_anew units old in
+    let middle : Running = running replies (sessions_so_far books (Some begun)) in (
+      middle,
+      back_stands IsNoLock job text units replies replies books old old (λ c none. absurd none) ran.0.0 (begun_stays IsNoLock units old ran.0.0)
+          (tries_done job (lines_of_script text) (sessions_so_far books (Some old)) (sessions_so_far books (Some begun)) (restart_tries job (lines_of_script text) books begun.state.restarts old begun (begins_anew ran.1 old ran.0.0 ran.2))) refl,
+      run_reaches job text rest behind middle (running more_replies (sessions_so_far books (Some new))) fewer same
+          (anew_serves job (lines_of_script text) (lines_of_script rest) places commands musts run served replies more_replies books units new.seen begun new (omega arith) refl ran.0.1 in_front ran.3 all is),
+    )
+
+pub tried_alone : (job : ℕ) (text : List ℕ) (ended : Option Cursor) (behind : Cursor) (old new : Running) → HasTriedAlone job text ended old new → ended ≡ Some behind → HasTriedAlone job text (Some behind) old new
 tried_alone job text ended behind old new h is = subst (λ (o : Option Cursor). HasTriedAlone job text o old new) is h
 
-pub tried_back : (job : ℕ) (text : List ℕ) (ended : Option Cursor) (old new : Running) → HasTriedAlone job text ended old new → ended ≡ None → IsBack job text old new × (new.replies ≡ old.replies)
+pub tried_back : (job : ℕ) (text : List ℕ) (ended : Option Cursor) (old new : Running) → HasTriedAlone job text ended old new → ended ≡ None → IsBackAt job text old new
 tried_back job text ended old new h is = subst (λ (o : Option Cursor). HasTriedAlone job text o old new) is h

@@ -6,7 +6,8 @@ use Rattle.command.specs.contracts.request.Reply as r
 use Rattle.shared_engine.specs.Receipts.{Book}
 use Rattle.shared_engine.specs.Sessions.{Held}
 use Rattle.shared_engine.specs.Codes.{held_code, book_code}
-use Rattle.job_server.specs.Telling.{SessionsSoFar, Running}
+use Rattle.job_server.specs.Steps.{SessionsSoFar}
+use Rattle.job_server.specs.Telling.{Running}
 
 abbrev pub sessions_code : Coded SessionsSoFar
 sessions_code = code_by (List Book × Option Held) (coded× (coded_list book_code) (coded_option held_code)) (λ s. (s.books, s.session)) (λ p. record { books = p.0; session = p.1 }) (λ _. refl)

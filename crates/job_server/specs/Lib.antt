@@ -5,6 +5,7 @@ pub mod Loads
 pub mod Output
 pub mod Replying
 pub mod Served
+pub mod Steps
 pub mod Telling
 pub mod Texts
 pub mod Told

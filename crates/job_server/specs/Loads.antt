@@ -1,11 +1,14 @@
 -- The listing that is loaded before the first job, and why jobs weren't served.
 -- Read claims_from, load_books, BeginsWith, then IsUnservedBy.
-use Rattle.std.specs.Prelude.{◌≡◌, ⊤, ℕ, ◌+◌, List, [], ◌∷◌, length, take, None, Result, Ok}
+use Rattle.std.specs.Prelude.{◌≡◌, ⊤, ℕ, ◌+◌, List, [], ◌∷◌, ◌++◌, length, take, None, Some, Result, Ok}
+use Rattle.command.specs.declared.request.Command.TheVariants.{Access, Halt}
+use Rattle.command.specs.declared.request.Reply.TheVariants.{Answered, Finished}
 use Rattle.command.specs.declared.access.DataCommand.TheVariants.{Set}
 use Rattle.command.specs.declared.access.Answer.TheVariants.{Done}
 use Rattle.journal.specs.declared.unit.Unit.{Unit as JournalUnit}
 use Rattle.journal.specs.declared.unit.Unit.TheVariants.{Lone, End}
 use Rattle.journal.specs.Kept.{Claim}
+use Rattle.serial.specs.Interleaving.{Told}
 use Rattle.job_core.specs.Sessions.{idle}
 use Rattle.loading.specs.Settings.{Setting, TextFault, before, settings_of}
 use Rattle.loading.specs.Loaded.{units_of, IsFaultOf}
@@ -13,6 +16,7 @@ use Rattle.loading.specs.declared.fault.LoadFault.{LoadFault}
 use Rattle.loading.specs.declared.fault.LoadFault.TheVariants as load_faults
 use Rattle.shared_engine.specs.Receipts.{Book, book, claim}
 use Rattle.shared_engine.specs.Sessions.{Held, held}
+use Rattle.job_server.specs.Steps.{sessions_so_far, HasDoneSteps}
 use Rattle.job_server.specs.declared.fault.Unserved.{Unserved}
 use Rattle.job_server.specs.declared.fault.Unserved.TheVariants.{Load, Jobs}
 
@@ -38,12 +42,29 @@ load_books ended (s ∷ ss) = load_book ended (s ∷ ss) ∷ []
 abbrev pub BeginsWith : List Setting → List JournalUnit → Type 0
 BeginsWith settings units = take (length settings) units ≡ units_of settings
 
+-- the steps are a SET for each setting, which was done
+abbrev pub AreSets : List Setting → List Told → Type 0
+AreSets [] [] = ⊤
+AreSets [] (x ∷ xs) = ⊥
+AreSets (s ∷ ss) [] = ⊥
+AreSets (s ∷ ss) (x ∷ xs) = ((x.command ≡ Access (Set s.0 s.1)) × (x.reply ≡ Answered Done)) × AreSets ss xs
+
+-- and then a HALT
+abbrev pub AreLoadSteps : List Setting → List Told → Type 0
+AreLoadSteps ss xs = (sets : List Told) × (last : Told) × (xs ≡ sets ++ last ∷ []) × AreSets ss sets × ((last.command ≡ Halt) × (last.reply ≡ Finished))
+
+-- what the load's session did, where anything is set
+abbrev pub HasRunLoad : List Setting → List Book → Type 0
+HasRunLoad [] books = ⊤
+HasRunLoad (s ∷ ss) books = HasDoneSteps (AreLoadSteps (s ∷ ss)) 1 (sessions_so_far [] None) (sessions_so_far books None)
+
 -- the listing asks for settings, and their book is there
 pub record IsLoaded (listing : List ℕ) (books : List Book) : Type 0 where
   pub settings : List Setting
   pub ended : List JournalUnit
   pub asked : settings_of listing ≡ Ok settings
   pub books_are : books ≡ load_books ended settings
+  pub has_run : HasRunLoad settings books
 
 -- why jobs weren't served: the listing's fault, or another
 abbrev pub IsUnservedOf : Result (List Setting) TextFault → Unserved → Type 0
@@ -77,6 +98,7 @@ pub record HasSet (settings : List Setting) (h : Held) : Type 0 where
   pub seen : List JournalUnit
   pub are_of : AreReceiptsOf settings receipts
   pub is : h ≡ held (idle 1) None receipts [] seen
+  pub steps : HasDoneSteps (AreSets settings) 1 (sessions_so_far [] None) (sessions_so_far [] (Some h))
 
 -- it has done the first setting and those behind it that came before what is left
 pub record HasSetTo (first : Setting) (asked left : Result (List Setting) TextFault) (h : Held) : Type 0 where
@@ -96,3 +118,4 @@ pub record IsBookOf (first : Setting) (asked : Result (List Setting) TextFault) 
   pub ended : List JournalUnit
   pub is : asked ≡ Ok more
   pub book_is : b ≡ load_book ended (first ∷ more)
+  pub has_run : HasRunLoad (first ∷ more) (b ∷ [])

@@ -8,21 +8,25 @@ use Rattle.lock_name.specs.declared.lock.LockCommand.{LockCommand}
 use Rattle.lock_name.specs.declared.lock.LockCommand.TheVariants.{Release, Only, More, Fewer}
 use Rattle.command.specs.declared.access.DataCommand.{DataCommand}
 use Rattle.command.specs.declared.request.Command.{Command}
-use Rattle.command.specs.declared.request.Command.TheVariants.{Access, Lock as lock_command, Start, Commit, Halt}
+use Rattle.command.specs.declared.request.Command.TheVariants.{Access, Lock as lock_command, Start, Commit, Restart, Halt}
 use Rattle.command.specs.declared.request.Reply.{Reply}
 use Rattle.command.specs.declared.request.Reply.TheVariants.{Finished, Restarted, Refused}
 use Rattle.journal.specs.declared.unit.Unit.{Unit as JournalUnit}
+use Rattle.serial.specs.Interleaving.{Told}
 use Rattle.journal.specs.Story.{Transaction, Machine, transaction_of, told}
 use Rattle.script.specs.Line.{reading_of, HasOperands}
 use Rattle.job_core.specs.Common.{IsCauseOfLock}
 use Rattle.job_core.specs.Sessions.{Session as JobSession}
+use Rattle.pin_board.specs.Slips.{IsBeginning}
 use Rattle.shared_engine.specs.Receipts.{Book}
 use Rattle.shared_engine.specs.Sessions.{Held, IsAt, IsJournalOf, knowing, begun_anew}
-use Rattle.shared_engine.specs.Blocks.{HasItsNames, WasBlocked, WasRefused, AreDone, HasCome, IsReady, moved_open}
+use Rattle.shared_engine.specs.Engines.{gone_back}
+use Rattle.shared_engine.specs.Blocks.{HasItsNames, WasBlocked, WasRefused, AreDone, HasCome}
 use Rattle.shared_engine.specs.declared.serial_run.SerialRun.{SerialRun}
 use Rattle.job_scripts.specs.declared.block.Block.{Block}
 use Rattle.job_scripts.specs.Blocks.{AreInFront, IsOneBlock}
 use Rattle.job_scripts.specs.Lines.{lines_of_script, Asks}
+use Rattle.job_server.specs.Steps.{SessionsSoFar, sessions_so_far, WasDoneBy, HasDoneSteps, IsNoStep, IsReplied, IsShownBy, AreTries, AreShown}
 use Rattle.job_server.specs.Causes.{HasRestarted, IsAllowed, IsReplyToNone}
 use Rattle.job_server.specs.declared.cursor.Cursor.{Cursor}
 use Rattle.job_server.specs.declared.cursor.Line.{Line}
@@ -110,6 +114,11 @@ pub record Follows (command : Command) (reply : Reply) (old new : Held) : Type 0
       → AreStillWithin (front ++ units_of old.receipts) (n + backs (units_of old.others)) old.state.took_lock (front ++ units_of new.receipts) (n + backs (units_of new.others)) new.state.took_lock
   pub no_lock : IsRestart reply → new.state.took_lock ≡ false
 
+-- so it does by a call that did the command
+pub record Tells (command : Command) (reply : Reply) (old new : Held) : Type 0 where
+  pub follows : Follows command reply old new
+  pub done : WasDoneBy command reply old new
+
 -- whether a LOCK has names
 abbrev pub names_some : LockCommand → Bool
 names_some Release = false
@@ -155,14 +164,6 @@ StandsIn job books None s = AreOf job books × ((transaction_of job s ≡ None) 
 StandsIn job books (Some h) s =
     AreOf job books × ((h.state.work.job ≡ job) × (Stands (units_in books) s h × (HasGoneBack (backs (others_of books)) s h × HasGranted (backs (others_of books)) (units_in books) s h)))
 
--- the sessions so far: the books of those that ended, and the one that is there
-pub record SessionsSoFar : Type 0 where
-  pub books : List Book
-  pub session : Option Held
-
-abbrev pub sessions_so_far : List Book → Option Held → SessionsSoFar
-sessions_so_far books session = record { books = books; session = session }
-
 -- what was told in these sessions is told in those
 abbrev pub AreToldOn : SessionsSoFar → SessionsSoFar → Type 0
 AreToldOn old new = AreStillTold (units_behind old.books old.session) (units_behind new.books new.session)
@@ -188,8 +189,9 @@ KeepBacks old new = backs_behind old.books old.session ≤ backs_behind new.book
 abbrev pub StandsAt : ℕ → SessionsSoFar → Machine → Type 0
 StandsAt job now s = StandsIn job now.books now.session s
 
--- the job goes on as is told, which is allowed, and writes no LOCKs but these; where its transaction has begun anew that took none yet
-pub record GoesOn (tell : Machine → Machine) (is_allowed : Machine → Type 0) (is_restart : Type 0) (locks : LockCommand → Type 0) (job : ℕ) (old new : SessionsSoFar) : Type 0 where
+-- the job goes on by such steps as is told, which is allowed, and writes no LOCKs but these; where its transaction has begun anew that took none yet
+pub record GoesOn (shows : List Told → Type 0) (tell : Machine → Machine) (is_allowed : Machine → Type 0) (is_restart : Type 0) (locks : LockCommand → Type 0) (job : ℕ) (old new : SessionsSoFar) : Type 0 where
+  pub steps : HasDoneSteps shows job old new
   pub stands : (s : Machine) → StandsAt job old s → StandsAt job new (tell s)
   pub keeps : is_open old.session ≡ true → is_open new.session ≡ true → AreKeptOn old new
   pub allowed : (s : Machine) → StandsAt job old s → is_allowed s
@@ -199,15 +201,15 @@ pub record GoesOn (tell : Machine → Machine) (is_allowed : Machine → Type 0)
 
 -- nothing is told
 abbrev pub GoesOnUntold : ℕ → SessionsSoFar → SessionsSoFar → Type 0
-GoesOnUntold job old new = GoesOn (λ s. s) (λ s. ⊤) ⊥ IsNoLock job old new
+GoesOnUntold job old new = GoesOn IsNoStep (λ s. s) (λ s. ⊤) ⊥ IsNoLock job old new
 
 -- a command is replied, or was overtaken
 abbrev pub GoesOnBy : ℕ → Command → Reply → SessionsSoFar → SessionsSoFar → Type 0
-GoesOnBy job command reply old new = GoesOn (told job command reply) (λ s. (IsOvertaken command reply → ⊥) → IsAllowed job command reply (transaction_of job s)) (IsRestart reply) (IsLockOf command) job old new
+GoesOnBy job command reply old new = GoesOn (IsReplied command reply) (told job command reply) (λ s. (IsOvertaken command reply → ⊥) → IsAllowed job command reply (transaction_of job s)) (IsRestart reply) (IsLockOf command) job old new
 
 -- a line is replied
 abbrev pub GoesOnAt : ℕ → List ℕ → Reply → SessionsSoFar → SessionsSoFar → Type 0
-GoesOnAt job line reply old new = GoesOn (told_by job (reading_of line) reply) (λ s. IsReplyToLine job line reply (transaction_of job s)) (IsRestart reply) (AsksFor job line) job old new
+GoesOnAt job line reply old new = GoesOn (IsShownBy job line reply) (told_by job (reading_of line) reply) (λ s. IsReplyToLine job line reply (transaction_of job s)) (IsRestart reply) (AsksFor job line) job old new
 
 -- what was read of a line was overtaken
 abbrev pub IsOvertakenAs : Result Command Refusal → Reply → Type 0
@@ -217,7 +219,7 @@ IsOvertakenAs (Err refusal) reply = ⊥
 -- a line, of which this was read, is replied, or was overtaken
 abbrev pub MayGoOnAt : ℕ → List ℕ → Result Command Refusal → Reply → SessionsSoFar → SessionsSoFar → Type 0
 MayGoOnAt job line asked reply old new =
-    GoesOn (told_by job (reading_of line) reply) (λ s. (IsOvertakenAs asked reply → ⊥) → IsReplyToLine job line reply (transaction_of job s)) (IsRestart reply) (AsksFor job line) job old new
+    GoesOn (IsShownBy job line reply) (told_by job (reading_of line) reply) (λ s. (IsOvertakenAs asked reply → ⊥) → IsReplyToLine job line reply (transaction_of job s)) (IsRestart reply) (AsksFor job line) job old new
 
 -- it is no TCOMMIT
 abbrev pub IsNoCommit : Result Command Refusal → Type 0
@@ -259,6 +261,10 @@ pub record Leads (job : ℕ) (lines : List (List ℕ)) (replies : List Reply) (s
   pub replies_are : (left : List (List ℕ)) (later : List Reply) → AreRepliesTo job left later machine → AreRepliesTo job (lines ++ left) (replies ++ later) s
   pub stands : StandsAt job sessions machine
 
+-- lines were done by steps that their replies show
+abbrev pub HasShown : ℕ → List (List ℕ) → List (List ℕ) → List Reply → Running → Running → Type 0
+HasShown job all lines replies old new = HasDoneSteps (AreShown job all lines replies) job old.sessions new.sessions
+
 -- the lines in front of the rest were done: their replies are behind those before, and lead on from wherever the job
 -- stood; no LOCK was written but those that lines ask for, also those of the rest, which may have been tried
 pub record Serves (job : ℕ) (lines rest : List (List ℕ)) (old new : Running) : Type 0 where
@@ -269,6 +275,7 @@ pub record Serves (job : ℕ) (lines rest : List (List ℕ)) (old new : Running)
   pub leads : (s : Machine) → StandsAt job old.sessions s → Leads job lines_done their_replies s new.sessions
   pub asks : AreAskedOn (OneAsksFor job lines) old.sessions new.sessions
   pub grows : KeepBacks old.sessions new.sessions
+  pub steps : HasShown job lines lines_done their_replies old new
 
 -- while a transaction is open from here to there all that is written is LOCKs
 abbrev pub Keeps : Running → Running → Type 0
@@ -300,10 +307,6 @@ HaveNoHalt commands = All (λ (c : Command). c ≢ Halt) commands
 abbrev pub AreDataCommands : List Command → Type 0
 AreDataCommands commands = All (λ (c : Command). (d : DataCommand) × (c ≡ Access d)) commands
 
--- no transaction begins in a block: they are data commands, or one is open before each of them
-abbrev pub BeginNone : List Command → Option Held → Type 0
-BeginNone commands session = AreDataCommands commands ⊎ ((is_open session ≡ true) × IsOneBlock 1 commands)
-
 -- no TSTART is refused since a horizon passed its start
 abbrev pub NoneAgain : List Command → List Reply → Type 0
 NoneAgain [] replies = ⊤
@@ -314,11 +317,22 @@ NoneAgain (command ∷ commands) (reply ∷ replies) = (command ≡ Start → re
 abbrev pub ServesBlock : Block → Running → Running → Type 0
 ServesBlock block old new = (job : ℕ) (lines : List (List ℕ)) → AreInFront job lines (lines_of_script block.rest.now) block.places.items block.commands.items block.musts.items → Serves job lines (lines_of_script block.rest.now) old new
 
--- the session did a block, or a part of it, before which its start was moved where a transaction was open
-abbrev pub HasRun : List Bool → List Command → SerialRun → Option Held → Option Held → Type 0
-HasRun musts commands run None later = ⊥
-HasRun musts commands run (Some old) None = ⊥
-HasRun musts commands run (Some old) (Some new) = IsReady old × BeginNone commands (Some old) × (units more : List JournalUnit) × IsJournalOf units old × HasCome musts commands run units more (moved_open units old) new
+-- outside a transaction the session did data commands, or a part of them
+abbrev pub HasRunOutside : List Bool → List Command → SerialRun → Option Held → Option Held → Type 0
+HasRunOutside musts commands run None later = ⊥
+HasRunOutside musts commands run (Some old) None = ⊥
+HasRunOutside musts commands run (Some old) (Some new) = AreDataCommands commands × (units : List JournalUnit) × IsJournalOf units old × HasCome musts commands run units new.seen (knowing units old) new
+
+-- its transaction began anew, and it did a block in it, or a part of that
+abbrev pub HasRunAnew : List Bool → List Command → SerialRun → Option Held → Option Held → Type 0
+HasRunAnew musts commands run None later = ⊥
+HasRunAnew musts commands run (Some old) None = ⊥
+HasRunAnew musts commands run (Some old) (Some new) =
+    ((1 ≤ old.state.level) × IsOneBlock 1 commands) × (units : List JournalUnit) × IsBeginning units old.seen × HasCome musts commands run (gone_back old.state units) new.seen (begun_anew (gone_back old.state units) old) new
+
+-- it began anew, by a call that did TRESTART
+abbrev pub BeganAnew : Held → Held → Type 0
+BeganAnew old new = (units : List JournalUnit) × (new ≡ begun_anew units old) × WasDoneBy Restart (Restarted new.state.restarts) old new
 
 -- a LOCK was tried in a transaction that had begun anew, and then it has begun anew once more
 pub record HasWaited (command : LockCommand) (old new : Held) : Type 0 where
@@ -330,6 +344,8 @@ pub record HasWaited (command : LockCommand) (old new : Held) : Type 0 where
   pub tried : HasLocked command done (begun_anew first old) locked
   pub still : 1 ≤ locked.state.level
   pub anew : new ≡ begun_anew second locked
+  pub first_done : WasDoneBy Restart (Restarted (begun_anew first old).state.restarts) old (begun_anew first old)
+  pub last_done : WasDoneBy Restart (Restarted (begun_anew second locked).state.restarts) locked (begun_anew second locked)
 
 -- the same of a job's session
 abbrev pub HasWaitedFor : LockCommand → Option Held → Option Held → Type 0
@@ -356,14 +372,15 @@ pub record Begins (job : ℕ) (line : Line) (old new : Running) : Type 0 where
   pub allowed : (s : Machine) → StandsAt job old.sessions s → IsAllowed job Start reply (transaction_of job s)
   pub asks : AreAskedOn (OneAsksFor job (line.text.now ∷ lines_of_script line.next.lines.now)) old.sessions new.sessions
   pub grows : KeepBacks old.sessions new.sessions
+  pub steps : HasShown job (line.text.now ∷ lines_of_script line.next.lines.now) (line.text.now ∷ []) (reply ∷ []) old new
 
--- the outermost TCOMMIT began the transaction anew, and no reply was kept
-abbrev pub WasOvertaken : ℕ → Running → Running → Type 0
-WasOvertaken job old new = (new.replies ≡ old.replies) × (restarts : ℕ) × GoesOnBy job Commit (Restarted restarts) old.sessions new.sessions
+-- the outermost TCOMMIT of this line began the transaction anew, and no reply was kept
+abbrev pub WasOvertaken : ℕ → List ℕ → Running → Running → Type 0
+WasOvertaken job line old new = (new.replies ≡ old.replies) × (restarts : ℕ) × GoesOnBy job Commit (Restarted restarts) old.sessions new.sessions × Asks job line Commit
 
 -- a line of a block was tried: it was done, and perhaps some of those behind it, up to this place; or it is a TCOMMIT that began the transaction anew
 abbrev pub HasTried : ℕ → Line → Option Cursor → Running → Running → Type 0
-HasTried job line None old new = WasOvertaken job old new
+HasTried job line None old new = WasOvertaken job line.text.now old new
 HasTried job line (Some behind) old new = Advances job line behind old new × Keeps old new
 
 -- the transaction is still open, and what was told before is still told
@@ -374,12 +391,17 @@ IsStillOpen old new = is_open old.sessions.session ≡ true → (is_open new.ses
 abbrev pub IsBack : ℕ → List ℕ → Running → Running → Type 0
 IsBack job text old new =
     ((first : Machine) → StandsAt job old.sessions first → HasJustBegun (transaction_of job first) → StandsAt job new.sessions first)
-    × (AreAskedOn (OneAsksFor job (lines_of_script text)) old.sessions new.sessions × KeepBacks old.sessions new.sessions)
+    × (AreAskedOn (OneAsksFor job (lines_of_script text)) old.sessions new.sessions
+    × (KeepBacks old.sessions new.sessions × HasDoneSteps (AreTries job (lines_of_script text)) job old.sessions new.sessions))
 
--- the lines of a block were done, up to this place; or the job stands again as behind its TSTART, and no reply was kept
+-- the job stands again as behind its TSTART, and no reply was kept
+abbrev pub IsBackAt : ℕ → List ℕ → Running → Running → Type 0
+IsBackAt job text old new = IsBack job text old new × (new.replies ≡ old.replies)
+
+-- the job stands so, and perhaps the lines of a block were done from there, up to this place
 abbrev pub HasTriedAlone : ℕ → List ℕ → Option Cursor → Running → Running → Type 0
-HasTriedAlone job text None old new = IsBack job text old new × (new.replies ≡ old.replies)
-HasTriedAlone job text (Some behind) old new = Reaches job text behind old new
+HasTriedAlone job text None old new = IsBackAt job text old new
+HasTriedAlone job text (Some behind) old new = (middle : Running) × IsBackAt job text old middle × Reaches job text behind middle new
 
 -- the replies are those before and more
 abbrev pub GoesOnFrom : List Reply → List Reply → Type 0

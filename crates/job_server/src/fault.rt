@@ -12,8 +12,7 @@ use std::fmt;
 #[derive(Clone, Copy, Debug, PartialEq, Eq)]
 pub enum ServerFault {
     /// Memory was refused where no reply could say so: for a worker, a session, a job's replies or its report, a serial
-    /// run, the HALT after a job's last line; or a HALT or the end of a block was refused, and the transaction that
-    /// stayed open was overtaken.
+    /// run; or the end of a block was refused, and the transaction that stayed open was overtaken. A HALT takes none.
     Memory,
     /// A job's report didn't come, or hasn't one reply for each line; or a session's pass didn't come, or isn't behind
     /// the job's one before; or a load's units aren't the journal's first.

@@ -1,12 +1,10 @@
 //! Lines of a job that are done under one hold of the engine's lock. The gate isn't told.
 ghost use Rattle.std.specs.Prelude.{◌≡◌, ◌≤◌, ◌++◌, List, IfOk, OnOk};
 ghost use Rattle.command.specs.declared.request.Command.{Command};
-ghost use Rattle.job_scripts.specs.Blocks.{in_place};
+ghost use Rattle.job_scripts.specs.Blocks.{in_place, IsOneBlock};
 ghost use Rattle.job_scripts.specs.Lines.{lines_of_script, Asks};
-ghost use Rattle.journal.specs.declared.unit.Unit.{Unit as JournalUnit};
-ghost use Rattle.shared_engine.specs.Sessions.{begun_anew};
 ghost use Rattle.job_server.specs.Told.{OneAsksFor};
-ghost use Rattle.job_server.specs.Telling.{Keeps, Advances, HaveNoHalt, AreDataCommands, BeginNone, ServesBlock, HasRun, HasReadAll, HasWaited, HasWaitedFor, HasTriedAlone};
+ghost use Rattle.job_server.specs.Telling.{Keeps, Advances, HaveNoHalt, AreDataCommands, ServesBlock, HasRunOutside, BeganAnew, HasRunAnew, HasReadAll, HasWaited, HasWaitedFor, HasTriedAlone};
 
 use crate::ServerFault;
 use crate::cursor::{Cursor, Line};
@@ -79,18 +77,17 @@ impl<'a, B: BoardName, R: Wait, G: Gate> Worker<'a, B, R, G> {
         takes_lock && !self.calls.gate.watches_lines()
     }
 
-    // Does a block of a session which has no transaction, or one that has done nothing.
-    fn run_ready(
+    // Does a block of a session which has no transaction.
+    fn run_outside(
         &mut self,
         session: &mut Session<B>,
         commands: Vec<Command>,
         musts: &[bool],
     ) -> Result<SerialRun, ServerFault>
-        requires goes_on { HaveNoHalt commands.items }
-        requires begins { BeginNone commands.items (Some session.old) }
-        ensures { IfOk result (λ ran. HasRun musts.now commands.items ran (Some session.old) (Some session.new)) }
+        requires { AreDataCommands commands.items }
+        ensures { IfOk result (λ ran. HasRunOutside musts.now commands.items ran (Some session.old) (Some session.new)) }
     {
-        if session.tlevel() > 0 && !session.is_fresh() {
+        if session.tlevel() > 0 {
             drop(commands);
             return Err(ServerFault::Missing);
         }
@@ -113,12 +110,59 @@ impl<'a, B: BoardName, R: Wait, G: Gate> Worker<'a, B, R, G> {
         commands: Vec<Command>,
         musts: &[bool],
     ) -> Result<SerialRun, ServerFault>
-        requires goes_on { HaveNoHalt commands.items }
-        requires begins { BeginNone commands.items session.old }
-        ensures { IfOk result (λ ran. HasRun musts.now commands.items ran session.old session.new) }
+        requires { AreDataCommands commands.items }
+        ensures { IfOk result (λ ran. HasRunOutside musts.now commands.items ran session.old session.new) }
     {
         match session {
-            Some(session) => self.run_ready(session, commands, musts),
+            Some(session) => self.run_outside(session, commands, musts),
+            None => {
+                drop(commands);
+                Err(ServerFault::Missing)
+            }
+        }
+    }
+
+    // Begins a session's transaction anew, and does a block in it, so that nobody comes between.
+    fn run_anew(
+        &mut self,
+        session: &mut Session<B>,
+        commands: Vec<Command>,
+        musts: &[bool],
+    ) -> Result<SerialRun, ServerFault>
+        requires goes_on { HaveNoHalt commands.items }
+        requires one { IsOneBlock 1 commands.items }
+        ensures { IfOk result (λ ran. HasRunAnew musts.now commands.items ran (Some session.old) (Some session.new)) }
+    {
+        if session.tlevel() == 0 {
+            drop(commands);
+            return Err(ServerFault::Missing);
+        }
+        match self.calls.engine.trestart_serially(
+            self.calls.rt,
+            self.alloc,
+            session,
+            commands,
+            musts,
+            &mut self.turns.next,
+        ) {
+            Ok(ran) => Ok(ran),
+            Err(_) => Err(ServerFault::Memory),
+        }
+    }
+
+    // The same of a job's session.
+    fn run_block_anew(
+        &mut self,
+        session: &mut Option<Session<B>>,
+        commands: Vec<Command>,
+        musts: &[bool],
+    ) -> Result<SerialRun, ServerFault>
+        requires goes_on { HaveNoHalt commands.items }
+        requires one { IsOneBlock 1 commands.items }
+        ensures { IfOk result (λ ran. HasRunAnew musts.now commands.items ran session.old session.new) }
+    {
+        match session {
+            Some(session) => self.run_anew(session, commands, musts),
             None => {
                 drop(commands);
                 Err(ServerFault::Missing)
@@ -164,15 +208,14 @@ impl<'a, B: BoardName, R: Wait, G: Gate> Worker<'a, B, R, G> {
         }
     }
 
-    // Does a block, so that nobody comes between. Answers the place behind it.
+    // Does data commands outside a transaction, so that nobody comes between. Answers the place behind them.
     fn serve_at_once<'b>(
         &mut self,
         run: &mut JobRun<B>,
         number: u64,
         block: Block<'b>,
     ) -> Result<Cursor<'b>, ServerFault>
-        requires goes_on { HaveNoHalt block.commands.items }
-        requires begins { BeginNone block.commands.items run.old.sessions.session }
+        requires { AreDataCommands block.commands.items }
         ensures rest { IfOk result (λ behind. behind.lines.now ≡ block.entry.rest.now) }
         ensures served { OnOk result (ServesBlock block.entry run.old run.new) }
     {
@@ -220,7 +263,7 @@ impl<'a, B: BoardName, R: Wait, G: Gate> Worker<'a, B, R, G> {
     // Begins an open transaction anew, by TRESTART.
     fn begin_anew(&self, session: &mut Session<B>) -> Result<(), ServerFault>
         ensures open { OnOk result (1 ≤ session.old.state.level) }
-        ensures anew { OnOk result ((units : List JournalUnit) × (session.new ≡ begun_anew units session.old)) }
+        ensures anew { OnOk result (BeganAnew session.old session.new) }
     {
         if session.tlevel() == 0 {
             return Err(ServerFault::Missing);
@@ -257,9 +300,9 @@ impl<'a, B: BoardName, R: Wait, G: Gate> Worker<'a, B, R, G> {
         }
     }
 
-    /// Does the lines of a block behind its TSTART, so that nobody can overtake it. The transaction is open. Answers the
-    /// place behind the block; none where a LOCK without a timeout was blocked: then its names were waited for, and the
-    /// block may be done again.
+    /// Begins an open transaction anew, and does the lines of its block behind its TSTART, so that nobody can overtake it.
+    /// Answers the place behind the block; none where a LOCK without a timeout was blocked: then its names were waited
+    /// for, and the block may be done again.
     pub(crate) fn try_serially<'b>(
         &mut self,
         run: &mut JobRun<B>,
@@ -280,7 +323,7 @@ impl<'a, B: BoardName, R: Wait, G: Gate> Worker<'a, B, R, G> {
             rest,
         } = block;
         self.turns.note_writes(writes_in(&commands));
-        match self.run_block(&mut run.sessions.open, commands, &musts) {
+        match self.run_block_anew(&mut run.sessions.open, commands, &musts) {
             Ok(SerialRun::Done(served)) => {
                 let behind = note_block(&mut run.replies, begin.number, places, served, rest)?;
                 Ok(Some(behind))
@@ -339,7 +382,7 @@ impl<'a, B: BoardName, R: Wait, G: Gate> Worker<'a, B, R, G> {
         ensures on { IfOk result (λ behind. Advances job line.entry behind run.old run.new) }
         ensures keeps { OnOk result (Keeps run.old run.new) }
     {
-        match self.open(job, &mut run.sessions.open) {
+        match self.begin(job, &mut run.sessions) {
             Ok(()) => self.serve_run(run, job, first, line),
             Err(fault) => {
                 drop(first);

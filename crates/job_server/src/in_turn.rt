@@ -1,7 +1,8 @@
-//! Whether the sessions of a job followed one another, by the numbers of their receipts.
-ghost use Rattle.std.specs.Prelude.{◌≡◌, true, IfSome};
+//! Whether the sessions of a job followed one another, by the numbers of their receipts and ends.
+ghost use Rattle.std.specs.Prelude.{◌≡◌, ◌≤◌, true, length, IfSome};
 ghost use Rattle.shared_engine.specs.Receipts.{RisesFrom};
 ghost use Rattle.job_server.specs.Served.{claims_in, RisesTo};
+ghost use Rattle.job_server.specs.Steps.{AreBefore};
 
 use pin_board::BoardName;
 use shared_engine::Pass;
@@ -29,6 +30,25 @@ pub(crate) fn are_in_turn<B: BoardName>(passes: &[Pass<B>]) -> bool
         match last_if_rising(pass.numbers(), last) {
             Some(number) => last = number,
             None => return false,
+        }
+    }
+    true
+}
+
+// Whether a session ended when the journal had no more than so many units.
+fn ends_by<B: BoardName>(pass: &Pass<B>, count: u64) -> bool
+    ensures { result ≡ true → length pass.now.seen ≤ count }
+{
+    pass.end() <= count
+}
+
+/// Whether all these sessions did.
+pub(crate) fn are_before<B: BoardName>(passes: &[Pass<B>], count: u64) -> bool
+    ensures { result ≡ true → AreBefore count passes.now }
+{
+    'passes: for pass in passes {
+        if !ends_by(pass, count) {
+            return false;
         }
     }
     true

@@ -3,7 +3,7 @@ ghost use Rattle.std.specs.Prelude.{◌≡◌, ◌≢◌, ◌≤◌, true, false
 ghost use Rattle.command.specs.declared.request.Command.{Command};
 ghost use Rattle.command.specs.declared.request.Reply.{Reply};
 ghost use Rattle.shared_engine.specs.Blocks.{said, is_blocked};
-ghost use Rattle.job_server.specs.Telling.{Follows, HasLocked, names_some as has_some};
+ghost use Rattle.job_server.specs.Telling.{Tells, HasLocked, names_some as has_some};
 
 use crate::replies::{answered, at_level, ended, finished, locked, restarted, written};
 use collation::Job;
@@ -35,7 +35,7 @@ impl<'a, B: BoardName, R: Wait, G: Gate> Calls<'a, B, R, G> {
     /// The reply to a command of a session, but for HALT. `millis` is a LOCK's timeout; without one it isn't replied
     /// that it was blocked. An outermost TCOMMIT takes a turn that is due. The session goes on as the reply tells, and a
     /// refusal has its cause.
-    #[tactic(auto, using(crate::proofs::Answering::follows_as, crate::proofs::Following::level_counted, crate::proofs::Following::restarts_counted))]
+    #[tactic(auto, using(crate::proofs::Answering::tells_as, crate::proofs::Answering::level_told, crate::proofs::Answering::restarts_told))]
     pub(crate) fn reply_to(
         &self,
         session: &mut Session<B>,
@@ -44,7 +44,7 @@ impl<'a, B: BoardName, R: Wait, G: Gate> Calls<'a, B, R, G> {
         turn: &mut Turn,
     ) -> Reply
         requires { command ≢ Command.Halt }
-        ensures follows { Follows command result session.old session.new }
+        ensures follows { Tells command result session.old session.new }
         ensures had { millis ≡ None → is_blocked true result ≡ false }
     {
         match command {
@@ -62,7 +62,7 @@ impl<'a, B: BoardName, R: Wait, G: Gate> Calls<'a, B, R, G> {
 
     #[tactic(auto, using(crate::proofs::Answering::lone_told))]
     fn access(&self, session: &mut Session<B>, command: DataCommand) -> Result<Answer, Refusal>
-        ensures { Follows (Command.Access command) (said Reply.Answered result) session.old session.new }
+        ensures { Tells (Command.Access command) (said Reply.Answered result) session.old session.new }
     {
         if session.tlevel() == 0 {
             return self.engine.lone(self.rt, session, command);
@@ -78,7 +78,7 @@ impl<'a, B: BoardName, R: Wait, G: Gate> Calls<'a, B, R, G> {
         command: DataCommand,
     ) -> Result<Answer, Refusal>
         requires { 1 ≤ session.old.state.level }
-        ensures { Follows (Command.Access command) (said Reply.Answered result) session.old session.new }
+        ensures { Tells (Command.Access command) (said Reply.Answered result) session.old session.new }
     {
         match command {
             DataCommand::Set(key, value) => written(session.set(key, value)),
@@ -91,9 +91,9 @@ impl<'a, B: BoardName, R: Wait, G: Gate> Calls<'a, B, R, G> {
         }
     }
 
-    #[tactic(auto, using(crate::proofs::Answering::follows_as, crate::proofs::Following::locked_follows))]
+    #[tactic(auto, using(crate::proofs::Answering::tells_as, crate::proofs::Answering::locked_told))]
     fn lock(&self, session: &mut Session<B>, command: LockCommand, millis: Option<u64>) -> Reply
-        ensures follows { Follows (Command.Lock command) result session.old session.new }
+        ensures follows { Tells (Command.Lock command) result session.old session.new }
         ensures had { millis ≡ None → is_blocked true result ≡ false }
     {
         let done = match millis {
@@ -135,7 +135,7 @@ impl<'a, B: BoardName, R: Wait, G: Gate> Calls<'a, B, R, G> {
     // TSTART. The outermost one is tried again where a horizon passed its start as it was taken.
     #[tactic(auto, using(crate::proofs::Answering::inner_told, crate::proofs::Answering::outer_told))]
     fn start(&self, session: &mut Session<B>) -> Result<u64, Refusal>
-        ensures { Follows Command.Start (said Reply.AtLevel result) session.old session.new }
+        ensures { Tells Command.Start (said Reply.AtLevel result) session.old session.new }
     {
         if session.tlevel() > 0 {
             return session.tstart_inner();
@@ -149,9 +149,9 @@ impl<'a, B: BoardName, R: Wait, G: Gate> Calls<'a, B, R, G> {
         unreachable!()
     }
 
-    #[tactic(auto, using(crate::proofs::Answering::follows_as, crate::proofs::Answering::commit_told, crate::proofs::Following::lower_follows, crate::proofs::Answering::no_commit))]
+    #[tactic(auto, using(crate::proofs::Answering::tells_as, crate::proofs::Answering::commit_told, crate::proofs::Answering::lower_told, crate::proofs::Answering::no_commit))]
     fn commit(&self, session: &mut Session<B>, turn: &mut Turn) -> Reply
-        ensures follows { Follows Command.Commit result session.old session.new }
+        ensures follows { Tells Command.Commit result session.old session.new }
         ensures other { is_blocked true result ≡ false }
     {
         match session.tlevel() {
@@ -161,9 +161,9 @@ impl<'a, B: BoardName, R: Wait, G: Gate> Calls<'a, B, R, G> {
         }
     }
 
-    #[tactic(auto, using(crate::proofs::Answering::follows_as, crate::proofs::Answering::rollback_told, crate::proofs::Answering::no_rollback))]
+    #[tactic(auto, using(crate::proofs::Answering::tells_as, crate::proofs::Answering::rollback_told, crate::proofs::Answering::no_rollback))]
     fn rollback(&self, session: &mut Session<B>) -> Reply
-        ensures follows { Follows Command.Rollback result session.old session.new }
+        ensures follows { Tells Command.Rollback result session.old session.new }
         ensures other { is_blocked true result ≡ false }
     {
         if session.tlevel() == 0 {
@@ -172,9 +172,9 @@ impl<'a, B: BoardName, R: Wait, G: Gate> Calls<'a, B, R, G> {
         finished(self.engine.trollback(self.rt, session))
     }
 
-    #[tactic(auto, using(crate::proofs::Answering::follows_as, crate::proofs::Answering::restart_told, crate::proofs::Answering::no_restart))]
+    #[tactic(auto, using(crate::proofs::Answering::tells_as, crate::proofs::Answering::restart_told, crate::proofs::Answering::no_restart))]
     fn restart(&self, session: &mut Session<B>) -> Reply
-        ensures follows { Follows Command.Restart result session.old session.new }
+        ensures follows { Tells Command.Restart result session.old session.new }
         ensures other { is_blocked true result ≡ false }
     {
         if session.tlevel() == 0 {

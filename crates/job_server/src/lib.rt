@@ -6,11 +6,11 @@
 //! A block is a TSTART outside a transaction and the lines after it, up to the one that leaves no transaction open, the
 //! one before a HALT, or the job's last. Where its TCOMMIT finds that the transaction was overtaken, its lines after
 //! the TSTART are done again, and only the replies of the last try are kept. After the third such restart they are done
-//! by `Shared::run_serial`, under one hold of the engine's lock, which no TCOMMIT restarts. So only a TRESTART line is
-//! replied with a restart.
+//! by `Shared::trestart_serially`: the transaction begins anew once more, under one hold of the engine's lock, in which
+//! no TCOMMIT restarts it. So only a TRESTART line is replied with a restart.
 //!
 //! A LOCK that is kept off waits: it tries again after a `Gate::between_tries` or a `Gate::pause`, where it has a
-//! timeout until that is over. Without one it is never replied that it was blocked. Under `run_serial` a LOCK is one
+//! timeout until that is over. Without one it is never replied that it was blocked. Under one hold a LOCK is one
 //! try; where one without a timeout is blocked there, the transaction begins anew, its job waits for the names, gives
 //! them back as it begins anew once more, and does the block again.
 //!

@@ -5,7 +5,7 @@ ghost use Rattle.journal.specs.declared.unit.Unit.{Unit as JournalUnit};
 ghost use Rattle.loading.specs.Settings.{Setting, before};
 ghost use Rattle.loading.specs.Pending.{asked_of};
 ghost use Rattle.shared_engine.specs.Sessions.{held};
-ghost use Rattle.job_server.specs.Loads.{load_book, HasSet, HasSetAll, IsBookOf, IsLoaded, IsOfAnyLoad, IsUnservedOf, IsUnservedBy};
+ghost use Rattle.job_server.specs.Loads.{load_book, HasRunLoad, HasSet, HasSetAll, IsBookOf, IsLoaded, IsOfAnyLoad, IsUnservedOf, IsUnservedBy};
 
 use crate::{ServerFault, Unserved};
 use collation::Text;
@@ -105,7 +105,7 @@ fn close<B: BoardName, R: Wait>(
     engine: &Shared<B>,
     session: Session<B>,
 ) -> Result<Pass<B>, Unserved>
-    ensures booked { IfOk result (λ pass. (first : Setting) (more : List Setting) → HasSet (first ∷ more) session → (ended : List JournalUnit) × (pass ≡ load_book ended (first ∷ more))) }
+    ensures booked { IfOk result (λ pass. (first : Setting) (more : List Setting) → HasSet (first ∷ more) session → (ended : List JournalUnit) × (pass ≡ load_book ended (first ∷ more)) × HasRunLoad (first ∷ more) (pass ∷ [])) }
     ensures fault { IfErr result IsOfAnyLoad }
 {
     if !ends_at_count(session.numbers()) {

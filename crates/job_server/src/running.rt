@@ -7,10 +7,12 @@ ghost use Rattle.shared_engine.specs.Receipts.{Book};
 ghost use Rattle.shared_engine.specs.Engines.{OnOkThat, OnOkNot};
 ghost use Rattle.shared_engine.specs.Blocks.{is_blocked};
 ghost use Rattle.job_server.specs.Told.{IsHad};
-ghost use Rattle.job_server.specs.Telling.{is_open as is_open_in, GoesOnUntold, GoesOnBy, MayGoOnAt, HasStopped, IsNoCommit, Keeps, HasAnswered, Advances, sessions_so_far, not_begun};
+ghost use Rattle.job_server.specs.Steps.{sessions_so_far, IsBegunBehind};
+ghost use Rattle.job_server.specs.Telling.{is_open as is_open_in, GoesOnUntold, GoesOnBy, MayGoOnAt, HasStopped, IsNoCommit, Keeps, HasAnswered, Advances, not_begun};
 
 use crate::ServerFault;
 use crate::cursor::{Cursor, Line};
+use crate::in_turn::are_before;
 use crate::worker::{Worker, writes_of};
 use collation::Job;
 use command::{Command, Reply};
@@ -31,7 +33,7 @@ pub(crate) struct Sessions<B: BoardName> {
 }
 
 impl<B: BoardName> Model for Sessions<B> {
-    ghost use Rattle.job_server.specs.Telling.{SessionsSoFar, sessions_so_far};
+    ghost use Rattle.job_server.specs.Steps.{SessionsSoFar, sessions_so_far};
     ghost use Rattle.job_server.specs.Codes.{sessions_code};
 
     ghost Value = { SessionsSoFar };
@@ -39,6 +41,18 @@ impl<B: BoardName> Model for Sessions<B> {
     ghost coded = { sessions_code };
 
     ghost view = { λ s. sessions_so_far s.passes.items s.open };
+}
+
+impl<B: BoardName> Sessions<B> {
+    // Room for the pass of a session that is to begin, so that its HALT takes no memory.
+    fn make_room(&mut self) -> Result<(), AllocError>
+        ensures { self.new ≡ self.old }
+    {
+        if self.open.is_none() {
+            self.passes.reserve(1)?;
+        }
+        Ok(())
+    }
 }
 
 /// A job as it is run: its sessions, and the replies so far.
@@ -139,25 +153,58 @@ pub(crate) fn push_unless_restarted(
 }
 
 impl<'a, B: BoardName, R: Wait, G: Gate> Worker<'a, B, R, G> {
-    /// Begins a session of the job, where it has none.
+    /// Begins a session of the job, where it has none, once there is room for its pass.
+    pub(crate) fn begin(&self, job: Job, sessions: &mut Sessions<B>) -> Result<(), ServerFault>
+        ensures told { OnOk result (GoesOnUntold job sessions.old sessions.new) }
+        ensures stays { OnOk result (is_open_in sessions.new.session ≡ is_open_in sessions.old.session) }
+    {
+        match sessions.make_room() {
+            Ok(()) => self.open(job, &sessions.passes, &mut sessions.open),
+            Err(_) => Err(ServerFault::Memory),
+        }
+    }
+
+    // A new session of the job, which begins behind these.
+    fn begin_behind(&self, job: Job, passes: &Vec<Pass<B>>) -> Result<Session<B>, ServerFault>
+        ensures { IfOk result (λ begun. IsBegunBehind job passes.now.items begun) }
+    {
+        let mut begun = match self.calls.engine.open(self.calls.rt, self.alloc, job) {
+            Ok(begun) => begun,
+            Err(_) => return Err(ServerFault::Memory),
+        };
+        let count = self.calls.engine.look(self.calls.rt, &mut begun);
+        if !are_before(passes.as_slice(), count) {
+            drop(begun);
+            return Err(ServerFault::Missing);
+        }
+        Ok(begun)
+    }
+
+    // A session of the job, where it has none, behind those that it had, and with room for its pass.
     #[tactic(auto, using(crate::proofs::GoingOn::same_goes, crate::proofs::GoingOn::opened_goes))]
-    pub(crate) fn open(&self, job: Job, session: &mut Option<Session<B>>) -> Result<(), ServerFault>
-        ensures told { OnOk result ((books : List Book) → GoesOnUntold job (sessions_so_far books session.old) (sessions_so_far books session.new)) }
+    fn open(
+        &self,
+        job: Job,
+        passes: &Vec<Pass<B>>,
+        session: &mut Option<Session<B>>,
+    ) -> Result<(), ServerFault>
+        ensures told { OnOk result (GoesOnUntold job (sessions_so_far passes.now.items session.old) (sessions_so_far passes.now.items session.new)) }
         ensures stays { OnOk result (is_open_in session.new ≡ is_open_in session.old) }
     {
         if session.is_some() {
             return Ok(());
         }
-        match self.calls.engine.open(self.calls.rt, self.alloc, job) {
+        match self.begin_behind(job, passes) {
             Ok(begun) => {
                 *session = Some(begun);
                 Ok(())
             }
-            Err(_) => Err(ServerFault::Memory),
+            Err(fault) => Err(fault),
         }
     }
 
-    // HALT of the session that is there. Where it is refused the session goes on.
+    // HALT of the session that is there. Where it is refused, in a full journal, the session goes on. Room for its unit
+    // and its pass was taken when the session began.
     fn halt(&self, sessions: &mut Sessions<B>) -> Result<Reply, ServerFault>
         ensures told { IfOk result (λ reply. (job : ℕ) → GoesOnBy job Command.Halt reply sessions.old sessions.new) }
         ensures other { IfOk result (λ reply. is_blocked true reply ≡ false) }
@@ -259,7 +306,7 @@ impl<'a, B: BoardName, R: Wait, G: Gate> Worker<'a, B, R, G> {
         ensures told { IfOk result (λ reply. GoesOnBy job command reply sessions.old sessions.new) }
         ensures had { IfOk result (λ reply. IsHad line.now reply) }
     {
-        match self.open(job, &mut sessions.open) {
+        match self.begin(job, sessions) {
             Ok(()) => self.reply_opened(sessions, command, line),
             Err(fault) => {
                 drop(command);

@@ -1,8 +1,8 @@
 //! The workers, the channels, the reports in order.
-ghost use Rattle.std.specs.Prelude.{◌≡◌, ◌+◌, ℕ, List, IfOk, IfErr, OnOk, map, take, length};
+ghost use Rattle.std.specs.Prelude.{◌≡◌, ◌+◌, ◌^◌, ◌<◌, ℕ, List, IfOk, IfErr, OnOk, map, take, length};
 ghost use Rattle.journal.specs.declared.unit.Unit.{Unit as JournalUnit};
 ghost use Rattle.loading.specs.Settings.{Setting};
-ghost use Rattle.job_server.specs.Loads.{load_books, BeginsWith, IsUnservedBy};
+ghost use Rattle.job_server.specs.Loads.{load_books, BeginsWith, HasRunLoad, IsUnservedBy};
 ghost use Rattle.job_server.specs.Served.{Wanted, wanted, AreHanded, AreBooked, AreServed};
 
 use crate::job_run::Calls;
@@ -14,7 +14,10 @@ use crossbeam_channel::{Receiver, Sender, bounded};
 use job_scripts::{Report, Script};
 use loading::LoadLog;
 use pin_board::{Blank, BoardName, SEATS};
-use shared_engine::{Closed, Gate, Pass, Shared};
+use shared_engine::{
+    Closed, Gate, Pass, Shared, histories_end, histories_go_on, sessions_are_one_run,
+    steps_are_exact,
+};
 use std::alloc::Global;
 use std::marker::{Brand, PhantomData};
 use std::sync::Wait;
@@ -233,6 +236,13 @@ fn share_out<B: BoardName + Batch + Send + Sync, R: Threads + Wait + Sync, G: Ga
     )
 }
 
+// A number of units is one.
+fn is_counted(count: u64)
+    ensures { count < 2 ^ 64 }
+{
+    let _ = count;
+}
+
 // Serves these scripts on an engine in which sessions with these passes were.
 fn serve_on<B: BoardName + Batch + Send + Sync, R: Threads + Wait + Sync, G: Gate + Sync>(
     rt: &R,
@@ -245,7 +255,7 @@ fn serve_on<B: BoardName + Batch + Send + Sync, R: Threads + Wait + Sync, G: Gat
 ) -> Result<Served, ServerFault>
     requires { map wanted scripts.items ≡ B.scripts }
     ensures begins { IfOk result (λ served. (ended : List JournalUnit) (settings : List Setting) → loaded.items ≡ load_books ended settings → BeginsWith settings served.closed.core.units) }
-    ensures booked { IfOk result (λ served. (ended : List JournalUnit) (settings : List Setting) → loaded.items ≡ load_books ended settings → ∥ AreBooked settings (map wanted scripts.items) served.reports.items served.closed.core.units served.closed.sessions ∥₁) }
+    ensures booked { IfOk result (λ served. (ended : List JournalUnit) (settings : List Setting) → loaded.items ≡ load_books ended settings → HasRunLoad settings loaded.items → ∥ AreBooked settings (map wanted scripts.items) served.reports.items served.closed.core.units served.closed.sessions ∥₁) }
 {
     let count = scripts.len();
     let gathered = share_out(rt, alloc, &engine, scripts, workers, gate)?;
@@ -260,6 +270,12 @@ fn serve_on<B: BoardName + Batch + Send + Sync, R: Threads + Wait + Sync, G: Gat
     all.append(&mut handed.passes)?;
     let passes = all.len() as u64;
     let closed = engine.finish(rt, all);
+    // The laws by which what the sessions were told is one run of the exact machine.
+    steps_are_exact();
+    histories_go_on();
+    histories_end();
+    sessions_are_one_run();
+    is_counted(closed.core.now());
     if closed.sessions != passes {
         return Err(ServerFault::Missing);
     }
@@ -323,10 +339,14 @@ fn load_and_serve<
 /// ends where a HALT was replied `ok`, the last one with the lines, and has that HALT's End. All books' units are just
 /// the journal's. No TCOMMIT is replied with a restart.
 ///
+/// Where no two scripts are of one job, nor one of job 1 behind a loaded listing, there is one run of the exact machine
+/// from nothing on, of which the closed journal is the story, and in which each job's steps are, in order, just those
+/// that its report shows: each line's command with its reply, and tries of which no reply tells.
+///
 /// After a fault no report is handed out: `Load` where the listing isn't loaded, as of `loading::load`, and no job was
-/// begun; `Memory` where memory was refused and no reply could say so, also where a worker couldn't be started, a
-/// session begun or its last HALT done, or where a HALT or the end of a block was refused and the transaction that
-/// stayed open is overtaken at its TCOMMIT; `AllWait` where the gate finds that all jobs that were begun and aren't over
+/// begun; `Memory` where memory was refused and no reply could say so, also where a worker couldn't be started or a
+/// session begun, or where the end of a block was refused and the transaction that stayed open is overtaken at its
+/// TCOMMIT; `AllWait` where the gate finds that all jobs that were begun and aren't over
 /// wait for names that others of them hold; `Missing` where a report didn't come, or isn't one reply for each line of
 /// its script, where a session's pass didn't come or isn't behind the one before, or where the units of a load aren't
 /// the journal's first. Once the gate stops jobs, which it may after a job's fault, no line more is done.

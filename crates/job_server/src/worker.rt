@@ -3,8 +3,9 @@ ghost use Rattle.std.specs.Prelude.{◌≡◌, ◌∷◌, ℕ, List, [], None, S
 ghost use Rattle.command.specs.declared.request.Command.{Command};
 ghost use Rattle.job_scripts.specs.Lines.{lines_of_script, Asks};
 ghost use Rattle.std.proofs.Props.{props};
-ghost use Rattle.job_server.specs.Served.{wanted, IsReport, IsReportAt};
+ghost use Rattle.job_server.specs.Served.{wanted, IsReport, HasRunAs, IsReportAt};
 ghost use Rattle.job_server.specs.Told.{IsTold};
+ghost use Rattle.job_server.specs.Steps.{HasRunScript};
 ghost use Rattle.script.specs.Line.{IsReading};
 ghost use Rattle.job_server.specs.Telling.{Refuses, IsFaultOfNone, Serves, Advances, not_begun};
 
@@ -78,8 +79,10 @@ fn ran_of<B: BoardName>(
     replies: Vec<Reply>,
     passes: Vec<Pass<B>>,
 ) -> Result<Ran<B>, ServerFault>
-    requires { IsTold script.now.job script.now.text.items replies.items passes.items }
-    ensures { IfOk result (λ ran. IsReport (wanted script.now) ran.report ran.passes.items) }
+    requires told { IsTold script.now.job script.now.text.items replies.items passes.items }
+    requires run { HasRunScript script.now.job script.now.text.items replies.items passes.items }
+    ensures report { IfOk result (λ ran. IsReport (wanted script.now) ran.report ran.passes.items) }
+    ensures run { IfOk result (λ ran. HasRunAs (wanted script.now) ran.report ran.passes.items) }
 {
     if replies.len() != script.lines {
         return Err(missing(replies, passes));
@@ -102,8 +105,10 @@ fn ran_to_end<B: BoardName>(
     script: &Script,
     run: JobRun<B>,
 ) -> Result<Ran<B>, ServerFault>
-    requires { IsTold script.now.job script.now.text.items run.replies run.sessions.books }
-    ensures { IfOk result (λ ran. IsReport (wanted script.now) ran.report ran.passes.items) }
+    requires told { IsTold script.now.job script.now.text.items run.replies run.sessions.books }
+    requires run { HasRunScript script.now.job script.now.text.items run.replies run.sessions.books }
+    ensures report { IfOk result (λ ran. IsReport (wanted script.now) ran.report ran.passes.items) }
+    ensures run { IfOk result (λ ran. HasRunAs (wanted script.now) ran.report ran.passes.items) }
 {
     let JobRun {
         sessions,
@@ -316,7 +321,8 @@ impl<'a, B: BoardName, R: Wait, G: Gate> Worker<'a, B, R, G> {
     // Does a job's lines, and ends its session.
     fn serve_all(&mut self, run: &mut JobRun<B>, job: Job, lines: &[u8]) -> Result<(), ServerFault>
         requires { run.old ≡ not_begun }
-        ensures { OnOk result (IsTold (Some job) lines.now run.new.replies run.new.sessions.books) }
+        ensures told { OnOk result (IsTold (Some job) lines.now run.new.replies run.new.sessions.books) }
+        ensures run { OnOk result (HasRunScript (Some job) lines.now run.new.replies run.new.sessions.books) }
     {
         self.serve_lines(run, job, lines)?;
         self.stop(&mut run.sessions)
@@ -325,7 +331,8 @@ impl<'a, B: BoardName, R: Wait, G: Gate> Worker<'a, B, R, G> {
     // Runs the lines of a job.
     fn run_job(&mut self, job: Job, script: &Script) -> Result<Ran<B>, ServerFault>
         requires { script.now.job ≡ Some job }
-        ensures { IfOk result (λ ran. IsReport (wanted script.now) ran.report ran.passes.items) }
+        ensures report { IfOk result (λ ran. IsReport (wanted script.now) ran.report ran.passes.items) }
+        ensures run { IfOk result (λ ran. HasRunAs (wanted script.now) ran.report ran.passes.items) }
     {
         let mut run = JobRun::new(self.alloc);
         match self.serve_all(&mut run, job, &script.text) {
@@ -338,10 +345,11 @@ impl<'a, B: BoardName, R: Wait, G: Gate> Worker<'a, B, R, G> {
     }
 
     // The lines without a job: each is refused.
-    #[tactic(auto, using(crate::proofs::Refusing::none_told))]
+    #[tactic(auto, using(crate::proofs::Refusing::none_told, crate::proofs::Refusing::none_run))]
     fn run_none(&self, script: &Script) -> Result<Ran<B>, ServerFault>
         requires { script.now.job ≡ None }
-        ensures { IfOk result (λ ran. IsReport (wanted script.now) ran.report ran.passes.items) }
+        ensures report { IfOk result (λ ran. IsReport (wanted script.now) ran.report ran.passes.items) }
+        ensures run { IfOk result (λ ran. HasRunAs (wanted script.now) ran.report ran.passes.items) }
     {
         let mut drafts = Drafts::new(self.alloc);
         let mut replies = Vec::new(self.alloc);
@@ -358,7 +366,8 @@ impl<'a, B: BoardName, R: Wait, G: Gate> Worker<'a, B, R, G> {
 
     // Runs a script to its end.
     fn run_script(&mut self, script: &Script) -> Result<Ran<B>, ServerFault>
-        ensures { IfOk result (λ ran. IsReport (wanted script.now) ran.report ran.passes.items) }
+        ensures report { IfOk result (λ ran. IsReport (wanted script.now) ran.report ran.passes.items) }
+        ensures run { IfOk result (λ ran. HasRunAs (wanted script.now) ran.report ran.passes.items) }
     {
         match script.job {
             Some(job) => self.run_job(job, script),
@@ -369,7 +378,7 @@ impl<'a, B: BoardName, R: Wait, G: Gate> Worker<'a, B, R, G> {
 
 impl<'a, B: BoardName + Batch, R: Wait, G: Gate> Worker<'a, B, R, G> {
     // Runs a task.
-    #[tactic(auto, using(crate::proofs::GoingOn::ok_weaker, crate::proofs::GoingOn::at_place))]
+    #[tactic(auto, using(crate::proofs::GoingOn::both_ok, crate::proofs::GoingOn::at_place))]
     fn run_task(&mut self, task: Task<B>) -> Done<B> {
         let Task {
             place,

@@ -21,10 +21,10 @@ use Rattle.serial.specs.Machine.{state_at}
 use Rattle.validate_commit.specs.Working.{Working}
 use Rattle.validate_commit.specs.Verdicts.{has_been_overtaken, IsCauseAtCommit}
 use Rattle.job_core.specs.Sessions.{Session as JobSession, after_lock}
-use Rattle.shared_engine.specs.Sessions.{Held, knowing, noted_lock}
+use Rattle.shared_engine.specs.Sessions.{Held, knowing, begun_anew, noted_lock}
 use Rattle.shared_engine.specs.Engines.{Engine, lock_unit, after_try, IsCauseAtRestart}
 use Rattle.shared_engine.specs.Writes.{IsQuietSince, IsAlone}
-use Rattle.shared_engine.specs.Blocks.{AreSame, HasSeen, IsLone, IsReadAt, IsTried, IsOpened, IsDeeper, IsCommitted, IsRolledBack, IsRestarted, HasDone, moved}
+use Rattle.shared_engine.specs.Blocks.{AreSame, HasSeen, IsLone, IsReadAt, IsTried, IsOpened, IsDeeper, IsCommitted, IsRolledBack, IsRestarted, HasDone}
 use Rattle.shared_engine.proofs.Quiet.{everywhere}
 use Rattle.shared_engine.proofs.Starting.{noted_work}
 
@@ -189,5 +189,9 @@ alone_done Level reply units more old new h alone = alone_same units more old ne
 alone_done Restarts reply units more old new h alone = alone_same units more old new h.1 alone
 alone_done Halt reply units more old new h alone = absurd h
 
-pub alone_moved : (units : List JournalUnit) (s : Held) → IsAlone (moved units s) units
-alone_moved units s = alone_now units (moved units s) refl
+-- a transaction that begins anew behind these units, or none
+pub alone_anew_now : (units : List JournalUnit) (s now : Held) → now ≡ begun_anew units s → IsAlone now units
+alone_anew_now units s now is = alone_now units now (ap (λ (x : Held). x.state.work.start) is)
+
+pub alone_outside : (units : List JournalUnit) (s now : Held) → s.state.level ≡ 0 → now ≡ knowing units s → IsAlone now units
+alone_outside units s now none is = alone_idle units now (ap (λ (x : Held). x.state.level) is ∙ none)

@@ -13,8 +13,9 @@ use Rattle.command.specs.declared.request.Reply.TheVariants.{Answered, Finished,
 use Rattle.journal.specs.declared.unit.Unit.{Unit as JournalUnit}
 use Rattle.journal.specs.History.{initial, after}
 use Rattle.job_core.specs.Sessions.{Session as JobSession, IsAnsweredOrRefused}
-use Rattle.shared_engine.specs.Sessions.{Held}
-use Rattle.shared_engine.specs.Blocks.{said, IsCommitted, IsReadAt, HasDone, AreDone, is_blocked, must_in, AreHad, IsCut, IsNoRestart, NoneRestarts}
+use Rattle.shared_engine.specs.Sessions.{Held, begun_anew}
+use Rattle.shared_engine.specs.declared.serial_run.SerialRun.{SerialRun}
+use Rattle.shared_engine.specs.Blocks.{said, IsCommitted, IsReadAt, HasDone, AreDone, is_blocked, must_in, AreHad, IsCut, HasCome, IsNoRestart, NoneRestarts}
 
 -- what a test of the last reply tells, at the place of its command
 pub told_blocked : (musts : List Bool) (place count : ℕ) (must told : Bool) (reply : Reply) → place ≡ count → must ≡ must_in musts place → told ≡ is_blocked must reply → is_blocked (must_in musts count) reply ≡ told
@@ -146,3 +147,9 @@ taken_one all rest replies reply command room is h = omega (arith, ap length is,
 pub none_left : (rest : List Command) → length rest ≡ 0 → rest ≡ []
 none_left [] none = refl
 none_left (command ∷ rest) none = absurd (omega (arith, none))
+
+-- ---- from where a transaction has begun anew
+
+pub come_anew : (musts : List Bool) (block : List Command) (run : SerialRun) (units back more : List JournalUnit) (old start new : Held) → units ≡ back → start ≡ begun_anew units old → HasCome musts block run units more start new → HasCome musts block run back more (begun_anew back old) new
+come_anew musts block run units back more old start new same is come =
+    subst (λ (us : List JournalUnit). HasCome musts block run us more (begun_anew us old) new) same (subst (λ (s : Held). HasCome musts block run units more s new) is come)

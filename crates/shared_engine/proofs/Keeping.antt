@@ -1,5 +1,5 @@
 -- What lies under the lock after a step.
-use Rattle.std.proofs.Common.{◌≡◌, ℕ, ◌-◌, ◌^◌, List, [], ◌∷◌, ◌++◌, length, length-append, Some, false, sym, ap, ◌∙◌, subst, arith}
+use Rattle.std.proofs.Common.{◌≡◌, ℕ, ◌+◌, ◌-◌, ◌^◌, List, [], ◌∷◌, ◌++◌, length, length-append, Some, false, sym, ap, ◌∙◌, subst, arith}
 use Rattle.std.specs.Prelude.{Option, min, Result, Ok, Err, IfOk}
 use Rattle.refusal.specs.declared.Refusal.{Refusal}
 use Rattle.collector.specs.declared.turning.Progress.{Progress}
@@ -10,10 +10,10 @@ use Rattle.validate_commit.specs.Working.{Working}
 use Rattle.validate_commit.specs.Verdicts.{has_been_overtaken}
 use Rattle.validate_commit.specs.declared.committing.Verdict.{Verdict}
 use Rattle.validate_commit.specs.declared.committing.Verdict.TheVariants.{Committed, Restart}
-use Rattle.job_core.specs.Common.{Common, HasAdded, IsEnded, IsUnchanged, HasTurned}
+use Rattle.job_core.specs.Common.{Common, HasAdded, IsEnded, IsUnchanged, HasTurned, one_end_fewer}
 use Rattle.pin_board.specs.declared.view.DeskView.{DeskView}
 use Rattle.pin_board.specs.Views.{logged}
-use Rattle.shared_engine.specs.Engines.{IsLocked}
+use Rattle.shared_engine.specs.Engines.{IsLocked, sessions_in}
 
 -- the desk has the unit that was added
 pub log_next : (u : JournalUnit) (told : Claim) (oldest : Option ℕ) (old new : Common) (desk later : DeskView) → desk.log ≡ old.units → HasAdded u told oldest old new → later ≡ logged desk told → later.log ≡ new.units
@@ -33,6 +33,7 @@ locked_added u told old new desk later seats horizon opened is h step =
       wide = ap (λ (d : DeskView). d.seats) step ∙ is.wide;
       dealt = is.dealt ∙ sym (ap (λ (d : DeskView). d.dealt) step);
       opened_is = subst (λ (n : ℕ). opened ≡ min n (2 ^ 64 - 1)) (sym (ap (λ (d : DeskView). d.given) step)) is.opened_is;
+      ends = h.ends ∙ is.ends;
     }
 
 -- the core was refused something
@@ -46,7 +47,27 @@ locked_unchanged old new desk seats horizon opened is h = record {
   wide = is.wide;
   dealt = is.dealt;
   opened_is = is.opened_is;
+  ends = h.ends ∙ is.ends;
 }
+
+-- a session has ended whose end had room
+locked_halted : (old : Common) (desk : DeskView) (seats fewer : List (Option ℕ)) (horizon opened : ℕ) → IsLocked old desk seats horizon opened → length fewer ≡ length seats → sessions_in fewer + 1 ≡ sessions_in seats → IsLocked (one_end_fewer old) desk fewer horizon opened
+locked_halted old desk seats fewer horizon opened is long one = record {
+  log = is.log;
+  cut = is.cut;
+  base = is.base;
+  high = is.high;
+  now = is.now;
+  wide = is.wide;
+  dealt = long ∙ is.dealt;
+  opened_is = is.opened_is;
+  ends = omega (arith, is.ends, one);
+}
+
+pub locked_after_halt : (u : JournalUnit) (told : Claim) (old new : Common) (desk later : DeskView) (seats fewer : List (Option ℕ)) (horizon opened : ℕ) → IsLocked old desk seats horizon opened → HasAdded u told (Some horizon) (one_end_fewer old) new → later ≡ logged desk told
+    → length fewer ≡ length seats → sessions_in fewer + 1 ≡ sessions_in seats → IsLocked new later fewer horizon opened
+locked_after_halt u told old new desk later seats fewer horizon opened is h step long one =
+    locked_added u told (one_end_fewer old) new desk later fewer horizon opened (locked_halted old desk seats fewer horizon opened is long one) h step
 
 -- a turn of the collector was at some horizon
 pub turned_at : (result : Result Progress Refusal) (horizon limit : ℕ) (old new : Common) → IfOk result (λ p. HasTurned horizon limit p old.store new.store) → IfOk result (λ p. (h : ℕ) × HasTurned h limit p old.store new.store)

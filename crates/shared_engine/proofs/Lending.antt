@@ -1,9 +1,9 @@
 -- A seat that is lent, and one that comes back.
-use Rattle.std.proofs.Common.{◌≡◌, ◌≢◌, ℕ, zero, suc, ◌+◌, ◌-◌, ◌<◌, ◌≤◌, true, false, List, [], ◌∷◌, length, get_or, slice_set, Some, None, refl, sym, ap, ◌∙◌, arith, true≢false}
+use Rattle.std.proofs.Common.{◌≡◌, ◌≢◌, ℕ, zero, suc, ◌+◌, ◌-◌, ◌<◌, ◌≤◌, true, false, List, [], ◌∷◌, ◌++◌, length, get_or, slice_set, Some, None, refl, sym, ap, ◌∙◌, arith, true≢false, ◌⊎◌, inl, inr}
 use Rattle.std.specs.Prelude.{Option, slice_get}
 use native.Mathlib.Decide.{ℕ_discrete}
 use Rattle.std.proofs.lemmas.Option.{slice_get_within, slice_get_read}
-use Rattle.shared_engine.specs.Engines.{is_lent, has_session, SessionIs, SameSessions, AreInPlace}
+use Rattle.shared_engine.specs.Engines.{is_lent, has_session, SessionIs, SameSessions, AreInPlace, sessions_in}
 
 -- there is a seat where one is lent
 pub lent_within : (seats : List (Option ℕ)) (place job : ℕ) → has_session seats job ≡ true → place + 1 ≡ job → place < length seats
@@ -33,11 +33,95 @@ set_apart (s ∷ seats) zero (suc j) x ne = refl
 set_apart (s ∷ seats) (suc i) zero x ne = refl
 set_apart (s ∷ seats) (suc i) (suc j) x ne = set_apart seats i j x (λ e. ne (ap suc e))
 
+-- ---- how many are lent
+
+-- one that nobody has comes behind them
+pub more_free : (seats : List (Option ℕ)) (place : ℕ) → sessions_in (seats ++ Some place ∷ []) ≡ sessions_in seats
+more_free [] place = refl
+more_free (None ∷ seats) place = ap (λ n. n + 1) (more_free seats place)
+more_free (Some x ∷ seats) place = more_free seats place
+
+lent_more : (seats : List (Option ℕ)) (i place : ℕ) → is_lent (slice_get (seats ++ Some place ∷ []) i) ≡ is_lent (slice_get seats i)
+lent_more [] zero place = refl
+lent_more [] (suc i) place = refl
+lent_more (s ∷ seats) zero place = refl
+lent_more (s ∷ seats) (suc i) place = lent_more seats i place
+
+pub same_more : (old seats new : List (Option ℕ)) (place : ℕ) → SameSessions old seats → new ≡ seats ++ Some place ∷ [] → SameSessions old new
+same_more old seats new place same is = λ job from. ap (λ ss. has_session ss job) is ∙ (lent_more seats (job - 1) place ∙ same job from)
+
+-- the place of a seat that is there
+abbrev seat_or : Option (Option ℕ) → ℕ
+seat_or None = 0
+seat_or (Some None) = 0
+seat_or (Some (Some place)) = place
+
+at_more : (seats : List (Option ℕ)) (i place seat : ℕ) → slice_get (seats ++ Some place ∷ []) i ≡ Some (Some seat) → (slice_get seats i ≡ Some (Some seat)) ⊎ ((i ≡ length seats) × (place ≡ seat))
+at_more [] zero place seat is = inr (refl, ap seat_or is)
+at_more [] (suc i) place seat is = absurd (cc)
+at_more (s ∷ seats) zero place seat is = inl is
+at_more (s ∷ seats) (suc i) place seat is = one_on (at_more seats i place seat is)
+  where
+    one_on : (slice_get seats i ≡ Some (Some seat)) ⊎ ((i ≡ length seats) × (place ≡ seat)) → (slice_get seats i ≡ Some (Some seat)) ⊎ ((suc i ≡ length (s ∷ seats)) × (place ≡ seat))
+    one_on (inl there) = inl there
+    one_on (inr last) = inr (ap suc last.0, last.1)
+
+pub placed_more : (seats new : List (Option ℕ)) (place : ℕ) → AreInPlace seats → place ≡ length seats → new ≡ seats ++ Some place ∷ [] → AreInPlace new
+placed_more seats new place placed last is = λ i seat there. by_case i seat (at_more seats i place seat (ap (λ ss. slice_get ss i) (sym is) ∙ there))
+  where
+    by_case : (i seat : ℕ) → (slice_get seats i ≡ Some (Some seat)) ⊎ ((i ≡ length seats) × (place ≡ seat)) → seat ≡ i
+    by_case i seat (inl there) = placed i seat there
+    by_case i seat (inr here) = sym here.1 ∙ (last ∙ sym here.0)
+
+-- one that was free is lent
+one_lent : (seats : List (Option ℕ)) (i x : ℕ) → slice_get seats i ≡ Some (Some x) → sessions_in (slice_set seats i None) ≡ sessions_in seats + 1
+one_lent [] i x is = absurd (cc)
+one_lent (None ∷ seats) zero x is = absurd (cc)
+one_lent (Some y ∷ seats) zero x is = refl
+one_lent (None ∷ seats) (suc i) x is = ap (λ n. n + 1) (one_lent seats i x is)
+one_lent (Some y ∷ seats) (suc i) x is = one_lent seats i x is
+
+-- one that was lent is so still
+pub still_lent : (seats : List (Option ℕ)) (i : ℕ) → slice_get seats i ≡ Some None → slice_set seats i None ≡ seats
+still_lent [] i is = refl
+still_lent (None ∷ seats) zero is = refl
+still_lent (Some y ∷ seats) zero is = absurd (cc)
+still_lent (s ∷ seats) (suc i) is = ap (λ ss. s ∷ ss) (still_lent seats i is)
+
+-- one that was lent comes back
+one_back : (seats : List (Option ℕ)) (i x : ℕ) → slice_get seats i ≡ Some None → sessions_in (slice_set seats i (Some x)) + 1 ≡ sessions_in seats
+one_back [] i x is = absurd (cc)
+one_back (None ∷ seats) zero x is = refl
+one_back (Some y ∷ seats) zero x is = absurd (cc)
+one_back (None ∷ seats) (suc i) x is = ap (λ n. n + 1) (one_back seats i x is)
+one_back (Some y ∷ seats) (suc i) x is = one_back seats i x is
+
+-- who has a session has a seat that is lent
+lent_there : (o : Option (Option ℕ)) → is_lent o ≡ true → o ≡ Some None
+lent_there None is = absurd (cc)
+lent_there (Some None) is = refl
+lent_there (Some (Some x)) is = absurd (cc)
+
+pub seat_back : (seats : List (Option ℕ)) (place x : ℕ) → has_session seats (place + 1) ≡ true → sessions_in (slice_set seats place (Some x)) + 1 ≡ sessions_in seats
+seat_back seats place x lent =
+    let index : place + 1 - 1 ≡ place = omega arith in
+    one_back seats place x (lent_there (slice_get seats place) (ap (λ i. is_lent (slice_get seats i)) (sym index) ∙ lent))
+
+some_in : (seats : List (Option ℕ)) (i : ℕ) → slice_get seats i ≡ Some None → 1 ≤ sessions_in seats
+some_in [] i is = absurd (cc)
+some_in (None ∷ seats) i is = omega arith
+some_in (Some y ∷ seats) zero is = absurd (cc)
+some_in (Some y ∷ seats) (suc i) is = some_in seats i is
+
+pub some_session : (seats : List (Option ℕ)) (job : ℕ) → has_session seats job ≡ true → 1 ≤ sessions_in seats
+some_session seats job lent = some_in seats (job - 1) (lent_there (slice_get seats (job - 1)) lent)
+
 -- the seat at a job's place is taken out
 pub record IsLentOut (old seats : List (Option ℕ)) (place job seat : ℕ) : Type 0 where
   pub here : seat + 1 ≡ job
   pub free : has_session old job ≡ false
   pub lent : SessionIs true job old (slice_set seats place None)
+  pub one_more : sessions_in (slice_set seats place None) ≡ sessions_in seats + 1
 
 pub lent_out : (old seats : List (Option ℕ)) (place job seat : ℕ) (slot : Option ℕ) → SameSessions old seats → AreInPlace seats → place + 1 ≡ job → place < length seats → slot ≡ get_or seats place slot → slot ≡ Some seat → IsLentOut old seats place job seat
 lent_out old seats place job seat slot same in_place here within read is =
@@ -52,4 +136,5 @@ lent_out old seats place job seat slot same in_place here within read is =
         this = ap (λ i. is_lent (slice_get (slice_set seats place None) i)) index ∙ ap is_lent (set_here seats place None within);
         others = λ other one apart. let ne : other - 1 ≢ place = (λ e. apart (omega arith)) in ap is_lent (set_apart seats place (other - 1) None ne) ∙ same other one;
       };
+      one_more = one_lent seats place seat there;
     }

@@ -12,3 +12,6 @@ pub mod Blocks
 pub mod Beginning
 pub mod Crossing
 pub mod Waiting
+pub mod Exact
+pub mod Stepping
+pub mod Histories

@@ -1,21 +1,17 @@
 -- What a session has seen after a step, and what a call says of the journal that it had.
-use Rattle.std.proofs.Common.{◌≡◌, ◌⊎◌, inl, inr, ℕ, zero, suc, ◌+◌, ◌<◌, ◌≤◌, Bool, true, false, List, [], ◌∷◌, ◌++◌, length, Some, None, refl, sym, ap, ◌∙◌, subst, arith, Result, Ok, Err, IfOk, OnOk, OnErr}
-use Rattle.std.specs.Prelude.{IfErr, IsErrOf, Option, take, nat_lt, if◌then◌else◌}
+use Rattle.std.proofs.Common.{◌≡◌, ℕ, ◌+◌, Bool, true, false, List, [], ◌∷◌, ◌++◌, length, Some, None, refl, sym, ap, ◌∙◌, subst, Result, Ok, Err, IfOk, OnOk, OnErr}
+use Rattle.std.specs.Prelude.{IfErr, IsErrOf, if◌then◌else◌}
 use Rattle.refusal.specs.declared.Refusal.{Refusal}
-use Rattle.refusal.specs.declared.Refusal.TheVariants.{OutOfMemory}
 use Rattle.lock_name.specs.declared.lock.LockCommand.{LockCommand}
 use Rattle.lock_name.specs.Locks.{lock_refusal, lock_reply}
 use Rattle.command.specs.declared.access.DataCommand.{DataCommand}
 use Rattle.command.specs.declared.access.Answer.{Answer}
-use Rattle.command.specs.declared.request.Command.{Command}
-use Rattle.command.specs.declared.request.Command.TheVariants.{Access, Lock as lock_command, Start, Commit, Rollback, Restart, Level, Restarts, Halt}
-use Rattle.command.specs.declared.request.Reply.{Reply}
 use Rattle.command.specs.Data.{data_refusal, data_reply}
 use Rattle.globals.specs.Answering.{early_refusal}
 use Rattle.journal.specs.declared.unit.Unit.{Unit as JournalUnit}
 use Rattle.journal.specs.declared.unit.Unit.TheVariants.{Lone, Back}
 use Rattle.journal.specs.History.{initial, after}
-use Rattle.journal.specs.Kept.{HasNoRoom}
+use Rattle.journal.specs.Kept.{HasNoNumber, HasNoRoom}
 use Rattle.validate_commit.specs.Verdicts.{IsCauseAtCommit}
 use Rattle.job_core.specs.Causes.{IsCauseOf}
 use Rattle.job_core.specs.Common.{IsCauseOfLock}
@@ -23,12 +19,10 @@ use Rattle.job_core.specs.Sessions.{Session as JobSession}
 use Rattle.pin_board.specs.Slips.{IsBeginning}
 use Rattle.shared_engine.specs.Receipts.{Book}
 use Rattle.shared_engine.specs.Sessions.{Held, knowing, ended, and_receipt, went_back, rolled_back, begun_anew, halted, IsJournalOf}
-use Rattle.shared_engine.specs.Engines.{HasEnded, IsCauseAtRestart, gone_back, lock_unit, after_try, OnOkThat, OnOkNot}
-use Rattle.shared_engine.specs.declared.locked.Ended.{Ended}
-use Rattle.shared_engine.specs.declared.locked.Ended.TheVariants.{Committed, Restarted}
-use Rattle.shared_engine.proofs.Prefixes.{begins_longer}
+use Rattle.shared_engine.specs.Engines.{gone_back, after_try, OnOkThat}
+use Rattle.shared_engine.specs.laws.Prefixes.{begins_longer}
 use Rattle.shared_engine.proofs.Writing.{back_free}
-use Rattle.shared_engine.specs.Blocks.{HasSeen, AreSame, IsLone, IsTried, WasTried, IsOpened, IsDeeper, IsCommitted, IsRolledBack, IsRestarted, HasDone, moved, moved_open}
+use Rattle.shared_engine.specs.Blocks.{IsLone, WasTried, IsRolledBack, IsRestarted}
 
 -- a transaction goes back on a journal that goes on from what the session had seen
 pub anew_goes_on : (s : Held) (units more : List JournalUnit) → more ≡ gone_back s.state units → (s.state.took_lock ≡ true → IsBeginning units s.seen) → IsBeginning more (went_back more s).seen → IsBeginning more s.seen
@@ -44,87 +38,6 @@ back_goes_on s units more seen is took now = by_took s.took_lock refl is
     by_took : (b : Bool) → s.took_lock ≡ b → more ≡ (if b then units ++ Back s.work.job ∷ [] else units) → IsBeginning units seen
     by_took true e there = took e
     by_took false e there = subst (λ (us : List JournalUnit). IsBeginning us seen) there now
-
--- ---- a command of a block: the session has seen all units before it, and so behind it
-
-same_seen : (units more : List JournalUnit) (old new : Held) → AreSame units more old new → old.seen ≡ units → new.seen ≡ more
-same_seen units more old new h seen = ap (λ (s : Held). s.seen) h.1 ∙ (seen ∙ sym h.0)
-
-now_seen : (units more : List JournalUnit) (old new : Held) → HasSeen units more old new → new.seen ≡ more
-now_seen units more old new h = ap (λ (s : Held). s.seen) h.1 ∙ sym h.0
-
-pub lone_seen : (command : DataCommand) (result : Result Answer Refusal) (units more : List JournalUnit) (old new : Held) → IsLone command result units more old new → new.seen ≡ more
-lone_seen command (Ok answer) units more old new h = ap (λ (s : Held). s.seen) h.1.1 ∙ sym h.1.0
-lone_seen command (Err refusal) units more old new h = now_seen units more old new h.1
-
-pub tried_seen : (command : LockCommand) (result : Result Bool Refusal) (units more : List JournalUnit) (old new : Held) → IsTried command result units more old new → new.seen ≡ more
-tried_seen command (Ok had) units more old new h = ap (λ (s : Held). s.seen) h.1.1 ∙ sym h.1.0
-tried_seen command (Err refusal) units more old new h = now_seen units more old new h.1
-
-opened_seen : (result : Result ℕ Refusal) (units more : List JournalUnit) (old new : Held) → IsOpened result units more old new → new.seen ≡ more
-opened_seen (Ok level) units more old new h = ap (λ (s : Held). s.seen) h.1.1.is ∙ sym h.1.0
-opened_seen (Err refusal) units more old new h = absurd h
-
-deeper_seen : (result : Result ℕ Refusal) (units more : List JournalUnit) (old new : Held) → IsDeeper result units more old new → old.seen ≡ units → new.seen ≡ more
-deeper_seen (Ok level) units more old new h seen = ap (λ (s : Held). s.seen) h.1.1 ∙ (seen ∙ sym h.1.0)
-deeper_seen (Err refusal) units more old new h seen = same_seen units more old new h.1 seen
-
-pub ended_seen : (end : Ended) (units more : List JournalUnit) (old new : Held) → HasEnded end units more old new → new.seen ≡ more
-ended_seen Committed units more old new h = ap (λ (s : Held). s.seen) h.1.1 ∙ sym h.1.0
-ended_seen (Restarted restarts) units more old new h = ap (λ (s : Held). s.seen) h.1.1.0
-
-committed_seen : (result : Result Reply Refusal) (units more : List JournalUnit) (old new : Held) → IsCommitted result units more old new → new.seen ≡ more
-committed_seen (Ok reply) units more old new h = ended_seen Committed units more old new h.1
-committed_seen (Err refusal) units more old new h = now_seen units more old new h.1
-
-rolled_seen : (units more : List JournalUnit) (old : Held) → more ≡ gone_back old.state units → old.seen ≡ units → (rolled_back more old).seen ≡ more
-rolled_seen units more old is seen = by_took old.state.took_lock is
-  where
-    by_took : (b : Bool) → more ≡ (if b then units ++ Back old.state.work.job ∷ [] else units) → (if b then more else old.seen) ≡ more
-    by_took true e = refl
-    by_took false e = seen ∙ sym e
-
-back_seen : (result : Result (Unit {0}) Refusal) (units more : List JournalUnit) (old new : Held) → IsRolledBack result units more old new → old.seen ≡ units → new.seen ≡ more
-back_seen (Ok done) units more old new h seen = ap (λ (s : Held). s.seen) h.1 ∙ rolled_seen units more old h.0 seen
-back_seen (Err refusal) units more old new h seen = now_seen units more old new h.1
-
-anew_seen : (result : Result ℕ Refusal) (units more : List JournalUnit) (old new : Held) → IsRestarted result units more old new → new.seen ≡ more
-anew_seen (Ok restarts) units more old new h = ap (λ (s : Held). s.seen) h.1.1
-anew_seen (Err refusal) units more old new h = now_seen units more old new h.1
-
-by_level : {P : Type 0} (n : ℕ) → (n ≡ 0 → P) → (1 ≤ n → P) → P
-by_level zero outside inside = outside refl
-by_level (suc n) outside inside = inside (omega arith)
-
-by_levels : {P : Type 0} (n : ℕ) → (n ≡ 0 → P) → (n ≡ 1 → P) → (1 < n → P) → P
-by_levels zero outside outermost inside = outside refl
-by_levels (suc zero) outside outermost inside = outermost refl
-by_levels (suc (suc n)) outside outermost inside = inside (omega arith)
-
-pub done_seen : (command : Command) (reply : Reply) (units more : List JournalUnit) (old new : Held) → HasDone command reply units more old new → old.seen ≡ units → new.seen ≡ more
-done_seen (Access command) reply units more old new h seen =
-    by_level {P = new.seen ≡ more} old.state.level (λ none. lone_seen command h.0 units more old new (h.2 none)) (λ deep. let read = h.3 deep in read.1.1.1.1.1 ∙ sym read.1.0)
-done_seen (lock_command command) reply units more old new h seen = tried_seen command h.0 units more old new h.2
-done_seen Start reply units more old new h seen =
-    by_level {P = new.seen ≡ more} old.state.level (λ none. opened_seen h.0 units more old new (h.2 none)) (λ deep. deeper_seen h.0 units more old new (h.3 deep) seen)
-done_seen Commit reply units more old new h seen =
-    by_levels {P = new.seen ≡ more} old.state.level (λ none. same_seen units more old new (h.2 none).1 seen) (λ one. committed_seen h.0 units more old new (h.3 one))
-    (λ deep. let lower = h.4 deep in ap (λ (s : Held). s.seen) lower.1.1 ∙ (seen ∙ sym lower.1.0))
-done_seen Rollback reply units more old new h seen =
-    by_level {P = new.seen ≡ more} old.state.level (λ none. same_seen units more old new (h.2 none).1 seen) (λ deep. back_seen h.0 units more old new (h.3 deep) seen)
-done_seen Restart reply units more old new h seen =
-    by_level {P = new.seen ≡ more} old.state.level (λ none. same_seen units more old new (h.2 none).1 seen) (λ deep. anew_seen h.0 units more old new (h.3 deep))
-done_seen Level reply units more old new h seen = same_seen units more old new h.1 seen
-done_seen Restarts reply units more old new h seen = same_seen units more old new h.1 seen
-done_seen Halt reply units more old new h seen = absurd h
-
--- where its start was moved, or it has met the desk
-pub moved_seen : (units : List JournalUnit) (s now : Held) → now ≡ moved_open units s → now.seen ≡ units
-moved_seen units s now is = ap (λ (x : Held). x.seen) is ∙ by_level (nat_lt 0 s.state.level)
-  where
-    by_level : (b : Bool) → (if b then moved units s else knowing units s).seen ≡ units
-    by_level true = refl
-    by_level false = refl
 
 -- ---- what a call says once the lock is free
 
@@ -201,9 +114,9 @@ not_halted A (Ok pass) units s goes_on is = tt
 not_halted A (Err e) units s goes_on is =
     let seen : units ≡ e.0.seen = sym (ap (λ (x : Held). x.seen) is.0) in (subst (λ (us : List JournalUnit). IsBeginning us s.seen) seen goes_on, is.0 ∙ ap (λ (us : List JournalUnit). knowing us s) seen)
 
-pub halt_cause : {P : Type 0} (A : Type 0) (r : Result P (Held × Refusal)) (units : List JournalUnit) (s : Held) → IfErr r (λ e. (e.0 ≡ knowing units s) × A) → IfErr r (λ e. HasNoRoom e.1 1 (length units)) → IfErr r (λ e. HasNoRoom e.1 1 (length e.0.seen))
+pub halt_cause : {P : Type 0} (A : Type 0) (r : Result P (Held × Refusal)) (units : List JournalUnit) (s : Held) → IfErr r (λ e. (e.0 ≡ knowing units s) × A) → IfErr r (λ e. HasNoNumber e.1 1 (length units)) → IfErr r (λ e. HasNoNumber e.1 1 (length e.0.seen))
 halt_cause A (Ok pass) units s is cause = tt
-halt_cause A (Err e) units s is cause = subst (λ (us : List JournalUnit). HasNoRoom e.1 1 (length us)) (sym (ap (λ (x : Held). x.seen) is.0)) cause
+halt_cause A (Err e) units s is cause = subst (λ (us : List JournalUnit). HasNoNumber e.1 1 (length us)) (sym (ap (λ (x : Held). x.seen) is.0)) cause
 
 -- what holds of the units under the lock holds of what the session has seen then
 pub at_seen : {A E : Type 0} (r : Result A E) (units : List JournalUnit) (new : Held) (P : List JournalUnit → A → Type 0) → OnOk r (new.seen ≡ units) → IfOk r (P units) → IfOk r (P new.seen)
@@ -214,3 +127,17 @@ pub come_at : {A E : Type 0} (r : Result A E) (units more : List JournalUnit) (o
     → IfOk r (λ a. (us : List JournalUnit) × IsJournalOf us old × P us new.seen a)
 come_at (Ok a) units more old new P journal seen h = (units, journal, subst (λ (us : List JournalUnit). P units us a) (sym seen) h)
 come_at (Err e) units more old new P journal seen h = tt
+
+pub anew_come : {A E : Type 0} (r : Result A E) (units more : List JournalUnit) (old new : Held) (P : List JournalUnit → List JournalUnit → A → Type 0) → IsBeginning units old.seen → OnOk r (IsJournalOf (gone_back old.state units) old) → OnOk r (new.seen ≡ more) → IfOk r (P (gone_back old.state units) more)
+    → IfOk r (λ a. (us : List JournalUnit) × IsBeginning us old.seen × IsJournalOf (gone_back old.state us) old × P (gone_back old.state us) new.seen a)
+anew_come (Ok a) units more old new P goes_on journal seen h = (units, goes_on, journal, subst (λ (us : List JournalUnit). P (gone_back old.state units) us a) (sym seen) h)
+anew_come (Err e) units more old new P goes_on journal seen h = tt
+
+pub anew_refused : {A E : Type 0} (B : Type 0) (r : Result A E) (units : List JournalUnit) (old new : Held) → IsBeginning units old.seen → OnErr r (B × (new ≡ knowing units old)) → OnErr r (IsBeginning new.seen old.seen × (new ≡ knowing new.seen old))
+anew_refused B (Ok a) units old new goes_on is = tt
+anew_refused B (Err e) units old new goes_on is =
+    let seen : units ≡ new.seen = sym (ap (λ (x : Held). x.seen) is.1) in (subst (λ (us : List JournalUnit). IsBeginning us old.seen) seen goes_on, is.1 ∙ ap (λ (us : List JournalUnit). knowing us old) seen)
+
+pub anew_cause : {A : Type 0} (B : Type 0) (r : Result A Refusal) (units : List JournalUnit) (old new : Held) → OnErr r (B × (new ≡ knowing units old)) → IfErr r (λ refusal. HasNoRoom refusal 1 (length units)) → IfErr r (λ refusal. HasNoRoom refusal 1 (length new.seen))
+anew_cause B (Ok a) units old new is cause = tt
+anew_cause B (Err refusal) units old new is cause = subst (λ (us : List JournalUnit). HasNoRoom refusal 1 (length us)) (sym (ap (λ (x : Held). x.seen) is.1)) cause

@@ -11,8 +11,9 @@ use Rattle.shared_engine.specs.declared.locked.Ended.{Ended}
 use Rattle.shared_engine.specs.Sessions.{Held, knowing, IsJournalOf}
 use Rattle.shared_engine.specs.Engines.{OnOkThat, OnOkNot, HasEnded, IsCauseAtRestart}
 use Rattle.shared_engine.specs.Blocks.{WasTried, WasTriedAgain, HasItsNames, WasBlocked, WasRefused}
-use Rattle.shared_engine.proofs.Prefixes.{begins_itself}
-use Rattle.shared_engine.proofs.Seeing.{ended_seen, tried_refused}
+use Rattle.shared_engine.specs.laws.Prefixes.{begins_itself}
+use Rattle.shared_engine.specs.laws.Seen.{ended_seen}
+use Rattle.shared_engine.proofs.Seeing.{tried_refused}
 
 -- a try that said no
 pub first_try : (command : LockCommand) (had : Bool) (old mid : Held) → had ≡ false → WasTried command (Ok had) old mid → WasTried command (Ok false) old mid

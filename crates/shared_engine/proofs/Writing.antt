@@ -25,6 +25,10 @@ shown s p = held s (start_in p) (receipts_in p.mine) (others_in p.mine) p.seen
 pub seen_next : (u : JournalUnit) (told : Claim) (oldest : Option ℕ) (old new : Common) (desk : DeskView) (pin later : PinView) → desk.log ≡ old.units → HasAdded u told oldest old new → later ≡ wrote desk pin told → later.seen ≡ old.units ++ u ∷ []
 seen_next u told oldest old new desk pin later same h step = ap (λ (p : PinView). p.seen) step ∙ (λ i. same i ++ (ap (λ (c : Claim). c.unit) h.receipt) i ∷ [])
 
+-- its number is how many units there are then
+pub number_of_end : (u : JournalUnit) (told : Claim) (oldest : Option ℕ) (old new : Common) (n : ℕ) (seen : List JournalUnit) → HasAdded u told oldest old new → n ≡ told.number → seen ≡ old.units ++ u ∷ [] → n ≡ length seen
+number_of_end u told oldest old new n seen h is last = is ∙ (ap (λ (c : Claim). c.number) h.receipt ∙ ap length (h.units ∙ sym last))
+
 -- what it has seen goes on from its start
 start_written : (desk : DeskView) (told : Claim) (pin later : PinView) → later ≡ wrote desk pin told → IsBeginning desk.log pin.seen → GoesOnFromStart (start_in pin) pin.seen → GoesOnFromStart (start_in later) later.seen
 start_written desk told pin later step goes_on from = subst (λ (p : PinView). GoesOnFromStart (start_in p) p.seen) (sym step) (start_longer (start_in pin) pin.seen desk.log (told.unit ∷ []) goes_on from)

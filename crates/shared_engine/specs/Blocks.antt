@@ -1,6 +1,6 @@
 -- What a block of commands does under one hold of the lock: each command in its turn, on the units that are there by
 -- then. Read HasDone, then AreDone.
-use Rattle.std.specs.Prelude.{◌≡◌, ◌≢◌, ◌⊎◌, ⊤, ℕ, ◌+◌, ◌-◌, ◌≤◌, ◌<◌, nat_lt, not, if◌then◌else◌, Bool, true, false, List, [], ◌∷◌, ◌++◌, length, Option, None, Some, slice_get, unwrap_or, Result, Ok, Err, IsErrOf}
+use Rattle.std.specs.Prelude.{◌≡◌, ◌≢◌, ◌⊎◌, ⊤, ℕ, ◌+◌, ◌-◌, ◌≤◌, ◌<◌, not, if◌then◌else◌, Bool, true, false, List, [], ◌∷◌, ◌++◌, length, Option, None, Some, slice_get, unwrap_or, Result, Ok, Err, IsErrOf}
 use Rattle.refusal.specs.declared.Refusal.{Refusal}
 use Rattle.refusal.specs.declared.Refusal.TheVariants.{NoTransaction, LevelTooDeep}
 use Rattle.collation.specs.Limits.{most_levels}
@@ -19,7 +19,6 @@ use Rattle.journal.specs.declared.unit.Unit.TheVariants.{Lone}
 use Rattle.journal.specs.History.{initial, after}
 use Rattle.journal.specs.Kept.{HasNoRoom}
 use Rattle.serial.specs.Machine.{told_had}
-use Rattle.validate_commit.specs.Working.{just_begun}
 use Rattle.validate_commit.specs.Verdicts.{IsCauseAtCommit}
 use Rattle.job_core.specs.Causes.{IsCauseOf}
 use Rattle.job_core.specs.Common.{IsCauseOfLock}
@@ -194,19 +193,3 @@ NoneRestarts (command ∷ commands) (reply ∷ replies) = IsNoRestart command re
 abbrev pub NoneBeganAnew : List Command → SerialRun → Type 0
 NoneBeganAnew block (Done replies) = NoneRestarts block replies.items
 NoneBeganAnew block (Blocked place) = ⊤
-
--- the transaction has done nothing yet
-abbrev pub IsFresh : Held → Type 0
-IsFresh s = (s.state.level ≡ 1) × ((s.state.work.exchanges ≡ []) × (s.state.took_lock ≡ false))
-
--- no transaction is open, or one that has done nothing yet
-abbrev pub IsReady : Held → Type 0
-IsReady s = (s.state.level ≡ 0) ⊎ IsFresh s
-
--- its start is moved behind these units
-abbrev pub moved : List JournalUnit → Held → Held
-moved units s = held (record s.state { work = just_begun s.state.work.job (length units) }) (Some units) s.receipts s.others units
-
--- it has seen these units, and where a transaction is open its start is moved behind them
-abbrev pub moved_open : List JournalUnit → Held → Held
-moved_open units s = if nat_lt 0 s.state.level then moved units s else knowing units s

@@ -28,8 +28,14 @@ pub record Engine : Type 0 where
 abbrev pub engine : Common → ℕ → List (Option ℕ) → Engine
 engine common opened seats = record { common = common; opened = opened; seats = seats }
 
+-- how many jobs have a session
+abbrev pub sessions_in : List (Option ℕ) → ℕ
+sessions_in [] = 0
+sessions_in (None ∷ seats) = sessions_in seats + 1
+sessions_in (Some place ∷ seats) = sessions_in seats
+
 -- what lies under the lock: the desk knows the journal, no content from a horizon on is gone, the journal's base hasn't
--- passed the greatest horizon, and there is a seat for each place that was dealt
+-- passed the greatest horizon, there is a seat for each place that was dealt, and room is kept for the end of each session
 pub record IsLocked (common : Common) (desk : DeskView) (seats : List (Option ℕ)) (horizon opened : ℕ) : Type 0 where
   pub log : desk.log ≡ common.units
   pub cut : common.store.cut ≤ desk.high
@@ -39,6 +45,7 @@ pub record IsLocked (common : Common) (desk : DeskView) (seats : List (Option �
   pub wide : desk.seats ≡ 4096
   pub dealt : length seats ≡ desk.dealt
   pub opened_is : opened ≡ min desk.given (2 ^ 64 - 1)
+  pub ends : common.ends ≡ sessions_in seats
 
 -- ---- seats
 

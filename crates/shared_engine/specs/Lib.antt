@@ -3,4 +3,7 @@ pub mod Sessions
 pub mod Engines
 pub mod Writes
 pub mod Blocks
+pub mod Steps
+pub mod Histories
 pub mod Codes
+pub mod laws

@@ -1,5 +1,5 @@
 -- What a job's receipts say of the units that it wrote.
-use Rattle.std.specs.Prelude.{◌≡◌, ℕ, ◌<◌, Bool, true, false, not, List, [], ◌∷◌, ◌++◌, map, if◌then◌else◌}
+use Rattle.std.specs.Prelude.{◌≡◌, ℕ, ◌<◌, Bool, true, false, not, List, [], ◌∷◌, ◌++◌, length, map, if◌then◌else◌}
 use Rattle.std.specs.List.{All, filter}
 use Rattle.journal.specs.declared.unit.Unit.{Unit as JournalUnit}
 use Rattle.journal.specs.declared.unit.Unit.TheVariants.{Lone, Whole, Lock, Back, End}
@@ -71,3 +71,8 @@ pub record IsBook (job : ℕ) (numbers : List ℕ) (mine : List Claim) : Type 0 
   pub numbers_are : map number_of (receipts_in mine) ≡ numbers
   pub own : All (λ (c : Claim). job_of c.unit ≡ job) mine
   pub rising : RisesFrom 0 (receipts_in mine)
+
+-- what a session leaves: its book, and the number of its end, the last unit that it has seen
+pub record IsPass (job : ℕ) (numbers : List ℕ) (mine : List Claim) (end : ℕ) (seen : List JournalUnit) : Type 0 where
+  pub book : IsBook job numbers mine
+  pub ended : end ≡ length seen

@@ -63,6 +63,7 @@ fn take_in<B: BoardName>(board: &Board<B>, tally: &mut Tally<B>, pass: Pass<B>)
         job: _,
         slip,
         numbers: _,
+        end: _,
     } = pass;
     board.return_slip(tally, slip);
 }

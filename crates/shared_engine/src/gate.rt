@@ -32,7 +32,7 @@ pub trait Gate {
     fn watches_lines(&self) -> bool;
 
     /// Before this line is done, at each try of its block. Lines are counted from 1 within their job, refused ones too.
-    /// Lines that `Shared::run_serial` does are not told.
+    /// Lines that are done under one hold are not told.
     fn before(&self, job: Job, line: u64);
 
     /// After it was done, at each try.

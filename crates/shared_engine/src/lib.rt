@@ -6,9 +6,9 @@
 //! the journal that it has seen. Each call tells of a journal that goes on from that. What they learn:
 //!
 //! (1) each accepted lone command and each commit adds one receipt, whose unit is just this command with this answer; a
-//!     LOCK one or two, `run_serial` those of its block; no other call any. Their numbers rise, and as a transaction
-//!     begins they are in the journal of its start. A rollback or restart adds one other unit exactly where the
-//!     transaction took a LOCK, the end of a session one more, no other call any;
+//!     LOCK one or two, `run_serial` and `trestart_serially` those of their block; no other call any. Their numbers
+//!     rise, and as a transaction begins they are in the journal of its start. A rollback or restart adds one other unit
+//!     exactly where the transaction took a LOCK, the end of a session one more, no other call any;
 //! (2) a read answers what the machine would, on the map of the transaction's start followed by its own commands; a
 //!     transaction restarts exactly where a unit since its start touched what it had read;
 //! (3) once the engine is closed its journal is legal, its content is what that leaves, what a session had seen begins
@@ -29,6 +29,10 @@ pub use locked::Ended;
 pub use serial_run::SerialRun;
 pub use session::{Pass, Session};
 pub use shared::{Pause, Share, Shared};
+pub use steps::{
+    halts_are_exact, histories_begin, histories_end, histories_go_on, sessions_are_one_run,
+    steps_are_exact,
+};
 pub use turn::Turn;
 
 mod adaptive;
@@ -41,5 +45,6 @@ mod seats;
 mod serial_run;
 mod session;
 mod shared;
+mod steps;
 mod sweep;
 mod turn;

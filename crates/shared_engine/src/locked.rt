@@ -4,7 +4,7 @@ ghost use Rattle.refusal.specs.declared.Refusal.{Refusal};
 ghost use Rattle.command.specs.Data.{data_refusal, data_reply};
 ghost use Rattle.globals.specs.Answering.{early_refusal, IsRuleOrMemory};
 ghost use Rattle.journal.specs.History.{initial, after, IsLegal};
-ghost use Rattle.journal.specs.Kept.{Claim, HasNoRoom};
+ghost use Rattle.journal.specs.Kept.{Claim, HasNoNumber, HasNoRoom};
 ghost use Rattle.journal.specs.declared.unit.Unit.TheVariants.{Lone, End};
 ghost use Rattle.validate_commit.specs.Verdicts.{has_been_overtaken, IsCauseAtCommit};
 ghost use Rattle.job_core.specs.Causes.{IsCauseOf};
@@ -79,6 +79,7 @@ fn go_back<B: BoardName, R: Wait>(
     requires now { horizon ≤ length core.old.units }
     ensures units { OnOk result (core.new.units ≡ gone_back session.old.state core.old.units) }
     ensures base { core.new.base ≡ core.old.base }
+    ensures ends { core.new.ends ≡ core.old.ends }
     ensures cut { core.new.store.cut ≤ desk.new.high }
     ensures desk { desk.new ≡ record desk.old { log = core.new.units } }
     ensures session { OnOk result (session.new ≡ went_back core.new.units session.old) }
@@ -108,6 +109,22 @@ fn rule_or_memory(alloc: Global, core: &Core, command: DataCommand) -> Refusal
     }
 }
 
+// The state of a session that begins, once room is kept for its end. Where memory is refused all is as it was.
+fn begin(core: &mut Core, alloc: Global, job: Job) -> Result<JobState, AllocError>
+    ensures state { IfOk result (λ state. state ≡ idle job) }
+    ensures kept { OnOk result (core.new ≡ record core.old { ends = core.old.ends + 1 }) }
+    ensures refused { OnErr result (core.new ≡ core.old) }
+{
+    let state = JobState::new(alloc, job)?;
+    match core.keep_end() {
+        Ok(()) => Ok(state),
+        Err(_) => {
+            drop(state);
+            Err(AllocError)
+        }
+    }
+}
+
 impl<B: BoardName> Locked<B> {
     /// No unit, and no session. Takes no memory.
     pub(crate) fn new(alloc: Global, desk: Desk<B>) -> Locked<B>
@@ -124,7 +141,7 @@ impl<B: BoardName> Locked<B> {
         }
     }
 
-    /// Begins a session of a job that has none.
+    /// Begins a session of a job that has none, once room is kept for its end.
     ///
     /// Refusals, after which the same jobs have sessions: `BadJob` where the job has one; else `OutOfMemory`.
     pub(crate) fn open<R: Wait>(
@@ -137,12 +154,12 @@ impl<B: BoardName> Locked<B> {
         ensures session { IfOk result (λ session. session ≡ held (idle job) None [] [] self.old.common.units) }
         ensures free { OnOk result (has_session self.old.seats job ≡ false) }
         ensures opened { OnOk result ((self.new.opened ≡ self.old.opened + 1) × SessionIs true job self.old.seats self.new.seats) }
-        ensures common { self.new.common ≡ self.old.common }
-        ensures refused { OnErr result ((self.new.opened ≡ self.old.opened) × SameSessions self.old.seats self.new.seats) }
+        ensures common { OnOk result (self.new.common ≡ record self.old.common { ends = self.old.common.ends + 1 }) }
+        ensures refused { OnErr result ((self.new.common ≡ self.old.common) × ((self.new.opened ≡ self.old.opened) × SameSessions self.old.seats self.new.seats)) }
         ensures cause { IfErr result (λ refusal. ((refusal ≡ Refusal.BadJob) × (has_session self.old.seats job ≡ true)) ⊎ ((refusal ≡ Refusal.OutOfMemory) × (has_session self.old.seats job ≡ false))) }
     {
         let mut pin = self.seats.lend(rt, board, &mut self.desk, job)?;
-        let state = match JobState::new(alloc, job) {
+        let state = match begin(&mut self.core, alloc, job) {
             Ok(state) => state,
             Err(_) => {
                 self.seats.take_back(pin);
@@ -272,6 +289,27 @@ impl<B: BoardName> Locked<B> {
         board.meet(rt, &self.desk, &mut session.pin);
         // The core shows that its journal is legal.
         let _ = self.core.journal();
+    }
+
+    // Shows that room is kept for the end of a session: its job has one. The session has then seen the whole journal.
+    fn find_end<R: Wait>(&self, rt: &R, board: &Board<B>, session: &mut Session<B>)
+        ensures same { session.new ≡ knowing self.now.common.units session.old }
+        ensures goes_on { IsBeginning self.now.common.units session.old.seen }
+        ensures lent { has_session self.now.seats session.old.state.work.job ≡ true }
+        ensures kept { 1 ≤ self.now.common.ends }
+    {
+        board.meet(rt, &self.desk, &mut session.pin);
+        self.seats.show_lent(rt, board, &mut session.pin);
+    }
+
+    /// How many units the journal has, which goes on from all that the session had seen.
+    pub(crate) fn look<R: Wait>(&self, rt: &R, board: &Board<B>, session: &mut Session<B>) -> u64
+        ensures same { session.new ≡ knowing self.now.common.units session.old }
+        ensures journal { IsJournalOf self.now.common.units session.old }
+        ensures count { result ≡ length self.now.common.units }
+    {
+        self.find_journal(rt, board, session);
+        self.core.now()
     }
 
     /// A data command of an open transaction whose start's content is there.
@@ -413,10 +451,10 @@ impl<B: BoardName> Locked<B> {
     }
 
     /// HALT: the session is over, its locks are released, and its seat is the next session's. Where it is refused the
-    /// session goes on.
+    /// session goes on. Takes no memory: room for its unit was kept when the session began.
     ///
-    /// Refusals, after which nothing has changed but that the session has seen the whole journal: `StampsUsedUp`,
-    /// `OutOfMemory`.
+    /// Refusals, after which nothing has changed but that the session has seen the whole journal: `StampsUsedUp` where
+    /// the journal is full.
     pub(crate) fn halt<R: Wait>(
         &mut self,
         rt: &R,
@@ -429,10 +467,31 @@ impl<B: BoardName> Locked<B> {
         ensures over { OnOk result (SessionIs false session.state.work.job self.old.seats self.new.seats) }
         ensures opened { self.new.opened ≡ self.old.opened }
         ensures refused { IfErr result (λ r. (r.0 ≡ knowing self.old.common.units session) × (self.new ≡ self.old)) }
-        ensures cause { IfErr result (λ r. HasNoRoom r.1 1 (length self.old.common.units)) }
+        ensures cause { IfErr result (λ r. HasNoNumber r.1 1 (length self.old.common.units)) }
+    {
+        let mut session = session;
+        self.find_end(rt, board, &mut session);
+        self.halt_found(rt, board, session)
+    }
+
+    // The same, where all that is needed is there.
+    fn halt_found<R: Wait>(
+        &mut self,
+        rt: &R,
+        board: &Board<B>,
+        session: Session<B>,
+    ) -> Result<Pass<B>, (Session<B>, Refusal)>
+        requires lent { has_session self.old.seats session.state.work.job ≡ true }
+        requires kept { 1 ≤ self.old.common.ends }
+        ensures pass { IfOk result (λ pass. pass ≡ halted self.old.common.units session) }
+        ensures units { OnOk result (self.new.common.units ≡ self.old.common.units ++ End session.state.work.job ∷ []) }
+        ensures over { OnOk result (SessionIs false session.state.work.job self.old.seats self.new.seats) }
+        ensures opened { self.new.opened ≡ self.old.opened }
+        ensures refused { IfErr result (λ r. (r.0 ≡ session) × (self.new ≡ self.old)) }
+        ensures cause { IfErr result (λ r. HasNoNumber r.1 1 (length self.old.common.units)) }
     {
         let job = session.state.job();
-        match self.core.end(job, Some(self.horizon)) {
+        match self.core.end_kept(job, Some(self.horizon)) {
             Ok(receipt) => {
                 let Session {
                     state,
@@ -444,13 +503,14 @@ impl<B: BoardName> Locked<B> {
                 let slip = board.take_slip(&mut pin);
                 self.seats.take_back(pin);
                 drop(state);
-                Ok(Pass { job, slip, numbers })
+                Ok(Pass {
+                    job,
+                    slip,
+                    numbers,
+                    end: receipt.number(),
+                })
             }
-            Err(refusal) => {
-                let mut session = session;
-                self.find_journal(rt, board, &mut session);
-                Err((session, refusal))
-            }
+            Err(refusal) => Err((session, refusal)),
         }
     }
 

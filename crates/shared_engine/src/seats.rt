@@ -2,7 +2,7 @@
 ghost use Rattle.std.specs.Prelude.{◌≡◌, ◌≢◌, ◌⊎◌, ◌<◌, ◌≤◌, ◌+◌, ◌-◌, [], true, false, length, IsOk, IfOk, IfErr, OnOk, OnErr};
 ghost use Rattle.refusal.specs.declared.Refusal.{Refusal};
 ghost use Rattle.pin_board.specs.Views.{dealing};
-ghost use Rattle.shared_engine.specs.Engines.{has_session, SessionIs, SameSessions};
+ghost use Rattle.shared_engine.specs.Engines.{has_session, SessionIs, SameSessions, sessions_in};
 
 use collation::Job;
 use pin_board::{Board, BoardName, Desk, FreeSeat, Pin};
@@ -56,6 +56,7 @@ impl<B: BoardName> Seats<B> {
         requires seats { (place < 4096) × (desk.old.seats ≡ 4096) }
         ensures dealt { (length self.new ≡ desk.new.dealt) × (desk.new ≡ dealing desk.old desk.new.dealt) }
         ensures same { SameSessions self.old self.new }
+        ensures as_many { sessions_in self.new ≡ sessions_in self.old }
         ensures reached { OnOk result (place < length self.new) }
         ensures known { place < length self.old → IsOk result }
     {
@@ -83,6 +84,8 @@ impl<B: BoardName> Seats<B> {
         ensures free { OnOk result (has_session self.old job ≡ false) }
         ensures dealt { (length self.new ≡ desk.new.dealt) × (desk.new ≡ dealing desk.old desk.new.dealt) }
         ensures refused { OnErr result (SameSessions self.old self.new) }
+        ensures one_more { OnOk result (sessions_in self.new ≡ sessions_in self.old + 1) }
+        ensures as_many { OnErr result (sessions_in self.new ≡ sessions_in self.old) }
         ensures cause { IfErr result (λ refusal. ((refusal ≡ Refusal.BadJob) × (has_session self.old job ≡ true)) ⊎ ((refusal ≡ Refusal.OutOfMemory) × (has_session self.old job ≡ false))) }
     {
         let place = job.number() as usize - 1;
@@ -93,12 +96,26 @@ impl<B: BoardName> Seats<B> {
         Ok(seat.take_up(rt))
     }
 
+    /// Shows that a job whose session goes on has one: no free seat is at the place of its seat. Takes no memory.
+    pub(crate) fn show_lent<R: Wait>(&self, rt: &R, board: &Board<B>, pin: &mut Pin<B>)
+        requires { pin.old.place < length self.now }
+        ensures same { pin.new ≡ pin.old }
+        ensures lent { has_session self.now (pin.old.place + 1) ≡ true }
+    {
+        let place = pin.place();
+        if let Some(seat) = &self.places[place] {
+            board.part(rt, pin, seat);
+        }
+    }
+
     /// Takes back the seat of a job whose session has ended. Takes no memory.
     pub(crate) fn take_back(&mut self, pin: Pin<B>)
         requires place { pin.place < length self.old }
+        requires lent { has_session self.old (pin.place + 1) ≡ true }
         requires ended { (pin.settled ≡ false) × ((pin.slips ≡ 0) × (pin.mine ≡ [])) }
         ensures back { SessionIs false (pin.place + 1) self.old self.new }
         ensures long { length self.new ≡ length self.old }
+        ensures one_fewer { sessions_in self.new + 1 ≡ sessions_in self.old }
     {
         let place = pin.place();
         self.places[place] = Some(pin.set_down());

@@ -1,13 +1,16 @@
 //! A block of commands under one hold of the lock.
-ghost use Rattle.std.specs.Prelude.{◌≡◌, ◌≢◌, ◌⊎◌, ℕ, ◌+◌, ◌-◌, ◌≤◌, ◌<◌, List, [], true, length, Some, IfOk, OnOk, OnErr};
+ghost use Rattle.std.specs.Prelude.{◌≡◌, ◌≢◌, ◌⊎◌, ℕ, ◌+◌, ◌-◌, ◌≤◌, ◌<◌, List, [], true, length, vec_capacity, Some, IfOk, IfErr, OnOk, OnErr};
 ghost use Rattle.std.specs.List.{All};
 ghost use Rattle.refusal.specs.declared.Refusal.{Refusal};
 ghost use Rattle.command.specs.declared.request.Command.{Command};
 ghost use Rattle.command.specs.declared.request.Reply.TheVariants.{Answered, Finished, AtLevel, Restarted};
 ghost use Rattle.journal.specs.declared.unit.Unit.{Unit as JournalUnit};
+ghost use Rattle.journal.specs.Kept.{HasNoRoom};
 ghost use Rattle.serial.specs.Machine.{told_had};
-ghost use Rattle.shared_engine.specs.Blocks.{said, IsLone, IsInside, IsTried, IsOpened, IsDeeper, IsNone, IsCommitted, IsLower, IsRolledBack, IsRestarted, HasDone, is_blocked as blocked, must_in, HasCome, NoneBeganAnew, IsFresh, IsReady, moved, moved_open};
-ghost use Rattle.shared_engine.specs.Sessions.{IsJournalOf};
+ghost use Rattle.pin_board.specs.Slips.{IsBeginning};
+ghost use Rattle.shared_engine.specs.Blocks.{said, IsLone, IsInside, IsTried, IsOpened, IsDeeper, IsNone, IsCommitted, IsLower, IsRolledBack, IsRestarted, HasDone, is_blocked as blocked, must_in, HasCome, NoneBeganAnew};
+ghost use Rattle.shared_engine.specs.Sessions.{knowing, begun_anew, IsJournalOf};
+ghost use Rattle.shared_engine.specs.Engines.{gone_back};
 ghost use Rattle.shared_engine.specs.Writes.{IsAlone};
 
 use crate::locked::{Ended, Locked};
@@ -115,12 +118,11 @@ fn restarted(done: Result<u64, Refusal>) -> Reply
 }
 
 impl<B: BoardName> Locked<B> {
-    /// Does the commands of a session without a transaction, or with a fresh one, whose start is moved to now. No other
-    /// job does anything meanwhile, so no TCOMMIT in it begins anew. Each LOCK is one try; behind one that is blocked,
-    /// and has to have its names, nothing is done. A command's refusal is its reply.
+    /// Does the commands of a session without a transaction. No other job does anything meanwhile, so no TCOMMIT in them
+    /// begins anew. Each LOCK is one try; behind one that is blocked, and has to have its names, nothing is done. A
+    /// command's refusal is its reply.
     ///
     /// `AllocError` where there is no room for the replies, and nothing has changed.
-    #[tactic(auto, using(crate::proofs::Blocks::so_far_first, crate::proofs::Blocks::none_had, crate::proofs::Seeing::moved_seen))]
     pub(crate) fn run_serial<R: Wait>(
         &mut self,
         rt: &R,
@@ -130,53 +132,91 @@ impl<B: BoardName> Locked<B> {
         block: Vec<Command>,
         musts: &[bool],
     ) -> Result<SerialRun, AllocError>
-        requires ready { IsReady session.old }
+        requires level { session.old.state.level ≡ 0 }
         requires goes_on { All (λ (c : Command). c ≢ Command.Halt) block.items }
-        ensures come { IfOk result (λ run. HasCome musts.now block.items run self.old.common.units self.new.common.units (moved_open self.old.common.units session.old) session.new) }
+        ensures come { IfOk result (λ run. HasCome musts.now block.items run self.old.common.units self.new.common.units (knowing self.old.common.units session.old) session.new) }
         ensures journal { OnOk result (IsJournalOf self.old.common.units session.old) }
         ensures commits { IfOk result (λ run. NoneBeganAnew block.items run) }
         ensures seen { OnOk result (session.new.seen ≡ self.new.common.units) }
         ensures refused { OnErr result ((self.new.common ≡ self.old.common) × (session.new ≡ session.old)) }
         ensures others { (self.new.opened ≡ self.old.opened) × (self.new.seats ≡ self.old.seats) }
     {
-        let mut replies = Vec::with_capacity(alloc, block.len())?;
-        self.begin_block(rt, board, session);
+        let replies = Vec::with_capacity(alloc, block.len())?;
+        self.find_journal(rt, board, session);
+        Ok(self.run_alone(rt, board, session, block, musts, replies))
+    }
+
+    /// TRESTART of an open transaction, and then the commands behind it, as `run_serial` does them: no other job does
+    /// anything from where it begins anew.
+    ///
+    /// Refusals, after which nothing has changed but what the session has seen: those of TRESTART; and `OutOfMemory` for
+    /// the replies.
+    #[tactic(auto, using(crate::proofs::Alone::alone_anew_now))]
+    pub(crate) fn trestart_serially<R: Wait>(
+        &mut self,
+        rt: &R,
+        board: &Board<B>,
+        alloc: Global,
+        session: &mut Session<B>,
+        block: Vec<Command>,
+        musts: &[bool],
+    ) -> Result<SerialRun, Refusal>
+        requires level { 1 ≤ session.old.state.level }
+        requires goes_on { All (λ (c : Command). c ≢ Command.Halt) block.items }
+        ensures come { IfOk result (λ run. HasCome musts.now block.items run (gone_back session.old.state self.old.common.units) self.new.common.units (begun_anew (gone_back session.old.state self.old.common.units) session.old) session.new) }
+        ensures goes_on { IsBeginning self.old.common.units session.old.seen }
+        ensures journal { OnOk result (IsJournalOf (gone_back session.old.state self.old.common.units) session.old) }
+        ensures commits { IfOk result (λ run. NoneBeganAnew block.items run) }
+        ensures seen { OnOk result (session.new.seen ≡ self.new.common.units) }
+        ensures refused { OnErr result ((self.new.common ≡ self.old.common) × (session.new ≡ knowing self.old.common.units session.old)) }
+        ensures cause { IfErr result (λ refusal. HasNoRoom refusal 1 (length self.old.common.units)) }
+        ensures others { (self.new.opened ≡ self.old.opened) × (self.new.seats ≡ self.old.seats) }
+    {
+        let replies = match Vec::with_capacity(alloc, block.len()) {
+            Ok(replies) => replies,
+            Err(_) => {
+                self.find_journal(rt, board, session);
+                return Err(Refusal::OutOfMemory);
+            }
+        };
+        match self.trestart(rt, board, session) {
+            Ok(_) => Ok(self.run_alone(rt, board, session, block, musts, replies)),
+            Err(refusal) => Err(refusal),
+        }
+    }
+
+    // Does the commands of a session that has seen all units, and since the start of whose transaction, where one is
+    // open, no unit touches anything. There is room for the replies.
+    #[tactic(auto, using(crate::proofs::Blocks::so_far_first, crate::proofs::Blocks::none_had))]
+    fn run_alone<R: Wait>(
+        &mut self,
+        rt: &R,
+        board: &Board<B>,
+        session: &mut Session<B>,
+        block: Vec<Command>,
+        musts: &[bool],
+        mut replies: Vec<Reply>,
+    ) -> SerialRun
+        requires goes_on { All (λ (c : Command). c ≢ Command.Halt) block.items }
+        requires alone { IsAlone session.old self.old.common.units }
+        requires seen { session.old.seen ≡ self.old.common.units }
+        requires none { replies.items ≡ [] }
+        requires room { length block.items ≤ vec_capacity replies }
+        ensures come { HasCome musts.now block.items result self.old.common.units self.new.common.units session.old session.new }
+        ensures commits { NoneBeganAnew block.items result }
+        ensures seen { session.new.seen ≡ self.new.common.units }
+        ensures others { (self.new.opened ≡ self.old.opened) × (self.new.seats ≡ self.old.seats) }
+    {
         'block: for command in block {
             let place = replies.len();
             let must = must_at(musts, place);
             let reply = self.serial_step(rt, board, session, command);
             if is_blocked(must, &reply) {
-                return Ok(SerialRun::Blocked(place));
+                return SerialRun::Blocked(place);
             }
             replies.push_reserved(reply);
         }
-        Ok(SerialRun::Done(replies))
-    }
-
-    // Moves the start of a transaction to now, where one is open.
-    fn begin_block<R: Wait>(&self, rt: &R, board: &Board<B>, session: &mut Session<B>)
-        requires { IsReady session.old }
-        ensures moved { session.new ≡ moved_open self.now.common.units session.old }
-        ensures alone { IsAlone session.new self.now.common.units }
-        ensures journal { IsJournalOf self.now.common.units session.old }
-    {
-        if session.tlevel() > 0 {
-            self.move_start(rt, board, session);
-        } else {
-            self.find_journal(rt, board, session);
-        }
-    }
-
-    // Moves the start of a transaction that has done nothing to now.
-    fn move_start<R: Wait>(&self, rt: &R, board: &Board<B>, session: &mut Session<B>)
-        requires { IsFresh session.old }
-        ensures moved { session.new ≡ moved self.now.common.units session.old }
-        ensures journal { IsJournalOf self.now.common.units session.old }
-    {
-        let now = board.restart(rt, &self.desk, &mut session.pin);
-        // The core shows that its journal is legal.
-        let _ = self.core.journal();
-        session.state.move_start(now);
+        SerialRun::Done(replies)
     }
 
     // One command of the block.

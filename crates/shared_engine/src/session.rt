@@ -1,5 +1,5 @@
 //! What one job holds.
-ghost use Rattle.std.specs.Prelude.{◌≡◌, ◌<◌, ◌≤◌, ◌+◌, ◌-◌, ◌&&◌, not, map, nat_eq, is_some, length, IfOk, IfErr, IfSome, OnOk, OnErr, IsErrOf};
+ghost use Rattle.std.specs.Prelude.{◌≡◌, ◌<◌, ◌≤◌, ◌+◌, ◌-◌, map, is_some, length, IfOk, IfErr, IfSome, OnOk, OnErr, IsErrOf};
 ghost use Rattle.refusal.specs.declared.Refusal.{Refusal};
 ghost use Rattle.collation.specs.Limits.{most_levels};
 ghost use Rattle.collation.specs.Database.{Database};
@@ -10,7 +10,7 @@ ghost use Rattle.workspace.specs.Layers.{decides};
 ghost use Rattle.validate_commit.specs.Working.{IsCauseAlone, IsWorkOn, seen};
 ghost use Rattle.job_core.specs.Sessions.{at_level, HasWritten};
 ghost use Rattle.shared_engine.specs.Receipts.{number_of, RisesFrom};
-ghost use Rattle.shared_engine.specs.Sessions.{held, GoesOnFromStart};
+ghost use Rattle.shared_engine.specs.Sessions.{held, IsAt, GoesOnFromStart};
 
 use collation::{Job, Text};
 use command::Answer;
@@ -53,11 +53,12 @@ pub struct Pass<B: BoardName> {
     pub(crate) job: Job,
     pub(crate) slip: Slip<B>,
     pub(crate) numbers: Vec<u64>,
+    pub(crate) end: u64,
 }
 
 impl<B: BoardName> Model for Pass<B> {
     ghost use Rattle.shared_engine.specs.Codes.{book_code};
-    ghost use Rattle.shared_engine.specs.Receipts.{Book, book, receipts_in, others_in, seen_in, IsBook};
+    ghost use Rattle.shared_engine.specs.Receipts.{Book, book, receipts_in, others_in, seen_in, IsPass};
 
     ghost Value = { Book };
 
@@ -65,7 +66,7 @@ impl<B: BoardName> Model for Pass<B> {
 
     ghost view = { λ p. book p.job (receipts_in p.slip.mine) (others_in p.slip.mine) (seen_in p.slip.known) };
 
-    ghost invariant = { λ p. IsBook p.job p.numbers.items p.slip.mine };
+    ghost invariant = { λ p. IsPass p.job p.numbers.items p.slip.mine p.end (seen_in p.slip.known) };
 }
 
 impl<B: BoardName> Pass<B> {
@@ -83,6 +84,13 @@ impl<B: BoardName> Pass<B> {
         ensures rising { RisesFrom 0 self.now.receipts }
     {
         self.numbers.as_slice()
+    }
+
+    /// How many units the journal had at the session's end, which is the last of them.
+    pub fn end(&self) -> u64
+        ensures { result ≡ length self.now.seen }
+    {
+        self.end
     }
 }
 
@@ -123,13 +131,6 @@ impl<B: BoardName> Session<B> {
         self.state.took_lock()
     }
 
-    /// Whether the transaction is at level 1 and has done nothing yet, neither a data command nor a LOCK.
-    pub fn is_fresh(&self) -> bool
-        ensures { result ≡ (nat_eq self.now.state.level 1 && nat_eq (length self.now.state.work.exchanges) 0 && not self.now.state.took_lock) }
-    {
-        self.state.is_fresh()
-    }
-
     /// TSTART within a transaction: its level is one higher. Takes neither lock nor memory.
     ///
     /// Refusals: `LevelTooDeep` at level 127, after which nothing has changed.
@@ -152,7 +153,8 @@ impl<B: BoardName> Session<B> {
         self.state.commit_inner()
     }
 
-    /// SET in a transaction, which is open. The session has seen the start of that. Takes no lock, and waits for nobody.
+    /// SET in a transaction, which is open, and right where it began. The session has seen its start. Takes no lock, and
+    /// waits for nobody.
     ///
     /// Refusals, after which nothing has changed: `TransactionTooLong` where the transaction holds 65,535 data
     /// commands, else `OutOfMemory`.
@@ -164,6 +166,7 @@ impl<B: BoardName> Session<B> {
         ensures refused { OnErr result (self.new ≡ self.old) }
         ensures cause { IfErr result (λ refusal. IsCauseAlone refusal self.old.state.work) }
         ensures start { GoesOnFromStart self.old.start self.old.seen }
+        ensures begun { IsAt self.old.start self.old.state }
     {
         self.state.set(key, value)
     }
@@ -177,6 +180,7 @@ impl<B: BoardName> Session<B> {
         ensures refused { OnErr result (self.new ≡ self.old) }
         ensures cause { IfErr result (λ refusal. IsCauseAlone refusal self.old.state.work) }
         ensures start { GoesOnFromStart self.old.start self.old.seen }
+        ensures begun { IsAt self.old.start self.old.state }
     {
         self.state.kill(key)
     }

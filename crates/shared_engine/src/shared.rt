@@ -4,7 +4,7 @@ ghost use Rattle.std.specs.List.{All};
 ghost use Rattle.refusal.specs.declared.Refusal.{Refusal};
 ghost use Rattle.globals.specs.Answering.{early_refusal};
 ghost use Rattle.journal.specs.History.{initial, after};
-ghost use Rattle.journal.specs.Kept.{Claim, HasNoRoom};
+ghost use Rattle.journal.specs.Kept.{Claim, HasNoNumber, HasNoRoom};
 ghost use Rattle.journal.specs.declared.unit.Unit.{Unit as JournalUnit};
 ghost use Rattle.journal.specs.declared.unit.Unit.TheVariants.{Lone};
 ghost use Rattle.validate_commit.specs.Verdicts.{IsCauseAtCommit};
@@ -12,10 +12,10 @@ ghost use Rattle.job_core.specs.Sessions.{idle, IsAnsweredOrRefused};
 ghost use Rattle.pin_board.specs.Slips.{AreInJournal, IsBeginning};
 ghost use Rattle.command.specs.declared.access.DataCommand.{DataCommand};
 ghost use Rattle.command.specs.declared.request.Command.{Command};
-ghost use Rattle.shared_engine.specs.Blocks.{IsLone, WasTried, HasItsNames, WasBlocked, WasRefused, IsRolledBack, IsRestarted, AreDone, HasCome, NoneBeganAnew, IsReady, moved_open};
+ghost use Rattle.shared_engine.specs.Blocks.{IsLone, WasTried, HasItsNames, WasBlocked, WasRefused, IsRolledBack, IsRestarted, AreDone, HasCome, NoneBeganAnew};
 ghost use Rattle.shared_engine.specs.Receipts.{Book, IsOwn, RisesFrom};
-ghost use Rattle.shared_engine.specs.Sessions.{held, knowing, ended, halted, HasBegun, IsJournalOf};
-ghost use Rattle.shared_engine.specs.Engines.{HasEnded, IsCauseAtRestart, MayBeTaken, OnOkThat, OnOkNot, AreAllReceipts, AreAllUnits, HasSeenOf};
+ghost use Rattle.shared_engine.specs.Sessions.{held, knowing, begun_anew, ended, halted, HasBegun, IsJournalOf};
+ghost use Rattle.shared_engine.specs.Engines.{HasEnded, gone_back, IsCauseAtRestart, MayBeTaken, OnOkThat, OnOkNot, AreAllReceipts, AreAllUnits, HasSeenOf};
 ghost use Rattle.shared_engine.specs.Writes.{AreWrites};
 
 use crate::adaptive::{AdaptiveLock, Patience};
@@ -387,7 +387,10 @@ impl<B: BoardName> Shared<B> {
     /// HALT: the session is over, its locks are released and its transaction is gone; its job may have another. Gives
     /// its pass, whose last unit is that end, or the session back with the refusal. Takes the exclusive lock.
     ///
-    /// Refusals, after which the session goes on as it was, but for what it has seen: `StampsUsedUp`, `OutOfMemory`.
+    /// It takes no memory: room for its unit was kept when the session began.
+    ///
+    /// Refusals, after which the session goes on as it was, but for what it has seen: `StampsUsedUp` where the journal is
+    /// full.
     pub fn halt<R: Wait>(
         &self,
         rt: &R,
@@ -395,18 +398,17 @@ impl<B: BoardName> Shared<B> {
     ) -> Result<Pass<B>, (Session<B>, Refusal)>
         ensures pass { IfOk result (λ pass. (units : List JournalUnit) × IsBeginning units session.seen × (pass ≡ halted units session)) }
         ensures refused { IfErr result (λ r. IsBeginning r.0.seen session.seen × (r.0 ≡ knowing r.0.seen session)) }
-        ensures cause { IfErr result (λ r. HasNoRoom r.1 1 (length r.0.seen)) }
+        ensures cause { IfErr result (λ r. HasNoNumber r.1 1 (length r.0.seen)) }
     {
         self.lock
             .write(rt, Patience::Short)
             .halt(rt, &self.board, session)
     }
 
-    /// Does the commands of a session without a transaction, or with a fresh one, under one hold of the exclusive lock.
-    /// The transaction's start is moved to now, and nobody else does anything meanwhile, so no TCOMMIT in the block
-    /// begins anew. Each LOCK is one try. Answers the reply to each command, a refusal too: after one nothing has
-    /// changed, and the block goes on. A transaction that the block leaves open stays so. A turn that is due is taken
-    /// under the same hold, behind the block.
+    /// Does the commands of a session without a transaction under one hold of the exclusive lock. Nobody else does
+    /// anything meanwhile, so no TCOMMIT in the block begins anew. Each LOCK is one try. Answers the reply to each
+    /// command, a refusal too: after one nothing has changed, and the block goes on. A transaction that the block leaves
+    /// open stays so. A turn that is due is taken under the same hold, behind the block.
     ///
     /// `musts` says of each command whether, if it is a LOCK, it has to have its names; behind the last of them none
     /// has to. Where such a LOCK is blocked its place is answered, and what stands behind it isn't done: to wait for
@@ -422,9 +424,9 @@ impl<B: BoardName> Shared<B> {
         musts: &[bool],
         turn: &mut Turn,
     ) -> Result<SerialRun, AllocError>
-        requires ready { IsReady session.old }
+        requires level { session.old.state.level ≡ 0 }
         requires goes_on { All (λ (c : Command). c ≢ Command.Halt) block.items }
-        ensures come { IfOk result (λ run. (units : List JournalUnit) × IsJournalOf units session.old × HasCome musts.now block.items run units session.new.seen (moved_open units session.old) session.new) }
+        ensures come { IfOk result (λ run. (units : List JournalUnit) × IsJournalOf units session.old × HasCome musts.now block.items run units session.new.seen (knowing units session.old) session.new) }
         ensures commits { IfOk result (λ run. NoneBeganAnew block.items run) }
         ensures refused { OnErr result (session.new ≡ session.old) }
         ensures turn { MayBeTaken turn.old turn.new }
@@ -433,6 +435,46 @@ impl<B: BoardName> Shared<B> {
         let done = locked.run_serial(rt, &self.board, alloc, session, block, musts);
         locked.take_turn(rt, &self.board, turn);
         done
+    }
+
+    /// TRESTART, as `trestart`, and then the commands of a block behind it, as `run_serial`, under one hold of the
+    /// exclusive lock: nobody does anything from where the transaction begins anew. The clause is that of both steps on
+    /// a journal that goes on from all that the session had seen.
+    ///
+    /// Refusals, after which nothing has changed but that turn and what the session has seen: those of `trestart`, and
+    /// `OutOfMemory` for the replies.
+    pub fn trestart_serially<R: Wait>(
+        &self,
+        rt: &R,
+        alloc: Global,
+        session: &mut Session<B>,
+        block: Vec<Command>,
+        musts: &[bool],
+        turn: &mut Turn,
+    ) -> Result<SerialRun, Refusal>
+        requires level { 1 ≤ session.old.state.level }
+        requires goes_on { All (λ (c : Command). c ≢ Command.Halt) block.items }
+        ensures come { IfOk result (λ run. (units : List JournalUnit) × IsBeginning units session.old.seen × IsJournalOf (gone_back session.old.state units) session.old × HasCome musts.now block.items run (gone_back session.old.state units) session.new.seen (begun_anew (gone_back session.old.state units) session.old) session.new) }
+        ensures commits { IfOk result (λ run. NoneBeganAnew block.items run) }
+        ensures refused { OnErr result (IsBeginning session.new.seen session.old.seen × (session.new ≡ knowing session.new.seen session.old)) }
+        ensures cause { IfErr result (λ refusal. HasNoRoom refusal 1 (length session.new.seen)) }
+        ensures turn { MayBeTaken turn.old turn.new }
+    {
+        let mut locked = self.lock.write(rt, Patience::Short);
+        let done = locked.trestart_serially(rt, &self.board, alloc, session, block, musts);
+        locked.take_turn(rt, &self.board, turn);
+        done
+    }
+
+    /// How many units the journal has, which goes on from all that the session had seen; it has seen them then. So a
+    /// session knows whether it begins behind the end of another (`Pass::end`). Takes the shared lock.
+    pub fn look<R: Wait>(&self, rt: &R, session: &mut Session<B>) -> u64
+        ensures journal { IsJournalOf session.new.seen session.old }
+        ensures same { session.new ≡ knowing session.new.seen session.old }
+        ensures count { result ≡ length session.new.seen }
+    {
+        let locked = self.lock.read(rt);
+        locked.look(rt, &self.board, session)
     }
 
     /// A turn of the collector over so many keys, at a horizon that is above no open transaction's start. Where all

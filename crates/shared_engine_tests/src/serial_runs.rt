@@ -12,8 +12,9 @@ use std::marker::Brand;
 use std::sync::Wait;
 use std::test::*;
 
-// A block. Another job has set ^X to 2 since the transaction began.
-const BLOCK: [&str; 10] = [
+// A block, behind a TRESTART. Another job has set ^X to 2 since the transaction began.
+const BLOCK: [&str; 11] = [
+    "1 $TRESTART",
     "1 $GET(^X)",
     "1 SET ^X=3",
     "1 LOCK +^X",
@@ -27,7 +28,8 @@ const BLOCK: [&str; 10] = [
 ];
 
 // The replies to it, with the job 0.
-const WANTED: [&str; 10] = [
+const WANTED: [&str; 11] = [
+    "0 1\n",
     "0 2\n",
     "0 ok\n",
     "0 1\n",
@@ -64,7 +66,7 @@ fn are_wanted(alloc: Global, replies: &[Reply]) -> bool {
     good == WANTED.len() && replies.len() == WANTED.len()
 }
 
-// Begins a transaction, lets another job write what it will read, and runs the block.
+// Begins a transaction, lets another job write what it will read, begins anew, and runs the block.
 fn run<B: BoardName, R: Wait>(
     rt: &R,
     alloc: Global,
@@ -75,11 +77,11 @@ fn run<B: BoardName, R: Wait>(
     let is_ready = is_replied(rt, alloc, engine, mine, "1 SET ^X=1", "0 ok\n")
         && is_replied(rt, alloc, engine, mine, "1 TSTART", "0 level 1\n")
         && is_replied(rt, alloc, engine, other, "2 SET ^X=2", "0 ok\n");
-    if !is_ready || !mine.is_fresh() {
+    if !is_ready || mine.tlevel() == 0 {
         return None;
     }
     let block = block_of(alloc, &BLOCK)?;
-    match engine.run_serial(rt, alloc, mine, block, &[true; 3], &mut Turn::NotDue) {
+    match engine.trestart_serially(rt, alloc, mine, block, &[true; 4], &mut Turn::NotDue) {
         Ok(SerialRun::Done(replies)) => Some(replies),
         _ => None,
     }

@@ -15,8 +15,10 @@ returns g c =
     let there = c.finish-closed.ensures.in_journal in
     record {
       begins = λ ended settings is. begins ended settings _ c.args.loaded.items handed.items all.items is joined there;
-      booked = λ ended settings is. booked ended settings scripts.items g.B.Batch.scripts (length slots.items) _ c.args.loaded.items handed.items all.items _ _ c.requires c.in_ok-handed.ensures (omega (arith, c.len.ensures, c.if-len-count.false, c.len-count.ensures, slots.ok.0, scripts.ok.0)) is joined
+      booked = λ ended settings is load. booked ended settings scripts.items g.B.Batch.scripts (length slots.items) _ c.args.loaded.items handed.items all.items _ _ c.requires c.in_ok-handed.ensures (omega (arith, c.len.ensures, c.if-len-count.false, c.len-count.ensures, slots.ok.0, scripts.ok.0)) is joined
           (omega (arith, same, count, all.ok.0)) there c.finish-closed.ensures.others c.finish-closed.ensures.rising c.finish-closed.ensures.own
           (c.finish-closed.ensures.all (omega (arith, same, count)) (omega (arith, same, count, all.ok, all.small)))
-          (c.finish-closed.ensures.all_units (omega (arith, same, count)) (omega (arith, same, count, all.ok, all.small)));
+          (c.finish-closed.ensures.all_units (omega (arith, same, count)) (omega (arith, same, count, all.ok, all.small))) c.finish-closed.ensures.seen
+          (record { exact = c.steps_are_exact.ensures; know = c.histories_go_on.ensures.know; go_on = c.histories_go_on.ensures.step; end = c.histories_end.ensures; one_run = c.sessions_are_one_run.ensures })
+          (omega (arith, c.is_counted.ensures, c.now.ensures.units)) load;
     }

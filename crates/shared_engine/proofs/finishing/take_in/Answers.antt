@@ -7,5 +7,5 @@ use Rattle.shared_engine.proofs.finishing.take_in.Goals as goal
 pub returns-clause-due : goal.returns-clause-due
 returns-clause-due g c = λ all rest d.
     rw (ap (λ w. w.back) c.return_slip.ensures, ap (λ w. w.known) c.return_slip.ensures)
-    (due_step all rest _ _ c.args.tally.now.back c.pass.inside.slip.mine c.args.tally.now.known c.pass.inside.slip.known c.pass.invariant
+    (due_step all rest _ _ c.args.tally.now.back c.pass.inside.slip.mine c.args.tally.now.known c.pass.inside.slip.known c.pass.invariant.book
     (subst (λ (b : Book). IsDue all (rest ++ b ∷ []) c.args.tally.now.back c.args.tally.now.known) (sym c.pass.view_is) d))

@@ -1,6 +1,6 @@
 use Rattle.std.proofs.lemmas.Result.{IfOk-weaker}
 use Rattle.command.specs.declared.request.Command.TheVariants.{Halt}
-use Rattle.job_server.specs.Telling.{sessions_so_far}
+use Rattle.job_server.specs.Steps.{sessions_so_far}
 use Rattle.job_server.proofs.GoingOn.{goes_from}
 use Rattle.job_server.proofs.Ending.{from_books}
 use Rattle.job_server.proofs.worker.Worker.halt.Goals as goal

@@ -1,4 +1,4 @@
-use Rattle.std.proofs.Common.{refl, sym, ◌∙◌}
+use Rattle.std.proofs.Common.{refl, sym, ◌∙◌, inr}
 use Rattle.job_server.proofs.GoingOn.{halt_refused}
 use Rattle.job_server.proofs.Ending.{some_halted}
 use Rattle.job_server.proofs.worker.Worker.halt_reserved.Goals as goal
@@ -9,4 +9,4 @@ returns-in-Ok-clause-told g c = λ job.
 
 pub returns-in-Err-clause-told : goal.returns-in-Err-clause-told
 returns-in-Err-clause-told g c = λ job.
-    halt_refused job c.args.passes.now.items c.args.passes.now.items c.args.session.now _ c.in-Some.begun c.in-Err.begun c.in-Err.refusal refl (sym c.take.ensures.value ∙ c.in-Some.is) refl c.in-Err.ensures.refused.1 c.in-Err.ensures.cause
+    halt_refused job c.args.passes.now.items c.args.passes.now.items c.args.session.now _ c.in-Some.begun c.in-Err.begun c.in-Err.refusal refl (sym c.take.ensures.value ∙ c.in-Some.is) refl c.in-Err.ensures.refused.0 c.in-Err.ensures.refused.1 (inr c.in-Err.ensures.cause)

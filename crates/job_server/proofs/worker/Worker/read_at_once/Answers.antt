@@ -1,7 +1,8 @@
 use Rattle.std.proofs.Common.{◌≡◌, ◌∙◌, subst}
 use Rattle.std.proofs.lemmas.Result.{on_ok_weaker}
 use Rattle.job_scripts.specs.Lines.{lines_of_script}
-use Rattle.job_server.specs.Telling.{Running, running, sessions_so_far, Serves, Keeps}
+use Rattle.job_server.specs.Steps.{sessions_so_far}
+use Rattle.job_server.specs.Telling.{Running, running, Serves, Keeps}
 use Rattle.job_server.proofs.AtOnce.{reads_serve, reads_keep_all}
 use Rattle.job_server.proofs.worker.Worker.read_at_once.Goals as goal
 

@@ -1,7 +1,8 @@
 use Rattle.std.proofs.Common.{sym, subst}
 use Rattle.std.specs.Prelude.{Option, Some}
 use Rattle.shared_engine.specs.Sessions.{Held}
-use Rattle.job_server.specs.Telling.{GoesOnBy, sessions_so_far}
+use Rattle.job_server.specs.Steps.{sessions_so_far}
+use Rattle.job_server.specs.Telling.{GoesOnBy}
 use Rattle.job_server.proofs.GoingOn.{step_goes}
 use Rattle.job_server.proofs.worker.Worker.reply_in.Goals as goal
 

@@ -2,7 +2,8 @@ use Rattle.std.proofs.Common.{ℕ, sym, subst, IfOk}
 use Rattle.std.proofs.lemmas.Result.{IfOk-weaker}
 use Rattle.command.specs.declared.request.Command.{Command}
 use Rattle.command.specs.declared.request.Reply.{Reply}
-use Rattle.job_server.specs.Telling.{GoesOnBy, sessions_so_far}
+use Rattle.job_server.specs.Steps.{sessions_so_far}
+use Rattle.job_server.specs.Telling.{GoesOnBy}
 use Rattle.job_server.proofs.GoingOn.{goes_from}
 use Rattle.job_server.proofs.worker.Worker.reply_opened.Goals as goal
 

@@ -1,7 +1,8 @@
 use Rattle.std.proofs.Common.{inr, subst}
 use Rattle.command.specs.declared.request.Command.TheVariants.{Halt}
 use Rattle.command.specs.declared.request.Reply.{Reply}
-use Rattle.job_server.specs.Telling.{GoesOnBy, sessions_so_far}
+use Rattle.job_server.specs.Steps.{sessions_so_far}
+use Rattle.job_server.specs.Telling.{GoesOnBy}
 use Rattle.job_server.proofs.Ending.{none_where, stopped_none}
 use Rattle.job_server.proofs.worker.Worker.stop.Goals as goal
 

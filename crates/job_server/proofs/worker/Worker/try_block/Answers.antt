@@ -13,7 +13,7 @@ returns-in_default-2-clause-again g c =
     let new = c.try_line.new.run in
     let tried : HasTried job line c.in_ok-behind.field-0 now new = subst (λ (x : Running). HasTried job line c.in_ok-behind.field-0 x new) c.run.view_is c.in_ok-behind.ensures in
     let none : c.in_ok-behind.field-0 ≡ None = cc in
-    is_back job c.args.begin.lines.now c.lines.place c.args.run.now now new c.lines.invariant.reached c.lines.invariant.still (subst (λ (o : Option Cursor). HasTried job line o now new) none tried)
+    is_back job c.args.begin.lines.now c.lines.place line c.args.run.now now new c.lines.invariant.reached c.lines.invariant.still c.in-Some.ensures.first (subst (λ (o : Option Cursor). HasTried job line o now new) none tried)
 
 pub lines-preserved : goal.lines-preserved
 lines-preserved g c =

@@ -17,5 +17,5 @@ returns g c =
     let line = c.args.line.text.now in
     let inside = running c.run.inside.replies.items c.run.inside.sessions in
     let new = running c.push_unless_restarted.new.replies.items c.do_line.new.sessions in
-    subst (λ (x : Running). WasOvertaken c.args.job x new) c.run.view_is
+    subst (λ (x : Running). WasOvertaken c.args.job line x new) c.run.view_is
     (was_overtaken c.args.job line c.in_ok-reply.reply inside new c.requires c.in_ok-reply.ensures (where_no c.push_unless_restarted.result c.push_unless_restarted.ensures.again (cc)))

@@ -1,22 +1,13 @@
-use Rattle.std.proofs.Common.{◌≡◌, ◌++◌, ◌∷◌, [], refl, sym, ap, ◌∙◌, subst}
-use Rattle.shared_engine.specs.Receipts.{IsBook, seen_in}
-use Rattle.shared_engine.specs.Sessions.{halted}
-use Rattle.pin_board.specs.Slips.{IsBeginning}
-use Rattle.shared_engine.proofs.Booking.{booked_quiet}
-use Rattle.shared_engine.proofs.Writing.{view_halted, seen_next}
+use Rattle.std.proofs.Common.{◌≡◌, ◌++◌, ◌∷◌, [], subst}
+use Rattle.std.specs.Prelude.{IfOk, OnOk}
+use Rattle.journal.specs.declared.unit.Unit.TheVariants.{End}
+use Rattle.shared_engine.specs.Sessions.{Held, halted}
 use Rattle.shared_engine.proofs.locked.Locked.halt.Goals as goal
 
-pub invariant_of-result : goal.invariant_of-result
-invariant_of-result g c =
-    let mine : c.take_slip-slip.result.mine ≡ c.session.inside.pin.mine ++ c.in-Ok.receipt ∷ [] = ap (λ w. w.mine) c.take_slip-slip.ensures.slip ∙ (ap (λ p. p.mine) c.leave.ensures.left ∙ ap (λ p. p.mine) c.write.ensures.pin) in
-    booked_quiet _ _ _ _ _ _ _ _ _ (subst (λ j. IsBook j c.session.inside.numbers.items c.session.inside.pin.mine) (sym c.job-job.ensures) c.session.invariant.book) c.in-Ok.ensures.added mine refl refl
+pub returns-clause-pass : goal.returns-clause-pass
+returns-clause-pass g c =
+    subst (λ (s : Held). IfOk c.halt_found.result (λ pass. pass ≡ halted c.args.self.now.common.units s)) c.find_end.ensures.same c.halt_found.ensures.pass
 
-pub returns-in-Ok-clause-pass : goal.returns-in-Ok-clause-pass
-returns-in-Ok-clause-pass g c =
-    let mine : c.take_slip-slip.result.mine ≡ c.session.inside.pin.mine ++ c.in-Ok.receipt ∷ [] = ap (λ w. w.mine) c.take_slip-slip.ensures.slip ∙ (ap (λ p. p.mine) c.leave.ensures.left ∙ ap (λ p. p.mine) c.write.ensures.pin) in
-    let last = ap (λ w. seen_in w.known) c.take_slip-slip.ensures.slip ∙ (ap (λ p. p.seen) c.leave.ensures.left ∙ seen_next _ _ _ _ _ c.self.inside.desk c.session.inside.pin _ c.self.invariant.log c.in-Ok.ensures.added c.write.ensures.pin) in
-    let units = ap (λ e. e.common.units) c.self.view_is in
-    view_halted _ _ _ _ c.session.inside.state _ _ _ _ _ _ _ c.in-Ok.ensures.added mine last c.job-job.ensures c.session.view_is ∙ (λ i. halted (units i) c.args.session)
-
-pub returns-in-Ok-clause-goes_on : goal.returns-in-Ok-clause-goes_on
-returns-in-Ok-clause-goes_on g c = rw (← c.self.view_is, ← c.session.view_is) (subst (λ us. IsBeginning us c.session.inside.pin.seen) c.self.invariant.log c.write.ensures.goes_on)
+pub returns-clause-units : goal.returns-clause-units
+returns-clause-units g c =
+    subst (λ (s : Held). OnOk c.halt_found.result (c.halt_found.new.self.common.units ≡ c.args.self.now.common.units ++ End s.state.work.job ∷ [])) c.find_end.ensures.same c.halt_found.ensures.units

@@ -1,6 +1,6 @@
 use Rattle.std.proofs.Common.{◌≡◌, ◌≤◌, ◌+◌, ◌-◌, length}
 use Rattle.pin_board.specs.Views.{dealing}
-use Rattle.shared_engine.specs.Engines.{SameSessions, AreInPlace}
+use Rattle.shared_engine.specs.Engines.{SameSessions, AreInPlace, sessions_in}
 use Rattle.shared_engine.proofs.seats.Seats.reach.Given as goal
 
 -- there is a seat for each place that was dealt, and nobody's session has changed
@@ -9,6 +9,7 @@ invariant-deal g l = record {
   dealt : length l.self-inside.places.items ≡ l.desk.dealt;
   desk : l.desk ≡ dealing l.fn.desk l.desk.dealt;
   same : SameSessions l.fn.self l.self-inside.places.items;
+  as_many : sessions_in l.self-inside.places.items ≡ sessions_in l.fn.self;
   longer : length l.fn.self ≤ length l.self-inside.places.items;
   placed : AreInPlace l.self-inside.places.items;
 }

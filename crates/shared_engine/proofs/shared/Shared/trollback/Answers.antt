@@ -1,5 +1,5 @@
 use Rattle.std.proofs.Common.{sym, ◌∙◌}
-use Rattle.shared_engine.proofs.Prefixes.{begins_itself}
+use Rattle.shared_engine.specs.laws.Prefixes.{begins_itself}
 use Rattle.shared_engine.proofs.Seeing.{rolled_free, rolled_done}
 use Rattle.shared_engine.proofs.shared.Shared.trollback.Goals as goal
 

@@ -1,7 +1,7 @@
 use Rattle.std.proofs.Common.{◌≡◌, ◌∙◌, length, arith}
 use Rattle.shared_engine.proofs.Blocks.{so_far_next, so_far_all, cut_at, told_blocked, had_more, none_restarts, others_left, taken_one, none_left}
-use Rattle.shared_engine.proofs.Seeing.{done_seen}
-use Rattle.shared_engine.proofs.locked.Locked.run_serial.Goals as goal
+use Rattle.shared_engine.specs.laws.Seen.{done_seen}
+use Rattle.shared_engine.proofs.locked.Locked.run_alone.Goals as goal
 
 pub block-preserved : goal.block-preserved
 block-preserved g c =
@@ -35,9 +35,3 @@ returns-clause-commits g c =
 
 pub returns-then-is_blocked-clause-seen : goal.returns-then-is_blocked-clause-seen
 returns-then-is_blocked-clause-seen g c = done_seen _ _ _ _ _ _ c.serial_step-reply.ensures.done c.block.invariant.seen
-
-pub returns-clause-journal : goal.returns-clause-journal
-returns-clause-journal g c = c.begin_block.ensures.journal
-
-pub returns-then-is_blocked-clause-journal : goal.returns-then-is_blocked-clause-journal
-returns-then-is_blocked-clause-journal g c = c.begin_block.ensures.journal

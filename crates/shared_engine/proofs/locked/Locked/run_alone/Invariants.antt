@@ -3,16 +3,16 @@ use Rattle.std.specs.List.{All}
 use Rattle.std.specs.Vec.Iter.{into_iter_items}
 use Rattle.command.specs.declared.request.Command.{Command}
 use Rattle.command.specs.declared.request.Command.TheVariants.{Halt}
-use Rattle.shared_engine.specs.Blocks.{AreHad, moved_open}
+use Rattle.shared_engine.specs.Blocks.{AreHad}
 use Rattle.shared_engine.specs.Writes.{IsAlone}
 use Rattle.shared_engine.proofs.Blocks.{IsSoFar}
-use Rattle.shared_engine.proofs.locked.Locked.run_serial.Given as goal
+use Rattle.shared_engine.proofs.locked.Locked.run_alone.Given as goal
 
 -- what is in front of the rest was done, no LOCK was blocked that has to have its names, nobody touched anything since
 -- the transaction's start, and there is room for the replies to come
 abbrev pub invariant-block : goal.invariant-block
 invariant-block g l = record {
-  so_far : IsSoFar l.fn.block.items (into_iter_items l.command-iterator) l.replies.items l.fn.self.common.units l.self.common.units (moved_open l.fn.self.common.units l.fn.session) l.session;
+  so_far : IsSoFar l.fn.block.items (into_iter_items l.command-iterator) l.replies.items l.fn.self.common.units l.self.common.units l.fn.session l.session;
   had : AreHad l.fn.musts l.replies.items;
   alone : IsAlone l.session l.self.common.units;
   seen : l.session.seen ≡ l.self.common.units;
