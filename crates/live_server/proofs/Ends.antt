@@ -1,5 +1,5 @@
 -- Pieces, one after the other, and the end of input.
-use Rattle.std.proofs.Common.{◌≡◌, ℕ, suc, ◌+◌, ◌-◌, ◌<◌, ◌≤◌, Bool, true, false, cond, List, [], ◌∷◌, ◌++◌, map, length, take, drop, Option, None, Some, inl, inr, refl, sym, ap, subst, ◌∙◌, append_assoc, arith, length-drop, drop-drop}
+use Rattle.std.proofs.Common.{◌≡◌, ℕ, suc, ◌+◌, ◌-◌, ◌<◌, ◌≤◌, Bool, true, false, cond, List, [], ◌∷◌, ◌++◌, length, take, drop, Option, None, Some, inl, inr, refl, sym, ap, subst, ◌∙◌, append_assoc, arith, length-drop, drop-drop}
 use Rattle.std.specs.Prelude.{◌⊎◌}
 use Rattle.std.proofs.lemmas.List.{append-nil}
 use Rattle.std.specs.Io.KnownBytes.{Appends}
@@ -11,19 +11,19 @@ use Rattle.journal.specs.Story.{Machine}
 use Rattle.serial.specs.Machine.{run_of}
 use Rattle.serial.specs.Soundness.{IsGood}
 use Rattle.serial.specs.laws.Good.{good_run}
-use Rattle.listing.specs.Bytes.{WritesBeginning, WritesFront}
+use Rattle.listing.specs.Bytes.{WritesBeginning}
 use Rattle.listing.specs.laws.Bytes.{rest_of, Passes-all, Passes-more, Passes-begun, Passes-Appends}
 use Rattle.script_run.specs.Lines.{nonempty_line, lines_of, has_no_end}
 use Rattle.script_run.specs.laws.Lines.{last_line}
 use Rattle.script_run.specs.laws.Cut.{joined_line, has_no_end-append, no_end, end_of}
-use Rattle.script_run.specs.Output.{Answer, halts_of, text_of, noted, outcome_of, ending}
+use Rattle.script_run.specs.Output.{Answer, halts_of, text_of, noted, ending}
 use Rattle.script_run.specs.laws.Outcomes.{noted-then}
-use Rattle.live_server.specs.Live.{Act, all_left_by, AreActs, AreInTurn, answers_in, answered_of, lines_with, waiting_in, open_by, left_at_end, IsLive, Wrote, IsBegun}
-use Rattle.live_server.specs.Desks.{DeskShown, no_lines, desk_of, queued, first_of, first_tried, waiting_at}
+use Rattle.live_server.specs.Live.{Act, all_left_by, AreInTurn, answers_in, answered_of, lines_with, waiting_in, open_by, left_at_end, Wrote, IsBegun}
+use Rattle.live_server.specs.Desks.{DeskShown, desk_of, queued, first_of, waiting_at}
 use Rattle.live_server.specs.Runs.{Follow, Ran, Broke, RanFront, BrokeFront, halted_after, RanEnd, BrokeEnd, IsNew, HasTaken, HasBrokenOff}
 use Rattle.live_server.specs.declared.live.Live.{Live}
 use Rattle.live_server.proofs.Acts.{left-append, answers-append, lines-append, text-append, waiting-append, open-append}
-use Rattle.live_server.proofs.Steps.{nothing_begun, Follow-then, Ran-then, Broke-then, Broke-after, Broke-before, Ran-and-none, Broke-and-none, Ran-none, Ran-passed-on}
+use Rattle.live_server.proofs.Steps.{nothing_begun, Follow-then, Ran-then, Broke-then, Broke-after, Ran-and-none, Broke-and-none, Ran-none, Ran-passed-on}
 
 -- ---- what is gathered is written
 

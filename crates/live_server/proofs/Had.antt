@@ -6,7 +6,7 @@ use Rattle.refusal.specs.declared.Refusal.TheVariants.{NoTransaction, LevelTooDe
 use Rattle.collation.specs.Limits.{is_job, most_commands, most_levels}
 use Rattle.lock_name.specs.declared.lock.LockCommand.{LockCommand}
 use Rattle.lock_name.specs.declared.lock.LockCommand.TheVariants.{Release, Only, More, Fewer}
-use Rattle.lock_name.specs.Locks.{LockState, lock_refusal, lock_reply}
+use Rattle.lock_name.specs.Locks.{lock_refusal, lock_reply}
 use Rattle.command.specs.declared.access.DataCommand.{DataCommand}
 use Rattle.command.specs.declared.request.Command.{Command}
 use Rattle.command.specs.declared.request.Command.TheVariants.{Access, Lock, Start, Commit, Rollback, Restart, Level, Restarts, Halt}
@@ -17,7 +17,7 @@ use Rattle.journal.specs.declared.unit.Unit.{Unit as JournalUnit}
 use Rattle.journal.specs.History.{initial, after}
 use Rattle.journal.specs.Story.{Transaction, Machine, transaction_of, told}
 use Rattle.serial.specs.Answers.{IsReplyDue, told_by}
-use Rattle.serial.specs.Machine.{IsReply, refused_or, in_transaction, reply_on, reply_to_data, told_had, reply_to_lock, reply_to_start, reply_to_commit, restarted, is_overtaken, reply_with_room, reply_of, seen_by}
+use Rattle.serial.specs.Machine.{IsReply, refused_or, in_transaction, reply_on, reply_to_data, told_had, reply_to_start, reply_to_commit, restarted, is_overtaken, reply_with_room, seen_by}
 use Rattle.m_text.specs.Place.{unless}
 use Rattle.script.specs.Asked.{IsAsked}
 use Rattle.script.specs.Commands.{command_fault}

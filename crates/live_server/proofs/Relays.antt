@@ -1,7 +1,5 @@
 -- Both ends of a ring, once the thread that reads is over.
-use Rattle.std.proofs.Common.{◌≡◌, ℕ, Bool, true, List, [], ◌++◌, Option, None, Some, Result, Ok, Err, IfSome, IfOk, OnErr, refl, sym, ap, subst, ◌∙◌, append_assoc}
-use Rattle.std.proofs.lemmas.List.{append-nil}
-use Rattle.std.specs.Io.KnownBytes.{Consumes, IsAtEnd}
+use Rattle.std.proofs.Common.{ℕ, Bool, List, [], ◌++◌, Option, None, Some, Result, Ok, Err, IfSome, IfOk, OnErr, refl, sym, ap, ◌∙◌, append_assoc}
 use Rattle.std.specs.declared.alloc.Global.{Global}
 use Rattle.rtrb.specs.declared.producer.Producer.{Producer}
 use Rattle.rtrb.specs.declared.AnyItems.{AnyItems}
@@ -15,35 +13,6 @@ use Rattle.script_run.specs.declared.outcome.Outcome.{Outcome}
 -- the same end of a ring, after one call and another
 pub ring_then : (a b c : Producer ℕ Global AnyItems) → SameProducer a b → SameProducer b c → SameProducer a c
 ring_then a b c h k = ((k.0.0 ∙ h.0.0, k.0.1 ∙ h.0.1, k.0.2 ∙ h.0.2, k.0.3 ∙ h.0.3), k.1 ∙ h.1)
-
--- what was read so far is a front of all
-pub front_of : (a b : Option (List ℕ)) (s : List ℕ) → Consumes a b s → IfSome a (IsFrontOf s)
-front_of None b s h = tt
-front_of (Some x) None s h = absurd h
-front_of (Some x) (Some y) s h = (y, sym h)
-
--- also with a front of one piece more
-pub piece_front : (a b c : Option (List ℕ)) (s piece t : List ℕ) → Consumes a b s → Consumes b c piece → IsFrontOf t (s ++ piece) → IfSome a (IsFrontOf t)
-piece_front None b c s piece t h k f = tt
-piece_front (Some x) None c s piece t h k f = absurd h
-piece_front (Some x) (Some y) None s piece t h k f = absurd k
-piece_front (Some x) (Some y) (Some z) s piece t h k f = (
-  f.0 ++ z,
-  sym (append_assoc t f.0 z) ∙ ap (λ (l : List ℕ). l ++ z) f.1 ∙ append_assoc s piece z ∙ ap (λ (l : List ℕ). s ++ l) (sym k) ∙ sym h,
-)
-
--- at the end it is all
-pub all_of : (a b : Option (List ℕ)) (s : List ℕ) → Consumes a b s → IsAtEnd b → IfSome a (λ bytes. s ≡ bytes)
-all_of None b s h e = tt
-all_of (Some x) None s h e = absurd h
-all_of (Some x) (Some y) s h e = sym (h ∙ ap (λ (l : List ℕ). s ++ l) e ∙ append-nil s)
-
--- a whole run wrote the output for all that was read
-pub ended : {E : Type 0} (a : Option (List ℕ)) (r j : Result Outcome E) (got put : List ℕ) (all : Bool) (P : Outcome → List ℕ → Type 0) → IfOk r (λ o. P o got) → IfOk j (λ o. (r ≡ Ok o) × (all ≡ true) × (got ≡ put))
-    → (all ≡ true → IfSome a (λ bytes. put ≡ bytes)) → IfOk j (λ o. IfSome a (P o))
-ended a r (Err e) got put all P w h s = tt
-ended None r (Ok o) got put all P w h s = tt
-ended (Some x) r (Ok o) got put all P w h s = subst (P o) (h.2 ∙ s h.1) (subst (λ (x : Result Outcome _). IfOk x (λ o. P o got)) h.0 w)
 
 begun_at : {E : Type 0} (s : Machine) (listed : Bool) (bytes : List ℕ) (r : Result Outcome E) (p q : Option (List ℕ)) → IfOk r (λ o. Wrote s listed bytes o p q) → OnErr r (IsBegun s listed bytes p q) → IsBegun s listed bytes p q
 begun_at s listed bytes (Ok o) p q w b = begun_whole s listed bytes o p q w

@@ -1,8 +1,7 @@
 -- Runs of one act, and one after the other.
-use Rattle.std.proofs.Common.{◌≡◌, ℕ, ◌+◌, Bool, true, false, eqb, cond, List, [], ◌∷◌, ◌++◌, map, drop, Option, None, Some, inl, inr, refl, sym, ap, subst, ◌∙◌, append_assoc}
-use Rattle.std.specs.Prelude.{◌⊎◌, IsSome}
+use Rattle.std.proofs.Common.{◌≡◌, ℕ, Bool, true, false, eqb, cond, List, [], ◌∷◌, ◌++◌, map, drop, Option, None, Some, inl, inr, refl, sym, ap, subst, ◌∙◌, append_assoc}
+use Rattle.std.specs.Prelude.{◌⊎◌}
 use Rattle.std.proofs.lemmas.List.{append-nil}
-use Rattle.std.specs.Io.KnownBytes.{Appends}
 use Rattle.command.specs.declared.request.Command.TheVariants.{Halt}
 use Rattle.command.specs.declared.request.Reply.{Reply}
 use Rattle.command.specs.declared.request.Reply.TheVariants.{Finished, Had, Refused}
@@ -11,7 +10,7 @@ use Rattle.serial.specs.Machine.{IsReply}
 use Rattle.serial.specs.Soundness.{IsGood}
 use Rattle.serial.specs.laws.Runs.{good_reply}
 use Rattle.listing.specs.Bytes.{WritesBeginning, WritesFront}
-use Rattle.listing.specs.laws.Bytes.{Appends-nothing, WritesBeginning-all, WritesBeginning-longer, Passes-none, Passes-all, Passes-more, Passes-then, Passes-begun}
+use Rattle.listing.specs.laws.Bytes.{Appends-nothing, WritesBeginning-all, WritesBeginning-longer, Passes-none, Passes-more, Passes-then, Passes-begun}
 use Rattle.script.specs.Line.{reading_of, job_of_line}
 use Rattle.script.specs.Text.{reply_text}
 use Rattle.script_run.specs.OpenJobs.{open_after, without_job}
@@ -19,13 +18,13 @@ use Rattle.script_run.specs.Output.{Answer, IsAnswer, accepted_job, ends_session
 use Rattle.refusal.specs.declared.Refusal.{Refusal}
 use Rattle.serial.specs.Answers.{told_by}
 use Rattle.script_run.specs.declared.outcome.Outcome.{Outcome}
-use Rattle.script_run.specs.Replies.{IsAnswered, IsGathered}
+use Rattle.script_run.specs.Replies.{IsAnswered, IsGathered, IsLost, IsLostAs}
 use Rattle.script_run.specs.laws.Good.{answered-good}
 use Rattle.script_run.specs.laws.Outcomes.{noted-none, noted-one, noted-then}
 use Rattle.script_run.specs.declared.answers.Script.{Script}
-use Rattle.live_server.specs.Live.{Act, answered, kept_off, over, left_by, all_left_by, AreActs, is_same, lines_with, answers_in, answered_of, waiting_after, waiting_in, IsInTurn, AreInTurn, open_by}
-use Rattle.live_server.specs.Desks.{DeskShown, desk_of, HasChangedAt, pushed, passed, tried, has_lines, queued, first_of, first_tried, waiting_at}
-use Rattle.live_server.specs.Runs.{Follow, Ran, Broke, IsIdle, IsFair, IsDone, IsKeptOff, IsKept, HasCome, HasTried, IsLostFairly}
+use Rattle.live_server.specs.Live.{Act, answered, kept_off, over, all_left_by, is_same, lines_with, answers_in, answered_of, waiting_in, AreInTurn, open_by}
+use Rattle.live_server.specs.Desks.{DeskShown, desk_of, HasChangedAt, pushed, passed, tried, queued, first_of, first_tried, waiting_at}
+use Rattle.live_server.specs.Runs.{Follow, Ran, Broke, Lacked, IsIdle, IsFair, IsDone, IsKeptOff, IsKept, HasCome, HasTried, IsLostFairly}
 use Rattle.live_server.specs.declared.live.Live.{Live}
 use Rattle.live_server.proofs.Acts.{left-append, acts-append, answers-append, answered-append, lines-append, text-append, waiting-append, turns-append, open-append, same_is}
 
@@ -82,14 +81,29 @@ Broke-after ls a b p q r h w = record {
   begun = Passes-begun p q r (a.script.out.items ++ text_of (answers_in h.acts)) b.script.out.items h.passes w;
 }
 
--- the run broke off before these lines
-pub Broke-before : (ls : List (List ℕ)) (a : Live) (p : Option (List ℕ)) → Broke ls a p p
-Broke-before ls a p = record {
+-- the run broke off before these lines, and what was gathered was written, or a beginning of it
+pub Broke-at : (ls : List (List ℕ)) (a : Live) (p q : Option (List ℕ)) → WritesBeginning p q a.script.out.items → Broke ls a p q
+Broke-at ls a p q w = record {
   acts = [];
   left = λ who. queued who a.desks ++ lines_with who ls;
   follow = record { each = tt; in_turn = λ who. tt; of_lines = λ who. refl };
-  begun = nothing_begun p (a.script.out.items ++ text_of []);
+  begun = WritesBeginning-longer p q a.script.out.items (text_of []) w;
 }
+
+pub Broke-before : (ls : List (List ℕ)) (a : Live) (p : Option (List ℕ)) → Broke ls a p p
+Broke-before ls a p = Broke-at ls a p p (nothing_begun p a.script.out.items)
+
+-- it broke off in them for want of memory, and so
+pub Broke-written : (ls : List (List ℕ)) (a b : Live) (p q : Option (List ℕ)) → Lacked ls a b → WritesBeginning p q b.script.out.items → Broke ls a p q
+Broke-written ls a b p q h w = let k = h.broke p in record {
+  acts = k.acts;
+  left = k.left;
+  follow = k.follow;
+  begun = WritesBeginning-longer p q a.script.out.items (text_of (answers_in k.acts)) (subst (WritesBeginning p q) h.out w);
+}
+
+pub Lacked-before : (ls : List (List ℕ)) (a b : Live) → b.script.out.items ≡ a.script.out.items → Lacked ls a b
+Lacked-before ls a b out = record { broke = λ p. Broke-before ls a p; out = out }
 
 -- no line more
 pub Ran-and-none : (ls : List (List ℕ)) (a b c : Live) (p q r : Option (List ℕ)) → Ran ls a b p q → Ran [] b c q r → Ran ls a c p r
@@ -122,6 +136,13 @@ Ran-from ls a a' b p q machine out jobs outcome desks h = Ran-then [] ls a a' b 
 
 pub Broke-from : (ls : List (List ℕ)) (a a' : Live) (p q : Option (List ℕ)) → a'.script.core.machine ≡ a.script.core.machine → a'.script.out.items ≡ a.script.out.items → a'.script.jobs ≡ a.script.jobs → a'.script.outcome ≡ a.script.outcome → a'.desks ≡ a.desks → Broke ls a' p q → Broke ls a p q
 Broke-from ls a a' p q machine out jobs outcome desks h = Broke-then [] ls a a' p p q (Ran-none a a' p machine out jobs outcome desks) h
+
+pub Lacked-from : (ls : List (List ℕ)) (a a' b : Live) → a'.script.core.machine ≡ a.script.core.machine → a'.script.out.items ≡ a.script.out.items → a'.script.jobs ≡ a.script.jobs → a'.script.outcome ≡ a.script.outcome → a'.desks ≡ a.desks → Lacked ls a' b → Lacked ls a b
+Lacked-from ls a a' b machine out jobs outcome desks h = record { broke = λ p. Broke-from ls a a' p p machine out jobs outcome desks (h.broke p); out = h.out ∙ out }
+
+-- lines came, and memory was wanting then
+pub Lacked-and-none : (ls : List (List ℕ)) (a b c : Live) → ((p : Option (List ℕ)) → Ran ls a b p p) → b.script.out.items ≡ a.script.out.items → Lacked [] b c → Lacked ls a c
+Lacked-and-none ls a b c h out k = record { broke = λ p. Broke-and-none ls a b p p p (h p) (k.broke p); out = k.out ∙ out }
 
 -- ---- one line
 
@@ -173,13 +194,16 @@ Ran-answered line a b p d desks idle = record {
 }
 
 -- its reply found no memory
-pub Broke-answered : (line : List ℕ) (a : Live) (p : Option (List ℕ)) → IsLostFairly line a.script.core.machine a.script.out.items → IsIdle (job_of_line line) a.desks → Broke (line ∷ []) a p p
-Broke-answered line a p l idle = record {
+Broke-answered : (line : List ℕ) (a b : Live) (p : Option (List ℕ)) → IsLostFairly line a.script.core.machine a.script.out.items b.script → IsIdle (job_of_line line) a.desks → Broke (line ∷ []) a p p
+Broke-answered line a b p l idle = record {
   acts = answered line l.reply ∷ [];
   left = λ who. queued who a.desks;
   follow = idle_follow line l.reply a.script.core.machine a.desks l.fair l.answer idle;
   begun = nothing_begun p (a.script.out.items ++ text_of ((line, l.reply) ∷ []));
 }
+
+pub Lacked-answered : (line : List ℕ) (a b : Live) → IsLostFairly line a.script.core.machine a.script.out.items b.script → IsIdle (job_of_line line) a.desks → Lacked (line ∷ []) a b
+Lacked-answered line a b l idle = record { broke = λ p. Broke-answered line a b p l idle; out = l.text }
 
 -- ---- a job's first line
 
@@ -260,13 +284,16 @@ Ran-first line job a b p d change owner first = record {
   passes = subst (λ (ts : List ℕ). WritesFront p p ts b.script.out.items) (one-text line d.reply a.script.out.items b.script.out.items d.gathered.text) (Passes-none p b.script.out.items);
 }
 
-pub Broke-first : (line : List ℕ) (job : ℕ) (a : Live) (p : Option (List ℕ)) → IsLostFairly line a.script.core.machine a.script.out.items → job_of_line line ≡ Some job → first_of (desk_of a.desks job).lines ≡ Some line → Broke [] a p p
-Broke-first line job a p l owner first = record {
+Broke-first : (line : List ℕ) (job : ℕ) (a b : Live) (p : Option (List ℕ)) → IsLostFairly line a.script.core.machine a.script.out.items b.script → job_of_line line ≡ Some job → first_of (desk_of a.desks job).lines ≡ Some line → Broke [] a p p
+Broke-first line job a b p l owner first = record {
   acts = answered line l.reply ∷ [];
   left = left_after job a.desks;
   follow = first_follow line l.reply a.script.core.machine job a.desks l.fair l.answer owner first;
   begun = nothing_begun p (a.script.out.items ++ text_of ((line, l.reply) ∷ []));
 }
+
+pub Lacked-first : (line : List ℕ) (job : ℕ) (a b : Live) → IsLostFairly line a.script.core.machine a.script.out.items b.script → job_of_line line ≡ Some job → first_of (desk_of a.desks job).lines ≡ Some line → Lacked [] a b
+Lacked-first line job a b l owner first = record { broke = λ p. Broke-first line job a b p l owner first; out = l.text }
 
 -- ---- what came of a line
 
@@ -350,8 +377,8 @@ Ran-kept-off line job a b p k change owner first fresh = record {
 }
 
 -- and there was no memory to wait
-pub Broke-kept-off : (line : List ℕ) (job : ℕ) (a : Live) (new : Script) (p : Option (List ℕ)) → IsKeptOff line a.script.core.machine a.script.out.items a.script.outcome a.script.jobs new → job_of_line line ≡ Some job → (desk_of a.desks job).was_tried ≡ false → Broke [] a p p
-Broke-kept-off line job a new p k owner fresh = record {
+Broke-kept-off : (line : List ℕ) (job : ℕ) (a b : Live) (p : Option (List ℕ)) → IsKeptOff line a.script.core.machine a.script.out.items a.script.outcome a.script.jobs b.script → job_of_line line ≡ Some job → (desk_of a.desks job).was_tried ≡ false → Broke [] a p p
+Broke-kept-off line job a b p k owner fresh = record {
   acts = kept_off line ∷ [];
   left = λ who. queued who a.desks;
   follow = record {
@@ -361,6 +388,9 @@ Broke-kept-off line job a new p k owner fresh = record {
   };
   begun = nothing_begun p (a.script.out.items ++ text_of []);
 }
+
+pub Lacked-kept-off : (line : List ℕ) (job : ℕ) (a b : Live) → IsKeptOff line a.script.core.machine a.script.out.items a.script.outcome a.script.jobs b.script → job_of_line line ≡ Some job → (desk_of a.desks job).was_tried ≡ false → Lacked [] a b
+Lacked-kept-off line job a b k owner fresh = record { broke = λ p. Broke-kept-off line job a b p k owner fresh; out = k.text }
 
 -- ---- a line comes behind others
 
@@ -425,5 +455,8 @@ Ran-halted job a b p is machine out jobs outcome desks idle = record {
 
 -- ---- a reply that was lost
 
-pub lost_fairly : (line : List ℕ) (start : Machine) (out : List ℕ) (reply : Reply) → IsFair line reply → IsAnswer start line reply → IsLostFairly line start out
-lost_fairly line start out reply fair answer = record { reply = reply; fair = fair; answer = answer }
+pub lost_as : (line : List ℕ) (start : Machine) (out : List ℕ) (new : Script) (reply : Reply) → IsLostAs reply line start out new → IsFair line reply → IsLostFairly line start out new
+lost_as line start out new reply l fair = record { reply = reply; fair = fair; answer = l.answer; text = l.text }
+
+pub lost_of : (line : List ℕ) (start : Machine) (out : List ℕ) (new : Script) (l : IsLost line start out new) → IsFair line l.reply → IsLostFairly line start out new
+lost_of line start out new l fair = record { reply = l.reply; fair = fair; answer = l.answer; text = l.text }

@@ -47,6 +47,11 @@ pub record Broke (lines : List (List ℕ)) (old : Live) (before now : Option (Li
   pub follow : Follow lines acts old.script.core.machine old.desks left
   pub begun : WritesBeginning before now (old.script.out.items ++ text_of (answers_in acts))
 
+-- memory was wanting in these lines: the run may break off, and what was gathered before is gathered still
+pub record Lacked (lines : List (List ℕ)) (old new : Live) : Type 0 where
+  pub broke : (text : Option (List ℕ)) → Broke lines old text text
+  pub out : new.script.out.items ≡ old.script.out.items
+
 -- lines at the front of the text came, up to the rest
 pub record RanFront (text rest : List ℕ) (old new : Live) (before now : Option (List ℕ)) : Type 0 where
   pub lines : List (List ℕ)
@@ -124,11 +129,12 @@ abbrev pub HasTried : Bool → List ℕ → Machine → List ℕ → Outcome →
 HasTried true line start out before were new = IsDone line start out before were new
 HasTried false line start out before were new = IsKept start out before were new
 
--- the line was answered, but its reply found no memory
-pub record IsLostFairly (line : List ℕ) (start : Machine) (out : List ℕ) : Type 0 where
+-- the line was answered, but its reply found no memory; what was gathered before is gathered still
+pub record IsLostFairly (line : List ℕ) (start : Machine) (out : List ℕ) (new : Script) : Type 0 where
   pub reply : Reply
   pub fair : IsFair line reply
   pub answer : IsAnswer start line reply
+  pub text : new.out.items ≡ out
 
 -- ---- the end of input
 

@@ -9,7 +9,7 @@ ghost use Rattle.serial.specs.Machine.{IsReply};
 ghost use Rattle.script.specs.Asked.{IsAsked};
 ghost use Rattle.script.specs.Line.{IsReading, job_of_line};
 ghost use Rattle.job_scripts.specs.Timeouts.{timeout_in};
-ghost use Rattle.live_server.specs.Runs.{Ran, Broke, IsNew, AsksLock, IsLock, IsIdle, HasCome, HasTried, IsLostFairly};
+ghost use Rattle.live_server.specs.Runs.{Ran, Lacked, IsNew, AsksLock, IsLock, IsIdle, HasCome, HasTried, IsLostFairly};
 
 use crate::Bell;
 use crate::desks::{Desks, Waiting};
@@ -114,7 +114,7 @@ fn gather_refusal(
     requires fault { IsReading line.now (Err fault) }
     requires idle { IsIdle fault.job live.old.desks }
     ensures ran { OnOk result ((text : Option (List ℕ)) → Ran (line.now ∷ []) live.old live.new text text) }
-    ensures err { OnErr result ((text : Option (List ℕ)) → Broke (line.now ∷ []) live.old text text) }
+    ensures err { OnErr result (Lacked (line.now ∷ []) live.old live.new) }
 {
     gather_unread(&mut live.script, fault, line, log)?;
     Ok(())
@@ -130,7 +130,7 @@ fn gather_wanting(
     requires asks { AsksLock line.now job }
     requires idle { IsIdle (Some job) live.old.desks }
     ensures ran { OnOk result ((text : Option (List ℕ)) → Ran (line.now ∷ []) live.old live.new text text) }
-    ensures err { OnErr result ((text : Option (List ℕ)) → Broke (line.now ∷ []) live.old text text) }
+    ensures err { OnErr result (Lacked (line.now ∷ []) live.old live.new) }
 {
     let reply = Reply::Refused(Refusal::OutOfMemory);
     gather_reply(&mut live.script, Some(job), None, false, &reply, line, log)?;
@@ -149,7 +149,7 @@ fn gather_command(
     requires had { IsReply job command (Had false) live.old.script.core.machine → IsSome (timeout_in line.now) }
     requires idle { IsIdle (Some job) live.old.desks }
     ensures ran { OnOk result ((text : Option (List ℕ)) → Ran (line.now ∷ []) live.old live.new text text) }
-    ensures err { OnErr result ((text : Option (List ℕ)) → Broke (line.now ∷ []) live.old text text) }
+    ensures err { OnErr result (Lacked (line.now ∷ []) live.old live.new) }
 {
     live.freed |= may_free(&command);
     let (accepted, ended, reply) = answer_command(&mut live.script.core, job, command);
@@ -189,7 +189,7 @@ fn take_lock(
     requires asks { AsksLock line.now job }
     requires idle { IsIdle (Some job) live.old.desks }
     ensures ran { OnOk result ((text : Option (List ℕ)) → Ran (line.now ∷ []) live.old live.new text text) }
-    ensures err { OnErr result ((text : Option (List ℕ)) → Broke (line.now ∷ []) live.old text text) }
+    ensures err { OnErr result (Lacked (line.now ∷ []) live.old live.new) }
 {
     match live.desks.push(alloc, job, line, live.lines) {
         Ok(()) => {
@@ -213,7 +213,7 @@ fn take_command(
     requires asked { IsReading line.now (Ok (job, command)) }
     requires idle { IsIdle (Some job) live.old.desks }
     ensures ran { OnOk result ((text : Option (List ℕ)) → Ran (line.now ∷ []) live.old live.new text text) }
-    ensures err { OnErr result ((text : Option (List ℕ)) → Broke (line.now ∷ []) live.old text text) }
+    ensures err { OnErr result (Lacked (line.now ∷ []) live.old live.new) }
 {
     if !must_wait(&live.script.core, job, &command, line) {
         return gather_command(live, job, command, line, log);
@@ -234,7 +234,7 @@ fn take_asked(
 ) -> Result<(), AllocError>
     requires asked { IsAsked line.now live.old.script.drafts job sentence }
     ensures ran { OnOk result ((text : Option (List ℕ)) → Ran (line.now ∷ []) live.old live.new text text) }
-    ensures err { OnErr result ((text : Option (List ℕ)) → Broke (line.now ∷ []) live.old text text) }
+    ensures err { OnErr result (Lacked (line.now ∷ []) live.old live.new) }
 {
     if live.desks.has_lines(job) {
         live.desks.push(alloc, job, line, live.lines)?;
@@ -258,7 +258,7 @@ fn take_data(
     requires asked { IsAsked line.now live.old.script.drafts job (Sentence.Access access) }
     requires idle { IsIdle (Some job) live.old.desks }
     ensures ran { OnOk result ((text : Option (List ℕ)) → Ran (line.now ∷ []) live.old live.new text text) }
-    ensures err { OnErr result ((text : Option (List ℕ)) → Broke (line.now ∷ []) live.old text text) }
+    ensures err { OnErr result (Lacked (line.now ∷ []) live.old live.new) }
 {
     gather_asked(
         alloc,
@@ -284,7 +284,7 @@ fn take_other(
     requires asked { IsAsked line.now live.old.script.drafts job sentence }
     requires idle { IsIdle (Some job) live.old.desks }
     ensures ran { OnOk result ((text : Option (List ℕ)) → Ran (line.now ∷ []) live.old live.new text text) }
-    ensures err { OnErr result ((text : Option (List ℕ)) → Broke (line.now ∷ []) live.old text text) }
+    ensures err { OnErr result (Lacked (line.now ∷ []) live.old live.new) }
 {
     match finish_request(alloc, job, sentence, &mut live.script.drafts) {
         Ok(command) => take_command(alloc, live, job, command, line, bell, log),
@@ -318,7 +318,7 @@ fn take_unread(
 ) -> Result<(), AllocError>
     requires { IsReading line.now (Err fault) }
     ensures ran { OnOk result ((text : Option (List ℕ)) → Ran (line.now ∷ []) live.old live.new text text) }
-    ensures err { OnErr result ((text : Option (List ℕ)) → Broke (line.now ∷ []) live.old text text) }
+    ensures err { OnErr result (Lacked (line.now ∷ []) live.old live.new) }
 {
     match waiting_job(&live.desks, fault.job) {
         Some(job) => {
@@ -338,7 +338,7 @@ pub(crate) fn take_line(
     log: &mut impl RunLog,
 ) -> Result<(), AllocError>
     ensures ran { OnOk result ((text : Option (List ℕ)) → Ran (line.now ∷ []) live.old live.new text text) }
-    ensures err { OnErr result ((text : Option (List ℕ)) → Broke (line.now ∷ []) live.old text text) }
+    ensures err { OnErr result (Lacked (line.now ∷ []) live.old live.new) }
 {
     live.lines = live.lines.saturating_add(1);
     live.script.lines = live.lines;
@@ -375,7 +375,7 @@ fn do_command(
 ) -> Result<bool, AllocError>
     requires asked { IsReading line.now (Ok (job, command)) }
     ensures done { IfOk result (λ is_done. HasCome is_done line.now script.old.core.machine script.old.out.items script.old.outcome script.old.jobs script.new) }
-    ensures err { OnErr result (IsLostFairly line.now script.old.core.machine script.old.out.items) }
+    ensures err { OnErr result (IsLostFairly line.now script.old.core.machine script.old.out.items script.new) }
 {
     let (accepted, ended, reply) = answer_command(&mut script.core, job, command);
     if is_kept_off(&reply, line) {
@@ -395,7 +395,7 @@ fn do_refusal(
 ) -> Result<bool, AllocError>
     requires fault { IsReading line.now (Err fault) }
     ensures done { IfOk result (λ is_done. HasCome is_done line.now script.old.core.machine script.old.out.items script.old.outcome script.old.jobs script.new) }
-    ensures err { OnErr result (IsLostFairly line.now script.old.core.machine script.old.out.items) }
+    ensures err { OnErr result (IsLostFairly line.now script.old.core.machine script.old.out.items script.new) }
 {
     gather_unread(script, fault, line, log)?;
     Ok(true)
@@ -410,7 +410,7 @@ fn do_line(
     log: &mut impl RunLog,
 ) -> Result<bool, AllocError>
     ensures done { IfOk result (λ is_done. HasCome is_done line.now script.old.core.machine script.old.out.items script.old.outcome script.old.jobs script.new) }
-    ensures err { OnErr result (IsLostFairly line.now script.old.core.machine script.old.out.items) }
+    ensures err { OnErr result (IsLostFairly line.now script.old.core.machine script.old.out.items script.new) }
 {
     match read_line(alloc, line, &mut script.drafts) {
         Ok((job, command)) => {
@@ -431,7 +431,7 @@ pub(crate) fn do_first(
     log: &mut impl RunLog,
 ) -> Result<bool, AllocError>
     ensures ran { OnOk result ((text : Option (List ℕ)) → Ran [] live.old live.new text text) }
-    ensures err { OnErr result ((text : Option (List ℕ)) → Broke [] live.old text text) }
+    ensures err { OnErr result (Lacked [] live.old live.new) }
 {
     let Some(line) = live.desks.untried(job) else {
         return Ok(false);
@@ -481,7 +481,7 @@ fn try_command(
     requires asked { IsReading line.now (Ok (job, command)) }
     requires due { is_due ≡ true → IsSome (timeout_in line.now) }
     ensures done { IfOk result (λ is_done. HasTried is_done line.now script.old.core.machine script.old.out.items script.old.outcome script.old.jobs script.new) }
-    ensures err { OnErr result (IsLostFairly line.now script.old.core.machine script.old.out.items) }
+    ensures err { OnErr result (IsLostFairly line.now script.old.core.machine script.old.out.items script.new) }
 {
     if still_waits(&script.core, job, &command, is_due) {
         drop(command);
@@ -502,7 +502,7 @@ fn try_line(
 ) -> Result<bool, AllocError>
     requires due { is_due ≡ true → IsSome (timeout_in line.now) }
     ensures done { IfOk result (λ is_done. HasTried is_done line.now script.old.core.machine script.old.out.items script.old.outcome script.old.jobs script.new) }
-    ensures err { OnErr result (IsLostFairly line.now script.old.core.machine script.old.out.items) }
+    ensures err { OnErr result (IsLostFairly line.now script.old.core.machine script.old.out.items script.new) }
 {
     match read_line(alloc, line, &mut script.drafts) {
         Ok((job, command)) => try_command(script, job, command, line, is_due, log),
@@ -523,7 +523,7 @@ pub(crate) fn try_again(
     log: &mut impl RunLog,
 ) -> Result<bool, AllocError>
     ensures ran { OnOk result ((text : Option (List ℕ)) → Ran [] live.old live.new text text) }
-    ensures err { OnErr result ((text : Option (List ℕ)) → Broke [] live.old text text) }
+    ensures err { OnErr result (Lacked [] live.old live.new) }
 {
     let Some(line) = live.desks.first(waiting.job) else {
         return Ok(true);

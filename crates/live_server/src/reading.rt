@@ -53,11 +53,11 @@ fn push_all<R: Wait + Clock>(
         let (_, left) = ring.push_partial_slice(rest);
         rest = left;
         hall.note_items(rt);
-        if rest.is_empty() {
-            return Ok(());
-        }
         if hall.is_closed() {
             return Err(Stopped);
+        }
+        if rest.is_empty() {
+            return Ok(());
         }
         hall.wait_for_room(rt);
     }

@@ -16,12 +16,12 @@ use crate::live::{Live, do_first, take_line, try_again};
 use crate::{Arrivals, Bell, LiveFault};
 use collation::Job;
 use command::{Command, Reply};
-use listing::{Counted, ListingFault};
+use listing::{Counted, ListingFault, WriteFault};
 use script_run::{
     Outcome, PIECE_BYTES, RunLog, end_begun, extend_line, halt_open, keep_up, line_end,
     strip_return, write_ending,
 };
-use std::alloc::Global;
+use std::alloc::{AllocError, Global};
 use std::io::Write;
 
 // After a reply was gathered: what is gathered is written once it is enough, and upkeep is done where it is due.
@@ -32,6 +32,34 @@ fn note_done<W: Write>(live: &mut Live, writer: &mut Counted<W>) -> Result<(), L
     writer.write_full(&mut live.script.out)?;
     keep_up(&mut live.script.due, &mut live.script.core);
     Ok(())
+}
+
+// Memory was refused: what is gathered is written before the run ends.
+fn write_before_end<W: Write>(live: &mut Live, writer: &mut Counted<W>) -> ListingFault
+    ensures { WritesBeginning (W.contents writer.old.inner) (W.contents writer.new.inner) live.old.script.out.items }
+{
+    match writer.write_gathered(&mut live.script.out) {
+        Ok(()) => ListingFault::Memory,
+        Err(WriteFault) => ListingFault::Write,
+    }
+}
+
+// As `do_first`, but where memory is refused what was gathered is written.
+fn do_or_end<W: Write>(
+    alloc: Global,
+    live: &mut Live,
+    job: Job,
+    writer: &mut Counted<W>,
+    bell: &impl Bell,
+    log: &mut impl RunLog,
+) -> Result<bool, ListingFault>
+    ensures ran { OnOk result (Ran [] live.old live.new (W.contents writer.old.inner) (W.contents writer.new.inner)) }
+    ensures err { OnErr result (Broke [] live.old (W.contents writer.old.inner) (W.contents writer.new.inner)) }
+{
+    match do_first(alloc, live, job, bell, log) {
+        Ok(is_done) => Ok(is_done),
+        Err(AllocError) => Err(write_before_end(live, writer)),
+    }
 }
 
 // The lines of a job that wait are done, up to one that waits on.
@@ -50,13 +78,31 @@ fn do_lines<W: Write>(
         if !live.desks.has_lines(job) {
             return Ok(());
         }
-        let is_done = do_first(alloc, live, job, bell, log)?;
+        let is_done = do_or_end(alloc, live, job, writer, bell, log)?;
         if !is_done {
             return Ok(());
         }
         note_done(live, writer)?;
     }
     Err(ListingFault::Memory)
+}
+
+// As `try_again`, but where memory is refused what was gathered is written.
+fn try_or_end<W: Write>(
+    alloc: Global,
+    live: &mut Live,
+    waiting: &Waiting,
+    writer: &mut Counted<W>,
+    bell: &impl Bell,
+    log: &mut impl RunLog,
+) -> Result<bool, ListingFault>
+    ensures ran { OnOk result (Ran [] live.old live.new (W.contents writer.old.inner) (W.contents writer.new.inner)) }
+    ensures err { OnErr result (Broke [] live.old (W.contents writer.old.inner) (W.contents writer.new.inner)) }
+{
+    match try_again(alloc, live, waiting, bell, log) {
+        Ok(is_done) => Ok(is_done),
+        Err(AllocError) => Err(write_before_end(live, writer)),
+    }
 }
 
 // The LOCK at this place among those that wait is tried; where it is done its job goes on. Answers whether it was.
@@ -72,7 +118,7 @@ fn try_at<W: Write>(
     ensures ran { OnOk result (Ran [] live.old live.new (W.contents writer.old.inner) (W.contents writer.new.inner)) }
     ensures err { OnErr result (Broke [] live.old (W.contents writer.old.inner) (W.contents writer.new.inner)) }
 {
-    let is_done = try_again(alloc, live, waiting, bell, log)?;
+    let is_done = try_or_end(alloc, live, waiting, writer, bell, log)?;
     if !is_done {
         return Ok(false);
     }
@@ -122,6 +168,24 @@ fn try_all<W: Write>(
     Err(ListingFault::Memory)
 }
 
+// As `take_line`, but where memory is refused what was gathered is written.
+fn take_or_end<W: Write>(
+    alloc: Global,
+    live: &mut Live,
+    line: &[u8],
+    writer: &mut Counted<W>,
+    bell: &impl Bell,
+    log: &mut impl RunLog,
+) -> Result<(), ListingFault>
+    ensures ran { OnOk result (Ran (line.now ∷ []) live.old live.new (W.contents writer.old.inner) (W.contents writer.new.inner)) }
+    ensures err { OnErr result (Broke (line.now ∷ []) live.old (W.contents writer.old.inner) (W.contents writer.new.inner)) }
+{
+    match take_line(alloc, live, line, bell, log) {
+        Ok(()) => Ok(()),
+        Err(AllocError) => Err(write_before_end(live, writer)),
+    }
+}
+
 // A line that isn't empty comes. Where it may have freed names those that wait are tried.
 fn take_some<W: Write>(
     alloc: Global,
@@ -134,7 +198,7 @@ fn take_some<W: Write>(
     ensures ran { OnOk result (Ran (line.now ∷ []) live.old live.new (W.contents writer.old.inner) (W.contents writer.new.inner)) }
     ensures err { OnErr result (Broke (line.now ∷ []) live.old (W.contents writer.old.inner) (W.contents writer.new.inner)) }
 {
-    take_line(alloc, live, line, bell, log)?;
+    take_or_end(alloc, live, line, writer, bell, log)?;
     note_done(live, writer)?;
     if live.freed {
         try_all(alloc, live, writer, bell, log)?;
@@ -164,6 +228,24 @@ fn take_counted<W: Write>(
     }
 }
 
+// The line that had begun has ended.
+fn take_begun<W: Write>(
+    alloc: Global,
+    live: &mut Live,
+    begun: &mut Vec<u8>,
+    writer: &mut Counted<W>,
+    bell: &impl Bell,
+    log: &mut impl RunLog,
+) -> Result<(), ListingFault>
+    ensures begun { OnOk result (begun.new.items ≡ []) }
+    ensures ran { OnOk result (Ran (nonempty_line (strip_last byte.carriage_return begun.old.items)) live.old live.new (W.contents writer.old.inner) (W.contents writer.new.inner)) }
+    ensures err { OnErr result (Broke (nonempty_line (strip_last byte.carriage_return begun.old.items)) live.old (W.contents writer.old.inner) (W.contents writer.new.inner)) }
+{
+    take_counted(alloc, live, strip_return(begun), writer, bell, log)?;
+    end_begun(alloc, begun);
+    Ok(())
+}
+
 // The line that had begun ends here: its rest is `front`.
 fn end_line<W: Write>(
     alloc: Global,
@@ -181,10 +263,10 @@ fn end_line<W: Write>(
     if begun.is_empty() {
         return take_counted(alloc, live, strip_return(front), writer, bell, log);
     }
-    extend_line(begun, front)?;
-    take_counted(alloc, live, strip_return(begun), writer, bell, log)?;
-    end_begun(alloc, begun);
-    Ok(())
+    match extend_line(begun, front) {
+        Ok(()) => take_begun(alloc, live, begun, writer, bell, log),
+        Err(AllocError) => Err(write_before_end(live, writer)),
+    }
 }
 
 // The lines that end in the piece come, and the one that has begun is kept.
@@ -209,8 +291,10 @@ fn take_piece<W: Write>(
         end_line(alloc, live, begun, front, writer, bell, log)?;
         at += end + 1;
     }
-    extend_line(begun, &piece[at..])?;
-    Ok(())
+    match extend_line(begun, &piece[at..]) {
+        Ok(()) => Ok(()),
+        Err(AllocError) => Err(write_before_end(live, writer)),
+    }
 }
 
 // The first of these jobs without lines that wait.
@@ -308,7 +392,8 @@ fn go_on<W: Write>(
     }
 }
 
-// All lines have come: jobs without lines that wait are halted while others wait, until no line does.
+// All lines have come: jobs without lines that wait are halted while others wait, until no line does. Then all replies
+// are written.
 fn settle<W: Write>(
     alloc: Global,
     live: &mut Live,
@@ -322,6 +407,7 @@ fn settle<W: Write>(
 {
     'rounds: for _ in 0..u64::MAX {
         if live.desks.are_empty() {
+            writer.write_gathered(&mut live.script.out)?;
             return Ok(());
         }
         go_on(live, writer, bell)?;

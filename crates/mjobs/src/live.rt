@@ -10,8 +10,8 @@ use listing::Counted;
 use live_server::{Live, LiveFault, Lived, Teller, relay_live, status_of};
 use loading::load_with;
 use program_front::{
-    Keeping, ListingFile, MjobsArgs, Piped, Ticker, keeping_of, print_fault, print_load_fault,
-    print_refused,
+    Keeping, ListingFile, MjobsArgs, Piped, Statistics, Ticker, keeping_of, print_fault,
+    print_load_fault, print_refused, print_statistics,
 };
 use refusal::Refusal;
 use script_run::{RunLog, Upkeep};
@@ -88,16 +88,27 @@ fn tell_fault(rt: &impl Eprint, fault: LiveFault, is_closed: bool) {
     }
 }
 
-// Prints why a run ended early, keeps what is to be kept, and answers the exit status.
+// Prints why a run ended early, and what is held if that is asked for, keeps what is to be kept, and answers the exit
+// status.
 fn end_live<P: Files + Eprint + AllocGlobal, W: Write + Drop, F: Write + Drop>(
     rt: &P,
     lived: Lived<Piped<W>>,
+    statistics: bool,
     keeping: Keeping<'_, F>,
 ) -> u8 {
     if let Err(fault) = &lived.outcome {
         tell_fault(rt, *fault, lived.writer.inner().is_closed());
     }
     let core = lived.live.core();
+    if statistics {
+        let held = Statistics::of(
+            &core.content(),
+            core.versions(),
+            core.journal(),
+            core.base().number(),
+        );
+        print_statistics(rt, PROGRAM, &held);
+    }
     match keeping.write(rt, PROGRAM, core.journal(), &core.content()) {
         Ok(drafts) => drafts.end(rt, PROGRAM, status_of(&lived.outcome)),
         Err(status) => status,
@@ -135,7 +146,7 @@ fn run_live_from<
                 &teller,
                 log,
             );
-            end_live(rt, lived, keeping)
+            end_live(rt, lived, args.statistics, keeping)
         }
         Err(AllocError) => print_fault(rt, PROGRAM, LiveFault::Memory.text()),
     }

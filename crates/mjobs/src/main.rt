@@ -6,8 +6,8 @@
 //! so one journal is listed and kept. The exit status is
 //! `job_server::status_of` of the outcome and the text of a fault is `job_server::JobsFault::text`; what its words ask
 //! for is `program_front::mjobs_args_with`. This program only opens files, lets time pass for LOCKs that wait
-//! (`patience.rt`), stops jobs that can't go on (`waiting.rt`), and prints what went wrong. With `--live` (`live.rt`)
-//! lines are done as they come, and what is written is what `live_server::relay_live` promises.
+//! (`patience.rt`), stops jobs that can't go on (`waiting.rt`), and prints what went wrong. With `--live` (`live.rt`),
+//! or where lines are typed, they are done as they come, and what is written is what `live_server::relay_live` promises.
 //!
 //! Exit status: 0, all replies are accepted; 1, a reply is an `error`; 2, a fault, or wrong arguments; standard error
 //! says which.
@@ -19,10 +19,10 @@ use bstr::ByteSlice;
 use job_server::{JobsFault, Served, serve_text, status_of, write_served};
 use listing::{Counted, read_all};
 use program_front::{
-    Keeping, ListingFile, MjobsArgs, Piped, Progress, Ticker, Workers, arguments_of, keeping_of,
-    look_at_input, mjobs_args_with, open_input, path_of, print_bad_name, print_fault,
+    Keeping, ListingFile, MjobsArgs, Piped, Progress, Statistics, Ticker, Workers, arguments_of,
+    keeping_of, look_at_input, mjobs_args_with, open_input, path_of, print_bad_name, print_fault,
     print_help_or_error, print_jobs_greeting, print_load_fault, print_no_transaction,
-    print_refused, read_listing,
+    print_refused, print_statistics, read_listing,
 };
 use script::{Drafts, read_line};
 use std::alloc::AllocError;
@@ -43,9 +43,9 @@ const PROGRAM: &str = "mjobs";
 // What is told on a terminal beside what is asked for.
 #[derive(Clone, Copy, Debug, PartialEq, Eq)]
 struct Terminals {
-    // Standard input and standard error are terminals: lines of standard input are typed.
+    // Standard input is one: its lines are typed.
     typed: bool,
-    // Standard error is one: it is told how far a load and the jobs are.
+    // Standard error is one: it is told how lines are typed, and how far a load and the jobs are.
     told: bool,
 }
 
@@ -146,8 +146,17 @@ fn write_and_tell<P: Files + Print + Eprint + AllocGlobal, F: Write + Drop>(
             Err(fault)
         }
     };
-    let content = served.closed.core.content();
-    match keeping.write(rt, PROGRAM, served.journal(), &content) {
+    let core = &served.closed.core;
+    if args.statistics {
+        let held = Statistics::of(
+            &core.content(),
+            core.versions(),
+            core.journal(),
+            core.base().number(),
+        );
+        print_statistics(rt, PROGRAM, &held);
+    }
+    match keeping.write(rt, PROGRAM, served.journal(), &core.content()) {
         Ok(drafts) => drafts.end(rt, PROGRAM, status_of(&outcome)),
         Err(status) => status,
     }
@@ -180,7 +189,7 @@ fn run_and_tell<
     }
 }
 
-// Runs the script that standard input is.
+// Runs the script that standard input is. Where it is typed, it is told how, and which lines are refused.
 fn run_input<P: Files + Print + Eprint + Input + AllocGlobal + Clock + Threads + Wait + Sync>(
     rt: &P,
     arguments: &[Vec<u8>],
@@ -194,13 +203,15 @@ where
     if let Err(status) = look_at_input(rt, PROGRAM) {
         return status;
     }
-    if args.live {
-        return run_live_on(rt, arguments, args, file, terminals.told, rt.reader());
+    if !args.live {
+        return run_and_tell(rt, arguments, args, file, terminals.told, rt.reader());
     }
-    if terminals.typed {
+    let mut args = args;
+    if terminals.typed && terminals.told {
         print_jobs_greeting(rt, PROGRAM, args.listed);
+        args.errors = true;
     }
-    run_and_tell(rt, arguments, args, file, terminals.told, rt.reader())
+    run_live_on(rt, arguments, args, file, terminals.told, rt.reader())
 }
 
 // Runs the script on the listing.
@@ -237,7 +248,7 @@ where
     P::Reader: Send,
     P::File: Send,
 {
-    let args = match mjobs_args_with(rt, arguments) {
+    let args = match mjobs_args_with(rt, arguments, terminals.typed) {
         Ok(args) => args,
         Err(error) => return print_help_or_error(rt, PROGRAM, error),
     };
@@ -250,7 +261,7 @@ where
 fn main(rt: HostRuntime) -> ExitCode {
     let told = rt.stderr().is_terminal();
     let terminals = Terminals {
-        typed: told && rt.stdin().is_terminal(),
+        typed: rt.stdin().is_terminal(),
         told,
     };
     match arguments_of(&rt) {

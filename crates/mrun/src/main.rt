@@ -33,7 +33,6 @@ use std::rt::{Clock, Files};
 
 mod look;
 mod side_log;
-mod statistics;
 
 // The program's name, before what it prints on standard error.
 const PROGRAM: &str = "mrun";

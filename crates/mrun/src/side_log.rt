@@ -1,9 +1,11 @@
 //! What is told beside a script's output, on standard error.
 use crate::PROGRAM;
 use crate::look::print_look;
-use crate::statistics::{Statistics, print_statistics};
 use job_core::JobCore;
-use program_front::{Drafts, Keeping, MrunArgs, Ticker, print_greeting, print_mark, print_refused};
+use program_front::{
+    Drafts, Keeping, MrunArgs, Statistics, Ticker, print_greeting, print_mark, print_refused,
+    print_statistics,
+};
 use refusal::Refusal;
 use script_run::RunLog;
 use std::io::Write;
@@ -137,7 +139,13 @@ impl<'a, P: Files + Eprint + AllocGlobal + Clock, F: Write + Drop> RunLog for Si
     fn ended(&mut self, core: &JobCore) {
         self.ticker.clear();
         if self.statistics {
-            print_statistics(self.rt, PROGRAM, &Statistics::of(core));
+            let held = Statistics::of(
+                &core.content(),
+                core.versions(),
+                core.journal(),
+                core.base().number(),
+            );
+            print_statistics(self.rt, PROGRAM, &held);
         }
         if let Some(keeping) = self.keeping.take() {
             let written = keeping.write(self.rt, PROGRAM, core.journal(), &core.content());

@@ -5,7 +5,7 @@ use crate::in_use::{file_conflict, name_conflict};
 use crate::words::{
     DROPPED, FileNames, NamePlace, VERSION, checkpoint_word, collect_word, errors_word, file_of,
     file_place, file_word, journal_of, journal_word, load_of, load_word, no_listing_word, save_of,
-    save_word, texts_of,
+    save_word, stats_word, texts_of,
 };
 use clap::builder::ValueParser;
 use clap::error::ErrorKind;
@@ -62,21 +62,22 @@ mrun --help names them:
   1 TCOMMIT
   2 $GET(^Stock(\"apples\"))
 
-All input is read first. A job's lines are done in order by one worker,
-different jobs at the same time. A transaction that has a conflict is done again
-by itself, with the same constants, so a script that sends its commands again
-is for mrun. A LOCK waits until it has its names, with `:5` for some 5 seconds
-at most.
+Without --live all input is read first. A job's lines are done in order by one
+worker, different jobs at the same time. A transaction that has a conflict is
+done again by itself, with the same constants, so a script that sends its
+commands again is for mrun. A LOCK waits until it has its names, with `:5` for
+some 5 seconds at most.
 
 Replies are printed by job, in order of the jobs' first lines, then `--` and the
 listing of the database. Where jobs use the same nodes, replies and listing
 depend on which job was first.
 
-With --live a line is done as it comes, by one worker, and its reply is printed
-at once: programs can talk through one run. A LOCK then waits with its job until
-it has its names, its time is over or the input has ended, while other jobs go
-on. A TCOMMIT that has a conflict is answered `restart`, as in mrun.
---collect-every and --checkpoint-every are for --live, and as in mrun.
+With --live, or where lines are typed, a line is done as it comes, by one
+worker, and its reply is printed at once: programs can talk through one run. A
+LOCK then waits with its job until it has its names or its time is over, while
+other jobs go on. A TCOMMIT that has a conflict is answered `restart n`, as in
+mrun, and its lines have to be sent again. --collect-every and
+--checkpoint-every are for such runs, and as in mrun.
 
 At the top of the repository, or of the package, four jobs share a queue:
 
@@ -88,7 +89,8 @@ To keep a database from run to run:
 
 --load starts from a listing instead of an empty database: lines
 ^Stock(\"apples\")=3, as they are printed or as GT.M and YottaDB write them in
-ZWR form. They are read before the first job; if one can't be read, nothing runs.
+ZWR form. They are read before the first job; if one can't be read, nothing
+runs.
 --save puts the listing in a file, --journal what was done, in its order: after
 mjobs --journal done.txt today.txt, mrun done.txt leaves the same listing.
 Each is written to a new file in the same folder, named as it is with .new-1
@@ -97,7 +99,8 @@ status 2, what the file held stays. Where the file is the script or what is
 printed to, by whatever name, nothing runs; nor where both are one file, or the
 journal is the listing that is loaded.
 --errors prints of each line that can't be read its number, the column of its
-fault, the refusal and what was expected there, on standard error.
+fault, the refusal and what was expected there, on standard error; live of each
+refused line. --stats prints there at the end what is held, as in mrun.
 
 Exit status: 0, all replies are accepted; 1, a reply is an `error`; 2, input
 can't be read, output, the listing or the journal can't be written, memory ran
@@ -124,6 +127,8 @@ pub struct MjobsArgs {
     pub workers: Workers,
     /// Whether lines are done as they come.
     pub live: bool,
+    /// Whether what the engine holds at the end is told on standard error.
+    pub statistics: bool,
     /// After how many printed lines the collector passes over the database, again and again, where lines are done as
     /// they come; 0 for never.
     pub collect_every: u64,
@@ -156,7 +161,9 @@ fn command<'a>(alloc: Global) -> Result<Command<'a>, Error> {
     let live = Arg::new(alloc, "live")
         .long("live")
         .action(ArgAction::SetTrue)
-        .help("Do lines as they come, with one worker, and print{n}each reply at once");
+        .help(
+            "Do lines as they come, with one worker, and print{n}each reply at once; so it is where lines are typed",
+        );
     let command = Command::new(alloc, "mjobs")
         .version(VERSION)
         .about(
@@ -171,6 +178,7 @@ fn command<'a>(alloc: Global) -> Result<Command<'a>, Error> {
         .arg(errors_word(alloc, ERRORS))?
         .arg(workers)?
         .arg(live)?
+        .arg(stats_word(alloc))?
         .arg(collect_word(alloc))?
         .arg(checkpoint_word(alloc))?;
     Ok(command)
@@ -222,20 +230,21 @@ fn conflict_in(arguments: &[Vec<u8>], args: MjobsArgs) -> Option<&'static str> {
     name_conflict(arguments, args.names())
 }
 
-/// What the arguments of `mjobs` ask for; the first is the program's name. An error's text is for the user: help and
-/// the version too.
-pub fn mjobs_args_of(alloc: Global, arguments: &[Vec<u8>]) -> Result<MjobsArgs, Error> {
+// What the arguments ask for. Lines that are typed are done as they come.
+fn args_for(alloc: Global, arguments: &[Vec<u8>], typed: bool) -> Result<MjobsArgs, Error> {
     let texts = texts_of(alloc, arguments)?;
     let matches = command(alloc)?.try_get_matches_from(&texts)?;
+    let file = file_of(&matches, &texts);
     let args = MjobsArgs {
-        file: file_of(&matches, &texts),
+        file,
         load: load_of(&matches, &texts),
         save: save_of(&matches, &texts),
         journal: journal_of(&matches, &texts),
         listed: !matches.get_flag("no-listing"),
         errors: matches.get_flag("errors"),
         workers: workers_of(alloc, &matches)?,
-        live: matches.get_flag("live"),
+        live: matches.get_flag("live") || (typed && file.is_none()),
+        statistics: matches.get_flag("stats"),
         collect_every: matches.get_one("collect-every").unwrap_or(0),
         checkpoint_every: matches.get_one("checkpoint-every").unwrap_or(0),
     };
@@ -245,13 +254,21 @@ pub fn mjobs_args_of(alloc: Global, arguments: &[Vec<u8>]) -> Result<MjobsArgs, 
     }
 }
 
-/// What the arguments of `mjobs` ask for, as `mjobs_args_of` answers, or an error where the journal or the listing would
-/// take the place of a file that is read under another name, or as standard input, or is printed to.
+/// What the arguments of `mjobs` ask for; the first is the program's name. An error's text is for the user: help and
+/// the version too.
+pub fn mjobs_args_of(alloc: Global, arguments: &[Vec<u8>]) -> Result<MjobsArgs, Error> {
+    args_for(alloc, arguments, false)
+}
+
+/// What the arguments of `mjobs` ask for, as `mjobs_args_of` answers, but live where standard input is typed and no file
+/// is named; or an error where the journal or the listing would take the place of a file that is read under another
+/// name, or as standard input, or is printed to.
 pub fn mjobs_args_with(
     rt: &(impl Files + AllocGlobal),
     arguments: &[Vec<u8>],
+    typed: bool,
 ) -> Result<MjobsArgs, Error> {
-    let args = mjobs_args_of(rt.alloc(), arguments)?;
+    let args = args_for(rt.alloc(), arguments, typed)?;
     match file_conflict(rt, arguments, args.names()) {
         Some(why) => Err(error_of(rt.alloc(), ErrorKind::ArgumentConflict, why)?),
         None => Ok(args),

@@ -14,7 +14,7 @@
 //! when it is closed.
 //!
 //! Read `run_words.rt`, `jobs_words.rt`, `words.rt`, `in_use.rt`, then `piped.rt`, `progress.rt`, `ticker.rt`,
-//! `printing.rt`, `hints.rt`, `input_file.rt`, `listing_file.rt`, `kept_file.rt`.
+//! `printing.rt`, `hints.rt`, `statistics.rt`, `input_file.rt`, `listing_file.rt`, `kept_file.rt`.
 #![tactic(auto)]
 
 pub use input_file::{look_at_input, open_input};
@@ -29,6 +29,7 @@ pub use printing::{
 };
 pub use progress::Progress;
 pub use run_words::{MrunArgs, mrun_args_of, mrun_args_with};
+pub use statistics::{Statistics, print_statistics};
 pub use ticker::Ticker;
 pub use words::{FileNames, NamePlace};
 
@@ -42,5 +43,6 @@ mod piped;
 mod printing;
 mod progress;
 mod run_words;
+mod statistics;
 mod ticker;
 mod words;

@@ -128,9 +128,13 @@ pub fn print_greeting(rt: &impl Eprint, program: &str, listed: bool) {
 
 /// Prints how the lines of jobs are typed, on standard error, and whether the listing is printed at their end.
 pub fn print_jobs_greeting(rt: &impl Eprint, program: &str, listed: bool) {
-    let listing = if listed { " and the listing" } else { "" };
+    let listing = if listed {
+        " and brings the listing"
+    } else {
+        ""
+    };
     let _ = eprintln!(rt;
-        "{program}: type lines such as 1 SET ^A(1)=5 and 2 $GET(^A(1)); Ctrl-D ends the input: then the jobs run, and their replies{listing} come"
+        "{program}: type lines such as 1 SET ^A(1)=5 and 2 $GET(^A(1)); a LOCK waits for its names, Ctrl-D ends the input{listing}"
     );
 }
 
@@ -252,11 +256,9 @@ pub fn print_bad_name(rt: &impl Eprint, program: &str) -> u8
 // What is told in place of a tip where the other program has a word.
 fn other_tip(program: &str, first: &str) -> Option<&'static str> {
     match program {
-        "mjobs"
-            if first.contains("'--stats")
-                || first.contains("'--collect-every")
-                || first.contains("'--checkpoint-every") => { Some("  tip: mrun has it") }
-        "mrun" if first.contains("'--workers") => Some("  tip: mjobs has it"),
+        "mrun" if first.contains("'--workers") || first.contains("'--live") => {
+            Some("  tip: mjobs has it")
+        }
         _ => None,
     }
 }

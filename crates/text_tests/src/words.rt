@@ -332,6 +332,7 @@ const PLAIN_JOBS: MjobsArgs = MjobsArgs {
     errors: false,
     workers: Workers::Number(2),
     live: false,
+    statistics: false,
     collect_every: 0,
     checkpoint_every: 0,
 };
@@ -431,7 +432,13 @@ const LISTINGS_OF_JOBS: [JobsRow; 3] = [
         &[b"--journal=a.txt", b"--load", b"a.txt"],
         Err(ErrorKind::ArgumentConflict),
     ),
-    (&[b"--stats"], Err(ErrorKind::UnknownArgument)),
+    (
+        &[b"--stats"],
+        Ok(MjobsArgs {
+            statistics: true,
+            ..PLAIN_JOBS
+        }),
+    ),
 ];
 
 #[test]

@@ -69,7 +69,7 @@ hand_out() {
         case "$job" in
             1) echo "$reply" >&5 ;;
             2) echo "$reply" >&6 ;;
-            *) echo "$job" ;;
+            *) echo "$job${reply:+ $reply}" ;;
         esac
     done
 }

@@ -1,4 +1,3 @@
-use Rattle.std.proofs.Common.{refl}
 use Rattle.live_server.proofs.live.must_wait.Goals as goal
 
 pub returns-then-is_blocked-clause-waits : goal.returns-then-is_blocked-clause-waits

@@ -1,4 +1,3 @@
-use Rattle.std.proofs.Common.{refl}
 use Rattle.live_server.proofs.live.still_waits.Goals as goal
 
 pub returns-then-is_due : goal.returns-then-is_due

@@ -1,15 +1,13 @@
-use Rattle.std.proofs.Common.{refl, ℕ, List, [], ◌∷◌}
+use Rattle.std.proofs.Common.{refl}
 use Rattle.listing.specs.laws.Bytes.{on_err}
-use Rattle.live_server.proofs.Steps.{Ran-pushed, Broke-before}
-use Rattle.live_server.specs.Runs.{Broke}
-use Rattle.std.specs.Prelude.{Option}
+use Rattle.live_server.proofs.Steps.{Ran-pushed, Lacked-before}
 use Rattle.live_server.proofs.live.take_asked.Goals as goal
 
 pub returns-then-has_lines-clause-ran : goal.returns-then-has_lines-clause-ran
 returns-then-has_lines-clause-ran g c = λ text. Ran-pushed _ _ _ _ text c.in_ok-push.ensures.pushed c.requires.asked.owner refl refl refl refl
 
 pub returns-in_err-push-clause-err : goal.returns-in_err-push-clause-err
-returns-in_err-push-clause-err g c = let h : (text : Option (List ℕ)) → Broke (c.args.line.now ∷ []) c.args.live.now text text = λ text. Broke-before _ _ text in on_err _ _ h
+returns-in_err-push-clause-err g c = on_err _ _ (Lacked-before _ _ _ refl)
 
 pub take_data-requires-clause-idle : goal.take_data-requires-clause-idle
 take_data-requires-clause-idle g c = c.has_lines.ensures.none c.if-has_lines.false

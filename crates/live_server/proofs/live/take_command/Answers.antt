@@ -1,4 +1,4 @@
-use Rattle.std.proofs.Common.{subst, sym, ℕ}
+use Rattle.std.proofs.Common.{subst}
 use Rattle.std.specs.Prelude.{Ok}
 use Rattle.command.specs.declared.request.Command.{Command}
 use Rattle.script.specs.Line.{IsReading}

@@ -1,8 +1,6 @@
-use Rattle.std.proofs.Common.{refl, sym, ◌∙◌, ℕ, List, [], ◌∷◌}
+use Rattle.std.proofs.Common.{refl, sym, ◌∙◌}
 use Rattle.listing.specs.laws.Bytes.{on_err}
-use Rattle.live_server.proofs.Steps.{Ran-pushed, Broke-before}
-use Rattle.live_server.specs.Runs.{Broke}
-use Rattle.std.specs.Prelude.{Option}
+use Rattle.live_server.proofs.Steps.{Ran-pushed, Lacked-before}
 use Rattle.live_server.proofs.live.take_unread.Goals as goal
 
 pub push-requires : goal.push-requires
@@ -12,4 +10,4 @@ pub returns-in_ok-push-in-Some-clause-ran : goal.returns-in_ok-push-in-Some-clau
 returns-in_ok-push-in-Some-clause-ran g c = λ text. Ran-pushed _ _ _ _ text c.in_ok-push-in-Some.ensures.pushed (sym c.requires.1 ∙ c.in-Some.ensures) refl refl refl refl
 
 pub returns-in_err-push-in-Some-clause-err : goal.returns-in_err-push-in-Some-clause-err
-returns-in_err-push-in-Some-clause-err g c = let h : (text : Option (List ℕ)) → Broke (c.args.line.now ∷ []) c.args.live.now text text = λ text. Broke-before _ _ text in on_err _ _ h
+returns-in_err-push-in-Some-clause-err g c = on_err _ _ (Lacked-before _ _ _ refl)

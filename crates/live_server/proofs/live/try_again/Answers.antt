@@ -1,9 +1,8 @@
-use Rattle.std.proofs.Common.{◌≡◌, ℕ, List, refl, sym, ap, subst, ◌∙◌, []}
-use Rattle.std.specs.Prelude.{Some, Option}
+use Rattle.std.proofs.Common.{◌≡◌, ℕ, List, refl, sym, ap, subst, ◌∙◌}
+use Rattle.std.specs.Prelude.{Some}
 use Rattle.listing.specs.laws.Bytes.{on_err}
 use Rattle.script.specs.Line.{job_of_line}
-use Rattle.live_server.proofs.Steps.{tried_done, tried_kept, Ran-none, Ran-first, Broke-first}
-use Rattle.live_server.specs.Runs.{Broke}
+use Rattle.live_server.proofs.Steps.{tried_done, tried_kept, Ran-none, Ran-first, Lacked-first}
 use Rattle.live_server.proofs.live.try_again.Goals as goal
 
 pub returns-in_default-clause-ran : goal.returns-in_default-clause-ran
@@ -13,7 +12,7 @@ pub returns-then-is_done-clause-ran : goal.returns-then-is_done-clause-ran
 returns-then-is_done-clause-ran g c = let owner = subst (λ (l : List ℕ). job_of_line l ≡ Some c.args.waiting.now.job) (sym c.text-text.ensures) c.in-Some.ensures.1 in let first = c.in-Some.ensures.0 ∙ ap (λ (l : List ℕ). Some l) (sym c.text-text.ensures) in λ text. Ran-first _ _ _ _ text (tried_done _ _ _ _ _ _ _ c.if-is_done.true c.in_ok-is_done.ensures.done) c.pass.ensures owner first
 
 pub returns-in_err-is_done-clause-err : goal.returns-in_err-is_done-clause-err
-returns-in_err-is_done-clause-err g c = let owner = subst (λ (l : List ℕ). job_of_line l ≡ Some c.args.waiting.now.job) (sym c.text-text.ensures) c.in-Some.ensures.1 in let first = c.in-Some.ensures.0 ∙ ap (λ (l : List ℕ). Some l) (sym c.text-text.ensures) in let h : (text : Option (List ℕ)) → Broke [] c.args.live.now text text = λ text. Broke-first _ _ _ text c.in_err-is_done.ensures.err owner first in on_err _ _ h
+returns-in_err-is_done-clause-err g c = let owner = subst (λ (l : List ℕ). job_of_line l ≡ Some c.args.waiting.now.job) (sym c.text-text.ensures) c.in-Some.ensures.1 in let first = c.in-Some.ensures.0 ∙ ap (λ (l : List ℕ). Some l) (sym c.text-text.ensures) in on_err _ _ (Lacked-first _ _ _ _ c.in_err-is_done.ensures.err owner first)
 
 pub returns-clause-ran : goal.returns-clause-ran
 returns-clause-ran g c = let k = tried_kept _ _ _ _ _ _ _ c.if-is_done.false c.in_ok-is_done.ensures.done in λ text. Ran-none _ _ text k.machine k.text k.jobs k.outcome refl

@@ -1,6 +1,5 @@
-use Rattle.listing.specs.laws.Bytes.{on_err}
-use Rattle.live_server.proofs.Steps.{Broke-before}
+use Rattle.live_server.proofs.Steps.{Broke-at}
 use Rattle.live_server.proofs.run.end_line.Goals as goal
 
-pub returns-in_err-extend_line-clause-err : goal.returns-in_err-extend_line-clause-err
-returns-in_err-extend_line-clause-err g c = on_err _ _ (Broke-before _ _ _)
+pub returns-in-Err-clause-err : goal.returns-in-Err-clause-err
+returns-in-Err-clause-err g c = Broke-at _ _ _ _ c.write_before_end.ensures

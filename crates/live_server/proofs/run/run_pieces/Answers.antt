@@ -1,6 +1,6 @@
 use Rattle.std.proofs.Common.{refl, ◌∙◌}
 use Rattle.listing.specs.laws.Bytes.{on_err}
-use Rattle.live_server.proofs.Ends.{RanFront-none, first_front, next_front, next_broken, begun_front, begun_end, BrokeFront-after, wrote}
+use Rattle.live_server.proofs.Ends.{first_front, next_front, next_broken, begun_front, begun_end, BrokeFront-after, wrote}
 use Rattle.script_run.specs.Lines.{has_no_end}
 use Rattle.std.proofs.Common.{ap}
 use Rattle.live_server.proofs.run.run_pieces.Goals as goal

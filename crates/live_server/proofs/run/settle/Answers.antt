@@ -1,6 +1,7 @@
 use Rattle.std.proofs.Common.{refl}
 use Rattle.listing.specs.laws.Bytes.{on_err}
 use Rattle.live_server.proofs.Steps.{nothing_begun, Ran-none, Ran-and-none, Broke-and-none, Broke-after}
+use Rattle.live_server.proofs.Ends.{Broke-writing, Ran-written}
 use Rattle.live_server.proofs.run.settle.Goals as goal
 
 pub rounds-init : goal.rounds-init
@@ -11,6 +12,12 @@ rounds-preserved g c = Ran-and-none _ _ _ _ _ _ _ (Ran-and-none _ _ _ _ _ _ _ c.
 
 pub returns-then-are_empty-clause-empty : goal.returns-then-are_empty-clause-empty
 returns-then-are_empty-clause-empty g c = c.are_empty.ensures c.if-are_empty.true
+
+pub returns-then-are_empty-clause-ran : goal.returns-then-are_empty-clause-ran
+returns-then-are_empty-clause-ran g c = Ran-and-none _ _ _ _ _ _ _ c.rounds.invariant (Ran-written _ _ _ _ c.in_ok-write_gathered.ensures.ok c.in_ok-write_gathered.ensures.empty refl refl refl refl)
+
+pub returns-in_err-write_gathered-clause-err : goal.returns-in_err-write_gathered-clause-err
+returns-in_err-write_gathered-clause-err g c = on_err _ _ (Broke-and-none _ _ _ _ _ _ c.rounds.invariant (Broke-writing _ _ _ c.in_err-write_gathered.ensures.err))
 
 pub returns-in_err-go_on-clause-err : goal.returns-in_err-go_on-clause-err
 returns-in_err-go_on-clause-err g c = on_err _ _ (Broke-and-none _ _ _ _ _ _ c.rounds.invariant c.in_err-go_on.ensures.err)

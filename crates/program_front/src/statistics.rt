@@ -1,8 +1,8 @@
-//! What the engine holds, in numbers.
+//! What is held at the end, in numbers.
 use globals::{Cut, OrderedView, walk_from};
-use job_core::JobCore;
+use journal::Journal;
 
-/// What a core holds.
+/// What an engine holds.
 #[derive(Clone, Copy, Debug, PartialEq, Eq)]
 pub struct Statistics {
     /// How many units the journal has had.
@@ -32,16 +32,22 @@ fn count_nodes<V: OrderedView>(view: &V) -> (u64, u64) {
 }
 
 impl Statistics {
-    /// Counts what the core holds. Walks over all nodes and versions; takes no memory.
-    pub fn of(core: &JobCore) -> Statistics {
-        let (nodes, node_bytes) = count_nodes(&core.content());
+    /// Counts the nodes of the content, beside so many versions and this journal, which has dropped so many units. Walks
+    /// over all nodes; takes no memory.
+    pub fn of<V: OrderedView>(
+        content: &V,
+        versions: u64,
+        journal: &Journal,
+        dropped: u64,
+    ) -> Statistics {
+        let (nodes, node_bytes) = count_nodes(content);
         Statistics {
-            units: core.journal().len(),
-            dropped: core.base().number(),
-            journal_bytes: core.journal().size(),
+            units: journal.len(),
+            dropped,
+            journal_bytes: journal.size(),
             nodes,
             node_bytes,
-            versions: core.versions(),
+            versions,
         }
     }
 }
