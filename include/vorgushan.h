@@ -13,7 +13,8 @@
  *     vg_key_end(&key);
  *     vg_end(&engine);
  *
- * In order: outcomes, engines, lines, the listing, upkeep, keys, data, walks, views, looks, locks, transactions.
+ * In order: outcomes, engines, lines, the listing, the journal, upkeep, keys, data, walks, views, looks, locks,
+ * transactions.
  *
  * An engine does the commands of up to 4,096 jobs, one call at a time. Callers on several threads hold a mutex of
  * their own round each call, also of one that only looks: each call takes the engine out and puts it back. Two engines
@@ -23,9 +24,9 @@
  * vg_look, its like and vg_walk where that isn't wanted, and a view (vg_view_begin)
  * to see one moment in many calls.
  *
- * Every call returns an outcome: VG_DONE, a refusal (1 to 15; 16 to 18 come from no call here), or one of the library's
- * own (from 32). After a refusal the database is as it was. A call of a job, whose number is 1 to 4,096, may return
- * VG_BAD_JOB, VG_OUT_OF_MEMORY and any refusal of its command, also where none is named below.
+ * Every call returns an outcome: VG_DONE, a refusal (1 to 16; 17 and 18 come from no call here), or one of the
+ * library's own (from 32). After a refusal the database is as it was. A call of a job, whose number is 1 to 4,096, may
+ * return VG_BAD_JOB, VG_OUT_OF_MEMORY and any refusal of its command, also where none is named below.
  *
  * Texts go by pointer and length, and may hold bytes 0; a text that is put into a buffer has no byte 0 at its end.
  * NULL may be given for an engine (VG_NO_ENGINE is returned), for a key (VG_NO_KEY), for a text or buffer of length 0,
@@ -79,7 +80,7 @@ enum {
     VG_BUFFER_TOO_SHORT = 34, /* the length that is needed is given, nothing is copied; a reply is kept for vg_reply */
     VG_REPLY_KEPT = 35,       /* the line or step was run; no memory for its reply's text or key: vg_reply copies it */
     VG_NO_REPLY = 36,         /* no line or step was run yet */
-    VG_AT_END = 37,           /* no node or name is left: to list, for vg_query, vg_walk, .. */
+    VG_AT_END = 37,           /* no node, name or line is left: to list, for vg_query, vg_journal_next, .. */
     VG_UNKNOWN_NUMBER = 38,   /* no outcome has that number */
     VG_NO_KEY = 39,           /* none was made, or it was ended */
     VG_RESTARTED = 40,        /* the transaction restarts: what it did is dropped */
@@ -95,6 +96,9 @@ enum { VG_AT_KEY = 0, VG_BELOW_KEY = 1 };
 
 /* The moment of vg_view_look and its like that is no view: the database as it is now. */
 enum { VG_NOW = 0 };
+
+/* The forms of vg_lock_all: as vg_lock, vg_lock_more and vg_lock_fewer. Any other number is as VG_LOCK_FEWER. */
+enum { VG_LOCK_ONLY = 0, VG_LOCK_MORE = 1, VG_LOCK_FEWER = 2 };
 
 /* ---- What the caller keeps ---- */
 
@@ -149,6 +153,14 @@ typedef struct vg_statistics {
     uint64_t nodes;         /* nodes with a value */
 } vg_statistics;
 
+/* Where a listing is at fault. */
+typedef struct vg_fault {
+    uint64_t line;          /* the line's number, counted from 1; 0 where none is at fault */
+    size_t column;          /* a byte of the line, counted from 1, or one more than it has */
+    size_t expected_length; /* the length of what is expected there */
+    char expected[128];     /* and its text, as "a number, \"text\" with both quotes ..", without a byte 0 at its end */
+} vg_fault;
+
 /* ---- The library's own symbols ---- */
 
 /* The version of the library, as VG_VERSION is written. */
@@ -156,12 +168,16 @@ uint32_t vorgushan_version(void);
 
 /* For these no pointer may be NULL, and no two may name the same memory: use the calls below. */
 vg_outcome vorgushan_new(vg_engine *engine);
+vg_outcome vorgushan_load(vg_engine *engine, const char *text, size_t text_length, uint64_t *line, size_t *column,
+                          char *expected, size_t expected_size, size_t *expected_length);
 vg_outcome vorgushan_end(vg_engine *engine);
 vg_outcome vorgushan_line(vg_engine *engine, const char *line, size_t line_length, char *reply, size_t reply_size,
                           size_t *reply_length);
 vg_outcome vorgushan_reply(vg_engine *engine, char *reply, size_t reply_size, size_t *reply_length);
 vg_outcome vorgushan_list_from_start(vg_engine *engine);
 vg_outcome vorgushan_list_next(vg_engine *engine, uint64_t moment, char *node, size_t node_size, size_t *node_length);
+vg_outcome vorgushan_journal_from(vg_engine *engine, uint64_t units);
+vg_outcome vorgushan_journal_next(vg_engine *engine, char *lines, size_t lines_size, size_t *lines_length);
 vg_outcome vorgushan_collect(vg_engine *engine, size_t nodes);
 vg_outcome vorgushan_checkpoint(vg_engine *engine);
 vg_outcome vorgushan_statistics(vg_engine *engine, vg_statistics *statistics);
@@ -200,6 +216,8 @@ vg_outcome vorgushan_walk(vg_engine *engine, uint64_t moment, vg_key *root, vg_k
 vg_outcome vorgushan_lock(vg_engine *engine, uint64_t job, vg_key *key, uint64_t *had);
 vg_outcome vorgushan_lock_more(vg_engine *engine, uint64_t job, vg_key *key, uint64_t *had);
 vg_outcome vorgushan_lock_fewer(vg_engine *engine, uint64_t job, vg_key *key, uint64_t *had);
+vg_outcome vorgushan_lock_all(vg_engine *engine, uint64_t job, uint32_t form, vg_key *keys, size_t count,
+                              uint64_t *had);
 vg_outcome vorgushan_unlock(vg_engine *engine, uint64_t job, uint64_t *number);
 vg_outcome vorgushan_tstart(vg_engine *engine, uint64_t job, uint64_t *level);
 vg_outcome vorgushan_tcommit(vg_engine *engine, uint64_t job, uint64_t *number);
@@ -215,6 +233,24 @@ vg_outcome vorgushan_outcome_name(uint32_t outcome, char *name, size_t name_size
 /* Makes an engine with an empty database where none is. VG_ENGINE_THERE, VG_OUT_OF_MEMORY. */
 static inline vg_outcome vg_new(vg_engine *engine) {
     return engine ? vorgushan_new(engine) : (vg_outcome)VG_NO_ENGINE;
+}
+
+/* Makes an engine of a listing where none is. Each line is a reference, = and a value, as ^A(1)=5, and comes to be a
+ * command: SET of job 1. What vg_list_next copies is one, line after line. Empty lines are skipped, and so is a header
+ * of two lines, as other systems write it.
+ *
+ * The refusal of the first line that sets nothing: `fault` tells where that is and what is expected there; no engine is
+ * there, and nothing of the listing is kept. VG_OUT_OF_MEMORY, VG_ENGINE_THERE: then its line is 0. */
+static inline vg_outcome vg_load(vg_engine *engine, const char *text, size_t text_length, vg_fault *fault) {
+    char nothing = 0;
+    vg_fault told = {0, 0, 0, {0}};
+    vg_outcome outcome = VG_NO_ENGINE;
+    if (engine)
+        outcome = vorgushan_load(engine, text ? text : &nothing, text ? text_length : 0, &told.line, &told.column,
+                                 told.expected, sizeof told.expected, &told.expected_length);
+    if (fault)
+        *fault = told;
+    return outcome;
 }
 
 /* Ends an engine and gives its memory back; from then on calls on it return VG_NO_ENGINE. */
@@ -284,6 +320,32 @@ static inline vg_outcome vg_view_list_next(vg_engine *engine, uint64_t view, cha
  * still the next. */
 static inline vg_outcome vg_list_next(vg_engine *engine, char *node, size_t node_size, size_t *node_length) {
     return vg_view_list_next(engine, VG_NOW, node, node_size, node_length);
+}
+
+/* ---- The journal ---- */
+
+/* The next lines of vg_journal_next are those of the units after so many: 0 for all, as in a new engine, or what
+ * vg_units tells for those that are still to come. */
+static inline vg_outcome vg_journal_from(vg_engine *engine, uint64_t units) {
+    return engine ? vorgushan_journal_from(engine, units) : (vg_outcome)VG_NO_ENGINE;
+}
+
+/* Copies the lines of the journal's next unit, each with a byte 10 at its end, and of as many more units as the buffer
+ * has room for. Run in order they do again what was done: a transaction is written where it was committed. It is no
+ * command. Each call passes over all units since the last vg_checkpoint, so a long buffer makes for few of them.
+ *
+ * VG_AT_END where no unit is left. VG_GONE where vg_checkpoint has dropped the next one. VG_BUFFER_TOO_SHORT where its
+ * lines are longer than the buffer: lines_length is the length that is needed. VG_OUT_OF_MEMORY. Then nothing is
+ * copied, and that unit is still the next. */
+static inline vg_outcome vg_journal_next(vg_engine *engine, char *lines, size_t lines_size, size_t *lines_length) {
+    char nothing = 0;
+    size_t length = 0;
+    vg_outcome outcome = VG_NO_ENGINE;
+    if (engine)
+        outcome = vorgushan_journal_next(engine, lines ? lines : &nothing, lines ? lines_size : 0, &length);
+    if (lines_length)
+        *lines_length = length;
+    return outcome;
 }
 
 /* ---- Upkeep ---- */
@@ -794,6 +856,20 @@ static inline vg_outcome vg_lock_fewer(vg_engine *engine, uint64_t job, vg_key *
     if (!engine)
         return VG_NO_ENGINE;
     return key ? vorgushan_lock_fewer(engine, job, key, &told) : (vg_outcome)VG_NO_KEY;
+}
+
+/* LOCK of the names of several keys at once, in a form: had is 1 where all of them were granted, and 0, with VG_DONE
+ * too, where another job is in the way of one, and then none was. VG_LOCK_COUNT_FULL. VG_NO_KEY where no key is given,
+ * or one isn't there: then the job's names are as they were. */
+static inline vg_outcome vg_lock_all(vg_engine *engine, uint64_t job, uint32_t form, vg_key keys[], size_t count,
+                                     uint64_t *had) {
+    uint64_t told = 0;
+    vg_outcome outcome = VG_NO_ENGINE;
+    if (engine)
+        outcome = keys ? vorgushan_lock_all(engine, job, form, keys, count, &told) : (vg_outcome)VG_NO_KEY;
+    if (had)
+        *had = told;
+    return outcome;
 }
 
 /* LOCK without names: all names of the job are released. */

@@ -76,6 +76,13 @@ static void use_nothing(void) {
     vg_key key = VG_KEY_NONE;
     uint64_t number = 7;
     CHECK(vg_new(NULL) == VG_NO_ENGINE);
+    CHECK(vg_load(NULL, VG_TEXT("^A=1"), NULL) == VG_NO_ENGINE);
+    CHECK(vg_journal_from(NULL, 0) == VG_NO_ENGINE && vg_journal_from(&none, 0) == VG_NO_ENGINE);
+    CHECK(vg_journal_next(NULL, reply, sizeof reply, &length) == VG_NO_ENGINE && !length);
+    CHECK(vg_journal_next(&none, reply, sizeof reply, NULL) == VG_NO_ENGINE);
+    CHECK(vg_lock_all(NULL, 1, VG_LOCK_ONLY, &key, 1, &number) == VG_NO_ENGINE && !number);
+    CHECK(vg_lock_all(&none, 1, VG_LOCK_ONLY, &key, 1, NULL) == VG_NO_ENGINE);
+    number = 7;
     CHECK(vg_end(NULL) == VG_NO_ENGINE);
     CHECK(vg_end(&none) == VG_NO_ENGINE);
     CHECK(vg_line(NULL, VG_TEXT("1 SET ^A=1"), reply, sizeof reply, &length) == VG_NO_ENGINE && !length);
@@ -131,6 +138,10 @@ static void use_no_key(vg_engine *engine) {
     CHECK(vg_lock(NULL, 1, &key, &number) == VG_NO_ENGINE && vg_lock(engine, 1, NULL, NULL) == VG_NO_KEY);
     CHECK(vg_lock_more(NULL, 1, &key, NULL) == VG_NO_ENGINE && vg_lock_more(engine, 1, NULL, NULL) == VG_NO_KEY);
     CHECK(vg_lock_fewer(NULL, 1, &key) == VG_NO_ENGINE && vg_lock_fewer(engine, 1, NULL) == VG_NO_KEY);
+    number = 7;
+    CHECK(vg_lock_all(engine, 1, VG_LOCK_ONLY, NULL, 1, &number) == VG_NO_KEY && !number);
+    CHECK(vg_lock_all(engine, 1, VG_LOCK_ONLY, &key, 0, NULL) == VG_NO_KEY);
+    CHECK(vg_lock_all(engine, 1, VG_LOCK_ONLY, &key, 1, NULL) == VG_NO_KEY);
 }
 
 /* Lines and their replies, also one that doesn't fit, and the listing. */
@@ -161,6 +172,65 @@ static void use_lines(vg_engine *engine) {
     CHECK(vg_collect(engine, 100) == VG_DONE);
     CHECK(vg_checkpoint(engine) == VG_DONE);
     CHECK(vg_count(engine, &told) == VG_DONE && told.units == 5 && told.journal_bytes == 0);
+}
+
+/* Whether a fault is at this place, and this is expected there. */
+static int is_fault(const vg_fault *fault, uint64_t line, size_t column, const char *expected) {
+    return fault->line == line && fault->column == column && fault->expected_length == strlen(expected) &&
+           !memcmp(fault->expected, expected, strlen(expected));
+}
+
+/* Listings: loaded whole, or not at all, with the line at fault. */
+static void use_listings(void) {
+    const char *literal = "a number, \"text\" with both quotes or $C(0 to 255), without a blank";
+    vg_engine own = VG_ENGINE_NONE;
+    uint64_t units = 7;
+    vg_fault fault;
+    memset(&fault, 1, sizeof fault);
+    CHECK(vg_load(&own, VG_TEXT("^A=1\n\n^B=x\n^C"), &fault) == VG_BAD_LINE && is_fault(&fault, 3, 4, literal));
+    CHECK(vg_units(&own, &units) == VG_NO_ENGINE);
+    CHECK(vg_load(&own, VG_TEXT("^A(\"\")=1"), &fault) == VG_EMPTY_SUBSCRIPT && fault.line == 1);
+    CHECK(vg_load(&own, VG_TEXT("^A=1\n^B(1=2"), NULL) == VG_BAD_LINE);
+    CHECK(vg_load(&own, VG_TEXT("^B=\"x\"\n\n^A(1)=5\n"), &fault) == VG_DONE && is_fault(&fault, 0, 0, ""));
+    CHECK(vg_load(&own, VG_TEXT("^A=1\n^B=x"), &fault) == VG_ENGINE_THERE && is_fault(&fault, 0, 0, ""));
+    CHECK(vg_reply(&own, reply, sizeof reply, NULL) == VG_NO_REPLY);
+    CHECK(vg_units(&own, &units) == VG_DONE && units == 2);
+    CHECK(vg_list_next(&own, reply, sizeof reply, &length) == VG_DONE && is_reply("^A(1)=5\n"));
+    CHECK(vg_list_next(&own, reply, sizeof reply, &length) == VG_DONE && is_reply("^B=\"x\"\n"));
+    CHECK(vg_list_next(&own, reply, sizeof reply, &length) == VG_AT_END);
+    CHECK(vg_journal_next(&own, reply, sizeof reply, &length) == VG_DONE);
+    CHECK(is_reply("1 SET ^B=\"x\"\n1 SET ^A(1)=5\n"));
+    CHECK(vg_end(&own) == VG_DONE && vg_load(&own, NULL, 5, NULL) == VG_DONE);
+    CHECK(vg_units(&own, &units) == VG_DONE && units == 0 && vg_end(&own) == VG_DONE);
+}
+
+/* Whether the journal's next lines are these. */
+static int are_lines(vg_engine *engine, size_t room, const char *wanted) {
+    return vg_journal_next(engine, reply, room, &length) == VG_DONE && is_reply(wanted);
+}
+
+/* The journal's lines: as many units as there is room for, from a place on, and what a checkpoint drops. */
+static void use_journal(void) {
+    vg_engine own = VG_ENGINE_NONE;
+    CHECK(vg_new(&own) == VG_DONE && vg_journal_next(&own, reply, sizeof reply, &length) == VG_AT_END && !length);
+    vg_line(&own, VG_TEXT("1 SET ^A(1)=5"), reply, sizeof reply, NULL);
+    vg_line(&own, VG_TEXT("2 KILL ^B"), reply, sizeof reply, NULL);
+    vg_line(&own, VG_TEXT("1 SET ^C=1"), reply, sizeof reply, NULL);
+    CHECK(vg_journal_next(&own, reply, 13, &length) == VG_BUFFER_TOO_SHORT && length == 14);
+    CHECK(vg_journal_next(&own, NULL, 100, &length) == VG_BUFFER_TOO_SHORT && length == 14);
+    CHECK(are_lines(&own, 14, "1 SET ^A(1)=5\n"));
+    CHECK(are_lines(&own, sizeof reply, "2 KILL ^B\n1 SET ^C=1\n"));
+    CHECK(vg_journal_next(&own, reply, sizeof reply, NULL) == VG_AT_END);
+    CHECK(vg_journal_from(&own, 1) == VG_DONE && are_lines(&own, 20, "2 KILL ^B\n"));
+    CHECK(vg_journal_from(&own, 0) == VG_DONE && vg_checkpoint(&own) == VG_DONE);
+    CHECK(vg_journal_next(&own, reply, sizeof reply, &length) == VG_GONE && !length);
+    CHECK(vg_journal_from(&own, 3) == VG_DONE && vg_journal_next(&own, reply, 9, NULL) == VG_AT_END);
+    vg_line(&own, VG_TEXT("1 TSTART"), reply, sizeof reply, NULL);
+    vg_line(&own, VG_TEXT("1 SET ^D=1"), reply, sizeof reply, NULL);
+    CHECK(vg_journal_next(&own, reply, sizeof reply, NULL) == VG_AT_END);
+    vg_line(&own, VG_TEXT("1 TCOMMIT"), reply, sizeof reply, NULL);
+    CHECK(are_lines(&own, sizeof reply, "1 TSTART\n1 SET ^D=1\n1 TCOMMIT\n"));
+    CHECK(vg_end(&own) == VG_DONE);
 }
 
 /* Names of outcomes, the longest too. */
@@ -573,6 +643,36 @@ static void use_locks(vg_engine *engine) {
     vg_key_end(&ward);
 }
 
+/* LOCK of several names: all or none, in the three forms; the keys stay. */
+static void use_lock_lists(vg_engine *engine) {
+    vg_key keys[3] = {VG_KEY_NONE, VG_KEY_NONE, VG_KEY_NONE};
+    vg_text subscript = {VG_TEXT("a subscript so long that its key takes memory of its own")};
+    uint64_t had = 7;
+    vg_key_name(&keys[0], VG_TEXT("Bed"));
+    vg_key_spell(&keys[1], VG_TEXT("Ward"), &subscript, 1);
+    CHECK(vg_lock_all(engine, 1, VG_LOCK_ONLY, keys, 3, &had) == VG_NO_KEY && had == 0);
+    vg_key_name(&keys[2], VG_TEXT("Room"));
+    CHECK(vg_lock(engine, 2, &keys[1], &had) == VG_DONE && had == 1);
+    CHECK(vg_lock_all(engine, 1, VG_LOCK_MORE, keys, 2, &had) == VG_DONE && had == 0);
+    CHECK(vg_lock_more(engine, 2, &keys[0], &had) == VG_DONE && had == 1);
+    CHECK(vg_unlock(engine, 2) == VG_DONE);
+    CHECK(vg_lock_all(engine, 1, VG_LOCK_MORE, keys, 2, &had) == VG_DONE && had == 1);
+    CHECK(vg_lock_all(engine, 1, VG_LOCK_MORE, keys, 1, NULL) == VG_DONE);
+    CHECK(vg_lock_more(engine, 2, &keys[0], &had) == VG_DONE && had == 0);
+    CHECK(vg_lock_more(engine, 2, &keys[1], &had) == VG_DONE && had == 0);
+    CHECK(vg_lock_all(engine, 1, VG_LOCK_FEWER, keys, 2, &had) == VG_DONE && had == 1);
+    CHECK(vg_lock_more(engine, 2, &keys[0], &had) == VG_DONE && had == 0);
+    CHECK(vg_lock_more(engine, 2, &keys[1], &had) == VG_DONE && had == 1);
+    CHECK(vg_lock_all(engine, 1, VG_LOCK_ONLY, keys + 2, 1, &had) == VG_DONE && had == 1);
+    CHECK(vg_lock_more(engine, 2, &keys[0], &had) == VG_DONE && had == 1);
+    CHECK(vg_lock_all(engine, 2, VG_LOCK_FEWER, keys, 3, &had) == VG_DONE && had == 1);
+    CHECK(vg_lock_all(engine, 0, VG_LOCK_ONLY, keys, 3, &had) == VG_BAD_JOB && had == 0);
+    CHECK(vg_lock_all(engine, 4097, VG_LOCK_ONLY, keys, 3, &had) == VG_BAD_JOB && had == 0);
+    CHECK(vg_set(engine, 1, &keys[1], VG_TEXT("1")) == VG_DONE && vg_kill(engine, 1, &keys[1]) == VG_DONE);
+    CHECK(vg_unlock(engine, 1) == VG_DONE && vg_unlock(engine, 2) == VG_DONE);
+    CHECK(vg_key_end(&keys[0]) == VG_DONE && vg_key_end(&keys[1]) == VG_DONE && vg_key_end(&keys[2]) == VG_DONE);
+}
+
 /* A transaction that is committed, rolled back, restarted, overtaken and ended by HALT. */
 static void use_transactions(vg_engine *engine) {
     vg_key key = VG_KEY_NONE;
@@ -611,6 +711,8 @@ int main(void) {
     use_names();
     use_global_names();
     use_digits();
+    use_listings();
+    use_journal();
     use_lines(&engine);
     use_no_key(&engine);
     use_keys(&engine);
@@ -622,6 +724,7 @@ int main(void) {
     use_units(&engine);
     use_levels(&engine);
     use_locks(&engine);
+    use_lock_lists(&engine);
     use_transactions(&engine);
     CHECK(vg_end(&engine) == VG_DONE && vg_end(&engine) == VG_NO_ENGINE);
     CHECK(blocks == 0);

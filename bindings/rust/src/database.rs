@@ -2,6 +2,7 @@
 
 use crate::engine::Engine;
 use crate::error::{done, Error};
+use crate::fault::Fault;
 use crate::job::Job;
 use crate::key::Key;
 use crate::raw::{self, outcome, RawStatistics};
@@ -48,6 +49,24 @@ impl Database {
     /// calls.
     pub fn new() -> Result<Database, Error> {
         Ok(Database { engine: RefCell::new(Engine::new()?) })
+    }
+
+    /// The database of a listing, of which each line is a reference, `=` and a value, as of
+    /// [`listing`](Database::listing). Each is done as a SET of job 1, so it is in the journal.
+    ///
+    /// Where a line sets nothing there is no database, and the fault tells which. Otherwise errors as of
+    /// [`new`](Database::new).
+    ///
+    /// ```
+    /// # use vorgushan::{Database, Error};
+    /// let database = Database::load("^Visit(101)=\"cardiology\"\n")?;
+    /// assert_eq!(database.line("1 $GET(^Visit(101))")?, "1 \"cardiology\"");
+    /// let fault = Database::load("^A=1\n^B=x\n").unwrap_err();
+    /// assert_eq!((fault.error, fault.line, fault.column), (Error::BadLine, 2, 4));
+    /// # Ok::<(), Error>(())
+    /// ```
+    pub fn load(listing: impl AsRef<[u8]>) -> Result<Database, Fault> {
+        Ok(Database { engine: RefCell::new(Engine::load(listing.as_ref())?) })
     }
 
     /// Makes a call on the engine. No call makes another one, so it is never borrowed twice.
@@ -221,6 +240,36 @@ impl Database {
                 }
             }
             String::from_utf8(lines).map_err(|_| Error::NotText)
+        })
+    }
+
+    /// The next lines of [`journal_next`](Database::journal_next) are those of the units after so many: 0 for all, as
+    /// in a new database, or [`units`](Database::units) for those that are still to come.
+    pub fn journal_from(&self, units: u64) -> Result<(), Error> {
+        self.with(|engine| done(raw::vorgushan_journal_from(engine.raw(), units)))
+    }
+
+    /// The lines of the journal's next units, at least of one, each line with its end; none where no unit is left. Run
+    /// in order they do again what was done; a transaction is written where it was committed.
+    ///
+    /// [`Gone`](Error::Gone) where a checkpoint has dropped the next unit; [`OutOfMemory`](Error::OutOfMemory): then it
+    /// is still the next.
+    ///
+    /// ```
+    /// # use vorgushan::Database;
+    /// let database = Database::new()?;
+    /// database.line("1 SET ^A=1")?;
+    /// assert_eq!(database.journal_next()?.as_deref(), Some("1 SET ^A=1\n"));
+    /// assert_eq!(database.journal_next()?, None);
+    /// # Ok::<(), vorgushan::Error>(())
+    /// ```
+    pub fn journal_next(&self) -> Result<Option<String>, Error> {
+        self.with(|engine| match engine.journal_next() {
+            (outcome::AT_END, _) => Ok(None),
+            (outcome, lines) => {
+                done(outcome)?;
+                String::from_utf8(lines.to_vec()).map(Some).map_err(|_| Error::NotText)
+            }
         })
     }
 

@@ -1,6 +1,7 @@
 //! An engine with the buffer that its answers are copied into.
 
 use crate::error::{done, Error};
+use crate::fault::Fault;
 use crate::key::check_version;
 use crate::raw::{self, outcome, RawEngine, RawKey};
 
@@ -22,6 +23,17 @@ impl Engine {
         let mut raw = RawEngine::none();
         done(raw::vorgushan_new(&mut raw))?;
         Ok(Engine { raw, buffer: vec![0; BUFFER] })
+    }
+
+    /// An engine of a listing.
+    pub(crate) fn load(listing: &[u8]) -> Result<Engine, Fault> {
+        check_version()?;
+        let mut raw = RawEngine::none();
+        let mut at = raw::RawFault { line: 0, column: 0, expected: [0; 128], length: 0 };
+        match raw::load(&mut raw, listing, &mut at) {
+            outcome::DONE => Ok(Engine { raw, buffer: vec![0; BUFFER] }),
+            refused => Err(Fault::new(Error::of(refused), at)),
+        }
     }
 
     /// The engine itself, for a call that copies nothing.
@@ -58,6 +70,11 @@ impl Engine {
     /// Copies the next node's line.
     pub(crate) fn list_next(&mut self, moment: u64) -> Copied<'_> {
         self.copied(|engine, node, length| raw::list_next(engine, moment, node, length))
+    }
+
+    /// Copies the lines of the journal's next units.
+    pub(crate) fn journal_next(&mut self) -> Copied<'_> {
+        self.copied(raw::journal_next)
     }
 
     pub(crate) fn set(&mut self, job: u64, key: &mut RawKey, value: &[u8]) -> u32 {

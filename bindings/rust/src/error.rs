@@ -7,7 +7,7 @@ use std::fmt;
 /// Why a call wasn't done.
 ///
 /// After any of these but [`ReplyKept`](Error::ReplyKept) and [`NotText`](Error::NotText) the database is as it was.
-/// Those from [`BadLine`](Error::BadLine) to [`StampsUsedUp`](Error::StampsUsedUp) are the refusals of docs/RULES.md.
+/// Those from [`BadLine`](Error::BadLine) to [`Gone`](Error::Gone) are the refusals of docs/RULES.md.
 #[derive(Clone, Copy, Debug, PartialEq, Eq, Hash)]
 #[non_exhaustive]
 pub enum Error {
@@ -41,10 +41,14 @@ pub enum Error {
     OutOfMemory,
     /// The journal would pass 2^64 - 1 units.
     StampsUsedUp,
+    /// A checkpoint has dropped the journal's next lines.
+    Gone,
     /// The line was run, but memory was refused for its reply: [`Database::reply`](crate::Database::reply) has it.
     ReplyKept,
     /// No line or command was run yet.
     NoReply,
+    /// No key is given.
+    NoKey,
     /// The transaction restarts: what it did is dropped, and its commands are to be done again.
     Restarted,
     /// The job has an open transaction already.
@@ -58,7 +62,7 @@ pub enum Error {
 }
 
 /// The errors that have a number of the library's, by that number.
-const NUMBERED: [(u32, Error); 19] = [
+const NUMBERED: [(u32, Error); 21] = [
     (1, Error::BadLine),
     (2, Error::BadName),
     (3, Error::EmptySubscript),
@@ -74,8 +78,10 @@ const NUMBERED: [(u32, Error); 19] = [
     (13, Error::TransactionTooLong),
     (14, Error::OutOfMemory),
     (15, Error::StampsUsedUp),
+    (16, Error::Gone),
     (outcome::REPLY_KEPT, Error::ReplyKept),
     (outcome::NO_REPLY, Error::NoReply),
+    (outcome::NO_KEY, Error::NoKey),
     (outcome::RESTARTED, Error::Restarted),
     (outcome::TRANSACTION_OPEN, Error::TransactionOpen),
 ];
@@ -129,8 +135,10 @@ impl fmt::Display for Error {
             Error::TransactionTooLong => "a transaction has at most 65,535 data commands",
             Error::OutOfMemory => "memory was refused",
             Error::StampsUsedUp => "the journal is at its last unit",
+            Error::Gone => "a checkpoint has dropped the journal's next lines",
             Error::ReplyKept => "the line was run, but memory was refused for its reply",
             Error::NoReply => "no line or command was run yet",
+            Error::NoKey => "no key is given",
             Error::Restarted => "the transaction restarts",
             Error::TransactionOpen => "the job has an open transaction already",
             Error::NotText => "the answer isn't UTF-8",

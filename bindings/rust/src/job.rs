@@ -50,6 +50,27 @@ impl Direction {
     }
 }
 
+/// The forms of LOCK with names.
+#[derive(Clone, Copy, Debug, PartialEq, Eq)]
+pub enum LockForm {
+    /// Without a sign: the job's names are released, and then these are asked for.
+    Only,
+    /// With +: these are asked for in addition.
+    More,
+    /// With -: one count of each is released.
+    Fewer,
+}
+
+impl LockForm {
+    fn number(self) -> u32 {
+        match self {
+            LockForm::Only => 0,
+            LockForm::More => 1,
+            LockForm::Fewer => 2,
+        }
+    }
+}
+
 /// Where $QUERY starts.
 #[derive(Clone, Copy, Debug, PartialEq, Eq)]
 pub enum Start {
@@ -206,6 +227,27 @@ impl<'a> Job<'a> {
     /// LOCK with -: one count of the name is released; in a transaction others see that after its end.
     pub fn lock_fewer(&self, key: &Key) -> Result<(), Error> {
         self.numbered(key, raw::vorgushan_lock_fewer).map(|_| ())
+    }
+
+    /// LOCK of the names of several keys at once: whether all of them were granted. If not, none was.
+    ///
+    /// [`LockCountFull`](Error::LockCountFull); [`NoKey`](Error::NoKey) where no key is given.
+    ///
+    /// ```
+    /// # use vorgushan::{Database, Key, LockForm};
+    /// let database = Database::new()?;
+    /// let (one, two) = (Key::new("One")?, Key::new("Two")?);
+    /// database.job(2)?.lock(&two)?;
+    /// assert!(!database.job(1)?.lock_all(LockForm::Only, &[&one, &two])?);
+    /// assert!(database.job(3)?.lock(&one)?);
+    /// # Ok::<(), vorgushan::Error>(())
+    /// ```
+    pub fn lock_all(&self, form: LockForm, keys: &[&Key]) -> Result<bool, Error> {
+        let copies: Result<Vec<RawKey>, Error> = keys.iter().map(|key| key.try_clone().map(Key::into_raw)).collect();
+        let (mut keys, mut had) = (copies?, 0);
+        let lock_all = raw::lock_all;
+        done(self.database.with(|engine| lock_all(engine.raw(), self.number, form.number(), &mut keys, &mut had)))?;
+        Ok(had == 1)
     }
 
     /// LOCK without names: all names of the job are released.

@@ -202,6 +202,11 @@ impl Key {
         &self.reference
     }
 
+    /// The library's part alone.
+    pub(crate) fn into_raw(self) -> RawKey {
+        self.raw.into_inner()
+    }
+
     /// The same key where the library's part was moved to another reference.
     pub(crate) fn moved_to(self, reference: Reference) -> Key {
         Key { reference, ..self }

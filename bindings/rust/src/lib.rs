@@ -22,10 +22,11 @@
 //!
 //! # Where to find what
 //!
-//! - [`Database`]: makes an engine; lines, looks, walks, the listing, upkeep. [`View`]: the same moment in many looks.
+//! - [`Database`]: makes an engine; lines, looks, walks, listings, the journal, upkeep. [`View`]: the same moment in
+//!   many looks.
 //! - [`Job`]: commands on keys, locks, [transactions](Job::transaction) that are done again after a restart.
 //! - [`Key`] and [`Reference`]: names and subscripts, by pieces or by text. [`Subscript`]: what may be one.
-//! - [`Error`]: why a call wasn't done.
+//! - [`Error`]: why a call wasn't done. [`Fault`]: where a listing is at fault.
 //!
 //! Values and subscripts are bytes; those that end in `_text` are for UTF-8.
 //!
@@ -49,6 +50,7 @@
 mod database;
 mod engine;
 mod error;
+mod fault;
 mod job;
 mod key;
 mod literal;
@@ -59,7 +61,8 @@ mod walk;
 
 pub use database::{Database, Statistics};
 pub use error::Error;
-pub use job::{Data, Direction, Job, Start};
+pub use fault::Fault;
+pub use job::{Data, Direction, Job, LockForm, Start};
 pub use key::{Key, Reference, Subscript};
 pub use transaction::Transaction;
 pub use view::View;

@@ -17,6 +17,7 @@ pub(crate) mod outcome {
     pub(crate) const REPLY_KEPT: u32 = 35;
     pub(crate) const NO_REPLY: u32 = 36;
     pub(crate) const AT_END: u32 = 37;
+    pub(crate) const NO_KEY: u32 = 39;
     pub(crate) const RESTARTED: u32 = 40;
     pub(crate) const NO_VALUE: u32 = 41;
     pub(crate) const TRANSACTION_OPEN: u32 = 42;
@@ -65,6 +66,16 @@ pub(crate) struct RawStatistics {
 unsafe extern "C" {
     pub(crate) safe fn vorgushan_version() -> u32;
     pub(crate) safe fn vorgushan_new(engine: &mut RawEngine) -> u32;
+    fn vorgushan_load(
+        engine: &mut RawEngine,
+        text: *const u8,
+        text_length: usize,
+        line: &mut u64,
+        column: &mut usize,
+        expected: *mut u8,
+        expected_size: usize,
+        expected_length: &mut usize,
+    ) -> u32;
     safe fn vorgushan_end(engine: &mut RawEngine) -> u32;
     fn vorgushan_line(
         engine: &mut RawEngine,
@@ -82,6 +93,13 @@ unsafe extern "C" {
         node: *mut u8,
         node_size: usize,
         node_length: &mut usize,
+    ) -> u32;
+    pub(crate) safe fn vorgushan_journal_from(engine: &mut RawEngine, units: u64) -> u32;
+    fn vorgushan_journal_next(
+        engine: &mut RawEngine,
+        lines: *mut u8,
+        lines_size: usize,
+        lines_length: &mut usize,
     ) -> u32;
     pub(crate) safe fn vorgushan_collect(engine: &mut RawEngine, nodes: usize) -> u32;
     pub(crate) safe fn vorgushan_checkpoint(engine: &mut RawEngine) -> u32;
@@ -194,6 +212,14 @@ unsafe extern "C" {
     pub(crate) safe fn vorgushan_lock(engine: &mut RawEngine, job: u64, key: &mut RawKey, had: &mut u64) -> u32;
     pub(crate) safe fn vorgushan_lock_more(engine: &mut RawEngine, job: u64, key: &mut RawKey, had: &mut u64) -> u32;
     pub(crate) safe fn vorgushan_lock_fewer(engine: &mut RawEngine, job: u64, key: &mut RawKey, had: &mut u64) -> u32;
+    fn vorgushan_lock_all(
+        engine: &mut RawEngine,
+        job: u64,
+        form: u32,
+        keys: *mut RawKey,
+        count: usize,
+        had: &mut u64,
+    ) -> u32;
     pub(crate) safe fn vorgushan_unlock(engine: &mut RawEngine, job: u64, number: &mut u64) -> u32;
     pub(crate) safe fn vorgushan_tstart(engine: &mut RawEngine, job: u64, level: &mut u64) -> u32;
     pub(crate) safe fn vorgushan_tcommit(engine: &mut RawEngine, job: u64, number: &mut u64) -> u32;
@@ -230,6 +256,33 @@ impl Drop for RawKey {
         vorgushan_draft_end(&mut self.draft);
         vorgushan_key_end(self);
     }
+}
+
+/// Where a listing is at fault: a line, a column, and what is expected there.
+pub(crate) struct RawFault {
+    pub(crate) line: u64,
+    pub(crate) column: usize,
+    pub(crate) expected: [u8; 128],
+    pub(crate) length: usize,
+}
+
+pub(crate) fn load(engine: &mut RawEngine, text: &[u8], at: &mut RawFault) -> u32 {
+    let (expected, size) = (at.expected.as_mut_ptr(), at.expected.len());
+    // SAFETY: pointers and lengths are those of a slice and an array, which are lent for the call and don't overlap.
+    unsafe {
+        let (line, column) = (&mut at.line, &mut at.column);
+        vorgushan_load(engine, text.as_ptr(), text.len(), line, column, expected, size, &mut at.length)
+    }
+}
+
+pub(crate) fn journal_next(engine: &mut RawEngine, lines: &mut [u8], length: &mut usize) -> u32 {
+    // SAFETY: pointer and length are those of a slice, which is lent for the call.
+    unsafe { vorgushan_journal_next(engine, lines.as_mut_ptr(), lines.len(), length) }
+}
+
+pub(crate) fn lock_all(engine: &mut RawEngine, job: u64, form: u32, keys: &mut [RawKey], had: &mut u64) -> u32 {
+    // SAFETY: pointer and length are those of a slice of keys, which are lent for the call.
+    unsafe { vorgushan_lock_all(engine, job, form, keys.as_mut_ptr(), keys.len(), had) }
 }
 
 pub(crate) fn line(engine: &mut RawEngine, line: &[u8], reply: &mut [u8], length: &mut usize) -> u32 {
@@ -298,13 +351,7 @@ pub(crate) fn key_bytes(key: &mut RawKey, bytes: &mut [u8], length: &mut usize) 
     unsafe { vorgushan_key_bytes(key, bytes.as_mut_ptr(), bytes.len(), length) }
 }
 
-pub(crate) fn look(
-    engine: &mut RawEngine,
-    moment: u64,
-    key: &mut RawKey,
-    value: &mut [u8],
-    length: &mut usize,
-) -> u32 {
+pub(crate) fn look(engine: &mut RawEngine, moment: u64, key: &mut RawKey, value: &mut [u8], length: &mut usize) -> u32 {
     // SAFETY: pointer and length are those of a slice, which is lent for the call.
     unsafe { vorgushan_look(engine, moment, key, value.as_mut_ptr(), value.len(), length) }
 }

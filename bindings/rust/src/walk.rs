@@ -158,9 +158,8 @@ impl<'a> Level<'a> {
     /// Reads the next children, as many as the engine's buffer has room for.
     fn more(&mut self) -> Result<Vec<Child>, Error> {
         let (moment, start) = (self.moment, &self.start);
-        let (outcome, bytes) = self
-            .database
-            .with(|engine| self.key.with(|key| lent(engine.look_children(moment, key, start))));
+        let (outcome, bytes) =
+            self.database.with(|engine| self.key.with(|key| lent(engine.look_children(moment, key, start))));
         if outcome == outcome::AT_END {
             return Ok(Vec::new());
         }

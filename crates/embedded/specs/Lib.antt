@@ -6,6 +6,7 @@ pub mod JournalReads
 pub mod Loads
 pub mod Looks
 pub mod Moments
+pub mod NameStatements
 pub mod Names
 pub mod Outcomes
 pub mod laws

@@ -11,7 +11,8 @@
 //! (3) a refusal is told by its own number;
 //! (4) a look at the database, one value, the nodes of a walk, the next name, children with their values, or what
 //!     $ORDER, $DATA and $QUERY answer, is no command: no unit, no reply, and the machine stays
-//!     (`specs/Looks.antt`, `specs/Names.antt`, `specs/Children.antt`); a walk's place is a key of the caller's;
+//!     (`specs/Looks.antt`, `specs/Names.antt`, `specs/Children.antt`); a walk's place is a key of the caller's, and no
+//!     name lies between that which a look for the next one starts at and what it answers (`names_are_nearest`);
 //! (5) a look sees the database of a moment, which is now, or that at which a job's open transaction began
 //!     (`specs/Moments.antt`).
 //!
@@ -24,6 +25,7 @@
 
 pub use copied::{copied_as, name_outcome};
 pub use engine::{Answered, Embedded};
+pub use laws::names_are_nearest;
 pub use outcome::Outcome;
 pub use statistics::Statistics;
 
@@ -32,6 +34,7 @@ mod children;
 mod copied;
 mod engine;
 mod journaled;
+mod laws;
 mod listed;
 mod loaded;
 mod looked;

@@ -19,6 +19,8 @@ mod looks;
 #[cfg(test)]
 mod outcomes;
 #[cfg(test)]
+mod texts;
+#[cfg(test)]
 mod transactions;
 #[cfg(test)]
 mod views;

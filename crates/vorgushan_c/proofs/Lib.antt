@@ -1,4 +1,6 @@
-mod Called
+pub mod Asked
+pub mod Called
 pub mod DraftValues
 pub mod KeyValues
+pub mod Loaded
 pub mod Values

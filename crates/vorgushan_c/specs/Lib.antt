@@ -1,3 +1,5 @@
 pub mod Exports
 pub mod Held
 pub mod Keys
+pub mod Several
+pub mod Texts

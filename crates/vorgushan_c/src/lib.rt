@@ -9,8 +9,8 @@
 //! Numbers, lengths and bytes cross; a slice is a pointer and a length. That C declares the calls as they are, that
 //! its pointers and lengths say what is there, and that it makes one call at a time, only C's word stands for.
 //!
-//! Read `specs/Exports.antt`, `exports.rt`, `specs/Keys.antt`, `keys.rt`, `typed.rt`, `looks.rt`, `steps.rt`,
-//! `handle.rt`, then `loose.rt`.
+//! Read `specs/Exports.antt`, `exports.rt`, `specs/Texts.antt`, `texts.rt`, `specs/Keys.antt`, `keys.rt`, `typed.rt`,
+//! `looks.rt`, `steps.rt`, `specs/Several.antt`, `several.rt`, `handle.rt`, then `loose.rt`.
 #![tactic(auto)]
 
 mod draft_handle;
@@ -20,5 +20,7 @@ mod key_handle;
 mod keys;
 mod looks;
 mod loose;
+mod several;
 mod steps;
+mod texts;
 mod typed;

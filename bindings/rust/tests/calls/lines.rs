@@ -1,7 +1,7 @@
 //! Lines, replies and the listing.
 
 use crate::{empty, with};
-use vorgushan::Error;
+use vorgushan::{Database, Error, Fault};
 
 #[test]
 fn a_line_is_answered_as_text() -> Result<(), Error> {
@@ -76,5 +76,47 @@ fn the_listing_is_the_same_as_often_as_it_is_asked_for() -> Result<(), Error> {
     for _ in 0..2 {
         assert_eq!(database.listing()?, "^A(1)=5\n^B=\"x\"\n");
     }
+    Ok(())
+}
+
+#[test]
+fn a_listing_is_loaded_whole_or_not_at_all() -> Result<(), Error> {
+    let listing = with(&["^B=\"x\"", "^A(1)=5"]).listing()?;
+    let database = Database::load(&listing)?;
+    assert_eq!(database.listing()?, listing);
+    assert_eq!(database.units()?, 2);
+    assert_eq!(database.reply(), Err(Error::NoReply));
+    let fault = Database::load("^A=1\n\n^B(1=2\n^C\n").unwrap_err();
+    assert_eq!((fault.error, fault.line, fault.column), (Error::BadLine, 3, 5));
+    assert_eq!(fault.expected, "a comma or )");
+    assert!(fault.to_string().starts_with("line 3, column 5: "), "{fault}");
+    assert_eq!(Database::load("").map(|made| made.units()), Ok(Ok(0)));
+    assert_eq!(Fault::from(Error::OutOfMemory).to_string(), Error::OutOfMemory.to_string());
+    Ok(())
+}
+
+#[test]
+fn the_journals_lines_do_it_again() -> Result<(), Error> {
+    let database = with(&["^A(1)=5"]);
+    for line in ["2 TSTART", "2 SET ^B=1", "1 KILL ^A", "2 TCOMMIT"] {
+        database.line(line)?;
+    }
+    let lines = database.journal_next()?.expect("units are there");
+    assert!(lines.starts_with("1 SET ^A(1)=5\n1 KILL ^A\n"), "{lines}");
+    assert_eq!(database.journal_next()?, None);
+    let again = empty();
+    for line in lines.lines() {
+        again.line(line)?;
+    }
+    assert_eq!(again.listing()?, database.listing()?);
+    database.journal_from(1)?;
+    assert_eq!(database.journal_next()?, Some(lines["1 SET ^A(1)=5\n".len()..].to_owned()));
+    database.journal_from(0)?;
+    database.checkpoint()?;
+    assert_eq!(database.journal_next(), Err(Error::Gone));
+    database.journal_from(database.units()?)?;
+    assert_eq!(database.journal_next()?, None);
+    database.line("1 SET ^C=1")?;
+    assert_eq!(database.journal_next()?.as_deref(), Some("1 SET ^C=1\n"));
     Ok(())
 }

@@ -1,7 +1,7 @@
 //! Locks: docs/RULES.md, "Locks".
 
 use crate::{empty, key};
-use vorgushan::Error;
+use vorgushan::{Error, LockForm};
 
 #[test]
 fn a_name_keeps_others_off_its_ancestors_and_descendants() -> Result<(), Error> {
@@ -31,6 +31,26 @@ fn counts_are_released_one_by_one() -> Result<(), Error> {
     assert!(one.lock(&bed)?);
     one.halt()?;
     assert!(two.lock(&bed)?);
+    Ok(())
+}
+
+#[test]
+fn several_names_are_had_all_or_none() -> Result<(), Error> {
+    let database = empty();
+    let (one, two, three) = (database.job(1)?, database.job(2)?, database.job(3)?);
+    let (bed, ward) = (key("^Bed"), key("^Ward(\"a long name that needs memory of its own\")"));
+    assert!(two.lock(&ward)?);
+    assert!(!one.lock_all(LockForm::More, &[&bed, &ward])?);
+    assert!(three.lock(&bed)?);
+    three.unlock()?;
+    two.unlock()?;
+    assert!(one.lock_all(LockForm::More, &[&bed, &ward, &bed])?);
+    assert!(one.lock_all(LockForm::Fewer, &[&bed, &ward])?);
+    assert!(!three.lock(&bed)? && three.lock(&ward)?);
+    assert!(one.lock_all(LockForm::Only, &[&key("^Other")])?);
+    assert!(three.lock(&bed)?);
+    assert_eq!(one.lock_all(LockForm::Only, &[]), Err(Error::NoKey));
+    assert!(!two.lock(&key("^Other"))?, "a refused LOCK releases nothing");
     Ok(())
 }
 

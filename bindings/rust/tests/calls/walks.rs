@@ -201,7 +201,12 @@ fn children_come_with_their_values() -> Result<(), Error> {
     let database = with(&["^A(2)=\"two\"", "^A(10,1,1)=1", "^A(\"x\")=\"\"", "^A(\"x\",1)=1"]);
     let (a, view) = (key("^A"), database.view(9)?);
     database.job(1)?.set(&key("^A(\"y\")"), "why")?;
-    let all = [child("2", Some("two"), false), child("10", None, true), child("x", Some(""), true), child("y", Some("why"), false)];
+    let all = [
+        child("2", Some("two"), false),
+        child("10", None, true),
+        child("x", Some(""), true),
+        child("y", Some("why"), false),
+    ];
     assert_eq!(database.children(&a).collect::<Result<Vec<_>, _>>()?, all);
     assert_eq!(database.children(&a).after("3").collect::<Result<Vec<_>, _>>()?, all[1..]);
     assert_eq!(view.children(&a).collect::<Result<Vec<_>, _>>()?, all[..3]);
