@@ -24,7 +24,7 @@
  * vg_look, its like and vg_walk where that isn't wanted, and a view (vg_view_begin)
  * to see one moment in many calls.
  *
- * Every call returns an outcome: VG_DONE, a refusal (1 to 16; 17 and 18 come from no call here), or one of the
+ * Every call returns an outcome: VG_DONE, a refusal (1 to 16 and 19; 17 and 18 come from no call here), or one of the
  * library's own (from 32). After a refusal the database is as it was. A call of a job, whose number is 1 to 4,096, may
  * return VG_BAD_JOB, VG_OUT_OF_MEMORY and any refusal of its command, also where none is named below.
  *
@@ -75,6 +75,7 @@ enum {
     VG_GONE = 16,
     VG_AGAIN = 17,
     VG_AHEAD = 18,
+    VG_SUM_TOO_LONG = 19,
     VG_NO_ENGINE = 32,        /* none was made, or it was ended */
     VG_ENGINE_THERE = 33,     /* one is there already */
     VG_BUFFER_TOO_SHORT = 34, /* the length that is needed is given, nothing is copied; a reply is kept for vg_reply */
@@ -191,6 +192,12 @@ void vorgushan_draft_end(vg_draft *draft);
 vg_outcome vorgushan_key_end(vg_key *key);
 vg_outcome vorgushan_set(vg_engine *engine, uint64_t job, vg_key *key, const char *value, size_t value_length);
 vg_outcome vorgushan_kill(vg_engine *engine, uint64_t job, vg_key *key);
+vg_outcome vorgushan_kill_value(vg_engine *engine, uint64_t job, vg_key *key);
+vg_outcome vorgushan_kill_subscripts(vg_engine *engine, uint64_t job, vg_key *key);
+vg_outcome vorgushan_increment(vg_engine *engine, uint64_t job, vg_key *key, const char *number, size_t number_length,
+                               char *sum, size_t sum_size, size_t *sum_length);
+vg_outcome vorgushan_next_name(vg_engine *engine, uint64_t job, const char *start, size_t start_length,
+                               uint32_t backward, char *name, size_t name_size, size_t *name_length);
 vg_outcome vorgushan_get(vg_engine *engine, uint64_t job, vg_key *key, char *value, size_t value_size,
                          size_t *value_length);
 vg_outcome vorgushan_merge(vg_engine *engine, uint64_t job, vg_key *to, vg_key *from);
@@ -464,6 +471,38 @@ static inline vg_outcome vg_kill(vg_engine *engine, uint64_t job, vg_key *key) {
     return key ? vorgushan_kill(engine, job, key) : (vg_outcome)VG_NO_KEY;
 }
 
+/* KVALUE: a key's reference has no value from then on; what is below it stays. */
+static inline vg_outcome vg_kill_value(vg_engine *engine, uint64_t job, vg_key *key) {
+    if (!engine)
+        return VG_NO_ENGINE;
+    return key ? vorgushan_kill_value(engine, job, key) : (vg_outcome)VG_NO_KEY;
+}
+
+/* KSUBSCRIPTS: nothing below a key's reference has a value from then on; its own stays. */
+static inline vg_outcome vg_kill_subscripts(vg_engine *engine, uint64_t job, vg_key *key) {
+    if (!engine)
+        return VG_NO_ENGINE;
+    return key ? vorgushan_kill_subscripts(engine, job, key) : (vg_outcome)VG_NO_KEY;
+}
+
+/* $INCREMENT of a key's reference by a number in its shortest decimal text, as 1, -2.5 or .5: the exact sum of it and
+ * of the number that the value begins with (0 where there is none) is the new value, and its bytes are copied.
+ * VG_BAD_LINE where the text is no such number, VG_SUM_TOO_LONG where the sum would have over 32,767 bytes: then
+ * nothing has changed. After VG_BUFFER_TOO_SHORT it is done, and vg_reply copies the sum as the reply of a line. */
+static inline vg_outcome vg_increment(vg_engine *engine, uint64_t job, vg_key *key, const char *number,
+                                      size_t number_length, char *sum, size_t sum_size, size_t *sum_length) {
+    char nothing = 0;
+    size_t length = 0;
+    vg_outcome outcome = VG_NO_ENGINE;
+    if (engine)
+        outcome = key ? vorgushan_increment(engine, job, key, number ? number : &nothing, number ? number_length : 0,
+                                            sum ? sum : &nothing, sum ? sum_size : 0, &length)
+                      : (vg_outcome)VG_NO_KEY;
+    if (sum_length)
+        *sum_length = length;
+    return outcome;
+}
+
 /* $GET of a key's reference: the value's own bytes, at most 32,767; none where it has no value, and VG_DONE too. An
  * empty value is answered alike (vg_data and vg_look tell them apart). After VG_BUFFER_TOO_SHORT vg_reply copies it as
  * the reply of a line, a literal; vg_get once more, which is one more command, copies its bytes. Each vg_get stays in
@@ -534,6 +573,24 @@ static inline vg_outcome vg_order(vg_engine *engine, uint64_t job, vg_key *key, 
                                   subscript ? subscript_size : 0, &length);
     if (subscript_length)
         *subscript_length = length;
+    return outcome;
+}
+
+/* $ORDER of names: copies the name of the next global after `start` that has a node, as vg_look_name does, in a step of
+ * a job. VG_AT_END where no name is left, VG_BAD_NAME where `start` is neither empty nor a name; after
+ * VG_BUFFER_TOO_SHORT it is done, and nothing is copied. */
+static inline vg_outcome vg_next_name(vg_engine *engine, uint64_t job, const char *start, size_t start_length,
+                                      uint32_t direction, char *name, size_t name_size, size_t *name_length) {
+    char from[256];
+    char nothing = 0;
+    size_t length = 0;
+    size_t from_length = vg_start_copied(from, start, start_length);
+    vg_outcome outcome = VG_NO_ENGINE;
+    if (engine)
+        outcome = vorgushan_next_name(engine, job, from, from_length, direction, name ? name : &nothing,
+                                      name ? name_size : 0, &length);
+    if (name_length)
+        *name_length = length;
     return outcome;
 }
 

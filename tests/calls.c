@@ -118,6 +118,13 @@ static void use_no_key(vg_engine *engine) {
     CHECK(vg_set(engine, 1, NULL, VG_TEXT("1")) == VG_NO_KEY);
     CHECK(vg_set(engine, 1, &key, VG_TEXT("1")) == VG_NO_KEY);
     CHECK(vg_kill(NULL, 1, &key) == VG_NO_ENGINE && vg_kill(engine, 1, NULL) == VG_NO_KEY);
+    CHECK(vg_kill_value(NULL, 1, &key) == VG_NO_ENGINE && vg_kill_value(engine, 1, NULL) == VG_NO_KEY);
+    CHECK(vg_kill_value(engine, 1, &key) == VG_NO_KEY && vg_kill_subscripts(engine, 1, &key) == VG_NO_KEY);
+    CHECK(vg_kill_subscripts(NULL, 1, &key) == VG_NO_ENGINE && vg_kill_subscripts(engine, 1, NULL) == VG_NO_KEY);
+    length = 7;
+    CHECK(vg_increment(NULL, 1, &key, VG_TEXT("1"), reply, sizeof reply, &length) == VG_NO_ENGINE && !length);
+    CHECK(vg_increment(engine, 1, NULL, VG_TEXT("1"), NULL, 0, NULL) == VG_NO_KEY);
+    CHECK(vg_increment(engine, 1, &key, VG_TEXT("1"), NULL, 0, NULL) == VG_NO_KEY);
     CHECK(vg_get(NULL, 1, &key, NULL, 0, NULL) == VG_NO_ENGINE && vg_get(engine, 1, NULL, NULL, 0, NULL) == VG_NO_KEY);
     CHECK(vg_merge(NULL, 1, &key, &key) == VG_NO_ENGINE && vg_merge(engine, 1, NULL, &key) == VG_NO_KEY);
     CHECK(vg_data(NULL, 1, &key, &number) == VG_NO_ENGINE && number == 0);
@@ -239,6 +246,7 @@ static void use_names(void) {
     CHECK(is_reply("TransactionTooLong"));
     CHECK(vg_refusal_text(VG_TOO_MANY_SUBSCRIPTS, reply, 5, &length) == VG_BUFFER_TOO_SHORT && length == 17);
     CHECK(vg_refusal_text(VG_SUBSCRIPT_TOO_LONG, reply, sizeof reply, NULL) == VG_DONE);
+    CHECK(vg_refusal_text(VG_SUM_TOO_LONG, reply, sizeof reply, &length) == VG_DONE && is_reply("SumTooLong"));
     CHECK(vg_refusal_text(99, reply, sizeof reply, &length) == VG_UNKNOWN_NUMBER);
 }
 
@@ -315,6 +323,63 @@ static void use_values(vg_engine *engine) {
     CHECK(vg_data(engine, 1, &to, &number) == VG_DONE && number == 0);
     vg_key_end(&key);
     vg_key_end(&to);
+}
+
+/* Whether an increment of a key's reference by this number is answered by this sum, and leaves it. */
+static int adds_up(vg_engine *engine, vg_key *key, const char *number, const char *sum) {
+    vg_outcome told = vg_increment(engine, 1, key, number, strlen(number), reply, sizeof reply, &length);
+    return told == VG_DONE && is_reply(sum) && has_value(engine, key, sum);
+}
+
+/* Sums: exact, of what a value begins with, and as long as a value may be. */
+static void use_sums(vg_engine *engine) {
+    static char nines[32768];
+    vg_key key = VG_KEY_NONE;
+    uint64_t before = 7, after = 7;
+    memset(nines, '9', sizeof nines);
+    vg_key_name(&key, VG_TEXT("Sum"));
+    CHECK(vg_units(engine, &before) == VG_DONE && adds_up(engine, &key, "1", "1"));
+    CHECK(vg_units(engine, &after) == VG_DONE && after == before + 2);
+    CHECK(adds_up(engine, &key, "-2.5", "-1.5") && adds_up(engine, &key, "11.75", "10.25"));
+    CHECK(vg_increment(engine, 1, &key, VG_TEXT("01"), reply, sizeof reply, &length) == VG_BAD_LINE && !length);
+    CHECK(vg_increment(engine, 1, &key, NULL, 5, reply, sizeof reply, &length) == VG_BAD_LINE && !length);
+    CHECK(vg_increment(engine, 0, &key, VG_TEXT("1"), reply, sizeof reply, &length) == VG_BAD_JOB && !length);
+    CHECK(vg_increment(engine, 4097, &key, VG_TEXT("1"), reply, sizeof reply, NULL) == VG_BAD_JOB);
+    CHECK(has_value(engine, &key, "10.25"));
+    CHECK(vg_increment(engine, 1, &key, VG_TEXT("99999999999999999999"), NULL, 99, &length) == VG_BUFFER_TOO_SHORT);
+    CHECK(length == 24 && vg_reply(engine, reply, sizeof reply, &length) == VG_DONE);
+    CHECK(is_reply("1 100000000000000000009.25\n") && has_value(engine, &key, "100000000000000000009.25"));
+    CHECK(vg_increment(engine, 1, &key, VG_TEXT("1"), reply, 23, &length) == VG_BUFFER_TOO_SHORT && length == 24);
+    CHECK(has_value(engine, &key, "100000000000000000010.25"));
+    CHECK(vg_set(engine, 1, &key, VG_TEXT("12abc")) == VG_DONE && adds_up(engine, &key, "-12", "0"));
+    CHECK(vg_set(engine, 1, &key, nines, 32767) == VG_DONE);
+    CHECK(vg_increment(engine, 1, &key, VG_TEXT("1"), reply, sizeof reply, &length) == VG_SUM_TOO_LONG && !length);
+    CHECK(vg_increment(engine, 1, &key, nines, 32768, reply, sizeof reply, &length) == VG_VALUE_TOO_LONG && !length);
+    CHECK(vg_look(engine, &key, NULL, 0, &length) == VG_BUFFER_TOO_SHORT && length == 32767);
+    CHECK(vg_kill(engine, 1, &key) == VG_DONE);
+    vg_key_end(&key);
+}
+
+/* The kills of a part: of ^Part(1), which has a value, and ^Part(1,2) below it; ^Part stands above. */
+static void use_kills(vg_engine *engine) {
+    const vg_text both[2] = {{VG_TEXT("1")}, {VG_TEXT("2")}};
+    vg_key top = VG_KEY_NONE, key = VG_KEY_NONE, low = VG_KEY_NONE;
+    uint64_t number = 7;
+    vg_key_name(&top, VG_TEXT("Part"));
+    vg_key_spell(&key, VG_TEXT("Part"), both, 1);
+    vg_key_spell(&low, VG_TEXT("Part"), both, 2);
+    CHECK(vg_set(engine, 1, &top, VG_TEXT("a")) == VG_DONE && vg_set(engine, 1, &key, VG_TEXT("b")) == VG_DONE);
+    CHECK(vg_set(engine, 1, &low, VG_TEXT("c")) == VG_DONE);
+    CHECK(vg_kill_value(engine, 0, &key) == VG_BAD_JOB && vg_kill_subscripts(engine, 4097, &key) == VG_BAD_JOB);
+    CHECK(vg_kill_value(engine, 1, &key) == VG_DONE && vg_look(engine, &key, reply, 9, NULL) == VG_NO_VALUE);
+    CHECK(has_value(engine, &top, "a") && has_value(engine, &low, "c"));
+    CHECK(vg_kill_value(engine, 1, &key) == VG_DONE && vg_set(engine, 1, &key, VG_TEXT("d")) == VG_DONE);
+    CHECK(vg_kill_subscripts(engine, 1, &key) == VG_DONE && has_value(engine, &key, "d"));
+    CHECK(vg_data(engine, 1, &key, &number) == VG_DONE && number == 1 && has_value(engine, &top, "a"));
+    CHECK(vg_kill(engine, 1, &top) == VG_DONE);
+    vg_key_end(&top);
+    vg_key_end(&key);
+    vg_key_end(&low);
 }
 
 /* Subscripts whose bytes a key's form changes: numbers with signs, points and zeros, and bytes 0 and 1. */
@@ -541,6 +606,41 @@ static void use_global_names(void) {
     CHECK(vg_end(&own) == VG_DONE);
 }
 
+/* Whether the name after a start, or before it, is this one by a command of job 1; an empty one where none is left. */
+static int is_next(vg_engine *engine, const char *start, uint32_t direction, const char *wanted) {
+    size_t from = strlen(start);
+    vg_outcome told = vg_next_name(engine, 1, start, from, direction, reply, sizeof reply, &length);
+    return told == (*wanted ? VG_DONE : VG_AT_END) && is_reply(wanted);
+}
+
+/* Names by commands: of ^%A, ^Ab(1,2) and ^zz, the last of which is set in a transaction of job 1. */
+static void use_next_names(void) {
+    char same[32] = "%A";
+    vg_engine own = VG_ENGINE_NONE;
+    uint64_t before = 7, after = 7;
+    CHECK(vg_next_name(NULL, 1, NULL, 0, VG_FORWARD, same, sizeof same, &length) == VG_NO_ENGINE && !length);
+    CHECK(vg_next_name(&own, 1, NULL, 0, VG_FORWARD, same, sizeof same, &length) == VG_NO_ENGINE && !length);
+    CHECK(vg_new(&own) == VG_DONE && is_next(&own, "", VG_FORWARD, "") && is_next(&own, "", VG_BACKWARD, ""));
+    vg_line(&own, VG_TEXT("1 SET ^Ab(1,2)=1"), reply, sizeof reply, NULL);
+    vg_line(&own, VG_TEXT("1 SET ^%A=1"), reply, sizeof reply, NULL);
+    CHECK(vg_units(&own, &before) == VG_DONE && is_next(&own, "", VG_FORWARD, "%A"));
+    CHECK(vg_units(&own, &after) == VG_DONE && after == before + 1);
+    CHECK(vg_reply(&own, reply, sizeof reply, &length) == VG_DONE && is_reply("1 ^%A\n"));
+    vg_tstart(&own, 1, NULL);
+    vg_line(&own, VG_TEXT("1 SET ^zz(1)=1"), reply, sizeof reply, NULL);
+    CHECK(is_next(&own, "Ab", VG_FORWARD, "zz") && is_next(&own, "", VG_BACKWARD, "zz"));
+    CHECK(vg_next_name(&own, 2, "Ab", 2, VG_FORWARD, same, sizeof same, &length) == VG_AT_END && !length);
+    CHECK(vg_trollback(&own, 1) == VG_DONE && is_next(&own, "Ab", VG_FORWARD, ""));
+    CHECK(is_next(&own, "Aa", VG_FORWARD, "Ab") && is_next(&own, "B", VG_BACKWARD, "Ab"));
+    CHECK(is_next(&own, "Ab", VG_BACKWARD, "%A") && is_next(&own, "%A", VG_BACKWARD, ""));
+    CHECK(vg_next_name(&own, 1, same, 2, VG_FORWARD, same, sizeof same, &length) == VG_DONE && !memcmp(same, "Ab", 2));
+    CHECK(vg_next_name(&own, 1, NULL, 5, VG_FORWARD, NULL, 9, &length) == VG_BUFFER_TOO_SHORT && length == 2);
+    CHECK(vg_next_name(&own, 1, VG_TEXT("^A"), VG_FORWARD, same, sizeof same, &length) == VG_BAD_NAME && !length);
+    CHECK(vg_next_name(&own, 1, reply, 300, VG_FORWARD, same, sizeof same, &length) == VG_BAD_NAME && !length);
+    CHECK(vg_next_name(&own, 0, NULL, 0, VG_FORWARD, same, sizeof same, NULL) == VG_BAD_JOB);
+    CHECK(vg_end(&own) == VG_DONE);
+}
+
 /* The units of the journal: one more after each command outside a transaction, and as many as vg_count tells. */
 static void use_units(vg_engine *engine) {
     vg_key key = VG_KEY_NONE;
@@ -710,6 +810,7 @@ int main(void) {
     use_nothing();
     use_names();
     use_global_names();
+    use_next_names();
     use_digits();
     use_listings();
     use_journal();
@@ -717,6 +818,8 @@ int main(void) {
     use_no_key(&engine);
     use_keys(&engine);
     use_values(&engine);
+    use_sums(&engine);
+    use_kills(&engine);
     use_walks(&engine);
     use_orders(&engine);
     use_views(&engine);

@@ -1,6 +1,6 @@
 //! Lines: the grammar and the order of refusals of docs/FORMATS.md.
-use crate::key::{Node, PAST, encode_number, encode_text};
-use crate::text::{Literal, literal, split_digits, split_letters};
+use crate::key::{Node, PAST, encode_number, encode_text, with_byte};
+use crate::text::{Literal, Number, literal, split_digits, split_letters};
 use std::borrow::Cow;
 
 /// Why a line is refused; the number is printed, and the name.
@@ -19,13 +19,14 @@ pub enum Refusal {
     LockCountFull = 11,
     BadJob = 12,
     TransactionTooLong = 13,
+    SumTooLong = 19,
 }
 
 pub const MOST_JOBS: usize = 4096;
 pub const MOST_SUBSCRIPTS: usize = 31;
 const LONGEST_NAME: usize = 31;
 const LONGEST_SUBSCRIPT: usize = 255;
-const LONGEST_VALUE: usize = 32767;
+pub const LONGEST_VALUE: usize = 32767;
 
 /// The string that a literal stands for.
 pub type Value<'a> = Cow<'a, [u8]>;
@@ -45,10 +46,19 @@ pub struct Place<'a> {
     pub level: Option<usize>,
 }
 
+/// What a kill takes of a node: all of it, its value alone, or what is below it.
+#[derive(Clone, Copy)]
+pub enum Extent {
+    All,
+    Value,
+    Below,
+}
+
 pub enum Data<'a> {
     Set(Node<'a>, Value<'a>),
-    Kill(Node<'a>),
+    Kill(Node<'a>, Extent),
     Merge(Node<'a>, Node<'a>),
+    Increment(Node<'a>, Value<'a>),
     Look(Look<'a>),
 }
 
@@ -57,6 +67,8 @@ pub enum Look<'a> {
     Get(Node<'a>, Option<Value<'a>>),
     Order(Place<'a>, Direction),
     Query(Place<'a>, Direction),
+    /// The next name after one, which is as in a key; none is before the first, or behind the last.
+    Name(Option<Box<[u8]>>, Direction),
 }
 
 pub enum Form {
@@ -245,8 +257,11 @@ impl Reader {
         if is(b"SET", b"S") {
             self.set(skip_blank(rest)?)
         } else if is(b"KILL", b"K") {
-            let rest = self.first.read(skip_blank(rest)?)?;
-            Some((Command::Access(Data::Kill(self.first.node())), self.first.fault(), rest))
+            self.kill(skip_blank(rest)?, Extent::All)
+        } else if is(b"KVALUE", b"KV") {
+            self.kill(skip_blank(rest)?, Extent::Value)
+        } else if is(b"KSUBSCRIPTS", b"KS") {
+            self.kill(skip_blank(rest)?, Extent::Below)
         } else if is(b"MERGE", b"M") {
             let rest = self.first.read(skip_blank(rest)?)?;
             let rest = self.second.read(rest.strip_prefix(b"=")?)?;
@@ -277,12 +292,30 @@ impl Reader {
         Some((Command::Access(Data::Set(self.first.node(), value)), fault, rest))
     }
 
+    fn kill<'a>(&'a mut self, text: &'a [u8], extent: Extent) -> Read<'a> {
+        let rest = self.first.read(text)?;
+        Some((Command::Access(Data::Kill(self.first.node(), extent)), self.first.fault(), rest))
+    }
+
+    /// What follows the parenthesis of $INCREMENT.
+    fn increment<'a>(&'a mut self, text: &'a [u8]) -> Read<'a> {
+        let (addend, rest) = default(self.first.read(text)?)?;
+        let addend = addend.unwrap_or(Cow::Borrowed(b"1"));
+        Number::of(&addend)?;
+        let fault = self.first.fault().or(value_fault(&addend));
+        Some((Command::Access(Data::Increment(self.first.node(), addend)), fault, rest.strip_prefix(b")")?))
+    }
+
     fn function<'a>(&'a mut self, word: &[u8], rest: &'a [u8]) -> Read<'a> {
         let is = |long: &[u8], short: &[u8]| word.eq_ignore_ascii_case(short) || word.eq_ignore_ascii_case(long);
         if is(b"TLEVEL", b"TL") {
             return Some((Command::Level, None, rest));
         } else if is(b"TRESTART", b"TR") {
             return Some((Command::Restarts, None, rest));
+        } else if is(b"INCREMENT", b"I") {
+            return self.increment(rest.strip_prefix(b"(")?);
+        } else if let (true, [b'(', b'^', b'$', more @ ..]) = (is(b"ORDER", b"O"), rest) {
+            return names(more);
         }
         let kind = [(&b"GET"[..], &b"G"[..]), (b"ORDER", b"O"), (b"DATA", b"D"), (b"QUERY", b"Q")]
             .iter()
@@ -347,6 +380,26 @@ impl Reader {
         names.push(self.first.lock_name());
         Some(rest)
     }
+}
+
+/// What follows the caret and the dollar sign of $ORDER of names.
+fn names(text: &[u8]) -> Read<'_> {
+    let (word, rest) = split_letters(text);
+    if !(word.eq_ignore_ascii_case(b"GLOBAL") || word.eq_ignore_ascii_case(b"G")) {
+        return None;
+    }
+    let (start, rest) = literal(rest.strip_prefix(b"(")?)?;
+    let (direction, rest) = direction(rest.strip_prefix(b")")?)?;
+    let start = start.value();
+    let name = start.strip_prefix(b"^").filter(|name| is_word(name) && is_name(name) == Some(true));
+    let fault = (name.is_none() && !start.is_empty()).then_some(Refusal::BadName);
+    let look = Look::Name(name.map(|name| with_byte(name, 0)), direction);
+    Some((Command::Access(Data::Look(look)), fault, rest.strip_prefix(b")")?))
+}
+
+/// Whether all bytes may stand in a name word.
+fn is_word(text: &[u8]) -> bool {
+    text.iter().all(|b| b.is_ascii_alphanumeric() || *b == b'%')
 }
 
 fn job_of(digits: &[u8]) -> Option<u16> {

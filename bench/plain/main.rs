@@ -4,16 +4,17 @@
 mod key;
 mod line;
 mod script;
+mod sum;
 mod text;
 mod view;
 
-use key::Node;
 use line::{Command, Data, Refusal};
+use text::write_literal;
 use script::Machine;
 use std::collections::BTreeMap;
 use std::io;
 use std::ops::Bound::{self, Excluded, Included, Unbounded};
-use view::{View, copies, look};
+use view::{View, copies, look, taken, total};
 
 #[derive(Default)]
 struct Map(BTreeMap<Box<[u8]>, Box<[u8]>>);
@@ -33,15 +34,19 @@ impl View for Map {
 }
 
 impl Map {
-    fn kill(&mut self, node: &Node) {
-        let (low, high) = (node.key().into(), node.past().into());
-        self.0.extract_if((Included(&low), Excluded(&high)), |_, _| true).for_each(drop);
-    }
-
     fn access(&mut self, command: Data, out: &mut Vec<u8>) -> Result<(), Refusal> {
         match command {
             Data::Set(node, value) => drop(self.0.insert(node.key().into(), value.into())),
-            Data::Kill(node) => self.kill(&node),
+            Data::Kill(node, extent) => {
+                let (low, high) = taken(&node, extent);
+                self.0.extract_if((Included(&low), Excluded(&high)), |_, _| true).for_each(drop);
+            }
+            Data::Increment(node, addend) => {
+                let sum = total(self, &node, &addend)?;
+                write_literal(&sum, out);
+                self.0.insert(node.key().into(), sum.into());
+                return Ok(());
+            }
             Data::Merge(target, source) => {
                 let nodes = copies(self, &target, &source)?;
                 self.0.extend(nodes);

@@ -1,5 +1,4 @@
 //! Nodes with their versions, as far back as an open transaction sees them.
-use crate::key::{PAST, with_byte};
 use crate::view::View;
 use std::collections::VecDeque;
 use std::collections::btree_map::{BTreeMap, Entry};
@@ -90,10 +89,9 @@ impl Store {
         }
     }
 
-    /// No value at the node and under it.
-    pub fn kill(&mut self, root: &[u8], stamp: Stamp, horizon: Stamp) {
-        let (low, high) = (root.into(), with_byte(root, PAST));
-        let killed = self.chains.extract_if((Included(&low), Excluded(&high)), |_, chain| {
+    /// No value from a key on and before another.
+    pub fn kill(&mut self, low: &Box<[u8]>, high: &Box<[u8]>, stamp: Stamp, horizon: Stamp) {
+        let killed = self.chains.extract_if((Included(low), Excluded(high)), |_, chain| {
             if chain.newest.value.is_some() {
                 chain.put(stamp, None, horizon);
             } else {

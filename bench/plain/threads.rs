@@ -5,6 +5,7 @@
 //! threads rwlock|mutex WORKERS FILE
 mod key;
 mod line;
+mod sum;
 mod text;
 mod view;
 

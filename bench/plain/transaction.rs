@@ -1,40 +1,47 @@
 //! Open transactions: what they see, what they have read, what they write.
 use crate::key::{Node, PAST, name_len, with_byte};
-use crate::line::{Data, Direction, Look, Place, Refusal};
+use crate::line::{Data, Direction, Extent, Look, Place, Refusal};
 use crate::store::{Stamp, Store};
-use crate::view::{Answer, View, copies, look};
+use crate::text::write_literal;
+use crate::view::{Answer, View, copies, look, taken, total};
 use std::cmp::Ordering;
-use std::collections::{BTreeMap, BTreeSet};
+use std::collections::BTreeMap;
 use std::iter;
 use std::ops::Bound::{self, Excluded, Included, Unbounded};
 
 const MOST_COMMANDS: usize = 65535;
+/// No name has this byte or a higher one.
+const PAST_ALL: u8 = 128;
 
-/// What a transaction writes: the nodes that it set and didn't kill later, and the nodes that it killed with all under
-/// them, of which none lies under another.
+/// What lies from a key on and before another.
+type Killed<'a> = (&'a [u8], &'a [u8]);
+
+/// What a transaction writes: the nodes that it set and didn't kill later, and what it killed, from each key on and
+/// before its value; none of these lies in another.
 #[derive(Default)]
 pub struct Work {
     pub sets: BTreeMap<Box<[u8]>, Box<[u8]>>,
-    pub killed: BTreeSet<Box<[u8]>>,
+    pub killed: BTreeMap<Box<[u8]>, Box<[u8]>>,
 }
 
 impl Work {
-    /// The killed node at or over this one.
-    fn killed_over(&self, key: &[u8]) -> Option<&[u8]> {
-        let root = self.killed.range::<[u8], _>((Unbounded, Included(key))).next_back()?;
-        key.starts_with(root).then_some(root)
+    /// What was killed with this key.
+    fn killed_over(&self, key: &[u8]) -> Option<Killed<'_>> {
+        let (low, high) = self.killed.range::<[u8], _>((Unbounded, Included(key))).next_back()?;
+        (*key < **high).then_some((low, high))
     }
 
     fn decides(&self, key: &[u8]) -> bool {
         self.sets.contains_key(key) || self.killed_over(key).is_some()
     }
 
-    fn kill(&mut self, node: &Node) {
-        let (low, high) = (node.key().into(), node.past().into());
+    /// Of two kills one lies in the other, or they have nothing in common.
+    fn kill(&mut self, node: &Node, extent: Extent) {
+        let (low, high) = taken(node, extent);
         self.sets.extract_if((Included(&low), Excluded(&high)), |_, _| true).for_each(drop);
-        if self.killed_over(&low).is_none() {
-            self.killed.extract_if((Included(&low), Excluded(&high)), |_| true).for_each(drop);
-            self.killed.insert(low);
+        if self.killed_over(&low).is_none_or(|(_, end)| *end < *high) {
+            self.killed.extract_if((Included(&low), Excluded(&high)), |_, _| true).for_each(drop);
+            self.killed.insert(low, high);
         }
     }
 }
@@ -48,19 +55,19 @@ struct Seen<'a> {
 
 type Item<'a> = (&'a [u8], &'a [u8]);
 
-/// Those of the store that weren't killed and our own, in one order; `beyond` gives those of the store beyond a killed
-/// node, and of two keys the one that compares as `first` comes first.
+/// Those of the store that weren't killed and our own, in one order; `beyond` gives those of the store beyond what was
+/// killed, and of two keys the one that compares as `first` comes first.
 fn merged<'a, S: Iterator<Item = Item<'a>>>(
     work: &'a Work,
     stored: S,
     ours: impl Iterator<Item = Item<'a>>,
-    beyond: impl Fn(&[u8]) -> S,
+    beyond: impl Fn(Killed) -> S,
     first: Ordering,
 ) -> impl Iterator<Item = Item<'a>> {
     let (mut stored, mut ours) = (stored.peekable(), ours.peekable());
     iter::from_fn(move || {
-        while let Some(root) = stored.peek().and_then(|(key, _)| work.killed_over(key)) {
-            stored = beyond(root).peekable();
+        while let Some(killed) = stored.peek().and_then(|(key, _)| work.killed_over(key)) {
+            stored = beyond(killed).peekable();
         }
         let (Some((theirs, _)), Some((own, _))) = (stored.peek(), ours.peek()) else {
             return stored.next().or_else(|| ours.next());
@@ -88,14 +95,14 @@ impl View for Seen<'_> {
     fn forward(&self, low: Bound<&[u8]>) -> impl Iterator<Item = (&[u8], &[u8])> {
         let ours = self.work.sets.range::<[u8], _>((low, Unbounded)).map(|(key, value)| (&**key, &**value));
         let stored = |low: Bound<&[u8]>| self.store.nodes_at((low, Unbounded), self.start);
-        let beyond = move |root: &[u8]| stored(Included(&with_byte(root, PAST)));
+        let beyond = move |(_, high): Killed| stored(Included(high));
         merged(self.work, stored(low), ours, beyond, Ordering::Less)
     }
 
     fn backward(&self, high: Bound<&[u8]>) -> impl Iterator<Item = (&[u8], &[u8])> {
         let ours = self.work.sets.range::<[u8], _>((Unbounded, high)).rev().map(|(key, value)| (&**key, &**value));
         let stored = |high: Bound<&[u8]>| self.store.nodes_at((Unbounded, high), self.start).rev();
-        let beyond = move |root: &[u8]| stored(Excluded(root));
+        let beyond = move |(low, _): Killed| stored(Excluded(low));
         merged(self.work, stored(high), ours, beyond, Ordering::Greater)
     }
 }
@@ -148,6 +155,19 @@ impl Reads {
             Look::Get(node, _) => self.add_one(node.key()),
             Look::Order(place, direction) => self.note_order(place, *direction, answer),
             Look::Query(place, direction) => self.note_query(place, *direction, answer),
+            Look::Name(start, direction) => self.note_name(start.as_deref(), *direction, answer),
+        }
+    }
+
+    fn note_name(&mut self, start: Option<&[u8]>, direction: Direction, answer: &Answer) {
+        let found = match answer {
+            Answer::Reference(name) => Some(*name),
+            _ => None,
+        };
+        let (after, end) = (|name| with_byte(name, PAST), || [PAST_ALL].into());
+        match direction {
+            Direction::Forward => self.add(start.map_or_else(Box::default, after), found.map_or_else(end, after)),
+            Direction::Backward => self.add(found.unwrap_or_default().into(), start.map_or_else(end, Box::from)),
         }
     }
 
@@ -214,11 +234,21 @@ impl Session {
         let seen = Seen { store, start: self.start, work: &self.work };
         match command {
             Data::Set(node, value) => drop(self.work.sets.insert(node.key().into(), value.into())),
-            Data::Kill(node) => self.work.kill(&node),
+            Data::Kill(node, extent) => self.work.kill(&node, extent),
             Data::Merge(target, source) => {
                 let nodes = copies(&seen, &target, &source)?;
                 self.reads.add(source.key().into(), source.past().into());
                 self.work.sets.extend(nodes);
+            }
+            Data::Increment(node, addend) => {
+                let sum = total(&seen, &node, &addend)?;
+                write_literal(&sum, out);
+                if !self.work.decides(node.key()) {
+                    self.reads.add_one(node.key());
+                }
+                self.work.sets.insert(node.key().into(), sum.into());
+                self.commands += 1;
+                return Ok(());
             }
             Data::Look(asked) => {
                 let answer = look(&seen, &asked)?;

@@ -1,8 +1,9 @@
 //! What the data commands answer on any ordered view of nodes with values.
-use crate::key::{Node, count_subscripts, name_len, subscript_len, write_reference, write_subscript};
-use crate::line::{Direction, Look, MOST_SUBSCRIPTS, Place, Refusal};
+use crate::key::{Node, PAST, count_subscripts, name_len, subscript_len, with_byte, write_reference, write_subscript};
+use crate::line::{Direction, Extent, LONGEST_VALUE, Look, MOST_SUBSCRIPTS, Place, Refusal};
+use crate::sum::sum;
 use crate::text::{write_literal, write_number};
-use std::ops::Bound::{self, Excluded, Included};
+use std::ops::Bound::{self, Excluded, Included, Unbounded};
 
 /// Nodes with values, by their keys.
 pub trait View {
@@ -43,6 +44,9 @@ pub fn look<'a>(view: &'a impl View, look: &'a Look) -> Result<Answer<'a>, Refus
         Look::Query(place, direction) => {
             Ok(query(view, place, *direction).map_or(Answer::Value(b""), Answer::Reference))
         }
+        Look::Name(start, direction) => {
+            Ok(next_name(view, start.as_deref(), *direction).map_or(Answer::Value(b""), Answer::Reference))
+        }
     }
 }
 
@@ -78,6 +82,33 @@ fn query<'a>(view: &'a impl View, place: &Place, direction: Direction) -> Option
         (Direction::Backward, true) => view.backward(Excluded(place.node.past())).next(),
     }?;
     found.starts_with(&key[..name_len(key)]).then_some(found)
+}
+
+/// The nearest name beyond the start, as in a key.
+fn next_name<'a>(view: &'a impl View, start: Option<&[u8]>, direction: Direction) -> Option<&'a [u8]> {
+    let (found, _) = match (direction, start) {
+        (Direction::Forward, Some(name)) => view.forward(Included(&with_byte(name, PAST))).next(),
+        (Direction::Forward, None) => view.forward(Unbounded).next(),
+        (Direction::Backward, Some(name)) => view.backward(Excluded(name)).next(),
+        (Direction::Backward, None) => view.backward(Unbounded).next(),
+    }?;
+    Some(&found[..name_len(found)])
+}
+
+/// What $INCREMENT answers and sets.
+pub fn total(view: &impl View, node: &Node, addend: &[u8]) -> Result<Vec<u8>, Refusal> {
+    let sum = sum(view.get(node.key()).unwrap_or(b""), addend);
+    if sum.len() > LONGEST_VALUE { Err(Refusal::SumTooLong) } else { Ok(sum) }
+}
+
+/// What a kill takes: from a key on and before another.
+pub fn taken(node: &Node, extent: Extent) -> (Box<[u8]>, Box<[u8]>) {
+    let key = node.key();
+    match extent {
+        Extent::All => (key.into(), node.past().into()),
+        Extent::Value => (key.into(), with_byte(key, 0)),
+        Extent::Below => (with_byte(key, 0), node.past().into()),
+    }
 }
 
 /// Nodes with their values.

@@ -7,6 +7,7 @@ mod line;
 mod locks;
 mod script;
 mod store;
+mod sum;
 mod text;
 mod transaction;
 mod view;
@@ -18,9 +19,9 @@ use std::collections::BTreeMap;
 use std::io;
 use std::ops::Bound::Unbounded;
 use store::{Stamp, Store};
-use text::write_number;
+use text::{write_literal, write_number};
 use transaction::Session;
-use view::{View, copies, look};
+use view::{View, copies, look, taken, total};
 
 const MOST_LEVELS: u64 = 127;
 
@@ -74,7 +75,17 @@ impl Whole {
         let (stamp, horizon) = (self.store.now + 1, self.horizon());
         match command {
             Data::Set(node, value) => self.store.set(node.key().into(), value.into(), stamp, horizon),
-            Data::Kill(node) => self.store.kill(node.key(), stamp, horizon),
+            Data::Kill(node, extent) => {
+                let (low, high) = taken(&node, extent);
+                self.store.kill(&low, &high, stamp, horizon);
+            }
+            Data::Increment(node, addend) => {
+                let sum = total(&self.store, &node, &addend)?;
+                write_literal(&sum, out);
+                self.store.set(node.key().into(), sum.into(), stamp, horizon);
+                self.store.now = stamp;
+                return Ok(());
+            }
             Data::Merge(target, source) => {
                 for (key, value) in copies(&self.store, &target, &source)? {
                     self.store.set(key, value, stamp, horizon);
@@ -125,8 +136,8 @@ impl Whole {
     /// What a transaction wrote, at one stamp.
     fn write(&mut self, session: Session) {
         let (stamp, horizon) = (self.store.now + 1, self.horizon());
-        for root in session.work.killed {
-            self.store.kill(&root, stamp, horizon);
+        for (low, high) in session.work.killed {
+            self.store.kill(&low, &high, stamp, horizon);
         }
         for (key, value) in session.work.sets {
             self.store.set(key, value, stamp, horizon);

@@ -86,6 +86,16 @@ impl Engine {
         self.copied(|engine, value, length| raw::get(engine, job, key, value, length))
     }
 
+    /// $INCREMENT: a sum has at most 32,767 bytes, so the command is done once.
+    pub(crate) fn increment(&mut self, job: u64, key: &mut RawKey, number: &[u8]) -> Copied<'_> {
+        self.copied(|engine, sum, length| raw::increment(engine, job, key, number, sum, length))
+    }
+
+    /// $ORDER of names: a name has at most 31 bytes, so the command is done once.
+    pub(crate) fn next_name(&mut self, job: u64, from: raw::NamePlace<'_>) -> Copied<'_> {
+        self.copied(|engine, name, length| raw::next_name(engine, job, from, name, length))
+    }
+
     /// $ORDER: a subscript has at most 255 bytes, so the command is done once.
     pub(crate) fn order(&mut self, job: u64, mut from: raw::Place<'_>) -> Copied<'_> {
         self.copied(|engine, found, length| raw::order(engine, job, &mut from, found, length))

@@ -7,11 +7,11 @@ use std::fmt;
 /// Why a call wasn't done.
 ///
 /// After any of these but [`ReplyKept`](Error::ReplyKept) and [`NotText`](Error::NotText) the database is as it was.
-/// Those from [`BadLine`](Error::BadLine) to [`Gone`](Error::Gone) are the refusals of docs/RULES.md.
+/// Those from [`BadLine`](Error::BadLine) to [`SumTooLong`](Error::SumTooLong) are the refusals of docs/RULES.md.
 #[derive(Clone, Copy, Debug, PartialEq, Eq, Hash)]
 #[non_exhaustive]
 pub enum Error {
-    /// The line isn't of the grammar, or the text is no reference.
+    /// The line isn't of the grammar, the text is no reference, or what $INCREMENT adds is no number in its shortest form.
     BadLine,
     /// A name is a letter or `%`, then letters and digits; at most 31 bytes.
     BadName,
@@ -43,6 +43,8 @@ pub enum Error {
     StampsUsedUp,
     /// A checkpoint has dropped the journal's next lines.
     Gone,
+    /// A sum would have more than 32,767 bytes.
+    SumTooLong,
     /// The line was run, but memory was refused for its reply: [`Database::reply`](crate::Database::reply) has it.
     ReplyKept,
     /// No line or command was run yet.
@@ -62,7 +64,7 @@ pub enum Error {
 }
 
 /// The errors that have a number of the library's, by that number.
-const NUMBERED: [(u32, Error); 21] = [
+const NUMBERED: [(u32, Error); 22] = [
     (1, Error::BadLine),
     (2, Error::BadName),
     (3, Error::EmptySubscript),
@@ -79,6 +81,7 @@ const NUMBERED: [(u32, Error); 21] = [
     (14, Error::OutOfMemory),
     (15, Error::StampsUsedUp),
     (16, Error::Gone),
+    (19, Error::SumTooLong),
     (outcome::REPLY_KEPT, Error::ReplyKept),
     (outcome::NO_REPLY, Error::NoReply),
     (outcome::NO_KEY, Error::NoKey),
@@ -120,7 +123,7 @@ pub(crate) fn done(number: u32) -> Result<(), Error> {
 impl fmt::Display for Error {
     fn fmt(&self, to: &mut fmt::Formatter<'_>) -> fmt::Result {
         let text = match self {
-            Error::BadLine => "the line isn't of the grammar, or the text is no reference",
+            Error::BadLine => "the line isn't of the grammar, or the text is no reference or number",
             Error::BadName => "a name is a letter or %, then letters and digits, at most 31 bytes",
             Error::EmptySubscript => "a subscript is empty",
             Error::SubscriptTooLong => "a subscript has more than 255 bytes",
@@ -136,6 +139,7 @@ impl fmt::Display for Error {
             Error::OutOfMemory => "memory was refused",
             Error::StampsUsedUp => "the journal is at its last unit",
             Error::Gone => "a checkpoint has dropped the journal's next lines",
+            Error::SumTooLong => "a sum would have more than 32,767 bytes",
             Error::ReplyKept => "the line was run, but memory was refused for its reply",
             Error::NoReply => "no line or command was run yet",
             Error::NoKey => "no key is given",

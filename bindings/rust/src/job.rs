@@ -141,6 +141,40 @@ impl<'a> Job<'a> {
         done(self.database.with(|engine| key.with(|key| kill(engine.raw(), self.number, key))))
     }
 
+    /// KVALUE: takes the value of a key's reference away, and nothing below it.
+    pub fn kill_value(&self, key: &Key) -> Result<(), Error> {
+        let kill = raw::vorgushan_kill_value;
+        done(self.database.with(|engine| key.with(|key| kill(engine.raw(), self.number, key))))
+    }
+
+    /// KSUBSCRIPTS: takes the values under a key's reference away, and not its own.
+    pub fn kill_subscripts(&self, key: &Key) -> Result<(), Error> {
+        let kill = raw::vorgushan_kill_subscripts;
+        done(self.database.with(|engine| key.with(|key| kill(engine.raw(), self.number, key))))
+    }
+
+    /// $INCREMENT: adds a number to the one that the value of a key's reference begins with, or to 0 where it begins
+    /// with none, and answers the sum, which is the new value. It is exact, however many digits there are.
+    ///
+    /// The number is given in its shortest decimal form, as `1`, `-2.5` or `.5`; else
+    /// [`BadLine`](Error::BadLine). [`SumTooLong`](Error::SumTooLong) where the sum would have over 32,767 bytes.
+    ///
+    /// ```
+    /// # use vorgushan::{Database, Key};
+    /// let database = Database::new()?;
+    /// let (job, counter) = (database.job(1)?, Key::new("Counter")?);
+    /// assert_eq!(job.increment(&counter, "1")?, "1");
+    /// assert_eq!(job.increment(&counter, "-2.5")?, "-1.5");
+    /// # Ok::<(), vorgushan::Error>(())
+    /// ```
+    pub fn increment(&self, key: &Key, number: impl AsRef<[u8]>) -> Result<String, Error> {
+        let number = number.as_ref();
+        let (outcome, sum) =
+            self.database.with(|engine| key.with(|key| lent(engine.increment(self.number, key, number))));
+        done(outcome)?;
+        String::from_utf8(sum).map_err(|_| Error::NotText)
+    }
+
     /// MERGE: copies what is at and under one key's reference to the same places under another's.
     ///
     /// [`MergeOverlap`](Error::MergeOverlap), [`TooManySubscripts`](Error::TooManySubscripts).
@@ -174,6 +208,22 @@ impl<'a> Job<'a> {
             })
         });
         done(outcome).map(|()| (!found.is_empty()).then_some(found))
+    }
+
+    /// $ORDER of names: the name of the global that comes next after `start`, or before it, and has a node; none where
+    /// no other follows. An empty start asks for the first, backward for the last; another one needs no node.
+    ///
+    /// [`BadName`](Error::BadName) where the start is neither empty nor a name. [`Database::names`] walks them without
+    /// commands.
+    pub fn next_name(&self, start: impl AsRef<str>, direction: Direction) -> Result<Option<String>, Error> {
+        let place = raw::NamePlace { start: start.as_ref().as_bytes(), backward: direction.number() };
+        match self.database.with(|engine| lent(engine.next_name(self.number, place))) {
+            (outcome::AT_END, _) => Ok(None),
+            (outcome, name) => {
+                done(outcome)?;
+                String::from_utf8(name).map(Some).map_err(|_| Error::NotText)
+            }
+        }
     }
 
     /// The subscripts one level below a key, in order, by an $ORDER for each.

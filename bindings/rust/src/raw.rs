@@ -119,6 +119,28 @@ unsafe extern "C" {
     safe fn vorgushan_key_end(key: &mut RawKey) -> u32;
     fn vorgushan_set(engine: &mut RawEngine, job: u64, key: &mut RawKey, value: *const u8, value_length: usize) -> u32;
     pub(crate) safe fn vorgushan_kill(engine: &mut RawEngine, job: u64, key: &mut RawKey) -> u32;
+    pub(crate) safe fn vorgushan_kill_value(engine: &mut RawEngine, job: u64, key: &mut RawKey) -> u32;
+    pub(crate) safe fn vorgushan_kill_subscripts(engine: &mut RawEngine, job: u64, key: &mut RawKey) -> u32;
+    fn vorgushan_increment(
+        engine: &mut RawEngine,
+        job: u64,
+        key: &mut RawKey,
+        number: *const u8,
+        number_length: usize,
+        sum: *mut u8,
+        sum_size: usize,
+        sum_length: &mut usize,
+    ) -> u32;
+    fn vorgushan_next_name(
+        engine: &mut RawEngine,
+        job: u64,
+        start: *const u8,
+        start_length: usize,
+        backward: u32,
+        name: *mut u8,
+        name_size: usize,
+        name_length: &mut usize,
+    ) -> u32;
     fn vorgushan_get(
         engine: &mut RawEngine,
         job: u64,
@@ -330,6 +352,19 @@ pub(crate) fn get(engine: &mut RawEngine, job: u64, key: &mut RawKey, value: &mu
     unsafe { vorgushan_get(engine, job, key, value.as_mut_ptr(), value.len(), length) }
 }
 
+pub(crate) fn increment(
+    engine: &mut RawEngine,
+    job: u64,
+    key: &mut RawKey,
+    number: &[u8],
+    sum: &mut [u8],
+    length: &mut usize,
+) -> u32 {
+    let (addend, size) = (number.as_ptr(), sum.len());
+    // SAFETY: pointers and lengths are those of two slices, which are lent for the call and don't overlap.
+    unsafe { vorgushan_increment(engine, job, key, addend, number.len(), sum.as_mut_ptr(), size, length) }
+}
+
 /// The place where an $ORDER starts: below a key, at a subscript, in a direction.
 pub(crate) struct Place<'a> {
     pub(crate) key: &'a mut RawKey,
@@ -390,6 +425,15 @@ pub(crate) fn look_name(
     unsafe {
         let name = name.as_mut_ptr();
         vorgushan_look_name(engine, moment, start.as_ptr(), start.len(), from.backward, name, size, length)
+    }
+}
+
+pub(crate) fn next_name(engine: &mut RawEngine, job: u64, from: NamePlace, name: &mut [u8], length: &mut usize) -> u32 {
+    let (start, size) = (from.start, name.len());
+    // SAFETY: pointers and lengths are those of two slices, which are lent for the call and don't overlap.
+    unsafe {
+        let name = name.as_mut_ptr();
+        vorgushan_next_name(engine, job, start.as_ptr(), start.len(), from.backward, name, size, length)
     }
 }
 

@@ -10,4 +10,5 @@ pub mod Changes
 pub mod Nearest
 pub mod Levels
 pub mod Answers
+pub mod Names
 pub mod laws

@@ -7,7 +7,8 @@
 //!     references by name, then subscript by subscript, a beginning first;
 //! (2) `specs/Database.antt`: a database is a finite map from references to values in that order; what lies
 //!     under a reference;
-//! (3) `specs/Answers.antt`: what $DATA, $ORDER and $QUERY answer on a database, and what MERGE copies.
+//! (3) `specs/Answers.antt`: what $DATA, $ORDER and $QUERY answer on a database, and what MERGE copies;
+//!     `specs/Names.antt`: the next name of a global.
 //!
 //! Lock names and data commands hold keys, so they stand above the keys, in `lock_name` and `command`.
 //!

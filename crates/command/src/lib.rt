@@ -9,7 +9,7 @@
 //! Read `access.rt`, `specs/Data.antt`, then `request.rt`.
 #![tactic(auto)]
 
-pub use access::{Answer, DataCommand, Look};
+pub use access::{Answer, DataCommand, Extent, Look};
 pub use request::{Command, Reply};
 
 mod access;

@@ -82,7 +82,7 @@ fn doubtful_lines_get_the_replies_of_the_table(rt: HostRuntime) -> Result<(), Fa
     Ok(())
 }
 
-const WORDS: [Row; 24] = [
+const WORDS: [Row; 31] = [
     (b"00001 KILL ^A", b"1 ok"),
     (b"4096 SET ^A=1  ", b"4096 ok"),
     (b"1 \t set ^A=1\t", b"1 ok"),
@@ -107,6 +107,13 @@ const WORDS: [Row; 24] = [
     (b"1 $tr ", b"1 0"),
     (b"1 l", b"1 ok"),
     (b"1 Lock +(^A,B)", b"1 1"),
+    (b"1 kv ^A", b"1 ok"),
+    (b"1 KSubscripts ^A(1)", b"1 ok"),
+    (b"1 $i(^A)", b"1 1"),
+    (b"1 $Increment(^A,-01.50)", b"1 -1.5"),
+    (b"1 $I(^A(1),\"-.5\")", b"1 -.5"),
+    (b"1 $o(^$g(\"\"))", b"1 \"\""),
+    (b"1 $Order(^$Global(\"^A\"),-1.0)", b"1 \"\""),
 ];
 
 #[test]
@@ -150,7 +157,7 @@ pub fn first_other_stretched(alloc: Global, rows: &[Stretched]) -> Result<Option
     Ok(None)
 }
 
-const LIMITS: [Stretched; 13] = [
+const LIMITS: [Stretched; 15] = [
     (b"1 SET ^A=\"", b'x', 32767, b"\"", b"1 ok"),
     (
         b"1 SET ^A=\"",
@@ -165,6 +172,14 @@ const LIMITS: [Stretched; 13] = [
         32768,
         b"\")",
         b"1 error 6 ValueTooLong",
+    ),
+    (b"1 $I(^A,", b'9', 32768, b")", b"1 error 6 ValueTooLong"),
+    (
+        b"1 SET ^A=",
+        b'9',
+        32767,
+        b"\n1 $I(^A)",
+        b"1 ok\n1 error 19 SumTooLong",
     ),
     (b"1 SET ^A=", b'0', 40000, b"7", b"1 ok"),
     (b"1 SET ^A=", b'9', 300, b"", b"1 ok"),

@@ -11,7 +11,7 @@ use refusal::Refusal;
 pub enum Outcome {
     /// It is done. Number 0.
     Done,
-    /// It was refused, and nothing has changed. The refusal's own number, 1 to 18.
+    /// It was refused, and nothing has changed. The refusal's own number, 1 to 19.
     Refused(Refusal),
     /// There is no engine: none was made, or it was ended. Number 32.
     NoEngine,
@@ -142,6 +142,7 @@ fn refusal_of(number: u32) -> Option<Refusal>
         16 => Some(Refusal::Gone),
         17 => Some(Refusal::Again),
         18 => Some(Refusal::Ahead),
+        19 => Some(Refusal::SumTooLong),
         _ => None,
     }
 }

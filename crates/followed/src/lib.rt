@@ -3,7 +3,7 @@
 //! A workspace holds what commands wrote (`HoldsWrites` of `specs/Following.antt`) where it decides just what they set
 //! or killed, has written just what they leave set, and its writes over the database of the start are what they leave.
 //! (1) With nothing written it holds the writes of no commands. (2) Each command keeps that: a set, a kill or the
-//! copies of a MERGE in the workspace, and a look that leaves it as it is. (3) At the commit its changes over the
+//! copies of a MERGE in the workspace, or an $INCREMENT's sum, and a look that leaves it as it is. (3) At the commit its changes over the
 //! present database, where that agrees with the start on what was read, are those of the commands there: they leave
 //! what the commands leave, and change just what the commands touch, each reference once.
 //!

@@ -1,5 +1,5 @@
--- What the answers of $DATA, $ORDER and $QUERY say of a database. The law functions of `laws.rt` prove each.
-use Rattle.std.specs.Prelude.{◌≡◌, ℕ, Bool, true, false, not, ◌&&◌, ◌⊎◌, List, [], if◌then◌else◌, MatchOption}
+-- What the answers of $DATA, $ORDER, $QUERY and $ORDER of names say of a database. The law functions of `laws.rt` prove each.
+use Rattle.std.specs.Prelude.{◌≡◌, ℕ, Bool, true, false, not, ◌&&◌, ◌⊎◌, List, [], if◌then◌else◌, Option, MatchOption}
 use Rattle.std.specs.declared.cmp.Ordering.TheVariants.{Less}
 use Rattle.std.specs.FinMap as finmap
 use Rattle.collation.specs.Reference.{Reference, Spot}
@@ -7,6 +7,7 @@ use Rattle.collation.specs.Order.{subscript_cmp, ref_cmp, ref_eq}
 use Rattle.collation.specs.Database.{Database, is_under}
 use Rattle.collation.specs.Levels.{is_below, parent_of, last, below}
 use Rattle.collation.specs.Answers.{data_of, order_of, query_of}
+use Rattle.collation.specs.Names.{is_name_beyond, name_cmp, name_next}
 
 -- r has a value
 abbrev pub HasValue : Database → Reference → Type 0
@@ -73,3 +74,17 @@ pub record IsNearestNode (forward : Bool) (p : Spot) (m : Database) (r : Referen
 -- $QUERY answers the nearest node that follows the place, or none where there is none
 abbrev pub QueryTells : Bool → Spot → Database → Type 0
 QueryTells forward p m = MatchOption (query_of forward p m) ((x : Reference) → IsFollowing forward p m x → ⊥) (IsNearestNode forward p m)
+
+-- a node has the name
+abbrev pub HasNode : Database → List ℕ → Type 0
+HasNode m n = (x : Reference) × (x.name ≡ n) × HasValue m x
+
+-- n comes after the start, and no name of a node that does comes before it (backward after it)
+pub record IsNearestName (forward : Bool) (start : Option (List ℕ)) (m : Database) (n : List ℕ) : Type 0 where
+  pub there : HasNode m n
+  pub beyond : is_name_beyond forward start n ≡ true
+  pub none_between : (k : List ℕ) → HasNode m k → is_name_beyond forward start k ≡ true → (if forward then name_cmp k n else name_cmp n k) ≡ Less → ⊥
+
+-- $ORDER of names answers the nearest name that a node has, or none where there is none
+abbrev pub NamesTell : Bool → Option (List ℕ) → Database → Type 0
+NamesTell forward start m = MatchOption (name_next forward start m) ((n : List ℕ) → HasNode m n → is_name_beyond forward start n ≡ true → ⊥) (IsNearestName forward start m)

@@ -7,8 +7,12 @@ use Rattle.collation.specs.Order.{ref_cmp}
 use Rattle.collation.specs.Database.{Database, is_under}
 use Rattle.globals.specs.Entries.{nearest_entry}
 use Rattle.collation.specs.Levels.{is_before}
+use Rattle.collation.specs.Names.{bare}
+use Rattle.command.specs.Data.{takes}
+use Rattle.command.specs.declared.access.Extent.{Extent}
+use Rattle.command.specs.declared.access.Extent.TheVariants.{All, Value as ValueAlone, Below}
 use Rattle.globals.specs.declared.cut.Cut.{Cut}
-use Rattle.globals.specs.declared.cut.Cut.TheVariants.{Start, Before, After, Past}
+use Rattle.globals.specs.declared.cut.Cut.TheVariants.{Start, Before, After, Past, End}
 
 -- x stands after r and all that is under r
 abbrev pub is_past : Reference → Reference → Bool
@@ -24,6 +28,7 @@ stands_before Start x = false
 stands_before (Before r) x = is_lt (ref_cmp x r.now)
 stands_before (After r) x = not (is_lt (ref_cmp r.now x))
 stands_before (Past r) x = is_before true r.now x
+stands_before End x = true
 
 -- x stands before the end, where there is one
 abbrev pub stands_within : Option Cut → Reference → Bool
@@ -67,6 +72,28 @@ order_start false p x = is_before p.is_open p.reference x
 abbrev pub query_start : Bool → Spot → Reference → Bool
 query_start true p x = not (is_lt (ref_cmp p.reference x))
 query_start false p x = is_before p.is_open p.reference x
+
+-- x stands before the cut at which what a kill takes begins, and before that at which it ends
+abbrev pub taken_start : Extent → Reference → Reference → Bool
+taken_start All r x = is_lt (ref_cmp x r)
+taken_start ValueAlone r x = is_lt (ref_cmp x r)
+taken_start Below r x = not (is_lt (ref_cmp r x))
+
+abbrev pub taken_end : Extent → Reference → Reference → Bool
+taken_end All r x = is_before true r x
+taken_end ValueAlone r x = not (is_lt (ref_cmp r x))
+taken_end Below r x = is_before true r x
+
+-- the members that a kill takes, in order
+abbrev pub taken_of : Extent → Reference → Database → List (Reference × List ℕ)
+taken_of extent r m = filter (λ e. takes extent r e.0) (finmap.entries m)
+
+-- x stands before the cut at which $ORDER of names starts: past all of the start's name, and backward before it
+abbrev pub name_start : Bool → Option (List ℕ) → Reference → Bool
+name_start true None x = false
+name_start true (Some n) x = is_before true (bare n) x
+name_start false None x = true
+name_start false (Some n) x = is_lt (ref_cmp x (bare n))
 
 -- the members that don't stand before the cut, in order
 abbrev pub entries_from : Cut → Database → List (Reference × List ℕ)

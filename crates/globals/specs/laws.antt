@@ -6,6 +6,8 @@ pub mod Nearness
 pub mod Changing
 pub mod Cuts
 pub mod Merging
+pub mod Names
+pub mod Taken
 pub mod Nearest
 pub mod Paths
 pub mod Seeks

@@ -1,12 +1,14 @@
 //! What data commands are answered on a view.
-ghost use Rattle.std.specs.Prelude.{◌≡◌, Some, [], None, IfOk, OnOk, IfErr, IsErrOf, unwrap_or};
+ghost use Rattle.std.specs.Prelude.{◌≡◌, Some, [], ◌∷◌, None, IfOk, OnOk, IfErr, IsErrOf, unwrap_or};
 ghost use Rattle.std.specs.Option.{option_copied};
-ghost use Rattle.command.specs.Data.{data_refusal, data_reply, look_refusal, look_reply, found_reply};
+ghost use Rattle.command.specs.Data.{data_refusal, data_reply, look_refusal, look_reply, found_reply, sum_at};
+ghost use Rattle.command.specs.declared.access.Answer.TheVariants.{Value};
+ghost use Rattle.command.specs.declared.access.DataCommand.TheVariants.{Increment as increment_command};
 ghost use Rattle.command.specs.declared.access.Look.TheVariants.{Order as order_command};
 ghost use Rattle.globals.specs.Answering.{IsRuleOrMemory, early_refusal, copies_of};
 ghost use Rattle.globals.specs.Fitting.{IsAnswerOf, IsLookAnswer, IsOrderAnswer};
 
-use crate::{OrderedView, data, merge_list, order, query};
+use crate::{OrderedView, data, increment, merge_list, next_name, order, query};
 use collation::{Direction, Text};
 use command::{Answer, DataCommand, Look};
 use key_codec::{Key, Place};
@@ -34,6 +36,20 @@ pub fn look<V: OrderedView>(alloc: Global, view: &V, look: &Look) -> Result<Answ
             let found = found_answer(alloc, query(view, place, *direction))?;
             Ok(found)
         }
+        Look::Name(start, direction) => {
+            let found = next_name(alloc, view, start, *direction)?;
+            Ok(name_answer(alloc, found))
+        }
+    }
+}
+
+// The name, or the empty string.
+fn name_answer(alloc: Global, found: Option<Key>) -> Answer
+    ensures { result ≡ found_reply found }
+{
+    match found {
+        Some(key) => Answer::Found(key),
+        None => Answer::Value(Text::new(alloc)),
     }
 }
 
@@ -82,10 +98,45 @@ fn sibling_answer<V: OrderedView>(
     }
 }
 
-/// The answer of a data command on a view, and what MERGE sets there; the view stays as it is.
+// $INCREMENT's answer, and the reference with the sum.
+fn sum_answer<V: OrderedView>(
+    alloc: Global,
+    view: &V,
+    key: &Key,
+    number: &Text,
+) -> Result<(Answer, Vec<(Key, Text)>), Refusal>
+    ensures answer { IfOk result (λ r. r.0 ≡ Value (sum_at key.now number.now (V.content view.now))) }
+    ensures copies { IfOk result (λ r. r.1.items ≡ (key.now, sum_at key.now number.now (V.content view.now)) ∷ []) }
+    ensures accepted { OnOk result (data_refusal (increment_command key.now number.now) (V.content view.now) ≡ None) }
+    ensures cause { IfErr result (λ refusal. IsRuleOrMemory refusal (data_refusal (increment_command key.now number.now) (V.content view.now))) }
+{
+    match increment(alloc, view, key, number) {
+        Ok(sum) => match sum_copy(alloc, key, &sum) {
+            Ok(copies) => Ok((Answer::Value(sum), copies)),
+            Err(AllocError) => {
+                drop(sum);
+                Err(Refusal::OutOfMemory)
+            }
+        },
+        Err(refusal) => Err(refusal),
+    }
+}
+
+// The reference with the sum, alone.
+fn sum_copy(alloc: Global, key: &Key, sum: &Text) -> Result<Vec<(Key, Text)>, AllocError>
+    ensures { IfOk result (λ copies. copies.items ≡ (key.now, sum.now) ∷ []) }
+{
+    let mut copies = Vec::with_capacity(alloc, 1)?;
+    let key = key.clone()?;
+    let sum = sum.clone()?;
+    copies.push_reserved((key, sum));
+    Ok(copies)
+}
+
+/// The answer of a data command on a view, and what MERGE and $INCREMENT set there; the view stays as it is.
 ///
-/// Refusals: the command's own rule (`NeedSubscript`, `MergeOverlap`, `TooManySubscripts`); `OutOfMemory`, which never
-/// hides a rule that is looked at before memory is asked for (`early_refusal`).
+/// Refusals: the command's own rule (`NeedSubscript`, `MergeOverlap`, `TooManySubscripts`, `SumTooLong`); `OutOfMemory`,
+/// which never hides a rule that is looked at before memory is asked for (`early_refusal`).
 pub fn answer<V: OrderedView>(
     alloc: Global,
     view: &V,
@@ -99,11 +150,12 @@ pub fn answer<V: OrderedView>(
     ensures cause { IfErr result (λ refusal. IsRuleOrMemory refusal (data_refusal command.now (V.content view.now))) }
 {
     match command {
-        DataCommand::Set(_, _) | DataCommand::Kill(_) => Ok((Answer::Done, Vec::new(alloc))),
+        DataCommand::Set(_, _) | DataCommand::Kill(_, _) => Ok((Answer::Done, Vec::new(alloc))),
         DataCommand::Merge(target, source) => match merge_list(alloc, view, target, source) {
             Ok(copies) => Ok((Answer::Done, copies)),
             Err(refusal) => Err(refusal),
         },
+        DataCommand::Increment(key, number) => sum_answer(alloc, view, key, number),
         DataCommand::Look(asked) => match look(alloc, view, asked) {
             Ok(answer) => Ok((answer, Vec::new(alloc))),
             Err(refusal) => Err(refusal),

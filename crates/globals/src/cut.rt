@@ -15,6 +15,8 @@ pub enum Cut<'a> {
     After(&'a Key),
     /// After this reference and all that is under it.
     Past(&'a Key),
+    /// After all references.
+    End,
 }
 
 /// Whether the reference stands before the cut.
@@ -26,6 +28,7 @@ pub fn stands_before(cut: Cut<'_>, key: &Key) -> bool
         Cut::Before(reference) => key.cmp(reference).is_lt(),
         Cut::After(reference) => !reference.cmp(key).is_lt(),
         Cut::Past(reference) => key.stands_before_past(reference),
+        Cut::End => true,
     }
 }
 

@@ -11,8 +11,8 @@ pub(crate) fn has_name(a: &Key, b: &Key) -> bool
     a.name() == b.name()
 }
 
-// Whether the second is a descendant of the first.
-pub(crate) fn is_below(root: &Key, key: &Key) -> bool
+/// Whether the second is a descendant of the first. Takes no memory.
+pub fn is_below(root: &Key, key: &Key) -> bool
     ensures { result ≡ is_below_spec root.now key.now }
 {
     key.is_under(root) && root != key

@@ -1,4 +1,5 @@
-//! $DATA, $ORDER, $QUERY and MERGE's list over any ordered view of a database, and walks over it.
+//! $DATA, $ORDER, $QUERY, names, MERGE's list, what a kill takes and $INCREMENT's sum over any ordered view of a
+//! database, and walks over it.
 //!
 //! A view is whatever implements `OrderedView`: it shows a finite map from references to values, and answers four
 //! look-ups: the value at a reference, the first member from a cut on, some of the first members from there on (a
@@ -23,16 +24,20 @@
 
 pub use answering::{answer, look};
 pub use cut::{Cut, stands_before, stands_under, stands_within};
+pub use extents::{taken, taken_from, taken_to};
 pub use laws::{
-    data_tells_value_and_descendants, descendants_are_under, kill_kills_the_subtree,
-    merge_copies_the_subtree, order_answers_the_nearest_sibling, query_answers_the_nearest_node,
-    set_sets_one,
+    data_tells_value_and_descendants, descendants_are_under, increment_sets_the_sum,
+    kill_takes_its_extent, merge_copies_the_subtree, names_tell_the_nearest_name,
+    order_answers_the_nearest_sibling, query_answers_the_nearest_node, set_sets_one,
 };
+pub use levels::is_below;
 pub use merge::merge_list;
+pub use names::{key_of_name, key_of_start, member_beyond, names_from, next_name};
 pub use node::data;
 pub use run::Run;
 pub use sibling::order;
 pub use starts::{order_start, query_start};
+pub use sum::increment;
 pub use traversal::query;
 pub use view::OrderedView;
 pub use walk::{Walk, subtree, walk_between, walk_from};
@@ -40,13 +45,16 @@ pub use walk::{Walk, subtree, walk_between, walk_from};
 mod ahead;
 mod answering;
 mod cut;
+mod extents;
 mod laws;
 mod levels;
 mod merge;
+mod names;
 mod node;
 mod run;
 mod sibling;
 mod starts;
+mod sum;
 mod traversal;
 mod view;
 mod walk;

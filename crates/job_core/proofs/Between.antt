@@ -20,12 +20,14 @@ use Rattle.collation.specs.Database.{Database, is_under}
 use Rattle.collation.specs.Levels.{is_before}
 use Rattle.collation.specs.Answers.{moved, subtree_of}
 use Rattle.collation.specs.Changes.{Change, changed}
-use Rattle.command.specs.declared.access.DataCommand.TheVariants.{Set, Kill, Merge}
-use Rattle.command.specs.Data.{data_after}
+use Rattle.command.specs.declared.access.DataCommand.TheVariants.{Set, Kill, Merge, Increment}
+use Rattle.command.specs.declared.access.Extent.{Extent}
+use Rattle.command.specs.Data.{data_after, sum_at, takes}
 use Rattle.globals.specs.Cuts.{front_under}
 use Rattle.globals.specs.laws.Cuts.{under_between, before_end-earlier}
 use Rattle.globals.specs.laws.Nearest.{true_of, none_pass, still_fails}
-use Rattle.globals.specs.laws.Changing.{get_set, kill_subtree, merge_subtree}
+use Rattle.globals.specs.laws.Changing.{get_set, kill_taken, merge_subtree}
+use Rattle.globals.specs.laws.Taken.{takes_under}
 use Rattle.journal.specs.declared.unit.Exchange.{Exchange}
 use Rattle.journal.specs.declared.unit.Unit.{Unit as JournalUnit}
 use Rattle.journal.specs.History.{State, initial, after, after_unit, all_after}
@@ -133,15 +135,18 @@ set_stays old new base end m r v is h x out =
     let one = not_before old r x (sym (ap (λ n. finmap.contains_key n x) is) ∙ out) in
     alike base end m (data_after (Set r v) m) x (get_set m r v x ∙ ap (λ b. cond b (Some v) (finmap.get m x)) (ref_ties x r ∙ one.1)) (h x one.0)
 
-pub kill_stays : (old new : Noted) (base end m : Database) (r : Reference) → new ≡ noted_all (subtree_of r base) old → StaysBetween old new base end m (data_after (Kill r) m)
+pub increment_stays : (old new : Noted) (base end m : Database) (r : Reference) (n : List ℕ) → new ≡ finmap.insert old r tt → StaysBetween old new base end m (data_after (Increment r n) m)
+increment_stays old new base end m r n is = set_stays old new base end m r (sum_at r n m) is
+
+pub kill_stays : (old new : Noted) (base end m : Database) (r : Reference) (extent : Extent) → new ≡ noted_all (subtree_of r base) old → StaysBetween old new base end m (data_after (Kill r extent) m)
 unfolding Same
-kill_stays old new base end m r is h x out =
+kill_stays old new base end m r extent is h x out =
     let none = none_under r base old x (sym (ap (λ n. finmap.contains_key n x) is) ∙ out) in
-    by_test (is_under r x) refl none
+    by_test (takes extent r x) refl none
   where
-    by_test : (u : Bool) → is_under r x ≡ u → (finmap.contains_key old x ≡ false) × (is_under r x ≡ true → finmap.get base x ≡ None) → Same base end (data_after (Kill r) m) x
-    by_test true u none = inl (kill_subtree m r x ∙ ap (λ b. cond b None (finmap.get m x)) u ∙ sym (none.1 u))
-    by_test false u none = alike base end m (data_after (Kill r) m) x (kill_subtree m r x ∙ ap (λ b. cond b None (finmap.get m x)) u) (h x none.0)
+    by_test : (t : Bool) → takes extent r x ≡ t → (finmap.contains_key old x ≡ false) × (is_under r x ≡ true → finmap.get base x ≡ None) → Same base end (data_after (Kill r extent) m) x
+    by_test true t none = inl (kill_taken m r extent x ∙ ap (λ b. cond b None (finmap.get m x)) t ∙ sym (none.1 (takes_under extent r x t)))
+    by_test false t none = alike base end m (data_after (Kill r extent) m) x (kill_taken m r extent x ∙ ap (λ b. cond b None (finmap.get m x)) t) (h x none.0)
 
 pub merge_stays : (old new : Noted) (base end m : Database) (a b : Reference) → new ≡ noted_all (subtree_of a end) (noted_all (subtree_of a base) old) → StaysBetween old new base end m (data_after (Merge a b) m)
 unfolding Same

@@ -13,6 +13,7 @@ use Rattle.collation.specs.Database.{Database}
 use Rattle.lock_name.specs.Locks.{LockState}
 use Rattle.command.specs.declared.access.DataCommand.{DataCommand}
 use Rattle.command.specs.declared.access.DataCommand.TheVariants.{Set, Kill, Look}
+use Rattle.command.specs.declared.access.Extent.TheVariants.{All}
 use Rattle.command.specs.declared.access.Look.{Look as LookCommand}
 use Rattle.command.specs.declared.access.Look.TheVariants.{Get, Order}
 use Rattle.command.specs.declared.access.Answer.{Answer}
@@ -102,7 +103,7 @@ added_quiet p u told o old new mid is same more base ends receipt cut agreed ver
 pub set_never_early : {A : Type 0} (key : Reference) (value : List ℕ) (told rule : Refusal) → early_refusal (Set key value) ≡ Some rule → IsErrOf {T = A} (Err told) rule
 set_never_early key value told rule is = absurd (cc)
 
-pub kill_never_early : {A : Type 0} (key : Reference) (told rule : Refusal) → early_refusal (Kill key) ≡ Some rule → IsErrOf {T = A} (Err told) rule
+pub kill_never_early : {A : Type 0} (key : Reference) (told rule : Refusal) → early_refusal (Kill key All) ≡ Some rule → IsErrOf {T = A} (Err told) rule
 kill_never_early key told rule is = absurd (cc)
 
 pub get_never_early : {A : Type 0} (key : Reference) (told rule : Refusal) → early_refusal (Look (Get key None)) ≡ Some rule → IsErrOf {T = A} (Err told) rule

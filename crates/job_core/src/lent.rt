@@ -9,6 +9,7 @@ ghost use Rattle.globals.specs.Answering.{IsRuleOrMemory};
 ghost use Rattle.stretches.specs.Empty.{AreEmpty};
 ghost use Rattle.job_core.specs.Causes.{IsCauseOf};
 ghost use Rattle.command.specs.declared.access.DataCommand.TheVariants.{Set, Kill, Look};
+ghost use Rattle.command.specs.declared.access.Extent.TheVariants.{All};
 ghost use Rattle.command.specs.declared.access.Look.TheVariants.{Get, Order};
 ghost use Rattle.command.specs.declared.access.Answer.TheVariants.{Done, Value};
 ghost use Rattle.journal.specs.declared.unit.Unit.TheVariants.{Lone};
@@ -19,6 +20,7 @@ ghost use Rattle.job_core.specs.Changes.{row_done};
 ghost use Rattle.job_core.specs.Lent.{value_at};
 
 use collation::{Direction, Job, Text};
+use command::Extent;
 use globals::{OrderedView, order};
 use journal::{Journal, Receipt};
 use key_codec::{Key, Place};
@@ -79,8 +81,8 @@ pub(crate) fn kill_lent(
     key: &Key,
 ) -> Result<Receipt, Refusal>
     requires { Agreement store.old journal.old.units }
-    ensures unit { OnOk result (journal.new.units ≡ journal.old.units ++ Lone job (Kill key.now) Done ∷ []) }
-    ensures receipt { IfOk result (λ receipt. receipt ≡ record { job = job; number = length journal.new.units; unit = Lone job (Kill key.now) Done }) }
+    ensures unit { OnOk result (journal.new.units ≡ journal.old.units ++ Lone job (Kill key.now All) Done ∷ []) }
+    ensures receipt { IfOk result (λ receipt. receipt ≡ record { job = job; number = length journal.new.units; unit = Lone job (Kill key.now All) Done }) }
     ensures counted { OnOk result (length journal.old.units < 2 ^ 64 - 1) }
     ensures base { journal.new.base ≡ journal.old.base }
     ensures ends { journal.new.ends ≡ journal.old.ends }
@@ -88,12 +90,12 @@ pub(crate) fn kill_lent(
     ensures cause { IfErr result (λ refusal. HasNoRoom refusal 1 (length journal.old.units)) }
     ensures agreed { Agreement store.new journal.new.units }
     ensures left { OnOk result (store.new.cut ≡ max store.old.cut (length journal.new.units)) }
-    ensures written { OnOk result ((x : Reference) → versions_of store.new.versions x ≡ row_done (Kill key.now) None (length journal.new.units) store.new.cut store.old x) }
+    ensures written { OnOk result ((x : Reference) → versions_of store.new.versions x ≡ row_done (Kill key.now All) None (length journal.new.units) store.new.cut store.old x) }
     ensures same { OnErr result (store.new ≡ store.old) }
     ensures bare { AddsNoneBare store.old.versions store.new.versions }
     ensures mark { store.new.mark ≡ store.old.mark }
 {
-    match journal.prepare_kill(job, key) {
+    match journal.prepare_kill(job, key, Extent::All) {
         Ok(()) => Ok(write_kill(store, journal, key)),
         Err(refusal) => Err(refusal),
     }

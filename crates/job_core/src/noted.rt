@@ -99,7 +99,7 @@ fn note_both<V: OrderedView>(
     note_ended(alloc, noted, end, root)
 }
 
-// Notes what a command may change. What KILL takes away had a value in the base, or is noted since it got one.
+// Notes what a command may change. What a kill takes away had a value in the base, or is noted since it got one.
 fn note_command<V: OrderedView>(
     alloc: Global,
     noted: &mut KeyMap<()>,
@@ -111,7 +111,8 @@ fn note_command<V: OrderedView>(
 {
     match command {
         DataCommand::Set(key, _) => note(alloc, noted, key),
-        DataCommand::Kill(root) => note_based(alloc, noted, base, root),
+        DataCommand::Increment(key, _) => note(alloc, noted, key),
+        DataCommand::Kill(root, _) => note_based(alloc, noted, base, root),
         DataCommand::Merge(target, _) => note_both(alloc, noted, base, end, target),
         DataCommand::Look(_) => Ok(()),
     }

@@ -69,7 +69,7 @@ impl Passing {
     {
         match command {
             DataCommand::Look(look) => self.look_ahead(alloc, store, look),
-            DataCommand::Kill(_) => self.begin_kill(store, oldest),
+            DataCommand::Kill(_, _) => self.begin_kill(store, oldest),
             _ => self.leave(alloc, command),
         }
     }
@@ -97,11 +97,11 @@ impl Passing {
         ensures { (m : Database) → IfSome result (λ stretch. IsEmpty stretch (data_after command.now m)) }
     {
         match command {
-            DataCommand::Kill(root) => {
+            DataCommand::Kill(root, extent) => {
                 if !self.absences.are_sought_by_kill() {
                     return None;
                 }
-                scout_kill(&Placed { store }, &self.stretches, root)
+                scout_kill(&Placed { store }, &self.stretches, root, *extent)
             }
             _ => None,
         }
@@ -197,6 +197,7 @@ impl Passing {
             Look::Get(_, _) => {}
             Look::Order(_, _) => self.seek(alloc, store, look),
             Look::Query(_, _) => self.seek(alloc, store, look),
+            Look::Name(_, _) => {}
         }
     }
 

@@ -7,7 +7,7 @@ use Rattle.collation.specs.Limits.{most_commands, most_levels}
 use Rattle.collation.specs.Database.{Database}
 use Rattle.lock_name.specs.declared.lock.LockCommand.{LockCommand}
 use Rattle.command.specs.declared.access.DataCommand.{DataCommand}
-use Rattle.command.specs.declared.access.DataCommand.TheVariants.{Set, Kill, Merge, Look}
+use Rattle.command.specs.declared.access.DataCommand.TheVariants.{Set, Kill, Merge, Increment, Look}
 use Rattle.command.specs.declared.access.Answer.{Answer}
 use Rattle.command.specs.declared.access.Answer.TheVariants.{Done}
 use Rattle.command.specs.Data.{data_refusal, data_reply}
@@ -66,23 +66,26 @@ pub read_stepped : (command : DataCommand) (result : Result Answer Refusal) (old
     → IsSome old.start → (new.start ≡ old.start) × (new.receipts ≡ old.receipts) → new.others ≡ old.others → WasDoneBy (Access command) (said Answered result) old new
 read_stepped command result old new one journal answered some same others = inside_stepped command result new.seen old new one journal.goes_on (read_where old.start command result old.state new.state answered some) same others refl
 
--- SET and KILL answer Done on whatever database
+-- SET and the kills answer Done on whatever database
 done_reply : (command : DataCommand) (m : Database) → IsWriting command → Done ≡ data_reply command m
 done_reply (Set r v) m w = refl
-done_reply (Kill r) m w = refl
+done_reply (Kill r extent) m w = refl
 done_reply (Merge a b) m w = absurd w
+done_reply (Increment r n) m w = absurd w
 done_reply (Look look) m w = absurd w
 
 none_refused : (command : DataCommand) (m : Database) → IsWriting command → data_refusal command m ≡ None
 none_refused (Set r v) m w = refl
-none_refused (Kill r) m w = refl
+none_refused (Kill r extent) m w = refl
 none_refused (Merge a b) m w = absurd w
+none_refused (Increment r n) m w = absurd w
 none_refused (Look look) m w = absurd w
 
 none_early : (command : DataCommand) (rule refusal : Refusal) → IsWriting command → early_refusal command ≡ Some rule → refusal ≡ rule
 none_early (Set r v) rule refusal w is = absurd (cc)
-none_early (Kill r) rule refusal w is = absurd (cc)
+none_early (Kill r extent) rule refusal w is = absurd (cc)
 none_early (Merge a b) rule refusal w is = absurd w
+none_early (Increment r n) rule refusal w is = absurd w
 none_early (Look look) rule refusal w is = absurd w
 
 refused_at : (command : DataCommand) (refusal : Refusal) (m : Database) (old new : JobSession) → IsWriting command → new ≡ old → IsCauseAlone refusal old.work → IsRefused command refusal m old new

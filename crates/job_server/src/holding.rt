@@ -71,8 +71,8 @@ impl<'a, B: BoardName, R: Wait, G: Gate> Worker<'a, B, R, G> {
     // watched, and it takes the lock, as SET and KILL in a transaction don't.
     fn may_go_on(&self, run: &JobRun<B>, command: &DataCommand) -> bool {
         let takes_lock = match command {
-            DataCommand::Set(..) | DataCommand::Kill(_) => !run.is_open(),
-            DataCommand::Merge(..) | DataCommand::Look(_) => true,
+            DataCommand::Set(..) | DataCommand::Kill(..) => !run.is_open(),
+            DataCommand::Merge(..) | DataCommand::Increment(..) | DataCommand::Look(_) => true,
         };
         takes_lock && !self.calls.gate.watches_lines()
     }

@@ -70,7 +70,7 @@ impl<'a, B: BoardName, R: Wait, G: Gate> Calls<'a, B, R, G> {
         self.access_inside(session, command)
     }
 
-    // A data command in a transaction. SET and KILL take no lock.
+    // A data command in a transaction. SET and the kills take no lock.
     #[tactic(auto, using(crate::proofs::Answering::written_told, crate::proofs::Answering::read_told))]
     fn access_inside(
         &self,
@@ -82,10 +82,14 @@ impl<'a, B: BoardName, R: Wait, G: Gate> Calls<'a, B, R, G> {
     {
         match command {
             DataCommand::Set(key, value) => written(session.set(key, value)),
-            DataCommand::Kill(key) => written(session.kill(key)),
+            DataCommand::Kill(key, extent) => written(session.kill(key, extent)),
             DataCommand::Merge(to, from) => {
                 self.engine
                     .read(self.rt, session, DataCommand::Merge(to, from))
+            }
+            DataCommand::Increment(key, number) => {
+                self.engine
+                    .read(self.rt, session, DataCommand::Increment(key, number))
             }
             DataCommand::Look(look) => self.engine.read(self.rt, session, DataCommand::Look(look)),
         }

@@ -168,11 +168,16 @@ fn refuse_lines(
     Ok(())
 }
 
-// Whether a command writes: SET, KILL or MERGE.
+// Whether a command writes: SET, a kill, MERGE or $INCREMENT.
 fn writes(command: &Command) -> bool {
     matches!(
         command,
-        Command::Access(DataCommand::Set(..) | DataCommand::Kill(_) | DataCommand::Merge(..))
+        Command::Access(
+            DataCommand::Set(..)
+                | DataCommand::Kill(..)
+                | DataCommand::Merge(..)
+                | DataCommand::Increment(..)
+        )
     )
 }
 

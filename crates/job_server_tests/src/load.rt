@@ -1,7 +1,7 @@
 //! Many blocks on few nodes: 8 jobs on 8 workers, whose journal a plain map replays.
 use crate::gates::Yielding;
 use collation::Text;
-use command::{Answer, DataCommand, Look};
+use command::{Answer, DataCommand, Extent, Look};
 use job_core::Core;
 use job_scripts::scripts_of;
 use job_server::{Served, serve};
@@ -69,7 +69,7 @@ fn replays(alloc: Global, map: &mut Plain, exchange: &Exchange) -> Result<bool, 
             put(alloc, map, key.as_slice(), value.as_slice())?;
             Ok(exchange.answer == Answer::Done)
         }
-        DataCommand::Kill(key) => {
+        DataCommand::Kill(key, Extent::All) => {
             map.remove(key.as_slice());
             Ok(exchange.answer == Answer::Done)
         }

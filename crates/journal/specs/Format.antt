@@ -1,14 +1,16 @@
 -- How units lie in the log. Source: docs/FORMATS.md, "Units".
 -- Read unit_bytes from the top: the job, a tag that tells the kind, and what the kind has. Each length stands before what it measures.
-use Rattle.std.specs.Prelude.{ℕ, ◌+◌, ◌-◌, ◌*◌, Bool, true, false, nat_eq, nat_lt, if◌then◌else◌, List, [], ◌∷◌, ◌++◌, length, take, None, Some}
+use Rattle.std.specs.Prelude.{ℕ, ◌+◌, ◌-◌, ◌*◌, Bool, true, false, nat_eq, nat_lt, if◌then◌else◌, List, [], ◌∷◌, ◌++◌, length, take, Option, None, Some}
 use Rattle.std.specs.List.{flat_map, ends_with}
 use Rattle.std.specs.Int.{w16, w64, to_be_bytes}
 use Rattle.collation.specs.declared.direction.Direction.{Direction}
 use Rattle.collation.specs.declared.direction.Direction.TheVariants.{Forward, Backward}
+use Rattle.command.specs.declared.access.Extent.{Extent}
+use Rattle.command.specs.declared.access.Extent.TheVariants.{All, Value as ValueAlone, Below}
 use Rattle.command.specs.declared.access.DataCommand.{DataCommand}
-use Rattle.command.specs.declared.access.DataCommand.TheVariants.{Set, Kill, Merge, Look}
+use Rattle.command.specs.declared.access.DataCommand.TheVariants.{Set, Kill, Merge, Increment, Look}
 use Rattle.command.specs.declared.access.Look.{Look as LookCommand}
-use Rattle.command.specs.declared.access.Look.TheVariants.{Data, Get, Order, Query}
+use Rattle.command.specs.declared.access.Look.TheVariants.{Data, Get, Order, Query, Name}
 use Rattle.command.specs.declared.access.Answer.{Answer}
 use Rattle.command.specs.declared.access.Answer.TheVariants.{Done, Value, Number, Found}
 use Rattle.lock_name.specs.declared.lock.LockCommand.{LockCommand}
@@ -66,6 +68,17 @@ query_kind false Backward = 11
 query_kind true Forward = 12
 query_kind true Backward = 13
 
+-- $ORDER of names, from a name or from an end
+abbrev pub name_kind : Option (List ℕ) → Direction → ℕ
+name_kind (Some n) Forward = 22
+name_kind (Some n) Backward = 23
+name_kind None Forward = 24
+name_kind None Backward = 25
+
+abbrev pub start_bytes : Option (List ℕ) → List ℕ
+start_bytes (Some n) = string_bytes n
+start_bytes None = []
+
 -- a command that looks
 abbrev pub look_kind : LookCommand → ℕ
 look_kind (Data r) = 3
@@ -73,6 +86,7 @@ look_kind (Get r None) = 4
 look_kind (Get r (Some d)) = 5
 look_kind (Order p direction) = order_kind p.is_open direction
 look_kind (Query p direction) = query_kind p.is_open direction
+look_kind (Name start direction) = name_kind start direction
 
 abbrev pub look_bytes : LookCommand → List ℕ
 look_bytes (Data r) = reference_bytes r
@@ -80,18 +94,27 @@ look_bytes (Get r None) = reference_bytes r
 look_bytes (Get r (Some d)) = reference_bytes r ++ string_bytes d
 look_bytes (Order p direction) = reference_bytes p.reference
 look_bytes (Query p direction) = reference_bytes p.reference
+look_bytes (Name start direction) = start_bytes start
+
+-- KILL, KVALUE and KSUBSCRIPTS
+abbrev pub kill_kind : Extent → ℕ
+kill_kind All = 1
+kill_kind ValueAlone = 19
+kill_kind Below = 20
 
 -- any data command
 abbrev pub command_kind : DataCommand → ℕ
 command_kind (Set r v) = 0
-command_kind (Kill r) = 1
+command_kind (Kill r extent) = kill_kind extent
 command_kind (Merge a b) = 2
+command_kind (Increment r n) = 21
 command_kind (Look look) = look_kind look
 
 abbrev pub command_bytes : DataCommand → List ℕ
 command_bytes (Set r v) = reference_bytes r ++ string_bytes v
-command_bytes (Kill r) = reference_bytes r
+command_bytes (Kill r extent) = reference_bytes r
 command_bytes (Merge a b) = reference_bytes a ++ reference_bytes b
+command_bytes (Increment r n) = reference_bytes r ++ string_bytes n
 command_bytes (Look look) = look_bytes look
 
 -- an answer
@@ -107,7 +130,7 @@ answer_bytes (Value t) = string_bytes t
 answer_bytes (Number n) = number_bytes n
 answer_bytes (Found r) = reference_bytes r
 
--- a command with its answer: one tag for both kinds, up to 55
+-- a command with its answer: one tag for both kinds, up to 55 or from 76 on
 abbrev pub answered_bytes : DataCommand → Answer → List ℕ
 answered_bytes command answer = (4 * command_kind command + answer_kind answer) ∷ (command_bytes command ++ answer_bytes answer)
 

@@ -8,10 +8,12 @@ use Rattle.std.specs.Int.{Width, w16, w64, byte_len, from_be_bytes}
 use Rattle.collation.specs.Limits.{is_job}
 use Rattle.collation.specs.declared.direction.Direction.{Direction}
 use Rattle.collation.specs.declared.direction.Direction.TheVariants.{Forward, Backward}
+use Rattle.command.specs.declared.access.Extent.{Extent}
+use Rattle.command.specs.declared.access.Extent.TheVariants.{All, Value as ValueAlone, Below}
 use Rattle.command.specs.declared.access.DataCommand.{DataCommand}
-use Rattle.command.specs.declared.access.DataCommand.TheVariants.{Set, Kill, Merge, Look}
+use Rattle.command.specs.declared.access.DataCommand.TheVariants.{Set, Kill, Merge, Increment, Look}
 use Rattle.command.specs.declared.access.Look.{Look as LookCommand}
-use Rattle.command.specs.declared.access.Look.TheVariants.{Data, Get, Order, Query}
+use Rattle.command.specs.declared.access.Look.TheVariants.{Data, Get, Order, Query, Name}
 use Rattle.command.specs.declared.access.Answer.{Answer}
 use Rattle.command.specs.declared.access.Answer.TheVariants.{Done, Value, Number, Found}
 use Rattle.lock_name.specs.declared.lock.LockCommand.{LockCommand}
@@ -88,11 +90,14 @@ names_at bytes = number_at bytes >>= λ n. list_at name_at n.0 n.1
 abbrev pub set_at : List ℕ → Option (DataCommand × List ℕ)
 set_at bytes = reference_at bytes >>= λ r. string_at r.1 >>= λ v. Some (Set r.0 v.0, v.1)
 
-abbrev pub kill_at : List ℕ → Option (DataCommand × List ℕ)
-kill_at bytes = reference_at bytes >>= λ r. Some (Kill r.0, r.1)
+abbrev pub kill_at : Extent → List ℕ → Option (DataCommand × List ℕ)
+kill_at extent bytes = reference_at bytes >>= λ r. Some (Kill r.0 extent, r.1)
 
 abbrev pub merge_at : List ℕ → Option (DataCommand × List ℕ)
 merge_at bytes = reference_at bytes >>= λ a. reference_at a.1 >>= λ b. Some (Merge a.0 b.0, b.1)
+
+abbrev pub increment_at : List ℕ → Option (DataCommand × List ℕ)
+increment_at bytes = reference_at bytes >>= λ r. string_at r.1 >>= λ n. Some (Increment r.0 n.0, n.1)
 
 abbrev pub data_at : List ℕ → Option (LookCommand × List ℕ)
 data_at bytes = reference_at bytes >>= λ r. Some (Data r.0, r.1)
@@ -109,7 +114,26 @@ order_at is_open direction bytes = reference_at bytes >>= λ r. Some (Order (rec
 abbrev pub query_at : Bool → Direction → List ℕ → Option (LookCommand × List ℕ)
 query_at is_open direction bytes = reference_at bytes >>= λ r. Some (Query (record { reference = r.0; is_open = is_open }) direction, r.1)
 
--- $ORDER and $QUERY by their kind, which is from 6 to 13
+-- a name without its caret
+unfoldable pub named_at : List ℕ → Option (List ℕ × List ℕ)
+named_at bytes = string_at bytes >>= λ s. if is_name s.0 then Some s else None
+
+abbrev pub name_from_at : Direction → List ℕ → Option (LookCommand × List ℕ)
+name_from_at direction bytes = named_at bytes >>= λ n. Some (Name (Some n.0) direction, n.1)
+
+abbrev pub end_name_at : Direction → List ℕ → Option (LookCommand × List ℕ)
+end_name_at direction bytes = Some (Name None direction, bytes)
+
+-- $ORDER of names by their kind, which is from 22 to 25
+abbrev pub next_name_at : ℕ → List ℕ → Option (LookCommand × List ℕ)
+next_name_at kind bytes =
+    if kind == 22 then name_from_at Forward bytes
+    else (if kind == 23 then name_from_at Backward bytes
+    else (if kind == 24 then end_name_at Forward bytes
+    else (if kind == 25 then end_name_at Backward bytes
+    else None)))
+
+-- $ORDER and $QUERY by their kind, which is from 6 to 13, or of names
 abbrev pub traversal_at : ℕ → List ℕ → Option (LookCommand × List ℕ)
 traversal_at kind bytes =
     if kind == 6 then order_at false Forward bytes
@@ -120,7 +144,7 @@ traversal_at kind bytes =
     else (if kind == 11 then query_at false Backward bytes
     else (if kind == 12 then query_at true Forward bytes
     else (if kind == 13 then query_at true Backward bytes
-    else None)))))))
+    else next_name_at kind bytes)))))))
 
 -- any command that looks
 unfoldable pub looks_at : ℕ → List ℕ → Option (LookCommand × List ℕ)
@@ -133,12 +157,20 @@ looks_at kind bytes =
 abbrev pub looking_at : ℕ → List ℕ → Option (DataCommand × List ℕ)
 looking_at kind bytes = looks_at kind bytes >>= λ l. Some (Look l.0, l.1)
 
+-- those that came later, by their kind, which is from 19 to 21, and those that look
+abbrev pub later_command_at : ℕ → List ℕ → Option (DataCommand × List ℕ)
+later_command_at kind bytes =
+    if kind == 19 then kill_at ValueAlone bytes
+    else (if kind == 20 then kill_at Below bytes
+    else (if kind == 21 then increment_at bytes
+    else looking_at kind bytes))
+
 unfoldable pub data_command_at : ℕ → List ℕ → Option (DataCommand × List ℕ)
 data_command_at kind bytes =
     if kind == 0 then set_at bytes
-    else (if kind == 1 then kill_at bytes
+    else (if kind == 1 then kill_at All bytes
     else (if kind == 2 then merge_at bytes
-    else looking_at kind bytes))
+    else later_command_at kind bytes))
 
 abbrev pub value_answer_at : List ℕ → Option (Answer × List ℕ)
 value_answer_at bytes = string_at bytes >>= λ t. Some (Value t.0, t.1)
@@ -205,7 +237,8 @@ deed_at job tag bytes =
     else (if tag == 56 then whole_at job bytes
     else (if tag == 57 then Some (Back job, bytes)
     else (if tag == 58 then Some (End job, bytes)
-    else locked_at job tag bytes)))
+    else (if nat_lt tag 76 then locked_at job tag bytes
+    else lone_at job tag bytes))))
 
 unfoldable pub deed_of : ℕ → List ℕ → Option (JournalUnit × List ℕ)
 deed_of job [] = None

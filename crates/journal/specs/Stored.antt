@@ -1,12 +1,13 @@
 -- What each unit in the log keeps: the limits that let it be read back.
-use Rattle.std.specs.Prelude.{ℕ, ◌<◌, ◌≤◌, ◌^◌, List, [], ◌∷◌, length, None, Some, ⊤}
+use Rattle.std.specs.Prelude.{ℕ, ◌≡◌, ◌<◌, ◌≤◌, ◌^◌, true, List, [], ◌∷◌, length, None, Some, ⊤}
 use Rattle.command.specs.declared.access.DataCommand.{DataCommand}
-use Rattle.command.specs.declared.access.DataCommand.TheVariants.{Set, Kill, Merge, Look}
+use Rattle.command.specs.declared.access.DataCommand.TheVariants.{Set, Kill, Merge, Increment, Look}
 use Rattle.command.specs.declared.access.Look.{Look as LookCommand}
-use Rattle.command.specs.declared.access.Look.TheVariants.{Data, Get, Order, Query}
+use Rattle.command.specs.declared.access.Look.TheVariants.{Data, Get, Order, Query, Name}
 use Rattle.command.specs.declared.access.Answer.{Answer}
 use Rattle.command.specs.declared.access.Answer.TheVariants.{Done, Value, Number, Found}
 use Rattle.collation.specs.Limits.{most_jobs}
+use Rattle.collation.specs.Name.{is_name}
 use Rattle.lock_name.specs.declared.lock.LockCommand.{LockCommand}
 use Rattle.lock_name.specs.declared.lock.LockCommand.TheVariants.{Release, Only, More, Fewer}
 use Rattle.collation.specs.Reference.{Reference, Resource}
@@ -47,11 +48,14 @@ FitsLook (Get r None) = FitsReference r
 FitsLook (Get r (Some d)) = FitsReference r × FitsString d
 FitsLook (Order p direction) = FitsReference p.reference
 FitsLook (Query p direction) = FitsReference p.reference
+FitsLook (Name None direction) = ⊤
+FitsLook (Name (Some n) direction) = FitsString n × (is_name n ≡ true)
 
 abbrev pub FitsCommand : DataCommand → Type 0
 FitsCommand (Set r v) = FitsReference r × FitsString v
-FitsCommand (Kill r) = FitsReference r
+FitsCommand (Kill r extent) = FitsReference r
 FitsCommand (Merge a b) = FitsReference a × FitsReference b
+FitsCommand (Increment r n) = FitsReference r × FitsString n
 FitsCommand (Look look) = FitsLook look
 
 abbrev pub FitsAnswer : Answer → Type 0

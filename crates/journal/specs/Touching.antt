@@ -1,5 +1,5 @@
 -- Which references a unit touches, and which a transaction has read. Source: docs/RULES.md, "Transactions".
-use Rattle.std.specs.Prelude.{ℕ, Bool, false, not, ◌&&◌, ◌||◌, List, [], ◌∷◌, ◌++◌, unwrap_or, if◌then◌else◌}
+use Rattle.std.specs.Prelude.{ℕ, Bool, false, not, ◌&&◌, ◌||◌, List, [], ◌∷◌, ◌++◌, Option, Some, unwrap_or, if◌then◌else◌}
 use Rattle.std.specs.Ordering.{is_lt}
 use Rattle.std.specs.Option.{option_map}
 use Rattle.std.specs.List.{list_any}
@@ -8,14 +8,15 @@ use Rattle.collation.specs.Reference.{Reference, Spot}
 use Rattle.collation.specs.Order.{ref_eq, ref_cmp, subscript_cmp}
 use Rattle.collation.specs.Database.{Database, is_under}
 use Rattle.collation.specs.Levels.{child_of, parent_of}
+use Rattle.collation.specs.Names.{is_name_beyond}
 use Rattle.collation.specs.Answers.{is_beyond, is_forward, follows, moved}
 use Rattle.command.specs.declared.access.DataCommand.{DataCommand}
-use Rattle.command.specs.declared.access.DataCommand.TheVariants.{Set, Kill, Merge, Look}
+use Rattle.command.specs.declared.access.DataCommand.TheVariants.{Set, Kill, Merge, Increment, Look}
 use Rattle.command.specs.declared.access.Look.{Look as LookCommand}
-use Rattle.command.specs.declared.access.Look.TheVariants.{Data, Get, Order, Query}
+use Rattle.command.specs.declared.access.Look.TheVariants.{Data, Get, Order, Query, Name}
 use Rattle.command.specs.declared.access.Answer.{Answer}
 use Rattle.command.specs.declared.access.Answer.TheVariants.{Done, Value, Number, Found}
-use Rattle.command.specs.Data.{data_after}
+use Rattle.command.specs.Data.{data_after, takes}
 use Rattle.journal.specs.declared.unit.Exchange.{Exchange}
 use Rattle.journal.specs.declared.unit.Unit.{Unit as JournalUnit}
 use Rattle.journal.specs.declared.unit.Unit.TheVariants.{Lone, Whole, Lock, Back, End}
@@ -23,18 +24,20 @@ use Rattle.journal.specs.History.{State, after_unit, all_after}
 
 -- ---- what is touched
 
--- a command sets x: SET its own reference, MERGE each copy; into itself it sets none
+-- a command sets x: SET and $INCREMENT their own reference, MERGE each copy; into itself it sets none
 abbrev pub sets : DataCommand → Database → Reference → Bool
 sets (Set r v) m x = ref_eq x r
-sets (Kill r) m x = false
+sets (Kill r extent) m x = false
 sets (Merge a b) m x = not (ref_eq a b) && (is_under a x && finmap.contains_key m (moved b a x))
+sets (Increment r n) m x = ref_eq x r
 sets (Look look) m x = false
 
 -- a command kills x
 abbrev pub kills : DataCommand → Reference → Bool
 kills (Set r v) x = false
-kills (Kill r) x = is_under r x
+kills (Kill r extent) x = takes extent r x
 kills (Merge a b) x = false
+kills (Increment r n) x = false
 kills (Look look) x = false
 
 -- some command sets x and none after it kills x
@@ -79,18 +82,27 @@ query_read forward p (Value t) x = follows forward p x
 query_read forward p (Number n) x = follows forward p x
 query_read forward p (Found r) x = follows forward p x && not (is_lt (if forward then ref_cmp r x else ref_cmp x r))
 
+-- what $ORDER of names read: the names beyond its start, up to the one that it found
+abbrev pub name_read : Bool → Option (List ℕ) → Answer → Reference → Bool
+name_read forward start Done x = is_name_beyond forward start x.name
+name_read forward start (Value t) x = is_name_beyond forward start x.name
+name_read forward start (Number n) x = is_name_beyond forward start x.name
+name_read forward start (Found r) x = is_name_beyond forward start x.name && not (is_name_beyond forward (Some r.name) x.name)
+
 -- what an answered command that looks read
 abbrev pub look_read : LookCommand → Answer → (Reference → Bool) → Reference → Bool
 look_read (Data r) answer own x = is_under r x
 look_read (Get r d) answer own x = ref_eq x r && not (own r)
 look_read (Order p direction) answer own x = order_read (is_forward direction) p answer x
 look_read (Query p direction) answer own x = query_read (is_forward direction) p answer x
+look_read (Name start direction) answer own x = name_read (is_forward direction) start answer x
 
 -- the read set of an answered command, as a test of x; `own` tests what the transaction itself set or killed before
 abbrev pub read_set : DataCommand → Answer → (Reference → Bool) → Reference → Bool
 read_set (Set r v) answer own x = false
-read_set (Kill r) answer own x = false
+read_set (Kill r extent) answer own x = false
 read_set (Merge a b) answer own x = is_under b x
+read_set (Increment r n) answer own x = ref_eq x r && not (own r)
 read_set (Look look) answer own x = look_read look answer own x
 
 -- what the transaction itself set or killed, once it has done this command on the database m too

@@ -26,7 +26,7 @@ use crate::log::Log;
 use crate::past::Past;
 use crate::tallies::Tallies;
 use collation::{Direction, Job, Text};
-use command::{Answer, DataCommand};
+use command::{Answer, DataCommand, Extent};
 use key_codec::{Key, Place};
 use lock_name::LockCommand;
 use lock_table::LockTable;
@@ -180,16 +180,21 @@ impl Chronicle {
         self.log.write_order(job, place, direction, value)
     }
 
-    /// Writes a KILL outside a transaction, from its key; refused as `write_lone`.
-    pub(crate) fn write_kill(&mut self, job: Job, key: &Key) -> Result<(), AllocError>
+    /// Writes a KILL, KVALUE or KSUBSCRIPTS outside a transaction, from its key; refused as `write_lone`.
+    pub(crate) fn write_kill(
+        &mut self,
+        job: Job,
+        key: &Key,
+        extent: Extent,
+    ) -> Result<(), AllocError>
         requires { self.old.behind ≡ [] }
         ensures units { self.new.units ≡ self.old.units }
         ensures base { self.new.base ≡ self.old.base }
         ensures ends { self.new.ends ≡ self.old.ends }
-        ensures ok { OnOk result (IsUnitOf self.new.behind job (Lone job (Kill key.now) Done)) }
+        ensures ok { OnOk result (IsUnitOf self.new.behind job (Lone job (Kill key.now extent) Done)) }
         ensures err { OnErr result (self.new.behind ≡ []) }
     {
-        self.log.write_kill(job, key)
+        self.log.write_kill(job, key, extent)
     }
 
     /// Writes a transaction; refused as `write_lone`.

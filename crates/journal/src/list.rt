@@ -24,7 +24,7 @@ use crate::chronicle::Chronicle;
 use crate::exchanges::ExchangeLog;
 use crate::tallies::Tallies;
 use collation::{Direction, Job, Text};
-use command::{Answer, DataCommand};
+use command::{Answer, DataCommand, Extent};
 use key_codec::{Key, Place};
 use lock_name::LockCommand;
 use lock_table::LockTable;
@@ -258,12 +258,12 @@ impl Journal {
         Ok(())
     }
 
-    /// Writes the unit of a KILL outside a transaction, from its key; refused as `prepare_lone`.
-    pub fn prepare_kill(&mut self, job: Job, key: &Key) -> Result<(), Refusal>
+    /// Writes the unit of a KILL, KVALUE or KSUBSCRIPTS outside a transaction, from its key; refused as `prepare_lone`.
+    pub fn prepare_kill(&mut self, job: Job, key: &Key, extent: Extent) -> Result<(), Refusal>
         ensures units { self.new.units ≡ self.old.units }
         ensures base { self.new.base ≡ self.old.base }
         ensures ends { self.new.ends ≡ self.old.ends }
-        ensures prepared { OnOk result (self.new.prepared ≡ Some (Lone job (Kill key.now) Done)) }
+        ensures prepared { OnOk result (self.new.prepared ≡ Some (Lone job (Kill key.now extent) Done)) }
         ensures refused { OnErr result (self.new.prepared ≡ None) }
         ensures used_up { 2 ^ 64 - 1 < length self.old.units + 1 → IsErrOf result Refusal.StampsUsedUp }
         ensures cause { IfErr result (λ refusal. HasNoRoom refusal 1 (length self.old.units)) }
@@ -271,7 +271,7 @@ impl Journal {
         self.prepared = None;
         self.log.begin()?;
         self.tallies.make_room(job)?;
-        self.log.write_kill(job, key)?;
+        self.log.write_kill(job, key, extent)?;
         self.prepared = Some(Prepared {
             job,
             is_tallied: true,

@@ -18,7 +18,7 @@ use crate::write::{
     push_whole, write_end,
 };
 use collation::{Direction, Job};
-use command::{Answer, DataCommand};
+use command::{Answer, DataCommand, Extent};
 use key_codec::{Key, Place};
 use lock_name::LockCommand;
 use std::alloc::{AllocError, Global};
@@ -185,15 +185,20 @@ impl Log {
         settle(&mut self.bytes, self.end, self.ends, written)
     }
 
-    /// Writes a KILL outside a transaction, from its key; refused as `write_lone`.
-    pub(crate) fn write_kill(&mut self, job: Job, key: &Key) -> Result<(), AllocError>
+    /// Writes a KILL, KVALUE or KSUBSCRIPTS outside a transaction, from its key; refused as `write_lone`.
+    pub(crate) fn write_kill(
+        &mut self,
+        job: Job,
+        key: &Key,
+        extent: Extent,
+    ) -> Result<(), AllocError>
         requires { self.old.behind ≡ [] }
         ensures units { self.new.units ≡ self.old.units }
         ensures ends { self.new.ends ≡ self.old.ends }
-        ensures ok { OnOk result (IsUnitOf self.new.behind job (Lone job (Kill key.now) Done)) }
+        ensures ok { OnOk result (IsUnitOf self.new.behind job (Lone job (Kill key.now extent) Done)) }
         ensures err { OnErr result (self.new.behind ≡ []) }
     {
-        let written = push_kill(&mut self.bytes, job, key);
+        let written = push_kill(&mut self.bytes, job, key, extent);
         settle(&mut self.bytes, self.end, self.ends, written)
     }
 

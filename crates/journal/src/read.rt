@@ -4,8 +4,8 @@ ghost use Rattle.std.specs.Int.{w16, w64};
 ghost use Rattle.journal.specs.Reading as reading;
 
 use crate::unit::{Exchange, Exchanges, Unit};
-use collation::{Direction, Job, Ref, Text};
-use command::{Answer, DataCommand, Look};
+use collation::{Direction, Job, Name, Ref, Text};
+use command::{Answer, DataCommand, Extent, Look};
 use key_codec::{Key, Place, decode};
 use lock_name::{LockCommand, LockName, LockNames};
 use smallvec::SmallVec;
@@ -235,12 +235,26 @@ fn read_set(alloc: Global, bytes: &[u8]) -> Result<(DataCommand, &[u8]), Unread>
     }
 }
 
-fn read_kill(alloc: Global, bytes: &[u8]) -> Result<(DataCommand, &[u8]), Unread>
-    ensures some { IfOk result (λ p. reading.kill_at bytes.now ≡ Some (p.0, p.1.now)) }
-    ensures none { IfErr result (λ e. e ≡ Unread.Form → reading.kill_at bytes.now ≡ None) }
+fn read_kill(alloc: Global, extent: Extent, bytes: &[u8]) -> Result<(DataCommand, &[u8]), Unread>
+    ensures some { IfOk result (λ p. reading.kill_at extent bytes.now ≡ Some (p.0, p.1.now)) }
+    ensures none { IfErr result (λ e. e ≡ Unread.Form → reading.kill_at extent bytes.now ≡ None) }
 {
     let (key, rest) = read_key(alloc, bytes)?;
-    Ok((DataCommand::Kill(key), rest))
+    Ok((DataCommand::Kill(key, extent), rest))
+}
+
+fn read_increment(alloc: Global, bytes: &[u8]) -> Result<(DataCommand, &[u8]), Unread>
+    ensures some { IfOk result (λ p. reading.increment_at bytes.now ≡ Some (p.0, p.1.now)) }
+    ensures none { IfErr result (λ e. e ≡ Unread.Form → reading.increment_at bytes.now ≡ None) }
+{
+    let (key, behind) = read_key(alloc, bytes)?;
+    match read_text(alloc, behind) {
+        Ok((number, rest)) => Ok((DataCommand::Increment(key, number), rest)),
+        Err(unread) => {
+            drop(key);
+            Err(unread)
+        }
+    }
 }
 
 fn read_merge(alloc: Global, bytes: &[u8]) -> Result<(DataCommand, &[u8]), Unread>
@@ -315,6 +329,44 @@ fn read_query(
     Ok((Look::Query(place, direction), rest))
 }
 
+// A name without its caret.
+#[tactic(auto, unfolding(crate::specs::Reading::named_at))]
+fn read_global(alloc: Global, bytes: &[u8]) -> Result<(Name, &[u8]), Unread>
+    ensures some { IfOk result (λ p. reading.named_at bytes.now ≡ Some (p.0, p.1.now)) }
+    ensures none { IfErr result (λ e. e ≡ Unread.Form → reading.named_at bytes.now ≡ None) }
+{
+    let (text, rest) = read_text(alloc, bytes)?;
+    match Name::new(text) {
+        Ok(name) => Ok((name, rest)),
+        Err(_) => Err(Unread::Form),
+    }
+}
+
+fn read_name_from(
+    alloc: Global,
+    direction: Direction,
+    bytes: &[u8],
+) -> Result<(Look, &[u8]), Unread>
+    ensures some { IfOk result (λ p. reading.name_from_at direction bytes.now ≡ Some (p.0, p.1.now)) }
+    ensures none { IfErr result (λ e. e ≡ Unread.Form → reading.name_from_at direction bytes.now ≡ None) }
+{
+    let (name, rest) = read_global(alloc, bytes)?;
+    Ok((Look::Name(Some(name), direction), rest))
+}
+
+fn read_next_name(alloc: Global, kind: u8, bytes: &[u8]) -> Result<(Look, &[u8]), Unread>
+    ensures some { IfOk result (λ p. reading.next_name_at kind bytes.now ≡ Some (p.0, p.1.now)) }
+    ensures none { IfErr result (λ e. e ≡ Unread.Form → reading.next_name_at kind bytes.now ≡ None) }
+{
+    match kind {
+        22 => read_name_from(alloc, Direction::Forward, bytes),
+        23 => read_name_from(alloc, Direction::Backward, bytes),
+        24 => Ok((Look::Name(None, Direction::Forward), bytes)),
+        25 => Ok((Look::Name(None, Direction::Backward), bytes)),
+        _ => Err(Unread::Form),
+    }
+}
+
 fn read_traversal(alloc: Global, kind: u8, bytes: &[u8]) -> Result<(Look, &[u8]), Unread>
     ensures some { IfOk result (λ p. reading.traversal_at kind bytes.now ≡ Some (p.0, p.1.now)) }
     ensures none { IfErr result (λ e. e ≡ Unread.Form → reading.traversal_at kind bytes.now ≡ None) }
@@ -328,7 +380,7 @@ fn read_traversal(alloc: Global, kind: u8, bytes: &[u8]) -> Result<(Look, &[u8])
         11 => read_query(alloc, false, Direction::Backward, bytes),
         12 => read_query(alloc, true, Direction::Forward, bytes),
         13 => read_query(alloc, true, Direction::Backward, bytes),
-        _ => Err(Unread::Form),
+        _ => read_next_name(alloc, kind, bytes),
     }
 }
 
@@ -360,8 +412,20 @@ fn read_command(alloc: Global, kind: u8, bytes: &[u8]) -> Result<(DataCommand, &
 {
     match kind {
         0 => read_set(alloc, bytes),
-        1 => read_kill(alloc, bytes),
+        1 => read_kill(alloc, Extent::All, bytes),
         2 => read_merge(alloc, bytes),
+        _ => read_later(alloc, kind, bytes),
+    }
+}
+
+fn read_later(alloc: Global, kind: u8, bytes: &[u8]) -> Result<(DataCommand, &[u8]), Unread>
+    ensures some { IfOk result (λ p. reading.later_command_at kind bytes.now ≡ Some (p.0, p.1.now)) }
+    ensures none { IfErr result (λ e. e ≡ Unread.Form → reading.later_command_at kind bytes.now ≡ None) }
+{
+    match kind {
+        19 => read_kill(alloc, Extent::Value, bytes),
+        20 => read_kill(alloc, Extent::Below, bytes),
+        21 => read_increment(alloc, bytes),
         _ => read_looking(alloc, kind, bytes),
     }
 }
@@ -531,7 +595,8 @@ fn read_deed(alloc: Global, job: Job, tag: u8, bytes: &[u8]) -> Result<(Unit, &[
         56 => read_whole(alloc, job, bytes),
         57 => Ok((Unit::Back(job), bytes)),
         58 => Ok((Unit::End(job), bytes)),
-        _ => read_locked(alloc, job, tag, bytes),
+        59..=75 => read_locked(alloc, job, tag, bytes),
+        _ => read_lone(alloc, job, tag, bytes),
     }
 }
 

@@ -13,8 +13,8 @@ use crate::buffer::{
     make_room, push_byte, push_head, push_number, write_bytes, write_head, write_number,
 };
 use crate::exchanges::ExchangeLog;
-use collation::{Direction, Job};
-use command::{Answer, DataCommand, Look};
+use collation::{Direction, Job, Name};
+use command::{Answer, DataCommand, Extent, Look};
 use key_codec::{Key, Place};
 use lock_name::{LockCommand, LockName, LockNames};
 use std::alloc::AllocError;
@@ -108,7 +108,7 @@ fn query_kind(place: &Place, direction: Direction) -> u8
 #[tactic(auto, using(crate::specs::laws::Reading::look_low))]
 fn look_kind(look: &Look) -> u8
     ensures kind { result ≡ format.look_kind look.now }
-    ensures low { result ≤ 13 }
+    ensures low { result ≤ 25 }
 {
     match look {
         Look::Data(_) => 3,
@@ -116,6 +116,18 @@ fn look_kind(look: &Look) -> u8
         Look::Get(_, Some(_)) => 5,
         Look::Order(place, direction) => order_kind(place, *direction),
         Look::Query(place, direction) => query_kind(place, *direction),
+        Look::Name(start, direction) => name_kind(start, *direction),
+    }
+}
+
+fn name_kind(start: &Option<Name>, direction: Direction) -> u8
+    ensures { result ≡ format.name_kind start.now direction }
+{
+    match (start, direction) {
+        (Some(_), Direction::Forward) => 22,
+        (Some(_), Direction::Backward) => 23,
+        (None, Direction::Forward) => 24,
+        (None, Direction::Backward) => 25,
     }
 }
 
@@ -134,17 +146,31 @@ fn push_look(bytes: &mut Vec<u8>, look: &Look) -> Result<(), AllocError>
         }
         Look::Order(place, _) => push_key(bytes, place.key()),
         Look::Query(place, _) => push_key(bytes, place.key()),
+        Look::Name(Some(start), _) => push_string(bytes, start.as_slice()),
+        Look::Name(None, _) => Ok(()),
+    }
+}
+
+fn kill_kind(extent: Extent) -> u8
+    ensures kind { result ≡ format.kill_kind extent }
+    ensures low { result ≤ 20 }
+{
+    match extent {
+        Extent::All => 1,
+        Extent::Value => 19,
+        Extent::Below => 20,
     }
 }
 
 fn command_kind(command: &DataCommand) -> u8
     ensures kind { result ≡ format.command_kind command.now }
-    ensures low { result ≤ 13 }
+    ensures low { result ≤ 25 }
 {
     match command {
         DataCommand::Set(_, _) => 0,
-        DataCommand::Kill(_) => 1,
+        DataCommand::Kill(_, extent) => kill_kind(*extent),
         DataCommand::Merge(_, _) => 2,
+        DataCommand::Increment(_, _) => 21,
         DataCommand::Look(look) => look_kind(look),
     }
 }
@@ -160,10 +186,14 @@ fn push_command(bytes: &mut Vec<u8>, command: &DataCommand) -> Result<(), AllocE
             push_key(bytes, key)?;
             push_string(bytes, value.as_slice())
         }
-        DataCommand::Kill(key) => push_key(bytes, key),
+        DataCommand::Kill(key, _) => push_key(bytes, key),
         DataCommand::Merge(target, source) => {
             push_key(bytes, target)?;
             push_key(bytes, source)
+        }
+        DataCommand::Increment(key, number) => {
+            push_key(bytes, key)?;
+            push_string(bytes, number.as_slice())
         }
         DataCommand::Look(look) => push_look(bytes, look),
     }
@@ -293,7 +323,7 @@ pub(crate) fn push_lone(
         (DataCommand::Look(Look::Order(place, direction)), Answer::Value(value)) => {
             push_order(bytes, job, place, *direction, value.as_slice())
         }
-        (DataCommand::Kill(key), Answer::Done) => push_kill(bytes, job, key),
+        (DataCommand::Kill(key, extent), Answer::Done) => push_kill(bytes, job, key, *extent),
         _ => push_other(bytes, job, command, answer),
     }
 }
@@ -435,14 +465,19 @@ pub(crate) fn push_order(
     push_pair(bytes, job, tag, place.key(), value)
 }
 
-// The unit of a KILL outside a transaction, from its key.
-pub(crate) fn push_kill(bytes: &mut Vec<u8>, job: Job, key: &Key) -> Result<(), AllocError>
-    ensures bytes { OnOk result (bytes.new.items ≡ bytes.old.items ++ format.unit_bytes (Lone job (Kill key.now) Done)) }
-    ensures fits { OnOk result (FitsUnit (Lone job (Kill key.now) Done)) }
+// The unit of a KILL, KVALUE or KSUBSCRIPTS outside a transaction, from its key.
+pub(crate) fn push_kill(
+    bytes: &mut Vec<u8>,
+    job: Job,
+    key: &Key,
+    extent: Extent,
+) -> Result<(), AllocError>
+    ensures bytes { OnOk result (bytes.new.items ≡ bytes.old.items ++ format.unit_bytes (Lone job (Kill key.now extent) Done)) }
+    ensures fits { OnOk result (FitsUnit (Lone job (Kill key.now extent) Done)) }
     ensures kept { GoesOnFrom bytes.old.items bytes.new.items }
     ensures capacity { vec_capacity bytes.old ≤ vec_capacity bytes.new }
 {
-    push_head(bytes, job, 4)?;
+    push_head(bytes, job, 4 * kill_kind(extent))?;
     push_key(bytes, key)
 }
 

@@ -5,9 +5,9 @@ use Rattle.collation.specs.Reference.{Reference, Resource}
 use Rattle.lock_name.specs.declared.lock.LockCommand.{LockCommand}
 use Rattle.lock_name.specs.declared.lock.LockCommand.TheVariants.{Release, Only, More, Fewer}
 use Rattle.command.specs.declared.access.DataCommand.{DataCommand}
-use Rattle.command.specs.declared.access.DataCommand.TheVariants.{Set, Kill, Merge, Look}
+use Rattle.command.specs.declared.access.DataCommand.TheVariants.{Set, Kill, Merge, Increment, Look}
 use Rattle.command.specs.declared.access.Look.{Look as LookCommand}
-use Rattle.command.specs.declared.access.Look.TheVariants.{Data, Get, Order, Query}
+use Rattle.command.specs.declared.access.Look.TheVariants.{Data, Get, Order, Query, Name}
 use Rattle.command.specs.declared.request.Command.{Command}
 use Rattle.command.specs.declared.request.Command.TheVariants.{Access, Lock as lock_command, Start, Commit, Rollback, Restart, Level, Restarts, Halt}
 use Rattle.journal.specs.declared.unit.Exchange.{Exchange}
@@ -17,6 +17,7 @@ use Rattle.journal.specs.Stored.{Each}
 use Rattle.m_text.specs.Written.{is_plain}
 use Rattle.m_text.specs.Forms.{are_bytes}
 use Rattle.script.specs.Commands.{command_fault}
+use Rattle.canonic_number.specs.Number.{is_canonic}
 use Rattle.script.specs.Line.{is_job, reading_of}
 use Rattle.journal_lines.specs.Steps.{step_text}
 use Rattle.journal_lines.specs.Journals.{Step, steps_of}
@@ -32,12 +33,14 @@ LooksAtBytes (Get r None) = has_bytes r ≡ true
 LooksAtBytes (Get r (Some value)) = (has_bytes r ≡ true) × (are_bytes value ≡ true)
 LooksAtBytes (Order p direction) = has_bytes p.reference ≡ true
 LooksAtBytes (Query p direction) = has_bytes p.reference ≡ true
+LooksAtBytes (Name start direction) = ⊤
 
--- a data command holds bytes
+-- a data command holds bytes, $INCREMENT a canonic number
 abbrev pub HoldsBytes : DataCommand → Type 0
 HoldsBytes (Set r value) = (has_bytes r ≡ true) × (are_bytes value ≡ true)
-HoldsBytes (Kill r) = has_bytes r ≡ true
+HoldsBytes (Kill r extent) = has_bytes r ≡ true
 HoldsBytes (Merge a b) = (has_bytes a ≡ true) × (has_bytes b ≡ true)
+HoldsBytes (Increment r n) = (has_bytes r ≡ true) × (are_bytes n ≡ true) × (is_canonic n ≡ true)
 HoldsBytes (Look look) = LooksAtBytes look
 
 -- one lock name or more, of bytes

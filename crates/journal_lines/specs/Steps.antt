@@ -7,10 +7,12 @@ use Rattle.collation.specs.declared.direction.Direction.{Direction}
 use Rattle.collation.specs.declared.direction.Direction.TheVariants.{Forward, Backward}
 use Rattle.lock_name.specs.declared.lock.LockCommand.{LockCommand}
 use Rattle.lock_name.specs.declared.lock.LockCommand.TheVariants.{Release, Only, More, Fewer}
+use Rattle.command.specs.declared.access.Extent.{Extent}
+use Rattle.command.specs.declared.access.Extent.TheVariants.{All, Value as ValueAlone, Below}
 use Rattle.command.specs.declared.access.DataCommand.{DataCommand}
-use Rattle.command.specs.declared.access.DataCommand.TheVariants.{Set, Kill, Merge, Look}
+use Rattle.command.specs.declared.access.DataCommand.TheVariants.{Set, Kill, Merge, Increment, Look}
 use Rattle.command.specs.declared.access.Look.{Look as LookCommand}
-use Rattle.command.specs.declared.access.Look.TheVariants.{Data, Get, Order, Query}
+use Rattle.command.specs.declared.access.Look.TheVariants.{Data, Get, Order, Query, Name}
 use Rattle.command.specs.declared.request.Command.{Command}
 use Rattle.command.specs.declared.request.Command.TheVariants.{Access, Lock, Start, Commit, Rollback, Restart, Level, Restarts, Halt}
 use Rattle.m_text.specs.Written.{parted, literal_text, subscripts_text, reference_text}
@@ -33,18 +35,31 @@ abbrev pub direction_text : Direction → List ℕ
 direction_text Forward = []
 direction_text Backward = codes ",-1"
 
+-- the name from which $ORDER of names starts, in quotes, which are empty where there is none
+abbrev pub start_text : Option (List ℕ) → List ℕ
+start_text None = []
+start_text (Some n) = byte.caret ∷ n
+
 -- a command that looks
 abbrev pub look_text : LookCommand → List ℕ
 look_text (Data r) = codes "$DATA(" ++ (reference_text r ++ byte.closing ∷ [])
 look_text (Get r default) = codes "$GET(" ++ (reference_text r ++ (default_text default ++ byte.closing ∷ []))
 look_text (Order p direction) = codes "$ORDER(" ++ (reference_text (asked_reference p) ++ (direction_text direction ++ byte.closing ∷ []))
 look_text (Query p direction) = codes "$QUERY(" ++ (reference_text (asked_reference p) ++ (direction_text direction ++ byte.closing ∷ []))
+look_text (Name start direction) = codes "$ORDER(^$GLOBAL(" ++ (literal_text (start_text start) ++ (byte.closing ∷ (direction_text direction ++ byte.closing ∷ [])))
+
+-- the word of a kill, and a blank
+abbrev pub kill_word : Extent → List ℕ
+kill_word All = codes "KILL "
+kill_word ValueAlone = codes "KVALUE "
+kill_word Below = codes "KSUBSCRIPTS "
 
 -- a data command
 abbrev pub data_text : DataCommand → List ℕ
 data_text (Set r value) = codes "SET " ++ (reference_text r ++ byte.equals_sign ∷ literal_text value)
-data_text (Kill r) = codes "KILL " ++ reference_text r
+data_text (Kill r extent) = kill_word extent ++ reference_text r
 data_text (Merge a b) = codes "MERGE " ++ (reference_text a ++ byte.equals_sign ∷ reference_text b)
+data_text (Increment r n) = codes "$INCREMENT(" ++ (reference_text r ++ (byte.comma ∷ (literal_text n ++ byte.closing ∷ [])))
 data_text (Look look) = look_text look
 
 -- a lock name: a reference, or one without its caret

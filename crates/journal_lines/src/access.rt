@@ -3,11 +3,11 @@ ghost use Rattle.std.specs.Prelude.{◌≡◌, ◌++◌, ◌∷◌, [], ℕ, Lis
 ghost use Rattle.collation.specs.Bytes as byte;
 ghost use Rattle.collation.specs.Reference.{Reference};
 ghost use Rattle.key_codec.specs.Grown.{GoesOnFrom};
-ghost use Rattle.m_text.specs.Written.{reference_text};
+ghost use Rattle.m_text.specs.Written.{literal_text, reference_text};
 ghost use Rattle.journal_lines.specs.Steps as steps;
 
-use collation::{Direction, Text};
-use command::{DataCommand, Look};
+use collation::{Direction, Name, Text};
+use command::{DataCommand, Extent, Look};
 use key_codec::{Key, Place};
 use m_text::{write_key, write_literal};
 use std::alloc::AllocError;
@@ -123,7 +123,40 @@ fn write_look(look: &Look, out: &mut Vec<u8>) -> Result<(), AllocError>
         Look::Get(key, default) => write_get(key, default, out),
         Look::Order(place, direction) => write_walk(b"$ORDER(", place, *direction, out),
         Look::Query(place, direction) => write_walk(b"$QUERY(", place, *direction, out),
+        Look::Name(start, direction) => write_names(start, *direction, out),
     }
+}
+
+// The start of $ORDER of names, as a literal. A name has no quotes.
+fn write_start(start: &Option<Name>, out: &mut Vec<u8>) -> Result<(), AllocError>
+    ensures ok { OnOk result (out.new.items ≡ out.old.items ++ literal_text (steps.start_text start.now)) }
+    ensures kept { GoesOnFrom out.old.items out.new.items }
+{
+    match start {
+        Some(name) => {
+            out.extend_from_slice(b"\"^")?;
+            out.extend_from_slice(name.as_slice())?;
+            out.push(b'"')?;
+            Ok(())
+        }
+        None => out.extend_from_slice(b"\"\""),
+    }
+}
+
+fn write_names(
+    start: &Option<Name>,
+    direction: Direction,
+    out: &mut Vec<u8>,
+) -> Result<(), AllocError>
+    ensures ok { OnOk result (out.new.items ≡ out.old.items ++ steps.look_text (Look.Name start.now direction)) }
+    ensures kept { GoesOnFrom out.old.items out.new.items }
+{
+    out.extend_from_slice(b"$ORDER(^$GLOBAL(")?;
+    write_start(start, out)?;
+    out.push(b')')?;
+    write_direction(direction, out)?;
+    out.push(b')')?;
+    Ok(())
 }
 
 fn write_set(key: &Key, value: &Text, out: &mut Vec<u8>) -> Result<(), AllocError>
@@ -137,11 +170,21 @@ fn write_set(key: &Key, value: &Text, out: &mut Vec<u8>) -> Result<(), AllocErro
     Ok(())
 }
 
-fn write_kill(key: &Key, out: &mut Vec<u8>) -> Result<(), AllocError>
-    ensures ok { OnOk result (out.new.items ≡ out.old.items ++ steps.data_text (DataCommand.Kill key.now)) }
+fn kill_word(extent: Extent) -> &'static [u8]
+    ensures { result.now ≡ steps.kill_word extent }
+{
+    match extent {
+        Extent::All => b"KILL ",
+        Extent::Value => b"KVALUE ",
+        Extent::Below => b"KSUBSCRIPTS ",
+    }
+}
+
+fn write_kill(key: &Key, extent: Extent, out: &mut Vec<u8>) -> Result<(), AllocError>
+    ensures ok { OnOk result (out.new.items ≡ out.old.items ++ steps.data_text (DataCommand.Kill key.now extent)) }
     ensures kept { GoesOnFrom out.old.items out.new.items }
 {
-    out.extend_from_slice(b"KILL ")?;
+    out.extend_from_slice(kill_word(extent))?;
     write_key(key, out)?;
     Ok(())
 }
@@ -157,6 +200,18 @@ fn write_merge(target: &Key, source: &Key, out: &mut Vec<u8>) -> Result<(), Allo
     Ok(())
 }
 
+fn write_increment(key: &Key, number: &Text, out: &mut Vec<u8>) -> Result<(), AllocError>
+    ensures ok { OnOk result (out.new.items ≡ out.old.items ++ steps.data_text (DataCommand.Increment key.now number.now)) }
+    ensures kept { GoesOnFrom out.old.items out.new.items }
+{
+    out.extend_from_slice(b"$INCREMENT(")?;
+    write_key(key, out)?;
+    out.push(b',')?;
+    write_literal(number.as_slice(), out)?;
+    out.push(b')')?;
+    Ok(())
+}
+
 /// Writes a data command at the end of `out`. Where memory is refused, what stood there stands there still.
 pub(crate) fn write_access(command: &DataCommand, out: &mut Vec<u8>) -> Result<(), AllocError>
     ensures ok { OnOk result (out.new.items ≡ out.old.items ++ steps.data_text command.now) }
@@ -164,8 +219,9 @@ pub(crate) fn write_access(command: &DataCommand, out: &mut Vec<u8>) -> Result<(
 {
     match command {
         DataCommand::Set(key, value) => write_set(key, value, out),
-        DataCommand::Kill(key) => write_kill(key, out),
+        DataCommand::Kill(key, extent) => write_kill(key, *extent, out),
         DataCommand::Merge(target, source) => write_merge(target, source, out),
+        DataCommand::Increment(key, number) => write_increment(key, number, out),
         DataCommand::Look(look) => write_look(look, out),
     }
 }

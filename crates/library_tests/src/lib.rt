@@ -9,6 +9,8 @@ mod calls;
 #[cfg(test)]
 mod copies;
 #[cfg(test)]
+mod increments;
+#[cfg(test)]
 mod keys;
 #[cfg(test)]
 mod lines;

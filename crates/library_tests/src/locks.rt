@@ -78,3 +78,14 @@ fn several_names_are_had_all_or_none(rt: HostRuntime) -> Result<(), Fail> {
     assert_eq!(rt; (back, then), (Ok(1), Ok(1)));
     Ok(())
 }
+
+#[test]
+fn a_lock_of_no_names_is_refused(rt: HostRuntime) -> Result<(), Fail> {
+    let mut engine = Embedded::new(rt.alloc());
+    let mut number = 99;
+    let names = Vec::new(rt.alloc());
+    let outcome = lock_names(&mut engine, 1, LockForm::Only, names, &mut number);
+    drop(engine);
+    assert_eq!(rt; (outcome, number), (Outcome::Refused(Refusal::BadLine), 0));
+    Ok(())
+}

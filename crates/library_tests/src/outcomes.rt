@@ -14,11 +14,11 @@ fn is_known(number: u32) -> bool {
 }
 
 #[test]
-fn refusals_have_1_to_18_and_the_others_0_and_32_to_42(rt: HostRuntime) -> Result<(), Fail> {
+fn refusals_have_1_to_19_and_the_others_0_and_32_to_42(rt: HostRuntime) -> Result<(), Fail> {
     for number in 0..50 {
         assert_eq!(rt;
             is_known(number),
-            number <= 18 || (32..=42).contains(&number)
+            number <= 19 || (32..=42).contains(&number)
         );
     }
     Ok(())

@@ -8,7 +8,7 @@ use Rattle.collation.specs.Reference.{Reference}
 use Rattle.collation.specs.Database.{Database}
 use Rattle.collation.specs.Answers.{set_all}
 use Rattle.command.specs.declared.access.DataCommand.{DataCommand}
-use Rattle.command.specs.declared.access.DataCommand.TheVariants.{Set, Kill, Merge, Look}
+use Rattle.command.specs.declared.access.DataCommand.TheVariants.{Set, Kill, Merge, Increment, Look}
 use Rattle.command.specs.declared.request.Command.{Command}
 use Rattle.command.specs.declared.request.Command.TheVariants.{Access, Lock, Start, Commit, Rollback, Restart, Level, Restarts, Halt}
 use Rattle.script.specs.Line.{reading_of}
@@ -31,8 +31,9 @@ set_line line = codes "1 SET " ++ line
 -- what a SET sets; no other command is read from such a line
 abbrev pub set_by : DataCommand → Result Setting Refusal
 set_by (Set r v) = Ok (r, v)
-set_by (Kill r) = Err BadLine
+set_by (Kill r extent) = Err BadLine
 set_by (Merge a b) = Err BadLine
+set_by (Increment r n) = Err BadLine
 set_by (Look look) = Err BadLine
 
 abbrev pub asked_by : Command → Result Setting Refusal

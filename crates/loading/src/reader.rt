@@ -140,7 +140,10 @@ fn set_by(command: DataCommand) -> (Key, Text)
 {
     match command {
         DataCommand::Set(key, value) => (key, value),
-        DataCommand::Kill(_) | DataCommand::Merge(..) | DataCommand::Look(_) => unreachable!(),
+        DataCommand::Kill(..)
+        | DataCommand::Merge(..)
+        | DataCommand::Increment(..)
+        | DataCommand::Look(_) => unreachable!(),
     }
 }
 

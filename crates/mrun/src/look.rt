@@ -10,16 +10,18 @@ use std::alloc::{AllocError, Global};
 // At most so many nodes are shown.
 const MOST_NODES: usize = 100;
 
-// The reference that a data command names first.
-fn first_key(command: &DataCommand) -> &Key {
+// The reference that a data command names first, where it names one.
+fn first_key(command: &DataCommand) -> Option<&Key> {
     match command {
-        DataCommand::Set(key, _) => key,
-        DataCommand::Kill(key) => key,
-        DataCommand::Merge(key, _) => key,
-        DataCommand::Look(Look::Data(key)) => key,
-        DataCommand::Look(Look::Get(key, _)) => key,
-        DataCommand::Look(Look::Order(place, _)) => place.key(),
-        DataCommand::Look(Look::Query(place, _)) => place.key(),
+        DataCommand::Set(key, _) => Some(key),
+        DataCommand::Kill(key, _) => Some(key),
+        DataCommand::Merge(key, _) => Some(key),
+        DataCommand::Increment(key, _) => Some(key),
+        DataCommand::Look(Look::Data(key)) => Some(key),
+        DataCommand::Look(Look::Get(key, _)) => Some(key),
+        DataCommand::Look(Look::Order(place, _)) => Some(place.key()),
+        DataCommand::Look(Look::Query(place, _)) => Some(place.key()),
+        DataCommand::Look(Look::Name(_, _)) => None,
     }
 }
 
@@ -84,7 +86,7 @@ fn asked_by(alloc: Global, line: &[u8]) -> Option<Command> {
 // The reference that a command names first, if it names one.
 fn root_of(asked: &Option<Command>) -> Option<&Key> {
     match asked {
-        Some(Command::Access(command)) => Some(first_key(command)),
+        Some(Command::Access(command)) => first_key(command),
         _ => None,
     }
 }

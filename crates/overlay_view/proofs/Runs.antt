@@ -14,9 +14,9 @@ use Rattle.collation.specs.Reference.{Reference}
 use Rattle.collation.specs.Order.{ref_cmp}
 use Rattle.collation.specs.laws.Order.{ref_cmp_total, is_less, turned}
 use Rattle.collation.specs.Database.{Database}
-use Rattle.collation.specs.Levels.{is_before}
+use Rattle.command.specs.declared.access.Extent.{Extent}
 use Rattle.globals.specs.declared.cut.Cut.{Cut}
-use Rattle.globals.specs.Cuts.{stands_before, entries_from, IsRun}
+use Rattle.globals.specs.Cuts.{stands_before, taken_end, entries_from, IsRun}
 use Rattle.globals.specs.laws.Steps.{behind_member}
 use Rattle.workspace.specs.Layers.{is_killed, IsKiller}
 use Rattle.overlay_view.specs.Merging.{without_killed, joined, IsJustBehind}
@@ -30,19 +30,19 @@ false_of_not true h = absurd (cc)
 false_of_not false h = refl
 
 -- after a killed reference stands what is after all that is killed with it
-pub behind_killed : (ks : List Reference) (x r : Reference) → IsKiller ks x r → (y : Reference) → is_killed ks y ≡ false → is_before true r y ≡ not (is_lt (ref_cmp x y))
-behind_killed ks x r kills y free = sym (not-not (is_before true r y)) ∙ ap not (both_ways _ _ (λ h. ap is_lt (left_after true r x y kills.above h)) onward)
+pub behind_killed : (ks : List (Reference × Extent)) (x r : Reference) (extent : Extent) → IsKiller ks x r extent → (y : Reference) → is_killed ks y ≡ false → taken_end extent r y ≡ not (is_lt (ref_cmp x y))
+behind_killed ks x r extent kills y free = sym (not-not (taken_end extent r y)) ∙ ap not (both_ways _ _ (λ h. ap is_lt (left_after true r extent x y kills.above h)) onward)
   where
-    onward : is_lt (ref_cmp x y) ≡ true → not (is_before true r y) ≡ true
-    onward l = has_left_so true r x y kills.above (false_from_ne_true _ (λ u. let k = kills.all y u in absurd (cc)))
+    onward : is_lt (ref_cmp x y) ≡ true → not (taken_end extent r y) ≡ true
+    onward l = has_left_so true r extent x y kills.above (false_from_ne_true _ (λ u. let k = kills.all y u in absurd (cc)))
         (λ m. let back = turned ref_cmp_total x y Less (is_less _ l) in absurd (cc))
 
-pub killed_further : (ks : List Reference) (x r : Reference) → IsKiller ks x r → (y : Reference) → not (is_lt (ref_cmp x y)) ≡ true → is_before true r y ≡ true
-killed_further ks x r kills y h = by_test (is_before true r y) refl
+pub killed_further : (ks : List (Reference × Extent)) (x r : Reference) (extent : Extent) → IsKiller ks x r extent → (y : Reference) → not (is_lt (ref_cmp x y)) ≡ true → taken_end extent r y ≡ true
+killed_further ks x r extent kills y h = by_test (taken_end extent r y) refl
   where
-    by_test : (b : Bool) → is_before true r y ≡ b → b ≡ true
+    by_test : (b : Bool) → taken_end extent r y ≡ b → b ≡ true
     by_test true is = refl
-    by_test false is = let l : is_lt (ref_cmp x y) ≡ true = ap is_lt (left_after true r x y kills.above (ap not is)) in let n = false_of_not _ h in absurd (cc)
+    by_test false is = let l : is_lt (ref_cmp x y) ≡ true = ap is_lt (left_after true r extent x y kills.above (ap not is)) in let n = false_of_not _ h in absurd (cc)
 
 -- ---- what isn't killed
 
@@ -53,7 +53,7 @@ both_tests P Q (e ∷ es) = elim (P e.0) as (λ p. filter (λ e. Q e.0) (cond p 
   | false ↦ both_tests P Q es
 ]
 
-module _ (ks : List Reference) (x : Reference) (cut : Cut) (is : IsJustBehind ks x cut) where
+module _ (ks : List (Reference × Extent)) (x : Reference) (cut : Cut) (is : IsJustBehind ks x cut) where
   same_test : (y : Reference) → (not (not (is_lt (ref_cmp x y))) && not (is_killed ks y)) ≡ (not (stands_before cut y) && not (is_killed ks y))
   same_test y = by_killed (is_killed ks y) refl
     where
@@ -88,13 +88,13 @@ module _ (from : Cut) (m : Database) (most : ℕ) (found : List Node) (e : Node)
   some_found = let n : length (drop (length found - 1) found) ≡ 1 = ap length last in omega (arith, n, length-drop (length found - 1) found)
 
   -- all of it is killed: nothing is lost where it goes on after
-  pub passed_on : (ks : List Reference) (cut : Cut) → IsJustBehind ks e.0 cut → without_killed ks found ≡ [] → without_killed ks (entries_from cut m) ≡ without_killed ks (entries_from from m)
+  pub passed_on : (ks : List (Reference × Extent)) (cut : Cut) → IsJustBehind ks e.0 cut → without_killed ks found ≡ [] → without_killed ks (entries_from cut m) ≡ without_killed ks (entries_from from m)
   passed_on ks cut behind none =
       sym (behind_same ks e.0 cut behind (finmap.entries m)) ∙ ap (without_killed ks) rest_is
       ∙ ap (λ l. l ++ without_killed ks is.front.rest) (sym none) ∙ sym (filter-append (λ e. not (is_killed ks e.0)) found is.front.rest)
       ∙ ap (without_killed ks) (sym is.front.parts)
 
-  pub fewer_from : (ks : List Reference) (cut : Cut) → IsJustBehind ks e.0 cut → length (entries_from cut m) < length (entries_from from m)
+  pub fewer_from : (ks : List (Reference × Extent)) (cut : Cut) → IsJustBehind ks e.0 cut → length (entries_from cut m) < length (entries_from from m)
   fewer_from ks cut behind =
       let fewer = fewer_behind ks e.0 cut behind (finmap.entries m) in
       let rest : length (filter (λ f. not (not (is_lt (ref_cmp e.0 f.0)))) (finmap.entries m)) ≡ length is.front.rest = ap length rest_is in
@@ -110,7 +110,7 @@ nothing_in [] h = refl
 nothing_in (e ∷ es) h = absurd (omega (arith, h))
 
 -- some of it isn't killed
-pub left_found : (ks : List Reference) (most n : ℕ) (found left all goal : List Node) → IsRun most found all → left ≡ without_killed ks found → n ≡ length left → 0 < n → without_killed ks all ≡ goal → IsRun most left goal
+pub left_found : (ks : List (Reference × Extent)) (most n : ℕ) (found left all goal : List Node) → IsRun most found all → left ≡ without_killed ks found → n ≡ length left → 0 < n → without_killed ks all ≡ goal → IsRun most left goal
 left_found ks most n found left all goal is kept counted some same = record {
   front = record {
     rest = without_killed ks is.front.rest;
@@ -121,7 +121,7 @@ left_found ks most n found left all goal is kept counted some same = record {
 }
 
 -- the view has nothing more
-pub nothing_left : (ks : List Reference) (most : ℕ) (found all goal : List Node) → IsRun most found all → found ≡ [] → without_killed ks all ≡ goal → IsRun most found goal
+pub nothing_left : (ks : List (Reference × Extent)) (most : ℕ) (found all goal : List Node) → IsRun most found all → found ≡ [] → without_killed ks all ≡ goal → IsRun most found goal
 nothing_left ks most found all goal is none same = record {
   front = record { rest = goal; parts = ap (λ l. l ++ goal) (sym none) };
   bounded = is.bounded;
@@ -129,27 +129,27 @@ nothing_left ks most found all goal is none same = record {
 }
 
 -- nothing of it is left
-pub none_unkilled : (ks : List Reference) (found left : List Node) (n : ℕ) → left ≡ without_killed ks found → n ≡ length left → n ≤ 0 → without_killed ks found ≡ []
+pub none_unkilled : (ks : List (Reference × Extent)) (found left : List Node) (n : ℕ) → left ≡ without_killed ks found → n ≡ length left → n ≤ 0 → without_killed ks found ≡ []
 none_unkilled ks found left n kept counted zero = sym kept ∙ nothing_in left (omega (arith, counted, zero))
 
 -- ---- one node of a run is looked at
 
-pub kept_on : (ks : List Reference) (found left more after later : List Node) (e : Node) → left ++ without_killed ks after ≡ without_killed ks found → after ≡ e ∷ later → more ≡ left ++ without_killed ks (e ∷ [])
+pub kept_on : (ks : List (Reference × Extent)) (found left more after later : List Node) (e : Node) → left ++ without_killed ks after ≡ without_killed ks found → after ≡ e ∷ later → more ≡ left ++ without_killed ks (e ∷ [])
     → more ++ without_killed ks later ≡ without_killed ks found
 kept_on ks found left more after later e so first kept =
     ap (λ l. l ++ without_killed ks later) kept ∙ append_assoc left (without_killed ks (e ∷ [])) (without_killed ks later)
     ∙ ap (λ l. left ++ l) (sym (filter-append (λ f. not (is_killed ks f.0)) (e ∷ []) later)) ∙ ap (λ l. left ++ without_killed ks l) (sym first) ∙ so
 
-pub few_on : (ks : List Reference) (left more : List Node) (e : Node) (n : ℕ) → length left ≤ n → more ≡ left ++ without_killed ks (e ∷ []) → length more ≤ n + 1
+pub few_on : (ks : List (Reference × Extent)) (left more : List Node) (e : Node) (n : ℕ) → length left ≤ n → more ≡ left ++ without_killed ks (e ∷ []) → length more ≤ n + 1
 few_on ks left more e n few kept =
     let l : length more ≡ length left + length (without_killed ks (e ∷ [])) = ap length kept ∙ length-append left (without_killed ks (e ∷ [])) in
     let one = no_longer (λ f. not (is_killed ks f.0)) (e ∷ []) in
     omega (arith, few, l, one)
 
-pub kept_one : (ks : List Reference) (left : List Node) (e : Node) → is_killed ks e.0 ≡ false → left ++ e ∷ [] ≡ left ++ without_killed ks (e ∷ [])
+pub kept_one : (ks : List (Reference × Extent)) (left : List Node) (e : Node) → is_killed ks e.0 ≡ false → left ++ e ∷ [] ≡ left ++ without_killed ks (e ∷ [])
 kept_one ks left e free = ap (λ b. left ++ cond (not b) (e ∷ []) []) (sym free)
 
-pub kept_none : (ks : List Reference) (left : List Node) (e : Node) → is_killed ks e.0 ≡ true → left ≡ left ++ without_killed ks (e ∷ [])
+pub kept_none : (ks : List (Reference × Extent)) (left : List Node) (e : Node) → is_killed ks e.0 ≡ true → left ≡ left ++ without_killed ks (e ∷ [])
 kept_none ks left e killed = sym (append-nil left) ∙ ap (λ b. left ++ cond (not b) (e ∷ []) []) (sym killed)
 
 -- ---- two lists as one

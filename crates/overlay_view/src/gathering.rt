@@ -5,7 +5,7 @@ ghost use Rattle.globals.specs.Cuts.{entries_from, up_to, IsFront, IsRun};
 ghost use Rattle.overlay_view.specs.Merging.{without_killed, joined, IsJustBehind};
 
 use collation::Text;
-use globals::{Cut, OrderedView, Run};
+use globals::{Cut, OrderedView, Run, taken_to};
 use key_codec::Key;
 use std::cmp::Ordering;
 use workspace::Workspace;
@@ -40,7 +40,7 @@ fn behind<'v>(workspace: &'v Workspace, key: &'v Key) -> Cut<'v>
     ensures { IsJustBehind workspace.now.killed key.now result }
 {
     match workspace.killed_over(key) {
-        Some(killed) => Cut::Past(killed),
+        Some((killed, extent)) => taken_to(killed, extent),
         None => Cut::After(key),
     }
 }

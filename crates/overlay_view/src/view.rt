@@ -3,11 +3,12 @@ ghost use Rattle.std.specs.Prelude.{◌≡◌, true, false, None, Some, MatchOpt
 ghost use Rattle.globals.specs.Entries.{nearest_entry};
 ghost use Rattle.collation.specs.Answers.{is_forward};
 ghost use Rattle.globals.specs.Cuts.{down_to, up_to};
-ghost use Rattle.overlay_view.specs.Merging.{end_by_own, floor_by_own, is_left, lent_node, nearer as nearer_spec, IsLastEnd};
+ghost use Rattle.workspace.specs.Layers.{is_killed};
+ghost use Rattle.overlay_view.specs.Merging.{end_by_own, floor_by_own, is_left, lent_node, nearer as nearer_spec, IsKillsCut, IsLastEnd};
 
 use crate::gathering::{gather_left, join};
 use collation::{Direction, Text};
-use globals::{Cut, OrderedView, Run};
+use globals::{Cut, OrderedView, Run, taken_from, taken_to};
 use key_codec::Key;
 use workspace::Workspace;
 
@@ -28,6 +29,26 @@ impl<'v, V: OrderedView> Overlay<'v, V> {
     }
 }
 
+// Where the kill ends that takes a reference.
+fn end_of_kill<'v>(workspace: &'v Workspace, key: &'v Key) -> Cut<'v>
+    ensures { is_killed workspace.now.killed key.now ≡ true → IsKillsCut true workspace.now.killed key.now result }
+{
+    match workspace.killed_over(key) {
+        Some((killed, extent)) => taken_to(killed, extent),
+        None => Cut::After(key),
+    }
+}
+
+// Where it begins.
+fn beginning_of_kill<'v>(workspace: &'v Workspace, key: &'v Key) -> Cut<'v>
+    ensures { is_killed workspace.now.killed key.now ≡ true → IsKillsCut false workspace.now.killed key.now result }
+{
+    match workspace.killed_over(key) {
+        Some((killed, extent)) => taken_from(killed, extent),
+        None => Cut::Before(key),
+    }
+}
+
 // The first member of the view from the cut on and before the end that isn't killed.
 fn first_left<'v, V: OrderedView>(
     workspace: &'v Workspace,
@@ -40,10 +61,10 @@ fn first_left<'v, V: OrderedView>(
 {
     let mut from = cut;
     while let Some((key, value)) = view.next(from, end) {
-        match workspace.killed_over(key) {
-            Some(killed) => from = Cut::Past(killed),
-            None => return Some((key, value)),
+        if !workspace.is_killed(key) {
+            return Some((key, value));
         }
+        from = end_of_kill(workspace, key);
     }
     None
 }
@@ -60,10 +81,10 @@ fn last_left<'v, V: OrderedView>(
 {
     let mut from = cut;
     while let Some((key, value)) = view.prev(from, floor) {
-        match workspace.killed_over(key) {
-            Some(killed) => from = Cut::Before(killed),
-            None => return Some((key, value)),
+        if !workspace.is_killed(key) {
+            return Some((key, value));
         }
+        from = beginning_of_kill(workspace, key);
     }
     None
 }

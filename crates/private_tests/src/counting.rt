@@ -1,6 +1,7 @@
 //! A view that counts its look-ups, and how many the functions over a view make.
 use crate::keys::{key_of, put};
 use collation::{Direction, Text};
+use command::Extent;
 use globals::{Cut, OrderedView, Run, data, order, query, subtree, walk_from};
 use key_codec::{Key, Place};
 use key_map::KeyMap;
@@ -199,7 +200,7 @@ const DONE: [&[u8]; 17] = [
 
 pub fn kill(alloc: Global, own: &mut Workspace, spelled: &[u8]) -> Result<(), Refusal> {
     let key = key_of(alloc, spelled)?;
-    own.kill(alloc, key)?;
+    own.kill(alloc, key, Extent::All)?;
     Ok(())
 }
 

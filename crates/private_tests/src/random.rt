@@ -1,6 +1,7 @@
 //! Random lists of SET and KILL in a transaction, against the same done on a plain map.
 use crate::keys::{key_of, put};
 use collation::Text;
+use command::Extent;
 use globals::{Cut, OrderedView, walk_from};
 use key_codec::Key;
 use key_map::KeyMap;
@@ -73,7 +74,7 @@ fn set_own(alloc: Global, own: &mut Workspace, seed: u64) -> Result<(), Refusal>
 
 fn kill_own(alloc: Global, own: &mut Workspace, seed: u64) -> Result<(), Refusal> {
     let key = key_at(alloc, seed)?;
-    own.kill(alloc, key)?;
+    own.kill(alloc, key, Extent::All)?;
     Ok(())
 }
 

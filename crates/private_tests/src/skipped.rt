@@ -5,7 +5,7 @@ ghost use Rattle.stretches.specs.Empty.{AreEmpty};
 use crate::counting::{Counting, kill, thousand};
 use crate::keys::{key_of, text};
 use collation::{Direction, Text};
-use command::{Answer, DataCommand, Look};
+use command::{Answer, DataCommand, Extent, Look};
 use globals::{Cut, OrderedView};
 use key_codec::{Key, Place};
 use key_map::KeyMap;
@@ -231,7 +231,7 @@ fn merge_has(
 // Whether a KILL has a stretch to note, where nothing is noted yet.
 fn kill_has(alloc: Global, own: &Workspace, root: &[u8]) -> Result<bool, Refusal> {
     let root = key_of(alloc, root)?;
-    let stretch = scout_kill(&Killed { own }, &Stretches::new(alloc), &root);
+    let stretch = scout_kill(&Killed { own }, &Stretches::new(alloc), &root, Extent::All);
     drop(root);
     Ok(stretch.is_some())
 }

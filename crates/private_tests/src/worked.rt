@@ -1,6 +1,7 @@
 //! A worked transaction: what its overlay shows, and what it changes.
 use crate::keys::{is_key, key_of, put, shows, text};
 use collation::Text;
+use command::Extent;
 use globals::OrderedView;
 use key_codec::Key;
 use key_map::KeyMap;
@@ -30,7 +31,7 @@ fn set_key(alloc: Global, workspace: &mut Workspace, key: Key) -> Result<(), Ref
 
 fn kill(alloc: Global, workspace: &mut Workspace, spelled: &[u8]) -> Result<(), Refusal> {
     let key = key_of(alloc, spelled)?;
-    workspace.kill(alloc, key)?;
+    workspace.kill(alloc, key, Extent::All)?;
     Ok(())
 }
 

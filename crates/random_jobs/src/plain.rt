@@ -3,12 +3,53 @@
 use crate::Outcome;
 use crate::beyond::Search;
 use crate::plain_locks::PlainLocks;
-use command::{Answer, DataCommand, Look};
+use collation::{Direction, Name};
+use command::{Answer, DataCommand, Extent, Look};
 use journal::{Exchange, Journal, Unit};
 use key_codec::{Key, decode};
 use m_text::{write_key, write_literal};
 use std::alloc::{AllocError, Global};
 use std::collections::BTreeMap;
+
+// Whether a kill takes what has these bytes behind those of its root.
+fn takes(extent: Extent, rest: &[u8]) -> bool {
+    match extent {
+        Extent::All => true,
+        Extent::Value => rest.is_empty(),
+        Extent::Below => !rest.is_empty(),
+    }
+}
+
+// The name at the front of a key's bytes.
+fn name_of(key: &[u8]) -> &[u8] {
+    let end = key.iter().position(|byte: &u8| -> bool { *byte == 0 });
+    &key[..end.unwrap_or(key.len())]
+}
+
+// Whether a name comes after the start, or backward before it.
+fn is_beyond(start: &Option<Name>, direction: Direction, name: &[u8]) -> bool {
+    match (start, direction) {
+        (None, _) => true,
+        (Some(start), Direction::Forward) => start.as_slice() < name,
+        (Some(start), Direction::Backward) => name < start.as_slice(),
+    }
+}
+
+// The whole number that a text begins with.
+fn whole_of(text: &[u8]) -> i64 {
+    let (is_negative, digits) = match text {
+        [b'-', digits @ ..] => (true, digits),
+        _ => (false, text),
+    };
+    let mut number = 0i64;
+    for digit in digits.iter().take(15) {
+        if !digit.is_ascii_digit() {
+            break;
+        }
+        number = number * 10 + i64::from(*digit - b'0');
+    }
+    if is_negative { -number } else { number }
+}
 
 /// The map, and the locks.
 #[derive(Drop)]
@@ -46,8 +87,11 @@ impl Plain {
         Ok(found)
     }
 
-    fn kill(&mut self, alloc: Global, root: &[u8]) -> Result<(), AllocError> {
+    fn kill(&mut self, alloc: Global, root: &[u8], extent: Extent) -> Result<(), AllocError> {
         for (rest, _) in self.under(alloc, root)? {
+            if !takes(extent, &rest) {
+                continue;
+            }
             let mut key = Vec::from_slice(alloc, root)?;
             key.extend_from_slice(&rest)?;
             self.nodes.remove(key.as_slice());
@@ -141,7 +185,53 @@ impl Plain {
             Look::Query(place, direction) => {
                 self.is_query(alloc, &Search::query(place, *direction), answer)
             }
+            Look::Name(start, direction) => Ok(self.is_name(start, *direction, answer)),
         }
+    }
+
+    // The nearest name beyond a start.
+    fn nearest_name(&self, start: &Option<Name>, direction: Direction) -> &[u8] {
+        let mut nearest: &[u8] = &[];
+        for key in self.nodes.keys() {
+            let name = name_of(key);
+            if is_beyond(start, direction, name) {
+                if direction == Direction::Backward {
+                    nearest = name;
+                } else if nearest.is_empty() {
+                    return name;
+                }
+            }
+        }
+        nearest
+    }
+
+    // Whether $ORDER of names answers so.
+    fn is_name(&self, start: &Option<Name>, direction: Direction, answer: &Answer) -> bool {
+        let nearest = self.nearest_name(start, direction);
+        match answer {
+            Answer::Found(key) => key.name() == nearest && key.depth() == 0,
+            _ => nearest.is_empty() && is_value(answer, b""),
+        }
+    }
+
+    // Does an $INCREMENT of whole numbers. Whether its answer is the map's.
+    fn increments(
+        &mut self,
+        alloc: Global,
+        key: &[u8],
+        number: &[u8],
+        answer: &Answer,
+    ) -> Result<bool, AllocError> {
+        let before = match self.nodes.get(key) {
+            Some(value) => whole_of(value),
+            None => 0,
+        };
+        let Answer::Value(sum) = answer else {
+            return Ok(false);
+        };
+        let is_sum = whole_of(sum.as_slice()) == before + whole_of(number);
+        self.set(alloc, key, sum.as_slice())?;
+        Ok(is_sum)
     }
 
     // Does an exchange. Whether its answer is the map's.
@@ -153,8 +243,11 @@ impl Plain {
     ) -> Result<bool, AllocError> {
         match command {
             DataCommand::Set(key, value) => self.set(alloc, key.as_slice(), value.as_slice())?,
-            DataCommand::Kill(key) => self.kill(alloc, key.as_slice())?,
+            DataCommand::Kill(key, extent) => self.kill(alloc, key.as_slice(), *extent)?,
             DataCommand::Merge(to, from) => self.merge(alloc, to.as_slice(), from.as_slice())?,
+            DataCommand::Increment(key, number) => {
+                return self.increments(alloc, key.as_slice(), number.as_slice(), answer);
+            }
             DataCommand::Look(look) => return self.is_look(alloc, look, answer),
         }
         Ok(*answer == Answer::Done)

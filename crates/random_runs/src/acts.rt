@@ -1,12 +1,14 @@
 //! What a step asks, at random, and its line.
-use crate::places::{PLACES, are_alike, front_of, is_child, is_under, text_of};
+use crate::places::{GLOBALS, PLACES, are_alike, first_of, front_of, is_child, is_under, text_of};
+use command::Extent;
 use std::alloc::{AllocError, Global};
 
 /// A step of a job.
 #[derive(Clone, Copy, Debug)]
 pub enum Act {
-    Set(usize, u8),
-    Kill(usize),
+    Set(usize, u16),
+    Kill(usize, Extent),
+    Increment(usize, u16),
     Merge(usize, usize),
     Data(usize),
     Get(usize),
@@ -14,6 +16,8 @@ pub enum Act {
     Order(usize, Option<usize>, bool),
     /// The place, whether an empty subscript follows it, and whether forward.
     Query(usize, bool, bool),
+    /// Which of the two names, or none for an empty name, and whether forward.
+    Name(Option<usize>, bool),
     /// A byte '+', '-' or ' ' for none, and two names: below 26 with a caret, else without.
     Lock(u8, usize, usize),
     Release,
@@ -73,8 +77,24 @@ impl Numbers {
         if are_alike(target, source) || is_under(target, source) || is_under(source, target) {
             Act::Merge(target, source)
         } else {
-            Act::Kill(target)
+            Act::Kill(target, Extent::All)
         }
+    }
+
+    fn extent(&mut self) -> Extent {
+        match self.below(4) {
+            0 => Extent::Value,
+            1 => Extent::Below,
+            _ => Extent::All,
+        }
+    }
+
+    fn name(&mut self) -> Act {
+        let start = match self.below(3) {
+            0 => None,
+            _ => Some(self.below(GLOBALS)),
+        };
+        Act::Name(start, self.is_even())
     }
 
     fn lock(&mut self) -> Act {
@@ -88,10 +108,11 @@ impl Numbers {
     }
 
     fn look(&mut self) -> Act {
-        match self.below(5) {
+        match self.below(6) {
             0 => Act::Data(self.place()),
             1 | 2 => Act::Get(self.place()),
             3 => self.order(),
+            4 => self.name(),
             _ => Act::Query(self.place(), self.is_even(), self.is_even()),
         }
     }
@@ -110,12 +131,13 @@ impl Numbers {
 
     /// The next step.
     pub fn act(&mut self, step: usize) -> Act {
-        match self.below(10) {
-            0 | 1 => Act::Set(self.place(), (step % 250 + 1) as u8),
-            2 => Act::Kill(self.place()),
+        match self.below(11) {
+            0 | 1 => Act::Set(self.place(), (step % 250 + 1) as u16),
+            2 => Act::Kill(self.place(), self.extent()),
             3 => self.merge(),
             4 | 5 => self.look(),
             6 => self.lock(),
+            7 => Act::Increment(self.place(), (self.below(9) + 1) as u16),
             _ => self.transaction(),
         }
     }
@@ -199,6 +221,27 @@ fn push_query(
     push_end(is_forward, out)
 }
 
+fn push_global(
+    start: Option<usize>,
+    is_forward: bool,
+    out: &mut Vec<u8>,
+) -> Result<(), AllocError> {
+    out.extend_from_slice(b"$ORDER(^$GLOBAL(\"")?;
+    if let Some(name) = start {
+        push_place(first_of(name), out)?;
+    }
+    out.extend_from_slice(b"\")")?;
+    push_end(is_forward, out)
+}
+
+fn word_of(extent: Extent) -> &'static [u8] {
+    match extent {
+        Extent::All => b"KILL ",
+        Extent::Value => b"KVALUE ",
+        Extent::Below => b"KSUBSCRIPTS ",
+    }
+}
+
 // A word, a reference, and what stands after it.
 fn push_words(word: &[u8], place: usize, end: &[u8], out: &mut Vec<u8>) -> Result<(), AllocError> {
     out.extend_from_slice(word)?;
@@ -216,11 +259,17 @@ fn push_data(alloc: Global, act: Act, out: &mut Vec<u8>) -> Result<(), AllocErro
             push_words(b"MERGE ", target, b"=", out)?;
             push_place(source, out)
         }
-        Act::Kill(place) => push_words(b"KILL ", place, b"", out),
+        Act::Kill(place, extent) => push_words(word_of(extent), place, b"", out),
+        Act::Increment(place, number) => {
+            push_words(b"$INCREMENT(", place, b",", out)?;
+            push_number(alloc, number.into(), out)?;
+            out.extend_from_slice(b")")
+        }
         Act::Data(place) => push_words(b"$DATA(", place, b")", out),
         Act::Get(place) => push_words(b"$GET(", place, b")", out),
         Act::Order(parent, start, is_forward) => push_order(parent, start, is_forward, out),
         Act::Query(place, is_open, is_forward) => push_query(place, is_open, is_forward, out),
+        Act::Name(start, is_forward) => push_global(start, is_forward, out),
         _ => Ok(()),
     }
 }

@@ -1,7 +1,7 @@
 //! The model: a plain database, a copy of it for each open transaction, and of each unit what it touched.
 use crate::acts::{Act, push_number, push_place};
 use crate::locks::{NAMES, Row};
-use crate::places::{PLACES, is_under, last_subscript};
+use crate::places::{PLACES, first_of, is_under, last_subscript};
 use crate::seen::{Seen, Values};
 use std::alloc::{AllocError, Global};
 
@@ -36,7 +36,7 @@ impl Model {
     }
 
     /// The value of a reference, 0 for none.
-    pub fn value(&self, place: usize) -> u8 {
+    pub fn value(&self, place: usize) -> u16 {
         self.values[place % PLACES]
     }
 
@@ -272,7 +272,7 @@ fn push_found(found: Option<usize>, out: &mut Vec<u8>) -> Result<(), AllocError>
     }
 }
 
-fn push_got(alloc: Global, value: u8, out: &mut Vec<u8>) -> Result<(), AllocError> {
+fn push_got(alloc: Global, value: u16, out: &mut Vec<u8>) -> Result<(), AllocError> {
     if value == 0 {
         return out.extend_from_slice(b"\"\"");
     }
@@ -298,10 +298,14 @@ fn push_answer(
             seen.set(place, value);
             out.extend_from_slice(b"ok")
         }
-        Act::Kill(place) => {
-            seen.kill(place);
+        Act::Kill(place, extent) => {
+            seen.kill(place, extent);
             out.extend_from_slice(b"ok")
         }
+        Act::Increment(place, number) => {
+            push_number(alloc, seen.increment(place, number).into(), out)
+        }
+        Act::Name(start, is_forward) => push_found(seen.name(start, is_forward).map(first_of), out),
         _ => Ok(()),
     }
 }

@@ -7,6 +7,9 @@ pub const PLACES: usize = 26;
 // How many there are of a name.
 const OF_A_NAME: usize = 13;
 
+/// How many names of globals there are.
+pub const GLOBALS: usize = 2;
+
 const TEXTS: [&str; OF_A_NAME] = [
     "A",
     "A(-1.5)",
@@ -45,6 +48,11 @@ pub fn size_of(place: usize) -> usize {
 /// The first reference of its name.
 pub fn root_of(place: usize) -> usize {
     if place < OF_A_NAME { 0 } else { OF_A_NAME }
+}
+
+/// The reference that is the name alone.
+pub fn first_of(name: usize) -> usize {
+    name % GLOBALS * OF_A_NAME
 }
 
 pub fn is_under(root: usize, place: usize) -> bool {

@@ -1,9 +1,19 @@
 //! What a transaction of the model sees, has written and has read. A value is a number above 0, and 0 where there is
 //! none.
-use crate::places::{PLACES, is_child, is_under, moved, root_of};
+use crate::places::{GLOBALS, PLACES, first_of, is_child, is_under, moved, root_of};
+use command::Extent;
 
 /// A value for each reference.
-pub type Values = [u8; PLACES];
+pub type Values = [u16; PLACES];
+
+// Whether a kill of the root takes the place.
+fn takes(extent: Extent, root: usize, place: usize) -> bool {
+    match extent {
+        Extent::All => is_under(root, place),
+        Extent::Value => place == root,
+        Extent::Below => place != root && is_under(root, place),
+    }
+}
 
 /// An open transaction: a copy of the database at its start, with its own commands done.
 #[derive(Clone, Copy, Debug)]
@@ -31,14 +41,14 @@ impl Seen {
         }
     }
 
-    pub fn set(&mut self, place: usize, value: u8) {
+    pub fn set(&mut self, place: usize, value: u16) {
         self.values[place % PLACES] = value;
         self.written[place % PLACES] = value;
     }
 
-    pub fn kill(&mut self, root: usize) {
+    pub fn kill(&mut self, root: usize, extent: Extent) {
         for place in 0..PLACES {
-            if is_under(root, place) {
+            if takes(extent, root, place) {
                 self.values[place] = 0;
                 self.written[place] = 0;
                 self.killed[place] = true;
@@ -65,12 +75,19 @@ impl Seen {
         }
     }
 
-    pub fn get(&mut self, place: usize) -> u8 {
+    pub fn get(&mut self, place: usize) -> u16 {
         let at = place % PLACES;
         if self.written[at] == 0 && !self.killed[at] {
             self.read[at] = true;
         }
         self.values[at]
+    }
+
+    /// The sum is the node's, which was read.
+    pub fn increment(&mut self, place: usize, number: u16) -> u16 {
+        let sum = self.get(place).saturating_add(number);
+        self.set(place, sum);
+        sum
     }
 
     // Whether something at or under the reference has a value.
@@ -114,6 +131,25 @@ impl Seen {
                 self.read_under(place);
                 if self.has_any(place) {
                     return Some(place);
+                }
+            }
+        }
+        None
+    }
+
+    /// The name that is next to the start in this direction, of those that a node has.
+    pub fn name(&mut self, start: Option<usize>, is_forward: bool) -> Option<usize> {
+        for step in 0..GLOBALS {
+            let name = if is_forward { step } else { GLOBALS - 1 - step };
+            let is_beyond = match start {
+                Some(start) if is_forward => start < name,
+                Some(start) => name < start,
+                None => true,
+            };
+            if is_beyond {
+                self.read_under(first_of(name));
+                if self.has_any(first_of(name)) {
+                    return Some(name);
                 }
             }
         }

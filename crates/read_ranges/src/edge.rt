@@ -19,6 +19,8 @@ pub enum Edge {
     After(Key),
     /// After this reference and all that is under it.
     Past(Key),
+    /// After all references.
+    End,
 }
 
 impl Edge {
@@ -31,6 +33,7 @@ impl Edge {
             Cut::Before(key) => Ok(Edge::Before(key.clone()?)),
             Cut::After(key) => Ok(Edge::After(key.clone()?)),
             Cut::Past(key) => Ok(Edge::Past(key.clone()?)),
+            Cut::End => Ok(Edge::End),
         }
     }
 
@@ -43,6 +46,7 @@ impl Edge {
             Edge::Before(key) => Cut::Before(key),
             Edge::After(key) => Cut::After(key),
             Edge::Past(key) => Cut::Past(key),
+            Edge::End => Cut::End,
         }
     }
 
@@ -55,6 +59,7 @@ impl Edge {
             Edge::Before(edge) => stands_before(Cut::Before(edge), key),
             Edge::After(edge) => stands_before(Cut::After(edge), key),
             Edge::Past(edge) => stands_before(Cut::Past(edge), key),
+            Edge::End => true,
         }
     }
 }
@@ -76,6 +81,8 @@ pub fn is_at_most(first: Cut<'_>, second: Cut<'_>) -> bool
             Cut::Before(bound) => !stands_before(first, bound),
             Cut::After(bound) => !stands_before(first, bound),
             Cut::Past(bound) => key.is_under(bound) || !stands_before(first, bound),
+            Cut::End => true,
         },
+        Cut::End => matches!(second, Cut::End),
     }
 }

@@ -3,21 +3,24 @@ ghost use Rattle.std.specs.Prelude.{◌≡◌, ℕ, List, Option, Bool, ◌+◌,
 ghost use Rattle.collation.specs.Reference.{Reference};
 ghost use Rattle.collation.specs.Levels.{has_level, has_name, parent_of};
 ghost use Rattle.collation.specs.Answers.{follows, is_forward};
-ghost use Rattle.command.specs.declared.access.DataCommand.TheVariants.{Look as look_command};
-ghost use Rattle.command.specs.declared.access.Look.TheVariants.{Get as get_command, Order as order_command, Query as query_command};
+ghost use Rattle.command.specs.declared.access.DataCommand.TheVariants.{Increment as increment_command, Look as look_command};
+ghost use Rattle.command.specs.declared.access.Look.TheVariants.{Get as get_command, Order as order_command, Query as query_command, Name as name_command};
 ghost use Rattle.command.specs.declared.access.Answer.{Answer as AnswerView};
 ghost use Rattle.command.specs.declared.access.Answer.TheVariants.{Value, Found};
-ghost use Rattle.globals.specs.Fitting.{IsAnswerOf, IsLookAnswer, IsOrderAnswer, IsQueryAnswer};
-ghost use Rattle.journal.specs.Touching.{order_read, query_read};
+ghost use Rattle.globals.specs.Fitting.{IsAnswerOf, IsLookAnswer, IsNameAnswer, IsOrderAnswer, IsQueryAnswer};
+ghost use Rattle.globals.specs.Cuts.{stands_before};
+ghost use Rattle.std.specs.Option.{option_map};
+ghost use Rattle.collation.specs.Names.{bare};
+ghost use Rattle.journal.specs.Touching.{name_read, order_read, query_read};
 ghost use Rattle.serial.specs.ReadRanges.{level_end as level_end_spec, root_of};
 ghost use Rattle.read_ranges.specs.declared.range.ReadRange.TheVariants.{One};
-ghost use Rattle.read_ranges.specs.Ranges.{between, is_in, is_in_one, IsNoted, KeepsFormerRanges};
+ghost use Rattle.read_ranges.specs.Ranges.{between, is_in, is_in_one, names_begin, names_end, IsNoted, KeepsFormerRanges};
 
 use crate::level::{level_end, level_start};
 use crate::range::ReadRange;
-use collation::{Direction, Text};
+use collation::{Direction, Name, Text};
 use command::{Answer, DataCommand, Look};
-use globals::{Cut, order_start, query_start};
+use globals::{Cut, key_of_start, names_from, order_start, query_start};
 use key_codec::{Key, Place};
 use std::alloc::{AllocError, Global};
 use std::marker::Model;
@@ -41,6 +44,28 @@ impl Model for Ranges {
     ghost Value = { List ReadRange };
 
     ghost view = { λ r. r.list.items };
+}
+
+// Forward past all of the name that was found, or to the end.
+fn past_name(answer: &Answer) -> Cut<'_>
+    requires { IsNameAnswer answer.now }
+    ensures { (x : Reference) → stands_before result x ≡ names_end answer.now x }
+{
+    match answer {
+        Answer::Found(name) => Cut::Past(name),
+        _ => Cut::End,
+    }
+}
+
+// Backward from the name that was found on, or from the beginning.
+fn before_name(answer: &Answer) -> Cut<'_>
+    requires { IsNameAnswer answer.now }
+    ensures { (x : Reference) → stands_before result x ≡ names_begin answer.now x }
+{
+    match answer {
+        Answer::Found(name) => Cut::Before(name),
+        _ => Cut::Start,
+    }
 }
 
 impl Ranges {
@@ -75,8 +100,8 @@ impl Ranges {
         self.list.truncate(count);
     }
 
-    /// Notes what an answered command has read. `decided` tells whether the transaction's own writes decide what a
-    /// $GET's reference has; of other commands it says nothing.
+    /// Notes what an answered command has read. `decided` tells whether the transaction's own writes decide what the
+    /// reference of a $GET or $INCREMENT has; of other commands it says nothing.
     ///
     /// A command that changes the database reads nothing, or a range that is put after the others, so that it can be
     /// taken back, unless one of the last has it. What a command that looks has read may lie in one of the last ranges.
@@ -97,8 +122,9 @@ impl Ranges {
     {
         match command {
             DataCommand::Set(_, _) => Ok(()),
-            DataCommand::Kill(_) => Ok(()),
+            DataCommand::Kill(_, _) => Ok(()),
             DataCommand::Merge(_, source) => self.push_new(Cut::Before(source), Cut::Past(source)),
+            DataCommand::Increment(key, _) => self.note_increment(key, decided),
             DataCommand::Look(look) => self.note_look(alloc, look, answer, decided),
         }
     }
@@ -120,6 +146,56 @@ impl Ranges {
             Look::Get(key, _) => self.note_get(key, decided),
             Look::Order(place, direction) => self.note_order(alloc, place, *direction, answer),
             Look::Query(place, direction) => self.note_query(alloc, place, *direction, answer),
+            Look::Name(start, direction) => self.note_name(alloc, start, *direction, answer),
+        }
+    }
+
+    // What an $INCREMENT has read: as a $GET, after the others.
+    fn note_increment(&mut self, key: &Key, decided: bool) -> Result<(), AllocError>
+        ensures noted { (number : List ℕ) → (answer : AnswerView) → OnOk result (IsNoted self.old self.new (increment_command key.now number) answer decided) }
+        ensures behind { OnOk result (take (length self.old) self.new ≡ self.old) }
+        ensures few { length self.new ≤ length self.old + 1 }
+        ensures err { OnErr result (self.new ≡ self.old) }
+    {
+        if !decided {
+            return self.add_one(key);
+        }
+        Ok(())
+    }
+
+    #[inline(never)]
+    fn note_name(
+        &mut self,
+        alloc: Global,
+        start: &Option<Name>,
+        direction: Direction,
+        answer: &Answer,
+    ) -> Result<(), AllocError>
+        requires { IsNameAnswer answer.now }
+        ensures noted { (decided : Bool) → OnOk result (IsNoted self.old self.new (look_command (name_command start.now direction)) answer.now decided) }
+        ensures few { length self.new ≤ length self.old + 1 }
+        ensures err { OnErr result (self.new ≡ self.old) }
+    {
+        let from = key_of_start(alloc, start)?;
+        self.note_names(&from, direction, answer)
+    }
+
+    // The names beyond the start, of which this is the key, up to the one that was found.
+    fn note_names(
+        &mut self,
+        start: &Option<Key>,
+        direction: Direction,
+        answer: &Answer,
+    ) -> Result<(), AllocError>
+        requires { IsNameAnswer answer.now }
+        ensures more { (name : Option (List ℕ)) → start.now ≡ option_map bare name → OnOk result ((x : Reference) → is_in_one self.new x ≡ (is_in_one self.old x || name_read (is_forward direction) name answer.now x)) }
+        ensures few { length self.new ≤ length self.old + 1 }
+        ensures err { OnErr result (self.new ≡ self.old) }
+    {
+        let from = names_from(start, direction);
+        match direction {
+            Direction::Forward => self.add(from, past_name(answer)),
+            Direction::Backward => self.add(before_name(answer), from),
         }
     }
 
@@ -256,9 +332,10 @@ impl Ranges {
         self.push(low, high)
     }
 
-    // Puts in one reference: as a range of its own, where none of the last ranges has it.
+    // Puts in one reference: as a range of its own, after the others, where none of the last ranges has it.
     fn add_one(&mut self, key: &Key) -> Result<(), AllocError>
         ensures more { OnOk result ((x : Reference) → is_in_one self.new x ≡ (is_in_one self.old x || is_in (One key.now) x)) }
+        ensures behind { OnOk result (take (length self.old) self.new ≡ self.old) }
         ensures few { length self.new ≤ length self.old + 1 }
         ensures err { OnErr result (self.new ≡ self.old) }
     {

@@ -1,7 +1,7 @@
 -- What is printed of a refusal: its number and its name. Source: docs/RULES.md, "Refusals".
 use Rattle.std.specs.Prelude.{ℕ, List, ◌∷◌, ◌++◌, codes, decimal}
 use Rattle.refusal.specs.declared.Refusal.{Refusal}
-use Rattle.refusal.specs.declared.Refusal.TheVariants.{BadLine, BadName, EmptySubscript, SubscriptTooLong, TooManySubscripts, ValueTooLong, NeedSubscript, MergeOverlap, NoTransaction, LevelTooDeep, LockCountFull, BadJob, TransactionTooLong, OutOfMemory, StampsUsedUp, Gone, Again, Ahead}
+use Rattle.refusal.specs.declared.Refusal.TheVariants.{BadLine, BadName, EmptySubscript, SubscriptTooLong, TooManySubscripts, ValueTooLong, NeedSubscript, MergeOverlap, NoTransaction, LevelTooDeep, LockCountFull, BadJob, TransactionTooLong, OutOfMemory, StampsUsedUp, Gone, Again, Ahead, SumTooLong}
 
 -- the number
 abbrev pub refusal_number : Refusal → ℕ
@@ -23,6 +23,7 @@ refusal_number StampsUsedUp = 15
 refusal_number Gone = 16
 refusal_number Again = 17
 refusal_number Ahead = 18
+refusal_number SumTooLong = 19
 
 -- the name
 abbrev pub name_of : Refusal → List ℕ
@@ -44,6 +45,7 @@ name_of StampsUsedUp = codes "StampsUsedUp"
 name_of Gone = codes "Gone"
 name_of Again = codes "Again"
 name_of Ahead = codes "Ahead"
+name_of SumTooLong = codes "SumTooLong"
 
 -- the number, a space and the name
 abbrev pub refusal_text : Refusal → List ℕ

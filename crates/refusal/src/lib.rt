@@ -51,10 +51,12 @@ pub enum Refusal {
     Again = 17,
     /// A stamp or a horizon lies after the present.
     Ahead = 18,
+    /// The sum of `$INCREMENT` would have more than 32,767 bytes.
+    SumTooLong = 19,
 }
 
 impl Refusal {
-    /// The number that is printed, 1 to 18.
+    /// The number that is printed, 1 to 19.
     pub fn number(self) -> u8
         ensures { result ≡ refusal_number self }
     {
@@ -84,6 +86,7 @@ impl Refusal {
             Refusal::Gone => "Gone",
             Refusal::Again => "Again",
             Refusal::Ahead => "Ahead",
+            Refusal::SumTooLong => "SumTooLong",
         }
     }
 }

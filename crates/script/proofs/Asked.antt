@@ -5,6 +5,7 @@ use Rattle.refusal.specs.declared.Refusal.TheVariants.{OutOfMemory}
 use Rattle.collation.specs.Reference.{Reference}
 use Rattle.collation.specs.declared.direction.Direction.{Direction}
 use Rattle.key_codec.specs.Draft.{IsDraft}
+use Rattle.command.specs.declared.access.Extent.{Extent}
 use Rattle.command.specs.declared.access.DataCommand.{DataCommand}
 use Rattle.command.specs.declared.access.DataCommand.TheVariants.{Set, Kill, Look}
 use Rattle.command.specs.declared.access.Look.TheVariants.{Get, Order}
@@ -43,10 +44,10 @@ of_set line drafts job asked =
     let spelled : SpellsData drafts data_sentences.Set said.0 = said.2 in
     (spelled.reference, spelled.drafted, record { read = asked.read ∙ ap (λ (c : Command). Some c) (said.1 ∙ ap (λ (d : DataCommand). Access d) spelled.said); owner = asked.owner; operands = asked.operands tt })
 
-pub of_kill : (line : List ℕ) (drafts : Drafts) (job : ℕ) → IsAsked line drafts job (sentences.Access data_sentences.Kill) → (r : Reference) × IsDraft drafts.first r × IsAskedData line job (Kill r)
-of_kill line drafts job asked =
+pub of_kill : (line : List ℕ) (drafts : Drafts) (job : ℕ) (extent : Extent) → IsAsked line drafts job (sentences.Access (data_sentences.Kill extent)) → (r : Reference) × IsDraft drafts.first r × IsAskedData line job (Kill r extent)
+of_kill line drafts job extent asked =
     let said = asked.said in
-    let spelled : SpellsData drafts data_sentences.Kill said.0 = said.2 in
+    let spelled : SpellsData drafts (data_sentences.Kill extent) said.0 = said.2 in
     (spelled.reference, spelled.drafted, record { read = asked.read ∙ ap (λ (c : Command). Some c) (said.1 ∙ ap (λ (d : DataCommand). Access d) spelled.said); owner = asked.owner; operands = asked.operands tt })
 
 pub of_order : (line : List ℕ) (drafts : Drafts) (job : ℕ) (direction : Direction) → IsAsked line drafts job (sentences.Access (data_sentences.Order direction)) → (r : Reference) × IsDraft drafts.first r × IsAskedData line job (Look (Order (spot_of r) direction))

@@ -1,13 +1,15 @@
 -- The sentences of commands.
-use Rattle.std.proofs.Common.{◌≡◌, ℕ, false, List, length, Option, Some, Result, Ok, Err, Bor, refl, sym, ap, subst, ◌∙◌}
+use Rattle.std.proofs.Common.{◌≡◌, ℕ, false, List, length, Option, None, Some, Result, Ok, Err, Bor, refl, sym, ap, subst, ◌∙◌}
 use Rattle.refusal.specs.declared.Refusal.{Refusal}
 use Rattle.std.specs.Prelude.{◌==◌}
 use Rattle.collation.specs.Reference.{Reference, Resource}
+use Rattle.collation.specs.declared.direction.Direction.{Direction}
 use Rattle.lock_name.specs.declared.lock.LockCommand.{LockCommand}
 use Rattle.key_codec.specs.Draft.{IsDraft}
 use Rattle.key_codec.specs.declared.draft.KeyDraft.{KeyDraft}
 use Rattle.command.specs.declared.access.DataCommand.{DataCommand}
-use Rattle.command.specs.declared.access.DataCommand.TheVariants.{Merge}
+use Rattle.command.specs.declared.access.DataCommand.TheVariants.{Merge, Look}
+use Rattle.command.specs.declared.access.Look.TheVariants.{Name}
 use Rattle.command.specs.declared.request.Command.{Command}
 use Rattle.command.specs.declared.request.Command.TheVariants.{Access, Lock}
 use Rattle.m_text.specs.Reading.{◌>>=◌, after_byte, IsUnread, IsDue}
@@ -24,7 +26,7 @@ use Rattle.script.specs.declared.sentence.Drafts.{Drafts}
 use Rattle.script.specs.declared.sentence.Sentence.{Sentence}
 use Rattle.script.specs.declared.sentence.Sentence.TheVariants as sentences
 use Rattle.script.specs.Locking.{locking, locking_at, names_fault, lock_fault}
-use Rattle.script.specs.Commands.{past_blank, blank_at, source_at, tail_at, operands_at, lock_at, behind_act, behind_function, command_fault}
+use Rattle.script.specs.Commands.{past_blank, blank_at, source_at, tail_at, placed_at, start_of, argument_at, direction_at, names_at, structured_at, operands_by, operands_at, lock_at, behind_act, behind_function, command_fault}
 use Rattle.script.specs.Sentence.{Tells, FindsData, AreNamed, Spells}
 use Rattle.script.proofs.Due.{due_other}
 
@@ -33,17 +35,31 @@ pub merged : (word : DataWord) (text rest : List ℕ) (r s : Reference) → word
 merged word text rest r s e f = ap (λ w. tail_at w r text) e ∙ ap (λ (read : Option (Reference × List ℕ)). read >>= λ source. Some (Merge r source.0, source.1)) f
 
 -- after the reference
-tail_is : (word : DataWord) (text rest : List ℕ) (r : Reference) → place_at text ≡ Some (r, rest) → operands_at word text ≡ tail_at word r rest
-unfolding operands_at
+tail_is : (word : DataWord) (text rest : List ℕ) (r : Reference) → place_at text ≡ Some (r, rest) → placed_at word text ≡ tail_at word r rest
+unfolding placed_at
 tail_is word text rest r e = ap (λ (read : Option (Reference × List ℕ)). read >>= λ place. tail_at word place.0 place.1) e
 
-pub found : (first second : KeyDraft) (names : Names) (value : List ℕ) (word : DataWord) (text rest : List ℕ) (r : Reference) (read : Result (DataSentence × Bor (List ℕ)) Refusal) → place_at text ≡ Some (r, rest) → IsDraft first r → Tells second value r read (tail_at word r rest) → FindsData (record { first = first; second = second; names = names; value = value }) read (operands_at word text)
+pub found : (first second : KeyDraft) (names : Names) (value : List ℕ) (word : DataWord) (text rest : List ℕ) (r : Reference) (read : Result (DataSentence × Bor (List ℕ)) Refusal) → place_at text ≡ Some (r, rest) → IsDraft first r → Tells second value r read (tail_at word r rest) → FindsData (record { first = first; second = second; names = names; value = value }) read (placed_at word text)
 found first second names value word text rest r (Ok x) e is h = (h.0, tail_is word text rest r e ∙ h.1, record { reference = r; drafted = is; said = h.2 })
-found first second names value word text rest r (Err refusal) e is h = refused_too refusal (tail_at word r rest) (operands_at word text) (λ none. tail_is word text rest r e ∙ none) h
+found first second names value word text rest r (Err refusal) e is h = refused_too refusal (tail_at word r rest) (placed_at word text) (λ none. tail_is word text rest r e ∙ none) h
 
-pub unfound : (word : DataWord) (text : List ℕ) (refusal : Refusal) → IsUnread refusal (place_at text) → IsUnread refusal (operands_at word text)
+pub unfound : (word : DataWord) (text : List ℕ) (refusal : Refusal) → IsUnread refusal (place_at text) → IsUnread refusal (placed_at word text)
+unfolding placed_at
+unfound word text refusal h = refused_too refusal (place_at text) (placed_at word text) (λ none. ap (λ (read : Option (Reference × List ℕ)). read >>= λ place. tail_at word place.0 place.1) none) h
+
+-- names from the start that a string is, in a direction
+pub names_from : (text rest behind argument lent : List ℕ) (direction : Direction) → lent ≡ argument → argument_at text ≡ Some (argument, rest) → direction_at rest ≡ Some (direction, behind) → names_at text ≡ Some (Look (Name (start_of lent) direction), behind)
+unfolding names_at
+names_from text rest behind argument lent direction p e f = rw (p, e, f) refl
+
+-- names, or a reference
+pub names_told : (word : DataWord) (text rest : List ℕ) → Some rest ≡ structured_at word text → names_at rest ≡ operands_at word text
 unfolding operands_at
-unfound word text refusal h = refused_too refusal (place_at text) (operands_at word text) (λ none. ap (λ (read : Option (Reference × List ℕ)). read >>= λ place. tail_at word place.0 place.1) none) h
+names_told word text rest e = ap (λ s. operands_by s word text) e
+
+pub placed_told : (word : DataWord) (text : List ℕ) → None ≡ structured_at word text → placed_at word text ≡ operands_at word text
+unfolding operands_at
+placed_told word text e = ap (λ s. operands_by s word text) e
 
 -- after a blank, and in parentheses
 pub change_is : (word : DataWord) (text rest behind : List ℕ) (d : DataCommand) → blank_at text ≡ Some rest → operands_at word rest ≡ Some (d, behind) → behind_act (words.Access word) text ≡ Some (Access d, behind)

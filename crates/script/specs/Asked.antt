@@ -4,6 +4,7 @@ use Rattle.collation.specs.Reference.{Reference, Spot}
 use Rattle.collation.specs.declared.direction.Direction.{Direction}
 use Rattle.command.specs.declared.request.Command.{Command}
 use Rattle.command.specs.declared.request.Command.TheVariants.{Access}
+use Rattle.command.specs.declared.access.Extent.{Extent}
 use Rattle.command.specs.declared.access.DataCommand.{DataCommand}
 use Rattle.command.specs.declared.access.DataCommand.TheVariants.{Set, Kill, Look}
 use Rattle.command.specs.declared.access.Look.TheVariants.{Get, Order}
@@ -41,10 +42,10 @@ abbrev pub IsKeyOfSet : List ℕ → ℕ → List ℕ → Result Reference LineF
 IsKeyOfSet line job value (Ok key) = IsReading line (Ok (job, Access (Set key value)))
 IsKeyOfSet line job value (Err fault) = IsReading line (Err fault)
 
--- of a KILL
-abbrev pub IsKeyOfKill : List ℕ → ℕ → Result Reference LineFault → Type 0
-IsKeyOfKill line job (Ok key) = IsReading line (Ok (job, Access (Kill key)))
-IsKeyOfKill line job (Err fault) = IsReading line (Err fault)
+-- of a KILL, KVALUE or KSUBSCRIPTS
+abbrev pub IsKeyOfKill : List ℕ → ℕ → Extent → Result Reference LineFault → Type 0
+IsKeyOfKill line job extent (Ok key) = IsReading line (Ok (job, Access (Kill key extent)))
+IsKeyOfKill line job extent (Err fault) = IsReading line (Err fault)
 
 -- and of a $ORDER, of which the place is left
 abbrev pub IsPlaceOfOrder : List ℕ → ℕ → Direction → Result Spot LineFault → Type 0

@@ -12,15 +12,16 @@ use Rattle.collation.specs.Reference.{Reference}
 use Rattle.collation.specs.declared.direction.Direction.{Direction}
 use Rattle.collation.specs.declared.direction.Direction.TheVariants.{Forward, Backward}
 use Rattle.command.specs.declared.access.DataCommand.{DataCommand}
-use Rattle.command.specs.declared.access.DataCommand.TheVariants.{Set, Kill, Merge, Look}
+use Rattle.command.specs.declared.access.DataCommand.TheVariants.{Set, Kill, Merge, Increment, Look}
 use Rattle.command.specs.declared.access.Look.{Look as LookCommand}
-use Rattle.command.specs.declared.access.Look.TheVariants.{Data, Get, Order, Query}
+use Rattle.command.specs.declared.access.Look.TheVariants.{Data, Get, Order, Query, Name}
 use Rattle.lock_name.specs.declared.lock.LockCommand.TheVariants.{Release}
 use Rattle.command.specs.declared.request.Command.{Command}
 use Rattle.command.specs.declared.request.Command.TheVariants.{Access, Lock, Start, Commit, Rollback, Restart, Level, Restarts, Halt}
 use Rattle.m_text.specs.Reading.{◌>>=◌, begins_with_byte, after_byte}
-use Rattle.m_text.specs.Literal.{literal_at, front_letters, past_letters}
-use Rattle.m_text.specs.Place.{place_at, spot_of, ref_fault, spot_fault}
+use Rattle.canonic_number.specs.Number.{is_canonic}
+use Rattle.m_text.specs.Literal.{literal_at, is_word, front_letters, past_letters}
+use Rattle.m_text.specs.Place.{place_at, spot_of, name_fault, ref_fault, spot_fault}
 use Rattle.script.specs.declared.word.Word.{Word}
 use Rattle.script.specs.declared.word.Word.TheVariants as words
 use Rattle.script.specs.declared.word.DataWord.{DataWord}
@@ -81,21 +82,87 @@ direction_at text =
       Some (direction, x.1))
     else Some (Forward, text)
 
+-- the string, where it is a canonic number
+abbrev pub canonic_of : List ℕ → Option (List ℕ)
+canonic_of s = if is_canonic s then Some s else None
+
+-- a comma and a number, or nothing, which is 1
+unfoldable pub step_at : List ℕ → Option (List ℕ × List ℕ)
+step_at text =
+    if begins_with_byte byte.comma text
+    then (do
+      x ← literal_at (drop 1 text)
+      number ← canonic_of x.0
+      Some (number, x.1))
+    else Some (codes "1", text)
+
 -- what a word wants after its reference r
 abbrev pub tail_at : DataWord → Reference → List ℕ → Option (DataCommand × List ℕ)
 tail_at data_words.Set r text = set_value_at text >>= λ value. Some (Set r value.0, value.1)
-tail_at data_words.Kill r text = Some (Kill r, text)
+tail_at (data_words.Kill extent) r text = Some (Kill r extent, text)
 tail_at data_words.Merge r text = source_at text >>= λ source. Some (Merge r source.0, source.1)
+tail_at data_words.Increment r text = step_at text >>= λ number. Some (Increment r number.0, number.1)
 tail_at data_words.Data r text = Some (Look (Data r), text)
 tail_at data_words.Get r text = default_at text >>= λ default. Some (Look (Get r default.0), default.1)
 tail_at data_words.Order r text = direction_at text >>= λ direction. Some (Look (Order (spot_of r) direction.0), direction.1)
 tail_at data_words.Query r text = direction_at text >>= λ direction. Some (Look (Query (spot_of r) direction.0), direction.1)
 
 -- a reference, and what the word wants after it
-unfoldable pub operands_at : DataWord → List ℕ → Option (DataCommand × List ℕ)
-operands_at word text = do
+unfoldable pub placed_at : DataWord → List ℕ → Option (DataCommand × List ℕ)
+placed_at word text = do
   place ← place_at text
   tail_at word place.0 place.1
+
+-- the letters of ^$GLOBAL, in any case
+abbrev pub is_global : List ℕ → Bool
+is_global letters = is_word (codes "G") letters || is_word (codes "GLOBAL") letters
+
+-- what follows a string's caret; without one nothing, which is no name
+abbrev pub named_by : List ℕ → List ℕ
+named_by [] = []
+named_by (b ∷ bs) = if b == byte.caret then bs else []
+
+-- the start that a string is: none where it is empty
+abbrev pub start_of : List ℕ → Option (List ℕ)
+start_of [] = None
+start_of (b ∷ bs) = Some (named_by (b ∷ bs))
+
+-- the letters of ^$GLOBAL, and in parentheses a literal
+unfoldable pub argument_at : List ℕ → Option (List ℕ × List ℕ)
+argument_at text =
+    if is_global (front_letters text)
+    then (do
+      rest ← after_byte byte.opening (past_letters text)
+      x ← literal_at rest
+      rest ← after_byte byte.closing x.1
+      Some (x.0, rest))
+    else None
+
+-- behind "^$": names of globals, and a direction
+unfoldable pub names_at : List ℕ → Option (DataCommand × List ℕ)
+names_at text = do
+  argument ← argument_at text
+  direction ← direction_at argument.1
+  Some (Look (Name (start_of argument.0) direction.0), direction.1)
+
+-- what follows "^$", which may stand behind $ORDER's word alone
+abbrev pub structured_at : DataWord → List ℕ → Option (List ℕ)
+structured_at data_words.Set text = None
+structured_at (data_words.Kill extent) text = None
+structured_at data_words.Merge text = None
+structured_at data_words.Increment text = None
+structured_at data_words.Data text = None
+structured_at data_words.Get text = None
+structured_at data_words.Order text = after_byte byte.caret text >>= after_byte byte.dollar
+structured_at data_words.Query text = None
+
+abbrev pub operands_by : Option (List ℕ) → DataWord → List ℕ → Option (DataCommand × List ℕ)
+operands_by None word text = placed_at word text
+operands_by (Some rest) word text = names_at rest
+
+-- a reference and what the word wants after it, or for $ORDER names
+unfoldable pub operands_at : DataWord → List ℕ → Option (DataCommand × List ℕ)
+operands_at word text = operands_by (structured_at word text) word text
 
 -- after LOCK's word: nothing but a blank, or a blank and names
 unfoldable pub lock_at : List ℕ → Option (Command × List ℕ)
@@ -191,12 +258,14 @@ look_fault (Data r) = ref_fault r
 look_fault (Get r default) = option_or (ref_fault r) (option_and_then value_fault default)
 look_fault (Order p direction) = spot_fault p
 look_fault (Query p direction) = spot_fault p
+look_fault (Name start direction) = option_and_then name_fault start
 
 -- the first fault of a data command, from left to right
 abbrev pub data_fault : DataCommand → Option Refusal
 data_fault (Set r value) = option_or (ref_fault r) (value_fault value)
-data_fault (Kill r) = ref_fault r
+data_fault (Kill r extent) = ref_fault r
 data_fault (Merge target source) = option_or (ref_fault target) (ref_fault source)
+data_fault (Increment r number) = option_or (ref_fault r) (value_fault number)
 data_fault (Look look) = look_fault look
 
 -- the first fault of a command, from left to right

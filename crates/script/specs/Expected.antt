@@ -1,7 +1,7 @@
 -- The text of what was expected where a line is at fault. Source: docs/FORMATS.md, "Faults of lines".
 use Rattle.std.specs.Prelude.{ℕ, List, codes}
 use Rattle.refusal.specs.declared.Refusal.{Refusal}
-use Rattle.refusal.specs.declared.Refusal.TheVariants.{BadLine, BadName, EmptySubscript, SubscriptTooLong, TooManySubscripts, ValueTooLong, NeedSubscript, MergeOverlap, NoTransaction, LevelTooDeep, LockCountFull, BadJob, TransactionTooLong, OutOfMemory, StampsUsedUp, Gone, Again, Ahead}
+use Rattle.refusal.specs.declared.Refusal.TheVariants.{BadLine, BadName, EmptySubscript, SubscriptTooLong, TooManySubscripts, ValueTooLong, NeedSubscript, MergeOverlap, NoTransaction, LevelTooDeep, LockCountFull, BadJob, TransactionTooLong, OutOfMemory, StampsUsedUp, Gone, Again, Ahead, SumTooLong}
 use Rattle.script.specs.declared.expected.Expected.{Expected}
 use Rattle.script.specs.declared.expected.Expected.TheVariants as expectations
 
@@ -25,14 +25,15 @@ rule_text StampsUsedUp = codes "a journal that isn't full"
 rule_text Gone = codes "a stamp that is kept"
 rule_text Again = codes "another try"
 rule_text Ahead = codes "a stamp that has come"
+rule_text SumTooLong = codes "a sum of at most 32767 bytes"
 
 -- what should stand there
 abbrev pub expected_text : Expected → List ℕ
 expected_text expectations.Job = codes "a job, 1 to 4096, first in the line"
 expected_text expectations.Blank = codes "a blank"
 expected_text expectations.Operand = codes "a blank and ^ and a name"
-expected_text expectations.Command = codes "SET, KILL, MERGE, LOCK, TSTART, TCOMMIT, TROLLBACK, TRESTART or HALT, or $ and a function"
-expected_text expectations.Function = codes "DATA, GET, ORDER, QUERY, TLEVEL or TRESTART"
+expected_text expectations.Command = codes "SET, KILL, KVALUE, KSUBSCRIPTS, MERGE, LOCK, TSTART, TCOMMIT, TROLLBACK, TRESTART or HALT, or $ and a function"
+expected_text expectations.Function = codes "DATA, GET, INCREMENT, ORDER, QUERY, TLEVEL or TRESTART"
 expected_text expectations.Reference = codes "^ and a name"
 expected_text expectations.Name = codes "a name"
 expected_text expectations.LockName = codes "a lock name"
@@ -43,6 +44,8 @@ expected_text expectations.Opening = codes "("
 expected_text expectations.Closing = codes ")"
 expected_text expectations.CommaOrClosing = codes "a comma or )"
 expected_text expectations.Direction = codes "1 or -1"
+expected_text expectations.Number = codes "a number"
+expected_text expectations.Global = codes "GLOBAL"
 expected_text expectations.Timeout = codes "one to nine digits"
 expected_text expectations.End = codes "the end of the line"
 expected_text (expectations.Rule refusal) = rule_text refusal

@@ -1,6 +1,6 @@
 -- The grammar of lines: which texts spell which commands. Source: docs/FORMATS.md, "Lines".
 -- Read IsLine, then IsCommand; references, names and literals are those of m_text.
-use Rattle.std.specs.Prelude.{◌≡◌, ◌<◌, ◌≤◌, ℕ, true, false, List, [], ◌∷◌, ◌++◌, length, Option, None, Some}
+use Rattle.std.specs.Prelude.{◌≡◌, ◌<◌, ◌≤◌, ℕ, true, false, List, [], ◌∷◌, ◌++◌, length, Option, None, Some, codes}
 use Rattle.std.specs.List.{list_all}
 use Rattle.std.specs.Char.{is_ascii_digit}
 use Rattle.collation.specs.Bytes as byte
@@ -8,12 +8,14 @@ use Rattle.collation.specs.Reference.{Reference, Resource}
 use Rattle.collation.specs.declared.direction.Direction.{Direction}
 use Rattle.collation.specs.declared.direction.Direction.TheVariants.{Forward}
 use Rattle.command.specs.declared.access.DataCommand.{DataCommand}
-use Rattle.command.specs.declared.access.DataCommand.TheVariants.{Set, Kill, Merge, Look}
-use Rattle.command.specs.declared.access.Look.TheVariants.{Data, Get, Order, Query}
+use Rattle.command.specs.declared.access.DataCommand.TheVariants.{Set, Kill, Merge, Increment, Look}
+use Rattle.command.specs.declared.access.Look.TheVariants.{Data, Get, Order, Query, Name}
 use Rattle.lock_name.specs.declared.lock.LockCommand.{LockCommand}
 use Rattle.lock_name.specs.declared.lock.LockCommand.TheVariants.{Release}
 use Rattle.command.specs.declared.request.Command.{Command}
 use Rattle.command.specs.declared.request.Command.TheVariants.{Access, Lock}
+use Rattle.canonic_number.specs.Number.{is_canonic}
+use Rattle.command.specs.declared.access.Extent.{Extent}
 use Rattle.m_text.specs.Literal.{number_from}
 use Rattle.m_text.specs.Place.{spot_of}
 use Rattle.m_text.specs.Forms.{IsLiteral, IsParted, IsNamed, IsReference}
@@ -26,7 +28,7 @@ use Rattle.script.specs.declared.lock.Form.{Form}
 use Rattle.script.specs.declared.lock.Form.TheVariants as forms
 use Rattle.script.specs.Words.{is_named, is_function}
 use Rattle.script.specs.Locking.{locking}
-use Rattle.script.specs.Commands.{is_blank, direction_of, command_of}
+use Rattle.script.specs.Commands.{is_blank, is_global, direction_of, start_of, command_of}
 
 -- one or more bytes 32 or 9
 pub record IsBlank (text : List ℕ) : Type 0 where
@@ -47,24 +49,48 @@ pub data IsDirection : List ℕ → Direction → Type 0 where
   no_direction : IsDirection [] Forward
   direction : {text value : List ℕ} {d : Direction} → IsLiteral text value → direction_of value ≡ Some d → IsDirection (byte.comma ∷ text) d
 
+-- nothing, which is 1, or a comma and a literal of a canonic number
+pub data IsStep : List ℕ → List ℕ → Type 0 where
+  no_step : IsStep [] (codes "1")
+  step : {text value : List ℕ} → IsLiteral text value → is_canonic value ≡ true → IsStep (byte.comma ∷ text) value
+
 -- what a word wants after its reference r
 pub data IsTail : DataWord → Reference → List ℕ → DataCommand → Type 0 where
   set : {r : Reference} {text value : List ℕ} → IsLiteral text value → IsTail data_words.Set r (byte.equals_sign ∷ text) (Set r value)
-  kill : {r : Reference} → IsTail data_words.Kill r [] (Kill r)
+  kill : {r : Reference} {extent : Extent} → IsTail (data_words.Kill extent) r [] (Kill r extent)
   merge : {r s : Reference} {text : List ℕ} → IsReference text s → IsTail data_words.Merge r (byte.equals_sign ∷ text) (Merge r s)
+  increment : {r : Reference} {text number : List ℕ} → IsStep text number → IsTail data_words.Increment r text (Increment r number)
   data_of : {r : Reference} → IsTail data_words.Data r [] (Look (Data r))
   get_of : {r : Reference} {text : List ℕ} {value : Option (List ℕ)} → IsDefault text value → IsTail data_words.Get r text (Look (Get r value))
   order_of : {r : Reference} {text : List ℕ} {d : Direction} → IsDirection text d → IsTail data_words.Order r text (Look (Order (spot_of r) d))
   query_of : {r : Reference} {text : List ℕ} {d : Direction} → IsDirection text d → IsTail data_words.Query r text (Look (Query (spot_of r) d))
 
 -- a reference, and what the word wants after it
-pub record IsOperands (word : DataWord) (text : List ℕ) (c : DataCommand) : Type 0 where
+pub record IsPlaced (word : DataWord) (text : List ℕ) (c : DataCommand) : Type 0 where
   pub place : List ℕ
   pub tail : List ℕ
   pub reference : Reference
   pub spelled : IsReference place reference
   pub wanted : IsTail word reference tail c
   pub parts : text ≡ place ++ tail
+
+-- "^$" and the letters of GLOBAL, in parentheses a literal of what the names start from, and a direction
+pub record AreNames (text : List ℕ) (c : DataCommand) : Type 0 where
+  pub letters : List ℕ
+  pub argument : List ℕ
+  pub tail : List ℕ
+  pub value : List ℕ
+  pub towards : Direction
+  pub global : is_global letters ≡ true
+  pub spelled : IsLiteral argument value
+  pub directed : IsDirection tail towards
+  pub asked : c ≡ Look (Name (start_of value) towards)
+  pub parts : text ≡ byte.caret ∷ (byte.dollar ∷ (letters ++ (byte.opening ∷ (argument ++ (byte.closing ∷ tail)))))
+
+-- a reference and what the word wants after it, or for $ORDER names of globals
+pub data IsOperands : DataWord → List ℕ → DataCommand → Type 0 where
+  placed : {word : DataWord} {text : List ℕ} {c : DataCommand} → IsPlaced word text c → IsOperands word text c
+  names_of : {text : List ℕ} {c : DataCommand} → AreNames text c → IsOperands data_words.Order text c
 
 -- a lock name: a reference, or one without its caret
 pub data IsLockName : List ℕ → Resource → Type 0 where

@@ -9,8 +9,8 @@ use Rattle.lock_name.specs.declared.lock.LockCommand.TheVariants.{Release}
 use Rattle.key_codec.specs.Draft.{IsDraft}
 use Rattle.key_codec.specs.declared.draft.KeyDraft.{KeyDraft}
 use Rattle.command.specs.declared.access.DataCommand.{DataCommand}
-use Rattle.command.specs.declared.access.DataCommand.TheVariants.{Set, Kill, Merge, Look}
-use Rattle.command.specs.declared.access.Look.TheVariants.{Data, Get, Order, Query}
+use Rattle.command.specs.declared.access.DataCommand.TheVariants.{Set, Kill, Merge, Increment, Look}
+use Rattle.command.specs.declared.access.Look.TheVariants.{Data, Get, Order, Query, Name}
 use Rattle.command.specs.declared.request.Command.{Command}
 use Rattle.command.specs.declared.request.Command.TheVariants.{Access, Lock}
 use Rattle.m_text.specs.Reading.{IsUnread}
@@ -43,13 +43,16 @@ HasNoNames drafts = HasNoRoom drafts.names
 -- the sentence has a value
 abbrev pub has_value : DataSentence → Bool
 has_value data_sentences.Set = true
-has_value data_sentences.Kill = false
+has_value (data_sentences.Kill extent) = false
 has_value data_sentences.Merge = false
+has_value data_sentences.Increment = true
 has_value data_sentences.Data = false
 has_value data_sentences.Get = false
 has_value data_sentences.GetOr = true
 has_value (data_sentences.Order direction) = false
 has_value (data_sentences.Query direction) = false
+has_value (data_sentences.NameFrom direction) = true
+has_value (data_sentences.EndName direction) = false
 
 -- reading it leaves a value in the drafts
 abbrev pub leaves_value : Sentence → Bool
@@ -65,16 +68,19 @@ leaves_names sentences.Release = false
 leaves_names (sentences.Lock form) = true
 leaves_names (sentences.Alone word) = false
 
--- the sentence says the command of r, which for MERGE has the reference of the second draft too, and for SET and a $GET with a default the value
+-- the sentence says the command of r, which for MERGE has the reference of the second draft too, and for SET, $INCREMENT, a $GET with a default and a $ORDER of names from one the value
 abbrev pub Says : KeyDraft → List ℕ → Reference → DataSentence → DataCommand → Type 0
 Says second value r data_sentences.Set c = c ≡ Set r value
-Says second value r data_sentences.Kill c = c ≡ Kill r
+Says second value r (data_sentences.Kill extent) c = c ≡ Kill r extent
 Says second value r data_sentences.Merge c = (s : Reference) × (c ≡ (Merge r s)) × IsDraft second s
+Says second value r data_sentences.Increment c = c ≡ Increment r value
 Says second value r data_sentences.Data c = c ≡ Look (Data r)
 Says second value r data_sentences.Get c = c ≡ Look (Get r None)
 Says second value r data_sentences.GetOr c = c ≡ Look (Get r (Some value))
 Says second value r (data_sentences.Order direction) c = c ≡ Look (Order (spot_of r) direction)
 Says second value r (data_sentences.Query direction) c = c ≡ Look (Query (spot_of r) direction)
+Says second value r (data_sentences.NameFrom direction) c = c ≡ Look (Name (Some value) direction)
+Says second value r (data_sentences.EndName direction) c = c ≡ Look (Name None direction)
 
 -- what is read after the reference r says the command that is there
 abbrev pub Tells : KeyDraft → List ℕ → Reference → Result (DataSentence × Bor (List ℕ)) Refusal → Option (DataCommand × List ℕ) → Type 0
@@ -96,6 +102,11 @@ pub record SomeData (drafts : Drafts) (sentence : DataSentence) : Type 0 where
 abbrev pub FindsData : Drafts → Result (DataSentence × Bor (List ℕ)) Refusal → Option (DataCommand × List ℕ) → Type 0
 FindsData drafts (Ok x) read = (c : DataCommand) × (read ≡ Some (c, x.1.now)) × SpellsData drafts x.0 c
 FindsData drafts (Err refusal) read = IsUnread refusal read
+
+-- what is read behind "^$" is the sentence of the $ORDER of names that is there, whose start is the value
+abbrev pub FindsNames : List ℕ → Result (DataSentence × Bor (List ℕ)) Refusal → Option (DataCommand × List ℕ) → Type 0
+FindsNames value (Ok x) read = (c : DataCommand) × (read ≡ Some (c, x.1.now)) × ((second : KeyDraft) (r : Reference) → Says second value r x.0 c)
+FindsNames value (Err refusal) read = IsUnread refusal read
 
 -- the lock names that are read, whatever faults they have: the first fault, or all of them
 pub record AreNamed (names : Names) (ns : List Resource) : Type 0 where

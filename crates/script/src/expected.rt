@@ -37,6 +37,10 @@ pub enum Expected {
     CommaOrClosing,
     /// A literal of 1 or -1.
     Direction,
+    /// A literal of a number.
+    Number,
+    /// The letters of `^$GLOBAL`.
+    Global,
     /// The digits of a timeout.
     Timeout,
     /// Nothing more.
@@ -55,8 +59,8 @@ impl Expected {
             Expected::Blank => "a blank",
             Expected::Operand => "a blank and ^ and a name",
             Expected::Command =>
-                "SET, KILL, MERGE, LOCK, TSTART, TCOMMIT, TROLLBACK, TRESTART or HALT, or $ and a function",
-            Expected::Function => "DATA, GET, ORDER, QUERY, TLEVEL or TRESTART",
+                "SET, KILL, KVALUE, KSUBSCRIPTS, MERGE, LOCK, TSTART, TCOMMIT, TROLLBACK, TRESTART or HALT, or $ and a function",
+            Expected::Function => "DATA, GET, INCREMENT, ORDER, QUERY, TLEVEL or TRESTART",
             Expected::Reference => "^ and a name",
             Expected::Name => "a name",
             Expected::LockName => "a lock name",
@@ -69,6 +73,8 @@ impl Expected {
             Expected::Closing => ")",
             Expected::CommaOrClosing => "a comma or )",
             Expected::Direction => "1 or -1",
+            Expected::Number => "a number",
+            Expected::Global => "GLOBAL",
             Expected::Timeout => "one to nine digits",
             Expected::End => "the end of the line",
             Expected::Rule(refusal) => rule_text(refusal),
@@ -99,5 +105,6 @@ fn rule_text(refusal: Refusal) -> &'static str
         Refusal::Gone => "a stamp that is kept",
         Refusal::Again => "another try",
         Refusal::Ahead => "a stamp that has come",
+        Refusal::SumTooLong => "a sum of at most 32767 bytes",
     }
 }

@@ -4,6 +4,7 @@ ghost use Rattle.refusal.specs.declared.Refusal.{Refusal};
 ghost use Rattle.collation.specs.Reference.{Reference};
 ghost use Rattle.key_codec.specs.Draft.{IsDraft, IsSpelled};
 ghost use Rattle.command.specs.declared.access.DataCommand.{DataCommand as DataView};
+ghost use Rattle.command.specs.declared.access.Extent.{Extent as ExtentView};
 ghost use Rattle.command.specs.declared.request.Command.{Command as CommandView};
 ghost use Rattle.m_text.specs.Reading.{Answers};
 ghost use Rattle.m_text.specs.Place.{ref_fault, spot_fault, spot_of, unless};
@@ -13,8 +14,8 @@ ghost use Rattle.script.specs.Sentence.{HasNoNames, HasNoValue, IsOfOperands, Sp
 use crate::lock::locking;
 use crate::sentence::{DataSentence, Drafts, Sentence};
 use crate::word::AloneWord;
-use collation::{Direction, LONGEST_VALUE, Text};
-use command::{Command, DataCommand, Look};
+use collation::{Direction, LONGEST_VALUE, Name, Text};
+use command::{Command, DataCommand, Extent, Look};
 use key_codec::{Key, KeyDraft, Place};
 use lock_name::LockCommand;
 use refusal::Refusal;
@@ -57,12 +58,30 @@ fn set(alloc: Global, draft: &KeyDraft, value: &mut Text) -> Result<DataCommand,
     Ok(DataCommand::Set(key, value))
 }
 
-fn kill(alloc: Global, draft: &KeyDraft) -> Result<DataCommand, Refusal>
+fn kill(alloc: Global, draft: &KeyDraft, extent: Extent) -> Result<DataCommand, Refusal>
     requires { IsSpelled draft.now }
-    ensures { (r : Reference) → IsDraft draft.now r → Answers (λ c. c) result (unless (data_fault (DataCommand.Kill r)) (DataCommand.Kill r)) }
+    ensures { (r : Reference) → IsDraft draft.now r → Answers (λ c. c) result (unless (data_fault (DataCommand.Kill r extent)) (DataCommand.Kill r extent)) }
 {
     let key = key_of(alloc, draft)?;
-    Ok(DataCommand::Kill(key))
+    Ok(DataCommand::Kill(key, extent))
+}
+
+fn increment(alloc: Global, draft: &KeyDraft, number: &mut Text) -> Result<DataCommand, Refusal>
+    requires { IsSpelled draft.now }
+    ensures command { (r : Reference) → IsDraft draft.now r → Answers (λ c. c) result (unless (data_fault (DataCommand.Increment r number.old)) (DataCommand.Increment r number.old)) }
+    ensures taken { OnOk result (number.new ≡ []) }
+{
+    let key = key_of(alloc, draft)?;
+    let number = value_of(alloc, number)?;
+    Ok(DataCommand::Increment(key, number))
+}
+
+fn name_from(alloc: Global, name: &mut Text, direction: Direction) -> Result<DataCommand, Refusal>
+    ensures command { Answers (λ c. c) result (unless (data_fault (DataCommand.Look (Look.Name (Some name.old) direction))) (DataCommand.Look (Look.Name (Some name.old) direction))) }
+    ensures taken { OnOk result (name.new ≡ []) }
+{
+    let name = Name::new(mem::replace(name, Text::new(alloc)))?;
+    Ok(DataCommand::Look(Look::Name(Some(name), direction)))
 }
 
 fn merge(alloc: Global, target: &KeyDraft, source: &KeyDraft) -> Result<DataCommand, Refusal>
@@ -91,10 +110,10 @@ pub(crate) fn get_key(alloc: Global, draft: &KeyDraft) -> Result<Key, Refusal>
     draft.key(alloc)
 }
 
-/// The key of a KILL, or its fault.
+/// The key of a KILL, KVALUE or KSUBSCRIPTS, or its fault.
 pub(crate) fn kill_key(alloc: Global, draft: &KeyDraft) -> Result<Key, Refusal>
     requires { IsSpelled draft.now }
-    ensures { (r : Reference) → IsDraft draft.now r → Answers (λ key. DataCommand.Kill key) result (unless (data_fault (DataCommand.Kill r)) (DataCommand.Kill r)) }
+    ensures { (extent : ExtentView) → (r : Reference) → IsDraft draft.now r → Answers (λ key. DataCommand.Kill key extent) result (unless (data_fault (DataCommand.Kill r extent)) (DataCommand.Kill r extent)) }
 {
     draft.key(alloc)
 }
@@ -175,13 +194,16 @@ fn finish_data(
 {
     match sentence {
         DataSentence::Set => set(alloc, &drafts.first, &mut drafts.value),
-        DataSentence::Kill => kill(alloc, &drafts.first),
+        DataSentence::Kill(extent) => kill(alloc, &drafts.first, extent),
         DataSentence::Merge => merge(alloc, &drafts.first, &drafts.second),
+        DataSentence::Increment => increment(alloc, &drafts.first, &mut drafts.value),
         DataSentence::Data => data(alloc, &drafts.first),
         DataSentence::Get => get(alloc, &drafts.first),
         DataSentence::GetOr => get_or(alloc, &drafts.first, &mut drafts.value),
         DataSentence::Order(direction) => order(alloc, &drafts.first, direction),
         DataSentence::Query(direction) => query(alloc, &drafts.first, direction),
+        DataSentence::NameFrom(direction) => name_from(alloc, &mut drafts.value, direction),
+        DataSentence::EndName(direction) => Ok(DataCommand::Look(Look::Name(None, direction))),
     }
 }
 

@@ -10,7 +10,7 @@ use crate::finish::{finish, get_key, kill_key, order_place, set_key};
 use crate::names::Names;
 use crate::sentence::{DataSentence, Drafts, Sentence, read_sentence};
 use collation::{Direction, Job, MOST_JOBS, Text};
-use command::Command;
+use command::{Command, Extent};
 use key_codec::{Key, Place};
 use m_text::{number_up_to, split_digits};
 use refusal::Refusal;
@@ -174,10 +174,15 @@ pub fn key_of_set(alloc: Global, job: Job, drafts: &mut Drafts) -> Result<Key, L
     }
 }
 
-/// The key of a KILL, which is all that is left of its line. Refusals: those of `finish_request`.
-pub fn key_of_kill(alloc: Global, job: Job, drafts: &mut Drafts) -> Result<Key, LineFault>
-    requires { SpellsSome drafts.old (Sentence.Access DataSentence.Kill) }
-    ensures key { (line : List ℕ) → IsAsked line drafts.old job (Sentence.Access DataSentence.Kill) → IsKeyOfKill line job result }
+/// The key of a KILL, KVALUE or KSUBSCRIPTS, which is all that is left of its line. Refusals: those of `finish_request`.
+pub fn key_of_kill(
+    alloc: Global,
+    job: Job,
+    extent: Extent,
+    drafts: &mut Drafts,
+) -> Result<Key, LineFault>
+    requires { SpellsSome drafts.old (Sentence.Access (DataSentence.Kill extent)) }
+    ensures key { (line : List ℕ) → IsAsked line drafts.old job (Sentence.Access (DataSentence.Kill extent)) → IsKeyOfKill line job extent result }
     ensures value { OnErr result (HasNoValue drafts.new) }
     ensures kept { OnOk result (drafts.new ≡ drafts.old) }
     ensures names { OnErr result (HasNoNames drafts.new) }

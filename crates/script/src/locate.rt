@@ -3,8 +3,9 @@ ghost use Rattle.std.specs.Prelude.{◌≡◌, ◌≢◌, ◌≤◌, ◌+◌, le
 
 use crate::Expected;
 use crate::blank::{begins_blank, past_blank};
-use crate::sentence::direction_of;
+use crate::sentence::{direction_of, is_global};
 use crate::word::{DataWord, Word, act_of, function_of};
+use canonic_number::is_canonic;
 use key_codec::KeyDraft;
 use m_text::{
     after, read_literal, read_named, read_reference, skip_literal, skip_place, split_digits,
@@ -94,6 +95,28 @@ fn past_direction(alloc: Global, text: &[u8]) -> Option<&[u8]>
         }
         Err(_) => None,
     }
+}
+
+// Where memory is wanting no number is seen.
+#[tactic(auto, using(crate::proofs::Behind::shorter))]
+fn past_number(alloc: Global, text: &[u8]) -> Option<&[u8]>
+    ensures { IfSome result (λ rest. length rest.now ≤ length text.now) }
+{
+    match read_literal(alloc, text) {
+        Ok((value, rest)) => {
+            let is_number = is_canonic(value.as_slice());
+            drop(value);
+            if is_number { Some(rest) } else { None }
+        }
+        Err(_) => None,
+    }
+}
+
+fn past_global(text: &[u8]) -> Option<&[u8]>
+    ensures { IfSome result (λ rest. length rest.now ≤ length text.now) }
+{
+    let (letters, rest) = split_letters(text);
+    if is_global(letters) { Some(rest) } else { None }
 }
 
 impl<'a> Look<'a> {
@@ -265,7 +288,8 @@ impl<'a> Look<'a> {
             DataWord::Get => self.default_value(),
             DataWord::Order => self.direction(alloc),
             DataWord::Query => self.direction(alloc),
-            DataWord::Kill => {}
+            DataWord::Increment => self.step(alloc),
+            DataWord::Kill(_) => {}
             DataWord::Data => {}
         }
     }
@@ -278,6 +302,42 @@ impl<'a> Look<'a> {
             self.byte(b')', Expected::Closing);
         } else {
             self.byte(b')', Expected::CommaOrClosing);
+        }
+    }
+
+    // What $INCREMENT has after its reference.
+    fn step(&mut self, alloc: Global)
+        ensures { length self.new.rest.now ≤ length self.old.rest.now }
+    {
+        if self.has(b',') {
+            self.go(past_number(alloc, self.rest), Expected::Number);
+            self.byte(b')', Expected::Closing);
+        } else {
+            self.byte(b')', Expected::CommaOrClosing);
+        }
+    }
+
+    // What stands in the parentheses of $ORDER behind `^$`.
+    fn names(&mut self, alloc: Global)
+        ensures { length self.new.rest.now ≤ length self.old.rest.now }
+    {
+        self.go(past_global(self.rest), Expected::Global);
+        self.byte(b'(', Expected::Opening);
+        self.literal(Expected::Value);
+        self.byte(b')', Expected::Closing);
+        self.direction(alloc);
+    }
+
+    // Passes `^$`, and answers whether it stood there.
+    fn has_structured(&mut self) -> bool
+        ensures { length self.new.rest.now ≤ length self.old.rest.now }
+    {
+        match self.rest {
+            [b'^', b'$', ..] => {
+                let _ = self.has(b'^');
+                self.has(b'$')
+            }
+            _ => false,
         }
     }
 
@@ -314,6 +374,15 @@ impl<'a> Look<'a> {
                 self.byte(b'(', Expected::Opening);
                 self.place();
                 self.byte(b')', Expected::Closing);
+            }
+            Word::Access(DataWord::Order) => {
+                self.byte(b'(', Expected::Opening);
+                if self.has_structured() {
+                    self.names(alloc);
+                } else {
+                    self.place();
+                    self.tail(alloc, DataWord::Order);
+                }
             }
             Word::Access(word) => {
                 self.byte(b'(', Expected::Opening);

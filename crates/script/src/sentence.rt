@@ -1,5 +1,8 @@
 //! Commands as they are spelled, whatever faults their references and values have.
 ghost use Rattle.std.specs.Prelude.{◌≡◌, false, IfOk};
+ghost use Rattle.std.specs.Option.{option_copied};
+ghost use Rattle.command.specs.declared.access.DataCommand.TheVariants.{Look as looked_at};
+ghost use Rattle.command.specs.declared.access.Look.TheVariants.{Name as name_beyond};
 ghost use Rattle.collation.specs.Reference.{Reference};
 ghost use Rattle.key_codec.specs.declared.draft.KeyDraft.{KeyDraft as KeyDraftView};
 ghost use Rattle.m_text.specs.Drafts.{DraftsSpelled};
@@ -7,17 +10,19 @@ ghost use Rattle.m_text.specs.Literal.{literal_at};
 ghost use Rattle.m_text.specs.Reading.{GivesUnlessMemory, GivesExactly, after_byte as after_of};
 ghost use Rattle.script.specs.Commands as commands;
 ghost use Rattle.script.specs.Commands.{AreBehindAct, AreBehindFunction, ActComesToOperands, FunctionComesToOperands, ComesToOperands};
-ghost use Rattle.script.specs.Sentence.{Finds, FindsData, HasNoNames, HasNoValue, ReadsOperandsAt, Tells, has_value, leaves_names, leaves_value, value_in};
+ghost use Rattle.script.specs.Sentence.{Finds, FindsData, FindsNames, HasNoNames, HasNoValue, ReadsOperandsAt, Says, Tells, has_value, leaves_names, leaves_value, value_in};
 
 use crate::blank::{past_blank, skip_blank};
 use crate::lock::{Form, read_locking};
 use crate::names::Names;
 use crate::word::{AloneWord, DataWord, Word, act_of, function_of};
+use canonic_number::is_canonic;
 use collation::{Direction, Text};
+use command::Extent;
 use key_codec::KeyDraft;
-use m_text::{after, read_draft, read_literal, split_letters};
+use m_text::{after, is_word, read_draft, read_literal, split_letters};
 use refusal::Refusal;
-use std::alloc::Global;
+use std::alloc::{AllocError, Global};
 
 /// The references, the lock names and the value of a line while it is read, in buffers that serve for the next line too.
 #[derive(Debug, Drop)]
@@ -59,17 +64,22 @@ impl Drafts {
 }
 
 /// A data command without what stands in the drafts: its reference in the first, that of MERGE's source in the second, and
-/// beside them SET's value, or the default of a $GET that has one.
+/// beside them SET's value, $INCREMENT's number, or the default of a $GET that has one.
 #[derive(Clone, Copy, Debug)]
 pub enum DataSentence {
     Set,
-    Kill,
+    Kill(Extent),
     Merge,
+    Increment,
     Data,
     Get,
     GetOr,
     Order(Direction),
     Query(Direction),
+    /// $ORDER of names from a name, which is the value.
+    NameFrom(Direction),
+    /// $ORDER of names from an end.
+    EndName(Direction),
 }
 
 /// A command without its references, lock names and value, which stand in the drafts.
@@ -165,6 +175,134 @@ fn read_direction(alloc: Global, text: &[u8]) -> Result<(Direction, &[u8]), Refu
     }
 }
 
+// What $INCREMENT has after its reference: a number, which is the value that is kept, or none, which is 1.
+#[tactic(auto, unfolding(crate::specs::Commands::step_at))]
+fn read_step<'a>(alloc: Global, text: &'a [u8], value: &mut Text) -> Result<&'a [u8], Refusal>
+    ensures { GivesUnlessMemory (λ rest. (value.new, rest.now)) result (commands.step_at text.now) }
+{
+    match after(b',', text) {
+        Some(literal) => {
+            let rest = read_text(alloc, literal, value)?;
+            if is_canonic(value.as_slice()) {
+                Ok(rest)
+            } else {
+                Err(Refusal::BadLine)
+            }
+        }
+        None => {
+            *value = Text::from_slice(alloc, b"1")?;
+            Ok(text)
+        }
+    }
+}
+
+// Whether letters are those of `^$GLOBAL`, in any case.
+pub(crate) fn is_global(letters: &[u8]) -> bool
+    ensures { result ≡ commands.is_global letters.now }
+{
+    is_word(b"G", letters) || is_word(b"GLOBAL", letters)
+}
+
+// The argument of `^$GLOBAL` in parentheses, behind `^$`.
+#[tactic(auto, unfolding(crate::specs::Commands::argument_at))]
+fn read_argument(alloc: Global, text: &[u8]) -> Result<(Text, &[u8]), Refusal>
+    ensures { GivesUnlessMemory (λ x. (x.0, x.1.now)) result (commands.argument_at text.now) }
+{
+    let (letters, rest) = split_letters(text);
+    if !is_global(letters) {
+        return Err(Refusal::BadLine);
+    }
+    let rest = past(b'(', rest)?;
+    let (argument, rest) = read_literal(alloc, rest)?;
+    match after(b')', rest) {
+        Some(rest) => Ok((argument, rest)),
+        None => {
+            drop(argument);
+            Err(Refusal::BadLine)
+        }
+    }
+}
+
+// What follows the caret of a string, and without one nothing.
+fn named_by(argument: &[u8]) -> &[u8]
+    ensures { result.now ≡ commands.named_by argument.now }
+{
+    match after(b'^', argument) {
+        Some(name) => name,
+        None => &[],
+    }
+}
+
+// The sentence of a $ORDER of names from the start that the argument is, which becomes the value that is kept.
+fn start_by(
+    alloc: Global,
+    argument: &[u8],
+    direction: Direction,
+    value: &mut Text,
+) -> Result<DataSentence, AllocError>
+    ensures says { IfOk result (λ sentence. (second : KeyDraftView) (r : Reference) → Says second value.new r sentence (looked_at (name_beyond (commands.start_of argument.now) direction))) }
+    ensures value { IfOk result (λ sentence. has_value sentence ≡ false → value.new ≡ value.old) }
+{
+    if argument.is_empty() {
+        return Ok(DataSentence::EndName(direction));
+    }
+    *value = Text::from_slice(alloc, named_by(argument))?;
+    Ok(DataSentence::NameFrom(direction))
+}
+
+// $ORDER's operands behind `^$`: the names of globals from a start, in a direction.
+#[tactic(auto, unfolding(crate::specs::Commands::names_at))]
+fn read_names<'a>(
+    alloc: Global,
+    text: &'a [u8],
+    value: &mut Text,
+) -> Result<(DataSentence, &'a [u8]), Refusal>
+    ensures reading { FindsNames value.new result (commands.names_at text.now) }
+    ensures value { IfOk result (λ x. has_value x.0 ≡ false → value.new ≡ value.old) }
+{
+    let (argument, rest) = read_argument(alloc, text)?;
+    match read_direction(alloc, rest) {
+        Ok((direction, rest)) => {
+            let sentence = start_by(alloc, argument.as_slice(), direction, value)?;
+            Ok((sentence, rest))
+        }
+        Err(refusal) => {
+            drop(argument);
+            Err(refusal)
+        }
+    }
+}
+
+// Names, which $ORDER wants behind `^$`. The first draft is of no name then.
+fn read_structured<'a>(
+    alloc: Global,
+    text: &'a [u8],
+    drafts: &mut Drafts,
+) -> Result<(DataSentence, &'a [u8]), Refusal>
+    ensures reading { FindsData drafts.new result (commands.names_at text.now) }
+    ensures value { IfOk result (λ x. has_value x.0 ≡ false → drafts.new.value ≡ drafts.old.value) }
+    ensures names { drafts.new.names ≡ drafts.old.names }
+{
+    drafts.first.begin(&[])?;
+    read_names(alloc, text, &mut drafts.value)
+}
+
+// What follows `^$`, where $ORDER's operands begin so.
+fn past_structured(word: DataWord, text: &[u8]) -> Option<&[u8]>
+    ensures { option_copied result ≡ commands.structured_at word text.now }
+{
+    match word {
+        DataWord::Order => after(b'$', after(b'^', text)?),
+        DataWord::Set
+        | DataWord::Kill(_)
+        | DataWord::Merge
+        | DataWord::Increment
+        | DataWord::Data
+        | DataWord::Get
+        | DataWord::Query => None,
+    }
+}
+
 // What a word wants after its reference.
 #[inline(always)]
 fn read_tail<'a>(
@@ -182,9 +320,13 @@ fn read_tail<'a>(
             Ok(rest) => Ok((DataSentence::Set, rest)),
             Err(refusal) => Err(refusal),
         },
-        DataWord::Kill => Ok((DataSentence::Kill, text)),
+        DataWord::Kill(extent) => Ok((DataSentence::Kill(extent), text)),
         DataWord::Merge => match read_source(alloc, text, source) {
             Ok(rest) => Ok((DataSentence::Merge, rest)),
+            Err(refusal) => Err(refusal),
+        },
+        DataWord::Increment => match read_step(alloc, text, value) {
+            Ok(rest) => Ok((DataSentence::Increment, rest)),
             Err(refusal) => Err(refusal),
         },
         DataWord::Data => Ok((DataSentence::Data, text)),
@@ -200,7 +342,7 @@ fn read_tail<'a>(
     }
 }
 
-// A reference, and what a word wants after it.
+// A reference and what a word wants after it, or what it wants behind `^$`.
 #[inline(always)]
 fn read_operands<'a>(
     alloc: Global,
@@ -209,6 +351,24 @@ fn read_operands<'a>(
     drafts: &mut Drafts,
 ) -> Result<(DataSentence, &'a [u8]), Refusal>
     ensures reading { FindsData drafts.new result (commands.operands_at word text.now) }
+    ensures value { IfOk result (λ x. has_value x.0 ≡ false → drafts.new.value ≡ drafts.old.value) }
+    ensures names { drafts.new.names ≡ drafts.old.names }
+{
+    match past_structured(word, text) {
+        Some(rest) => read_structured(alloc, rest, drafts),
+        None => read_placed(alloc, word, text, drafts),
+    }
+}
+
+// A reference, and what a word wants after it.
+#[inline(always)]
+fn read_placed<'a>(
+    alloc: Global,
+    word: DataWord,
+    text: &'a [u8],
+    drafts: &mut Drafts,
+) -> Result<(DataSentence, &'a [u8]), Refusal>
+    ensures reading { FindsData drafts.new result (commands.placed_at word text.now) }
     ensures value { IfOk result (λ x. has_value x.0 ≡ false → drafts.new.value ≡ drafts.old.value) }
     ensures names { drafts.new.names ≡ drafts.old.names }
 {

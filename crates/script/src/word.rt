@@ -4,6 +4,7 @@ ghost use Rattle.std.specs.List.{find};
 ghost use Rattle.m_text.specs.Literal as literal;
 ghost use Rattle.script.specs.Words as words;
 
+use command::Extent;
 use m_text::is_word;
 
 // What a word names: an act by itself, or a function after a `$`.
@@ -19,8 +20,10 @@ pub(crate) enum Word {
 #[derive(Clone, Copy, Debug)]
 pub(crate) enum DataWord {
     Set,
-    Kill,
+    // KILL, KVALUE, KSUBSCRIPTS.
+    Kill(Extent),
     Merge,
+    Increment,
     Data,
     Get,
     Order,
@@ -57,8 +60,11 @@ fn data_words(word: DataWord) -> (&'static [u8], &'static [u8])
 {
     match word {
         DataWord::Set => (b"S", b"SET"),
-        DataWord::Kill => (b"K", b"KILL"),
+        DataWord::Kill(Extent::All) => (b"K", b"KILL"),
+        DataWord::Kill(Extent::Value) => (b"KV", b"KVALUE"),
+        DataWord::Kill(Extent::Below) => (b"KS", b"KSUBSCRIPTS"),
         DataWord::Merge => (b"M", b"MERGE"),
+        DataWord::Increment => (b"I", b"INCREMENT"),
         DataWord::Data => (b"D", b"DATA"),
         DataWord::Get => (b"G", b"GET"),
         DataWord::Order => (b"O", b"ORDER"),
@@ -131,7 +137,14 @@ pub(crate) fn act_of(letters: &[u8]) -> Option<Word>
 {
     match letters.first()?.to_ascii_uppercase() {
         b'S' => named_by(letters, &[Word::Access(DataWord::Set)]),
-        b'K' => named_by(letters, &[Word::Access(DataWord::Kill)]),
+        b'K' => named_by(
+            letters,
+            &[
+                Word::Access(DataWord::Kill(Extent::All)),
+                Word::Access(DataWord::Kill(Extent::Value)),
+                Word::Access(DataWord::Kill(Extent::Below)),
+            ],
+        ),
         b'M' => named_by(letters, &[Word::Access(DataWord::Merge)]),
         b'L' => named_by(letters, &[Word::Lock]),
         b'T' => transaction_act_of(letters),
@@ -146,6 +159,7 @@ pub(crate) fn function_of(letters: &[u8]) -> Option<Word>
     ensures { result ≡ words.function_of letters.now }
 {
     match letters.first()?.to_ascii_uppercase() {
+        b'I' => named_by(letters, &[Word::Access(DataWord::Increment)]),
         b'D' => named_by(letters, &[Word::Access(DataWord::Data)]),
         b'G' => named_by(letters, &[Word::Access(DataWord::Get)]),
         b'O' => named_by(letters, &[Word::Access(DataWord::Order)]),

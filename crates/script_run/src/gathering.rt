@@ -3,6 +3,7 @@ ghost use Rattle.std.specs.Prelude.{◌≡◌, List, ℕ, None, Some, Ok, Err, f
 ghost use Rattle.command.specs.declared.request.Command.TheVariants.{Access};
 ghost use Rattle.command.specs.declared.request.Reply.TheVariants.{Refused};
 ghost use Rattle.command.specs.declared.access.DataCommand.TheVariants.{Set, Kill, Look as look};
+ghost use Rattle.command.specs.declared.access.Extent.TheVariants.{All};
 ghost use Rattle.command.specs.declared.access.Look.TheVariants.{Get, Order};
 ghost use Rattle.journal.specs.Story.{Machine, transaction_of};
 ghost use Rattle.serial.specs.Machine.{IsReply};
@@ -17,7 +18,7 @@ use crate::RunLog;
 use crate::answers::Script;
 use crate::outcome::{is_refusal, is_wanting};
 use collation::{Direction, Job};
-use command::{Command, Reply};
+use command::{Command, Extent, Reply};
 use job_core::JobCore;
 use key_codec::{Key, Place};
 use refusal::Refusal;
@@ -264,7 +265,7 @@ fn gather_killed(
     line: &[u8],
     log: &mut impl RunLog,
 ) -> Result<(), AllocError>
-    requires asked { IsReading line.now (Ok (job, Access (Kill key.now))) }
+    requires asked { IsReading line.now (Ok (job, Access (Kill key.now All))) }
     requires outside { transaction_of job script.old.core.machine ≡ None }
     ensures gathered { OnOk result (IsGathered line.now script.old.core.machine script.old.out.items script.old.outcome script.old.jobs script.new) }
     ensures lost { OnErr result (IsLost line.now script.old.core.machine script.old.out.items script.new) }
@@ -316,12 +317,12 @@ fn gather_kill(
     line: &[u8],
     log: &mut impl RunLog,
 ) -> Result<(), AllocError>
-    requires asked { IsAsked line.now script.old.drafts job (Sentence.Access DataSentence.Kill) }
+    requires asked { IsAsked line.now script.old.drafts job (Sentence.Access (DataSentence.Kill All)) }
     requires outside { transaction_of job script.old.core.machine ≡ None }
     ensures gathered { OnOk result (IsGathered line.now script.old.core.machine script.old.out.items script.old.outcome script.old.jobs script.new) }
     ensures lost { OnErr result (IsLost line.now script.old.core.machine script.old.out.items script.new) }
 {
-    match key_of_kill(alloc, job, &mut script.drafts) {
+    match key_of_kill(alloc, job, Extent::All, &mut script.drafts) {
         Ok(key) => gather_killed(script, job, &key, line, log),
         Err(fault) => gather_unread(script, fault, line, log),
     }
@@ -364,7 +365,9 @@ fn gather_other(
 {
     let is_inside = script.core.is_inside(job);
     match (sentence, is_inside) {
-        (Sentence::Access(DataSentence::Kill), false) => gather_kill(alloc, script, job, line, log),
+        (Sentence::Access(DataSentence::Kill(Extent::All)), false) => {
+            gather_kill(alloc, script, job, line, log)
+        }
         (Sentence::Access(DataSentence::Order(direction)), false) => {
             gather_order(alloc, script, job, direction, line, log)
         }

@@ -133,8 +133,11 @@ fn access_inside<B: BoardName, R: Wait>(
 {
     match command {
         DataCommand::Set(key, value) => written(session.set(key, value)),
-        DataCommand::Kill(key) => written(session.kill(key)),
+        DataCommand::Kill(key, extent) => written(session.kill(key, extent)),
         DataCommand::Merge(to, from) => engine.read(rt, session, DataCommand::Merge(to, from)),
+        DataCommand::Increment(key, number) => {
+            engine.read(rt, session, DataCommand::Increment(key, number))
+        }
         DataCommand::Look(look) => get(rt, engine, session, look),
     }
 }

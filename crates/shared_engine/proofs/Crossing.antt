@@ -29,6 +29,7 @@ use Rattle.version_store.specs.contracts.store.KeyedStore.TheInside as StoreInsi
 use Rattle.job_core.specs.contracts.kernel.Core as Core
 use Rattle.job_core.specs.contracts.passing.Passing as Passing
 use Rattle.job_core.specs.contracts.state.JobState as JobState
+use Rattle.workspace.specs.contracts.writes.Workspace as Workspace
 use Rattle.shared_engine.specs.contracts.session.Session as Session
 use Rattle.shared_engine.specs.contracts.session.Session.TheInside as SessionInside
 use Rattle.pin_board.specs.declared.board.BoardName.{Ghosts as BoardGhosts}
@@ -100,8 +101,11 @@ core_sync =
     let c = struct_sync (shape Inside.the_type) (search (heap.crosses, sendable) depth 60, (store_sync, (journal_sync, (locks_sync, (passing_sync, tt))))) in
     record { shared = λ d b o κ x. (c.shared (Inside.the_type.to x.0) b o κ, tt) }
 
+workspace_send : IsSend Workspace.the_row
+workspace_send = search (heap.crosses, nodes.crosses, key.the_send, key.the_sync, text.the_send, text.the_sync, sendable) depth 60 fits 20000
+
 pub state_send : IsSend JobState.the_row
-state_send = search (heap.crosses, nodes.crosses, key.the_send, key.the_sync, text.the_send, text.the_sync, sendable) depth 60 fits 20000
+state_send = search (heap.crosses, workspace_send, key.the_send, key.the_sync, text.the_send, text.the_sync, sendable) depth 60 fits 20000
 
 pub session_send : (B : RattleType) (g : BoardGhosts B.Denot) → IsSend (Session.the_row B g)
 session_send B g =

@@ -14,8 +14,8 @@ use Rattle.lock_name.specs.declared.lock.LockCommand.{LockCommand}
 use Rattle.lock_name.specs.declared.lock.LockCommand.TheVariants.{Release, Only, More, Fewer}
 use Rattle.lock_name.specs.Locks.{lock_refusal, lock_reply}
 use Rattle.command.specs.declared.access.DataCommand.{DataCommand}
-use Rattle.command.specs.declared.access.DataCommand.TheVariants.{Set, Kill, Merge, Look}
-use Rattle.command.specs.declared.access.Look.TheVariants.{Data, Get, Order, Query}
+use Rattle.command.specs.declared.access.DataCommand.TheVariants.{Set, Kill, Merge, Increment, Look}
+use Rattle.command.specs.declared.access.Look.TheVariants.{Data, Get, Order, Query, Name}
 use Rattle.command.specs.declared.access.Answer.{Answer}
 use Rattle.command.specs.declared.request.Command.{Command}
 use Rattle.command.specs.declared.request.Command.TheVariants.{Access, Lock as lock_command, Start, Commit, Rollback, Restart, Level, Restarts, Halt}
@@ -37,12 +37,13 @@ use Rattle.job_core.specs.Causes.{IsCauseOf}
 -- no rule is a want of memory
 never_memory : (command : DataCommand) → early_refusal command ≡ Some OutOfMemory → ⊥
 never_memory (Set r v) e = absurd (cc)
-never_memory (Kill r) e = absurd (cc)
+never_memory (Kill r extent) e = absurd (cc)
 never_memory (Merge a b) e = by_overlap (overlap a b) e
   where
     by_overlap : (o : Bool) → cond o (Some MergeOverlap) None ≡ Some OutOfMemory → ⊥
     by_overlap true never = absurd (cc)
     by_overlap false never = absurd (cc)
+never_memory (Increment r n) e = absurd (cc)
 never_memory (Look (Data r)) e = absurd (cc)
 never_memory (Look (Get r d)) e = absurd (cc)
 never_memory (Look (Order p direction)) e = by_level (has_level p) e
@@ -51,6 +52,7 @@ never_memory (Look (Order p direction)) e = by_level (has_level p) e
     by_level true never = absurd (cc)
     by_level false never = absurd (cc)
 never_memory (Look (Query p direction)) e = absurd (cc)
+never_memory (Look (Name start direction)) e = absurd (cc)
 
 -- where memory was wanting no rule was there to be looked at before
 late_is : (command : DataCommand) (refusal : Refusal) → ((rule : Refusal) → early_refusal command ≡ Some rule → refusal ≡ rule) → refusal ≡ OutOfMemory → early_refusal command ≡ None

@@ -9,7 +9,7 @@ use Rattle.refusal.specs.declared.Refusal.{Refusal}
 use Rattle.collation.specs.Reference.{Reference}
 use Rattle.collation.specs.Database.{Database}
 use Rattle.command.specs.declared.access.DataCommand.{DataCommand}
-use Rattle.command.specs.declared.access.DataCommand.TheVariants.{Set, Kill, Merge, Look}
+use Rattle.command.specs.declared.access.DataCommand.TheVariants.{Set, Kill, Merge, Increment, Look}
 use Rattle.command.specs.declared.access.Answer.{Answer}
 use Rattle.command.specs.Data.{data_after}
 use Rattle.journal.specs.declared.unit.Exchange.{Exchange}
@@ -45,8 +45,9 @@ unread test (u ∷ us) s none =
 
 none_read : (c : DataCommand) (a : Answer) (own : Reference → Bool) (x : Reference) → is_write c ≡ true → read_set c a own x ≡ false
 none_read (Set r v) a own x w = refl
-none_read (Kill r) a own x w = refl
+none_read (Kill r extent) a own x w = refl
 none_read (Merge p q) a own x w = absurd (true≢false (sym w))
+none_read (Increment r n) a own x w = absurd (true≢false (sym w))
 none_read (Look look) a own x w = absurd (true≢false (sym w))
 
 writes_read : (es : List Exchange) (m : Database) (own : Reference → Bool) (x : Reference) → AreWrites es → is_read es m own x ≡ false

@@ -3,20 +3,21 @@ use Rattle.std.specs.Prelude.{◌≡◌, ◌≤◌, ℕ, Bool, true, false, List
 use Rattle.journal.specs.declared.unit.Unit.{Unit as JournalUnit}
 use Rattle.collation.specs.Reference.{Reference}
 use Rattle.command.specs.declared.access.DataCommand.{DataCommand}
-use Rattle.command.specs.declared.access.DataCommand.TheVariants.{Set, Kill, Merge, Look}
+use Rattle.command.specs.declared.access.DataCommand.TheVariants.{Set, Kill, Merge, Increment, Look}
 use Rattle.journal.specs.declared.unit.Exchange.{Exchange}
 use Rattle.journal.specs.Touching.{any_touched}
 use Rattle.serial.specs.Machine.{state_at}
 use Rattle.shared_engine.specs.Sessions.{Held}
 
--- SET and KILL read nothing
+-- SET and the kills read nothing
 abbrev pub is_write : DataCommand → Bool
 is_write (Set r v) = true
-is_write (Kill r) = true
+is_write (Kill r extent) = true
 is_write (Merge a b) = false
+is_write (Increment r n) = false
 is_write (Look look) = false
 
--- the transaction has done SETs and KILLs alone
+-- the transaction has done SETs and kills alone
 abbrev pub AreWrites : List Exchange → Type 0
 AreWrites [] = Unit {0}
 AreWrites (e ∷ es) = (is_write e.command ≡ true) × AreWrites es

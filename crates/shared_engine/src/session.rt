@@ -13,7 +13,7 @@ ghost use Rattle.shared_engine.specs.Receipts.{number_of, RisesFrom};
 ghost use Rattle.shared_engine.specs.Sessions.{held, IsAt, GoesOnFromStart};
 
 use collation::{Job, Text};
-use command::Answer;
+use command::{Answer, Extent};
 use job_core::JobState;
 use key_codec::Key;
 use pin_board::{BoardName, Pin, Slip};
@@ -171,10 +171,10 @@ impl<B: BoardName> Session<B> {
         self.state.set(key, value)
     }
 
-    /// KILL in a transaction: as `set`.
-    pub fn kill(&mut self, key: Key) -> Result<(), Refusal>
+    /// KILL, KVALUE or KSUBSCRIPTS in a transaction: as `set`.
+    pub fn kill(&mut self, key: Key, extent: Extent) -> Result<(), Refusal>
         requires { 1 ≤ self.old.state.level }
-        ensures written { OnOk result (HasWritten (kill_command key) self.old.state self.new.state) }
+        ensures written { OnOk result (HasWritten (kill_command key extent) self.old.state self.new.state) }
         ensures same { (self.new.start ≡ self.old.start) × (self.new.receipts ≡ self.old.receipts) }
         ensures others { (self.new.others ≡ self.old.others) × (self.new.seen ≡ self.old.seen) }
         ensures refused { OnErr result (self.new ≡ self.old) }
@@ -182,7 +182,7 @@ impl<B: BoardName> Session<B> {
         ensures start { GoesOnFromStart self.old.start self.old.seen }
         ensures begun { IsAt self.old.start self.old.state }
     {
-        self.state.kill(key)
+        self.state.kill(key, extent)
     }
 
     /// What a $GET answers where the transaction's own writes decide it: some exactly there, and then what it answers

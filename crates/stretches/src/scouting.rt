@@ -10,8 +10,8 @@ ghost use Rattle.stretches.specs.Empty.{IsEmpty, IsFree};
 use crate::Stretches;
 use crate::cuts::{earlier, later};
 use collation::Direction;
-use command::Look;
-use globals::{Cut, OrderedView, order_start, query_start, stands_before};
+use command::{Extent, Look};
+use globals::{Cut, OrderedView, order_start, query_start, stands_before, taken_from, taken_to};
 use key_codec::{Key, Place};
 use read_ranges::{ReadRange, is_at_most};
 use std::alloc::{AllocError, Global};
@@ -31,7 +31,7 @@ const MANY: usize = 8;
 /// The stretch in which a $ORDER or $QUERY begins, or that begins where one ends in which it begins, if something lies
 /// in the way there. It takes in what lies in the way up to the next nodes on both sides, and no more; beyond the last
 /// node of all it goes to the end of the global. For $DATA the stretch below its reference, up to the first node there,
-/// if eight or more lie in the way. None for $GET, and where memory is refused, which is asked for only where a key has
+/// if eight or more lie in the way. None for $GET and $ORDER of names, and where memory is refused, which is asked for only where a key has
 /// over 38 bytes.
 pub fn scout<V: OrderedView, W: InTheWay>(
     alloc: Global,
@@ -44,7 +44,7 @@ pub fn scout<V: OrderedView, W: InTheWay>(
 {
     match look {
         Look::Data(key) => scout_below(view, way, stretches, key),
-        Look::Get(_, _) => None,
+        Look::Get(_, _) | Look::Name(_, _) => None,
         Look::Order(place, Direction::Forward) => {
             let cut = order_start(place, Direction::Forward);
             scout_ahead(alloc, view, way, stretches, cut, place)
@@ -146,14 +146,19 @@ fn lies_beside(low: Cut<'_>, high: Cut<'_>, target: &Key) -> bool
     is_at_most(Cut::Past(target), low)
 }
 
-/// The stretch at and under the reference of a KILL, which has no node once that is done: where it begins in one that is
-/// kept; or, of those that are kept at most one, where eight or more lie in the way there. None where memory is refused,
-/// as for `scout`.
-pub fn scout_kill<W: InTheWay>(way: &W, stretches: &Stretches, root: &Key) -> Option<ReadRange>
-    ensures { (m : Database) → IfSome result (λ stretch. IsEmpty stretch (data_after (kill_command root.now) m)) }
+/// The stretch of what a kill takes, which has no node once that is done: where it begins in one that is kept; or, of
+/// those that are kept at most one, where eight or more lie in the way there. None where memory is refused, as for
+/// `scout`.
+pub fn scout_kill<W: InTheWay>(
+    way: &W,
+    stretches: &Stretches,
+    root: &Key,
+    extent: Extent,
+) -> Option<ReadRange>
+    ensures { (m : Database) → IfSome result (λ stretch. IsEmpty stretch (data_after (kill_command root.now extent) m)) }
 {
-    let low = Cut::Before(root);
-    let high = Cut::Past(root);
+    let low = taken_from(root, extent);
+    let high = taken_to(root, extent);
     if !stretches.have(low) && !(stretches.have_room() && are_many(way, low, high)) {
         return None;
     }

@@ -64,7 +64,7 @@ impl Stretches {
     /// the references that it may set, and the others, as far as that makes four; less where memory is refused. None
     /// where all of them stay as they are. What is left is empty where they are, before the command and after it.
     ///
-    /// Takes memory only for a SET into one of them and for MERGE.
+    /// Takes memory only for a SET or $INCREMENT into one of them and for MERGE.
     pub fn left_by(&self, alloc: Global, command: &DataCommand) -> Option<Stretches>
         ensures before { (m : Database) → AreEmpty self.now m → AreEmpty (unwrap_or result self.now) m }
         ensures behind { (m : Database) → AreEmpty self.now m → AreEmpty (unwrap_or result self.now) (data_after command.now m) }
@@ -74,7 +74,8 @@ impl Stretches {
             DataCommand::Merge(target, _) => {
                 Some(self.without(alloc, Cut::Before(target), Cut::Past(target)))
             }
-            DataCommand::Kill(_) => None,
+            DataCommand::Increment(key, _) => self.left_by_set(alloc, key),
+            DataCommand::Kill(_, _) => None,
             DataCommand::Look(_) => None,
         }
     }

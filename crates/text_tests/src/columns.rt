@@ -65,6 +65,13 @@ fn operands_stop_where_the_grammar_does(rt: HostRuntime) -> Result<(), Fail> {
         ("1 LOCK ()", BAD, 9, Expected::LockName),
         ("1 LOCK (^A,^B", BAD, 14, Expected::CommaOrClosing),
         ("1 MERGE ^A=B", BAD, 12, Expected::Reference),
+        ("1 $INCREMENT(^A,\"x\")", BAD, 17, Expected::Number),
+        ("1 $I(^A 1)", BAD, 8, Expected::CommaOrClosing),
+        ("1 $I(^A,1", BAD, 10, Expected::Closing),
+        ("1 $ORDER(^$GLOB(\"\"))", BAD, 12, Expected::Global),
+        ("1 $ORDER(^$GLOBAL)", BAD, 18, Expected::Opening),
+        ("1 $ORDER(^$G(A))", BAD, 14, Expected::Value),
+        ("1 $QUERY(^$GLOBAL(\"\"))", BAD, 11, Expected::Name),
     ];
     assert_eq!(rt; first_other(rt.alloc(), rows), None);
     Ok(())
@@ -95,6 +102,9 @@ fn refused_operands_are_told(rt: HostRuntime) -> Result<(), Fail> {
         ("1 SET ^A(1)=5", Refusal::ValueTooLong, 13),
         ("1 $ORDER(^A)", Refusal::NeedSubscript, 10),
         ("1 MERGE ^A=^A(1)", Refusal::MergeOverlap, 9),
+        ("1 $ORDER(^$GLOBAL(\"A\"))", Refusal::BadName, 10),
+        ("1 $INCREMENT(^A,5)", Refusal::ValueTooLong, 17),
+        ("1 $INCREMENT(^A)", Refusal::SumTooLong, 3),
         ("1 TCOMMIT", Refusal::NoTransaction, 3),
         ("1 SET ^A=1", Refusal::OutOfMemory, 3),
     ];

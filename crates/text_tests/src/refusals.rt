@@ -42,6 +42,7 @@ fn refusals_have_the_numbers_and_names_of_the_table(rt: HostRuntime) -> Result<(
         (Refusal::Gone, "16 Gone"),
         (Refusal::Again, "17 Again"),
         (Refusal::Ahead, "18 Ahead"),
+        (Refusal::SumTooLong, "19 SumTooLong"),
     ];
     assert_eq!(rt; first_other(rt.alloc(), rows)?, None);
     Ok(())

@@ -10,8 +10,9 @@ use Rattle.collation.specs.declared.direction.Direction.{Direction}
 use Rattle.lock_name.specs.declared.lock.LockCommand.{LockCommand}
 use Rattle.lock_name.specs.declared.lock.LockCommand.TheVariants.{Only as OnlyThese, More as TheseToo, Fewer as FewerOfThese}
 use Rattle.collation.specs.Reference.{Resource}
-use Rattle.command.specs.declared.access.DataCommand.TheVariants.{Set, Kill, Merge, Look as LookAt}
-use Rattle.command.specs.declared.access.Look.TheVariants.{Data, Get, Order, Query}
+use Rattle.command.specs.declared.access.DataCommand.TheVariants.{Set, Kill, Merge, Increment, Look as LookAt}
+use Rattle.command.specs.declared.access.Extent.TheVariants.{All, Value as ValueAlone, Below}
+use Rattle.command.specs.declared.access.Look.TheVariants.{Data, Get, Order, Query, Name}
 use Rattle.command.specs.declared.request.Command.{Command}
 use Rattle.command.specs.declared.request.Command.TheVariants.{Access, Lock}
 use Rattle.key_codec.specs.Draft.{longer, place_of}
@@ -26,10 +27,19 @@ abbrev pub set_command : Reference → List ℕ → Command
 set_command r v = Access (Set r v)
 
 abbrev pub kill_command : Reference → Command
-kill_command r = Access (Kill r)
+kill_command r = Access (Kill r All)
+
+abbrev pub kill_value_command : Reference → Command
+kill_value_command r = Access (Kill r ValueAlone)
+
+abbrev pub kill_subscripts_command : Reference → Command
+kill_subscripts_command r = Access (Kill r Below)
 
 abbrev pub merge_command : Reference → Reference → Command
 merge_command to from = Access (Merge to from)
+
+abbrev pub increment_command : Reference → List ℕ → Command
+increment_command r number = Access (Increment r number)
 
 abbrev pub data_command : Reference → Command
 data_command r = Access (LookAt (Data r))
@@ -44,6 +54,15 @@ order_command level s direction = Access (LookAt (Order (place_of (longer level 
 -- from the key on, or from the open place below it
 abbrev pub query_command : Reference → Bool → Direction → Command
 query_command r is_open direction = Access (LookAt (Query (record { reference = r; is_open = is_open }) direction))
+
+-- the name that these bytes are, and none where they are empty
+abbrev pub start_of : List ℕ → Option (List ℕ)
+start_of [] = None
+start_of (b ∷ bs) = Some (b ∷ bs)
+
+-- $ORDER of names: from this name on, or without one from the first, backward from the last
+abbrev pub name_command : List ℕ → Direction → Command
+name_command start direction = Access (LookAt (Name (start_of start) direction))
 
 -- LOCK of these names in this form
 abbrev pub lock_of : LockForm → List Resource → LockCommand

@@ -1,9 +1,11 @@
 -- What the typed calls answer and leave.
--- Read IsTypedCall, then IsNumberCall, IsValueCall, IsFoundCall.
-use Rattle.std.specs.Prelude.{◌≡◌, ◌⊎◌, ℕ, ◌≤◌, ◌<◌, true, false, List, length, Option, None, Some}
+-- Read IsTypedCall, then IsNumberCall, IsValueCall, IsFoundCall, IsNameCall.
+use Rattle.std.specs.Prelude.{◌≡◌, ◌⊎◌, ℕ, ◌≤◌, ◌<◌, true, false, List, [], length, Option, None, Some}
 use Rattle.std.specs.Option.{MatchOption}
 use Rattle.refusal.specs.declared.Refusal.{Refusal}
-use Rattle.refusal.specs.declared.Refusal.TheVariants.{BadJob, ValueTooLong, OutOfMemory}
+use Rattle.refusal.specs.declared.Refusal.TheVariants.{BadLine, BadName, BadJob, ValueTooLong, OutOfMemory}
+use Rattle.canonic_number.specs.Number.{is_canonic}
+use Rattle.collation.specs.Name.{is_name}
 use Rattle.collation.specs.Limits.{most_jobs, most_value_bytes}
 use Rattle.collation.specs.Reference.{Reference}
 use Rattle.command.specs.declared.access.Answer.TheVariants.{Done as DoneAnswer, Value, Number, Found}
@@ -56,6 +58,18 @@ IsMemory refusal = refusal ≡ OutOfMemory
 abbrev pub IsValueCause : List ℕ → Refusal → Type 0
 IsValueCause value refusal = IsMemory refusal ⊎ ((refusal ≡ ValueTooLong) × (most_value_bytes < length value))
 
+-- as for a value, or the number isn't canonic
+abbrev pub IsNumberCause : List ℕ → Refusal → Type 0
+IsNumberCause number refusal = IsValueCause number refusal ⊎ ((refusal ≡ BadLine) × (is_canonic number ≡ false))
+
+-- memory was refused, or there is a start, which is no name
+abbrev pub IsNameCause : List ℕ → Refusal → Type 0
+IsNameCause start refusal = IsMemory refusal ⊎ ((refusal ≡ BadName) × (start ≡ [] → ⊥) × (is_name start ≡ false))
+
+-- no name was given
+abbrev pub IsNoList : Refusal → Type 0
+IsNoList refusal = refusal ≡ BadLine
+
 -- memory was refused, or the subscript may not stand below the key
 abbrev pub IsPlaceCause : Reference → List ℕ → Refusal → Type 0
 IsPlaceCause level s refusal = IsDueOrMemory refusal (place_due (longer level s))
@@ -93,11 +107,15 @@ abbrev pub last_number : Option Answered → ℕ
 last_number None = 0
 last_number (Some last) = number_of last.reply
 
+-- refused before, and the number is 0
+abbrev pub IsRefusedNumber : (Refusal → Type 0) → Embedded → Embedded → Outcome → ℕ → Type 0
+IsRefusedNumber IsCause before after outcome number = IsRefusedCall IsCause before after outcome × (number ≡ 0)
+
 -- as a typed call, and the number is the last reply's; where it was refused before it is 0
 abbrev pub IsNumberCall : (Refusal → Type 0) → ℕ → Command → Embedded → Embedded → Outcome → ℕ → Type 0
 IsNumberCall IsCause job command before after outcome number =
     (IsStep job command before after × (outcome ≡ last_outcome after.last) × (number ≡ last_number after.last))
-    ⊎ (IsRefusedCall IsCause before after outcome × (number ≡ 0))
+    ⊎ IsRefusedNumber IsCause before after outcome number
 
 -- ---- calls that copy a value
 
@@ -187,3 +205,15 @@ abbrev pub IsFoundCall : (Refusal → Type 0) → ℕ → Command → Embedded �
 IsFoundCall IsCause job command before after old new result =
     (IsStep job command before after × IsFoundTaken after.last old new result)
     ⊎ (IsRefusedCall IsCause before after result × (new ≡ old))
+
+-- ---- $ORDER of names
+
+-- the name of the last reply's reference was copied; where it has none the refusal is told, or that no name is left
+abbrev pub IsNameCopied : Option Answered → Outcome → List ℕ → List ℕ → ℕ → Type 0
+IsNameCopied last result old new wanted =
+    MatchOption (last_found last) (IsLeft (last_refused_else AtEnd last) result old new wanted) (λ found. IsCopied found.name Done result old new wanted)
+
+-- the step was done and the name copied, or it was refused before
+abbrev pub IsNameCall : (Refusal → Type 0) → ℕ → Command → Embedded → Embedded → Outcome → List ℕ → List ℕ → ℕ → Type 0
+IsNameCall IsCause job command before after result old new wanted =
+    (IsStep job command before after × IsNameCopied after.last result old new wanted) ⊎ IsLeftRefused IsCause before after result old new wanted

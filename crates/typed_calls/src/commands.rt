@@ -1,11 +1,12 @@
 //! Commands on keys, built for one step.
 ghost use Rattle.std.specs.Prelude.{◌≡◌, IfErr, IfOk};
-ghost use Rattle.typed_calls.specs.Commands.{data_command as data_of, get_command as get_of, kill_command as kill_of, lock_command as lock_of_key, lock_of, merge_command as merge_of, order_command as order_of, query_command as query_of};
-ghost use Rattle.typed_calls.specs.Typed.{IsMemory, IsPlaceCause};
+ghost use Rattle.typed_calls.specs.Commands.{data_command as data_of, get_command as get_of, increment_command as increment_of, lock_command as lock_of_key, lock_of, merge_command as merge_of, name_command as name_of, order_command as order_of, query_command as query_of, start_of as start_by};
+ghost use Rattle.typed_calls.specs.Typed.{IsMemory, IsNameCause, IsNumberCause, IsPlaceCause};
 
 use crate::keys::place_below;
-use collation::Direction;
-use command::{Command, DataCommand, Look};
+use canonic_number::is_canonic;
+use collation::{Direction, LONGEST_VALUE, Name, Text};
+use command::{Command, DataCommand, Extent, Look};
 use key_codec::{Key, Place};
 use lock_name::{LockCommand, LockName, LockNames};
 use refusal::Refusal;
@@ -35,12 +36,13 @@ impl LockForm {
     }
 }
 
-pub(crate) fn kill_command(key: &Key) -> Result<Command, Refusal>
-    ensures ok { IfOk result (λ command. command ≡ kill_of key.now) }
+// KILL, KVALUE or KSUBSCRIPTS.
+pub(crate) fn kill_command(key: &Key, extent: Extent) -> Result<Command, Refusal>
+    ensures ok { IfOk result (λ command. command ≡ Command.Access (DataCommand.Kill key.now extent)) }
     ensures err { IfErr result (λ refusal. IsMemory refusal) }
 {
     let key = key.clone()?;
-    Ok(Command::Access(DataCommand::Kill(key)))
+    Ok(Command::Access(DataCommand::Kill(key, extent)))
 }
 
 pub(crate) fn merge_command(to: &Key, from: &Key) -> Result<Command, Refusal>
@@ -50,6 +52,22 @@ pub(crate) fn merge_command(to: &Key, from: &Key) -> Result<Command, Refusal>
     let to = to.clone()?;
     let from = from.clone()?;
     Ok(Command::Access(DataCommand::Merge(to, from)))
+}
+
+// $INCREMENT by this number.
+pub(crate) fn increment_command(alloc: Global, key: &Key, number: &[u8]) -> Result<Command, Refusal>
+    ensures ok { IfOk result (λ command. command ≡ increment_of key.now number.now) }
+    ensures err { IfErr result (λ refusal. IsNumberCause number.now refusal) }
+{
+    if !is_canonic(number) {
+        return Err(Refusal::BadLine);
+    }
+    if number.len() > LONGEST_VALUE {
+        return Err(Refusal::ValueTooLong);
+    }
+    let key = key.clone()?;
+    let number = Text::from_slice(alloc, number)?;
+    Ok(Command::Access(DataCommand::Increment(key, number)))
 }
 
 pub(crate) fn data_command(key: &Key) -> Result<Command, Refusal>
@@ -101,6 +119,34 @@ pub(crate) fn query_command(
 {
     let place = place_at(key, is_open)?;
     Ok(Command::Access(DataCommand::Look(Look::Query(place, direction))))
+}
+
+// The name of these bytes, and none where they are empty.
+fn start_of(alloc: Global, start: &[u8]) -> Result<Option<Name>, Refusal>
+    ensures ok { IfOk result (λ name. name ≡ start_by start.now) }
+    ensures err { IfErr result (λ refusal. IsNameCause start.now refusal) }
+{
+    if start.is_empty() {
+        return Ok(None);
+    }
+    let bytes = Text::from_slice(alloc, start)?;
+    match Name::new(bytes) {
+        Ok(name) => Ok(Some(name)),
+        Err(refusal) => Err(refusal),
+    }
+}
+
+// $ORDER of names from this one; from an empty one, the first or, backward, the last.
+pub(crate) fn name_command(
+    alloc: Global,
+    start: &[u8],
+    direction: Direction,
+) -> Result<Command, Refusal>
+    ensures ok { IfOk result (λ command. command ≡ name_of start.now direction) }
+    ensures err { IfErr result (λ refusal. IsNameCause start.now refusal) }
+{
+    let name = start_of(alloc, start)?;
+    Ok(Command::Access(DataCommand::Look(Look::Name(name, direction))))
 }
 
 // LOCK of these names.

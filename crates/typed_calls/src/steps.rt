@@ -3,7 +3,7 @@ ghost use Rattle.std.specs.Prelude.{◌≡◌, Some};
 ghost use Rattle.job_core.specs.Lent.{done_reply};
 ghost use Rattle.typed_calls.specs.Commands.{set_command};
 ghost use Rattle.typed_calls.specs.Typed as typed;
-ghost use Rattle.typed_calls.specs.Typed.{IsFoundCall, IsFoundTaken, IsJobCause, IsKeyOf, IsMemory, IsNumberCall, IsStep, IsTypedCall, IsValueCall, IsValueCopied, last_outcome};
+ghost use Rattle.typed_calls.specs.Typed.{IsFoundCall, IsFoundTaken, IsJobCause, IsKeyOf, IsMemory, IsNameCall, IsNameCopied, IsNumberCall, IsStep, IsTypedCall, IsValueCall, IsValueCopied, last_outcome};
 
 use collation::{Job, Text};
 use command::{Answer, Command, Reply};
@@ -208,6 +208,46 @@ pub(crate) fn run_found(engine: &mut Embedded, job: u64, command: Command, key: 
         }
         Err(refusal) => {
             drop(command);
+            Outcome::Refused(refusal)
+        }
+    }
+}
+
+// Copies the name of the reference that the last reply has.
+fn copy_name(last: &Option<Answered>, buffer: &mut [u8], wanted: &mut usize) -> Outcome
+    ensures { IsNameCopied last.now result buffer.old buffer.new wanted.new }
+{
+    *wanted = 0;
+    let Some(answered) = last else {
+        return Outcome::AtEnd;
+    };
+    match &answered.reply {
+        Reply::Answered(Answer::Found(found)) => {
+            copied_as(Outcome::Done, found.name(), buffer, wanted)
+        }
+        Reply::Refused(refusal) => Outcome::Refused(*refusal),
+        _ => Outcome::AtEnd,
+    }
+}
+
+// Does a command of a job, and copies the name of the reference that its reply has.
+pub(crate) fn run_named(
+    engine: &mut Embedded,
+    job: u64,
+    command: Command,
+    buffer: &mut [u8],
+    wanted: &mut usize,
+) -> Outcome
+    ensures { IsNameCall (λ refusal. IsJobCause job refusal) job command engine.old engine.new result buffer.old buffer.new wanted.new }
+{
+    match Job::new(job) {
+        Ok(job) => {
+            run_step(engine, job, command);
+            copy_name(&engine.last, buffer, wanted)
+        }
+        Err(refusal) => {
+            drop(command);
+            *wanted = 0;
             Outcome::Refused(refusal)
         }
     }

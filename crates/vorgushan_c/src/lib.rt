@@ -10,12 +10,13 @@
 //! its pointers and lengths say what is there, and that it makes one call at a time, only C's word stands for.
 //!
 //! Read `specs/Exports.antt`, `exports.rt`, `specs/Texts.antt`, `texts.rt`, `specs/Keys.antt`, `keys.rt`, `typed.rt`,
-//! `looks.rt`, `steps.rt`, `specs/Several.antt`, `several.rt`, `handle.rt`, then `loose.rt`.
+//! `increments.rt`, `looks.rt`, `steps.rt`, `specs/Several.antt`, `several.rt`, `handle.rt`, then `loose.rt`.
 #![tactic(auto)]
 
 mod draft_handle;
 mod exports;
 mod handle;
+mod increments;
 mod key_handle;
 mod keys;
 mod looks;

@@ -1,6 +1,6 @@
 //! What C calls on several keys at once. Each of them is declared in `include/vorgushan.h`, with its meaning for a C
 //! programmer.
-ghost use Rattle.std.specs.Prelude.{◌≡◌, None, IfErr, IfOk};
+ghost use Rattle.std.specs.Prelude.{◌≡◌, [], None, IfErr, IfOk, IfSome};
 ghost use Rattle.std.specs.Option.{MatchOption};
 ghost use Rattle.typed_calls.specs.Typed.{IsMemory};
 ghost use Rattle.vorgushan_c.specs.Exports.{IsCalled};
@@ -47,6 +47,7 @@ fn add_name(alloc: Global, key: &mut VgKey, names: &mut Vec<LockName>) -> Result
 fn names_of(alloc: Global, keys: &mut [VgWholeKey]) -> Result<Option<Vec<LockName>>, Refusal>
     ensures keys { held_in keys.new ≡ held_in keys.old }
     ensures named { IfOk result (λ found. MatchOption found (asked_keys (held_in keys.old) ≡ None) (λ names. AreTheirs (asked_keys (held_in keys.old)) names.items)) }
+    ensures some { IfOk result (λ found. IfSome found (λ names. names.items ≡ [] → ⊥)) }
     ensures refused { IfErr result (λ refusal. IsMemory refusal) }
 {
     let mut names = Vec::new(alloc);

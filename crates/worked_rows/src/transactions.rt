@@ -2,7 +2,7 @@
 use crate::Row;
 
 /// What a transaction sees and keeps, when it begins anew, and when it doesn't.
-pub const COMMITS: [Row; 11] = [
+pub const COMMITS: [Row; 14] = [
     (
         "1 TSTART\n1 SET ^X=1\n2 $GET(^X)\n1 $GET(^X)\n1 TCOMMIT\n2 $GET(^X)\n",
         "1 level 1\n1 ok\n2 \"\"\n1 1\n1 committed\n2 1\n--\n^X=1\n",
@@ -55,6 +55,21 @@ pub const COMMITS: [Row; 11] = [
     (
         "1 TSTART\n1 $GET(^X)\n2 TSTART\n2 SET ^X=1\n2 KILL ^X\n2 TCOMMIT\n1 TCOMMIT\n",
         "1 level 1\n1 \"\"\n2 level 1\n2 ok\n2 ok\n2 committed\n1 committed\n--\n",
+    ),
+    // a sum is of what the transaction read, and computed anew
+    (
+        "1 SET ^X=5\n1 TSTART\n2 $INCREMENT(^X)\n1 $INCREMENT(^X)\n1 TCOMMIT\n1 $INCREMENT(^X)\n1 TCOMMIT\n",
+        "1 ok\n1 level 1\n2 6\n1 6\n1 restart 1\n1 7\n1 committed\n--\n^X=7\n",
+    ),
+    // a name that came in between
+    (
+        "1 SET ^A=1\n1 TSTART\n1 $ORDER(^$GLOBAL(\"^A\"))\n2 SET ^B=1\n1 SET ^C=1\n1 TCOMMIT\n",
+        "1 ok\n1 level 1\n1 \"\"\n2 ok\n1 ok\n1 restart 1\n--\n^A=1\n^B=1\n",
+    ),
+    // KSUBSCRIPTS takes what came in between below, and not the value
+    (
+        "1 TSTART\n1 KSUBSCRIPTS ^A\n2 SET ^A(5)=1\n2 SET ^A=2\n1 TCOMMIT\n",
+        "1 level 1\n1 ok\n2 ok\n2 ok\n1 committed\n--\n^A=2\n",
     ),
 ];
 

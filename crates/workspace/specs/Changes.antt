@@ -5,7 +5,8 @@ use Rattle.std.specs.FinMap as finmap
 use Rattle.collation.specs.Reference.{Reference}
 use Rattle.collation.specs.Order.{ref_eq}
 use Rattle.collation.specs.Database.{Database}
-use Rattle.collation.specs.Answers.{subtree_of}
+use Rattle.command.specs.declared.access.Extent.{Extent}
+use Rattle.globals.specs.Cuts.{taken_of}
 use Rattle.collation.specs.Changes.{Change, changed, AreOnce}
 use Rattle.workspace.specs.Layers.{Layer, laid_over}
 
@@ -30,7 +31,7 @@ abbrev pub removed : Database → List (Reference × List ℕ) → List Change
 removed written [] = []
 removed written (e ∷ es) = if finmap.contains_key written e.0 then removed written es else (e.0, None) ∷ removed written es
 
--- what stands under killed references, one after another, and isn't written
-abbrev pub removed_by : {X : Type 0} → Database → Database → List (Reference × X) → List Change
+-- what the kills take, one after another, and isn't written
+abbrev pub removed_by : Database → Database → List (Reference × Extent) → List Change
 removed_by written m [] = []
-removed_by written m (k ∷ ks) = removed written (subtree_of k.0 m) ++ removed_by written m ks
+removed_by written m (k ∷ ks) = removed written (taken_of k.1 k.0 m) ++ removed_by written m ks

@@ -1,12 +1,13 @@
 //! The changes that the writes make to what a view contains.
 ghost use Rattle.std.specs.Prelude.{◌≡◌, [], ◌∷◌, ◌++◌, Some, None, OnOk, IfOk};
 ghost use Rattle.std.specs.FinMap as finmap;
-ghost use Rattle.collation.specs.Answers.{subtree_of};
+ghost use Rattle.globals.specs.Cuts.{taken_of};
 ghost use Rattle.steady_map.specs.Shown.{shown};
 ghost use Rattle.workspace.specs.Changes.{set_changes, removed, removed_by};
 
 use collation::Text;
-use globals::{OrderedView, subtree};
+use command::Extent;
+use globals::{OrderedView, taken};
 use key_codec::Key;
 use key_map::KeyMap;
 use std::alloc::{AllocError, Global};
@@ -74,16 +75,17 @@ fn push_gone(changes: &mut Vec<(Key, Option<Text>)>, key: &Key) -> Result<(), Al
     Ok(())
 }
 
-// What stands at and under a killed reference, and isn't written.
+// What a kill takes, and isn't written.
 fn push_removed<V: OrderedView>(
     changes: &mut Vec<(Key, Option<Text>)>,
     written: &KeyMap<Text>,
     view: &V,
     root: &Key,
+    extent: Extent,
 ) -> Result<(), AllocError>
-    ensures { OnOk result (changes.new.items ≡ changes.old.items ++ removed written.now (subtree_of root.now (V.content view.now))) }
+    ensures { OnOk result (changes.new.items ≡ changes.old.items ++ removed written.now (taken_of extent root.now (V.content view.now))) }
 {
-    for (key, _) in subtree(view, root) {
+    for (key, _) in taken(view, root, extent) {
         if written.get(key).is_none() {
             push_gone(changes, key)?;
         }
@@ -96,12 +98,12 @@ fn push_each_removed<V: OrderedView>(
     changes: &mut Vec<(Key, Option<Text>)>,
     written: &KeyMap<Text>,
     view: &V,
-    killed: &KeyMap<()>,
+    killed: &KeyMap<Extent>,
 ) -> Result<(), AllocError>
     ensures { OnOk result (changes.new.items ≡ changes.old.items ++ removed_by written.now (V.content view.now) (finmap.entries killed.now)) }
 {
-    for (root, _) in killed.iter() {
-        push_removed(changes, written, view, root)?;
+    for (root, extent) in killed.iter() {
+        push_removed(changes, written, view, root, *extent)?;
     }
     Ok(())
 }
@@ -111,7 +113,7 @@ fn push_all_removed<V: OrderedView>(
     changes: &mut Vec<(Key, Option<Text>)>,
     written: &KeyMap<Text>,
     view: &V,
-    killed: &KeyMap<()>,
+    killed: &KeyMap<Extent>,
 ) -> Result<(), AllocError>
     ensures { OnOk result (changes.new.items ≡ changes.old.items ++ removed_by written.now (V.content view.now) (finmap.entries killed.now)) }
 {
@@ -125,7 +127,7 @@ fn push_all_removed<V: OrderedView>(
 pub(crate) fn list_changes<V: OrderedView>(
     alloc: Global,
     written: &KeyMap<Text>,
-    killed: &KeyMap<()>,
+    killed: &KeyMap<Extent>,
     view: &V,
 ) -> Result<Vec<(Key, Option<Text>)>, AllocError>
     ensures { IfOk result (λ changes. changes.items ≡ set_changes (finmap.entries written.now) ++ removed_by written.now (V.content view.now) (finmap.entries killed.now)) }

@@ -1,11 +1,11 @@
 //! A transaction's private writes.
 //!
-//! Callers see the values that were set and not killed later, and the references at and under which all was killed
-//! (`specs/Layers.antt`). Laid over a database these are what the transaction sees (`laid_over`); each change of the
+//! Callers see the values that were set and not killed later, and the references that were killed, each with what was
+//! killed of it and its descendants (`specs/Layers.antt`). Laid over a database these are what the transaction sees (`laid_over`); each change of the
 //! workspace does to that just what its data command does to a database.
 //!
-//! (1) Of the killed references none is at or under another, so the last one that doesn't stand after a reference
-//! tells whether that is killed;
+//! (1) Of the killed references none is taken by the kill of another, so the last one that doesn't stand after a
+//! reference tells whether that is killed;
 //! (2) a value that was set under a killed reference stands.
 //!
 //! After SET ^A(1)=x, KILL ^A, SET ^A(2)=y there is ^A(2)=y written and ^A killed. Over ^A(1)=a, ^A(3)=c, ^B=b that is

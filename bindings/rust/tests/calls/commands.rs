@@ -24,6 +24,93 @@ fn kill_takes_all_below() -> Result<(), Error> {
 }
 
 #[test]
+fn kill_value_takes_nothing_below() -> Result<(), Error> {
+    let database = with(&["^A=1", "^A(1)=2", "^A(1,2)=3", "^B=4"]);
+    let job = database.job(1)?;
+    job.kill_value(&key("^A(1)"))?;
+    job.kill_value(&key("^C"))?;
+    assert_eq!(database.listing()?, "^A=1\n^A(1,2)=3\n^B=4\n");
+    Ok(())
+}
+
+#[test]
+fn kill_subscripts_leaves_the_value() -> Result<(), Error> {
+    let database = with(&["^A=1", "^A(1)=2", "^A(1,2)=3", "^B=4"]);
+    database.job(1)?.kill_subscripts(&key("^A(1)"))?;
+    assert_eq!(database.listing()?, "^A=1\n^A(1)=2\n^B=4\n");
+    Ok(())
+}
+
+#[test]
+fn increment_adds_exactly() -> Result<(), Error> {
+    let database = with(&["^A=\"12abc\"", "^B=999999999999999999999"]);
+    let job = database.job(1)?;
+    let rows = [("^A", "-.5", "11.5"), ("^A", "1", "12.5"), ("^B", "1", "1000000000000000000000"), ("^C", "7", "7")];
+    for (text, number, sum) in rows {
+        assert_eq!(job.increment(&key(text), number)?, sum);
+        assert_eq!(database.look_text(&key(text))?.as_deref(), Some(sum));
+    }
+    for wrong in ["", "01", "+1", "1E3", "x"] {
+        assert_eq!(job.increment(&key("^C"), wrong), Err(Error::BadLine), "{wrong}");
+    }
+    Ok(())
+}
+
+#[test]
+fn the_longest_sum_is_done_once() -> Result<(), Error> {
+    let database = empty();
+    let job = database.job(1)?;
+    let nearly = format!("{}8", "9".repeat(32_766));
+    job.set(&key("^A"), &nearly)?;
+    assert_eq!(job.increment(&key("^A"), "1")?, "9".repeat(32_767));
+    assert_eq!(database.units()?, 2);
+    assert_eq!(job.increment(&key("^A"), "1"), Err(Error::SumTooLong));
+    assert_eq!(job.increment(&key("^A"), "9".repeat(32_768)), Err(Error::ValueTooLong));
+    assert_eq!(database.look_text(&key("^A"))?, Some("9".repeat(32_767)));
+    Ok(())
+}
+
+#[test]
+fn an_increment_is_a_read_of_its_node() -> Result<(), Error> {
+    let database = with(&["^A=5"]);
+    let mut tries = 0;
+    let sum = database.transaction(1, |t| {
+        tries += 1;
+        let sum = t.increment(&key("^A"), "10")?;
+        if tries == 1 {
+            database.job(2)?.increment(&key("^A"), "100")?;
+        }
+        Ok::<_, Error>(sum)
+    })?;
+    assert_eq!((tries, &sum[..]), (2, "115"));
+    assert_eq!(database.listing()?, "^A=115\n");
+    Ok(())
+}
+
+#[test]
+fn names_are_walked_in_both_directions() -> Result<(), Error> {
+    use Direction::{Backward, Forward};
+    let database = with(&["^%A=1", "^Ab(1,2)=1", "^B=1"]);
+    let job = database.job(1)?;
+    let rows = [
+        ("", Forward, Some("%A")),
+        ("%A", Forward, Some("Ab")),
+        ("Aa", Forward, Some("Ab")),
+        ("B", Forward, None),
+        ("", Backward, Some("B")),
+        ("B", Backward, Some("Ab")),
+        ("%A", Backward, None),
+    ];
+    for (start, direction, found) in rows {
+        assert_eq!(job.next_name(start, direction)?.as_deref(), found, "{start} {direction:?}");
+    }
+    for wrong in ["1", "^A", &"x".repeat(300)] {
+        assert_eq!(job.next_name(wrong, Forward), Err(Error::BadName));
+    }
+    Ok(())
+}
+
+#[test]
 fn merge_copies_all_below() -> Result<(), Error> {
     let database = with(&["^A(1)=2", "^A(1,2)=3"]);
     let job = database.job(1)?;

@@ -4,7 +4,7 @@ use std::error;
 use vorgushan::{Database, Error};
 
 /// The numbers and names of include/vorgushan.h.
-const NAMED: [(Error, u32, &str); 21] = [
+const NAMED: [(Error, u32, &str); 22] = [
     (Error::BadLine, 1, "BadLine"),
     (Error::BadName, 2, "BadName"),
     (Error::EmptySubscript, 3, "EmptySubscript"),
@@ -21,6 +21,7 @@ const NAMED: [(Error, u32, &str); 21] = [
     (Error::OutOfMemory, 14, "OutOfMemory"),
     (Error::StampsUsedUp, 15, "StampsUsedUp"),
     (Error::Gone, 16, "Gone"),
+    (Error::SumTooLong, 19, "SumTooLong"),
     (Error::ReplyKept, 35, "ReplyKept"),
     (Error::NoReply, 36, "NoReply"),
     (Error::NoKey, 39, "NoKey"),

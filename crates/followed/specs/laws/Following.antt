@@ -3,14 +3,14 @@ use Rattle.std.proofs.Common.{◌≡◌, Bool, true, false, List, [], ◌∷◌,
 use Rattle.std.specs.Prelude.{cond, not, ◌&&◌, ◌||◌, is_some, Option, Some, None}
 use Rattle.std.specs.Option.{option_or}
 use Rattle.std.specs.FinMap as finmap
-use Rattle.command.specs.declared.access.DataCommand.TheVariants.{Set, Kill, Merge, Look}
+use Rattle.command.specs.declared.access.DataCommand.TheVariants.{Set, Kill, Merge, Increment, Look}
 use Rattle.collation.specs.Reference.{Reference}
 use Rattle.collation.specs.Order.{ref_cmp, ref_eq}
 use Rattle.collation.specs.laws.Order.{ref_cmp_total, ref_cmp-IsAntisymmetric}
 use Rattle.collation.specs.Database.{Database, is_under}
 use Rattle.collation.specs.Answers.{merged, moved, set_all}
-use Rattle.command.specs.Data.{data_after}
-use Rattle.globals.specs.laws.Changing.{get_set, kill_subtree, contains_merged}
+use Rattle.command.specs.Data.{data_after, sum_at, takes}
+use Rattle.globals.specs.laws.Changing.{get_set, kill_taken, contains_merged}
 use Rattle.journal.specs.declared.unit.Exchange.{Exchange}
 use Rattle.journal.specs.History.{all_after}
 use Rattle.journal.specs.Touching.{sets, kills, has_read, has_written}
@@ -81,10 +81,15 @@ holds_always w es m was answer = record {
       next_holds w (record w { written = finmap.insert w.written r v }) es m (record { command = Set r v; answer = answer }) was (over_set w m r v)
       (λ x. decides_set w r v x ∙ ap (λ b. decides w x || b) (sym (or_nothing (ref_eq x r))))
       (λ x. ap is_some (get_set w.written r v x) ∙ one_set (ref_eq x r) v (finmap.get w.written x));
-  kill = λ r n kills.
-      next_holds w n es m (record { command = Kill r; answer = answer }) was (over_kill r w n kills m)
-      (λ x. decides_kill r w n kills x)
-      (λ x. ap (λ a. finmap.contains_key a x) kills.written ∙ ap is_some (kill_subtree w.written r x) ∙ one_killed (is_under r x) (finmap.get w.written x));
+  kill = λ r extent n kills.
+      next_holds w n es m (record { command = Kill r extent; answer = answer }) was (over_kill r extent w n kills m)
+      (λ x. decides_kill r extent w n kills x)
+      (λ x. ap (λ a. finmap.contains_key a x) kills.written ∙ ap is_some (kill_taken w.written r extent x) ∙ one_killed (takes extent r x) (finmap.get w.written x));
+  increment = λ r k.
+      let v = sum_at r k (laid_over w m) in
+      next_holds w (record w { written = finmap.insert w.written r v }) es m (record { command = Increment r k; answer = answer }) was (over_set w m r v)
+      (λ x. decides_set w r v x ∙ ap (λ b. decides w x || b) (sym (or_nothing (ref_eq x r))))
+      (λ x. ap is_some (get_set w.written r v x) ∙ one_set (ref_eq x r) v (finmap.get w.written x));
   merge = λ a b.
       let copies = merged a b (laid_over w m) in
       let set_by : (x : Reference) → (not (ref_eq a b) && (is_under a x && finmap.contains_key (laid_over w m) (moved b a x))) ≡ sets (Merge a b) (all_after es m) x =

@@ -1,4 +1,4 @@
--- What SET, KILL and MERGE leave, reference by reference.
+-- What SET, the kills, MERGE and $INCREMENT leave, reference by reference.
 use Rattle.std.proofs.Common.{◌≡◌, ℕ, Bool, true, false, List, [], ◌∷◌, ◌++◌, length, drop, refl, sym, ap, subst, ◌∙◌}
 use Rattle.std.specs.Prelude.{cond, not, ◌&&◌, ◌||◌, map, filter, is_some, Option, Some, None}
 use Rattle.std.specs.Option.{option_or}
@@ -15,7 +15,8 @@ use Rattle.collation.specs.laws.Order.{ref_cmp_total, ref_cmp-IsAntisymmetric, r
 use Rattle.collation.specs.Database.{Database, is_under, begins_with}
 use Rattle.collation.specs.Answers.{merged, moved, set_all}
 use Rattle.globals.specs.laws.Nearest.{not_found_itself, true_of}
-use Rattle.globals.specs.ChangeStatements.{SetSetsOne, KillKillsSubtree, MergeCopiesSubtree}
+use Rattle.globals.specs.ChangeStatements.{SetSetsOne, KillTakesItsExtent, IncrementSetsTheSum, MergeCopiesSubtree}
+use Rattle.command.specs.Data.{sum_at, takes}
 use Rattle.globals.specs.Copies.{copied, all_copies}
 
 -- ---- SET and KILL
@@ -30,10 +31,13 @@ turned : {A : Type 0} (b : Bool) (x y : A) → cond (not b) x y ≡ cond b y x
 turned true x y = refl
 turned false x y = refl
 
-pub kill_subtree : KillKillsSubtree
-kill_subtree m r q =
-    finmap.get-retain_keys m (λ x. not (is_under r x)) q (λ x e. ap (λ z. not (is_under r z)) (sym (ref_cmp-IsAntisymmetric q x e)))
-    ∙ turned (is_under r q) (finmap.get m q) None
+pub kill_taken : KillTakesItsExtent
+kill_taken m r extent q =
+    finmap.get-retain_keys m (λ x. not (takes extent r x)) q (λ x e. ap (λ z. not (takes extent r z)) (sym (ref_cmp-IsAntisymmetric q x e)))
+    ∙ turned (takes extent r q) (finmap.get m q) None
+
+pub increment_one : IncrementSetsTheSum
+increment_one m r n q = get_set m r (sum_at r n m) q
 
 -- ---- what is moved
 

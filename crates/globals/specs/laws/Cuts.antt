@@ -11,7 +11,7 @@ use Rattle.collation.specs.Database.{is_under}
 use Rattle.collation.specs.Levels.{is_before}
 use Rattle.globals.specs.Cuts.{is_past, stands_before}
 use Rattle.globals.specs.declared.cut.Cut.{Cut}
-use Rattle.globals.specs.declared.cut.Cut.TheVariants.{Start, Before, After, Past}
+use Rattle.globals.specs.declared.cut.Cut.TheVariants.{Start, Before, After, Past, End}
 use Rattle.globals.specs.laws.Sequences.{not_passed_so, passed_on, begins_not_before}
 use Rattle.globals.specs.laws.Paths.{path, cmp_path, under_path, past_path, before_path}
 
@@ -42,6 +42,7 @@ stands_before-earlier Start x y l h = absurd (cc)
 stands_before-earlier (Before r) x y l h = ap is_lt (ref_cmp_total.trans x y r.now l (is_less _ h))
 stands_before-earlier (After r) x y l h = still_false (is_lt (ref_cmp r.now y)) (is_lt (ref_cmp r.now x)) (λ e. ap is_lt (ref_cmp_total.trans r.now x y (is_less _ e) l)) h
 stands_before-earlier (Past r) x y l h = before_end-earlier r.now x y l h
+stands_before-earlier End x y l h = refl
 
 -- what is under r stands from r on and before the end of all under r
 pub under_between : (r x : Reference) → is_under r x ≡ (not (is_lt (ref_cmp x r)) && is_before true r x)

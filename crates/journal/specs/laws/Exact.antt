@@ -1,28 +1,31 @@
 -- What reads as a unit is what is written of it.
 use Rattle.std.proofs.Common.{◌≡◌, ℕ, ◌+◌, ◌*◌, ◌/◌, ◌%◌, ◌≤◌, ◌<◌, ◌^◌, ◌⊎◌, inl, inr, Bool, List, [], ◌∷◌, ◌++◌, length, true, false, zero, suc, refl, ap, sym, subst, ◌∙◌, arith, Option, Some, None, eqb-true, leb-true}
 use Rattle.std.proofs.lemmas.Bool.Decides.{nat_tests}
-use Rattle.std.proofs.lemmas.Option.{option_and_then_some, none-some}
+use Rattle.std.proofs.lemmas.Option.{option_and_then_some, none-some, same_Some}
 use Rattle.std.specs.Prelude.{◌==◌, nat_lt, nat_le, ◌&&◌, if◌then◌else◌}
 use Rattle.std.specs.Cmp.{first_so, second_so}
 use Rattle.std.specs.List.{flat_map}
 use Rattle.collation.specs.Limits.{is_job, most_jobs}
+use Rattle.collation.specs.Name.{is_name}
 use Rattle.collation.specs.Reference.{Reference, Resource}
 use Rattle.collation.specs.declared.direction.Direction.{Direction}
 use Rattle.collation.specs.declared.direction.Direction.TheVariants.{Forward, Backward}
 use Rattle.lock_name.specs.declared.lock.LockCommand.{LockCommand}
 use Rattle.lock_name.specs.declared.lock.LockCommand.TheVariants.{Release, Only, More, Fewer}
-use Rattle.command.specs.declared.access.DataCommand.TheVariants.{Set, Kill, Merge, Look}
+use Rattle.command.specs.declared.access.Extent.{Extent}
+use Rattle.command.specs.declared.access.Extent.TheVariants.{All, Value as ValueAlone, Below}
+use Rattle.command.specs.declared.access.DataCommand.TheVariants.{Set, Kill, Merge, Increment, Look}
 use Rattle.command.specs.declared.access.Look.{Look as LookCommand}
-use Rattle.command.specs.declared.access.Look.TheVariants.{Data, Get, Order, Query}
+use Rattle.command.specs.declared.access.Look.TheVariants.{Data, Get, Order, Query, Name}
 use Rattle.command.specs.declared.access.Answer.{Answer}
 use Rattle.command.specs.declared.access.Answer.TheVariants.{Done, Value, Number, Found}
 use Rattle.journal.specs.declared.unit.Exchange.{Exchange}
 use Rattle.journal.specs.declared.unit.Unit.{Unit as JournalUnit}
 use Rattle.journal.specs.declared.unit.Unit.TheVariants.{Lone, Whole, Lock, Back, End}
 use Rattle.journal.specs.Statements.{AreBytes, UnitsAreReadExactly}
-use Rattle.journal.specs.Format.{number_bytes, string_bytes, reference_bytes, caret_byte, name_bytes, names_bytes, order_kind, query_kind, look_kind, look_bytes, command_kind, command_bytes, answer_kind, answer_bytes, exchange_bytes, lock_flags, lock_kind, lock_bytes, deed_bytes, unit_bytes}
+use Rattle.journal.specs.Format.{number_bytes, string_bytes, reference_bytes, caret_byte, name_bytes, names_bytes, order_kind, query_kind, name_kind, start_bytes, look_kind, look_bytes, kill_kind, command_kind, command_bytes, answer_kind, answer_bytes, exchange_bytes, lock_flags, lock_kind, lock_bytes, deed_bytes, unit_bytes}
 use Rattle.journal.specs.Kept.{job_of}
-use Rattle.journal.specs.Reading.{◌>>=◌, number_at, string_at, reference_at, caret_of, name_at, names_at, set_at, kill_at, merge_at, data_at, get_at, get_else_at, order_at, query_at, traversal_at, looks_at, looking_at, data_command_at, value_answer_at, count_at, found_at, answer_at, answered_at, exchange_at, named_lock_at, lock_command_at, exchanges_at, lone_at, whole_at, locked_at, deed_at, deed_of, unit_at, is_inside, has_had}
+use Rattle.journal.specs.Reading.{◌>>=◌, number_at, string_at, reference_at, caret_of, name_at, names_at, set_at, kill_at, merge_at, data_at, get_at, get_else_at, increment_at, order_at, query_at, named_at, name_from_at, end_name_at, next_name_at, traversal_at, looks_at, looking_at, later_command_at, data_command_at, value_answer_at, count_at, found_at, answer_at, answered_at, exchange_at, named_lock_at, lock_command_at, exchanges_at, lone_at, whole_at, locked_at, deed_at, deed_of, unit_at, is_inside, has_had}
 use Rattle.journal.specs.Stored.{FitsNumber, FitsString, FitsReference, FitsName, FitNames, FitsLook, FitsCommand, FitsAnswer, FitsExchange, FitExchanges, FitsLock, FitsDeed, FitsUnit}
 use Rattle.journal.specs.laws.ExactParts.{IsRead, IsExact, HasNumber, either_way, if_so, as_found, in_turn, at_number, other_bytes, number_exact, string_exact, reference_exact, list_exact}
 
@@ -91,8 +94,11 @@ by_string write Fits make writes fits bytes rest x h e =
 set_exact : IsExact set_at command_bytes (HasNumber 0 command_kind FitsCommand)
 set_exact = by_string command_bytes (HasNumber 0 command_kind FitsCommand) Set (λ r s. refl) λ r s h k. record { is = refl; fits = (h, k) }
 
-kill_exact : IsExact kill_at command_bytes (HasNumber 1 command_kind FitsCommand)
-kill_exact = by_reference command_bytes (HasNumber 1 command_kind FitsCommand) Kill (λ r. refl) λ r h. record { is = refl; fits = h }
+kill_exact : (extent : Extent) → IsExact (kill_at extent) command_bytes (HasNumber (kill_kind extent) command_kind FitsCommand)
+kill_exact extent = by_reference command_bytes (HasNumber (kill_kind extent) command_kind FitsCommand) (λ r. Kill r extent) (λ r. refl) λ r h. record { is = refl; fits = h }
+
+increment_exact : IsExact increment_at command_bytes (HasNumber 21 command_kind FitsCommand)
+increment_exact = by_string command_bytes (HasNumber 21 command_kind FitsCommand) Increment (λ r s. refl) λ r s h k. record { is = refl; fits = (h, k) }
 
 merge_exact : IsExact merge_at command_bytes (HasNumber 2 command_kind FitsCommand)
 merge_exact bytes rest c h e =
@@ -125,6 +131,24 @@ order_exact b d = by_reference look_bytes (IsLook (order_kind b d)) (λ r. Order
 query_exact : (b : Bool) (d : Direction) → IsExact (query_at b d) look_bytes (IsLook (query_kind b d))
 query_exact b d = by_reference look_bytes (IsLook (query_kind b d)) (λ r. Query (record { reference = r; is_open = b }) d) (λ r. refl) λ r h. record { is = refl; fits = h }
 
+-- a string that is a name
+named_exact_if : (s : List ℕ × List ℕ) (b : Bool) (x : List ℕ × List ℕ) → is_name s.0 ≡ b → ◌≡◌ {A = Option (List ℕ × List ℕ)} (if b then Some s else None) (Some x) → (s ≡ x) × (is_name s.0 ≡ true)
+named_exact_if s true x is e = (same_Some _ _ e, is)
+named_exact_if s false x is e = absurd (none-some _ e)
+
+name_from_exact : (d : Direction) (n : ℕ) → ((s : List ℕ) → n ≡ name_kind (Some s) d) → IsExact (name_from_at d) look_bytes (IsLook n)
+unfolding named_at
+name_from_exact d n is bytes rest l h e =
+    option_and_then_some _ (named_at bytes) _ e λ x named found.
+    option_and_then_some _ (string_at bytes) _ named λ s string given.
+    let parts = named_exact_if s (is_name s.0) x refl given in
+    let a = string_exact bytes s.1 s.0 h string in
+    let read : IsRead look_bytes (IsLook n) bytes (Name (Some s.0) d) s.1 = record { written = a.written; fits = record { is = is s.0; fits = (a.fits, parts.1) }; others = a.others } in
+    as_found look_bytes (IsLook n) bytes (Name (Some x.0) d) l x.1 rest found (subst (λ (y : List ℕ × List ℕ). IsRead look_bytes (IsLook n) bytes (Name (Some y.0) d) y.1) parts.0 read)
+
+end_name_exact : (d : Direction) → IsExact (end_name_at d) look_bytes (IsLook (name_kind None d))
+end_name_exact d bytes rest l h e = as_found look_bytes (IsLook (name_kind None d)) bytes (Name None d) l bytes rest e (record { written = refl; fits = record { is = refl; fits = tt }; others = h })
+
 -- a reader chosen by the kind, or one of those after it
 by_kind : {A : Type 0} (kind k : ℕ) (read others : List ℕ → Option (A × List ℕ)) (write : A → List ℕ) (kind_of : A → ℕ) (Fits : A → Type 0) →
     IsExact read write (HasNumber k kind_of Fits) → IsExact others write (HasNumber kind kind_of Fits) →
@@ -137,8 +161,15 @@ by_kind kind k read others write kind_of Fits exact rest_exact bytes rest x h e 
 no_reader : {A : Type 0} (write : A → List ℕ) (Fits : A → Type 0) → IsExact (λ bytes. None) write Fits
 no_reader write Fits bytes rest x h e = absurd (none-some _ e)
 
-query_backward_exact : (kind : ℕ) → IsExact (λ bytes. if kind == 13 then query_at true Backward bytes else None) look_bytes (IsLook kind)
-query_backward_exact kind = by_kind kind 13 (query_at true Backward) (λ bytes. None) look_bytes look_kind FitsLook (query_exact true Backward) (no_reader look_bytes (IsLook kind))
+name_backward_exact : (kind : ℕ) → IsExact (λ bytes. if kind == 25 then end_name_at Backward bytes else None) look_bytes (IsLook kind)
+name_backward_exact kind = by_kind kind 25 (end_name_at Backward) (λ bytes. None) look_bytes look_kind FitsLook (end_name_exact Backward) (no_reader look_bytes (IsLook kind))
+
+next_name_exact : (kind : ℕ) → IsExact (next_name_at kind) look_bytes (IsLook kind)
+next_name_exact kind =
+    by_kind kind 22 (name_from_at Forward) _ look_bytes look_kind FitsLook (name_from_exact Forward 22 (λ s. refl))
+    (by_kind kind 23 (name_from_at Backward) _ look_bytes look_kind FitsLook (name_from_exact Backward 23 (λ s. refl))
+    (by_kind kind 24 (end_name_at Forward) _ look_bytes look_kind FitsLook (end_name_exact Forward)
+    (name_backward_exact kind)))
 
 traversal_exact : (kind : ℕ) → IsExact (traversal_at kind) look_bytes (IsLook kind)
 traversal_exact kind =
@@ -149,7 +180,7 @@ traversal_exact kind =
     (by_kind kind 10 (query_at false Forward) _ look_bytes look_kind FitsLook (query_exact false Forward)
     (by_kind kind 11 (query_at false Backward) _ look_bytes look_kind FitsLook (query_exact false Backward)
     (by_kind kind 12 (query_at true Forward) _ look_bytes look_kind FitsLook (query_exact true Forward)
-    (query_backward_exact kind)))))))
+    (by_kind kind 13 (query_at true Backward) (next_name_at kind) look_bytes look_kind FitsLook (query_exact true Backward) (next_name_exact kind))))))))
 
 looks_exact : (kind : ℕ) → IsExact (looks_at kind) look_bytes (IsLook kind)
 unfolding looks_at
@@ -164,12 +195,18 @@ looking_exact kind bytes rest c h e =
     let a = looks_exact kind bytes l.1 l.0 h look in
     as_found command_bytes (HasNumber kind command_kind FitsCommand) bytes (Look l.0) c l.1 rest found (record { written = a.written; fits = record { is = a.fits.is; fits = a.fits.fits }; others = a.others })
 
+later_exact : (kind : ℕ) → IsExact (later_command_at kind) command_bytes (HasNumber kind command_kind FitsCommand)
+later_exact kind =
+    by_kind kind 19 (kill_at ValueAlone) _ command_bytes command_kind FitsCommand (kill_exact ValueAlone)
+    (by_kind kind 20 (kill_at Below) _ command_bytes command_kind FitsCommand (kill_exact Below)
+    (by_kind kind 21 increment_at (looking_at kind) command_bytes command_kind FitsCommand increment_exact (looking_exact kind)))
+
 command_exact : (kind : ℕ) → IsExact (data_command_at kind) command_bytes (HasNumber kind command_kind FitsCommand)
 unfolding data_command_at
 command_exact kind =
     by_kind kind 0 set_at _ command_bytes command_kind FitsCommand set_exact
-    (by_kind kind 1 kill_at _ command_bytes command_kind FitsCommand kill_exact
-    (by_kind kind 2 merge_at (looking_at kind) command_bytes command_kind FitsCommand merge_exact (looking_exact kind)))
+    (by_kind kind 1 (kill_at All) _ command_bytes command_kind FitsCommand (kill_exact All)
+    (by_kind kind 2 merge_at (later_command_at kind) command_bytes command_kind FitsCommand merge_exact (later_exact kind)))
 
 -- an answer of this kind
 abbrev IsAnswer : ℕ → Answer → Type 0
@@ -352,7 +389,8 @@ tagged_exact job tag bytes rest u h e =
     λ high e1. either_way (tag == 56) _ _ _ e1 (λ is found. at_tag job tag 56 bytes rest u is (whole_exact job bytes rest u h found))
     λ no_whole e2. either_way (tag == 57) _ _ _ e2 (λ is found. at_tag job tag 57 bytes rest u is (back_exact job bytes rest u h found))
     λ no_back e3. either_way (tag == 58) _ _ _ e3 (λ is found. at_tag job tag 58 bytes rest u is (end_exact job bytes rest u h found))
-    λ no_end found. locked_exact job tag bytes rest u h found
+    λ no_end e4. either_way (nat_lt tag 76) _ _ _ e4 (λ lock found. locked_exact job tag bytes rest u h found)
+    λ no_lock found. lone_exact job tag bytes rest u h found
 
 deed_exact : (job : ℕ) → IsExact (deed_of job) deed_bytes (IsDeed job)
 unfolding deed_of

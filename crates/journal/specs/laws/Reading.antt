@@ -1,5 +1,5 @@
 -- What was written reads back, whatever follows it.
-use Rattle.std.proofs.Common.{◌≡◌, ℕ, ◌+◌, ◌-◌, ◌*◌, ◌/◌, ◌%◌, ◌≤◌, ◌<◌, ◌^◌, Bool, List, [], ◌∷◌, ◌++◌, length, take, drop, true, false, refl, ap, sym, ◌∙◌, arith, append_assoc, length-append, take-append-drop, Option, Some, None}
+use Rattle.std.proofs.Common.{◌≡◌, ℕ, ◌+◌, ◌-◌, ◌*◌, ◌/◌, ◌%◌, ◌≤◌, ◌<◌, ◌^◌, ◌⊎◌, inl, inr, Bool, List, [], ◌∷◌, ◌++◌, length, take, drop, true, false, refl, ap, sym, ◌∙◌, arith, append_assoc, length-append, take-append-drop, Option, Some, None}
 use Rattle.std.proofs.lemmas.Bool.Decides.{nat_tests}
 use Rattle.std.proofs.lemmas.List.{take_at, drop_at, append_cancel_left}
 use Rattle.std.proofs.lemmas.Nat.{from_be_bytes-to_be_bytes_2, from_be_bytes-to_be_bytes_8}
@@ -21,10 +21,12 @@ use Rattle.collation.specs.Faults.{reference_fault}
 use Rattle.refusal.specs.declared.Refusal.{Refusal}
 use Rattle.collation.specs.declared.direction.Direction.{Direction}
 use Rattle.collation.specs.declared.direction.Direction.TheVariants.{Forward, Backward}
+use Rattle.command.specs.declared.access.Extent.{Extent}
+use Rattle.command.specs.declared.access.Extent.TheVariants.{All, Value as ValueAlone, Below}
 use Rattle.command.specs.declared.access.DataCommand.{DataCommand}
-use Rattle.command.specs.declared.access.DataCommand.TheVariants.{Set, Kill, Merge, Look}
+use Rattle.command.specs.declared.access.DataCommand.TheVariants.{Set, Kill, Merge, Increment, Look}
 use Rattle.command.specs.declared.access.Look.{Look as LookCommand}
-use Rattle.command.specs.declared.access.Look.TheVariants.{Data, Get, Order, Query}
+use Rattle.command.specs.declared.access.Look.TheVariants.{Data, Get, Order, Query, Name}
 use Rattle.command.specs.declared.access.Answer.{Answer}
 use Rattle.command.specs.declared.access.Answer.TheVariants.{Done, Value, Number, Found}
 use Rattle.lock_name.specs.declared.lock.LockCommand.{LockCommand}
@@ -32,8 +34,8 @@ use Rattle.lock_name.specs.declared.lock.LockCommand.TheVariants.{Release, Only,
 use Rattle.journal.specs.declared.unit.Exchange.{Exchange}
 use Rattle.journal.specs.declared.unit.Unit.{Unit as JournalUnit}
 use Rattle.journal.specs.declared.unit.Unit.TheVariants.{Lone, Whole, Lock, Back, End}
-use Rattle.journal.specs.Format.{number_bytes, string_bytes, has_end, without_end, reference_bytes, caret_byte, name_bytes, names_bytes, order_kind, query_kind, look_kind, look_bytes, command_kind, command_bytes, answer_kind, answer_bytes, exchange_bytes, lock_flags, lock_kind, lock_bytes, deed_bytes, unit_bytes}
-use Rattle.journal.specs.Reading.{at_least, number_at, wide_at, bytes_at, string_at, is_key, key_at, endless_at, ended_at, reference_at, name_at, list_at, names_at, looks_at, data_command_at, answer_at, answered_at, exchange_at, lock_command_at, exchanges_at, deed_at, deed_of, unit_at, is_inside, has_had}
+use Rattle.journal.specs.Format.{number_bytes, string_bytes, has_end, without_end, reference_bytes, caret_byte, name_bytes, names_bytes, order_kind, query_kind, name_kind, start_bytes, look_kind, look_bytes, kill_kind, command_kind, command_bytes, answer_kind, answer_bytes, exchange_bytes, lock_flags, lock_kind, lock_bytes, deed_bytes, unit_bytes}
+use Rattle.journal.specs.Reading.{at_least, number_at, wide_at, bytes_at, string_at, is_key, key_at, endless_at, ended_at, reference_at, name_at, list_at, names_at, named_at, looks_at, looking_at, data_command_at, answer_at, answered_at, exchange_at, lock_command_at, exchanges_at, deed_at, deed_of, unit_at, is_inside, has_had}
 use Rattle.collation.specs.Limits.{is_job}
 use Rattle.journal.specs.Kept.{job_of}
 use Rattle.journal.specs.Stored.{FitsNumber, FitsString, FitsReference, FitsName, Each, FitNames, FitsLook, FitsCommand, FitsAnswer, FitsExchange, FitExchanges, FitsLock, FitsDeed, FitsUnit}
@@ -231,6 +233,17 @@ query_back false Backward r t h = rw (reference_back r t h) refl
 query_back true Forward r t h = rw (reference_back r t h) refl
 query_back true Backward r t h = rw (reference_back r t h) refl
 
+named_back : (n t : List ℕ) → FitsString n → is_name n ≡ true → named_at (string_bytes n ++ t) ≡ Some (n, t)
+unfolding named_at
+named_back n t h is = rw (string_back n t h) (rw is refl)
+
+next_name_back : (start : Option (List ℕ)) (d : Direction) (t : List ℕ) → FitsLook (Name start d) → looks_at (name_kind start d) (start_bytes start ++ t) ≡ Some (Name start d, t)
+unfolding looks_at
+next_name_back (Some n) Forward t h = rw (named_back n t h.0 h.1) refl
+next_name_back (Some n) Backward t h = rw (named_back n t h.0 h.1) refl
+next_name_back None Forward t h = refl
+next_name_back None Backward t h = refl
+
 look_back : (l : LookCommand) (t : List ℕ) → FitsLook l → looks_at (look_kind l) (look_bytes l ++ t) ≡ Some (l, t)
 unfolding looks_at
 look_back (Data r) t h = rw (reference_back r t h) refl
@@ -238,40 +251,79 @@ look_back (Get r None) t h = rw (reference_back r t h) refl
 look_back (Get r (Some d)) t h = rw (append_assoc (reference_bytes r) (string_bytes d) t, reference_back r (string_bytes d ++ t) h.0) (rw (string_back d t h.1) refl)
 look_back (Order p d) t h = order_back p.is_open d p.reference t h
 look_back (Query p d) t h = query_back p.is_open d p.reference t h
+look_back (Name start d) t h = next_name_back start d t h
 
-order_high : (b : Bool) (d : Direction) → 3 ≤ order_kind b d
-order_high false Forward = omega arith
-order_high false Backward = omega arith
-order_high true Forward = omega arith
-order_high true Backward = omega arith
+-- a look's kind is from 3 to 13, or from 22 on
+abbrev IsLookKind : ℕ → Type 0
+IsLookKind k = ((3 ≤ k) × (k ≤ 13)) ⊎ (22 ≤ k)
 
-query_high : (b : Bool) (d : Direction) → 3 ≤ query_kind b d
-query_high false Forward = omega arith
-query_high false Backward = omega arith
-query_high true Forward = omega arith
-query_high true Backward = omega arith
+order_kinds : (b : Bool) (d : Direction) → IsLookKind (order_kind b d)
+order_kinds false Forward = inl (omega arith, omega arith)
+order_kinds false Backward = inl (omega arith, omega arith)
+order_kinds true Forward = inl (omega arith, omega arith)
+order_kinds true Backward = inl (omega arith, omega arith)
 
-look_high : (l : LookCommand) → 3 ≤ look_kind l
-look_high (Data r) = omega arith
-look_high (Get r None) = omega arith
-look_high (Get r (Some d)) = omega arith
-look_high (Order p d) = order_high p.is_open d
-look_high (Query p d) = query_high p.is_open d
+query_kinds : (b : Bool) (d : Direction) → IsLookKind (query_kind b d)
+query_kinds false Forward = inl (omega arith, omega arith)
+query_kinds false Backward = inl (omega arith, omega arith)
+query_kinds true Forward = inl (omega arith, omega arith)
+query_kinds true Backward = inl (omega arith, omega arith)
+
+name_kinds : (start : Option (List ℕ)) (d : Direction) → IsLookKind (name_kind start d)
+name_kinds (Some n) Forward = inr (omega arith)
+name_kinds (Some n) Backward = inr (omega arith)
+name_kinds None Forward = inr (omega arith)
+name_kinds None Backward = inr (omega arith)
+
+look_kinds : (l : LookCommand) → IsLookKind (look_kind l)
+look_kinds (Data r) = inl (omega arith, omega arith)
+look_kinds (Get r None) = inl (omega arith, omega arith)
+look_kinds (Get r (Some d)) = inl (omega arith, omega arith)
+look_kinds (Order p d) = order_kinds p.is_open d
+look_kinds (Query p d) = query_kinds p.is_open d
+look_kinds (Name start d) = name_kinds start d
+
+past_low : (k : ℕ) (bytes : List ℕ) → 3 ≤ k → k ≤ 13 → data_command_at k bytes ≡ looking_at k bytes
+unfolding data_command_at
+past_low k bytes low high =
+    let not_set : (k == 0) ≡ false = grind (arith, nat_tests) in
+    let not_kill : (k == 1) ≡ false = grind (arith, nat_tests) in
+    let not_merge : (k == 2) ≡ false = grind (arith, nat_tests) in
+    let not_value : (k == 19) ≡ false = grind (arith, nat_tests) in
+    let not_below : (k == 20) ≡ false = grind (arith, nat_tests) in
+    let not_increment : (k == 21) ≡ false = grind (arith, nat_tests) in
+    rw (not_set, not_kill, not_merge, not_value, not_below, not_increment) refl
+
+past_high : (k : ℕ) (bytes : List ℕ) → 22 ≤ k → data_command_at k bytes ≡ looking_at k bytes
+unfolding data_command_at
+past_high k bytes high =
+    let not_set : (k == 0) ≡ false = grind (arith, nat_tests) in
+    let not_kill : (k == 1) ≡ false = grind (arith, nat_tests) in
+    let not_merge : (k == 2) ≡ false = grind (arith, nat_tests) in
+    let not_value : (k == 19) ≡ false = grind (arith, nat_tests) in
+    let not_below : (k == 20) ≡ false = grind (arith, nat_tests) in
+    let not_increment : (k == 21) ≡ false = grind (arith, nat_tests) in
+    rw (not_set, not_kill, not_merge, not_value, not_below, not_increment) refl
+
+past_others : (k : ℕ) (bytes : List ℕ) → IsLookKind k → data_command_at k bytes ≡ looking_at k bytes
+past_others k bytes (inl h) = past_low k bytes h.0 h.1
+past_others k bytes (inr h) = past_high k bytes h
 
 looking_back : (l : LookCommand) (t : List ℕ) → FitsLook l → data_command_at (look_kind l) (look_bytes l ++ t) ≡ Some (Look l, t)
+looking_back l t h = past_others (look_kind l) (look_bytes l ++ t) (look_kinds l) ∙ rw (look_back l t h) refl
+
+kill_back : (r : Reference) (extent : Extent) (t : List ℕ) → FitsReference r → data_command_at (kill_kind extent) (reference_bytes r ++ t) ≡ Some (Kill r extent, t)
 unfolding data_command_at
-looking_back l t h =
-    let above : 3 ≤ look_kind l = look_high l in
-    let not_set : (look_kind l == 0) ≡ false = grind (arith, nat_tests) in
-    let not_kill : (look_kind l == 1) ≡ false = grind (arith, nat_tests) in
-    let not_merge : (look_kind l == 2) ≡ false = grind (arith, nat_tests) in
-    rw (not_set, not_kill, not_merge, look_back l t h) refl
+kill_back r All t h = rw (reference_back r t h) refl
+kill_back r ValueAlone t h = rw (reference_back r t h) refl
+kill_back r Below t h = rw (reference_back r t h) refl
 
 pub command_back : (c : DataCommand) (t : List ℕ) → FitsCommand c → data_command_at (command_kind c) (command_bytes c ++ t) ≡ Some (c, t)
 unfolding data_command_at
 command_back (Set r v) t h = rw (append_assoc (reference_bytes r) (string_bytes v) t, reference_back r (string_bytes v ++ t) h.0) (rw (string_back v t h.1) refl)
-command_back (Kill r) t h = rw (reference_back r t h) refl
+command_back (Kill r extent) t h = kill_back r extent t h
 command_back (Merge a b) t h = rw (append_assoc (reference_bytes a) (reference_bytes b) t, reference_back a (reference_bytes b ++ t) h.0) (rw (reference_back b t h.1) refl)
+command_back (Increment r n) t h = rw (append_assoc (reference_bytes r) (string_bytes n) t, reference_back r (string_bytes n ++ t) h.0) (rw (string_back n t h.1) refl)
 command_back (Look l) t h = looking_back l t h
 
 pub answer_back : (a : Answer) (t : List ℕ) → FitsAnswer a → answer_at (answer_kind a) (answer_bytes a ++ t) ≡ Some (a, t)
@@ -281,30 +333,42 @@ answer_back (Value s) t h = rw (string_back s t h) refl
 answer_back (Number n) t h = rw (number_back n t h) refl
 answer_back (Found r) t h = rw (reference_back r t h) refl
 
-order_low : (b : Bool) (d : Direction) → order_kind b d ≤ 13
+order_low : (b : Bool) (d : Direction) → order_kind b d ≤ 25
 order_low false Forward = omega arith
 order_low false Backward = omega arith
 order_low true Forward = omega arith
 order_low true Backward = omega arith
 
-query_low : (b : Bool) (d : Direction) → query_kind b d ≤ 13
+query_low : (b : Bool) (d : Direction) → query_kind b d ≤ 25
 query_low false Forward = omega arith
 query_low false Backward = omega arith
 query_low true Forward = omega arith
 query_low true Backward = omega arith
 
-pub look_low : (l : LookCommand) → look_kind l ≤ 13
+pub look_low : (l : LookCommand) → look_kind l ≤ 25
 look_low (Data r) = omega arith
 look_low (Get r None) = omega arith
 look_low (Get r (Some d)) = omega arith
 look_low (Order p d) = order_low p.is_open d
 look_low (Query p d) = query_low p.is_open d
+look_low (Name (Some n) Forward) = omega arith
+look_low (Name (Some n) Backward) = omega arith
+look_low (Name None Forward) = omega arith
+look_low (Name None Backward) = omega arith
 
-pub kind_low : (c : DataCommand) → command_kind c ≤ 13
-kind_low (Set r v) = omega arith
-kind_low (Kill r) = omega arith
-kind_low (Merge a b) = omega arith
-kind_low (Look l) = look_low l
+-- a command's kind is up to 13, or from 19 on
+apart_look : (k : ℕ) → IsLookKind k → (k ≤ 13) ⊎ (19 ≤ k)
+apart_look k (inl h) = inl h.1
+apart_look k (inr h) = inr (omega (arith, h))
+
+kind_apart : (c : DataCommand) → (command_kind c ≤ 13) ⊎ (19 ≤ command_kind c)
+kind_apart (Set r v) = inl (omega arith)
+kind_apart (Kill r All) = inl (omega arith)
+kind_apart (Kill r ValueAlone) = inr (omega arith)
+kind_apart (Kill r Below) = inr (omega arith)
+kind_apart (Merge a b) = inl (omega arith)
+kind_apart (Increment r n) = inr (omega arith)
+kind_apart (Look l) = apart_look (look_kind l) (look_kinds l)
 
 pub answer_low : (a : Answer) → answer_kind a ≤ 3
 answer_low Done = omega arith
@@ -371,6 +435,12 @@ lock_high (Only ns) = omega arith
 lock_high (More ns) = omega arith
 lock_high (Fewer ns) = omega arith
 
+lock_low : (l : LockCommand) → lock_kind l ≤ 18
+lock_low Release = omega arith
+lock_low (Only ns) = omega arith
+lock_low (More ns) = omega arith
+lock_low (Fewer ns) = omega arith
+
 -- ---- units
 
 locked_back : (job : ℕ) (inside had : Bool) (l : LockCommand) (t : List ℕ) → FitsLock l → deed_at job (4 * lock_kind l + lock_flags inside had) (lock_bytes l ++ t) ≡ Some (Lock job inside l had, t)
@@ -379,21 +449,32 @@ locked_back job inside had l t h =
     let flags = lock_flags inside had in
     let few : flags ≤ 3 = flags_low inside had in
     let above : 15 ≤ lock_kind l = lock_high l in
+    let below : lock_kind l ≤ 18 = lock_low l in
+    let lock : nat_lt (4 * lock_kind l + flags) 76 ≡ true = grind (arith, nat_tests) in
     let not_lone : nat_lt (4 * lock_kind l + flags) 56 ≡ false = grind (arith, nat_tests) in
     let not_whole : ((4 * lock_kind l + flags) == 56) ≡ false = grind (arith, nat_tests) in
     let not_back : ((4 * lock_kind l + flags) == 57) ≡ false = grind (arith, nat_tests) in
     let not_end : ((4 * lock_kind l + flags) == 58) ≡ false = grind (arith, nat_tests) in
     let high : (4 * lock_kind l + flags) / 4 ≡ lock_kind l = tag_high _ _ few in
     let low : (4 * lock_kind l + flags) % 4 ≡ flags = tag_low _ _ few in
-    simp (not_lone, not_whole, not_back, not_end, high, low, lock_back l t h, inside_back inside had, had_back inside had)
+    simp (not_lone, not_whole, not_back, not_end, lock, high, low, lock_back l t h, inside_back inside had, had_back inside had)
 
-lone_back : (job : ℕ) (c : DataCommand) (a : Answer) (t : List ℕ) → FitsCommand c → FitsAnswer a → deed_at job (4 * command_kind c + answer_kind a) ((command_bytes c ++ answer_bytes a) ++ t) ≡ Some (Lone job c a, t)
+lone_back_by : (job : ℕ) (c : DataCommand) (a : Answer) (t : List ℕ) → (command_kind c ≤ 13) ⊎ (19 ≤ command_kind c) → FitsCommand c → FitsAnswer a → deed_at job (4 * command_kind c + answer_kind a) ((command_bytes c ++ answer_bytes a) ++ t) ≡ Some (Lone job c a, t)
 unfolding deed_at
-lone_back job c a t h k =
-    let some : command_kind c ≤ 13 = kind_low c in
+lone_back_by job c a t (inl some) h k =
     let few : answer_kind a ≤ 3 = answer_low a in
     let lone : nat_lt (4 * command_kind c + answer_kind a) 56 ≡ true = grind (arith, nat_tests) in
     rw lone (rw (answered_back c a t h k) refl)
+lone_back_by job c a t (inr some) h k =
+    let not_low : nat_lt (4 * command_kind c + answer_kind a) 56 ≡ false = grind (arith, nat_tests) in
+    let not_whole : ((4 * command_kind c + answer_kind a) == 56) ≡ false = grind (arith, nat_tests) in
+    let not_back : ((4 * command_kind c + answer_kind a) == 57) ≡ false = grind (arith, nat_tests) in
+    let not_end : ((4 * command_kind c + answer_kind a) == 58) ≡ false = grind (arith, nat_tests) in
+    let not_lock : nat_lt (4 * command_kind c + answer_kind a) 76 ≡ false = grind (arith, nat_tests) in
+    rw (not_low, not_whole, not_back, not_end, not_lock) (rw (answered_back c a t h k) refl)
+
+lone_back : (job : ℕ) (c : DataCommand) (a : Answer) (t : List ℕ) → FitsCommand c → FitsAnswer a → deed_at job (4 * command_kind c + answer_kind a) ((command_bytes c ++ answer_bytes a) ++ t) ≡ Some (Lone job c a, t)
+lone_back job c a t h k = lone_back_by job c a t (kind_apart c) h k
 
 deed_back : (u : JournalUnit) (t : List ℕ) → FitsDeed u → deed_of (job_of u) (deed_bytes u ++ t) ≡ Some (u, t)
 unfolding deed_of deed_at

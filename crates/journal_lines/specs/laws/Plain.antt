@@ -12,10 +12,12 @@ use Rattle.collation.specs.declared.direction.Direction.{Direction}
 use Rattle.collation.specs.declared.direction.Direction.TheVariants.{Forward, Backward}
 use Rattle.lock_name.specs.declared.lock.LockCommand.{LockCommand}
 use Rattle.lock_name.specs.declared.lock.LockCommand.TheVariants.{Release, Only, More, Fewer}
+use Rattle.command.specs.declared.access.Extent.{Extent}
+use Rattle.command.specs.declared.access.Extent.TheVariants.{All, Value, Below}
 use Rattle.command.specs.declared.access.DataCommand.{DataCommand}
-use Rattle.command.specs.declared.access.DataCommand.TheVariants.{Set, Kill, Merge, Look}
+use Rattle.command.specs.declared.access.DataCommand.TheVariants.{Set, Kill, Merge, Increment, Look}
 use Rattle.command.specs.declared.access.Look.{Look as LookCommand}
-use Rattle.command.specs.declared.access.Look.TheVariants.{Data, Get, Order, Query}
+use Rattle.command.specs.declared.access.Look.TheVariants.{Data, Get, Order, Query, Name}
 use Rattle.command.specs.declared.request.Command.{Command}
 use Rattle.command.specs.declared.request.Command.TheVariants.{Access, Lock, Start, Commit, Rollback, Restart, Level, Restarts, Halt}
 use Rattle.m_text.specs.Literal.{number_from}
@@ -26,9 +28,9 @@ use Rattle.script.specs.Locking.{names_fault, lock_fault}
 use Rattle.script.specs.Commands.{look_fault, data_fault, command_fault}
 use Rattle.script.specs.Line.{is_job}
 use Rattle.loading.specs.laws.Plain.{are_plain, both, literal_plain, reference_plain}
-use Rattle.journal_lines.specs.Steps.{asked_reference, direction_text, look_text, data_text, name_text, names_text, lock_text, command_text, step_text}
+use Rattle.journal_lines.specs.Steps.{asked_reference, direction_text, start_text, kill_word, look_text, data_text, name_text, names_text, lock_text, command_text, step_text}
 use Rattle.journal_lines.specs.Statements.{has_bytes, LooksAtBytes, HoldsBytes, LocksBytes, CanBeSpelled}
-use Rattle.journal_lines.specs.laws.Spelled.{both_none, named, spelled, holds_bytes, job_fits}
+use Rattle.journal_lines.specs.laws.Spelled.{both_none, named, spelled, start_bytes, holds_bytes, job_fits}
 
 -- digits
 
@@ -60,15 +62,24 @@ look_plain (Get r None) bytes sound = in_parentheses r (41 ∷ []) (named r (bot
 look_plain (Get r (Some value)) bytes sound = in_parentheses r (44 ∷ (literal_text value ++ 41 ∷ [])) (named r (both_none _ _ sound).0) bytes.0 (default_plain value bytes.1)
 look_plain (Order p d) bytes sound = let h = spelled p sound bytes in in_parentheses (asked_reference p) (direction_text d ++ 41 ∷ []) h.name h.bytes (direction_plain d)
 look_plain (Query p d) bytes sound = let h = spelled p sound bytes in in_parentheses (asked_reference p) (direction_text d ++ 41 ∷ []) h.name h.bytes (direction_plain d)
+look_plain (Name start d) bytes sound =
+    let tail : List ℕ = 41 ∷ (direction_text d ++ 41 ∷ []) in
+    both (literal_text (start_text start)) tail (literal_plain (start_text start) (start_bytes start sound)) (direction_plain d)
 
 -- data commands
 
+kill_plain : (extent : Extent) (r : Reference) → are_plain (reference_text r) ≡ true → are_plain (kill_word extent ++ reference_text r) ≡ true
+kill_plain All r plain = plain
+kill_plain Value r plain = plain
+kill_plain Below r plain = plain
+
 data_plain : (c : DataCommand) → HoldsBytes c → data_fault c ≡ None → are_plain (data_text c) ≡ true
 data_plain (Set r value) bytes sound = in_parentheses r (61 ∷ literal_text value) (named r (both_none _ _ sound).0) bytes.0 (literal_plain value bytes.1)
-data_plain (Kill r) bytes sound = reference_plain r (named r sound) bytes
+data_plain (Kill r extent) bytes sound = kill_plain extent r (reference_plain r (named r sound) bytes)
 data_plain (Merge a b) bytes sound =
     let e = both_none (ref_fault a) (ref_fault b) sound in
     in_parentheses a (61 ∷ reference_text b) (named a e.0) bytes.0 (reference_plain b (named b e.1) bytes.1)
+data_plain (Increment r n) bytes sound = in_parentheses r (44 ∷ (literal_text n ++ 41 ∷ [])) (named r (both_none _ _ sound).0) bytes.0 (default_plain n bytes.1)
 data_plain (Look look) bytes sound = look_plain look bytes sound
 
 -- lock names

@@ -1,13 +1,14 @@
 -- The line of a step is of the grammar, and so is read as the step.
 use Rattle.std.proofs.Common.{◌≡◌, ℕ, ◌<◌, ◌≤◌, ◌^◌, Bool, true, false, cond, List, [], ◌∷◌, ◌++◌, length, drop, Option, Some, None, Ok, refl, sym, ap, subst, ◌∙◌, arith, rules, decimal}
 use Rattle.std.proofs.lemmas.Bool.{and_parts, and_from, leb-true}
+use Rattle.std.proofs.lemmas.Bool.Decides.{nat_tests}
 use Rattle.std.proofs.lemmas.List.{append-nil}
 use Rattle.std.proofs.lemmas.List.Folds.{list_all-append}
 use Rattle.std.proofs.lemmas.Str.Parse.{IsNumeralModel, numerals_by_fold}
 use Rattle.std.proofs.lemmas.Fmt.{digits_decimal, digits_value-decimal, decimal_nonempty}
 use Rattle.std.specs.Prelude.{codes, nat_le, nat_lt, ◌==◌}
 use Rattle.std.specs.List.{list_all}
-use Rattle.std.specs.Option.{option_or}
+use Rattle.std.specs.Option.{option_or, option_and_then}
 use Rattle.std.specs.Char.{is_ascii_digit}
 use Rattle.refusal.specs.declared.Refusal.{Refusal}
 use Rattle.refusal.specs.declared.Refusal.TheVariants.{BadName, TooManySubscripts, EmptySubscript, SubscriptTooLong}
@@ -21,30 +22,36 @@ use Rattle.lock_name.specs.declared.lock.LockCommand.{LockCommand}
 use Rattle.lock_name.specs.declared.lock.LockCommand.TheVariants.{Release, Only, More, Fewer}
 use Rattle.key_codec.specs.laws.Draft.{closed_part-more, closed_part-whole}
 use Rattle.command.specs.declared.access.DataCommand.{DataCommand}
-use Rattle.command.specs.declared.access.DataCommand.TheVariants.{Set, Kill, Merge, Look}
+use Rattle.command.specs.declared.access.DataCommand.TheVariants.{Set, Kill, Merge, Increment, Look}
+use Rattle.command.specs.declared.access.Extent.{Extent}
+use Rattle.command.specs.declared.access.Extent.TheVariants.{All, Value, Below}
+use Rattle.canonic_number.specs.Number.{is_canonic}
 use Rattle.command.specs.declared.access.Look.{Look as LookCommand}
-use Rattle.command.specs.declared.access.Look.TheVariants.{Data, Get, Order, Query}
+use Rattle.command.specs.declared.access.Look.TheVariants.{Data, Get, Order, Query, Name}
 use Rattle.command.specs.declared.request.Command.{Command}
 use Rattle.command.specs.declared.request.Command.TheVariants.{Access, Lock, Start, Commit, Rollback, Restart, Level, Restarts, Halt}
 use Rattle.m_text.specs.Reading.{◌>>=◌, after_byte}
 use Rattle.m_text.specs.Literal.{number_from, literal_at}
-use Rattle.m_text.specs.Place.{place_at, ref_fault, spot_fault, spot_of, subscript_count}
+use Rattle.m_text.specs.Place.{place_at, name_fault, ref_fault, spot_fault, spot_of, subscript_count}
 use Rattle.m_text.specs.Written.{parted, literal_text, subscripts_text, reference_text}
-use Rattle.m_text.specs.Forms.{IsParted, IsNamed, IsReferenceBreak, are_bytes}
+use Rattle.m_text.specs.Forms.{IsParted, IsNamed, IsReferenceBreak, are_bytes, is_word_byte}
 use Rattle.m_text.specs.Forms.IsParted.{one, more}
 use Rattle.m_text.specs.laws.Place.{place_read}
 use Rattle.m_text.specs.laws.Written.{literal_again, reference_form}
 use Rattle.script.specs.Locking.{names_fault, lock_fault}
-use Rattle.script.specs.Commands.{set_value_at, source_at, default_at, direction_at, operands_at, acts_at, functions_at, command_at, look_fault, data_fault, command_fault}
-use Rattle.script.specs.Grammar.{IsBlank, IsLockName, IsOneName, AreLockNames, IsLocking, IsCommand, IsLine}
+use Rattle.script.specs.Commands.{set_value_at, source_at, default_at, direction_at, step_at, placed_at, start_of, argument_at, names_at, structured_at, operands_by, operands_at, acts_at, functions_at, command_at, look_fault, data_fault, command_fault}
+use Rattle.script.specs.Grammar.{IsTail, IsBlank, IsLockName, IsOneName, AreLockNames, IsLocking, IsCommand, IsLine}
+use Rattle.script.specs.Grammar.IsTail.{order_of}
+use Rattle.script.specs.Grammar.IsDirection.{no_direction}
 use Rattle.script.specs.Grammar.IsLockName.{with_caret, without_caret}
 use Rattle.script.specs.Grammar.AreLockNames.{one_name, names}
 use Rattle.script.specs.Grammar.IsSign.{no_sign, plus, minus}
 use Rattle.script.specs.Grammar.IsTimeout.{no_timeout}
 use Rattle.script.specs.Grammar.IsCommand.{release, lock}
 use Rattle.script.specs.Line.{is_job, reading_of}
+use Rattle.script.specs.laws.Commands.{structured_none}
 use Rattle.script.specs.laws.Line.{command_found, line_judged}
-use Rattle.journal_lines.specs.Steps.{asked_reference, direction_text, look_text, data_text, name_text, names_text, lock_text, command_text, step_text}
+use Rattle.journal_lines.specs.Steps.{asked_reference, direction_text, start_text, kill_word, look_text, data_text, name_text, names_text, lock_text, command_text, step_text}
 use Rattle.journal_lines.specs.Statements.{has_bytes, LooksAtBytes, HoldsBytes, AreNames, LocksBytes, CanBeSpelled}
 
 -- a text without a fault has none in its parts
@@ -155,20 +162,22 @@ set_wants p = set_value_at p.1 >>= λ value. Some (Set p.0 value.0, value.1)
 merge_wants : Wants
 merge_wants p = source_at p.1 >>= λ source. Some (Merge p.0 source.0, source.1)
 
-kill_wants : Wants
-kill_wants p = Some (Kill p.0, p.1)
+kill_wants : Extent → Wants
+kill_wants extent p = Some (Kill p.0 extent, p.1)
 
 set_text : (text : List ℕ) → command_at (codes "SET " ++ (94 ∷ text)) ≡ acted set_wants (94 ∷ text)
-unfolding command_at acts_at operands_at set_wants
+unfolding command_at acts_at operands_at placed_at set_wants
 set_text text = refl
 
 merge_text : (text : List ℕ) → command_at (codes "MERGE " ++ (94 ∷ text)) ≡ acted merge_wants (94 ∷ text)
-unfolding command_at acts_at operands_at merge_wants
+unfolding command_at acts_at operands_at placed_at merge_wants
 merge_text text = refl
 
-kill_text : (text : List ℕ) → command_at (codes "KILL " ++ (94 ∷ text)) ≡ acted kill_wants (94 ∷ text)
-unfolding command_at acts_at operands_at kill_wants
-kill_text text = refl
+kill_text : (extent : Extent) (text : List ℕ) → command_at (kill_word extent ++ (94 ∷ text)) ≡ acted (kill_wants extent) (94 ∷ text)
+unfolding command_at acts_at operands_at placed_at kill_wants
+kill_text All text = refl
+kill_text Value text = refl
+kill_text Below text = refl
 
 acted_is : (wants : Wants) (r : Reference) (rest : List ℕ) (c : DataCommand) → is_name r.name ≡ true → has_bytes r ≡ true → IsReferenceBreak rest → wants (r, rest) ≡ Some (c, []) → acted wants (reference_text r ++ rest) ≡ Some (Access c, [])
 acted_is wants r rest c name bytes ends e = rw (reference_read r rest name bytes ends, e) refl
@@ -185,11 +194,11 @@ merge_is a b name bytes source_name source_bytes =
     is_command (data_text (Merge a b)) (Access (Merge a b))
     (merge_text _ ∙ acted_is merge_wants a (61 ∷ reference_text b) (Merge a b) name bytes refl (rw (reference_alone b source_name source_bytes) refl))
 
-kill_is : (r : Reference) → is_name r.name ≡ true → has_bytes r ≡ true → IsCommand (data_text (Kill r)) (Access (Kill r))
+kill_is : (r : Reference) (extent : Extent) → is_name r.name ≡ true → has_bytes r ≡ true → IsCommand (data_text (Kill r extent)) (Access (Kill r extent))
 unfolding kill_wants
-kill_is r name bytes =
-    is_command (data_text (Kill r)) (Access (Kill r))
-    (kill_text _ ∙ ap (acted kill_wants) (sym (append-nil (reference_text r))) ∙ acted_is kill_wants r [] (Kill r) name bytes tt refl)
+kill_is r extent name bytes =
+    is_command (data_text (Kill r extent)) (Access (Kill r extent))
+    (kill_text extent _ ∙ ap (acted (kill_wants extent)) (sym (append-nil (reference_text r))) ∙ acted_is (kill_wants extent) r [] (Kill r extent) name bytes tt refl)
 
 -- functions
 
@@ -206,23 +215,37 @@ get_wants p = default_at p.1 >>= λ default. Some (Look (Get p.0 default.0), def
 order_wants : Wants
 order_wants p = direction_at p.1 >>= λ direction. Some (Look (Order (spot_of p.0) direction.0), direction.1)
 
+increment_wants : Wants
+increment_wants p = step_at p.1 >>= λ number. Some (Increment p.0 number.0, number.1)
+
 query_wants : Wants
 query_wants p = direction_at p.1 >>= λ direction. Some (Look (Query (spot_of p.0) direction.0), direction.1)
 
 data_asks : (text : List ℕ) → command_at (codes "$DATA(" ++ text) ≡ asking data_wants text
-unfolding command_at functions_at operands_at data_wants
+unfolding command_at functions_at operands_at placed_at data_wants
 data_asks text = refl
 
 get_asks : (text : List ℕ) → command_at (codes "$GET(" ++ text) ≡ asking get_wants text
-unfolding command_at functions_at operands_at get_wants
+unfolding command_at functions_at operands_at placed_at get_wants
 get_asks text = refl
 
-order_asks : (text : List ℕ) → command_at (codes "$ORDER(" ++ text) ≡ asking order_wants text
-unfolding command_at functions_at operands_at order_wants
-order_asks text = refl
+-- behind the word of this tail a reference is none of names
+placed_behind : {w : _} {s : Reference} {tail : List ℕ} {c : DataCommand} → IsTail w s tail c → (r : Reference) (rest : List ℕ) → is_name r.name ≡ true → has_bytes r ≡ true →
+    operands_by (structured_at w (reference_text r ++ rest)) w (reference_text r ++ rest) ≡ placed_at w (reference_text r ++ rest)
+placed_behind {w} of r rest name bytes = ap (λ s. operands_by s w (reference_text r ++ rest)) (structured_none w (reference_text r) r rest (reference_form r name bytes))
+
+order_asks : (r : Reference) (rest : List ℕ) → is_name r.name ≡ true → has_bytes r ≡ true → command_at (codes "$ORDER(" ++ (reference_text r ++ rest)) ≡ asking order_wants (reference_text r ++ rest)
+unfolding command_at functions_at operands_at placed_at order_wants
+order_asks r rest name bytes =
+    ap (λ (read : Option (DataCommand × List ℕ)). read >>= λ command. ◌>>=◌ {B = Command × List ℕ} (after_byte 41 command.1) (λ rest. Some (Access command.0, rest)))
+    (placed_behind (order_of {r = r} no_direction) r rest name bytes)
+
+increment_asks : (text : List ℕ) → command_at (codes "$INCREMENT(" ++ (94 ∷ text)) ≡ asking increment_wants (94 ∷ text)
+unfolding command_at functions_at operands_at placed_at increment_wants
+increment_asks text = refl
 
 query_asks : (text : List ℕ) → command_at (codes "$QUERY(" ++ text) ≡ asking query_wants text
-unfolding command_at functions_at operands_at query_wants
+unfolding command_at functions_at operands_at placed_at query_wants
 query_asks text = refl
 
 asking_is : (wants : Wants) (r : Reference) (rest : List ℕ) (c : DataCommand) → is_name r.name ≡ true → has_bytes r ≡ true → IsReferenceBreak rest → wants (r, rest) ≡ Some (c, 41 ∷ []) → asking wants (reference_text r ++ rest) ≡ Some (Access c, [])
@@ -263,10 +286,41 @@ get_or_is r value name bytes string =
     get_asks _ ∙ asking_is get_wants r (44 ∷ (literal_text value ++ 41 ∷ [])) (Look (Get r (Some value))) name bytes refl (rw (default_read value string) refl)
 
 order_is : (p : Spot) (d : Direction) → IsAsked p.reference p.is_open → command_at (look_text (Order p d)) ≡ Some (Access (Look (Order p d)), [])
-order_is p d h = order_asks _ ∙ asking_is order_wants (asked_reference p) (direction_text d ++ 41 ∷ []) (Look (Order p d)) h.name h.bytes (direction_ends d) (order_wanted p d h)
+order_is p d h = order_asks (asked_reference p) (direction_text d ++ 41 ∷ []) h.name h.bytes ∙ asking_is order_wants (asked_reference p) (direction_text d ++ 41 ∷ []) (Look (Order p d)) h.name h.bytes (direction_ends d) (order_wanted p d h)
 
 query_is : (p : Spot) (d : Direction) → IsAsked p.reference p.is_open → command_at (look_text (Query p d)) ≡ Some (Access (Look (Query p d)), [])
 query_is p d h = query_asks _ ∙ asking_is query_wants (asked_reference p) (direction_text d ++ 41 ∷ []) (Look (Query p d)) h.name h.bytes (direction_ends d) (query_wanted p d h)
+
+-- names of globals
+
+word_byte : (b : ℕ) → is_word_byte b ≡ true → nat_le b 255 ≡ true
+word_byte b e = grind (arith, nat_tests)
+
+word_bytes : (bs : List ℕ) → list_all is_word_byte bs ≡ true → are_bytes bs ≡ true
+word_bytes [] e = refl
+word_bytes (b ∷ bs) e = let p = and_parts (is_word_byte b) _ e in and_from _ _ (word_byte b p.0) (word_bytes bs p.1)
+
+name_sound : (n : List ℕ) → name_fault n ≡ None → is_name n ≡ true
+name_sound n e = at (is_name n) refl
+  where
+    at : (t : Bool) → is_name n ≡ t → t ≡ true
+    at true f = refl
+    at false f = let g : name_fault n ≡ Some BadName = rw f refl in absurd cc
+
+pub start_bytes : (start : Option (List ℕ)) → option_and_then name_fault start ≡ None → are_bytes (start_text start) ≡ true
+start_bytes None sound = refl
+start_bytes (Some n) sound =
+    let form = reference_form (record { name = n; subscripts = [] }) (name_sound n sound) refl in
+    word_bytes n form.spelled.word
+
+start_again : (start : Option (List ℕ)) → start_of (start_text start) ≡ start
+start_again None = refl
+start_again (Some n) = refl
+
+names_is : (start : Option (List ℕ)) (d : Direction) → are_bytes (start_text start) ≡ true → command_at (look_text (Name start d)) ≡ Some (Access (Look (Name start d)), [])
+unfolding command_at functions_at operands_at names_at argument_at
+names_is start d bytes =
+    rw (literal_again (start_text start) (41 ∷ (direction_text d ++ 41 ∷ [])) bytes refl, direction_read d) (ap (λ (n : Option (List ℕ)). Some (Access (Look (Name n d)), [])) (start_again start))
 
 look_read : (look : LookCommand) → LooksAtBytes look → look_fault look ≡ None → command_at (look_text look) ≡ Some (Access (Look look), [])
 look_read (Data r) bytes sound = data_of_is r (named r sound) bytes
@@ -274,15 +328,25 @@ look_read (Get r None) bytes sound = get_is r (named r (both_none _ _ sound).0) 
 look_read (Get r (Some value)) bytes sound = get_or_is r value (named r (both_none _ _ sound).0) bytes.0 bytes.1
 look_read (Order p d) bytes sound = order_is p d (spelled p sound bytes)
 look_read (Query p d) bytes sound = query_is p d (spelled p sound bytes)
+look_read (Name start d) bytes sound = names_is start d (start_bytes start sound)
 
 -- data commands
 
+step_read_of : (n : List ℕ) → are_bytes n ≡ true → is_canonic n ≡ true → step_at (44 ∷ (literal_text n ++ 41 ∷ [])) ≡ Some (n, 41 ∷ [])
+unfolding step_at
+step_read_of n bytes canonic = rw (literal_again n (41 ∷ []) bytes refl, canonic) refl
+
+increment_is : (r : Reference) (n : List ℕ) → is_name r.name ≡ true → has_bytes r ≡ true → are_bytes n ≡ true → is_canonic n ≡ true → command_at (data_text (Increment r n)) ≡ Some (Access (Increment r n), [])
+unfolding increment_wants
+increment_is r n name bytes string canonic = increment_asks _ ∙ asking_is increment_wants r (44 ∷ (literal_text n ++ 41 ∷ [])) (Increment r n) name bytes refl (rw (step_read_of n string canonic) refl)
+
 data_is : (c : DataCommand) → HoldsBytes c → data_fault c ≡ None → IsCommand (data_text c) (Access c)
 data_is (Set r value) bytes sound = set_is r value (named r (both_none _ _ sound).0) bytes.0 bytes.1
-data_is (Kill r) bytes sound = kill_is r (named r sound) bytes
+data_is (Kill r extent) bytes sound = kill_is r extent (named r sound) bytes
 data_is (Merge a b) bytes sound =
     let e = both_none (ref_fault a) (ref_fault b) sound in
     merge_is a b (named a e.0) bytes.0 (named b e.1) bytes.1
+data_is (Increment r n) bytes sound = is_command (data_text (Increment r n)) (Access (Increment r n)) (increment_is r n (named r (both_none _ _ sound).0) bytes.0 bytes.1 bytes.2)
 data_is (Look look) bytes sound = is_command (look_text look) (Access (Look look)) (look_read look bytes sound)
 
 -- lock names

@@ -24,7 +24,7 @@ use Rattle.m_text.specs.Forms.IsParted.{one, more}
 use Rattle.m_text.specs.Forms.AreSubscripts.{none, listed}
 use Rattle.m_text.specs.laws.Literal.{literal_found}
 use Rattle.m_text.specs.laws.Place.{place_found}
-use Rattle.script.specs.Commands.{past_blank, set_value_at, operands_at, command_at, acts_at, value_fault, data_fault}
+use Rattle.script.specs.Commands.{past_blank, set_value_at, placed_at, operands_at, command_at, acts_at, value_fault, data_fault}
 use Rattle.script.specs.Line.{end_of, spelled_by, judged, reading_of}
 use Rattle.script.specs.laws.Commands.{and_then_some, after_found}
 use Rattle.loading.specs.Settings.{Setting, set_line, asked_in, setting_at}
@@ -44,7 +44,7 @@ abbrev pub finished : Option (DataCommand × List ℕ) → Result (ℕ × Comman
 finished read = judged 1 ((read >>= λ command. Some (Access command.0, command.1)) >>= λ x. end_of x)
 
 pub reading_is : (line : List ℕ) → reading_of (set_line line) ≡ finished (sets (place_at (operand line)))
-unfolding reading_of spelled_by command_at acts_at operands_at
+unfolding reading_of spelled_by command_at acts_at operands_at placed_at
 reading_is line = refl
 
 -- a reference, '=' and a value stand there, and neither is at fault

@@ -16,9 +16,9 @@ use Rattle.collation.specs.Name.{is_name}
 use Rattle.collation.specs.Reference.{Reference, Spot, Resource}
 use Rattle.collation.specs.Faults.{subscripts_fault, reference_fault}
 use Rattle.command.specs.declared.access.DataCommand.{DataCommand}
-use Rattle.command.specs.declared.access.DataCommand.TheVariants.{Set, Kill, Merge, Look}
+use Rattle.command.specs.declared.access.DataCommand.TheVariants.{Set, Kill, Merge, Increment, Look}
 use Rattle.command.specs.declared.access.Look.{Look as LookCommand}
-use Rattle.command.specs.declared.access.Look.TheVariants.{Data, Get, Order, Query}
+use Rattle.command.specs.declared.access.Look.TheVariants.{Data, Get, Order, Query, Name}
 use Rattle.lock_name.specs.declared.lock.LockCommand.{LockCommand}
 use Rattle.lock_name.specs.declared.lock.LockCommand.TheVariants.{Release, Only, More, Fewer}
 use Rattle.command.specs.declared.request.Command.{Command}
@@ -450,16 +450,22 @@ default_none : (d : Option (List ℕ)) → IsNone (option_and_then value_fault d
 default_none None = λ e. cc
 default_none (Some value) = value_none value
 
+start_none : (start : Option (List ℕ)) → IsNone (option_and_then name_fault start)
+start_none None = λ e. cc
+start_none (Some name) = name_none name
+
 look_none : (c : LookCommand) → IsNone (look_fault c)
 look_none (Data r) = ref_none r
 look_none (Get r d) = or_none (ref_fault r) (option_and_then value_fault d) (ref_none r) (default_none d)
 look_none (Order p d) = spot_none p
 look_none (Query p d) = spot_none p
+look_none (Name start d) = start_none start
 
 data_none : (c : DataCommand) → IsNone (data_fault c)
 data_none (Set r value) = or_none (ref_fault r) (value_fault value) (ref_none r) (value_none value)
-data_none (Kill r) = ref_none r
+data_none (Kill r extent) = ref_none r
 data_none (Merge r s) = or_none (ref_fault r) (ref_fault s) (ref_none r) (ref_none s)
+data_none (Increment r number) = or_none (ref_fault r) (value_fault number) (ref_none r) (value_none number)
 data_none (Look look) = look_none look
 
 names_none : (ns : List Resource) → IsNone (names_fault ns)

@@ -5,6 +5,7 @@ use Rattle.std.proofs.lemmas.Option.{same_Some}
 use Rattle.std.specs.Prelude.{not, ◌&&◌, ◌||◌, ◌==◌, nat_le}
 use Rattle.std.specs.List.{find, list_all}
 use Rattle.std.specs.Char.{is_ascii_alphabetic, to_ascii_uppercase}
+use Rattle.command.specs.declared.access.Extent.TheVariants as extents
 use Rattle.m_text.specs.Literal.{is_word}
 use Rattle.m_text.specs.laws.Parts.{word_letters}
 use Rattle.script.specs.declared.word.Word.{Word}
@@ -57,8 +58,11 @@ found_by table word bs p q e = elim (either_is (words_of word).0 (words_of word)
 -- letters that name an act are read as it
 pub act_named : (word : Word) (bs : List ℕ) → is_function word ≡ false → is_named word bs ≡ true → act_of bs ≡ Some word
 act_named (words.Access data_words.Set) bs k e = found_by acts (words.Access data_words.Set) bs refl refl e
-act_named (words.Access data_words.Kill) bs k e = found_by acts (words.Access data_words.Kill) bs refl refl e
+act_named (words.Access (data_words.Kill extents.All)) bs k e = found_by acts (words.Access (data_words.Kill extents.All)) bs refl refl e
+act_named (words.Access (data_words.Kill extents.Value)) bs k e = found_by acts (words.Access (data_words.Kill extents.Value)) bs refl refl e
+act_named (words.Access (data_words.Kill extents.Below)) bs k e = found_by acts (words.Access (data_words.Kill extents.Below)) bs refl refl e
 act_named (words.Access data_words.Merge) bs k e = found_by acts (words.Access data_words.Merge) bs refl refl e
+act_named (words.Access data_words.Increment) bs k e = absurd cc
 act_named (words.Access data_words.Data) bs k e = absurd cc
 act_named (words.Access data_words.Get) bs k e = absurd cc
 act_named (words.Access data_words.Order) bs k e = absurd cc
@@ -75,8 +79,9 @@ act_named (words.Alone alone_words.Restarts) bs k e = absurd cc
 -- the same of a function
 pub function_named : (word : Word) (bs : List ℕ) → is_function word ≡ true → is_named word bs ≡ true → function_of bs ≡ Some word
 function_named (words.Access data_words.Set) bs k e = absurd cc
-function_named (words.Access data_words.Kill) bs k e = absurd cc
+function_named (words.Access (data_words.Kill extent)) bs k e = absurd cc
 function_named (words.Access data_words.Merge) bs k e = absurd cc
+function_named (words.Access data_words.Increment) bs k e = found_by functions (words.Access data_words.Increment) bs refl refl e
 function_named (words.Access data_words.Data) bs k e = found_by functions (words.Access data_words.Data) bs refl refl e
 function_named (words.Access data_words.Get) bs k e = found_by functions (words.Access data_words.Get) bs refl refl e
 function_named (words.Access data_words.Order) bs k e = found_by functions (words.Access data_words.Order) bs refl refl e
@@ -111,8 +116,11 @@ are_capitals ws = list_all (λ w. nat_le 65 w && nat_le w 90) ws
 
 table_capitals : (word : Word) → (are_capitals (words_of word).0 ≡ true) × (are_capitals (words_of word).1 ≡ true)
 table_capitals (words.Access data_words.Set) = (refl, refl)
-table_capitals (words.Access data_words.Kill) = (refl, refl)
+table_capitals (words.Access (data_words.Kill extents.All)) = (refl, refl)
+table_capitals (words.Access (data_words.Kill extents.Value)) = (refl, refl)
+table_capitals (words.Access (data_words.Kill extents.Below)) = (refl, refl)
 table_capitals (words.Access data_words.Merge) = (refl, refl)
+table_capitals (words.Access data_words.Increment) = (refl, refl)
 table_capitals (words.Access data_words.Data) = (refl, refl)
 table_capitals (words.Access data_words.Get) = (refl, refl)
 table_capitals (words.Access data_words.Order) = (refl, refl)

@@ -22,6 +22,8 @@ use Rattle.globals.specs.laws.Nearest.{nearest_is, nearest_none, any_nearest}
 use Rattle.globals.specs.Copies.{all_copies}
 use Rattle.globals.specs.laws.Nearness.{order_is, query_is}
 use Rattle.globals.specs.laws.Telling.{siblings_less, below_so}
+use Rattle.collation.specs.Names.{is_name_beyond, name_next}
+use Rattle.globals.specs.laws.Names.{name_is, names_less}
 use Rattle.journal.specs.Touching.{is_beyond_answer}
 use Rattle.serial.specs.Agreeing.{Agree}
 
@@ -184,3 +186,22 @@ same_query forward p m n agree =
     query_is forward p m
     ∙ ap (option_map (λ (e : Reference × List ℕ). e.0)) (sym (same_nearest forward (follows forward p) m n (nearest_entry forward (follows forward p) m) refl agree))
     ∙ sym (query_is forward p n)
+
+-- ---- $ORDER of names
+
+-- x's name isn't beyond that of what was found; where nothing was, none is
+abbrev pub not_past_name : Bool → Option (Reference × List ℕ) → Reference → Bool
+not_past_name forward None x = true
+not_past_name forward (Some e) x = not (is_name_beyond forward (Some e.0.name) x.name)
+
+not_past : (forward : Bool) (o : Option (Reference × List ℕ)) (x : Reference) → not_farther forward o x ≡ true → not_past_name forward o x ≡ true
+not_past forward None x near = refl
+not_past forward (Some e) x near = true_or_false (is_name_beyond forward (Some e.0.name) x.name) (λ b. less_not _ near (names_less forward e.0 x (is_less _ b)))
+
+pub same_name : (forward : Bool) (start : Option (List ℕ)) (m n : Database) →
+    ((x : Reference) → is_name_beyond forward start x.name ≡ true → not_past_name forward (nearest_entry forward (λ y. is_name_beyond forward start y.name) m) x ≡ true → Agree m n x) → name_next forward start m ≡ name_next forward start n
+same_name forward start m n agree =
+    let found = nearest_entry forward (λ y. is_name_beyond forward start y.name) m in
+    name_is forward start m
+    ∙ ap (option_map (λ (e : Reference × List ℕ). e.0.name)) (sym (same_nearest forward (λ y. is_name_beyond forward start y.name) m n found refl (λ x p near. agree x p (not_past forward found x near))))
+    ∙ sym (name_is forward start n)

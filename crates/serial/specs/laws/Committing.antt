@@ -6,7 +6,7 @@ use Rattle.std.proofs.lemmas.Bool.{or_left, or_right}
 use Rattle.std.proofs.lemmas.List.Folds.{list_any-append}
 use Rattle.std.specs.FinMap as finmap
 use Rattle.command.specs.declared.access.DataCommand.{DataCommand}
-use Rattle.command.specs.declared.access.DataCommand.TheVariants.{Set, Kill, Merge, Look}
+use Rattle.command.specs.declared.access.DataCommand.TheVariants.{Set, Kill, Merge, Increment, Look}
 use Rattle.command.specs.declared.access.Answer.{Answer}
 use Rattle.collation.specs.Reference.{Reference}
 use Rattle.collation.specs.Order.{ref_eq}
@@ -91,8 +91,9 @@ sees_its_start es m x h = unwritten es m (λ y. false) x h
 
 same_sets : (c : DataCommand) (answer : Answer) (own : Reference → Bool) (m n : Database) → ((y : Reference) → read_set c answer own y ≡ true → Agree m n y) → (x : Reference) → sets c n x ≡ sets c m x
 same_sets (Set r v) answer own m n reading x = refl
-same_sets (Kill r) answer own m n reading x = refl
+same_sets (Kill r extent) answer own m n reading x = refl
 same_sets (Merge a b) answer own m n reading x = ap (λ o. not (ref_eq a b) && (is_under a x && is_some o)) (sym (reading (moved b a x) (under_moved b a x)))
+same_sets (Increment r k) answer own m n reading x = refl
 same_sets (Look look) answer own m n reading x = refl
 
 same_own : (c : DataCommand) (answer : Answer) (own : Reference → Bool) (m n : Database) → ((y : Reference) → read_set c answer own y ≡ true → Agree m n y) → own_after c n own ≡ own_after c m own

@@ -8,14 +8,14 @@ use Rattle.std.proofs.lemmas.Bool.{and_from, or_left, or_right}
 use Rattle.std.proofs.lemmas.List.Folds.{list_any-append}
 use Rattle.std.specs.FinMap as finmap
 use Rattle.command.specs.declared.access.DataCommand.{DataCommand}
-use Rattle.command.specs.declared.access.DataCommand.TheVariants.{Set, Kill, Merge, Look}
+use Rattle.command.specs.declared.access.DataCommand.TheVariants.{Set, Kill, Merge, Increment, Look}
 use Rattle.collation.specs.Reference.{Reference}
 use Rattle.collation.specs.Order.{ref_eq}
 use Rattle.collation.specs.laws.Entries.{either}
 use Rattle.collation.specs.Database.{Database, is_under}
 use Rattle.collation.specs.Answers.{moved}
-use Rattle.command.specs.Data.{data_after}
-use Rattle.globals.specs.laws.Changing.{get_set, kill_subtree, merge_subtree}
+use Rattle.command.specs.Data.{data_after, sum_at}
+use Rattle.globals.specs.laws.Changing.{get_set, increment_one, kill_taken, merge_subtree}
 use Rattle.journal.specs.declared.unit.Exchange.{Exchange}
 use Rattle.journal.specs.declared.unit.Unit.{Unit as JournalUnit}
 use Rattle.journal.specs.declared.unit.Unit.TheVariants.{Lone, Whole, Lock, Back, End}
@@ -41,20 +41,22 @@ or_there (Some x) g h = refl
 -- what a command sets has a value after it
 pub set_is_there : (c : DataCommand) (m : Database) (x : Reference) → sets c m x ≡ true → finmap.contains_key (data_after c m) x ≡ true
 set_is_there (Set r v) m x h = ap is_some (get_set m r v x ∙ ap (λ b. cond b (Some v) (finmap.get m x)) h)
-set_is_there (Kill r) m x h = absurd (cc)
+set_is_there (Kill r extent) m x h = absurd (cc)
 set_is_there (Merge a b) m x h =
     let part : (is_under a x && finmap.contains_key m (moved b a x)) ≡ true = second_so (not (ref_eq a b)) _ h in
     ap is_some (merge_subtree m a b x ∙ ap (λ u. cond u (option_or (finmap.get m (moved b a x)) (finmap.get m x)) (finmap.get m x)) (first_so (is_under a x) _ part))
     ∙ or_there (finmap.get m (moved b a x)) (finmap.get m x) (second_so (is_under a x) _ part)
+set_is_there (Increment r n) m x h = ap is_some (increment_one m r n x ∙ ap (λ b. cond b (Some (sum_at r n m)) (finmap.get m x)) h)
 set_is_there (Look look) m x h = absurd (cc)
 
 -- what has a value and isn't killed keeps one
 not_killed : (c : DataCommand) (m : Database) (x : Reference) → kills c x ≡ false → finmap.contains_key m x ≡ true → finmap.contains_key (data_after c m) x ≡ true
 not_killed (Set r v) m x k h = ap is_some (get_set m r v x) ∙ elim (ref_eq x r) as (λ b. is_some (cond b (Some v) (finmap.get m x)) ≡ true) [ true ↦ refl | false ↦ h ]
-not_killed (Kill r) m x k h = ap is_some (kill_subtree m r x ∙ ap (λ b. cond b None (finmap.get m x)) k) ∙ h
+not_killed (Kill r extent) m x k h = ap is_some (kill_taken m r extent x ∙ ap (λ b. cond b None (finmap.get m x)) k) ∙ h
 not_killed (Merge a b) m x k h =
     ap is_some (merge_subtree m a b x)
     ∙ elim (is_under a x) as (λ u. is_some (cond u (option_or (finmap.get m (moved b a x)) (finmap.get m x)) (finmap.get m x)) ≡ true) [ true ↦ there_or (finmap.get m (moved b a x)) (finmap.get m x) h | false ↦ h ]
+not_killed (Increment r n) m x k h = ap is_some (increment_one m r n x) ∙ elim (ref_eq x r) as (λ b. is_some (cond b (Some (sum_at r n m)) (finmap.get m x)) ≡ true) [ true ↦ refl | false ↦ h ]
 not_killed (Look look) m x k h = h
 
 none_killed : (es : List Exchange) (m : Database) (x : Reference) → list_any (λ (e : Exchange). kills e.command x) es ≡ false → finmap.contains_key m x ≡ true → finmap.contains_key (all_after es m) x ≡ true

@@ -13,7 +13,9 @@ use Rattle.collation.specs.Order.{subscript_cmp, ref_cmp, ref_eq}
 use Rattle.collation.specs.laws.Order.{subscript_cmp_total, subscript_cmp-IsAntisymmetric, ref_cmp_total, ref_cmp-IsAntisymmetric, ref_eq_decides, ref_ties, is_less, turned}
 use Rattle.collation.specs.Database.{is_under}
 use Rattle.collation.specs.Levels.{below, child, child_of, is_below, has_name, without_last, parent_of, is_before, has_level}
-use Rattle.globals.specs.Cuts.{is_past, is_after}
+use Rattle.globals.specs.Cuts.{is_past, is_after, name_start}
+use Rattle.collation.specs.Names.{bare, is_name_beyond}
+use Rattle.globals.specs.laws.Names.{name_after, name_before}
 use Rattle.collation.specs.Answers.{is_beyond}
 use Rattle.globals.specs.Entries.{any_of, is_candidate}
 use Rattle.journal.specs.Touching.{is_beyond_answer}
@@ -191,16 +193,16 @@ order_forward p t x h = by_child (child_of (parent_of p) x) refl (counts_is true
         absurd (cc)))
     by_child (Some s) way is = λ i. is i && up_to t s way i
 
+turned_tests : (a b : Bool) → (a && b) ≡ (b && a)
+turned_tests true true = refl
+turned_tests true false = refl
+turned_tests false true = refl
+turned_tests false false = refl
+
 order_backward : (p : Spot) (t : List ℕ) (x : Reference) → has_level p ≡ true →
     any_of (λ s. is_beyond false p s && not (is_beyond_answer false t s)) (child_of (parent_of p) x) ≡ (is_from_level (parent_of p) t x && is_before p.is_open p.reference x)
 order_backward p t x h = by_child (child_of (parent_of p) x) refl (counts_is false p x h)
   where
-    turned_and : (a b : Bool) → (a && b) ≡ (b && a)
-    turned_and true true = refl
-    turned_and true false = refl
-    turned_and false true = refl
-    turned_and false false = refl
-
     down_to : (t s : List ℕ) → child_of (parent_of p) x ≡ Some s → not (is_beyond_answer false t s) ≡ is_from_level (parent_of p) t x
     down_to [] s way = sym (below_is_after (parent_of p) x (ap is_some way))
     down_to (c ∷ cs) s way = ap not (before_child (parent_of p) x (c ∷ cs) s way)
@@ -211,7 +213,7 @@ order_backward p t x h = by_child (child_of (parent_of p) x) refl (counts_is fal
         let below : is_below (parent_of p) x ≡ true = between_below (parent_of p) x (from_level_after (parent_of p) x t (first_so (is_from_level (parent_of p) t x) _ b)) (before_parent_end p x h (second_so (is_from_level (parent_of p) t x) _ b)) in
         let e : false ≡ true = sym (ap is_some way) ∙ below in
         absurd (cc)))
-    by_child (Some s) way is = (λ i. is i && down_to t s way i) ∙ turned_and (seek false p x) (is_from_level (parent_of p) t x)
+    by_child (Some s) way is = (λ i. is i && down_to t s way i) ∙ turned_tests (seek false p x) (is_from_level (parent_of p) t x)
 
 -- ---- $DATA and MERGE
 
@@ -301,12 +303,23 @@ none_backward p x = ap (λ b. b && is_before p.is_open p.reference x) (name_rang
     by_before true false f is was = let t = by_place p.is_open is in absurd (cc)
     by_before false e f is was = and_none (f && e) ∙ sym (and_none f)
 
+-- ---- $ORDER of names
+
+names_forward : (start : Option (List ℕ)) (r x : Reference) → (is_name_beyond true start x.name && not (is_name_beyond true (Some r.name) x.name)) ≡ (not (name_start true start x) && is_before true (bare r.name) x)
+names_forward start r x = λ i. sym (name_after start x) i && (ap not (sym (name_after (Some r.name) x)) ∙ not-not (is_before true (bare r.name) x)) i
+
+names_backward : (start : Option (List ℕ)) (r x : Reference) → (is_name_beyond false start x.name && not (is_name_beyond false (Some r.name) x.name)) ≡ (not (is_before false (bare r.name) x) && name_start false start x)
+names_backward start r x =
+    (λ i. sym (name_before start x) i && not (sym (name_before (Some r.name) x) i)) ∙ turned_tests (name_start false start x) (not (is_before false (bare r.name) x))
+
 pub reads_range : (own : Reference → Bool) (x : Reference) → ReadsRange own x
 reads_range own x = record {
   set_of = λ r v a. refl;
-  kill_of = λ r a. refl;
+  kill_of = λ r extent a. refl;
   data_of = λ r a. under_range r x;
   merge_of = λ a b answer. under_range b x;
+  increment_of = λ r n a none. get_range r x (own r) none;
+  increment_own = λ r n a own_is. ap (λ b. ref_eq x r && not b) own_is ∙ and_none (ref_eq x r);
   get_of = λ r default a none. get_range r x (own r) none;
   get_own = λ r default a own_is. ap (λ b. ref_eq x r && not b) own_is ∙ and_none (ref_eq x r);
   order_forward = λ p t h. order_forward p t x h;
@@ -315,4 +328,8 @@ reads_range own x = record {
   query_backward = λ p r name. query_backward p r x name;
   none_forward = λ p v. none_forward p x;
   none_backward = λ p v. none_backward p x;
+  name_forward = λ start r. names_forward start r x;
+  name_backward = λ start r. names_backward start r x;
+  no_name_forward = λ start v. sym (name_after start x);
+  no_name_backward = λ start v. sym (name_before start x);
 }

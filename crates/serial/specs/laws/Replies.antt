@@ -9,7 +9,7 @@ use Rattle.collation.specs.Database.{Database}
 use Rattle.collation.specs.Levels.{overlap}
 use Rattle.collation.specs.Answers.{is_too_deep}
 use Rattle.command.specs.declared.access.DataCommand.{DataCommand}
-use Rattle.command.specs.declared.access.DataCommand.TheVariants.{Set, Kill, Merge, Look}
+use Rattle.command.specs.declared.access.DataCommand.TheVariants.{Set, Kill, Merge, Increment, Look}
 use Rattle.command.specs.declared.request.Command.{Command}
 use Rattle.command.specs.declared.request.Command.TheVariants.{Access, Lock, Start, Commit, Rollback, Restart, Level, Restarts, Halt}
 use Rattle.command.specs.declared.request.Reply.{Reply}
@@ -34,12 +34,13 @@ reply_without s job command reply e many =
 -- a rule that is looked at early refuses the command on each database
 early_rule : (command : DataCommand) (m : Database) (refusal : Refusal) → early_refusal command ≡ Some refusal → data_refusal command m ≡ Some refusal
 early_rule (Set r v) m refusal e = absurd (cc)
-early_rule (Kill r) m refusal e = absurd (cc)
+early_rule (Kill r extent) m refusal e = absurd (cc)
 early_rule (Merge a b) m refusal e = by_overlap (overlap a b) e
   where
     by_overlap : (o : Bool) → cond o (Some MergeOverlap) None ≡ Some refusal → cond o (Some MergeOverlap) (cond (is_too_deep a b m) (Some TooManySubscripts) None) ≡ Some refusal
     by_overlap true is = is
     by_overlap false never = absurd (cc)
+early_rule (Increment r n) m refusal e = absurd (cc)
 early_rule (Look look) m refusal e = e
 
 same_refusal : (x y : Refusal) → Some x ≡ Some y → Refused x ≡ Refused y

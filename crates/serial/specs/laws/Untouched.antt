@@ -9,16 +9,16 @@ use Rattle.std.proofs.lemmas.Bool.{and_from, false_from_ne_true}
 use Rattle.std.proofs.lemmas.List.Folds.{list_any-append}
 use Rattle.std.specs.FinMap as finmap
 use Rattle.command.specs.declared.access.DataCommand.{DataCommand}
-use Rattle.command.specs.declared.access.DataCommand.TheVariants.{Set, Kill, Merge, Look}
+use Rattle.command.specs.declared.access.DataCommand.TheVariants.{Set, Kill, Merge, Increment, Look}
 use Rattle.collation.specs.Reference.{Reference}
 use Rattle.collation.specs.Order.{ref_cmp, ref_eq}
 use Rattle.collation.specs.laws.Order.{ref_cmp_total, ref_cmp-IsAntisymmetric, ref_eq_decides}
 use Rattle.collation.specs.Database.{Database, is_under}
 use Rattle.globals.specs.Entries.{nearest_entry}
 use Rattle.collation.specs.Answers.{moved}
-use Rattle.command.specs.Data.{data_after}
+use Rattle.command.specs.Data.{data_after, sum_at}
 use Rattle.globals.specs.laws.Nearest.{any_nearest, nearest_none}
-use Rattle.globals.specs.laws.Changing.{get_set, kill_subtree, merge_subtree, begins_back}
+use Rattle.globals.specs.laws.Changing.{get_set, increment_one, kill_taken, merge_subtree, begins_back}
 use Rattle.journal.specs.declared.unit.Exchange.{Exchange}
 use Rattle.journal.specs.declared.unit.Unit.{Unit as JournalUnit}
 use Rattle.journal.specs.declared.unit.Unit.TheVariants.{Lone, Whole, Lock, Back, End}
@@ -50,7 +50,7 @@ none_of (Some x) h = absurd (cc)
 -- what a command doesn't set keeps its value, unless the command kills it
 pub not_set : (c : DataCommand) (m : Database) (x : Reference) → sets c m x ≡ false → finmap.get (data_after c m) x ≡ cond (kills c x) None (finmap.get m x)
 not_set (Set r v) m x h = get_set m r v x ∙ ap (λ b. cond b (Some v) (finmap.get m x)) h
-not_set (Kill r) m x h = kill_subtree m r x
+not_set (Kill r extent) m x h = kill_taken m r extent x
 not_set (Merge a b) m x h = merge_subtree m a b x ∙ by_test (ref_eq a b) (is_under a x) (finmap.contains_key m (moved b a x)) refl refl refl h
   where
     by_test : (e u c : Bool) → ref_eq a b ≡ e → is_under a x ≡ u → finmap.contains_key m (moved b a x) ≡ c → (not e && (u && c)) ≡ false → cond u (option_or (finmap.get m (moved b a x)) (finmap.get m x)) (finmap.get m x) ≡ finmap.get m x
@@ -60,6 +60,7 @@ not_set (Merge a b) m x h = merge_subtree m a b x ∙ by_test (ref_eq a b) (is_u
         ap (λ z. option_or (finmap.get m (moved z a x)) (finmap.get m x)) b_is ∙ ap (λ z. option_or (finmap.get m z) (finmap.get m x)) (moved_itself a x u) ∙ or_itself (finmap.get m x)
     by_test false true true same u there h = absurd (cc)
     by_test false true false same u there h = ap (λ o. option_or o (finmap.get m x)) (none_of (finmap.get m (moved b a x)) there)
+not_set (Increment r n) m x h = increment_one m r n x ∙ ap (λ b. cond b (Some (sum_at r n m)) (finmap.get m x)) h
 not_set (Look look) m x h = refl
 
 -- ---- commands in turn

@@ -13,9 +13,10 @@ use Rattle.collation.specs.Levels.{is_before}
 use Rattle.collation.specs.Answers.{moved}
 use Rattle.collation.specs.Database.{Database, is_under}
 use Rattle.command.specs.declared.access.DataCommand.TheVariants.{Set, Kill, Merge}
-use Rattle.command.specs.Data.{data_after}
+use Rattle.command.specs.Data.{data_after, takes}
+use Rattle.command.specs.declared.access.Extent.{Extent}
 use Rattle.globals.specs.laws.Cuts.{under_between}
-use Rattle.globals.specs.laws.Changing.{set_one, kill_subtree, merge_subtree}
+use Rattle.globals.specs.laws.Changing.{set_one, kill_taken, merge_subtree}
 use Rattle.read_ranges.specs.declared.range.ReadRange.{ReadRange}
 use Rattle.read_ranges.specs.Ranges.{is_in, is_in_one}
 use Rattle.stretches.specs.Empty.{AreEmpty, AreNoMore, IsEmpty}
@@ -38,13 +39,13 @@ fewer : {A : Type 0} (b : Bool) (o : Option A) → is_some o ≡ false → is_so
 fewer true o none = refl
 fewer false o none = none
 
-pub stay_after_kill : (rs : List ReadRange) (r : Reference) (m : Database) → AreEmpty rs m → AreEmpty rs (data_after (Kill r) m)
-stay_after_kill rs r m empty x h = ap is_some (kill_subtree m r x) ∙ fewer (is_under r x) (finmap.get m x) (empty x h)
+pub stay_after_kill : (rs : List ReadRange) (r : Reference) (extent : Extent) (m : Database) → AreEmpty rs m → AreEmpty rs (data_after (Kill r extent) m)
+stay_after_kill rs r extent m empty x h = ap is_some (kill_taken m r extent x) ∙ fewer (takes extent r x) (finmap.get m x) (empty x h)
 
 -- ---- one stretch
 
-pub gone_after_kill : (s : ReadRange) (r : Reference) → ((x : Reference) → is_in s x ≡ true → is_under r x ≡ true) → (m : Database) → IsEmpty s (data_after (Kill r) m)
-gone_after_kill s r under m x h = ap is_some (kill_subtree m r x ∙ ap (λ u. cond u None (finmap.get m x)) (under x h))
+pub gone_after_kill : (s : ReadRange) (r : Reference) (extent : Extent) → ((x : Reference) → is_in s x ≡ true → takes extent r x ≡ true) → (m : Database) → IsEmpty s (data_after (Kill r extent) m)
+gone_after_kill s r extent under m x h = ap is_some (kill_taken m r extent x ∙ ap (λ u. cond u None (finmap.get m x)) (under x h))
 
 pub empty_after_merge : (s : ReadRange) (a b : Reference) (m : Database) → IsEmpty s m → ((x : Reference) → is_in s x ≡ true → is_under a x ≡ false) → IsEmpty s (data_after (Merge a b) m)
 empty_after_merge s a b m is beside x h =

@@ -1,6 +1,6 @@
 -- The listed changes are those that turn the database into the writes laid over it.
-use Rattle.std.proofs.Common.{◌≡◌, ℕ, Bool, true, false, List, [], ◌∷◌, ◌++◌, refl, sym, ap, subst, ◌∙◌}
-use Rattle.std.specs.Prelude.{⊤, cond, not, ◌&&◌, ◌||◌, filter, map, is_some, unwrap_or, Option, Some, None}
+use Rattle.std.proofs.Common.{◌≡◌, ℕ, Bool, true, false, List, [], ◌∷◌, ◌++◌, ◌⊎◌, inl, inr, refl, sym, ap, subst, ◌∙◌}
+use Rattle.std.specs.Prelude.{⊤, cond, not, ◌&&◌, ◌||◌, filter, is_some, unwrap_or, Option, Some, None}
 use Rattle.std.proofs.lemmas.Bool.{and_from, or_left, or_right, false_from_ne_true}
 use Rattle.std.specs.Option.{option_or, option_map}
 use Rattle.std.specs.declared.cmp.Ordering.{Ordering}
@@ -14,14 +14,15 @@ use Rattle.std.specs.FinMap.Entries.{below_all, is_sorted, find-where_key, is_so
 use Rattle.collation.specs.Reference.{Reference}
 use Rattle.collation.specs.Order.{ref_cmp, ref_eq}
 use Rattle.collation.specs.laws.Order.{ref_cmp_total, ref_cmp-IsAntisymmetric, ref_ties, ref_eq_decides, is_equal, is_less, turned}
-use Rattle.collation.specs.Database.{Database, is_under}
-use Rattle.collation.specs.Levels.{is_before}
-use Rattle.collation.specs.Answers.{subtree_of}
+use Rattle.collation.specs.Database.{Database}
+use Rattle.command.specs.Data.{takes}
+use Rattle.command.specs.declared.access.Extent.{Extent}
+use Rattle.globals.specs.Cuts.{taken_of}
 use Rattle.globals.specs.laws.Nearest.{not_found_itself, none_pass, true_of}
-use Rattle.globals.specs.laws.Cuts.{under_between, before_end-earlier}
+use Rattle.globals.specs.laws.Taken.{takes_under}
 use Rattle.workspace.specs.Layers.{Layer, is_killed, NoneUnderAnother}
-use Rattle.globals.specs.laws.Under.{not_before, before_end}
-use Rattle.workspace.specs.laws.Layering.{get_over}
+use Rattle.globals.specs.laws.Under.{not_before}
+use Rattle.workspace.specs.laws.Layering.{get_over, takes_earlier, found_first, found_behind}
 use Rattle.workspace.specs.Changes.{AreChanges, set_changes, removed, removed_by}
 use Rattle.collation.specs.Changes.{Change, changed, AreOnce}
 
@@ -213,83 +214,87 @@ two_blocks P Q before apart (e ∷ es) h = by_tests (P e.0) (Q e.0) refl refl (t
         let none : filter (λ f. P f.0) es ≡ [] = none_pass ref_cmp P e.0 es (λ y l. false_from_ne_true _ (λ p. before e.0 y b l p)) (first_so _ _ h) in
         ap (λ l. l ++ e ∷ filter (λ f. Q f.0) es) none ∙ ap (λ l. e ∷ l) (ap (λ l. l ++ filter (λ f. Q f.0) es) (sym none) ∙ rest)
 
--- k stands before each of these, and none of them is under it
-abbrev IsFirst : {X : Type 0} → Reference → List (Reference × X) → Type 0
+abbrev Kill : Type 0
+Kill = Reference × Extent
+
+-- the reference of k stands before each of these, and none of them is taken by its kill
+abbrev IsFirst : Kill → List Kill → Type 0
 IsFirst k [] = ⊤
-IsFirst k (f ∷ fs) = (ref_cmp k f.0 ≡ Less) × (is_under k f.0 ≡ false) × IsFirst k fs
+IsFirst k (f ∷ fs) = (ref_cmp k.0 f.0 ≡ Less) × (takes k.1 k.0 f.0 ≡ false) × IsFirst k fs
 
--- roots in order, of which none is under another
-abbrev pub AreRoots : {X : Type 0} → List (Reference × X) → Type 0
+-- kills in order, of which none takes the reference of another
+abbrev pub AreRoots : List Kill → Type 0
 AreRoots [] = ⊤
-AreRoots (k ∷ ks) = IsFirst k.0 ks × AreRoots ks
+AreRoots (k ∷ ks) = IsFirst k ks × AreRoots ks
 
--- what is under a later root stands after all under an earlier one
-beyond_root : (k f x : Reference) → ref_cmp k f ≡ Less → is_under k f ≡ false → is_under f x ≡ true → is_before true k x ≡ true → ⊥
-beyond_root k f x l n u b =
-    let under : is_under k f ≡ true = under_between k f ∙ and_from _ _ (ap (λ o. not (is_lt o)) (turned ref_cmp_total k f Less l)) (by_order (ref_cmp f x) refl) in
+-- what a later kill takes stands after all that an earlier one takes
+beyond_root : (k f : Kill) (x y : Reference) → ref_cmp k.0 f.0 ≡ Less → takes k.1 k.0 f.0 ≡ false → takes f.1 f.0 x ≡ true → (ref_cmp x y ≡ Less) ⊎ (x ≡ y) → takes k.1 k.0 y ≡ true → ⊥
+beyond_root k f x y l n u next t =
+    let taken : takes k.1 k.0 f.0 ≡ true = takes_earlier k.1 k.0 f.0 y t l (by_order (ref_cmp f.0 x) refl next) in
     absurd (cc)
   where
-    by_order : (o : Ordering) → ref_cmp f x ≡ o → is_before true k f ≡ true
-    by_order Less e = before_end-earlier k f x e b
-    by_order Equal e = subst (λ z. is_before true k z ≡ true) (sym (ref_cmp-IsAntisymmetric f x e)) b
-    by_order Greater e = let no : false ≡ true = sym (ap (λ o. not (is_lt o)) (turned ref_cmp_total f x Greater e)) ∙ not_before f x u in absurd (cc)
+    by_order : (o : Ordering) → ref_cmp f.0 x ≡ o → (ref_cmp x y ≡ Less) ⊎ (x ≡ y) → (ref_cmp f.0 y ≡ Less) ⊎ (f.0 ≡ y)
+    by_order Less e (inl less) = inl (ref_cmp_total.trans f.0 x y e less)
+    by_order Less e (inr same) = inl (ap (ref_cmp f.0) (sym same) ∙ e)
+    by_order Equal e (inl less) = inl (ap (λ z. ref_cmp z y) (ref_cmp-IsAntisymmetric f.0 x e) ∙ less)
+    by_order Equal e (inr same) = inr (ref_cmp-IsAntisymmetric f.0 x e ∙ same)
+    by_order Greater e next = let no : false ≡ true = sym (ap (λ o. not (is_lt o)) (turned ref_cmp_total f.0 x Greater e)) ∙ not_before f.0 x (takes_under f.1 f.0 x u) in absurd (cc)
 
-none_beyond : {X : Type 0} (k x : Reference) (fs : List (Reference × X)) → IsFirst k fs → is_before true k x ≡ true → is_killed (map (λ f. f.0) fs) x ≡ true → ⊥
-none_beyond k x [] first b any = absurd (cc)
-none_beyond k x (f ∷ fs) first b any =
-    elim (is_under f.0 x) as (λ t. is_under f.0 x ≡ t → (t || is_killed (map (λ f. f.0) fs) x) ≡ true → ⊥) [
-      | true ↦ λ u any. beyond_root k f.0 x first.0 first.1 u b
-      | false ↦ λ u any. none_beyond k x fs first.2 b any
+none_beyond : (k : Kill) (x y : Reference) (fs : List Kill) → IsFirst k fs → (ref_cmp x y ≡ Less) ⊎ (x ≡ y) → takes k.1 k.0 y ≡ true → is_killed fs x ≡ true → ⊥
+none_beyond k x y [] first next t any = absurd (cc)
+none_beyond k x y (f ∷ fs) first next t any =
+    elim (takes f.1 f.0 x) as (λ b. takes f.1 f.0 x ≡ b → (b || is_killed fs x) ≡ true → ⊥) [
+      | true ↦ λ u any. beyond_root k f x y first.0 first.1 u next t
+      | false ↦ λ u any. none_beyond k x y fs first.2 next t any
     ] refl any
 
 none_kept : (es : List Node) → filter (λ (e : Node). false) es ≡ []
 none_kept [] = refl
 none_kept (e ∷ es) = none_kept es
 
--- what stands under the roots, one after another, is what is killed, in order
-pub removed_by_roots : {X : Type 0} (written m : Database) (ks : List (Reference × X)) → AreRoots ks → removed_by written m ks ≡ removed written (filter (λ (e : Node). is_killed (map (λ k. k.0) ks) e.0) (finmap.entries m))
+-- what the kills take, one after another, is what is killed, in order
+pub removed_by_roots : (written m : Database) (ks : List Kill) → AreRoots ks → removed_by written m ks ≡ removed written (filter (λ (e : Node). is_killed ks e.0) (finmap.entries m))
 removed_by_roots written m [] roots = ap (removed written) (sym (none_kept (finmap.entries m)))
 removed_by_roots written m (k ∷ ks) roots =
-    let later : Reference → Bool = λ x. is_killed (map (λ k. k.0) ks) x in
-    ap (λ l. removed written (subtree_of k.0 m) ++ l) (removed_by_roots written m ks roots.1)
-    ∙ sym (removed-append written (subtree_of k.0 m) (filter (λ (e : Node). later e.0) (finmap.entries m)))
-    ∙ ap (removed written) (two_blocks (is_under k.0) later
-    (λ x y q l p. none_beyond k.0 x ks roots.0 (before_end-earlier k.0 x y l (before_end k.0 y p)) q)
-    (λ x p q. none_beyond k.0 x ks roots.0 (before_end k.0 x p) q) (finmap.entries m) (true_of _ (finmap.entries_sorted m)))
+    let later : Reference → Bool = λ x. is_killed ks x in
+    ap (λ l. removed written (taken_of k.1 k.0 m) ++ l) (removed_by_roots written m ks roots.1)
+    ∙ sym (removed-append written (taken_of k.1 k.0 m) (filter (λ (e : Node). later e.0) (finmap.entries m)))
+    ∙ ap (removed written) (two_blocks (takes k.1 k.0) later
+    (λ x y q l p. none_beyond k x y ks roots.0 (inl l) p q)
+    (λ x p q. none_beyond k x x ks roots.0 (inr refl) p q) (finmap.entries m) (true_of _ (finmap.entries_sorted m)))
 
-module _ {X : Type 0} (d : FinMap ref_cmp X) (was : NoneUnderAnother d) where
-  AreThere : List (Reference × X) → Type 0
-  AreThere fs = (r : Reference) → list_any (λ (f : Reference × X). ref_eq r f.0) fs ≡ true → finmap.contains_key d r ≡ true
+module _ (d : FinMap ref_cmp Extent) (was : NoneUnderAnother d) where
+  AreThere : List Kill → Type 0
+  AreThere fs = (r : Reference) (e : Extent) → finmap.find ref_cmp r fs ≡ Some e → finmap.get d r ≡ Some e
 
-  itself : (r : Reference) → ref_eq r r ≡ true
-  itself r = (ref_eq_decides r r).1 refl
-
-  first_of : (k : Reference) → finmap.contains_key d k ≡ true → (fs : List (Reference × X)) → below_all ref_cmp k fs ≡ true → AreThere fs → IsFirst k fs
+  first_of : (k : Kill) → finmap.get d k.0 ≡ Some k.1 → (fs : List Kill) → is_sorted ref_cmp fs ≡ true → below_all ref_cmp k.0 fs ≡ true → AreThere fs → IsFirst k fs
   unfolding AreThere
-  first_of k here [] h there = tt
-  first_of k here (f ∷ fs) h there =
-      let less = is_less (ref_cmp k f.0) (first_so _ _ h) in (
+  first_of k here [] sorted h there = tt
+  first_of k here (f ∷ fs) sorted h there =
+      let less = is_less (ref_cmp k.0 f.0) (first_so _ _ h) in (
         less,
         false_from_ne_true _ (λ u.
-            let same : k ≡ f.0 = was.apart k f.0 here (there f.0 (or_left (ref_eq f.0 f.0) _ (itself f.0))) u in
-            let tie : ref_cmp k k ≡ Less = subst (λ z. ref_cmp k z ≡ Less) (sym same) less in
-            let no : Equal ≡ Less = sym (tied_itself ref_cmp_total k) ∙ tie in
+            let same : k.0 ≡ f.0 = was.apart k.0 f.0 k.1 here (ap is_some (there f.0 f.1 (found_first f fs))) u in
+            let tie : ref_cmp k.0 k.0 ≡ Less = subst (λ z. ref_cmp k.0 z ≡ Less) (sym same) less in
+            let no : Equal ≡ Less = sym (tied_itself ref_cmp_total k.0) ∙ tie in
             absurd (cc)),
-        first_of k here fs (second_so (is_lt (ref_cmp k f.0)) _ h) (λ r t. there r (or_right (ref_eq r f.0) _ t)),
+        first_of k here fs (second_so (below_all ref_cmp f.0 fs) _ sorted) (second_so (is_lt (ref_cmp k.0 f.0)) _ h) (λ r e t. there r e (found_behind f fs (first_so _ _ sorted) r e t)),
       )
 
-  roots_in : (es : List (Reference × X)) → is_sorted ref_cmp es ≡ true → AreThere es → AreRoots es
+  roots_in : (es : List Kill) → is_sorted ref_cmp es ≡ true → AreThere es → AreRoots es
   unfolding AreThere
   roots_in [] h there = tt
   roots_in (e ∷ es) h there =
-      (first_of e.0 (there e.0 (or_left (ref_eq e.0 e.0) _ (itself e.0))) es (first_so _ _ h) (λ r t. there r (or_right (ref_eq r e.0) _ t)), roots_in es (second_so (below_all ref_cmp e.0 es) _ h) (λ r t. there r (or_right (ref_eq r e.0) _ t)))
+      let behind : (r : Reference) (f : Extent) → finmap.find ref_cmp r es ≡ Some f → finmap.get d r ≡ Some f = λ r f t. there r f (found_behind e es (first_so _ _ h) r f t) in
+      let rest : is_sorted ref_cmp es ≡ true = second_so (below_all ref_cmp e.0 es) _ h in
+      (first_of e (there e.0 e.1 (found_first e es)) es rest (first_so _ _ h) behind, roots_in es rest behind)
 
   pub are_roots : AreRoots (finmap.entries d)
   unfolding AreThere
-  are_roots = roots_in (finmap.entries d) (true_of _ (finmap.entries_sorted d)) (λ r t. ap is_some (finmap.get-entries d r) ∙ sym (any_is r (finmap.entries d)) ∙ t)
+  are_roots = roots_in (finmap.entries d) (true_of _ (finmap.entries_sorted d)) (λ r e t. finmap.get-entries d r ∙ t)
 
 -- the changes as they are listed
-pub listed : {X : Type 0} (w : Layer) (m written : Database) (d : FinMap ref_cmp X) (cs : List Change) → record { written = written; killed = finmap.keys d } ≡ w → NoneUnderAnother d → cs ≡ set_changes (finmap.entries written) ++ removed_by written m (finmap.entries d) → AreChanges w m cs
+pub listed : (w : Layer) (m written : Database) (d : FinMap ref_cmp Extent) (cs : List Change) → record { written = written; killed = finmap.entries d } ≡ w → NoneUnderAnother d → cs ≡ set_changes (finmap.entries written) ++ removed_by written m (finmap.entries d) → AreChanges w m cs
 listed w m written d cs is was e =
-    let v : Layer = record { written = written; killed = finmap.keys d } in
+    let v : Layer = record { written = written; killed = finmap.entries d } in
     subst (λ z. AreChanges z m cs) is (subst (AreChanges v m) (sym (e ∙ ap (λ l. set_changes (finmap.entries written) ++ l) (removed_by_roots written m (finmap.entries d) (are_roots d was)))) (are_changes v m))

@@ -1,10 +1,10 @@
-use Rattle.script.proofs.Sentences.{found, unfound}
+use Rattle.std.proofs.Common.{subst}
+use Rattle.script.specs.Sentence.{FindsData}
+use Rattle.script.proofs.Sentences.{names_told, placed_told}
 use Rattle.script.proofs.sentence.read_operands.Goals as goal
 
-pub returns-in-Ok-clause-reading : goal.returns-in-Ok-clause-reading
-returns-in-Ok-clause-reading c =
-    let read = c.in-Ok.ensures in
-    found c.read_draft.new.draft c.read_tail.new.source c.args.drafts.now.names c.read_tail.new.value c.args.word c.args.text.now c.in-Ok.rest.now read.0 c.read_tail.result read.1 read.2 (c.read_tail.ensures.reading read.0)
+pub returns-in-Some-clause-reading : goal.returns-in-Some-clause-reading
+returns-in-Some-clause-reading c = subst (FindsData c.read_structured.new.drafts c.read_structured.result) (names_told c.args.word c.args.text.now c.in-Some.rest.now c.in-Some.ensures) c.read_structured.ensures.reading
 
-pub returns-in-Err-clause-reading : goal.returns-in-Err-clause-reading
-returns-in-Err-clause-reading c = unfound c.args.word c.args.text.now c.in-Err.refusal c.in-Err.ensures
+pub returns-in-None-clause-reading : goal.returns-in-None-clause-reading
+returns-in-None-clause-reading c = subst (FindsData c.read_placed.new.drafts c.read_placed.result) (placed_told c.args.word c.args.text.now c.in-None.ensures) c.read_placed.ensures.reading

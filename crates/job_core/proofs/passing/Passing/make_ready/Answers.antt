@@ -12,4 +12,4 @@ returns-in-Look-clause-behind c = subst (λ k. AreEmpty c.look_ahead.new.self (d
 pub returns-in-Kill-clause-behind : goal.returns-in-Kill-clause-behind
 returns-in-Kill-clause-behind c =
     subst (λ k. AreEmpty c.begin_kill.new.self (data_after k (content_now c.args.store.now))) (sym c.in-Kill.is)
-    (subst (λ rs. AreEmpty rs (data_after (Kill c.in-Kill.field-0) (content_now c.args.store.now))) (sym c.begin_kill.ensures) (stay_after_kill c.args.self.now c.in-Kill.field-0 (content_now c.args.store.now) c.requires))
+    (subst (λ rs. AreEmpty rs (data_after (Kill c.in-Kill.field-0 c.in-Kill.field-1) (content_now c.args.store.now))) (sym c.begin_kill.ensures) (stay_after_kill c.args.self.now c.in-Kill.field-0 c.in-Kill.field-1 (content_now c.args.store.now) c.requires))

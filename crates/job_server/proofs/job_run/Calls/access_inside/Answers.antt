@@ -1,6 +1,6 @@
 use Rattle.std.proofs.Common.{sym, subst}
 use Rattle.command.specs.declared.access.DataCommand.{DataCommand}
-use Rattle.command.specs.declared.access.DataCommand.TheVariants.{Set, Kill, Merge, Look}
+use Rattle.command.specs.declared.access.DataCommand.TheVariants.{Set, Kill, Merge, Increment, Look}
 use Rattle.command.specs.declared.request.Command.TheVariants.{Access}
 use Rattle.command.specs.declared.request.Reply.TheVariants.{Answered}
 use Rattle.shared_engine.specs.Blocks.{said}
@@ -16,12 +16,17 @@ returns-in-Set g c =
 pub returns-in-Kill : goal.returns-in-Kill
 returns-in-Kill g c =
     subst (λ (d : DataCommand). Tells (Access d) (said Answered c.written-in-Kill.result) c.args.session.now c.kill.new.self) (sym c.in-Kill.is)
-    (written_told (Kill c.in-Kill.key) c.kill.result c.written-in-Kill.result c.args.session.now c.kill.new.self tt c.requires c.kill.ensures.begun c.kill.ensures.written c.kill.ensures.same c.kill.ensures.others c.kill.ensures.refused c.kill.ensures.cause c.written-in-Kill.ensures)
+    (written_told (Kill c.in-Kill.key c.in-Kill.extent) c.kill.result c.written-in-Kill.result c.args.session.now c.kill.new.self tt c.requires c.kill.ensures.begun c.kill.ensures.written c.kill.ensures.same c.kill.ensures.others c.kill.ensures.refused c.kill.ensures.cause c.written-in-Kill.ensures)
 
 pub returns-in-Merge : goal.returns-in-Merge
 returns-in-Merge g c =
     subst (λ (d : DataCommand). Tells (Access d) (said Answered c.read.result) c.args.session.now c.read.new.session) (sym c.in-Merge.is)
     (read_told (Merge c.in-Merge.to c.in-Merge.from) c.read.result c.args.session.now c.read.new.session c.requires c.read.ensures.journal c.read.ensures.answered c.read.ensures.open c.read.ensures.same c.read.ensures.others)
+
+pub returns-in-Increment : goal.returns-in-Increment
+returns-in-Increment g c =
+    subst (λ (d : DataCommand). Tells (Access d) (said Answered c.read-in-Increment.result) c.args.session.now c.read-in-Increment.new.session) (sym c.in-Increment.is)
+    (read_told (Increment c.in-Increment.key c.in-Increment.number) c.read-in-Increment.result c.args.session.now c.read-in-Increment.new.session c.requires c.read-in-Increment.ensures.journal c.read-in-Increment.ensures.answered c.read-in-Increment.ensures.open c.read-in-Increment.ensures.same c.read-in-Increment.ensures.others)
 
 pub returns-in-Look : goal.returns-in-Look
 returns-in-Look g c =

@@ -21,3 +21,7 @@ returns-in-Order-clause-noted c =
 pub returns-in-Query-clause-noted : goal.returns-in-Query-clause-noted
 returns-in-Query-clause-noted c =
     subst (λ (l : LookCommand). OnOk c.note_query.result (IsNoted c.args.self.now c.note_query.new.self (look_command l) c.args.answer.now c.args.decided)) (sym c.in-Query.is) (c.note_query.ensures.noted c.args.decided)
+
+pub returns-in-Name-clause-noted : goal.returns-in-Name-clause-noted
+returns-in-Name-clause-noted c =
+    subst (λ (l : LookCommand). OnOk c.note_name.result (IsNoted c.args.self.now c.note_name.new.self (look_command l) c.args.answer.now c.args.decided)) (sym c.in-Name.is) (c.note_name.ensures.noted c.args.decided)
