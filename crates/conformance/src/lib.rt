@@ -13,6 +13,8 @@ mod loads;
 #[cfg(test)]
 mod locks;
 #[cfg(test)]
+mod long_runs;
+#[cfg(test)]
 mod malformed;
 #[cfg(test)]
 mod scripts;

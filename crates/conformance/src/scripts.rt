@@ -1,7 +1,7 @@
 //! Worked scripts: what goes in and what comes out, from docs/RULES.md and docs/FORMATS.md.
 use crate::lines::stretched;
 use listing::Counted;
-use script_run::{Upkeep, run_script};
+use script_run::{Pace, Upkeep, run_script};
 use std::alloc::{AllocError, Global};
 use std::test::Fail;
 use worked_rows::{ANSWERED, REFUSED, Row};
@@ -16,7 +16,7 @@ pub fn output_of(alloc: Global, input: &[u8]) -> Result<(Vec<u8>, bool), Fail> {
 }
 
 // Whether the script writes just this, and refuses a line where an error stands in it. The collector passes, and
-// checkpoints are taken, after each so many printed lines.
+// checkpoints are taken, as `upkeep` says.
 fn writes(alloc: Global, upkeep: Upkeep, script: &str, output: &str) -> Result<bool, Fail> {
     let mut reader = Counted::new(script.as_bytes());
     let mut writer = Counted::new(Vec::new(alloc));
@@ -25,27 +25,28 @@ fn writes(alloc: Global, upkeep: Upkeep, script: &str, output: &str) -> Result<b
     Ok(is_same && outcome.refused == output.contains("error"))
 }
 
-// After how many printed lines the collector passes, and after how many a checkpoint is taken.
-const OFTEN: [(u64, u64); 8] = [
-    (0, 0),
-    (1, 0),
-    (2, 0),
-    (7, 0),
-    (0, 1),
-    (0, 3),
-    (1, 1),
-    (2, 3),
+// When the collector passes, and when a checkpoint is taken.
+const OFTEN: [(Pace, Pace); 9] = [
+    (Pace::Never, Pace::Never),
+    (Pace::Every(1), Pace::Never),
+    (Pace::Every(2), Pace::Never),
+    (Pace::Every(7), Pace::Never),
+    (Pace::Never, Pace::Every(1)),
+    (Pace::Every(0), Pace::Every(3)),
+    (Pace::Every(1), Pace::Every(1)),
+    (Pace::Every(2), Pace::Every(3)),
+    (Pace::WhereCheap, Pace::WhereCheap),
 ];
 
-// How often they are where the script then writes something else than this; or none.
-fn first_unlike(alloc: Global, script: &str, output: &str) -> Result<Option<(u64, u64)>, Fail> {
-    for &(collect_every, checkpoint_every) in &OFTEN {
+// When they are where the script then writes something else than this; or none.
+fn first_unlike(alloc: Global, script: &str, output: &str) -> Result<Option<(Pace, Pace)>, Fail> {
+    for &(collector, checkpoints) in &OFTEN {
         let upkeep = Upkeep {
-            collect_every,
-            checkpoint_every,
+            collector,
+            checkpoints,
         };
         if !writes(alloc, upkeep, script, output)? {
-            return Ok(Some((collect_every, checkpoint_every)));
+            return Ok(Some((collector, checkpoints)));
         }
     }
     Ok(None)

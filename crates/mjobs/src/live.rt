@@ -14,7 +14,7 @@ use program_front::{
     print_load_fault, print_refused, print_statistics,
 };
 use refusal::Refusal;
-use script_run::{RunLog, Upkeep};
+use script_run::RunLog;
 use std::alloc::AllocError;
 use std::io;
 use std::io::{Read, Write};
@@ -124,11 +124,7 @@ fn run_live_from<
     requires legal { IsLegal core.machine.units initial }
     requires closed { core.machine.transactions ≡ finmap.empty }
 {
-    let upkeep = Upkeep {
-        collect_every: args.collect_every,
-        checkpoint_every: args.checkpoint_every,
-    };
-    match Live::new(rt.alloc(), core, upkeep) {
+    match Live::new(rt.alloc(), core, args.upkeep) {
         Ok(live) => {
             let writer = Counted::new(Piped::new(io::writer(rt)));
             let teller = Told { rt, errors: false };

@@ -23,7 +23,7 @@ use program_front::{
     look_at_input, mrun_args_with, open_input, path_of, print_bad_name, print_fault,
     print_help_or_error, print_load_fault, print_wanting, read_listing,
 };
-use script_run::{Fault, Outcome, Upkeep, run_with_core, status_of};
+use script_run::{Fault, Outcome, run_with_core, status_of};
 use side_log::{SideLog, Source, Telling};
 use std::alloc::AllocError;
 use std::io;
@@ -135,10 +135,7 @@ fn run_from<R: Read + Drop, F: Write + Drop>(
         rt.alloc(),
         core,
         args.listed,
-        Upkeep {
-            collect_every: args.collect_every,
-            checkpoint_every: args.checkpoint_every,
-        },
+        args.upkeep,
         &mut reader,
         &mut writer,
         &mut log,

@@ -1,15 +1,16 @@
 //! The words of `mjobs`.
-ghost use Rattle.std.specs.Prelude.{◌≡◌, ◌<◌, ◌≤◌};
+ghost use Rattle.std.specs.Prelude.{◌≡◌, ◌<◌, ◌≤◌, true, None, is_some, IfOk};
 
 use crate::in_use::{file_conflict, name_conflict};
 use crate::words::{
     DROPPED, FileNames, NamePlace, VERSION, checkpoint_word, collect_word, errors_word, file_of,
     file_place, file_word, journal_of, journal_word, load_of, load_word, no_listing_word, save_of,
-    save_word, stats_word, texts_of,
+    save_word, stats_word, texts_of, upkeep_of,
 };
 use clap::builder::ValueParser;
 use clap::error::ErrorKind;
 use clap::{Arg, ArgAction, ArgMatches, Command, Error};
+use script_run::{Pace, Upkeep};
 use std::alloc::Global;
 use std::rt::Files;
 
@@ -129,11 +130,8 @@ pub struct MjobsArgs {
     pub live: bool,
     /// Whether what the engine holds at the end is told on standard error.
     pub statistics: bool,
-    /// After how many printed lines the collector passes over the database, again and again, where lines are done as
-    /// they come; 0 for never.
-    pub collect_every: u64,
-    /// After how many a checkpoint is taken then; 0 for never.
-    pub checkpoint_every: u64,
+    /// When the collector passes over the database, and when a checkpoint is taken, where lines are done as they come.
+    pub upkeep: Upkeep,
 }
 
 impl MjobsArgs {
@@ -219,34 +217,47 @@ fn workers_of(alloc: Global, matches: &ArgMatches<'_>) -> Result<Workers, Error>
     }
 }
 
+// Whether words ask for the collector or checkpoints after so many lines.
+fn is_asked_for(upkeep: Upkeep) -> bool {
+    match (upkeep.collector, upkeep.checkpoints) {
+        (Pace::Every(_), _) => true,
+        (_, Pace::Every(_)) => true,
+        _ => false,
+    }
+}
+
 // Why the words don't go together, if they alone show it.
-fn conflict_in(arguments: &[Vec<u8>], args: MjobsArgs) -> Option<&'static str> {
-    if !args.live && (args.collect_every != 0 || args.checkpoint_every != 0) {
+fn conflict_in(arguments: &[Vec<u8>], args: MjobsArgs) -> Option<&'static str>
+    ensures { result ≡ None → is_some args.journal ≡ true → args.upkeep.checkpoints ≡ Pace.Never }
+{
+    if !args.live && is_asked_for(args.upkeep) {
         return Some(LIVE_ALONE);
     }
-    if args.journal.is_some() && args.checkpoint_every != 0 {
+    if args.journal.is_some() && args.upkeep.checkpoints != Pace::Never {
         return Some(DROPPED);
     }
     name_conflict(arguments, args.names())
 }
 
 // What the arguments ask for. Lines that are typed are done as they come.
-fn args_for(alloc: Global, arguments: &[Vec<u8>], typed: bool) -> Result<MjobsArgs, Error> {
+fn args_for(alloc: Global, arguments: &[Vec<u8>], typed: bool) -> Result<MjobsArgs, Error>
+    ensures { IfOk result (λ args. is_some args.journal ≡ true → args.upkeep.checkpoints ≡ Pace.Never) }
+{
     let texts = texts_of(alloc, arguments)?;
     let matches = command(alloc)?.try_get_matches_from(&texts)?;
     let file = file_of(&matches, &texts);
+    let journal = journal_of(&matches, &texts);
     let args = MjobsArgs {
         file,
         load: load_of(&matches, &texts),
         save: save_of(&matches, &texts),
-        journal: journal_of(&matches, &texts),
+        journal,
         listed: !matches.get_flag("no-listing"),
         errors: matches.get_flag("errors"),
         workers: workers_of(alloc, &matches)?,
         live: matches.get_flag("live") || (typed && file.is_none()),
         statistics: matches.get_flag("stats"),
-        collect_every: matches.get_one("collect-every").unwrap_or(0),
-        checkpoint_every: matches.get_one("checkpoint-every").unwrap_or(0),
+        upkeep: upkeep_of(&matches, journal),
     };
     match conflict_in(arguments, args) {
         Some(why) => Err(error_of(alloc, ErrorKind::ArgumentConflict, why)?),
@@ -254,9 +265,11 @@ fn args_for(alloc: Global, arguments: &[Vec<u8>], typed: bool) -> Result<MjobsAr
     }
 }
 
-/// What the arguments of `mjobs` ask for; the first is the program's name. An error's text is for the user: help and
-/// the version too.
-pub fn mjobs_args_of(alloc: Global, arguments: &[Vec<u8>]) -> Result<MjobsArgs, Error> {
+/// What the arguments of `mjobs` ask for; the first is the program's name. Where a journal is kept no checkpoint is
+/// taken, which would cut it. An error's text is for the user: help and the version too.
+pub fn mjobs_args_of(alloc: Global, arguments: &[Vec<u8>]) -> Result<MjobsArgs, Error>
+    ensures { IfOk result (λ args. is_some args.journal ≡ true → args.upkeep.checkpoints ≡ Pace.Never) }
+{
     args_for(alloc, arguments, false)
 }
 
@@ -267,7 +280,9 @@ pub fn mjobs_args_with(
     rt: &(impl Files + AllocGlobal),
     arguments: &[Vec<u8>],
     typed: bool,
-) -> Result<MjobsArgs, Error> {
+) -> Result<MjobsArgs, Error>
+    ensures { IfOk result (λ args. is_some args.journal ≡ true → args.upkeep.checkpoints ≡ Pace.Never) }
+{
     let args = args_for(rt.alloc(), arguments, typed)?;
     match file_conflict(rt, arguments, args.names()) {
         Some(why) => Err(error_of(rt.alloc(), ErrorKind::ArgumentConflict, why)?),

@@ -1,12 +1,15 @@
 //! The words of `mrun`.
+ghost use Rattle.std.specs.Prelude.{◌≡◌, true, None, is_some, IfOk};
+
 use crate::in_use::{file_conflict, name_conflict};
 use crate::words::{
     DROPPED, FileNames, NamePlace, VERSION, checkpoint_word, collect_word, errors_word, file_of,
     file_place, file_word, journal_of, journal_word, load_of, load_word, no_listing_word, save_of,
-    save_word, stats_word, texts_of,
+    save_word, stats_word, texts_of, upkeep_of,
 };
 use clap::error::ErrorKind;
 use clap::{ArgMatches, Command, Error};
+use script_run::{Pace, Upkeep};
 use std::alloc::Global;
 use std::rt::Files;
 
@@ -48,9 +51,10 @@ journal is the listing that is loaded.
 
 --errors prints a refused line's number, the column of its fault, the refusal
 and what was expected there, on standard error.
---collect-every drops old versions of values that no transaction can see any
-more, --checkpoint-every what the journal keeps of the lines done before all
-open transactions; no reply depends on either.
+Old versions of values that no transaction can see any more are dropped, and
+while no transaction is open what the journal keeps, each by itself where it
+costs little. --collect-every and --checkpoint-every say when instead; 0 keeps
+all, and so does --journal of what it keeps. No reply depends on either.
 --stats prints at the end, on standard error, how much is held: nodes, the bytes
 of their keys and values, versions, and the units of the journal, how many of
 them were dropped and the bytes that the others take.
@@ -76,10 +80,8 @@ pub struct MrunArgs {
     pub errors: bool,
     /// Whether what the engine holds at the end is told there.
     pub statistics: bool,
-    /// After how many printed lines the collector passes over the database, again and again; 0 for never.
-    pub collect_every: u64,
-    /// After how many printed lines a checkpoint is taken, again and again; 0 for never.
-    pub checkpoint_every: u64,
+    /// When the collector passes over the database, and when a checkpoint is taken.
+    pub upkeep: Upkeep,
 }
 
 impl MrunArgs {
@@ -120,8 +122,10 @@ fn conflict(alloc: Global, why: &str) -> Result<Error, Error> {
 }
 
 // Why the words for files don't go with the others, if their names alone show it.
-fn conflict_in(arguments: &[Vec<u8>], args: MrunArgs) -> Option<&'static str> {
-    if args.journal.is_some() && args.checkpoint_every != 0 {
+fn conflict_in(arguments: &[Vec<u8>], args: MrunArgs) -> Option<&'static str>
+    ensures { result ≡ None → is_some args.journal ≡ true → args.upkeep.checkpoints ≡ Pace.Never }
+{
+    if args.journal.is_some() && args.upkeep.checkpoints != Pace::Never {
         return Some(DROPPED);
     }
     name_conflict(arguments, args.names())
@@ -129,22 +133,24 @@ fn conflict_in(arguments: &[Vec<u8>], args: MrunArgs) -> Option<&'static str> {
 
 // What the matches ask for.
 fn args_in(matches: &ArgMatches<'_>, texts: &[String]) -> MrunArgs {
+    let journal = journal_of(matches, texts);
     MrunArgs {
         file: file_of(matches, texts),
         load: load_of(matches, texts),
         save: save_of(matches, texts),
-        journal: journal_of(matches, texts),
+        journal,
         listed: !matches.get_flag("no-listing"),
         errors: matches.get_flag("errors"),
         statistics: matches.get_flag("stats"),
-        collect_every: matches.get_one("collect-every").unwrap_or(0),
-        checkpoint_every: matches.get_one("checkpoint-every").unwrap_or(0),
+        upkeep: upkeep_of(matches, journal),
     }
 }
 
-/// What the arguments of `mrun` ask for; the first is the program's name. An error's text is for the user: help and the
-/// version too.
-pub fn mrun_args_of(alloc: Global, arguments: &[Vec<u8>]) -> Result<MrunArgs, Error> {
+/// What the arguments of `mrun` ask for; the first is the program's name. Where a journal is kept no checkpoint is taken,
+/// which would cut it. An error's text is for the user: help and the version too.
+pub fn mrun_args_of(alloc: Global, arguments: &[Vec<u8>]) -> Result<MrunArgs, Error>
+    ensures { IfOk result (λ args. is_some args.journal ≡ true → args.upkeep.checkpoints ≡ Pace.Never) }
+{
     let texts = texts_of(alloc, arguments)?;
     let matches = command(alloc)?.try_get_matches_from(&texts)?;
     let args = args_in(&matches, &texts);
@@ -159,7 +165,9 @@ pub fn mrun_args_of(alloc: Global, arguments: &[Vec<u8>]) -> Result<MrunArgs, Er
 pub fn mrun_args_with(
     rt: &(impl Files + AllocGlobal),
     arguments: &[Vec<u8>],
-) -> Result<MrunArgs, Error> {
+) -> Result<MrunArgs, Error>
+    ensures { IfOk result (λ args. is_some args.journal ≡ true → args.upkeep.checkpoints ≡ Pace.Never) }
+{
     let args = mrun_args_of(rt.alloc(), arguments)?;
     match file_conflict(rt, arguments, args.names()) {
         Some(why) => Err(conflict(rt.alloc(), why)?),

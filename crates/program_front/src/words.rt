@@ -1,6 +1,9 @@
 //! The words that both programs know, and the arguments as texts.
+ghost use Rattle.std.specs.Prelude.{◌≡◌, ◌==◌, if◌then◌else◌, MatchOption};
+
 use clap::builder::ValueParser;
 use clap::{Arg, ArgAction, ArgMatches, Error};
+use script_run::{Pace, Upkeep};
 use std::alloc::{AllocError, Global};
 
 /// Where a file's name stands among the arguments.
@@ -50,7 +53,6 @@ fn every_word<'a>(alloc: Global, name: &'a str, value: &'a str, help: &'a str) -
         .action(ArgAction::Set)
         .value_name(value)
         .value_parser(ValueParser::unsigned(0, MOST_LINES))
-        .default_value("0")
         .help(help)
 }
 
@@ -60,7 +62,7 @@ pub(crate) fn collect_word<'a>(alloc: Global) -> Arg<'a> {
         alloc,
         "collect-every",
         "N",
-        "Let the collector pass after each Nth printed{n}line, 0 to 1000000; 0 is never",
+        "Let the collector pass after each Nth printed{n}line, 0 to 1000000; 0 is never; by itself where{n}it costs little",
     )
 }
 
@@ -70,8 +72,40 @@ pub(crate) fn checkpoint_word<'a>(alloc: Global) -> Arg<'a> {
         alloc,
         "checkpoint-every",
         "M",
-        "Let the journal drop its beginning after each{n}Mth printed line, 0 to 1000000; 0 is{n}never",
+        "Let the journal drop its beginning after each{n}Mth printed line, 0 to 1000000; 0 is{n}never; by itself where it costs little, but{n}never with --journal",
     )
+}
+
+// When something is done for which this number is asked; as usual where none is.
+fn pace_of(asked: Option<u64>, usual: Pace) -> Pace
+    ensures { MatchOption asked (result ≡ usual) (λ lines. result ≡ if lines == 0 then Pace.Never else Pace.Every lines) }
+{
+    match asked {
+        Some(0) => Pace::Never,
+        Some(lines) => Pace::Every(lines),
+        None => usual,
+    }
+}
+
+// When checkpoints are taken where no number is asked for: never where a journal is kept, which they would cut.
+fn usual_checkpoints(journal: Option<NamePlace>) -> Pace
+    ensures { MatchOption journal (result ≡ Pace.WhereCheap) (λ _. result ≡ Pace.Never) }
+{
+    match journal {
+        Some(_) => Pace::Never,
+        None => Pace::WhereCheap,
+    }
+}
+
+/// When the collector drops old versions and checkpoints are taken.
+pub(crate) fn upkeep_of(matches: &ArgMatches<'_>, journal: Option<NamePlace>) -> Upkeep {
+    Upkeep {
+        collector: pace_of(matches.get_one("collect-every"), Pace::WhereCheap),
+        checkpoints: pace_of(
+            matches.get_one("checkpoint-every"),
+            usual_checkpoints(journal),
+        ),
+    }
 }
 
 /// The word for the script's file.

@@ -15,9 +15,9 @@
 //! written whenever it holds 16,384 bytes, and the listing is gathered in it too. A line is copied only where it goes
 //! on from one piece to the next. The room that a long one took is given back when it is done.
 //!
-//! After each so many replies as the caller says the collector passes over the store, and a checkpoint is taken
-//! (`upkeep.rt`). Both leave the machine, so no clause names them. Nor does one name a log, which is told of lines and
-//! may ask to be shown the core after one (`log.rt`): what is written is promised alike for each.
+//! After each so many replies as the caller says, or where it costs little, the collector passes over the store, and a
+//! checkpoint is taken (`upkeep.rt`). Both leave the machine, so no clause names them. Nor does one name a log, which is
+//! told of lines and may ask to be shown the core after one (`log.rt`): what is written is promised alike for each.
 //!
 //! The parts of a run are public for `live_server`, whose jobs may wait: `Script`, what gathers a reply, cuts lines,
 //! halts open jobs and writes the ending.
@@ -36,7 +36,7 @@ pub use log::{NoLog, RunLog};
 pub use open_jobs::{OpenJobs, halt_open};
 pub use outcome::Outcome;
 pub use run::{PIECE_BYTES, read_piece, run_script, run_with, run_with_core, write_ending};
-pub use upkeep::{Due, Upkeep, keep_up};
+pub use upkeep::{Due, Pace, Upkeep, keep_up};
 
 mod answers;
 mod fault;

@@ -323,8 +323,9 @@ pub fn run_with<R: Read, W: Write>(
 /// by a full journal (`StampsUsedUp`) or for want of memory, is passed over, since it changes no node. Replies are
 /// written before the next read, and earlier where 16,384 bytes of them are gathered.
 ///
-/// After as many replies as `upkeep` says the collector passes over all keys, and a checkpoint drops the journal's
-/// beginning. No reply and no listing depends on them, but for what fits into memory; one that finds none is left out.
+/// After as many replies as `upkeep` says, or where it costs little, the collector passes over keys, and a checkpoint
+/// drops the journal's beginning. No reply and no listing depends on them, but for what fits into memory; one that
+/// finds none is left out.
 ///
 /// On `Ok` the text is whole and all input was read; where the outcome isn't `wanting`, the text is a function of the
 /// bytes read (`output_of`). After a fault it is a beginning of a whole text, and has of the listing something only if

@@ -3,6 +3,7 @@ use clap::error::ErrorKind;
 use program_front::{
     MjobsArgs, MrunArgs, NamePlace, Workers, mjobs_args_of, mrun_args_of, room_before,
 };
+use script_run::{Pace, Upkeep};
 use std::alloc::Global;
 use std::test::Fail;
 
@@ -25,6 +26,18 @@ fn asked(alloc: Global, words: &[&[u8]]) -> Result<Result<MrunArgs, ErrorKind>, 
     })
 }
 
+// What is done where no word asks for more.
+const USUAL: Upkeep = Upkeep {
+    collector: Pace::WhereCheap,
+    checkpoints: Pace::WhereCheap,
+};
+
+// What is where a journal is kept.
+const KEPT: Upkeep = Upkeep {
+    checkpoints: Pace::Never,
+    ..USUAL
+};
+
 const PLAIN: MrunArgs = MrunArgs {
     file: None,
     load: None,
@@ -33,8 +46,7 @@ const PLAIN: MrunArgs = MrunArgs {
     listed: true,
     errors: false,
     statistics: false,
-    collect_every: 0,
-    checkpoint_every: 0,
+    upkeep: USUAL,
 };
 
 // Words, and what they ask `mrun` for.
@@ -128,12 +140,15 @@ fn has_journal_at(
     from: usize,
 ) -> Result<bool, Fail> {
     Ok(match asked(alloc, words)? {
-        Ok(args) => args.journal == Some(NamePlace { argument, from }),
+        Ok(args) => {
+            args.journal == Some(NamePlace { argument, from })
+                && args.upkeep.checkpoints == Pace::Never
+        }
         Err(_) => false,
     })
 }
 
-// The first row whose words name another journal or none.
+// The first row whose words name another journal or none, or take checkpoints.
 fn first_other_journal(alloc: Global, rows: &[JournalRow]) -> Result<Option<usize>, Fail> {
     for (i, (words, argument, from)) in rows.iter().enumerate() {
         if !has_journal_at(alloc, words, *argument, *from)? {
@@ -187,7 +202,10 @@ const SAVES: [Row; 2] = [
                 argument: 1,
                 from: 7,
             }),
-            checkpoint_every: 5,
+            upkeep: Upkeep {
+                checkpoints: Pace::Every(5),
+                ..USUAL
+            },
             ..PLAIN
         }),
     ),
@@ -264,22 +282,22 @@ fn words_ask_for_help_or_are_wrong(rt: HostRuntime) -> Result<(), Fail> {
 }
 
 // Whether the word asks for a pass, and for a checkpoint, after so many printed lines, or is wrong for either.
-fn is_every(alloc: Global, word: &[u8], want: Result<u64, ErrorKind>) -> Result<bool, Fail> {
+fn is_every(alloc: Global, word: &[u8], want: Result<Pace, ErrorKind>) -> Result<bool, Fail> {
     let passes = asked(alloc, &[b"--collect-every", word])?;
     let checkpoints = asked(alloc, &[b"--checkpoint-every", word])?;
     Ok(
-        passes.map(|args| args.collect_every) == want
-            && checkpoints.map(|args| args.checkpoint_every) == want,
+        passes.map(|args| args.upkeep.collector) == want
+            && checkpoints.map(|args| args.upkeep.checkpoints) == want,
     )
 }
 
-// A word, and the number that it gives.
-type NumberRow = (&'static [u8], Result<u64, ErrorKind>);
+// A word, and when it asks for something.
+type PaceRow = (&'static [u8], Result<Pace, ErrorKind>);
 
-const EVERY: [NumberRow; 8] = [
-    (b"0", Ok(0)),
-    (b"7", Ok(7)),
-    (b"1000000", Ok(1000000)),
+const EVERY: [PaceRow; 8] = [
+    (b"0", Ok(Pace::Never)),
+    (b"7", Ok(Pace::Every(7))),
+    (b"1000000", Ok(Pace::Every(1000000))),
     (b"1000001", Err(ErrorKind::ValueValidation)),
     (b"x", Err(ErrorKind::ValueValidation)),
     (b"1.5", Err(ErrorKind::ValueValidation)),
@@ -300,8 +318,10 @@ const BOTH: [Row; 2] = [
         &[b"--collect-every=5", b"--checkpoint-every=9", b"5"],
         Ok(MrunArgs {
             file: Some(3),
-            collect_every: 5,
-            checkpoint_every: 9,
+            upkeep: Upkeep {
+                collector: Pace::Every(5),
+                checkpoints: Pace::Every(9),
+            },
             ..PLAIN
         }),
     ),
@@ -333,8 +353,7 @@ const PLAIN_JOBS: MjobsArgs = MjobsArgs {
     workers: Workers::Number(2),
     live: false,
     statistics: false,
-    collect_every: 0,
-    checkpoint_every: 0,
+    upkeep: USUAL,
 };
 
 // Words, and what they ask `mjobs` for.
@@ -393,8 +412,10 @@ const LIVE_JOBS: [JobsRow; 3] = [
         &[b"--live", b"--collect-every=7", b"--checkpoint-every", b"9"],
         Ok(MjobsArgs {
             live: true,
-            collect_every: 7,
-            checkpoint_every: 9,
+            upkeep: Upkeep {
+                collector: Pace::Every(7),
+                checkpoints: Pace::Every(9),
+            },
             ..PLAIN_JOBS
         }),
     ),
@@ -456,6 +477,7 @@ const JOURNALS_OF_JOBS: [JobsRow; 4] = [
                 argument: 1,
                 from: 10,
             }),
+            upkeep: KEPT,
             ..PLAIN_JOBS
         }),
     ),
