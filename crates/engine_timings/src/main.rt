@@ -15,8 +15,8 @@ use crate::turns::{
 };
 use anyhow::Result;
 use job_core::JobCore;
-use pin_board::{Blank, BoardName, SEATS};
-use shared_engine::{Session, Shared};
+use pin_board::{Blank, SEATS};
+use shared_engine::{BoardName, Session, Shared};
 use std::alloc::Global;
 use std::env;
 use std::marker::Brand;

@@ -5,31 +5,24 @@ use Rattle.std.proofs.Math.Logic.{∥∥₁_map, ∥∥₁_map₂}
 use Rattle.std.proofs.lemmas.Grind.{flat_map-append}
 use Rattle.std.specs.List.{All}
 use Rattle.journal.specs.declared.unit.Unit.{Unit as JournalUnit}
-use Rattle.pin_board.specs.Slips.{AreInJournal}
-use Rattle.shared_engine.specs.Receipts.{Book, IsOwn, RisesFrom}
-use Rattle.shared_engine.specs.Engines.{AreAllReceipts, AreAllUnits, HasSeenOf}
+use Rattle.shared_engine.specs.Receipts.{Book}
+use Rattle.shared_engine.specs.Engines.{AreAllUnits, HasSeenOf}
 use Rattle.job_scripts.specs.Reports.{Answers}
 use Rattle.job_scripts.specs.declared.lines.Script.{Script}
 use Rattle.loading.specs.Settings.{Setting}
+use Rattle.job_server.specs.Steps.{AreBefore}
 use Rattle.job_server.specs.Loads.{load_books, BeginsWith, HasRunLoad, IsLoaded}
-use Rattle.job_server.proofs.OneRun.{Laws, is_run}
-use Rattle.job_server.specs.Served.{Wanted, wanted, IsReport, HasRunAs, IsReportAt, AreReports, HaveRun, AreHanded, with_load, AreBooked, AreServed, all_of}
+use Rattle.job_server.proofs.Histories.{Laws}
+use Rattle.job_server.proofs.OneRun.{is_run}
+use Rattle.job_server.specs.Served.{Wanted, wanted, IsReport, AreReports, HasRunAs, IsReportAt, HaveRun, AreHanded, AreAnswered, AreServed, all_of}
 
-report_more : (ws : List Wanted) (reports : List Answers) (owns : List (List Book)) (w : Wanted) (report : Answers) (own : List Book) → AreReports ws reports owns → IsReport w report own → AreReports (ws ++ w ∷ []) (reports ++ report ∷ []) (owns ++ own ∷ [])
-report_more [] [] [] w report own h is = (is, tt)
-report_more [] [] (o ∷ os) w report own h is = absurd h
-report_more [] (r ∷ rs) os w report own h is = absurd h
-report_more (x ∷ ws) [] os w report own h is = absurd h
-report_more (x ∷ ws) (r ∷ rs) [] w report own h is = absurd h
-report_more (x ∷ ws) (r ∷ rs) (o ∷ os) w report own h is = (h.0, report_more ws rs os w report own h.1 is)
-
-run_more : (ws : List Wanted) (reports : List Answers) (owns : List (List Book)) (w : Wanted) (report : Answers) (own : List Book) → HaveRun ws reports owns → HasRunAs w report own → HaveRun (ws ++ w ∷ []) (reports ++ report ∷ []) (owns ++ own ∷ [])
-run_more [] [] [] w report own h is = (is, tt)
-run_more [] [] (o ∷ os) w report own h is = absurd h
-run_more [] (r ∷ rs) os w report own h is = absurd h
-run_more (x ∷ ws) [] os w report own h is = absurd h
-run_more (x ∷ ws) (r ∷ rs) [] w report own h is = absurd h
-run_more (x ∷ ws) (r ∷ rs) (o ∷ os) w report own h is = (h.0, run_more ws rs os w report own h.1 is)
+run_more : (since : ℕ) (ws : List Wanted) (reports : List Answers) (owns : List (List Book)) (w : Wanted) (report : Answers) (own : List Book) → HaveRun since ws reports owns → IsReport w report × HasRunAs since w report own → HaveRun since (ws ++ w ∷ []) (reports ++ report ∷ []) (owns ++ own ∷ [])
+run_more since [] [] [] w report own h is = (is, tt)
+run_more since [] [] (o ∷ os) w report own h is = absurd h
+run_more since [] (r ∷ rs) os w report own h is = absurd h
+run_more since (x ∷ ws) [] os w report own h is = absurd h
+run_more since (x ∷ ws) (r ∷ rs) [] w report own h is = absurd h
+run_more since (x ∷ ws) (r ∷ rs) (o ∷ os) w report own h is = (h.0, run_more since ws rs os w report own h.1 is)
 
 plus_one : (n : ℕ) → n + 1 ≡ suc n
 plus_one n = omega arith
@@ -44,75 +37,72 @@ take_more (x ∷ ws) zero w is = ap (λ (v : Wanted). v ∷ []) (some_same is)
     some_same e = cc
 take_more (x ∷ ws) (suc place) w is = ap (λ (l : List Wanted). x ∷ l) (take_more ws place w is)
 
-one_more_of : (scripts : List Wanted) (place : ℕ) (w : Wanted) (reports more_reports : List Answers) (books more_books own : List Book) (report : Answers) → AreHanded (take place scripts) reports books → slice_get scripts place ≡ Some w → IsReport w report own → HasRunAs w report own
-    → more_reports ≡ reports ++ report ∷ [] → more_books ≡ books ++ own → AreHanded (take (place + 1) scripts) more_reports more_books
-one_more_of scripts place w reports more_reports books more_books own report h at is run reports_are books_are = record {
+one_more_of : (scripts : List Wanted) (place since : ℕ) (w : Wanted) (reports more_reports : List Answers) (books more_books own : List Book) (report : Answers) → AreHanded since (take place scripts) reports books → slice_get scripts place ≡ Some w → IsReport w report → HasRunAs since w report own
+    → more_reports ≡ reports ++ report ∷ [] → more_books ≡ books ++ own → AreHanded since (take (place + 1) scripts) more_reports more_books
+one_more_of scripts place since w reports more_reports books more_books own report h at is run reports_are books_are = record {
   books = h.books ++ own ∷ [];
-  are_told = subst (λ (ws : List Wanted). AreReports ws more_reports (h.books ++ own ∷ [])) (sym (ap (λ (k : ℕ). take k scripts) (plus_one place) ∙ take_more scripts place w at))
-      (subst (λ (rs : List Answers). AreReports (take place scripts ++ w ∷ []) rs (h.books ++ own ∷ [])) (sym reports_are) (report_more (take place scripts) reports h.books w report own h.are_told is));
-  have_run = subst (λ (ws : List Wanted). HaveRun ws more_reports (h.books ++ own ∷ [])) (sym (ap (λ (k : ℕ). take k scripts) (plus_one place) ∙ take_more scripts place w at))
-      (subst (λ (rs : List Answers). HaveRun (take place scripts ++ w ∷ []) rs (h.books ++ own ∷ [])) (sym reports_are) (run_more (take place scripts) reports h.books w report own h.have_run run));
+  have_run = subst (λ (ws : List Wanted). HaveRun since ws more_reports (h.books ++ own ∷ [])) (sym (ap (λ (k : ℕ). take k scripts) (plus_one place) ∙ take_more scripts place w at))
+      (subst (λ (rs : List Answers). HaveRun since (take place scripts ++ w ∷ []) rs (h.books ++ own ∷ [])) (sym reports_are) (run_more since (take place scripts) reports h.books w report own h.have_run (is, run)));
   all_is = books_are ∙ (ap (λ (bs : List Book). bs ++ own) h.all_is ∙ sym (flat_map-append (λ (bs : List Book). bs) h.books (own ∷ []) ∙ ap (λ (bs : List Book). all_of h.books ++ bs) (append-nil own)));
 }
 
-pub one_more : (scripts : List Wanted) (place : ℕ) (reports more_reports : List Answers) (books more_books own : List Book) (report : Answers) → ∥ AreHanded (take place scripts) reports books ∥₁ → ∥ IsReportAt scripts place report own ∥₁
-    → more_reports ≡ reports ++ report ∷ [] → more_books ≡ books ++ own → ∥ AreHanded (take (place + 1) scripts) more_reports more_books ∥₁
-one_more scripts place reports more_reports books more_books own report h at reports_are books_are =
-    ∥∥₁_map₂ h at (λ (x : AreHanded (take place scripts) reports books) (y : IsReportAt scripts place report own). one_more_of scripts place y.script reports more_reports books more_books own report x y.at y.is_report y.has_run reports_are books_are)
+pub one_more : (scripts : List Wanted) (place since : ℕ) (reports more_reports : List Answers) (books more_books own : List Book) (report : Answers) → ∥ AreHanded since (take place scripts) reports books ∥₁ → ∥ IsReportAt scripts place since report own ∥₁
+    → more_reports ≡ reports ++ report ∷ [] → more_books ≡ books ++ own → ∥ AreHanded since (take (place + 1) scripts) more_reports more_books ∥₁
+one_more scripts place since reports more_reports books more_books own report h at reports_are books_are =
+    ∥∥₁_map₂ h at
+    (λ (x : AreHanded since (take place scripts) reports books) (y : IsReportAt scripts place since report own). one_more_of scripts place since y.script reports more_reports books more_books own report x y.at y.is_report y.has_run reports_are books_are)
+
+-- each has its report
+reports_there : (since : ℕ) (ws : List Wanted) (reports : List Answers) (owns : List (List Book)) → HaveRun since ws reports owns → AreReports ws reports
+reports_there since [] [] [] h = tt
+reports_there since [] [] (own ∷ owns) h = absurd h
+reports_there since [] (report ∷ reports) owns h = absurd h
+reports_there since (w ∷ ws) [] owns h = absurd h
+reports_there since (w ∷ ws) (report ∷ reports) [] h = absurd h
+reports_there since (w ∷ ws) (report ∷ reports) (own ∷ owns) h = (h.0.0, reports_there since ws reports owns h.1)
 
 -- all are handed over, behind what was loaded
-booked_of : (ended : List JournalUnit) (settings : List Setting) (scripts : List Wanted) (n : ℕ) (reports : List Answers) (passes all_passes : List Book) (units : List JournalUnit) (sessions : ℕ) → AreHanded (take n scripts) reports passes → n ≡ length scripts
-    → all_passes ≡ load_books ended settings ++ passes → length all_passes ≡ sessions → All (λ (b : Book). AreInJournal units b.receipts) all_passes
-    → All (λ (b : Book). AreInJournal units b.others) all_passes → All (λ (b : Book). RisesFrom 0 b.receipts) all_passes → All IsOwn all_passes → AreAllReceipts units all_passes → AreAllUnits units all_passes → All (HasSeenOf units) all_passes → Laws → length units < 2 ^ 64 → HasRunLoad settings (load_books ended settings)
-    → AreBooked settings scripts reports units sessions
-booked_of ended settings scripts n reports passes all_passes units sessions h all joined each written others rising own every every_unit seen laws few loaded =
-    let are : all_passes ≡ with_load ended settings h.books = joined ∙ ap (λ (bs : List Book). load_books ended settings ++ bs) h.all_is in
-    record {
-      ended = ended;
-      books = h.books;
-      are_told = subst (λ (ws : List Wanted). AreReports ws reports h.books) (ap (λ k. take k scripts) all ∙ take-all scripts) h.are_told;
-      each = sym (ap length are) ∙ each;
-      written = subst (λ (bs : List Book). All (λ (b : Book). AreInJournal units b.receipts) bs) are written;
-      others = subst (λ (bs : List Book). All (λ (b : Book). AreInJournal units b.others) bs) are others;
-      rising = subst (λ (bs : List Book). All (λ (b : Book). RisesFrom 0 b.receipts) bs) are rising;
-      own = subst (λ (bs : List Book). All IsOwn bs) are own;
-      all = subst (AreAllReceipts units) are every;
-      all_units = subst (AreAllUnits units) are every_unit;
-      run = λ apart load.
-          is_run units ended settings scripts reports h.books laws few apart load (subst (λ (bs : List Book). All (HasSeenOf units) bs) are seen) (subst (AreAllUnits units) are every_unit)
-          (subst (λ (ws : List Wanted). AreReports ws reports h.books) (ap (λ k. take k scripts) all ∙ take-all scripts) h.are_told) (subst (λ (ws : List Wanted). HaveRun ws reports h.books) (ap (λ k. take k scripts) all ∙ take-all scripts) h.have_run) loaded;
-    }
+answered_of : (ended : List JournalUnit) (since : ℕ) (settings : List Setting) (scripts : List Wanted) (n : ℕ) (reports : List Answers) (passes all_passes : List Book) (units : List JournalUnit) → AreHanded since (take n scripts) reports passes → n ≡ length scripts → AreBefore since (load_books ended settings)
+    → all_passes ≡ load_books ended settings ++ passes → AreAllUnits units all_passes → All (HasSeenOf units) all_passes → Laws → length units < 2 ^ 64 → HasRunLoad settings (load_books ended settings) → AreAnswered settings scripts reports units
+answered_of ended since settings scripts n reports passes all_passes units h all before joined every seen laws few loaded = record {
+  each = reports_there since scripts reports h.books have;
+  run = λ apart. is_run units ended since settings scripts reports h.books laws few apart before (subst (λ (bs : List Book). All (HasSeenOf units) bs) are seen) (subst (AreAllUnits units) are every) have loaded;
+}
   where
     take-all : (ws : List Wanted) → take (length ws) ws ≡ ws
     take-all [] = refl
     take-all (w ∷ ws) = ap (λ (l : List Wanted). w ∷ l) (take-all ws)
 
+    are : all_passes ≡ load_books ended settings ++ all_of h.books
+    are = joined ∙ ap (λ (bs : List Book). load_books ended settings ++ bs) h.all_is
+
+    have : HaveRun since scripts reports h.books
+    have = subst (λ (ws : List Wanted). HaveRun since ws reports h.books) (ap (λ k. take k scripts) all ∙ take-all scripts) h.have_run
+
 same_length : (scripts : List Script) → length (map wanted scripts) ≡ length scripts
 same_length [] = refl
 same_length (s ∷ ss) = ap (λ (n : ℕ). suc n) (same_length ss)
 
-pub booked : (ended : List JournalUnit) (settings : List Setting) (scripts : List Script) (batch : List Wanted) (n : ℕ) (reports : List Answers) (loaded passes all_passes : List Book) (units : List JournalUnit) (sessions : ℕ) → map wanted scripts ≡ batch
-    → ∥ AreHanded (take n batch) reports passes ∥₁ → n ≡ length scripts → loaded ≡ load_books ended settings → all_passes ≡ loaded ++ passes → length all_passes ≡ sessions → All (λ (b : Book). AreInJournal units b.receipts) all_passes
-    → All (λ (b : Book). AreInJournal units b.others) all_passes → All (λ (b : Book). RisesFrom 0 b.receipts) all_passes → All IsOwn all_passes → AreAllReceipts units all_passes → AreAllUnits units all_passes → All (HasSeenOf units) all_passes → Laws → length units < 2 ^ 64 → HasRunLoad settings loaded
-    → ∥ AreBooked settings (map wanted scripts) reports units sessions ∥₁
-booked ended settings scripts batch n reports loaded passes all_passes units sessions same h all is joined each written others rising own every every_unit seen laws few load =
+pub answered : (ended : List JournalUnit) (since : ℕ) (settings : List Setting) (scripts : List Script) (batch : List Wanted) (n : ℕ) (reports : List Answers) (loaded passes all_passes : List Book) (units : List JournalUnit) → map wanted scripts ≡ batch
+    → ∥ AreHanded since (take n batch) reports passes ∥₁ → n ≡ length scripts → loaded ≡ load_books ended settings → AreBefore since loaded → all_passes ≡ loaded ++ passes → AreAllUnits units all_passes → All (HasSeenOf units) all_passes → Laws → length units < 2 ^ 64 → HasRunLoad settings loaded
+    → ∥ AreAnswered settings (map wanted scripts) reports units ∥₁
+answered ended since settings scripts batch n reports loaded passes all_passes units same h all is before joined every seen laws few load =
     ∥∥₁_map h
-    (λ (x : AreHanded (take n batch) reports passes). booked_of ended settings (map wanted scripts) n reports passes all_passes units sessions
-    (subst (λ (ws : List Wanted). AreHanded (take n ws) reports passes) (sym same) x) (all ∙ sym (same_length scripts)) (joined ∙ ap (λ (bs : List Book). bs ++ passes) is) each written others rising own every every_unit seen laws few (subst (HasRunLoad settings) is load))
+    (λ (x : AreHanded since (take n batch) reports passes). answered_of ended since settings (map wanted scripts) n reports passes all_passes units (subst (λ (ws : List Wanted). AreHanded since (take n ws) reports passes) (sym same) x) (all ∙ sym (same_length scripts))
+    (subst (AreBefore since) is before) (joined ∙ ap (λ (bs : List Book). bs ++ passes) is) every seen laws few (subst (HasRunLoad settings) is load))
 
 -- what was loaded, and what was served behind it
-pub served_of : (listing : List ℕ) (scripts : List Wanted) (reports : List Answers) (units : List JournalUnit) (sessions : ℕ) (loaded : List Book) → IsLoaded listing loaded → ((ended : List JournalUnit) (settings : List Setting) → loaded ≡ load_books ended settings → BeginsWith settings units)
-    → ((ended : List JournalUnit) (settings : List Setting) → loaded ≡ load_books ended settings → HasRunLoad settings loaded → ∥ AreBooked settings scripts reports units sessions ∥₁) → AreServed listing scripts reports units sessions
-served_of listing scripts reports units sessions loaded h begins booked = record {
+pub served_of : (listing : List ℕ) (scripts : List Wanted) (reports : List Answers) (units : List JournalUnit) (loaded : List Book) → IsLoaded listing loaded → ((ended : List JournalUnit) (settings : List Setting) → loaded ≡ load_books ended settings → BeginsWith settings units)
+    → ((ended : List JournalUnit) (settings : List Setting) → loaded ≡ load_books ended settings → HasRunLoad settings loaded → ∥ AreAnswered settings scripts reports units ∥₁) → AreServed listing scripts reports units
+served_of listing scripts reports units loaded h begins answered = record {
   settings = h.settings;
-  asked = h.asked;
-  begins = begins h.ended h.settings h.books_are;
-  booked = booked h.ended h.settings h.books_are h.has_run;
+  loaded = record { asked = h.asked; begins = begins h.ended h.settings h.books_are };
+  answered = answered h.ended h.settings h.books_are h.has_run;
 }
 
 -- nothing is handed over yet
-pub none_handed : ∥ AreHanded [] [] [] ∥₁
-none_handed = ∣ record { books = []; are_told = tt; have_run = tt; all_is = refl } ∣₁
+pub none_handed : (since : ℕ) → ∥ AreHanded since [] [] [] ∥₁
+none_handed since = ∣ record { books = []; have_run = tt; all_is = refl } ∣₁
 
 -- the first of those left
 pub front_is : (ws : List Wanted) (n : ℕ) (w : Wanted) (rest : List Wanted) → w ∷ rest ≡ drop n ws → slice_get ws n ≡ Some w

@@ -23,7 +23,7 @@ use Rattle.loading.specs.Loaded.{units_of}
 use Rattle.loading.specs.laws.Before.{before_none, before_next, before_end, fault_before}
 use Rattle.loading.specs.declared.fault.LoadFault.TheVariants as load_faults
 use Rattle.job_server.specs.Loads.{unit_of, claims_from, load_book, load_books, BeginsWith, AreSets, AreLoadSteps, HasRunLoad, AreReceiptsOf, HasSet, HasSetTo, HasSetAll, IsBookOf, IsLoaded, IsOfAnyLoad, IsUnservedOf}
-use Rattle.job_server.specs.Steps.{SessionsSoFar, sessions_so_far, WasDoneBy, AreSteps, HasDoneSteps}
+use Rattle.job_server.specs.Steps.{past, SessionsSoFar, sessions_so_far, none_since, WasDoneBy, AreSteps, HasDoneSteps}
 use Rattle.job_server.proofs.Stepped.{lone_stepped}
 use Rattle.job_server.proofs.Stepping.{between_opened, steps_then, one_call, halt_call}
 use Rattle.job_server.specs.declared.fault.Unserved.{Unserved}
@@ -98,11 +98,11 @@ sets_push (t ∷ ts) s (y ∷ ys) x are is = (are.0, sets_push ts s ys x are.1 i
 sets_then : (ss : List Setting) (s : Setting) (a b c : SessionsSoFar) → HasDoneSteps (AreSets ss) 1 a b → (x : Told) × ((x.command ≡ Access (Set s.0 s.1)) × (x.reply ≡ Answered Done)) × AreSteps 1 (x ∷ []) b c → HasDoneSteps (AreSets (ss ++ s ∷ [])) 1 a c
 sets_then ss s a b c h one = (h.0 ++ one.0 ∷ [], sets_push ss s h.0 one.0 h.1 one.1, steps_then 1 h.0 (one.0 ∷ []) a b c h.2 one.2)
 
-load_steps : (ss : List Setting) (h : Held) (b : Book) (units : List JournalUnit) → IsBeginning units h.seen → b ≡ halted units h → HasDoneSteps (AreSets ss) 1 (sessions_so_far [] None) (sessions_so_far [] (Some h)) → HasDoneSteps (AreLoadSteps ss) 1 (sessions_so_far [] None) (sessions_so_far (b ∷ []) None)
+load_steps : (ss : List Setting) (h : Held) (b : Book) (units : List JournalUnit) → IsBeginning units h.seen → b ≡ halted units h → HasDoneSteps (AreSets ss) 1 (none_since 0) (sessions_so_far (past 0 []) (Some h)) → HasDoneSteps (AreLoadSteps ss) 1 (none_since 0) (sessions_so_far (past 0 (b ∷ [])) None)
 load_steps ss h b units goes_on is sets =
-    let end = halt_call 1 [] units h goes_on in
-    subst (λ (p : Book). HasDoneSteps (AreLoadSteps ss) 1 (sessions_so_far [] None) (sessions_so_far (p ∷ []) None)) (sym is)
-    (sets.0 ++ end.0 ∷ [], (sets.0, end.0, refl, sets.1, end.1), steps_then 1 sets.0 (end.0 ∷ []) (sessions_so_far [] None) (sessions_so_far [] (Some h)) (sessions_so_far (halted units h ∷ []) None) sets.2 end.2)
+    let end = halt_call 1 (past 0 []) units h goes_on in
+    subst (λ (p : Book). HasDoneSteps (AreLoadSteps ss) 1 (none_since 0) (sessions_so_far (past 0 (p ∷ [])) None)) (sym is)
+    (sets.0 ++ end.0 ∷ [], (sets.0, end.0, refl, sets.1, end.1), steps_then 1 sets.0 (end.0 ∷ []) (none_since 0) (sessions_so_far (past 0 []) (Some h)) (sessions_so_far (past 0 (halted units h ∷ [])) None) sets.2 end.2)
 
 -- ---- the session
 
@@ -117,7 +117,7 @@ none_set h begun = record {
   seen = begun.0;
   are_of = tt;
   is = begun.1;
-  steps = subst (λ (x : Held). HasDoneSteps (AreSets []) 1 (sessions_so_far [] None) (sessions_so_far [] (Some x))) (sym begun.1) ([], tt, between_opened 1 [] begun.0 tt);
+  steps = subst (λ (x : Held). HasDoneSteps (AreSets []) 1 (none_since 0) (sessions_so_far (past 0 []) (Some x))) (sym begun.1) ([], tt, between_opened 1 (past 0 []) begun.0 (omega arith, tt));
 }
 
 -- one setting more
@@ -127,7 +127,7 @@ set_more ss s units old new set is done = record {
   seen = units ++ unit_of s ∷ [];
   are_of = receipt_more ss set.receipts s (length units + 1) set.are_of;
   is = is ∙ ap (and_receipt units (unit_of s)) set.is;
-  steps = sets_then ss s (sessions_so_far [] None) (sessions_so_far [] (Some old)) (sessions_so_far [] (Some new)) set.steps (one_call 1 [] (Set s.0 s.1) (Answered Done) old new done);
+  steps = sets_then ss s (none_since 0) (sessions_so_far (past 0 []) (Some old)) (sessions_so_far (past 0 []) (Some new)) set.steps (one_call 1 (past 0 []) (Set s.0 s.1) (Answered Done) old new done);
 }
 
 -- the same, of what the engine answered
@@ -153,7 +153,7 @@ last_set first asked left h so none = record { more = so.more; is = before_end s
 
 -- its book
 pub closed_book : (ss : List Setting) (h : Held) (b : Book) (ns : List ℕ) → HasSet ss h → map number_of h.receipts ≡ ns → RisesFrom 0 h.receipts → get_or ns (length ns - 1) 0 ≡ length ns → ((units : List JournalUnit) × IsBeginning units h.seen × (b ≡ halted units h))
-    → (ended : List JournalUnit) × (b ≡ load_book ended ss) × HasDoneSteps (AreLoadSteps ss) 1 (sessions_so_far [] None) (sessions_so_far (b ∷ []) None)
+    → (ended : List JournalUnit) × (b ≡ load_book ended ss) × HasDoneSteps (AreLoadSteps ss) 1 (none_since 0) (sessions_so_far (past 0 (b ∷ [])) None)
 closed_book ss h b ns set same rises last closed =
     let units : List JournalUnit = closed.0 in
     let now : List JournalUnit = units ++ End 1 ∷ [] in

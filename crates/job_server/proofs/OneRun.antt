@@ -1,213 +1,218 @@
--- What all jobs did is one run of the exact machine, by the laws of shared_engine.
-use Rattle.std.proofs.Common.{◌≡◌, inl, inr, ℕ, ◌+◌, ◌^◌, ◌≤◌, ◌<◌, List, [], ◌∷◌, ◌++◌, length, refl, sym, ap, ◌∙◌, subst, arith, append_assoc, append-nil}
-use Rattle.std.specs.Prelude.{Option, Some, None, IfSome}
-use Rattle.std.specs.List.{All}
-use Rattle.std.specs.Ordering.{nat_cmp}
-use Rattle.std.specs.FinMap as finmap
-use Rattle.std.proofs.lemmas.List.Elements.{All-nil, All-cons, All-head, All-tail}
+-- What all jobs did is one run of the exact machine, by the law of serial.
+use Rattle.std.proofs.Common.{◌≡◌, ◌⊎◌, inl, inr, ℕ, ◌+◌, ◌^◌, ◌<◌, ◌==◌, Bool, true, false, List, [], ◌∷◌, ◌++◌, length, refl, sym, ap, ◌∙◌, subst, arith, append_assoc, append-nil, eq-eqb, eqb-true}
+use Rattle.std.specs.Prelude.{Option, Some, None, IfSome, if◌then◌else◌}
+use Rattle.std.specs.List.{All, sum_by}
+use Rattle.std.proofs.lemmas.List.Elements.{All-nil, All-cons, All-head, All-tail, All-append}
+use Rattle.std.proofs.lemmas.List.Sums.{sum_by-append, sum_by-cons}
 use Rattle.journal.specs.declared.unit.Unit.{Unit as JournalUnit}
-use Rattle.serial.specs.Interleaving.{Told, of_job, IsWritten, upto_of}
-use Rattle.job_core.specs.Sessions.{idle}
+use Rattle.journal.specs.Kept.{Claim, job_of}
+use Rattle.journal.specs.Story.{Machine, nothing_done}
+use Rattle.serial.specs.Interleaving.{Told, of_job, after_told, IsHistory, IsWritten, AreWritten, claims_of, AreAllClaims, IsClaimed}
+use Rattle.serial.specs.laws.ByJob.{same_or_not}
+use Rattle.serial.specs.laws.Claims.{each_is_claimed}
+use Rattle.serial.specs.laws.Merging.{one_interleaving}
+use Rattle.pin_board.specs.Slips as slips
+use Rattle.pin_board.specs.Slips.{weigh}
 use Rattle.shared_engine.specs.Receipts.{Book}
-use Rattle.shared_engine.specs.Sessions.{Held, held, halted}
-use Rattle.shared_engine.specs.Engines.{AreAllUnits, HasSeenOf}
-use Rattle.shared_engine.specs.Steps.{StepsAreExact}
-use Rattle.shared_engine.specs.Histories.{IsToldOn, GoesOnFromAll, Wrote, HasHistory, HasClosed, HistoriesKnow, HistoriesGoOn, HistoriesEnd, JobTold, books_of, IsNoneOf, WroteAll, AreToldOf, HasStepsOf, SessionsAreOneRun}
+use Rattle.shared_engine.specs.Engines.{AreAllUnits, HasSeenOf, units_weigh}
+use Rattle.shared_engine.specs.Histories.{WroteAll}
 use Rattle.job_scripts.specs.Lines.{lines_of_script}
 use Rattle.job_scripts.specs.Reports.{Answers}
 use Rattle.loading.specs.Settings.{Setting}
-use Rattle.job_server.specs.Steps.{SessionsSoFar, sessions_so_far, AreBefore, IsBetween, IsBetweenIn, IsStepIn, AreSteps, HasRunScript, AreShownToEnd}
-use Rattle.job_server.specs.Loads.{load_books, AreLoadSteps, HasRunLoad}
-use Rattle.job_server.specs.Told.{IsTold}
-use Rattle.job_server.specs.Served.{Wanted, IsReport, AreReports, HasRunAs, HaveRun, all_of, with_load, IsNoJobOf, AreApart, IsLoadApart, AreShownIn, IsRun}
+use Rattle.job_server.specs.Steps.{past, sessions_so_far, none_since, AreBefore, AreSteps, HasRunScript}
+use Rattle.job_server.specs.Loads.{load_books, HasRunLoad}
+use Rattle.job_server.specs.Served.{Wanted, AreOfJob, IsLoadedBy, IsShownAs, IsReport, AreShownAll, IsRun, IsNoJobOf, AreApart, HasRunAs, HaveRun, all_of}
+use Rattle.job_server.proofs.Histories.{Laws, IsToldAll, all_told, joined_steps, wrote_more}
 
--- the laws
-pub record Laws : Type 0 where
-  pub exact : StepsAreExact
-  pub know : HistoriesKnow
-  pub go_on : HistoriesGoOn
-  pub end : HistoriesEnd
-  pub one_run : SessionsAreOneRun
+-- ---- the steps of a job among others
 
--- ---- books
+of_append : (job : ℕ) (xs ys : List Told) → of_job job (xs ++ ys) ≡ of_job job xs ++ of_job job ys
+of_append job [] ys = refl
+of_append job (x ∷ xs) ys = by_test (x.job == job) (of_append job xs ys)
+  where
+    by_test : (b : Bool) → of_job job (xs ++ ys) ≡ of_job job xs ++ of_job job ys → (if b then x ∷ of_job job (xs ++ ys) else of_job job (xs ++ ys)) ≡ (if b then x ∷ of_job job xs else of_job job xs) ++ of_job job ys
+    by_test true later = ap (λ (zs : List Told). x ∷ zs) later
+    by_test false later = later
 
-abbrev seen_of : List Book → List (List JournalUnit)
-seen_of [] = []
-seen_of (b ∷ bs) = b.seen ∷ seen_of bs
+of_history : (log : List JournalUnit) (job n : ℕ) (s : Machine) (xs : List Told) → IsHistory log job n s xs → AreOfJob job xs
+of_history log job n s [] h = All-nil (λ (x : Told). x.job ≡ job)
+of_history log job n s (x ∷ xs) h = All-cons (λ (y : Told). y.job ≡ job) x xs h.0 (of_history log job x.upto (after_told log s x) xs h.2)
 
-all_known : (log : List JournalUnit) (books : List Book) → All (HasSeenOf log) books → GoesOnFromAll log (seen_of books)
-all_known log [] all = tt
-all_known log (b ∷ bs) all = (All-head (HasSeenOf log) b bs all, all_known log bs (All-tail (HasSeenOf log) b bs all))
+own_all : (job : ℕ) (xs : List Told) → AreOfJob job xs → of_job job xs ≡ xs
+own_all job [] all = refl
+own_all job (x ∷ xs) all =
+    ap (λ (b : Bool). if b then x ∷ of_job job xs else of_job job xs) (eq-eqb x.job job (All-head (λ (y : Told). y.job ≡ job) x xs all))
+    ∙ ap (λ (zs : List Told). x ∷ zs) (own_all job xs (All-tail (λ (y : Told). y.job ≡ job) x xs all))
 
-known_all : (log : List JournalUnit) (books : List Book) → GoesOnFromAll log (seen_of books) → All (HasSeenOf log) books
-known_all log [] known = All-nil (HasSeenOf log)
-known_all log (b ∷ bs) known = All-cons (HasSeenOf log) b bs known.0 (known_all log bs known.1)
+other_none : (job other : ℕ) (xs : List Told) → AreOfJob job xs → (job ≡ other → ⊥) → of_job other xs ≡ []
+other_none job other [] all apart = refl
+other_none job other (x ∷ xs) all apart = by_test (x.job == other) refl (other_none job other xs (All-tail (λ (y : Told). y.job ≡ job) x xs all) apart)
+  where
+    by_test : (b : Bool) → (x.job == other) ≡ b → of_job other xs ≡ [] → (if b then x ∷ of_job other xs else of_job other xs) ≡ []
+    by_test true e later = absurd (apart (sym (All-head (λ (y : Told). y.job ≡ job) x xs all) ∙ eqb-true x.job other e))
+    by_test false e later = later
 
-front_all : (log : List JournalUnit) (books : List Book) (b : Book) → All (HasSeenOf log) (books ++ b ∷ []) → All (HasSeenOf log) books × HasSeenOf log b
-front_all log [] b all = (All-nil (HasSeenOf log), All-head (HasSeenOf log) b [] all)
-front_all log (x ∷ xs) b all =
-    let rest = front_all log xs b (All-tail (HasSeenOf log) x (xs ++ b ∷ []) all) in (All-cons (HasSeenOf log) x xs (All-head (HasSeenOf log) x (xs ++ b ∷ []) all) rest.0, rest.1)
+-- ---- each unit was written by one of them
 
-last_before : (n : ℕ) (books : List Book) (b : Book) → AreBefore n (books ++ b ∷ []) → length b.seen ≤ n
-last_before n [] b before = before.0
-last_before n (x ∷ xs) b before = last_before n xs b before.1
+written_behind : (k : ℕ) (xs ys : List Told) → IsWritten k ys → IsWritten k (xs ++ ys)
+written_behind k [] ys h = h
+written_behind k (x ∷ xs) ys h = inr (written_behind k xs ys h)
 
-written_more : (k : ℕ) (xs ys : List Told) → IsWritten k xs → IsWritten k (xs ++ ys)
-written_more k [] ys h = absurd h
-written_more k (x ∷ xs) ys (inl is) = inl is
-written_more k (x ∷ xs) ys (inr later) = inr (written_more k xs ys later)
+wrote_behind : (xs ys : List Told) (books : List Book) → WroteAll ys books → WroteAll (xs ++ ys) books
+wrote_behind xs ys [] wrote = tt
+wrote_behind xs ys (b ∷ bs) wrote = ((λ k claimed. written_behind k xs ys (wrote.0 k claimed)), wrote_behind xs ys bs wrote.1)
 
-wrote_more : (xs ys : List Told) (books : List Book) → WroteAll xs books → WroteAll (xs ++ ys) books
-wrote_more xs ys [] wrote = tt
-wrote_more xs ys (b ∷ bs) wrote = ((λ k claimed. written_more k xs ys (wrote.0 k claimed)), wrote_more xs ys bs wrote.1)
+wrote_both : (xs : List Told) (front back : List Book) → WroteAll xs front → WroteAll xs back → WroteAll xs (front ++ back)
+wrote_both xs [] back first second = second
+wrote_both xs (b ∷ bs) back first second = (first.0, wrote_both xs bs back first.1 second)
 
-wrote_push : (xs : List Told) (books : List Book) (b : Book) → WroteAll xs books → Wrote xs b → WroteAll xs (books ++ b ∷ [])
-wrote_push xs [] b wrote last = (last, tt)
-wrote_push xs (x ∷ bs) b wrote last = (wrote.0, wrote_push xs bs b wrote.1 last)
+wrote_all : (xs ys : List Told) (front back : List Book) → WroteAll xs front → WroteAll ys back → WroteAll (xs ++ ys) (front ++ back)
+wrote_all xs ys front back first second = wrote_both (xs ++ ys) front back (wrote_more xs ys front first) (wrote_behind xs ys back second)
 
--- ---- what a job was told
+abbrev claims_in : List Book → List Claim
+claims_in [] = []
+claims_in (b ∷ bs) = (b.receipts ++ b.others) ++ claims_in bs
 
--- its sessions are over
-pub record IsToldAll (job : ℕ) (books : List Book) (xs : List Told) : Type 0 where
-  pub told : (log : List JournalUnit) → All (HasSeenOf log) books → length log < 2 ^ 64 → IsToldOn log xs job None
-  pub upto : (n : ℕ) → AreBefore n books → upto_of 0 xs ≤ n
-  pub wrote : WroteAll xs books
+claimed_either : (n : ℕ) (xs ys : List Claim) → IsClaimed n (xs ++ ys) → IsClaimed n xs ⊎ IsClaimed n ys
+claimed_either n [] ys h = inr h
+claimed_either n (x ∷ xs) ys (inl is) = inl (inl is)
+claimed_either n (x ∷ xs) ys (inr there) = behind (claimed_either n xs ys there)
+  where
+    behind : IsClaimed n xs ⊎ IsClaimed n ys → IsClaimed n (x ∷ xs) ⊎ IsClaimed n ys
+    behind (inl a) = inl (inr a)
+    behind (inr b) = inr b
 
--- one is there
-record IsToldSoFar (job : ℕ) (books : List Book) (h : Held) (xs : List Told) : Type 0 where
-  pub whose : h.state.work.job ≡ job
-  pub history : HasHistory (seen_of books) xs h
-  pub wrote : WroteAll xs books
+wrote_one : (k : ℕ) (xs : List Told) (bs : List Book) → WroteAll xs bs → IsClaimed (k + 1) (claims_in bs) → IsWritten k xs
+wrote_one k xs [] wrote there = absurd there
+wrote_one k xs (b ∷ bs) wrote there = by_book (claimed_either (k + 1) (b.receipts ++ b.others) (claims_in bs) there) (wrote_one k xs bs wrote.1)
+  where
+    by_book : IsClaimed (k + 1) (b.receipts ++ b.others) ⊎ IsClaimed (k + 1) (claims_in bs) → (IsClaimed (k + 1) (claims_in bs) → IsWritten k xs) → IsWritten k xs
+    by_book (inl here) later = wrote.0 k here
+    by_book (inr behind) later = later behind
 
-abbrev HoldsIn : ℕ → List Book → Option Held → List Told → Type 0
-HoldsIn job books None xs = IsToldAll job books xs
-HoldsIn job books (Some h) xs = IsToldSoFar job books h xs
+same_claims : (n : ℕ) (us : List JournalUnit) → slips.claims_of n us ≡ claims_of n us
+same_claims n [] = refl
+same_claims n (u ∷ us) = ap (λ (cs : List Claim). record { job = job_of u; number = n; unit = u } ∷ cs) (same_claims (n + 1) us)
 
-abbrev Holds : ℕ → SessionsSoFar → List Told → Type 0
-Holds job now xs = HoldsIn job now.books now.session xs
+weigh_books : (h : Claim → ℕ) (bs : List Book) → sum_by h (claims_in bs) ≡ units_weigh h bs
+weigh_books h [] = refl
+weigh_books h (b ∷ bs) =
+    let all = sum_by-append h (b.receipts ++ b.others) (claims_in bs) in
+    let own = sum_by-append h b.receipts b.others in
+    let step = sum_by-cons (λ (p : Book). weigh h p.receipts + weigh h p.others) b bs in
+    all ∙ ((λ i. own i + weigh_books h bs i) ∙ sym step)
 
-none_told : (job : ℕ) → IsToldAll job [] []
-none_told job = record { told = λ log all few. record { history = tt; transaction = finmap.get-empty nat_cmp job }; upto = λ n before. omega arith; wrote = tt }
+all_claims : (log : List JournalUnit) (bs : List Book) → AreAllUnits log bs → AreAllClaims log (claims_in bs)
+all_claims log bs all h = weigh_books h bs ∙ (sym (all h) ∙ ap (sum_by h) (same_claims 1 log))
 
--- a session begins behind the others
-opened_holds : (job : ℕ) (books : List Book) (units : List JournalUnit) (xs : List Told) → AreBefore (length units) books → IsToldAll job books xs → IsToldSoFar job books (held (idle job) None [] [] units) xs
-opened_holds job books units xs before h = record {
-  whose = refl;
-  history = record {
-    told = λ log goes few. h.told log (known_all log books goes.1) few;
-    upto = h.upto (length units) before;
-    standing = record { outside = λ none. refl; inside = λ deep. absurd (omega (arith, deep)) };
-    written = λ k claimed. absurd claimed;
-  };
-  wrote = h.wrote;
-}
-
-module _ (laws : Laws) where
-  between_in : (job : ℕ) (books : List Book) (old new : Option Held) (xs : List Told) → IsBetweenIn job books old new → HoldsIn job books old xs → HoldsIn job books new xs
-  between_in job books None None xs between h = h
-  between_in job books None (Some new) xs between h = subst (λ (x : Held). IsToldSoFar job books x xs) (sym between.2) (opened_holds job books between.0 xs between.1 h)
-  between_in job books (Some old) None xs between h = absurd between
-  between_in job books (Some old) (Some new) xs between h =
-      subst (λ (x : Held). IsToldSoFar job books x xs) (sym between.2) (record { whose = h.whose; history = laws.know (seen_of books) xs between.0 old h.history between.1; wrote = h.wrote })
-
-  between_holds : (job : ℕ) (old new : SessionsSoFar) (xs : List Told) → IsBetween job old new → Holds job old xs → Holds job new xs
-  between_holds job old new xs between h = subst (λ (bs : List Book). HoldsIn job bs new.session xs) (sym between.0) (between_in job old.books old.session new.session xs between.1 h)
-
-  step_in : (job : ℕ) (x : Told) (books : List Book) (old : Option Held) (more : List Book) (new : Option Held) (xs : List Told) → IsStepIn x books old more new → HoldsIn job books old xs → HoldsIn job more new (xs ++ x ∷ [])
-  step_in job x books None more new xs step h = absurd step
-  step_in job x books (Some old) more None xs step h =
-      let closed : HasClosed (seen_of books) (xs ++ x ∷ []) (halted step.0 old) = subst (λ (y : Told). HasClosed (seen_of books) (xs ++ y ∷ []) (halted step.0 old)) (sym step.2) (laws.end (seen_of books) xs step.0 old h.history step.1) in
-      subst (λ (bs : List Book). IsToldAll job bs (xs ++ x ∷ [])) (sym step.3) (record {
-        told = λ log all few.
-            let both = front_all log books (halted step.0 old) all in subst (λ (j : ℕ). IsToldOn log (xs ++ x ∷ []) j None) h.whose (closed.told log (both.1, all_known log books both.0) few);
-        upto = λ n before. omega (arith, closed.upto, last_before n books (halted step.0 old) before);
-        wrote = wrote_push (xs ++ x ∷ []) books (halted step.0 old) (wrote_more xs (x ∷ []) books h.wrote) closed.written;
-      })
-  step_in job x books (Some old) more (Some new) xs step h =
-      let did = step.0 in
-      let done = did.done h.history.standing in
-      let exact = laws.exact did.units x.command x.reply old new done h.history.standing did.goes_on in
-      subst (λ (bs : List Book). IsToldSoFar job bs new (xs ++ x ∷ [])) (sym step.1) (record {
-        whose = exact.job ∙ h.whose;
-        history = subst (λ (y : Told). HasHistory (seen_of books) (xs ++ y ∷ []) new) (sym did.at) (laws.go_on (seen_of books) xs did.units x.command x.reply old new h.history done did.goes_on);
-        wrote = wrote_more xs (x ∷ []) books h.wrote;
-      })
-
-  steps_hold : (job : ℕ) (xs ys : List Told) (old new : SessionsSoFar) → AreSteps job ys old new → Holds job old xs → Holds job new (xs ++ ys)
-  steps_hold job xs [] old new steps h = subst (λ (zs : List Told). Holds job new zs) (sym (append-nil xs)) (between_holds job old new xs steps h)
-  steps_hold job xs (y ∷ ys) old new steps h =
-      let before : Holds job steps.0 xs = between_holds job old steps.0 xs steps.2 h in
-      let after : Holds job steps.1 (xs ++ y ∷ []) = step_in job y steps.0.books steps.0.session steps.1.books steps.1.session xs steps.3 before in
-      subst (λ (zs : List Told). Holds job new zs) (append_assoc xs (y ∷ []) ys) (steps_hold job (xs ++ y ∷ []) ys steps.1 new steps.4 after)
-
-  all_told : (job : ℕ) (books : List Book) (xs : List Told) → AreSteps job xs (sessions_so_far [] None) (sessions_so_far books None) → IsToldAll job books xs
-  all_told job books xs steps = steps_hold job [] xs (sessions_so_far [] None) (sessions_so_far books None) steps (none_told job)
-
--- ---- all jobs
+-- ---- the scripts
 
 all_front : (log : List JournalUnit) (front back : List Book) → All (HasSeenOf log) (front ++ back) → All (HasSeenOf log) front × All (HasSeenOf log) back
 all_front log [] back all = (All-nil (HasSeenOf log), all)
 all_front log (b ∷ bs) back all =
     let rest = all_front log bs back (All-tail (HasSeenOf log) b (bs ++ back) all) in (All-cons (HasSeenOf log) b bs (All-head (HasSeenOf log) b (bs ++ back) all) rest.0, rest.1)
 
--- the jobs of scripts, with what they were told
-record AreJobs (log : List JournalUnit) (ws : List Wanted) (reports : List Answers) (owns : List (List Book)) : Type 0 where
-  pub all : List JobTold
-  pub books_are : books_of all ≡ all_of owns
-  pub told : AreToldOf log all
-  pub others : (job : ℕ) → IsNoJobOf job ws → IsNoneOf job all
-  pub shown : (ys : List Told) → HasStepsOf ys all → AreShownIn ys ws reports
+-- a job's steps are a history, from nothing on
+told_history : (log : List JournalUnit) (job since : ℕ) (books : List Book) (xs : List Told) → Laws → length log < 2 ^ 64 → All (HasSeenOf log) books → AreSteps job xs (none_since since) (sessions_so_far (past since books) None) → IsHistory log job 0 nothing_done xs
+told_history log job since books xs laws few seen steps = ((all_told laws job since books xs steps).told log seen few).history
+
+-- what the scripts' jobs did, behind a load's sessions
+record AreGathered (log : List JournalUnit) (since : ℕ) (ws : List Wanted) (reports : List Answers) (owns : List (List Book)) : Type 0 where
+  pub own : List Told
+  pub shown : AreShownAll ws reports own
+  pub wrote : WroteAll own (all_of owns)
+  pub others : (job : ℕ) → IsNoJobOf job ws → of_job job own ≡ []
+  pub history : (job : ℕ) (front : List Book) (load : List Told) → All (HasSeenOf log) front → AreBefore since front → AreSteps job load (none_since 0) (sessions_so_far (past 0 front) None) → IsHistory log job 0 nothing_done (load ++ of_job job own)
 
 -- one more script
-with_job : (log : List JournalUnit) (w : Wanted) (ws : List Wanted) (report : Answers) (reports : List Answers) (own : List Book) (owns : List (List Book)) (job : Option ℕ) → Laws → length log < 2 ^ 64 → w.job ≡ job → IfSome job (λ j. IsNoJobOf j ws) → All (HasSeenOf log) own
-    → IsReport w report own → HasRunAs w report own → AreJobs log ws reports owns → AreJobs log (w ∷ ws) (report ∷ reports) (own ∷ owns)
-with_job log w ws report reports own owns None laws few is apart seen told run rest = record {
-  all = rest.all;
-  books_are = rest.books_are ∙ ap (λ (bs : List Book). bs ++ all_of owns) (sym no_books);
-  told = rest.told;
-  others = λ job none. rest.others job none.1;
-  shown = λ ys steps. (subst (λ (o : Option ℕ). IfSome o (λ job. AreShownToEnd job (lines_of_script w.text) report.replies (of_job job ys))) (sym is) tt, rest.shown ys steps);
+with_script : (log : List JournalUnit) (since : ℕ) (w : Wanted) (ws : List Wanted) (report : Answers) (reports : List Answers) (books : List Book) (owns : List (List Book)) (job : Option ℕ) → Laws → length log < 2 ^ 64 → w.job ≡ job → IfSome job (λ j. IsNoJobOf j ws) → All (HasSeenOf log) books
+    → IsReport w report → HasRunAs since w report books → AreGathered log since ws reports owns → AreGathered log since (w ∷ ws) (report ∷ reports) (books ∷ owns)
+with_script log since w ws report reports books owns None laws few is apart seen told run rest = record {
+  own = rest.own;
+  shown = ([], rest.own, refl, told, subst (λ (o : Option ℕ). IsShownAs o (lines_of_script w.text) report.replies []) (sym is) (refl, alone.1), rest.shown);
+  wrote = subst (λ (bs : List Book). WroteAll rest.own (bs ++ all_of owns)) (sym alone.0) rest.wrote;
+  others = λ other none. rest.others other none.1;
+  history = rest.history;
 }
   where
-    no_books : own ≡ []
-    no_books = (subst (λ (o : Option ℕ). IsTold o w.text report.replies own) is told.is_told).0
-with_job log w ws report reports own owns (Some job) laws few is apart seen told run rest = record {
-  all = record { job = job; steps = steps.0; books = own } ∷ rest.all;
-  books_are = ap (λ (bs : List Book). own ++ bs) rest.books_are;
-  told = (((on.told log seen few).history, on.wrote), (rest.others job apart, rest.told));
-  others = λ other none. ((λ same. none.0 (is ∙ ap (λ (j : ℕ). Some j) same)), rest.others other none.1);
-  shown = λ ys each. (
-    subst (λ (o : Option ℕ). IfSome o (λ j. AreShownToEnd j (lines_of_script w.text) report.replies (of_job j ys))) (sym is) (subst (AreShownToEnd job (lines_of_script w.text) report.replies) (sym each.0) steps.1),
-    rest.shown ys each.1,
-  );
+    alone : HasRunScript since None w.text report.replies books
+    alone = subst (λ (o : Option ℕ). HasRunScript since o w.text report.replies books) is run
+with_script log since w ws report reports books owns (Some job) laws few is apart seen told run rest = record {
+  own = xs ++ rest.own;
+  shown = (xs, rest.own, refl, told, subst (λ (o : Option ℕ). IsShownAs o (lines_of_script w.text) report.replies xs) (sym is) (of_one, did.1), rest.shown);
+  wrote = wrote_all xs rest.own books (all_of owns) (all_told laws job since books xs did.2).wrote rest.wrote;
+  others = λ other none. of_append other xs rest.own ∙ (λ i. other_none job other xs of_one (λ same. none.0 (is ∙ ap (λ (j : ℕ). Some j) same)) i ++ rest.others other none.1 i);
+  history = λ other front load known before steps. by_job other front load known before steps (same_or_not other job);
 }
   where
-    steps : (xs : List Told) × AreShownToEnd job (lines_of_script w.text) report.replies xs × AreSteps job xs (sessions_so_far [] None) (sessions_so_far own None)
-    steps = subst (λ (o : Option ℕ). HasRunScript o w.text report.replies own) is run
+    did : HasRunScript since (Some job) w.text report.replies books
+    did = subst (λ (o : Option ℕ). HasRunScript since o w.text report.replies books) is run
 
-    on : IsToldAll job own steps.0
-    on = all_told laws job own steps.0 steps.2
+    xs : List Told
+    xs = did.0
 
-all_jobs : (log : List JournalUnit) (ws : List Wanted) (reports : List Answers) (owns : List (List Book)) → Laws → length log < 2 ^ 64 → AreApart ws → All (HasSeenOf log) (all_of owns) → AreReports ws reports owns → HaveRun ws reports owns → AreJobs log ws reports owns
-all_jobs log [] [] [] laws few apart seen told run = record { all = []; books_are = refl; told = tt; others = λ job none. tt; shown = λ ys steps. tt }
-all_jobs log [] [] (own ∷ owns) laws few apart seen told run = absurd told
-all_jobs log [] (report ∷ reports) owns laws few apart seen told run = absurd told
-all_jobs log (w ∷ ws) [] owns laws few apart seen told run = absurd told
-all_jobs log (w ∷ ws) (report ∷ reports) [] laws few apart seen told run = absurd told
-all_jobs log (w ∷ ws) (report ∷ reports) (own ∷ owns) laws few apart seen told run =
-    let both = all_front log own (all_of owns) seen in with_job log w ws report reports own owns w.job laws few refl apart.0 both.0 told.0 run.0 (all_jobs log ws reports owns laws few apart.1 both.1 told.1 run.1)
+    of_one : AreOfJob job xs
+    of_one = of_history log job 0 nothing_done xs (told_history log job since books xs laws few seen did.2)
 
-pub is_run : (log ended : List JournalUnit) (settings : List Setting) (ws : List Wanted) (reports : List Answers) (owns : List (List Book)) → Laws → length log < 2 ^ 64 → AreApart ws → IsLoadApart settings ws → All (HasSeenOf log) (with_load ended settings owns) → AreAllUnits log (with_load ended settings owns)
-    → AreReports ws reports owns → HaveRun ws reports owns → HasRunLoad settings (load_books ended settings) → IsRun settings ws reports log
-is_run log ended [] ws reports owns laws few apart load seen units told run loaded =
-    let jobs = all_jobs log ws reports owns laws few apart seen told run in
-    let one = laws.one_run log jobs.all jobs.told (subst (AreAllUnits log) (sym jobs.books_are) units) in
-    record { steps = one.0; is_run = one.2; loaded = tt; shown = jobs.shown one.0 one.1 }
-is_run log ended (s ∷ ss) ws reports owns laws few apart load seen units told run loaded =
+    -- the job's own are all these
+    own_here : of_job job (xs ++ rest.own) ≡ xs
+    own_here = of_append job xs rest.own ∙ ((λ i. own_all job xs of_one i ++ rest.others job apart i) ∙ append-nil xs)
+
+    by_job : (other : ℕ) (front : List Book) (load : List Told) → All (HasSeenOf log) front → AreBefore since front → AreSteps other load (none_since 0) (sessions_so_far (past 0 front) None) → (job ≡ other) ⊎ (other ≡ job → ⊥) → IsHistory log other 0 nothing_done (load ++ of_job other (xs ++ rest.own))
+    by_job other front load known before steps (inl same) =
+        subst (λ (j : ℕ). IsHistory log j 0 nothing_done (load ++ of_job j (xs ++ rest.own))) same
+        (subst (λ (zs : List Told). IsHistory log job 0 nothing_done (load ++ zs)) (sym own_here)
+        (told_history log job 0 (front ++ books) (load ++ xs) laws few (All-append (HasSeenOf log) front books known seen)
+        (joined_steps job since front books load xs before (subst (λ (j : ℕ). AreSteps j load (none_since 0) (sessions_so_far (past 0 front) None)) (sym same) steps) did.2)))
+    by_job other front load known before steps (inr differs) =
+        subst (λ (zs : List Told). IsHistory log other 0 nothing_done (load ++ zs)) (sym (of_append other xs rest.own ∙ ap (λ (zs : List Told). zs ++ of_job other rest.own) (other_none job other xs of_one (λ e. differs (sym e)))))
+        (rest.history other front load known before steps)
+
+gathered : (log : List JournalUnit) (since : ℕ) (ws : List Wanted) (reports : List Answers) (owns : List (List Book)) → Laws → length log < 2 ^ 64 → AreApart ws → All (HasSeenOf log) (all_of owns) → HaveRun since ws reports owns → AreGathered log since ws reports owns
+gathered log since [] [] [] laws few apart seen run = record {
+  own = [];
+  shown = refl;
+  wrote = tt;
+  others = λ job none. refl;
+  history = λ job front load known before steps. subst (IsHistory log job 0 nothing_done) (sym (append-nil load)) (told_history log job 0 front load laws few known steps);
+}
+gathered log since [] [] (own ∷ owns) laws few apart seen run = absurd run
+gathered log since [] (report ∷ reports) owns laws few apart seen run = absurd run
+gathered log since (w ∷ ws) [] owns laws few apart seen run = absurd run
+gathered log since (w ∷ ws) (report ∷ reports) [] laws few apart seen run = absurd run
+gathered log since (w ∷ ws) (report ∷ reports) (own ∷ owns) laws few apart seen run =
+    let both = all_front log own (all_of owns) seen in with_script log since w ws report reports own owns w.job laws few refl apart.0 both.0 run.0.0 run.0.1 (gathered log since ws reports owns laws few apart.1 both.1 run.1)
+
+-- ---- behind a load
+
+run_behind : (log : List JournalUnit) (since : ℕ) (settings : List Setting) (front : List Book) (load : List Told) (ws : List Wanted) (reports : List Answers) (owns : List (List Book)) → Laws → length log < 2 ^ 64 → AreBefore since front → All (HasSeenOf log) front → AreAllUnits log (front ++ all_of owns)
+    → AreSteps 1 load (none_since 0) (sessions_so_far (past 0 front) None) → IsLoadedBy settings load → AreGathered log since ws reports owns → IsRun settings ws reports log
+run_behind log since settings front load ws reports owns laws few before seen units steps loaded g =
+    let one = one_interleaving log (load ++ g.own) (λ job. history job (same_or_not job 1)) written in
+    record { load = load; own = g.own; steps = one.0; loaded = loaded; shown = g.shown; in_order = one.1; is_run = one.2 }
+  where
+    of_first : AreOfJob 1 load
+    of_first = of_history log 1 0 nothing_done load (told_history log 1 0 front load laws few seen steps)
+
+    written : AreWritten log 0 (load ++ g.own)
+    written = λ k from less.
+        wrote_one k (load ++ g.own) (front ++ all_of owns) (wrote_all load g.own front (all_of owns) (all_told laws 1 0 front load steps).wrote g.wrote)
+        (each_is_claimed log (claims_in (front ++ all_of owns)) (all_claims log (front ++ all_of owns) units) k less)
+
+    history : (job : ℕ) → (1 ≡ job) ⊎ (job ≡ 1 → ⊥) → IsHistory log job 0 nothing_done (of_job job (load ++ g.own))
+    history job (inl same) =
+        subst (λ (j : ℕ). IsHistory log j 0 nothing_done (of_job j (load ++ g.own))) same
+        (subst (IsHistory log 1 0 nothing_done) (sym (of_append 1 load g.own ∙ ap (λ (zs : List Told). zs ++ of_job 1 g.own) (own_all 1 load of_first))) (g.history 1 front load seen before steps))
+    history job (inr differs) =
+        subst (IsHistory log job 0 nothing_done) (sym (of_append job load g.own ∙ ap (λ (zs : List Told). zs ++ of_job job g.own) (other_none 1 job load of_first (λ e. differs (sym e)))))
+        (g.history job [] [] (All-nil (HasSeenOf log)) tt (refl, tt))
+
+pub is_run : (log ended : List JournalUnit) (since : ℕ) (settings : List Setting) (ws : List Wanted) (reports : List Answers) (owns : List (List Book)) → Laws → length log < 2 ^ 64 → AreApart ws → AreBefore since (load_books ended settings) → All (HasSeenOf log) (load_books ended settings ++ all_of owns)
+    → AreAllUnits log (load_books ended settings ++ all_of owns) → HaveRun since ws reports owns → HasRunLoad settings (load_books ended settings) → IsRun settings ws reports log
+is_run log ended since [] ws reports owns laws few apart before seen units run loaded =
+    run_behind log since [] [] [] ws reports owns laws few tt (All-nil (HasSeenOf log)) units (refl, tt) refl (gathered log since ws reports owns laws few apart seen run)
+is_run log ended since (s ∷ ss) ws reports owns laws few apart before seen units run loaded =
     let front : List Book = load_books ended (s ∷ ss) in
     let both = all_front log front (all_of owns) seen in
-    let jobs = all_jobs log ws reports owns laws few apart both.1 told run in
-    let on : IsToldAll 1 front loaded.0 = all_told laws 1 front loaded.0 loaded.2 in
-    let first : JobTold = record { job = 1; steps = loaded.0; books = front } in
-    let one = laws.one_run log (first ∷ jobs.all) (((on.told log both.0 few).history, on.wrote), (jobs.others 1 load, jobs.told)) (subst (λ (bs : List Book). AreAllUnits log (front ++ bs)) (sym jobs.books_are) units) in
-    record { steps = one.0; is_run = one.2; loaded = subst (AreLoadSteps (s ∷ ss)) (sym one.1.0) loaded.1; shown = jobs.shown one.0 one.1.1 }
+    run_behind log since (s ∷ ss) front loaded.0 ws reports owns laws few before both.0 units loaded.2 (of_history log 1 0 nothing_done loaded.0 (told_history log 1 0 front loaded.0 laws few both.0 loaded.2), loaded.1)
+    (gathered log since ws reports owns laws few apart both.1 run)

@@ -2,7 +2,7 @@
 use denote.RattleType.{RattleType}
 use denote.Param.Send.{IsSend, sendable}
 use Rattle.std.proofs.Crossing as heap
-use Rattle.pin_board.specs.declared.board.BoardName.{Ghosts as BoardGhosts}
+use Rattle.shared_engine.specs.declared.name.BoardName.{Ghosts as BoardGhosts}
 use Rattle.shared_engine.proofs.session.Pass.TheSendSync as pass
 use Rattle.job_scripts.specs.contracts.report.Report as Report
 use Rattle.job_server.specs.declared.worker.Batch.{Ghosts as BatchGhosts}

@@ -33,7 +33,7 @@ use Rattle.shared_engine.specs.Steps.{reply_at_end}
 use Rattle.shared_engine.specs.laws.Prefixes.{begins_itself}
 use Rattle.job_server.specs.Replying.{written_as, ended_as}
 use Rattle.job_server.specs.Steps.{IsDoneOnce, WasDoneBy}
-use Rattle.job_server.specs.Telling.{HasLocked}
+use Rattle.job_server.specs.Telling.{HasLocked, BeganAnew}
 
 -- the same reply
 pub done_as : (command : Command) (a reply : Reply) (old new : Held) → WasDoneBy command a old new → reply ≡ a → WasDoneBy command reply old new
@@ -142,7 +142,7 @@ tried_twice command result old new h = inr (command, refl, h.0, tried_once comma
 pub locked_stepped : (command : LockCommand) (result : Result Bool Refusal) (old new : Held) → HasLocked command result old new → WasDoneBy (lock_command command) (said (told_had command) result) old new
 locked_stepped command (Ok true) old new (inl h) = inl (tried_once command (Ok true) old new h)
 locked_stepped command (Ok true) old new (inr h) = tried_twice command (Ok true) old new h
-locked_stepped command (Ok false) old new h = inl (tried_once command (Ok false) old new h.1)
+locked_stepped command (Ok false) old new h = inl (tried_once command (Ok false) old new h)
 locked_stepped command (Err refusal) old new (inl h) = inl (tried_once command (Err refusal) old new h)
 locked_stepped command (Err refusal) old new (inr h) = tried_twice command (Err refusal) old new h
 
@@ -193,6 +193,9 @@ no_rollback_stepped old new none same =
 
 pub restart_stepped : (result : Result ℕ Refusal) (old new : Held) → 1 ≤ old.state.level → ((units : List JournalUnit) × IsBeginning units old.seen × IsRestarted result units new.seen old new) → WasDoneBy Restart (said restarted_reply result) old new
 restart_stepped result old new one h = by_block Restart (said restarted_reply result) h.0 old new h.1 (result, refl, (λ none. absurd (omega (arith, none, one))), (λ deep. h.2))
+
+pub restart_of : (result : Result ℕ Refusal) (restarts : ℕ) (old new : Held) → 1 ≤ old.state.level → ((units : List JournalUnit) × IsBeginning units old.seen × IsRestarted result units new.seen old new) → result ≡ Ok restarts → BeganAnew old new
+restart_of result restarts old new one h is = (restarts, subst (λ (r : Result ℕ Refusal). WasDoneBy Restart (said restarted_reply r) old new) is (restart_stepped result old new one h))
 
 pub no_restart_stepped : (old new : Held) → old.state.level ≡ 0 → new ≡ old → WasDoneBy Restart (Refused NoTransaction) old new
 no_restart_stepped old new none same =

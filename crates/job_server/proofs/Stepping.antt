@@ -1,5 +1,5 @@
 -- Steps of a job, one behind the other, and how replies show them.
-use Rattle.std.proofs.Common.{◌≡◌, ◌⊎◌, inl, inr, ℕ, ◌+◌, ◌≤◌, List, [], ◌∷◌, ◌++◌, length, get_or, false, refl, sym, ap, ◌∙◌, subst, arith, append_assoc, append-nil}
+use Rattle.std.proofs.Common.{◌≡◌, ◌⊎◌, inl, inr, ℕ, ◌+◌, ◌≤◌, List, [], ◌∷◌, ◌++◌, length, get_or, true, false, refl, sym, ap, ◌∙◌, subst, arith, append_assoc, append-nil}
 use Rattle.std.specs.Prelude.{⊤, Bool, Option, Some, None}
 use Rattle.std.specs.List.{All}
 use Rattle.std.proofs.lemmas.List.Elements.{All-nil, All-cons, All-push, All-append, All-same}
@@ -18,14 +18,14 @@ use Rattle.pin_board.specs.Slips.{IsBeginning}
 use Rattle.shared_engine.specs.Receipts.{Book}
 use Rattle.shared_engine.specs.Sessions.{Held, held, knowing, halted}
 use Rattle.shared_engine.specs.Steps.{step_at}
-use Rattle.shared_engine.specs.Blocks.{HasDone, AreDone}
+use Rattle.shared_engine.specs.Blocks.{HasDone, AreDone, is_blocked, AreHad}
 use Rattle.shared_engine.specs.laws.Prefixes.{begins_itself, begins_through}
 use Rattle.shared_engine.specs.laws.Seen.{done_seen}
-use Rattle.job_scripts.specs.Blocks.{in_place, AreAsked, AreInFront}
+use Rattle.job_scripts.specs.Blocks.{in_place, AreAsked, AreMusts, AreInFront}
 use Rattle.job_scripts.specs.Lines.{Asks}
-use Rattle.job_server.specs.Steps.{SessionsSoFar, sessions_so_far, KnowsMore, IsDoneOnce, WasDoneBy, AreBefore, IsBetweenIn, IsBetween, AreSteps, HasDoneSteps, IsNoStep, MayWait, IsReplied, IsShownBy, OneAsks, IsOfTry, EndAnew, AreTries, AreShown, AreShownToEnd}
-use Rattle.job_server.specs.Told.{OneAsksFor}
-use Rattle.job_server.proofs.Asking.{one_command}
+use Rattle.job_scripts.specs.Timeouts.{timeout_in}
+use Rattle.job_server.specs.Steps.{Past, and_book, SessionsSoFar, sessions_so_far, KnowsMore, IsDoneOnce, WasDoneBy, AreBefore, IsOver, IsBetweenIn, IsBetween, AreSteps, HasDoneSteps, IsNoStep, MayWait, IsReplied, IsHad, IsShownBy, OneAsks, IsOfTry, EndAnew, AreTries, AreShown, AreShownToEnd}
+use Rattle.job_server.proofs.Lasting.{no_restart}
 
 -- ---- between two steps
 
@@ -39,43 +39,43 @@ knows_through a b c first second = (
   second.2 ∙ ap (λ (h : Held). knowing second.0 h) first.2,
 )
 
-before_more : (n m : ℕ) (books : List Book) → n ≤ m → AreBefore n books → AreBefore m books
+pub before_more : (n m : ℕ) (books : List Book) → n ≤ m → AreBefore n books → AreBefore m books
 before_more n m [] more before = tt
 before_more n m (b ∷ bs) more before = (omega (arith, more, before.0), before_more n m bs more before.1)
 
-between_itself : (job : ℕ) (books : List Book) (session : Option Held) → IsBetweenIn job books session session
-between_itself job books None = tt
-between_itself job books (Some h) = knows_itself h
+between_itself : (job : ℕ) (p : Past) (session : Option Held) → IsBetweenIn job p session session
+between_itself job p None = tt
+between_itself job p (Some h) = knows_itself h
 
-between_in : (job : ℕ) (books : List Book) (a b c : Option Held) → IsBetweenIn job books a b → IsBetweenIn job books b c → IsBetweenIn job books a c
-between_in job books None None None first second = tt
-between_in job books None None (Some z) first second = second
-between_in job books None (Some y) None first second = absurd second
-between_in job books None (Some y) (Some z) first second =
+between_in : (job : ℕ) (p : Past) (a b c : Option Held) → IsBetweenIn job p a b → IsBetweenIn job p b c → IsBetweenIn job p a c
+between_in job p None None None first second = tt
+between_in job p None None (Some z) first second = second
+between_in job p None (Some y) None first second = absurd second
+between_in job p None (Some y) (Some z) first second =
     let knows : IsBeginning second.0 first.0 = subst (λ (h : Held). IsBeginning second.0 h.seen) first.2 second.1 in
-    (second.0, before_more (length first.0) (length second.0) books knows.within first.1, second.2 ∙ ap (λ (h : Held). knowing second.0 h) first.2)
-between_in job books (Some x) None c first second = absurd first
-between_in job books (Some x) (Some y) None first second = absurd second
-between_in job books (Some x) (Some y) (Some z) first second = knows_through x y z first second
+    (second.0, (omega (arith, first.1.0, knows.within), before_more (length first.0) (length second.0) p.books knows.within first.1.1), second.2 ∙ ap (λ (h : Held). knowing second.0 h) first.2)
+between_in job p (Some x) None c first second = absurd first
+between_in job p (Some x) (Some y) None first second = absurd second
+between_in job p (Some x) (Some y) (Some z) first second = knows_through x y z first second
 
 between_then : (job : ℕ) (a b c : SessionsSoFar) → IsBetween job a b → IsBetween job b c → IsBetween job a c
-between_then job a b c first second = (second.0 ∙ first.0, between_in job a.books a.session b.session c.session first.1 (subst (λ (bs : List Book). IsBetweenIn job bs b.session c.session) first.0 second.1))
+between_then job a b c first second = (second.0 ∙ first.0, between_in job a.past a.session b.session c.session first.1 (subst (λ (q : Past). IsBetweenIn job q b.session c.session) first.0 second.1))
 
 -- nothing has changed
-pub between_same : (job : ℕ) (books more : List Book) (session later : Option Held) → more ≡ books → later ≡ session → IsBetween job (sessions_so_far books session) (sessions_so_far more later)
-between_same job books more session later same is = (same, subst (λ (o : Option Held). IsBetweenIn job books session o) (sym is) (between_itself job books session))
+pub between_same : (job : ℕ) (p more : Past) (session later : Option Held) → more ≡ p → later ≡ session → IsBetween job (sessions_so_far p session) (sessions_so_far more later)
+between_same job p more session later same is = (same, subst (λ (o : Option Held). IsBetweenIn job p session o) (sym is) (between_itself job p session))
 
 -- a session has seen more, or begins
-pub between_knowing : (job : ℕ) (books : List Book) (units : List JournalUnit) (h : Held) → IsBeginning units h.seen → IsBetween job (sessions_so_far books (Some h)) (sessions_so_far books (Some (knowing units h)))
-between_knowing job books units h goes_on = (refl, (units, goes_on, refl))
+pub between_knowing : (job : ℕ) (p : Past) (units : List JournalUnit) (h : Held) → IsBeginning units h.seen → IsBetween job (sessions_so_far p (Some h)) (sessions_so_far p (Some (knowing units h)))
+between_knowing job p units h goes_on = (refl, (units, goes_on, refl))
 
-pub between_opened : (job : ℕ) (books : List Book) (units : List JournalUnit) → AreBefore (length units) books → IsBetween job (sessions_so_far books None) (sessions_so_far books (Some (held (idle job) None [] [] units)))
-between_opened job books units before = (refl, (units, before, refl))
+pub between_opened : (job : ℕ) (p : Past) (units : List JournalUnit) → IsOver p (length units) → IsBetween job (sessions_so_far p None) (sessions_so_far p (Some (held (idle job) None [] [] units)))
+between_opened job p units before = (refl, (units, before, refl))
 
 -- ---- steps behind others
 
 pub no_steps : (job : ℕ) (now : SessionsSoFar) → AreSteps job [] now now
-no_steps job now = (refl, between_itself job now.books now.session)
+no_steps job now = (refl, between_itself job now.past now.session)
 
 pub steps_behind : (job : ℕ) (xs : List Told) (a b c : SessionsSoFar) → IsBetween job a b → AreSteps job xs b c → AreSteps job xs a c
 steps_behind job [] a b c first second = between_then job a b c first second
@@ -98,32 +98,32 @@ shows_other shows other job old new each h = (h.0, each h.0 h.1, h.2)
 -- ---- a call of a session
 
 -- it is a step of the job
-one_step : (job : ℕ) (books : List Book) (command : Command) (reply : Reply) (old new : Held) → IsDoneOnce command reply old new → (x : Told) × ((x.command ≡ command) × (x.reply ≡ reply)) × AreSteps job (x ∷ []) (sessions_so_far books (Some old)) (sessions_so_far books (Some new))
-one_step job books command reply old new h =
+one_step : (job : ℕ) (p : Past) (command : Command) (reply : Reply) (old new : Held) → IsDoneOnce command reply old new → (x : Told) × ((x.command ≡ command) × (x.reply ≡ reply)) × AreSteps job (x ∷ []) (sessions_so_far p (Some old)) (sessions_so_far p (Some new))
+one_step job p command reply old new h =
     let x : Told = step_at old.state.work.job command reply h.0 (length new.seen) in (
       x,
       (refl, refl),
-      (sessions_so_far books (Some old), sessions_so_far books (Some new), (refl, knows_itself old), (record { units = h.0; goes_on = h.1; at = refl; done = h.2 }, refl), (refl, knows_itself new)),
+      (sessions_so_far p (Some old), sessions_so_far p (Some new), (refl, knows_itself old), (record { units = h.0; goes_on = h.1; at = refl; done = h.2 }, refl), (refl, knows_itself new)),
     )
 
 -- a call of no LOCK
-pub one_call : (job : ℕ) (books : List Book) (command : DataCommand) (reply : Reply) (old new : Held) → WasDoneBy (Access command) reply old new → (x : Told) × ((x.command ≡ Access command) × (x.reply ≡ reply)) × AreSteps job (x ∷ []) (sessions_so_far books (Some old)) (sessions_so_far books (Some new))
-one_call job books command reply old new (inl once) = one_step job books (Access command) reply old new once
-one_call job books command reply old new (inr twice) = absurd (no_lock twice.0 twice.1)
+pub one_call : (job : ℕ) (p : Past) (command : DataCommand) (reply : Reply) (old new : Held) → WasDoneBy (Access command) reply old new → (x : Told) × ((x.command ≡ Access command) × (x.reply ≡ reply)) × AreSteps job (x ∷ []) (sessions_so_far p (Some old)) (sessions_so_far p (Some new))
+one_call job p command reply old new (inl once) = one_step job p (Access command) reply old new once
+one_call job p command reply old new (inr twice) = absurd (no_lock twice.0 twice.1)
   where
     no_lock : (c : LockCommand) → Access command ≡ lock_command c → ⊥
     no_lock c is = absurd (cc)
 
-pub call_steps : (job : ℕ) (books : List Book) (command : Command) (reply : Reply) (old new : Held) → WasDoneBy command reply old new → HasDoneSteps (IsReplied command reply) job (sessions_so_far books (Some old)) (sessions_so_far books (Some new))
-call_steps job books command reply old new (inl once) =
-    let step = one_step job books command reply old new once in
+pub call_steps : (job : ℕ) (p : Past) (command : Command) (reply : Reply) (old new : Held) → WasDoneBy command reply old new → HasDoneSteps (IsReplied command reply) job (sessions_so_far p (Some old)) (sessions_so_far p (Some new))
+call_steps job p command reply old new (inl once) =
+    let step = one_step job p command reply old new once in
     (step.0 ∷ [], record { before = []; last = step.0; steps = refl; waits = tt; command_is = step.1.0; reply_is = step.1.1 }, step.2)
-call_steps job books command reply old new (inr twice) =
-    let first = one_step job books command (told_had twice.0 false) old twice.2 twice.3 in
-    let second = one_step job books command reply twice.2 new twice.4 in (
+call_steps job p command reply old new (inr twice) =
+    let first = one_step job p command (told_had twice.0 false) old twice.2 twice.3 in
+    let second = one_step job p command reply twice.2 new twice.4 in (
       first.0 ∷ (second.0 ∷ []),
       record { before = first.0 ∷ []; last = second.0; steps = refl; waits = ((first.1.0, twice.0, twice.1, first.1.1), refl); command_is = second.1.0; reply_is = second.1.1 },
-      steps_then job (first.0 ∷ []) (second.0 ∷ []) (sessions_so_far books (Some old)) (sessions_so_far books (Some twice.2)) (sessions_so_far books (Some new)) first.2 second.2,
+      steps_then job (first.0 ∷ []) (second.0 ∷ []) (sessions_so_far p (Some old)) (sessions_so_far p (Some twice.2)) (sessions_so_far p (Some new)) first.2 second.2,
     )
 
 -- ---- a block
@@ -137,59 +137,66 @@ AreStepsFor (command ∷ commands) [] xs = ⊥
 AreStepsFor (command ∷ commands) (reply ∷ replies) [] = ⊥
 AreStepsFor (command ∷ commands) (reply ∷ replies) (x ∷ xs) = ((x.command ≡ command) × (x.reply ≡ reply)) × AreStepsFor commands replies xs
 
-pub block_steps : (job : ℕ) (books : List Book) (commands : List Command) (replies : List Reply) (units more : List JournalUnit) (old new : Held) → old.seen ≡ units → AreDone commands replies units more old new
-    → HasDoneSteps (AreStepsFor commands replies) job (sessions_so_far books (Some old)) (sessions_so_far books (Some new))
-block_steps job books [] [] units more old new seen done = ([], tt, between_same job books books (Some old) (Some new) refl (ap (λ (h : Held). Some h) done.1))
-block_steps job books [] (reply ∷ replies) units more old new seen done = absurd done
-block_steps job books (command ∷ commands) [] units more old new seen done = absurd done
-block_steps job books (command ∷ commands) (reply ∷ replies) units more old new seen done =
+pub block_steps : (job : ℕ) (p : Past) (commands : List Command) (replies : List Reply) (units more : List JournalUnit) (old new : Held) → old.seen ≡ units → AreDone commands replies units more old new
+    → HasDoneSteps (AreStepsFor commands replies) job (sessions_so_far p (Some old)) (sessions_so_far p (Some new))
+block_steps job p [] [] units more old new seen done = ([], tt, between_same job p p (Some old) (Some new) refl (ap (λ (h : Held). Some h) done.1))
+block_steps job p [] (reply ∷ replies) units more old new seen done = absurd done
+block_steps job p (command ∷ commands) [] units more old new seen done = absurd done
+block_steps job p (command ∷ commands) (reply ∷ replies) units more old new seen done =
     let middle : Held = done.1 in
     let now : middle.seen ≡ done.0 = done_seen command reply units done.0 old middle done.2 seen in
     let here : HasDone command reply units middle.seen old middle = subst (λ (us : List JournalUnit). HasDone command reply units us old middle) (sym now) done.2 in
     let goes_on : IsBeginning units old.seen = subst (λ (us : List JournalUnit). IsBeginning us old.seen) seen (begins_itself old.seen) in
-    let first = one_step job books command reply old middle (units, goes_on, λ stands. inl here) in
-    let rest = block_steps job books commands replies done.0 more middle new now done.3 in
-    (first.0 ∷ rest.0, (first.1, rest.1), steps_then job (first.0 ∷ []) rest.0 (sessions_so_far books (Some old)) (sessions_so_far books (Some middle)) (sessions_so_far books (Some new)) first.2 rest.2)
+    let first = one_step job p command reply old middle (units, goes_on, λ stands. inl here) in
+    let rest = block_steps job p commands replies done.0 more middle new now done.3 in
+    (first.0 ∷ rest.0, (first.1, rest.1), steps_then job (first.0 ∷ []) rest.0 (sessions_so_far p (Some old)) (sessions_so_far p (Some middle)) (sessions_so_far p (Some new)) first.2 rest.2)
+
+-- a LOCK without a timeout has its names
+had_where : (line : List ℕ) (must : Bool) (reply : Reply) → (timeout_in line ≡ None → must ≡ true) → is_blocked must reply ≡ false → IsHad line reply
+had_where line must reply timed had none = subst (λ (b : Bool). is_blocked b reply ≡ false) (timed none) had
+
+-- no try
+no_tries : (job : ℕ) (all : List (List ℕ)) → AreTries job all []
+no_tries job all = record { asked = All-nil (IsOfTry job all); anew = tt }
 
 -- the lines that ask for the commands show them
-pub block_shown : (job : ℕ) (all lines : List (List ℕ)) (places : List (Option Refusal)) (commands : List Command) (replies : List Reply) (xs : List Told) → AreAsked job lines places commands → AreStepsFor commands replies xs → AreShown job all lines (in_place places replies) xs
-block_shown job all [] [] [] [] [] asked steps = refl
-block_shown job all [] [] [] [] (x ∷ xs) asked steps = absurd steps
-block_shown job all [] [] [] (reply ∷ replies) xs asked steps = absurd steps
-block_shown job all [] [] (command ∷ commands) replies xs asked steps = absurd asked
-block_shown job all [] (place ∷ places) commands replies xs asked steps = absurd asked
-block_shown job all (line ∷ lines) [] commands replies xs asked steps = absurd asked
-block_shown job all (line ∷ lines) (Some refusal ∷ places) commands replies xs asked steps =
-    ([], [], xs, refl, inl (refusal, asked.0, refl, refl), inr refl, record { asked = All-nil (IsOfTry job all); anew = tt }, block_shown job all lines places commands replies xs asked.1 steps)
-block_shown job all (line ∷ lines) (None ∷ places) [] replies xs asked steps = absurd asked
-block_shown job all (line ∷ lines) (None ∷ places) (command ∷ commands) [] xs asked steps = absurd steps
-block_shown job all (line ∷ lines) (None ∷ places) (command ∷ commands) (reply ∷ replies) [] asked steps = absurd steps
-block_shown job all (line ∷ lines) (None ∷ places) (command ∷ commands) (reply ∷ replies) (x ∷ xs) asked steps = (
+pub block_shown : (job : ℕ) (left lines : List (List ℕ)) (places : List (Option Refusal)) (commands : List Command) (musts : List Bool) (replies : List Reply) (units more : List JournalUnit) (old new : Held) (xs : List Told)
+    → AreAsked job lines places commands → AreMusts lines places musts → AreDone commands replies units more old new → AreHad musts replies → AreStepsFor commands replies xs → AreShown job left lines (in_place places replies) xs
+block_shown job left [] [] [] musts [] units more old new [] asked timed done had steps = refl
+block_shown job left [] [] [] musts [] units more old new (x ∷ xs) asked timed done had steps = absurd steps
+block_shown job left [] [] [] musts (reply ∷ replies) units more old new xs asked timed done had steps = absurd steps
+block_shown job left [] [] (command ∷ commands) musts replies units more old new xs asked timed done had steps = absurd asked
+block_shown job left [] (place ∷ places) commands musts replies units more old new xs asked timed done had steps = absurd asked
+block_shown job left (line ∷ lines) [] commands musts replies units more old new xs asked timed done had steps = absurd asked
+block_shown job left (line ∷ lines) (Some refusal ∷ places) commands musts replies units more old new xs asked timed done had steps =
+    ([], [], xs, refl, inl (refusal, asked.0, refl, refl), inr refl, no_tries job (lines ++ left), block_shown job left lines places commands musts replies units more old new xs asked.1 timed done had steps)
+block_shown job left (line ∷ lines) (None ∷ places) [] musts replies units more old new xs asked timed done had steps = absurd asked
+block_shown job left (line ∷ lines) (None ∷ places) (command ∷ commands) [] replies units more old new xs asked timed done had steps = absurd timed
+block_shown job left (line ∷ lines) (None ∷ places) (command ∷ commands) (must ∷ musts) [] units more old new xs asked timed done had steps = absurd steps
+block_shown job left (line ∷ lines) (None ∷ places) (command ∷ commands) (must ∷ musts) (reply ∷ replies) units more old new [] asked timed done had steps = absurd steps
+block_shown job left (line ∷ lines) (None ∷ places) (command ∷ commands) (must ∷ musts) (reply ∷ replies) units more old new (x ∷ xs) asked timed done had steps = (
   x ∷ [],
   [],
   xs,
   refl,
-  inr (command, asked.0, record { before = []; last = x; steps = refl; waits = tt; command_is = steps.0.0; reply_is = steps.0.1 }),
+  inr (command, asked.0, had_where line must reply timed.0 had.0, no_restart command reply units done.0 old done.1 done.2, record { before = []; last = x; steps = refl; waits = tt; command_is = steps.0.0; reply_is = steps.0.1 }),
   inr refl,
-  record { asked = All-nil (IsOfTry job all); anew = tt },
-  block_shown job all lines places commands replies xs asked.1 steps.1,
+  no_tries job (lines ++ left),
+  block_shown job left lines places commands musts replies done.0 more done.1 new xs asked.1 timed.1 done.3 had.1 steps.1,
 )
 
 -- ---- lines that are shown
 
-no_tries : (job : ℕ) (all : List (List ℕ)) → AreTries job all []
-no_tries job all = record { asked = All-nil (IsOfTry job all); anew = tt }
-
 -- one line
-pub line_shown : (job : ℕ) (all : List (List ℕ)) (line : List ℕ) (reply : Reply) (xs : List Told) → IsShownBy job line reply xs → AreShown job all (line ∷ []) (reply ∷ []) xs
-line_shown job all line reply xs shown = (xs, [], [], sym (append-nil xs), shown, inr refl, no_tries job all, refl)
+pub line_shown : (job : ℕ) (left : List (List ℕ)) (line : List ℕ) (reply : Reply) (xs : List Told) → IsShownBy job line reply xs → AreShown job left (line ∷ []) (reply ∷ []) xs
+line_shown job left line reply xs shown = (xs, [], [], sym (append-nil xs), shown, inr refl, no_tries job left, refl)
 
 -- lines behind others
-pub shown_then : (job : ℕ) (all front back : List (List ℕ)) (replies more : List Reply) (xs ys : List Told) → AreShown job all front replies xs → AreShown job all back more ys → AreShown job all (front ++ back) (replies ++ more) (xs ++ ys)
-shown_then job all [] back [] more xs ys first second = subst (λ (zs : List Told). AreShown job all back more (zs ++ ys)) (sym first) second
-shown_then job all [] back (reply ∷ replies) more xs ys first second = absurd first
-shown_then job all (line ∷ front) back [] more xs ys first second = absurd first
-shown_then job all (line ∷ front) back (reply ∷ replies) more xs ys first second =
+shown_then : (job : ℕ) (left front back : List (List ℕ)) (replies more : List Reply) (xs ys : List Told) → AreShown job (back ++ left) front replies xs → AreShown job left back more ys → AreShown job left (front ++ back) (replies ++ more) (xs ++ ys)
+shown_then job left [] back [] more xs ys first second = subst (λ (zs : List Told). AreShown job left back more (zs ++ ys)) (sym first) second
+shown_then job left [] back (reply ∷ replies) more xs ys first second = absurd first
+shown_then job left (line ∷ front) back [] more xs ys first second = absurd first
+shown_then job left (line ∷ front) back (reply ∷ replies) more xs ys first second =
     let own : List Told = first.0 in
     let tries : List Told = first.1 in
     let rest : List Told = first.2 in (
@@ -199,8 +206,8 @@ shown_then job all (line ∷ front) back (reply ∷ replies) more xs ys first se
       ap (λ (zs : List Told). zs ++ ys) first.3 ∙ (append_assoc own (tries ++ rest) ys ∙ ap (λ (zs : List Told). own ++ zs) (append_assoc tries rest ys)),
       first.4,
       first.5,
-      first.6,
-      shown_then job all front back replies more rest ys first.7 second,
+      subst (λ (ls : List (List ℕ)). AreTries job ls tries) (sym (append_assoc front back left)) first.6,
+      shown_then job left front back replies more rest ys first.7 second,
     )
 
 -- where more lines ask
@@ -213,15 +220,6 @@ of_try_more job lines others x each (inr asks) = inr (each x.command asks)
 
 all_more : (job : ℕ) (lines others : List (List ℕ)) (xs : List Told) → AsksOf job lines others → All (IsOfTry job lines) xs → All (IsOfTry job others) xs
 all_more job lines others xs each all k x lt = of_try_more job lines others (get_or xs k x) each (all k x lt)
-
-tries_more : (job : ℕ) (lines others : List (List ℕ)) (xs : List Told) → AsksOf job lines others → AreTries job lines xs → AreTries job others xs
-tries_more job lines others xs each h = record { asked = all_more job lines others xs each h.asked; anew = h.anew }
-
-pub shown_more : (job : ℕ) (all others lines : List (List ℕ)) (replies : List Reply) (xs : List Told) → AsksOf job all others → AreShown job all lines replies xs → AreShown job others lines replies xs
-shown_more job all others [] [] xs each h = h
-shown_more job all others [] (reply ∷ replies) xs each h = absurd h
-shown_more job all others (line ∷ lines) [] xs each h = absurd h
-shown_more job all others (line ∷ lines) (reply ∷ replies) xs each h = (h.0, h.1, h.2, h.3, h.4, h.5, tries_more job all others h.1 each h.6, shown_more job all others lines replies h.2 each h.7)
 
 -- ---- tries
 
@@ -246,14 +244,14 @@ tries_by job lines xs ys all last some = record { asked = All-append (IsOfTry jo
 
 -- ---- the end of a session
 
-pub halt_call : (job : ℕ) (books : List Book) (now : List JournalUnit) (h : Held) → IsBeginning now h.seen → (x : Told) × ((x.command ≡ Halt) × (x.reply ≡ Finished)) × AreSteps job (x ∷ []) (sessions_so_far books (Some h)) (sessions_so_far (books ++ halted now h ∷ []) None)
-halt_call job books now h goes_on =
-    let after : SessionsSoFar = sessions_so_far (books ++ halted now h ∷ []) None in
-    (step_at h.state.work.job Halt Finished now (length (halted now h).seen), (refl, refl), (sessions_so_far books (Some h), after, (refl, knows_itself h), (now, goes_on, refl, refl), (refl, tt)))
+pub halt_call : (job : ℕ) (p : Past) (now : List JournalUnit) (h : Held) → IsBeginning now h.seen → (x : Told) × ((x.command ≡ Halt) × (x.reply ≡ Finished)) × AreSteps job (x ∷ []) (sessions_so_far p (Some h)) (sessions_so_far (and_book p (halted now h)) None)
+halt_call job p now h goes_on =
+    let after : SessionsSoFar = sessions_so_far (and_book p (halted now h)) None in
+    (step_at h.state.work.job Halt Finished now (length (halted now h).seen), (refl, refl), (sessions_so_far p (Some h), after, (refl, knows_itself h), (now, goes_on, refl, refl), (refl, tt)))
 
-pub halt_steps : (job : ℕ) (books : List Book) (now : List JournalUnit) (h : Held) → IsBeginning now h.seen → HasDoneSteps (IsReplied Halt Finished) job (sessions_so_far books (Some h)) (sessions_so_far (books ++ halted now h ∷ []) None)
-halt_steps job books now h goes_on =
-    let x = halt_call job books now h goes_on in (x.0 ∷ [], record { before = []; last = x.0; steps = refl; waits = tt; command_is = x.1.0; reply_is = x.1.1 }, x.2)
+pub halt_steps : (job : ℕ) (p : Past) (now : List JournalUnit) (h : Held) → IsBeginning now h.seen → HasDoneSteps (IsReplied Halt Finished) job (sessions_so_far p (Some h)) (sessions_so_far (and_book p (halted now h)) None)
+halt_steps job p now h goes_on =
+    let x = halt_call job p now h goes_on in (x.0 ∷ [], record { before = []; last = x.0; steps = refl; waits = tt; command_is = x.1.0; reply_is = x.1.1 }, x.2)
 
 -- ---- lines behind others
 
@@ -266,18 +264,10 @@ one_front job [] back command h = absurd h
 one_front job (line ∷ front) back command (inl asks) = inl asks
 one_front job (line ∷ front) back command (inr later) = inr (one_front job front back command later)
 
-pub one_lock : (job : ℕ) (lines : List (List ℕ)) (c : LockCommand) → OneAsksFor job lines c → OneAsks job lines (lock_command c)
-one_lock job [] c h = absurd h
-one_lock job (line ∷ lines) c (inl asks) = inl asks
-one_lock job (line ∷ lines) c (inr later) = inr (one_lock job lines c later)
-
-pub shown_behind : (job : ℕ) (lines front middle back : List (List ℕ)) (replies more : List Reply) (a b c : SessionsSoFar) → lines ≡ front ++ middle → HasDoneSteps (AreShown job lines front replies) job a b → HasDoneSteps (AreShown job middle back more) job b c
-    → HasDoneSteps (AreShown job lines (front ++ back) (replies ++ more)) job a c
-shown_behind job lines front middle back replies more a b c split h k = (
-  h.0 ++ k.0,
-  shown_then job lines front back replies more h.0 k.0 h.1 (shown_more job middle lines back more k.0 (λ command asks. subst (λ (ls : List (List ℕ)). OneAsks job ls command) (sym split) (one_behind job front middle command asks)) k.1),
-  steps_then job h.0 k.0 a b c h.2 k.2,
-)
+pub shown_behind : (job : ℕ) (left front middle back : List (List ℕ)) (replies more : List Reply) (a b c : SessionsSoFar) → middle ≡ back ++ left → HasDoneSteps (AreShown job middle front replies) job a b → HasDoneSteps (AreShown job left back more) job b c
+    → HasDoneSteps (AreShown job left (front ++ back) (replies ++ more)) job a c
+shown_behind job left front middle back replies more a b c split h k =
+    (h.0 ++ k.0, shown_then job left front back replies more h.0 k.0 (subst (λ (ls : List (List ℕ)). AreShown job ls front replies h.0) split h.1) k.1, steps_then job h.0 k.0 a b c h.2 k.2)
 
 -- ---- what tries are made of
 
@@ -295,18 +285,18 @@ asked_of job lines command asks x is = inr (subst (OneAsks job lines) (sym is) a
 restart_of : (job : ℕ) (lines : List (List ℕ)) (x : Told) → x.command ≡ Restart → IsOfTry job lines x
 restart_of job lines x is = inl is
 
--- lines that are shown
-shown_asked : (job : ℕ) (all lines : List (List ℕ)) (replies : List Reply) (xs : List Told) → AsksOf job lines all → AreShown job all lines replies xs → All (IsOfTry job all) xs
-shown_asked job all [] [] xs each h = All-same (IsOfTry job all) xs [] h (All-nil (IsOfTry job all))
-shown_asked job all [] (reply ∷ replies) xs each h = absurd h
-shown_asked job all (line ∷ lines) [] xs each h = absurd h
-shown_asked job all (line ∷ lines) (reply ∷ replies) xs each h =
+-- lines that are shown, of all that ask
+shown_asked : (job : ℕ) (all left lines : List (List ℕ)) (replies : List Reply) (xs : List Told) → AsksOf job (lines ++ left) all → AreShown job left lines replies xs → All (IsOfTry job all) xs
+shown_asked job all left [] [] xs each h = All-same (IsOfTry job all) xs [] h (All-nil (IsOfTry job all))
+shown_asked job all left [] (reply ∷ replies) xs each h = absurd h
+shown_asked job all left (line ∷ lines) [] xs each h = absurd h
+shown_asked job all left (line ∷ lines) (reply ∷ replies) xs each h =
     All-same (IsOfTry job all) xs (h.0 ++ (h.1 ++ h.2)) h.3
-    (All-append (IsOfTry job all) h.0 (h.1 ++ h.2) (own h.4) (All-append (IsOfTry job all) h.1 h.2 h.6.asked (shown_asked job all lines replies h.2 (λ command asks. each command (inr asks)) h.7)))
+    (All-append (IsOfTry job all) h.0 (h.1 ++ h.2) (own h.4) (All-append (IsOfTry job all) h.1 h.2 (all_more job (lines ++ left) all h.1 (λ command asks. each command (inr asks)) h.6.asked) (shown_asked job all left lines replies h.2 (λ command asks. each command (inr asks)) h.7)))
   where
     own : IsShownBy job line reply h.0 → All (IsOfTry job all) h.0
     own (inl none) = All-same (IsOfTry job all) h.0 [] none.3 (All-nil (IsOfTry job all))
-    own (inr asked) = replied_of job all asked.0 reply h.0 (asked_of job all asked.0 (each asked.0 (inl asked.1))) asked.2
+    own (inr asked) = replied_of job all asked.0 reply h.0 (asked_of job all asked.0 (each asked.0 (inl asked.1))) asked.4
 
 -- tries up to one that began the transaction anew
 pub record AreTriesTo (job : ℕ) (lines : List (List ℕ)) (xs : List Told) : Type 0 where
@@ -344,24 +334,24 @@ pub tries_done : (job : ℕ) (lines : List (List ℕ)) (a b : SessionsSoFar) →
 tries_done job lines a b h = (h.0, h.1.tries, h.2)
 
 -- a TCOMMIT of one of the lines found that it was overtaken
-pub tried_to : (job : ℕ) (lines front left next : List (List ℕ)) (line : List ℕ) (replies : List Reply) (restarts : ℕ) (a b c : SessionsSoFar) → lines ≡ front ++ left → left ≡ line ∷ next → Asks job line Commit → HasDoneSteps (AreShown job lines front replies) job a b
+pub tried_to : (job : ℕ) (lines front left next : List (List ℕ)) (line : List ℕ) (replies : List Reply) (restarts : ℕ) (a b c : SessionsSoFar) → lines ≡ front ++ left → left ≡ line ∷ next → Asks job line Commit → HasDoneSteps (AreShown job left front replies) job a b
     → HasDoneSteps (IsReplied Commit (Restarted restarts)) job b c → HasDoneSteps (AreTries job lines) job a c
 tried_to job lines front left next line replies restarts a b c split first asks h k =
     tries_done job lines a c
-    (tries_to job lines a b c (h.0, shown_asked job lines front replies h.0 (λ command one. subst (λ (ls : List (List ℕ)). OneAsks job ls command) (sym split) (one_front job front left command one)) h.1, h.2)
+    (tries_to job lines a b c (h.0, shown_asked job lines left front replies h.0 (λ command one. subst (λ (ls : List (List ℕ)). OneAsks job ls command) (sym split) one) h.1, h.2)
     (k.0, replied_to job lines Commit restarts k.0 (asked_of job lines Commit here) k.1, k.2))
   where
     here : OneAsks job lines Commit
     here = subst (λ (ls : List (List ℕ)). OneAsks job ls Commit) (sym (split ∙ ap (λ (ls : List (List ℕ)). front ++ ls) first)) (one_behind job front (line ∷ next) Commit (inl asks))
 
 -- a TRESTART by the server
-pub restart_tries : (job : ℕ) (lines : List (List ℕ)) (books : List Book) (restarts : ℕ) (old new : Held) → WasDoneBy Restart (Restarted restarts) old new → HasDoneSteps (AreTriesTo job lines) job (sessions_so_far books (Some old)) (sessions_so_far books (Some new))
-restart_tries job lines books restarts old new done =
-    shows_other (IsReplied Restart (Restarted restarts)) (AreTriesTo job lines) job (sessions_so_far books (Some old)) (sessions_so_far books (Some new)) (λ xs replied. replied_to job lines Restart restarts xs (restart_of job lines) replied)
-    (call_steps job books Restart (Restarted restarts) old new done)
+pub restart_tries : (job : ℕ) (lines : List (List ℕ)) (p : Past) (restarts : ℕ) (old new : Held) → WasDoneBy Restart (Restarted restarts) old new → HasDoneSteps (AreTriesTo job lines) job (sessions_so_far p (Some old)) (sessions_so_far p (Some new))
+restart_tries job lines p restarts old new done =
+    shows_other (IsReplied Restart (Restarted restarts)) (AreTriesTo job lines) job (sessions_so_far p (Some old)) (sessions_so_far p (Some new)) (λ xs replied. replied_to job lines Restart restarts xs (restart_of job lines) replied)
+    (call_steps job p Restart (Restarted restarts) old new done)
 
--- a block that began anew, up to a LOCK that was blocked; then its names were waited for
-abbrev AreAllAsked : ℕ → List (List ℕ) → List Command → Type 0
+-- the lines ask for all of the commands
+abbrev pub AreAllAsked : ℕ → List (List ℕ) → List Command → Type 0
 AreAllAsked job lines [] = ⊤
 AreAllAsked job lines (command ∷ commands) = OneAsks job lines command × AreAllAsked job lines commands
 
@@ -386,18 +376,23 @@ steps_asked job lines (command ∷ commands) [] xs asked steps = absurd steps
 steps_asked job lines (command ∷ commands) (reply ∷ replies) [] asked steps = absurd steps
 steps_asked job lines (command ∷ commands) (reply ∷ replies) (x ∷ xs) asked steps = All-cons (IsOfTry job lines) x xs (asked_of job lines command asked.0 x steps.0.0) (steps_asked job lines commands replies xs asked.1 steps.1)
 
-pub cut_tries : (job : ℕ) (books : List Book) (all rest : List (List ℕ)) (places : List (Option Refusal)) (musts : List Bool) (commands front back : List Command) (replies : List Reply) (units more : List JournalUnit) (old new : Held) → AreInFront job all rest places commands musts → commands ≡ front ++ back
-    → old.seen ≡ units → AreDone front replies units more old new → HasDoneSteps (All (IsOfTry job all)) job (sessions_so_far books (Some old)) (sessions_so_far books (Some new))
-cut_tries job books all rest places musts commands front back replies units more old new in_front split seen done =
-    let asked : AreAllAsked job all commands = commands_asked job all in_front.front places commands (λ command one. subst (λ (ls : List (List ℕ)). OneAsks job ls command) (sym in_front.split) (one_front job in_front.front rest command one)) in_front.asked in
-    shows_other (AreStepsFor front replies) (All (IsOfTry job all)) job (sessions_so_far books (Some old)) (sessions_so_far books (Some new))
-    (λ xs steps. steps_asked job all front replies xs (asked_in_front job all front back (subst (AreAllAsked job all) split asked)) steps)
-    (block_steps job books front replies units more old new seen done)
+-- those of a block
+pub front_asked : (job : ℕ) (all rest : List (List ℕ)) (places : List (Option Refusal)) (commands : List Command) (musts : List Bool) → AreInFront job all rest places commands musts → AreAllAsked job all commands
+front_asked job all rest places commands musts h =
+    commands_asked job all h.front places commands (λ command one. subst (λ (ls : List (List ℕ)). OneAsks job ls command) (sym h.split) (one_front job h.front rest command one)) h.asked
 
-pub lock_tries : (job : ℕ) (books : List Book) (lines : List (List ℕ)) (command : LockCommand) (reply : Reply) (old new : Held) → OneAsksFor job lines command → WasDoneBy (lock_command command) reply old new → HasDoneSteps (All (IsOfTry job lines)) job (sessions_so_far books (Some old)) (sessions_so_far books (Some new))
-lock_tries job books lines command reply old new asks done =
-    shows_other (IsReplied (lock_command command) reply) (All (IsOfTry job lines)) job (sessions_so_far books (Some old)) (sessions_so_far books (Some new))
-    (λ xs replied. replied_of job lines (lock_command command) reply xs (asked_of job lines (lock_command command) (one_lock job lines command asks)) replied) (call_steps job books (lock_command command) reply old new done)
+pub cut_tries : (job : ℕ) (p : Past) (all rest : List (List ℕ)) (places : List (Option Refusal)) (musts : List Bool) (commands front back : List Command) (replies : List Reply) (units more : List JournalUnit) (old new : Held) → AreInFront job all rest places commands musts → commands ≡ front ++ back
+    → old.seen ≡ units → AreDone front replies units more old new → HasDoneSteps (All (IsOfTry job all)) job (sessions_so_far p (Some old)) (sessions_so_far p (Some new))
+cut_tries job p all rest places musts commands front back replies units more old new in_front split seen done =
+    let asked : AreAllAsked job all commands = front_asked job all rest places commands musts in_front in
+    shows_other (AreStepsFor front replies) (All (IsOfTry job all)) job (sessions_so_far p (Some old)) (sessions_so_far p (Some new))
+    (λ xs steps. steps_asked job all front replies xs (asked_in_front job all front back (subst (AreAllAsked job all) split asked)) steps)
+    (block_steps job p front replies units more old new seen done)
+
+pub lock_tries : (job : ℕ) (p : Past) (lines : List (List ℕ)) (command : LockCommand) (reply : Reply) (old new : Held) → OneAsks job lines (lock_command command) → WasDoneBy (lock_command command) reply old new → HasDoneSteps (All (IsOfTry job lines)) job (sessions_so_far p (Some old)) (sessions_so_far p (Some new))
+lock_tries job p lines command reply old new asks done =
+    shows_other (IsReplied (lock_command command) reply) (All (IsOfTry job lines)) job (sessions_so_far p (Some old)) (sessions_so_far p (Some new))
+    (λ xs replied. replied_of job lines (lock_command command) reply xs (asked_of job lines (lock_command command) asks) replied) (call_steps job p (lock_command command) reply old new done)
 
 -- a block that began anew was cut, and then its LOCK was waited for
 pub waited_tries : (job : ℕ) (lines : List (List ℕ)) (a b c d e f : SessionsSoFar) → HasDoneSteps (AreTriesTo job lines) job a b → HasDoneSteps (All (IsOfTry job lines)) job b c → HasDoneSteps (AreTriesTo job lines) job c d → HasDoneSteps (All (IsOfTry job lines)) job d e
@@ -407,9 +402,9 @@ waited_tries job lines a b c d e f first cut second lock last =
 
 -- ---- tries behind a TSTART
 
-pub shown_tried : (job : ℕ) (line : List ℕ) (rest : List (List ℕ)) (reply : Reply) (a b c : SessionsSoFar) → Asks job line Start → HasDoneSteps (AreShown job (line ∷ rest) (line ∷ []) (reply ∷ [])) job a b → HasDoneSteps (AreTries job rest) job b c
-    → HasDoneSteps (AreShown job (line ∷ rest) (line ∷ []) (reply ∷ [])) job a c
-shown_tried job line rest reply a b c asks h k =
+pub shown_tried : (job : ℕ) (line : List ℕ) (left : List (List ℕ)) (reply : Reply) (a b c : SessionsSoFar) → Asks job line Start → HasDoneSteps (AreShown job left (line ∷ []) (reply ∷ [])) job a b → HasDoneSteps (AreTries job left) job b c
+    → HasDoneSteps (AreShown job left (line ∷ []) (reply ∷ [])) job a c
+shown_tried job line left reply a b c asks h k =
     let own : List Told = h.1.0 in
     let tries : List Told = h.1.1 in
     let whole : h.0 ≡ own ++ tries = h.1.3 ∙ (ap (λ (zs : List Told). own ++ (tries ++ zs)) h.1.7 ∙ ap (λ (zs : List Told). own ++ zs) (append-nil tries)) in (
@@ -421,23 +416,14 @@ shown_tried job line rest reply a b c asks h k =
         ap (λ (zs : List Told). zs ++ k.0) whole ∙ (append_assoc own tries k.0 ∙ ap (λ (zs : List Told). own ++ zs) (sym (append-nil (tries ++ k.0)))),
         h.1.4,
         inl asks,
-        tries_then job (line ∷ rest) tries k.0 h.1.6 (tries_more job rest (line ∷ rest) k.0 (λ command later. inr later) k.1),
+        tries_then job left tries k.0 h.1.6 k.1,
         refl,
       ),
       steps_then job h.0 k.0 a b c h.2 k.2,
     )
 
--- ---- a line's TCOMMIT that found that it was overtaken
-
-pub replied_commit : (job : ℕ) (line : List ℕ) (reply : Reply) (restarts : ℕ) (xs : List Told) → Asks job line Commit → reply ≡ Restarted restarts → IsShownBy job line reply xs → IsReplied Commit reply xs
-replied_commit job line reply restarts xs asks again (inl refused) = absurd (no_refusal refused.0 (sym refused.2 ∙ again))
-  where
-    no_refusal : (refusal : Refusal) → Refused refusal ≡ Restarted restarts → ⊥
-    no_refusal refusal e = absurd (cc)
-replied_commit job line reply restarts xs asks again (inr asked) = subst (λ (c : Command). IsReplied c reply xs) (one_command job line asked.0 Commit asked.1 asks) asked.2
-
 -- ---- the end of a job's lines
 
-pub shown_to_end : (job : ℕ) (lines : List (List ℕ)) (replies : List Reply) (a b c : SessionsSoFar) → HasDoneSteps (AreShown job lines lines replies) job a b → ((c ≡ b) ⊎ HasDoneSteps (IsReplied Halt Finished) job b c) → HasDoneSteps (AreShownToEnd job lines replies) job a c
+pub shown_to_end : (job : ℕ) (lines : List (List ℕ)) (replies : List Reply) (a b c : SessionsSoFar) → HasDoneSteps (AreShown job [] lines replies) job a b → ((c ≡ b) ⊎ HasDoneSteps (IsReplied Halt Finished) job b c) → HasDoneSteps (AreShownToEnd job lines replies) job a c
 shown_to_end job lines replies a b c h (inl same) = (h.0, (h.0, [], sym (append-nil h.0), h.1, inl refl), subst (λ (s : SessionsSoFar). AreSteps job h.0 a s) (sym same) h.2)
 shown_to_end job lines replies a b c h (inr over) = (h.0 ++ over.0, (h.0, over.0, refl, h.1, inr over.1), steps_then job h.0 over.0 a b c h.2 over.2)

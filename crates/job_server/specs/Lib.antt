@@ -1,4 +1,3 @@
-pub mod Causes
 pub mod Codes
 pub mod Faults
 pub mod Loads
@@ -8,4 +7,3 @@ pub mod Served
 pub mod Steps
 pub mod Telling
 pub mod Texts
-pub mod Told

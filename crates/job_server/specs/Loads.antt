@@ -16,7 +16,7 @@ use Rattle.loading.specs.declared.fault.LoadFault.{LoadFault}
 use Rattle.loading.specs.declared.fault.LoadFault.TheVariants as load_faults
 use Rattle.shared_engine.specs.Receipts.{Book, book, claim}
 use Rattle.shared_engine.specs.Sessions.{Held, held}
-use Rattle.job_server.specs.Steps.{sessions_so_far, HasDoneSteps}
+use Rattle.job_server.specs.Steps.{past, sessions_so_far, none_since, HasDoneSteps}
 use Rattle.job_server.specs.declared.fault.Unserved.{Unserved}
 use Rattle.job_server.specs.declared.fault.Unserved.TheVariants.{Load, Jobs}
 
@@ -56,7 +56,7 @@ AreLoadSteps ss xs = (sets : List Told) × (last : Told) × (xs ≡ sets ++ last
 -- what the load's session did, where anything is set
 abbrev pub HasRunLoad : List Setting → List Book → Type 0
 HasRunLoad [] books = ⊤
-HasRunLoad (s ∷ ss) books = HasDoneSteps (AreLoadSteps (s ∷ ss)) 1 (sessions_so_far [] None) (sessions_so_far books None)
+HasRunLoad (s ∷ ss) books = HasDoneSteps (AreLoadSteps (s ∷ ss)) 1 (none_since 0) (sessions_so_far (past 0 books) None)
 
 -- the listing asks for settings, and their book is there
 pub record IsLoaded (listing : List ℕ) (books : List Book) : Type 0 where
@@ -98,7 +98,7 @@ pub record HasSet (settings : List Setting) (h : Held) : Type 0 where
   pub seen : List JournalUnit
   pub are_of : AreReceiptsOf settings receipts
   pub is : h ≡ held (idle 1) None receipts [] seen
-  pub steps : HasDoneSteps (AreSets settings) 1 (sessions_so_far [] None) (sessions_so_far [] (Some h))
+  pub steps : HasDoneSteps (AreSets settings) 1 (none_since 0) (sessions_so_far (past 0 []) (Some h))
 
 -- it has done the first setting and those behind it that came before what is left
 pub record HasSetTo (first : Setting) (asked left : Result (List Setting) TextFault) (h : Held) : Type 0 where

@@ -1,21 +1,18 @@
 -- What is known of jobs that were served.
--- Read IsReport, AreReports, AreBooked and AreServed; the contract of serve cites these.
-use Rattle.std.specs.Prelude.{◌≡◌, ◌≢◌, ⊤, ℕ, ◌<◌, List, [], ◌∷◌, ◌++◌, length, slice_get, Option, Some, IfSome, Ok}
+-- Read IsShownAs, AreShownAll and IsRun, then IsReport and AreServed; the contract of serve cites these.
+use Rattle.std.specs.Prelude.{◌≡◌, ◌≢◌, ⊤, ℕ, List, [], ◌∷◌, ◌++◌, length, slice_get, Option, None, Some, IfSome, Ok}
 use Rattle.std.specs.List.{All, flat_map}
+use Rattle.command.specs.declared.request.Reply.{Reply}
 use Rattle.journal.specs.declared.unit.Unit.{Unit as JournalUnit}
-use Rattle.journal.specs.Kept.{Claim}
-use Rattle.pin_board.specs.Slips.{AreInJournal}
-use Rattle.shared_engine.specs.Receipts.{Book, IsOwn, RisesFrom}
-use Rattle.shared_engine.specs.Engines.{AreAllReceipts, AreAllUnits}
-use Rattle.job_scripts.specs.declared.lines.Script.{Script}
-use Rattle.job_scripts.specs.Reports.{Answers}
-use Rattle.loading.specs.Settings.{Setting, settings_of}
-use Rattle.job_server.specs.Loads.{load_books, BeginsWith, AreLoadSteps}
-use Rattle.job_server.specs.Told.{IsTold}
-use Rattle.job_server.specs.Steps.{HasRunScript, AreShownToEnd}
-use Rattle.serial.specs.Interleaving.{Told, of_job, IsOneRun}
 use Rattle.journal.specs.Story.{nothing_done}
+use Rattle.serial.specs.Interleaving.{Told, of_job, IsOneRun}
+use Rattle.shared_engine.specs.Receipts.{Book}
+use Rattle.loading.specs.Settings.{Setting, settings_of}
+use Rattle.job_scripts.specs.declared.lines.Script.{Script}
 use Rattle.job_scripts.specs.Lines.{lines_of_script}
+use Rattle.job_scripts.specs.Reports.{Answers}
+use Rattle.job_server.specs.Loads.{BeginsWith, AreLoadSteps}
+use Rattle.job_server.specs.Steps.{AreShownToEnd, AreRefusedAlone, HasRunScript}
 
 -- a script's job, its text, and how many lines it has
 pub record Wanted : Type 0 where
@@ -26,68 +23,54 @@ pub record Wanted : Type 0 where
 abbrev pub wanted : Script → Wanted
 wanted s = record { job = s.job; text = s.text.items; lines = s.lines }
 
--- the receipts of books, one behind the other
-abbrev pub claims_in : List Book → List Claim
-claims_in [] = []
-claims_in (b ∷ bs) = b.receipts ++ claims_in bs
+-- ---- one run of the exact machine
 
--- numbers rise above one, up to another, which is the last of them
-abbrev pub RisesTo : ℕ → List ℕ → ℕ → Type 0
-RisesTo before [] last = last ≡ before
-RisesTo before (n ∷ ns) last = (before < n) × RisesTo n ns last
+-- all are the job's
+abbrev pub AreOfJob : ℕ → List Told → Type 0
+AreOfJob job xs = All (λ (x : Told). x.job ≡ job) xs
 
--- the report is of the script's job, with as many replies as there are lines, which tell the units of these books; their numbers rise from book to book
-pub record IsReport (w : Wanted) (report : Answers) (books : List Book) : Type 0 where
+-- the steps are those of a load, by job 1, where anything is set
+abbrev pub IsLoadedBy : List Setting → List Told → Type 0
+IsLoadedBy [] xs = xs ≡ []
+IsLoadedBy (s ∷ ss) xs = AreOfJob 1 xs × AreLoadSteps (s ∷ ss) xs
+
+-- the steps are just those that these replies to a job's lines show; without a job there is none, and each line is refused
+abbrev pub IsShownAs : Option ℕ → List (List ℕ) → List Reply → List Told → Type 0
+IsShownAs None lines replies xs = (xs ≡ []) × AreRefusedAlone lines replies
+IsShownAs (Some job) lines replies xs = AreOfJob job xs × AreShownToEnd job lines replies xs
+
+-- the report is of the script's job, with as many replies as there are lines
+pub record IsReport (w : Wanted) (report : Answers) : Type 0 where
   pub whose : report.job ≡ w.job
   pub each : length report.replies ≡ w.lines
-  pub is_told : IsTold w.job w.text report.replies books
-  pub in_turn : RisesFrom 0 (claims_in books)
 
--- the report shows all steps of the sessions that left these books, where the script has a job
-abbrev pub HasRunAs : Wanted → Answers → List Book → Type 0
-HasRunAs w report books = HasRunScript w.job w.text report.replies books
+-- each script has its report in its place, and the steps are just those that the reports show, one report's behind the other's
+abbrev pub AreShownAll : List Wanted → List Answers → List Told → Type 0
+AreShownAll [] [] xs = xs ≡ []
+AreShownAll [] (report ∷ reports) xs = ⊥
+AreShownAll (w ∷ ws) [] xs = ⊥
+AreShownAll (w ∷ ws) (report ∷ reports) xs =
+    (own rest : List Told) × (xs ≡ own ++ rest) × IsReport w report × IsShownAs w.job (lines_of_script w.text) report.replies own × AreShownAll ws reports rest
 
--- the same of the script at this place
-pub record IsReportAt (scripts : List Wanted) (place : ℕ) (report : Answers) (books : List Book) : Type 0 where
-  pub script : Wanted
-  pub at : slice_get scripts place ≡ Some script
-  pub is_report : IsReport script report books
-  pub has_run : HasRunAs script report books
+-- there is one run of the exact machine, of which the journal is the story; in it each job's steps are just those of the load, then those
+-- that its report shows, in order
+pub record IsRun (settings : List Setting) (scripts : List Wanted) (reports : List Answers) (units : List JournalUnit) : Type 0 where
+  pub load : List Told
+  pub own : List Told
+  pub steps : List Told
+  pub loaded : IsLoadedBy settings load
+  pub shown : AreShownAll scripts reports own
+  pub in_order : (job : ℕ) → of_job job steps ≡ of_job job (load ++ own)
+  pub is_run : IsOneRun units nothing_done steps
 
--- each script has its report in its place, and its books
-abbrev pub AreReports : List Wanted → List Answers → List (List Book) → Type 0
-AreReports [] [] [] = ⊤
-AreReports [] [] (own ∷ owns) = ⊥
-AreReports [] (report ∷ reports) owns = ⊥
-AreReports (w ∷ ws) [] owns = ⊥
-AreReports (w ∷ ws) (report ∷ reports) [] = ⊥
-AreReports (w ∷ ws) (report ∷ reports) (own ∷ owns) = IsReport w report own × AreReports ws reports owns
+-- ---- scripts
 
--- each report shows the steps of its script's sessions
-abbrev pub HaveRun : List Wanted → List Answers → List (List Book) → Type 0
-HaveRun [] [] [] = ⊤
-HaveRun [] [] (own ∷ owns) = ⊥
-HaveRun [] (report ∷ reports) owns = ⊥
-HaveRun (w ∷ ws) [] owns = ⊥
-HaveRun (w ∷ ws) (report ∷ reports) [] = ⊥
-HaveRun (w ∷ ws) (report ∷ reports) (own ∷ owns) = HasRunAs w report own × HaveRun ws reports owns
-
--- the books of all, one behind the other
-abbrev pub all_of : List (List Book) → List Book
-all_of owns = flat_map (λ (own : List Book). own) owns
-
--- the reports of scripts, and the books of all
-pub record AreHanded (scripts : List Wanted) (reports : List Answers) (all : List Book) : Type 0 where
-  pub books : List (List Book)
-  pub are_told : AreReports scripts reports books
-  pub have_run : HaveRun scripts reports books
-  pub all_is : all ≡ all_of books
-
--- that of the settings that were loaded, which ended at this number, and those of the reports
-abbrev pub with_load : List JournalUnit → List Setting → List (List Book) → List Book
-with_load ended settings books = load_books ended settings ++ all_of books
-
--- ---- one run of the exact machine
+-- each script has its report in its place
+abbrev pub AreReports : List Wanted → List Answers → Type 0
+AreReports [] [] = ⊤
+AreReports [] (report ∷ reports) = ⊥
+AreReports (w ∷ ws) [] = ⊥
+AreReports (w ∷ ws) (report ∷ reports) = IsReport w report × AreReports ws reports
 
 -- none of the scripts is of this job
 abbrev pub IsNoJobOf : ℕ → List Wanted → Type 0
@@ -99,48 +82,50 @@ abbrev pub AreApart : List Wanted → Type 0
 AreApart [] = ⊤
 AreApart (w ∷ ws) = IfSome w.job (λ job. IsNoJobOf job ws) × AreApart ws
 
--- where settings were loaded, none is of job 1
-abbrev pub IsLoadApart : List Setting → List Wanted → Type 0
-IsLoadApart [] scripts = ⊤
-IsLoadApart (s ∷ ss) scripts = IsNoJobOf 1 scripts
+-- each script has its report, and where no two are of one job there is such a run
+pub record AreAnswered (settings : List Setting) (scripts : List Wanted) (reports : List Answers) (units : List JournalUnit) : Type 0 where
+  pub each : AreReports scripts reports
+  pub run : AreApart scripts → IsRun settings scripts reports units
 
--- job 1's steps are those of the load, where something was set
-abbrev pub IsLoadIn : List Told → List Setting → Type 0
-IsLoadIn ys [] = ⊤
-IsLoadIn ys (s ∷ ss) = AreLoadSteps (s ∷ ss) (of_job 1 ys)
-
--- each job's steps are just those that its report shows
-abbrev pub AreShownIn : List Told → List Wanted → List Answers → Type 0
-AreShownIn ys [] [] = ⊤
-AreShownIn ys [] (report ∷ reports) = ⊥
-AreShownIn ys (w ∷ ws) [] = ⊥
-AreShownIn ys (w ∷ ws) (report ∷ reports) = IfSome w.job (λ job. AreShownToEnd job (lines_of_script w.text) report.replies (of_job job ys)) × AreShownIn ys ws reports
-
--- there is one run of the exact machine, of which the journal is the story, in which each job's steps are these, in order
-pub record IsRun (settings : List Setting) (scripts : List Wanted) (reports : List Answers) (units : List JournalUnit) : Type 0 where
-  pub steps : List Told
-  pub is_run : IsOneRun units nothing_done steps
-  pub loaded : IsLoadIn steps settings
-  pub shown : AreShownIn steps scripts reports
-
--- each session has a book, whose units are its job's, in the journal, at numbers that rise; the units of all books are those of the journal, each at
--- its number once, and the receipts all but rollbacks and ends; and what the reports tell are the units of the books of their jobs, but for the loaded settings'
-pub record AreBooked (settings : List Setting) (scripts : List Wanted) (reports : List Answers) (units : List JournalUnit) (sessions : ℕ) : Type 0 where
-  pub ended : List JournalUnit
-  pub books : List (List Book)
-  pub are_told : AreReports scripts reports books
-  pub each : length (with_load ended settings books) ≡ sessions
-  pub written : All (λ (b : Book). AreInJournal units b.receipts) (with_load ended settings books)
-  pub others : All (λ (b : Book). AreInJournal units b.others) (with_load ended settings books)
-  pub rising : All (λ (b : Book). RisesFrom 0 b.receipts) (with_load ended settings books)
-  pub own : All IsOwn (with_load ended settings books)
-  pub all : AreAllReceipts units (with_load ended settings books)
-  pub all_units : AreAllUnits units (with_load ended settings books)
-  pub run : AreApart scripts → IsLoadApart settings scripts → IsRun settings scripts reports units
-
--- the settings of a listing were done, and are the journal's first units; then the scripts were served
-pub record AreServed (listing : List ℕ) (scripts : List Wanted) (reports : List Answers) (units : List JournalUnit) (sessions : ℕ) : Type 0 where
-  pub settings : List Setting
+-- the listing asks for these settings, which were done first
+pub record IsLoadedFirst (listing : List ℕ) (settings : List Setting) (units : List JournalUnit) : Type 0 where
   pub asked : settings_of listing ≡ Ok settings
   pub begins : BeginsWith settings units
-  pub booked : ∥ AreBooked settings scripts reports units sessions ∥₁
+
+-- the settings of a listing were done, and are the journal's first units; and the scripts were served
+pub record AreServed (listing : List ℕ) (scripts : List Wanted) (reports : List Answers) (units : List JournalUnit) : Type 0 where
+  pub settings : List Setting
+  pub loaded : IsLoadedFirst listing settings units
+  pub answered : ∥ AreAnswered settings scripts reports units ∥₁
+
+-- ---- what the private functions do
+
+-- the report shows all steps of the sessions that left these books, which began when there were so many units or more
+abbrev pub HasRunAs : ℕ → Wanted → Answers → List Book → Type 0
+HasRunAs since w report books = HasRunScript since w.job w.text report.replies books
+
+-- the report is of the script at this place
+pub record IsReportAt (scripts : List Wanted) (place since : ℕ) (report : Answers) (books : List Book) : Type 0 where
+  pub script : Wanted
+  pub at : slice_get scripts place ≡ Some script
+  pub is_report : IsReport script report
+  pub has_run : HasRunAs since script report books
+
+-- each script has its report in its place, which shows the steps of its sessions
+abbrev pub HaveRun : ℕ → List Wanted → List Answers → List (List Book) → Type 0
+HaveRun since [] [] [] = ⊤
+HaveRun since [] [] (own ∷ owns) = ⊥
+HaveRun since [] (report ∷ reports) owns = ⊥
+HaveRun since (w ∷ ws) [] owns = ⊥
+HaveRun since (w ∷ ws) (report ∷ reports) [] = ⊥
+HaveRun since (w ∷ ws) (report ∷ reports) (own ∷ owns) = (IsReport w report × HasRunAs since w report own) × HaveRun since ws reports owns
+
+-- the books of all, one behind the other
+abbrev pub all_of : List (List Book) → List Book
+all_of owns = flat_map (λ (own : List Book). own) owns
+
+-- the reports of scripts, and the books of all
+pub record AreHanded (since : ℕ) (scripts : List Wanted) (reports : List Answers) (all : List Book) : Type 0 where
+  pub books : List (List Book)
+  pub have_run : HaveRun since scripts reports books
+  pub all_is : all ≡ all_of books

@@ -1,14 +1,16 @@
 -- What a job's sessions did, step by step, and how a report shows it.
 -- Read HasStepped, IsStepIn, IsBetweenIn and AreSteps; then IsReplied, IsShownBy, AreTries, AreShown and AreShownToEnd.
-use Rattle.std.specs.Prelude.{◌≡◌, ◌⊎◌, ⊤, ℕ, ◌+◌, ◌≤◌, false, List, [], ◌∷◌, ◌++◌, length, Option, None, Some}
+use Rattle.std.specs.Prelude.{◌≡◌, ◌⊎◌, ⊤, ℕ, ◌+◌, ◌≤◌, true, false, List, [], ◌∷◌, ◌++◌, length, Option, None, Some, Ok}
 use Rattle.std.specs.List.{All}
 use Rattle.refusal.specs.declared.Refusal.{Refusal}
+use Rattle.refusal.specs.declared.Refusal.TheVariants.{BadJob}
 use Rattle.lock_name.specs.declared.lock.LockCommand.{LockCommand}
 use Rattle.command.specs.declared.request.Command.{Command}
 use Rattle.command.specs.declared.request.Command.TheVariants.{Lock as lock_command, Start, Restart, Halt}
 use Rattle.command.specs.declared.request.Reply.{Reply}
 use Rattle.command.specs.declared.request.Reply.TheVariants.{Finished, Restarted, Refused}
 use Rattle.journal.specs.declared.unit.Unit.{Unit as JournalUnit}
+use Rattle.script.specs.Line.{reading_of, IsRefusalOf}
 use Rattle.serial.specs.Interleaving.{Told}
 use Rattle.serial.specs.Machine.{told_had}
 use Rattle.job_core.specs.Sessions.{idle}
@@ -16,17 +18,35 @@ use Rattle.pin_board.specs.Slips.{IsBeginning}
 use Rattle.shared_engine.specs.Receipts.{Book}
 use Rattle.shared_engine.specs.Sessions.{Held, held, knowing, halted}
 use Rattle.shared_engine.specs.Steps.{IsStanding, WasDone, step_at}
+use Rattle.shared_engine.specs.Blocks.{is_blocked, IsNoRestart}
 use Rattle.job_scripts.specs.Lines.{lines_of_script, Asks, IsRefusedAs}
+use Rattle.job_scripts.specs.Timeouts.{timeout_in}
 
 -- ---- what was done
 
--- the sessions so far: the books of those that ended, and the one that is there
-pub record SessionsSoFar : Type 0 where
+-- the sessions that ended: how many units there were before the first began, and their books
+pub record Past : Type 0 where
+  pub since : ℕ
   pub books : List Book
+
+abbrev pub past : ℕ → List Book → Past
+past since books = record { since = since; books = books }
+
+-- one more has ended
+abbrev pub and_book : Past → Book → Past
+and_book p b = past p.since (p.books ++ b ∷ [])
+
+-- the sessions so far: those that ended, and the one that is there
+pub record SessionsSoFar : Type 0 where
+  pub past : Past
   pub session : Option Held
 
-abbrev pub sessions_so_far : List Book → Option Held → SessionsSoFar
-sessions_so_far books session = record { books = books; session = session }
+abbrev pub sessions_so_far : Past → Option Held → SessionsSoFar
+sessions_so_far p session = record { past = p; session = session }
+
+-- none yet, where there are so many units
+abbrev pub none_since : ℕ → SessionsSoFar
+none_since n = sessions_so_far (past n []) None
 
 -- the session has seen more
 abbrev pub KnowsMore : Held → Held → Type 0
@@ -55,29 +75,33 @@ abbrev pub AreBefore : ℕ → List Book → Type 0
 AreBefore n [] = ⊤
 AreBefore n (b ∷ bs) = (length b.seen ≤ n) × AreBefore n bs
 
+-- all of them were over when there were so many
+abbrev pub IsOver : Past → ℕ → Type 0
+IsOver p n = (p.since ≤ n) × AreBefore n p.books
+
 -- a session of the job has just begun, behind these
-abbrev pub IsBegunBehind : ℕ → List Book → Held → Type 0
-IsBegunBehind job books h = (units : List JournalUnit) × AreBefore (length units) books × (h ≡ held (idle job) None [] [] units)
+abbrev pub IsBegunBehind : ℕ → Past → Held → Type 0
+IsBegunBehind job p h = (units : List JournalUnit) × IsOver p (length units) × (h ≡ held (idle job) None [] [] units)
 
 -- between two steps a session may begin, behind those before it, and may see more
-abbrev pub IsBetweenIn : ℕ → List Book → Option Held → Option Held → Type 0
-IsBetweenIn job books None None = ⊤
-IsBetweenIn job books None (Some new) = IsBegunBehind job books new
-IsBetweenIn job books (Some old) None = ⊥
-IsBetweenIn job books (Some old) (Some new) = KnowsMore old new
+abbrev pub IsBetweenIn : ℕ → Past → Option Held → Option Held → Type 0
+IsBetweenIn job p None None = ⊤
+IsBetweenIn job p None (Some new) = IsBegunBehind job p new
+IsBetweenIn job p (Some old) None = ⊥
+IsBetweenIn job p (Some old) (Some new) = KnowsMore old new
 
 abbrev pub IsBetween : ℕ → SessionsSoFar → SessionsSoFar → Type 0
-IsBetween job old new = (new.books ≡ old.books) × IsBetweenIn job old.books old.session new.session
+IsBetween job old new = (new.past ≡ old.past) × IsBetweenIn job old.past old.session new.session
 
 -- a step of the job: of its session, or the end of that
-abbrev pub IsStepIn : Told → List Book → Option Held → List Book → Option Held → Type 0
-IsStepIn x books None more later = ⊥
-IsStepIn x books (Some old) more None =
-    (units : List JournalUnit) × IsBeginning units old.seen × (x ≡ step_at old.state.work.job Halt Finished units (length (halted units old).seen)) × (more ≡ books ++ halted units old ∷ [])
-IsStepIn x books (Some old) more (Some new) = HasStepped x old new × (more ≡ books)
+abbrev pub IsStepIn : Told → Past → Option Held → Past → Option Held → Type 0
+IsStepIn x p None more later = ⊥
+IsStepIn x p (Some old) more None =
+    (units : List JournalUnit) × IsBeginning units old.seen × (x ≡ step_at old.state.work.job Halt Finished units (length (halted units old).seen)) × (more ≡ and_book p (halted units old))
+IsStepIn x p (Some old) more (Some new) = HasStepped x old new × (more ≡ p)
 
 abbrev pub IsStep : Told → SessionsSoFar → SessionsSoFar → Type 0
-IsStep x old new = IsStepIn x old.books old.session new.books new.session
+IsStep x old new = IsStepIn x old.past old.session new.past new.session
 
 -- from these sessions to those the job did these steps, in order
 abbrev pub AreSteps : ℕ → List Told → SessionsSoFar → SessionsSoFar → Type 0
@@ -108,11 +132,15 @@ pub record IsReplied (command : Command) (reply : Reply) (xs : List Told) : Type
   pub command_is : last.command ≡ command
   pub reply_is : last.reply ≡ reply
 
--- the line is refused so, and is no step; or asks for a command that was replied so
+-- a line without a timeout is never replied that its LOCK was blocked
+abbrev pub IsHad : List ℕ → Reply → Type 0
+IsHad line reply = timeout_in line ≡ None → is_blocked true reply ≡ false
+
+-- the line is refused so, and is no step; or asks for a command that was replied so, a TCOMMIT not that its transaction began anew
 abbrev pub IsShownBy : ℕ → List ℕ → Reply → List Told → Type 0
 IsShownBy job line reply xs =
     ((refusal : Refusal) × IsRefusedAs job line refusal × (reply ≡ Refused refusal) × (xs ≡ []))
-    ⊎ ((command : Command) × Asks job line command × IsReplied command reply xs)
+    ⊎ ((command : Command) × Asks job line command × IsHad line reply × IsNoRestart command reply × IsReplied command reply xs)
 
 -- one of the lines asks for this command, of the job
 abbrev pub OneAsks : ℕ → List (List ℕ) → Command → Type 0
@@ -138,20 +166,31 @@ pub record AreTries (job : ℕ) (lines : List (List ℕ)) (xs : List Told) : Typ
 abbrev pub MayBeTried : ℕ → List ℕ → List Told → Type 0
 MayBeTried job line xs = Asks job line Start ⊎ (xs ≡ [])
 
--- the replies to lines show these steps, each line its own; behind a TSTART there may be tries of any of all lines
+-- the replies to lines show these steps, each line its own; behind a TSTART there may be tries of the lines behind it, first of these, then of those left
 abbrev pub AreShown : ℕ → List (List ℕ) → List (List ℕ) → List Reply → List Told → Type 0
-AreShown job all [] [] xs = xs ≡ []
-AreShown job all [] (reply ∷ replies) xs = ⊥
-AreShown job all (line ∷ lines) [] xs = ⊥
-AreShown job all (line ∷ lines) (reply ∷ replies) xs =
-    (own tries rest : List Told) × (xs ≡ own ++ (tries ++ rest)) × IsShownBy job line reply own × MayBeTried job line tries × AreTries job all tries × AreShown job all lines replies rest
+AreShown job left [] [] xs = xs ≡ []
+AreShown job left [] (reply ∷ replies) xs = ⊥
+AreShown job left (line ∷ lines) [] xs = ⊥
+AreShown job left (line ∷ lines) (reply ∷ replies) xs =
+    (own tries rest : List Told) × (xs ≡ own ++ (tries ++ rest)) × IsShownBy job line reply own × MayBeTried job line tries × AreTries job (lines ++ left) tries × AreShown job left lines replies rest
 
 -- at the end of its lines a job's session ends, where it has one
 abbrev pub AreShownToEnd : ℕ → List (List ℕ) → List Reply → List Told → Type 0
 AreShownToEnd job lines replies xs =
-    (own last : List Told) × (xs ≡ own ++ last) × AreShown job lines lines replies own × ((last ≡ []) ⊎ IsReplied Halt Finished last)
+    (own last : List Told) × (xs ≡ own ++ last) × AreShown job [] lines replies own × ((last ≡ []) ⊎ IsReplied Halt Finished last)
 
--- a script's replies show all steps of the sessions that left these books
-abbrev pub HasRunScript : Option ℕ → List ℕ → List Reply → List Book → Type 0
-HasRunScript None text replies books = ⊤
-HasRunScript (Some job) text replies books = HasDoneSteps (AreShownToEnd job (lines_of_script text) replies) job (sessions_so_far [] None) (sessions_so_far books None)
+-- a line that is no job's is refused: it can be read, and has a job of its own, or for its own fault
+abbrev pub IsRefusedAlone : List ℕ → Reply → Type 0
+IsRefusedAlone line reply = (refusal : Refusal) × (reply ≡ Refused refusal) × (IsRefusalOf line refusal ⊎ ((refusal ≡ BadJob) × (step : ℕ × Command) × (reading_of line ≡ Ok step)))
+
+-- each is
+abbrev pub AreRefusedAlone : List (List ℕ) → List Reply → Type 0
+AreRefusedAlone [] [] = ⊤
+AreRefusedAlone [] (reply ∷ replies) = ⊥
+AreRefusedAlone (line ∷ lines) [] = ⊥
+AreRefusedAlone (line ∷ lines) (reply ∷ replies) = IsRefusedAlone line reply × AreRefusedAlone lines replies
+
+-- a script's replies show all steps of the sessions that left these books, which began when there were so many units or more; without a job there is no session
+abbrev pub HasRunScript : ℕ → Option ℕ → List ℕ → List Reply → List Book → Type 0
+HasRunScript since None text replies books = (books ≡ []) × AreRefusedAlone (lines_of_script text) replies
+HasRunScript since (Some job) text replies books = HasDoneSteps (AreShownToEnd job (lines_of_script text) replies) job (none_since since) (sessions_so_far (past since books) None)

@@ -1,8 +1,8 @@
 //! Blocks: a TSTART, and the lines behind it as often as they are overtaken.
-ghost use Rattle.std.specs.Prelude.{◌≡◌, false, IfOk, IfSome, IfNone, OnOk};
+ghost use Rattle.std.specs.Prelude.{IfOk, IfSome, IfNone};
 ghost use Rattle.command.specs.declared.request.Command.{Command};
 ghost use Rattle.job_scripts.specs.Lines.{Asks, IsReadFor};
-ghost use Rattle.job_server.specs.Telling.{is_open as is_open_in, Advances, Reaches, HasTried, IsBack, GoesOnFrom};
+ghost use Rattle.job_server.specs.Telling.{Advances, Reaches, HasTried, IsBack, GoesOnFrom};
 
 use crate::ServerFault;
 use crate::cursor::{Cursor, Line};
@@ -10,9 +10,8 @@ use crate::running::{JobRun, push_unless_restarted, read_within};
 use crate::worker::Worker;
 use collation::Job;
 use command::Command;
-use pin_board::BoardName;
 use refusal::Refusal;
-use shared_engine::Gate;
+use shared_engine::{BoardName, Gate};
 use std::sync::Wait;
 
 // How often a block is begun anew before it is done alone, with nobody between its lines.
@@ -75,7 +74,7 @@ impl<'a, B: BoardName, R: Wait, G: Gate> Worker<'a, B, R, G> {
 
     // Tries the lines of a block behind its TSTART. Answers the place behind it, or none where its TCOMMIT found that
     // the transaction was overtaken, and has begun it anew.
-    #[tactic(auto, using(crate::proofs::GoingOn::reaches_none, crate::proofs::GoingOn::reaches_on, crate::proofs::GoingOn::still_none, crate::proofs::GoingOn::still_on, crate::proofs::GoingOn::tried_replies, crate::proofs::GoingOn::reaches_replies))]
+    #[tactic(auto, using(crate::proofs::GoingOn::reaches_none, crate::proofs::GoingOn::reaches_on, crate::proofs::GoingOn::tried_replies, crate::proofs::GoingOn::reaches_replies))]
     fn try_block<'b>(
         &mut self,
         run: &mut JobRun<B>,
@@ -110,8 +109,7 @@ impl<'a, B: BoardName, R: Wait, G: Gate> Worker<'a, B, R, G> {
         job: Job,
         line: Line<'b>,
     ) -> Result<Cursor<'b>, ServerFault>
-        requires asks { Asks job line.text.now Command.Start }
-        requires closed { is_open_in run.old.sessions.session ≡ false }
+        requires { Asks job line.text.now Command.Start }
         ensures { IfOk result (λ behind. Advances job line.entry behind run.old run.new) }
     {
         self.answer_line(run, job, line, Ok(Command::Start))?;

@@ -14,8 +14,8 @@ pub enum ServerFault {
     /// Memory was refused where no reply could say so: for a worker, a session, a job's replies or its report, a serial
     /// run; or the end of a block was refused, and the transaction that stayed open was overtaken. A HALT takes none.
     Memory,
-    /// A job's report didn't come, or hasn't one reply for each line; or a session's pass didn't come, or isn't behind
-    /// the job's one before; or a load's units aren't the journal's first.
+    /// A job's report didn't come, or hasn't one reply for each line; or a session's pass didn't come, or a
+    /// session isn't behind the job's one before and the load; or a load's units aren't the journal's first.
     Missing,
     /// All jobs that were begun and aren't over wait, in LOCKs without a timeout, for names that others of them hold.
     AllWait,
@@ -96,8 +96,8 @@ pub enum JobsFault {
     Write,
     /// Memory was refused where no reply could say so.
     Memory,
-    /// A job's report didn't come, or hasn't one reply for each line; or a session's pass didn't come, or isn't behind
-    /// the job's one before; or a load's units aren't the journal's first.
+    /// A job's report didn't come, or hasn't one reply for each line; or a session's pass didn't come, or a
+    /// session isn't behind the job's one before and the load; or a load's units aren't the journal's first.
     Missing,
     /// All jobs that were begun and weren't over waited, in LOCKs without a timeout, for names that others of them held.
     AllWait,

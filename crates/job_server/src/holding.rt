@@ -1,10 +1,10 @@
 //! Lines of a job that are done under one hold of the engine's lock. The gate isn't told.
-ghost use Rattle.std.specs.Prelude.{◌≡◌, ◌≤◌, ◌++◌, List, IfOk, OnOk};
+ghost use Rattle.std.specs.Prelude.{◌≡◌, ◌++◌, List, IfOk, OnOk};
 ghost use Rattle.command.specs.declared.request.Command.{Command};
-ghost use Rattle.job_scripts.specs.Blocks.{in_place, IsOneBlock};
+ghost use Rattle.job_scripts.specs.Blocks.{in_place};
 ghost use Rattle.job_scripts.specs.Lines.{lines_of_script, Asks};
-ghost use Rattle.job_server.specs.Told.{OneAsksFor};
-ghost use Rattle.job_server.specs.Telling.{Keeps, Advances, HaveNoHalt, AreDataCommands, ServesBlock, HasRunOutside, BeganAnew, HasRunAnew, HasReadAll, HasWaited, HasWaitedFor, HasTriedAlone};
+ghost use Rattle.job_server.specs.Steps.{OneAsks};
+ghost use Rattle.job_server.specs.Telling.{Advances, HaveNoHalt, AreDataCommands, ServesBlock, HasRunOutside, BeganAnew, HasRunAnew, HasReadAll, HasWaited, HasWaitedFor, HasTriedAlone};
 
 use crate::ServerFault;
 use crate::cursor::{Cursor, Line};
@@ -14,10 +14,9 @@ use collation::Job;
 use command::{Command, DataCommand, Reply};
 use job_scripts::{Block, block_of, data_block, push_in_place};
 use lock_name::LockCommand;
-use pin_board::BoardName;
 use refusal::Refusal;
 use script::Drafts;
-use shared_engine::{Gate, SerialRun, Session};
+use shared_engine::{BoardName, Gate, SerialRun, Session};
 use std::alloc::Global;
 use std::sync::Wait;
 
@@ -35,7 +34,7 @@ fn lock_at(
     place: usize,
     drafts: &mut Drafts,
 ) -> Result<LockCommand, ServerFault>
-    ensures { IfOk result (λ command. OneAsksFor job (lines_of_script lines.now) command) }
+    ensures { IfOk result (λ command. OneAsks job (lines_of_script lines.now) (Command.Lock command)) }
 {
     let mut block = block_of(alloc, job, lines, drafts)?;
     if place >= block.commands.len() {
@@ -129,8 +128,7 @@ impl<'a, B: BoardName, R: Wait, G: Gate> Worker<'a, B, R, G> {
         commands: Vec<Command>,
         musts: &[bool],
     ) -> Result<SerialRun, ServerFault>
-        requires goes_on { HaveNoHalt commands.items }
-        requires one { IsOneBlock 1 commands.items }
+        requires { HaveNoHalt commands.items }
         ensures { IfOk result (λ ran. HasRunAnew musts.now commands.items ran (Some session.old) (Some session.new)) }
     {
         if session.tlevel() == 0 {
@@ -157,8 +155,7 @@ impl<'a, B: BoardName, R: Wait, G: Gate> Worker<'a, B, R, G> {
         commands: Vec<Command>,
         musts: &[bool],
     ) -> Result<SerialRun, ServerFault>
-        requires goes_on { HaveNoHalt commands.items }
-        requires one { IsOneBlock 1 commands.items }
+        requires { HaveNoHalt commands.items }
         ensures { IfOk result (λ ran. HasRunAnew musts.now commands.items ran session.old session.new) }
     {
         match session {
@@ -245,7 +242,6 @@ impl<'a, B: BoardName, R: Wait, G: Gate> Worker<'a, B, R, G> {
         requires { AreDataCommands block.commands.items }
         ensures rest { IfOk result (λ behind. behind.lines.now ≡ block.entry.rest.now) }
         ensures served { OnOk result (ServesBlock block.entry run.old run.new) }
-        ensures keeps { OnOk result (Keeps run.old run.new) }
     {
         let Block {
             commands,
@@ -262,8 +258,7 @@ impl<'a, B: BoardName, R: Wait, G: Gate> Worker<'a, B, R, G> {
 
     // Begins an open transaction anew, by TRESTART.
     fn begin_anew(&self, session: &mut Session<B>) -> Result<(), ServerFault>
-        ensures open { OnOk result (1 ≤ session.old.state.level) }
-        ensures anew { OnOk result (BeganAnew session.old session.new) }
+        ensures { OnOk result (BeganAnew session.old session.new) }
     {
         if session.tlevel() == 0 {
             return Err(ServerFault::Missing);
@@ -338,7 +333,7 @@ impl<'a, B: BoardName, R: Wait, G: Gate> Worker<'a, B, R, G> {
     }
 
     // Does a data command of a session that is there, and those right behind it.
-    #[tactic(auto, using(crate::proofs::AtOnce::block_advances, crate::proofs::AtOnce::closed_keeps))]
+    #[tactic(auto, using(crate::proofs::AtOnce::block_advances))]
     fn serve_run<'b>(
         &mut self,
         run: &mut JobRun<B>,
@@ -347,8 +342,7 @@ impl<'a, B: BoardName, R: Wait, G: Gate> Worker<'a, B, R, G> {
         line: Line<'b>,
     ) -> Result<Cursor<'b>, ServerFault>
         requires { Asks job line.text.now (Command.Access first) }
-        ensures on { IfOk result (λ behind. Advances job line.entry behind run.old run.new) }
-        ensures keeps { OnOk result (Keeps run.old run.new) }
+        ensures { IfOk result (λ behind. Advances job line.entry behind run.old run.new) }
     {
         let most = if run.is_open() {
             READS_PER_HOLD
@@ -379,8 +373,7 @@ impl<'a, B: BoardName, R: Wait, G: Gate> Worker<'a, B, R, G> {
         line: Line<'b>,
     ) -> Result<Cursor<'b>, ServerFault>
         requires { Asks job line.text.now (Command.Access first) }
-        ensures on { IfOk result (λ behind. Advances job line.entry behind run.old run.new) }
-        ensures keeps { OnOk result (Keeps run.old run.new) }
+        ensures { IfOk result (λ behind. Advances job line.entry behind run.old run.new) }
     {
         match self.begin(job, &mut run.sessions) {
             Ok(()) => self.serve_run(run, job, first, line),
@@ -400,8 +393,7 @@ impl<'a, B: BoardName, R: Wait, G: Gate> Worker<'a, B, R, G> {
         line: Line<'b>,
     ) -> Result<Cursor<'b>, ServerFault>
         requires { Asks job line.text.now (Command.Access first) }
-        ensures on { IfOk result (λ behind. Advances job line.entry behind run.old run.new) }
-        ensures keeps { OnOk result (Keeps run.old run.new) }
+        ensures { IfOk result (λ behind. Advances job line.entry behind run.old run.new) }
     {
         if self.may_go_on(run, &first) {
             return self.serve_data(run, job, first, line);

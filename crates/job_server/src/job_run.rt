@@ -1,17 +1,17 @@
 //! A command of a job, by the calls of its session.
-ghost use Rattle.std.specs.Prelude.{◌≡◌, ◌≢◌, ◌≤◌, true, false, None, IfOk, OnOk};
+ghost use Rattle.std.specs.Prelude.{◌≡◌, ◌≢◌, ◌≤◌, true, false, None, IfOk};
 ghost use Rattle.command.specs.declared.request.Command.{Command};
 ghost use Rattle.command.specs.declared.request.Reply.{Reply};
 ghost use Rattle.shared_engine.specs.Blocks.{said, is_blocked};
-ghost use Rattle.job_server.specs.Telling.{Tells, HasLocked, names_some as has_some};
+ghost use Rattle.job_server.specs.Steps.{WasDoneBy};
+ghost use Rattle.job_server.specs.Telling.{HasLocked};
 
 use crate::replies::{answered, at_level, ended, finished, locked, restarted, written};
 use collation::Job;
 use command::{Answer, Command, DataCommand, Look, Reply};
 use lock_name::LockCommand;
-use pin_board::BoardName;
 use refusal::Refusal;
-use shared_engine::{Gate, Session, Shared, Turn};
+use shared_engine::{BoardName, Gate, Session, Shared, Turn};
 use std::sync::Wait;
 
 /// The engine, the leave to wait, and what is called meanwhile.
@@ -19,6 +19,8 @@ pub(crate) struct Calls<'a, B: BoardName, R, G> {
     pub(crate) rt: &'a R,
     pub(crate) engine: &'a Shared<B>,
     pub(crate) gate: &'a G,
+    /// How many units there were before the first job.
+    pub(crate) since: u64,
 }
 
 impl<'a, B: BoardName, R, G> Drop for Calls<'a, B, R, G> {
@@ -27,15 +29,14 @@ impl<'a, B: BoardName, R, G> Drop for Calls<'a, B, R, G> {
             rt: _,
             engine: _,
             gate: _,
+            since: _,
         } = self;
     }
 }
 
 impl<'a, B: BoardName, R: Wait, G: Gate> Calls<'a, B, R, G> {
     /// The reply to a command of a session, but for HALT. `millis` is a LOCK's timeout; without one it isn't replied
-    /// that it was blocked. An outermost TCOMMIT takes a turn that is due. The session goes on as the reply tells, and a
-    /// refusal has its cause.
-    #[tactic(auto, using(crate::proofs::Answering::tells_as, crate::proofs::Answering::level_told, crate::proofs::Answering::restarts_told))]
+    /// that it was blocked. An outermost TCOMMIT takes a turn that is due. Each try is a step of the session.
     pub(crate) fn reply_to(
         &self,
         session: &mut Session<B>,
@@ -44,7 +45,7 @@ impl<'a, B: BoardName, R: Wait, G: Gate> Calls<'a, B, R, G> {
         turn: &mut Turn,
     ) -> Reply
         requires { command ≢ Command.Halt }
-        ensures follows { Tells command result session.old session.new }
+        ensures done { WasDoneBy command result session.old session.new }
         ensures had { millis ≡ None → is_blocked true result ≡ false }
     {
         match command {
@@ -60,9 +61,9 @@ impl<'a, B: BoardName, R: Wait, G: Gate> Calls<'a, B, R, G> {
         }
     }
 
-    #[tactic(auto, using(crate::proofs::Answering::lone_told))]
+    #[tactic(auto, using(crate::proofs::Stepped::lone_stepped))]
     fn access(&self, session: &mut Session<B>, command: DataCommand) -> Result<Answer, Refusal>
-        ensures { Tells (Command.Access command) (said Reply.Answered result) session.old session.new }
+        ensures { WasDoneBy (Command.Access command) (said Reply.Answered result) session.old session.new }
     {
         if session.tlevel() == 0 {
             return self.engine.lone(self.rt, session, command);
@@ -71,14 +72,14 @@ impl<'a, B: BoardName, R: Wait, G: Gate> Calls<'a, B, R, G> {
     }
 
     // A data command in a transaction. SET and the kills take no lock.
-    #[tactic(auto, using(crate::proofs::Answering::written_told, crate::proofs::Answering::read_told))]
+    #[tactic(auto, using(crate::proofs::Stepped::written_stepped, crate::proofs::Stepped::read_stepped))]
     fn access_inside(
         &self,
         session: &mut Session<B>,
         command: DataCommand,
     ) -> Result<Answer, Refusal>
         requires { 1 ≤ session.old.state.level }
-        ensures { Tells (Command.Access command) (said Reply.Answered result) session.old session.new }
+        ensures { WasDoneBy (Command.Access command) (said Reply.Answered result) session.old session.new }
     {
         match command {
             DataCommand::Set(key, value) => written(session.set(key, value)),
@@ -95,9 +96,8 @@ impl<'a, B: BoardName, R: Wait, G: Gate> Calls<'a, B, R, G> {
         }
     }
 
-    #[tactic(auto, using(crate::proofs::Answering::tells_as, crate::proofs::Answering::locked_told))]
     fn lock(&self, session: &mut Session<B>, command: LockCommand, millis: Option<u64>) -> Reply
-        ensures follows { Tells (Command.Lock command) result session.old session.new }
+        ensures done { WasDoneBy (Command.Lock command) result session.old session.new }
         ensures had { millis ≡ None → is_blocked true result ≡ false }
     {
         let done = match millis {
@@ -114,7 +114,6 @@ impl<'a, B: BoardName, R: Wait, G: Gate> Calls<'a, B, R, G> {
         command: &LockCommand,
         millis: u64,
     ) -> Result<bool, Refusal>
-        requires { has_some command.now ≡ true }
         ensures { HasLocked command.now result session.old session.new }
     {
         self.engine
@@ -137,9 +136,9 @@ impl<'a, B: BoardName, R: Wait, G: Gate> Calls<'a, B, R, G> {
     }
 
     // TSTART. The outermost one is tried again where a horizon passed its start as it was taken.
-    #[tactic(auto, using(crate::proofs::Answering::inner_told, crate::proofs::Answering::outer_told))]
+    #[tactic(auto, using(crate::proofs::Stepped::inner_stepped, crate::proofs::Stepped::outer_stepped))]
     fn start(&self, session: &mut Session<B>) -> Result<u64, Refusal>
-        ensures { Tells Command.Start (said Reply.AtLevel result) session.old session.new }
+        ensures { WasDoneBy Command.Start (said Reply.AtLevel result) session.old session.new }
     {
         if session.tlevel() > 0 {
             return session.tstart_inner();
@@ -153,9 +152,9 @@ impl<'a, B: BoardName, R: Wait, G: Gate> Calls<'a, B, R, G> {
         unreachable!()
     }
 
-    #[tactic(auto, using(crate::proofs::Answering::tells_as, crate::proofs::Answering::commit_told, crate::proofs::Answering::lower_told, crate::proofs::Answering::no_commit))]
+    #[tactic(auto, using(crate::proofs::Stepped::done_as, crate::proofs::Stepped::commit_stepped, crate::proofs::Stepped::lower_stepped, crate::proofs::Stepped::no_commit_stepped))]
     fn commit(&self, session: &mut Session<B>, turn: &mut Turn) -> Reply
-        ensures follows { Tells Command.Commit result session.old session.new }
+        ensures done { WasDoneBy Command.Commit result session.old session.new }
         ensures other { is_blocked true result ≡ false }
     {
         match session.tlevel() {
@@ -165,9 +164,9 @@ impl<'a, B: BoardName, R: Wait, G: Gate> Calls<'a, B, R, G> {
         }
     }
 
-    #[tactic(auto, using(crate::proofs::Answering::tells_as, crate::proofs::Answering::rollback_told, crate::proofs::Answering::no_rollback))]
+    #[tactic(auto, using(crate::proofs::Stepped::done_as, crate::proofs::Stepped::rollback_stepped, crate::proofs::Stepped::no_rollback_stepped))]
     fn rollback(&self, session: &mut Session<B>) -> Reply
-        ensures follows { Tells Command.Rollback result session.old session.new }
+        ensures done { WasDoneBy Command.Rollback result session.old session.new }
         ensures other { is_blocked true result ≡ false }
     {
         if session.tlevel() == 0 {
@@ -176,9 +175,9 @@ impl<'a, B: BoardName, R: Wait, G: Gate> Calls<'a, B, R, G> {
         finished(self.engine.trollback(self.rt, session))
     }
 
-    #[tactic(auto, using(crate::proofs::Answering::tells_as, crate::proofs::Answering::restart_told, crate::proofs::Answering::no_restart))]
+    #[tactic(auto, using(crate::proofs::Stepped::done_as, crate::proofs::Stepped::restart_stepped, crate::proofs::Stepped::no_restart_stepped))]
     fn restart(&self, session: &mut Session<B>) -> Reply
-        ensures follows { Tells Command.Restart result session.old session.new }
+        ensures done { WasDoneBy Command.Restart result session.old session.new }
         ensures other { is_blocked true result ≡ false }
     {
         if session.tlevel() == 0 {
@@ -189,9 +188,7 @@ impl<'a, B: BoardName, R: Wait, G: Gate> Calls<'a, B, R, G> {
 }
 
 // Whether a LOCK has names.
-fn has_names(command: &LockCommand) -> bool
-    ensures { result ≡ has_some command.now }
-{
+fn has_names(command: &LockCommand) -> bool {
     match command {
         LockCommand::Release => false,
         LockCommand::Only(_) | LockCommand::More(_) | LockCommand::Fewer(_) => true,

@@ -24,7 +24,7 @@
 //! | `holding.rt` | lines that are done under one hold of the engine's lock |
 //! | `blocks.rt` | blocks, as often as they are overtaken |
 //! | `turns.rt` | when the collector looks, and at how many keys |
-//! | `in_turn.rt` | whether the passes of a job's sessions follow one another |
+//! | `in_turn.rt` | whether sessions were over when others began |
 //! | `worker.rt` | the lines of one job, and of one job after the other |
 //! | `load.rt` | the listing that is loaded before the first job |
 //! | `serving.rt` | the workers, the channels, the reports in order |

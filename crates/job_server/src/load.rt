@@ -12,8 +12,7 @@ use collation::Text;
 use command::{Answer, DataCommand};
 use key_codec::Key;
 use loading::{LoadFault, LoadLog, SettingReader, loading_job};
-use pin_board::BoardName;
-use shared_engine::{Pass, Session, Shared};
+use shared_engine::{BoardName, Pass, Session, Shared};
 use std::alloc::Global;
 use std::sync::Wait;
 

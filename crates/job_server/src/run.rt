@@ -72,8 +72,8 @@ impl Served {
 }
 
 /// Loads a listing, runs the jobs of a text at the same time, and answers their reports, in order of the jobs' first
-/// lines, with the closed engine. Its journal is legal, begins with the SETs of the listing, and tells what the reports
-/// tell, as `serve` says. An empty listing sets nothing.
+/// lines, with the closed engine. Its journal is legal, begins with the SETs of the listing, and is the story of a run
+/// that the reports show, as `serve` says: no two scripts of a text are of one job. An empty listing sets nothing.
 ///
 /// Nothing is written, so `write_served` and whoever reads `Served::journal` see one journal. Faults: `Load`, `Memory`
 /// and `Missing`, as of `serve`, and never `Read` or `Write`.
@@ -86,7 +86,7 @@ pub fn serve_text<R: Threads + Wait + Sync, L: LoadLog, G: Gate + Sync>(
     workers: usize,
     gate: &G,
 ) -> Result<Served, JobsFault>
-    ensures served { IfOk result (λ served. IsServed listing.now text.items served.reports.items served.closed.core.units served.closed.sessions) }
+    ensures served { IfOk result (λ served. IsServed listing.now text.items served.reports.items served.closed.core.units) }
     ensures unwritten { IsErrOf result JobsFault.Write → ⊥ }
     ensures unread { IsErrOf result JobsFault.Read → ⊥ }
     ensures unloaded { IfErr result (IsJobsFault listing.now) }
@@ -121,7 +121,7 @@ pub fn write_served<W: Write>(
 /// first lines, then, where it is asked for, `--` and the listing of the database that they leave: `serve_text`, then
 /// `write_served`. Answers whether a reply is a refusal.
 ///
-/// A job's replies tell the units that it wrote, as `serve` says; the listing is of the map that all units leave.
+/// The replies show one run of the exact machine, as `serve` says; the listing is of the map that it leaves.
 ///
 /// After a fault a beginning of that was written: nothing but after `Write` and `Memory`, so nothing where the listing
 /// isn't loaded or jobs weren't served to their end; `Write` only where a call of the writer failed, and never `Read`.

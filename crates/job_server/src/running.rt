@@ -1,14 +1,12 @@
 //! A job as it is run, and one line of it.
-ghost use Rattle.std.specs.Prelude.{◌≡◌, ◌≢◌, ◌<◌, ◌∷◌, ◌++◌, ℕ, List, [], None, true, false, length, vec_capacity, IfOk, IfSome, OnOk};
+ghost use Rattle.std.specs.Prelude.{◌≡◌, ◌≢◌, ◌<◌, ◌∷◌, ◌++◌, ℕ, [], None, true, false, length, vec_capacity, IfOk, IfSome, OnOk};
 ghost use Rattle.command.specs.declared.request.Command.{Command};
 ghost use Rattle.command.specs.declared.request.Reply.{Reply};
 ghost use Rattle.job_scripts.specs.Lines.{IsReadFor};
-ghost use Rattle.shared_engine.specs.Receipts.{Book};
 ghost use Rattle.shared_engine.specs.Engines.{OnOkThat, OnOkNot};
 ghost use Rattle.shared_engine.specs.Blocks.{is_blocked};
-ghost use Rattle.job_server.specs.Told.{IsHad};
-ghost use Rattle.job_server.specs.Steps.{sessions_so_far, IsBegunBehind};
-ghost use Rattle.job_server.specs.Telling.{is_open as is_open_in, GoesOnUntold, GoesOnBy, MayGoOnAt, HasStopped, IsNoCommit, Keeps, HasAnswered, Advances, not_begun};
+ghost use Rattle.job_server.specs.Steps.{Past, past, sessions_so_far, IsBegunBehind, HasDoneSteps, IsNoStep, IsReplied, IsHad};
+ghost use Rattle.job_server.specs.Telling.{IsDoneAs, HasStopped, IsNoCommit, HasAnswered, Advances, not_begun};
 
 use crate::ServerFault;
 use crate::cursor::{Cursor, Line};
@@ -17,30 +15,30 @@ use crate::worker::{Worker, writes_of};
 use collation::Job;
 use command::{Command, Reply};
 use job_scripts::{read_for, timeout_of};
-use pin_board::BoardName;
 use refusal::Refusal;
 use script::Drafts;
-use shared_engine::{Gate, Pass, Session};
+use shared_engine::{BoardName, Gate, Pass, Session};
 use std::alloc::{AllocError, Global};
 use std::marker::Model;
 use std::sync::Wait;
 
-/// A job's open session, and the passes of those that ended.
+/// A job's open session, and the passes of those that ended, which began when there were so many units or more.
 #[derive(Drop)]
 pub(crate) struct Sessions<B: BoardName> {
     pub(crate) open: Option<Session<B>>,
     pub(crate) passes: Vec<Pass<B>>,
+    pub(crate) since: u64,
 }
 
 impl<B: BoardName> Model for Sessions<B> {
-    ghost use Rattle.job_server.specs.Steps.{SessionsSoFar, sessions_so_far};
+    ghost use Rattle.job_server.specs.Steps.{past, SessionsSoFar, sessions_so_far};
     ghost use Rattle.job_server.specs.Codes.{sessions_code};
 
     ghost Value = { SessionsSoFar };
 
     ghost coded = { sessions_code };
 
-    ghost view = { λ s. sessions_so_far s.passes.items s.open };
+    ghost view = { λ s. sessions_so_far (past s.since s.passes.items) s.open };
 }
 
 impl<B: BoardName> Sessions<B> {
@@ -75,14 +73,15 @@ impl<B: BoardName> Model for JobRun<B> {
 }
 
 impl<B: BoardName> JobRun<B> {
-    /// Before the first line.
-    pub(crate) fn new(alloc: Global) -> JobRun<B>
-        ensures { result ≡ not_begun }
+    /// Before the first line, where there are so many units.
+    pub(crate) fn new(alloc: Global, since: u64) -> JobRun<B>
+        ensures { result ≡ not_begun since }
     {
         JobRun {
             sessions: Sessions {
                 open: None,
                 passes: Vec::new(alloc),
+                since,
             },
             replies: Vec::new(alloc),
             drafts: Drafts::new(alloc),
@@ -90,9 +89,7 @@ impl<B: BoardName> JobRun<B> {
     }
 
     /// Whether a transaction is open.
-    pub(crate) fn is_open(&self) -> bool
-        ensures { result ≡ is_open_in self.now.sessions.session }
-    {
+    pub(crate) fn is_open(&self) -> bool {
         match &self.sessions.open {
             Some(session) => session.tlevel() > 0,
             None => false,
@@ -155,24 +152,32 @@ pub(crate) fn push_unless_restarted(
 impl<'a, B: BoardName, R: Wait, G: Gate> Worker<'a, B, R, G> {
     /// Begins a session of the job, where it has none, once there is room for its pass.
     pub(crate) fn begin(&self, job: Job, sessions: &mut Sessions<B>) -> Result<(), ServerFault>
-        ensures told { OnOk result (GoesOnUntold job sessions.old sessions.new) }
-        ensures stays { OnOk result (is_open_in sessions.new.session ≡ is_open_in sessions.old.session) }
+        ensures { OnOk result (HasDoneSteps IsNoStep job sessions.old sessions.new) }
     {
         match sessions.make_room() {
-            Ok(()) => self.open(job, &sessions.passes, &mut sessions.open),
+            Ok(()) => self.open(job, sessions.since, &sessions.passes, &mut sessions.open),
             Err(_) => Err(ServerFault::Memory),
         }
     }
 
-    // A new session of the job, which begins behind these.
-    fn begin_behind(&self, job: Job, passes: &Vec<Pass<B>>) -> Result<Session<B>, ServerFault>
-        ensures { IfOk result (λ begun. IsBegunBehind job passes.now.items begun) }
+    // A new session of the job, which begins behind these, where there are so many units or more.
+    fn begin_behind(
+        &self,
+        job: Job,
+        since: u64,
+        passes: &Vec<Pass<B>>,
+    ) -> Result<Session<B>, ServerFault>
+        ensures { IfOk result (λ begun. IsBegunBehind job (past since passes.now.items) begun) }
     {
         let mut begun = match self.calls.engine.open(self.calls.rt, self.alloc, job) {
             Ok(begun) => begun,
             Err(_) => return Err(ServerFault::Memory),
         };
         let count = self.calls.engine.look(self.calls.rt, &mut begun);
+        if count < since {
+            drop(begun);
+            return Err(ServerFault::Missing);
+        }
         if !are_before(passes.as_slice(), count) {
             drop(begun);
             return Err(ServerFault::Missing);
@@ -181,20 +186,19 @@ impl<'a, B: BoardName, R: Wait, G: Gate> Worker<'a, B, R, G> {
     }
 
     // A session of the job, where it has none, behind those that it had, and with room for its pass.
-    #[tactic(auto, using(crate::proofs::GoingOn::same_goes, crate::proofs::GoingOn::opened_goes))]
     fn open(
         &self,
         job: Job,
+        since: u64,
         passes: &Vec<Pass<B>>,
         session: &mut Option<Session<B>>,
     ) -> Result<(), ServerFault>
-        ensures told { OnOk result (GoesOnUntold job (sessions_so_far passes.now.items session.old) (sessions_so_far passes.now.items session.new)) }
-        ensures stays { OnOk result (is_open_in session.new ≡ is_open_in session.old) }
+        ensures { OnOk result (HasDoneSteps IsNoStep job (sessions_so_far (past since passes.now.items) session.old) (sessions_so_far (past since passes.now.items) session.new)) }
     {
         if session.is_some() {
             return Ok(());
         }
-        match self.begin_behind(job, passes) {
+        match self.begin_behind(job, since, passes) {
             Ok(begun) => {
                 *session = Some(begun);
                 Ok(())
@@ -206,7 +210,7 @@ impl<'a, B: BoardName, R: Wait, G: Gate> Worker<'a, B, R, G> {
     // HALT of the session that is there. Where it is refused, in a full journal, the session goes on. Room for its unit
     // and its pass was taken when the session began.
     fn halt(&self, sessions: &mut Sessions<B>) -> Result<Reply, ServerFault>
-        ensures told { IfOk result (λ reply. (job : ℕ) → GoesOnBy job Command.Halt reply sessions.old sessions.new) }
+        ensures told { IfOk result (λ reply. (job : ℕ) → HasDoneSteps (IsReplied Command.Halt reply) job sessions.old sessions.new) }
         ensures other { IfOk result (λ reply. is_blocked true reply ≡ false) }
         ensures over { IfOk result (λ reply. reply ≡ Reply.Finished → sessions.new.session ≡ None) }
     {
@@ -235,7 +239,7 @@ impl<'a, B: BoardName, R: Wait, G: Gate> Worker<'a, B, R, G> {
         passes: &mut Vec<Pass<B>>,
     ) -> Result<Reply, ServerFault>
         requires { length passes.old.items < vec_capacity passes.old }
-        ensures told { IfOk result (λ reply. (job : ℕ) → GoesOnBy job Command.Halt reply (sessions_so_far passes.old.items session.old) (sessions_so_far passes.new.items session.new)) }
+        ensures told { IfOk result (λ reply. (job since : ℕ) → HasDoneSteps (IsReplied Command.Halt reply) job (sessions_so_far (past since passes.old.items) session.old) (sessions_so_far (past since passes.new.items) session.new)) }
         ensures other { IfOk result (λ reply. is_blocked true reply ≡ false) }
         ensures over { IfOk result (λ reply. reply ≡ Reply.Finished → session.new ≡ None) }
     {
@@ -255,7 +259,6 @@ impl<'a, B: BoardName, R: Wait, G: Gate> Worker<'a, B, R, G> {
     }
 
     // The reply to a command of a session that is there, but for HALT.
-    #[tactic(auto, using(crate::proofs::GoingOn::step_goes))]
     fn reply_in(
         &mut self,
         session: &mut Option<Session<B>>,
@@ -263,7 +266,7 @@ impl<'a, B: BoardName, R: Wait, G: Gate> Worker<'a, B, R, G> {
         line: &[u8],
     ) -> Result<Reply, ServerFault>
         requires { command ≢ Command.Halt }
-        ensures told { IfOk result (λ reply. (job : ℕ) (books : List Book) → GoesOnBy job command reply (sessions_so_far books session.old) (sessions_so_far books session.new)) }
+        ensures told { IfOk result (λ reply. (job : ℕ) (p : Past) → HasDoneSteps (IsReplied command reply) job (sessions_so_far p session.old) (sessions_so_far p session.new)) }
         ensures had { IfOk result (λ reply. IsHad line.now reply) }
     {
         match session {
@@ -285,7 +288,7 @@ impl<'a, B: BoardName, R: Wait, G: Gate> Worker<'a, B, R, G> {
         command: Command,
         line: &[u8],
     ) -> Result<Reply, ServerFault>
-        ensures told { IfOk result (λ reply. (job : ℕ) → GoesOnBy job command reply sessions.old sessions.new) }
+        ensures told { IfOk result (λ reply. (job : ℕ) → HasDoneSteps (IsReplied command reply) job sessions.old sessions.new) }
         ensures had { IfOk result (λ reply. IsHad line.now reply) }
     {
         if is_halt(&command) {
@@ -303,7 +306,7 @@ impl<'a, B: BoardName, R: Wait, G: Gate> Worker<'a, B, R, G> {
         command: Command,
         line: &[u8],
     ) -> Result<Reply, ServerFault>
-        ensures told { IfOk result (λ reply. GoesOnBy job command reply sessions.old sessions.new) }
+        ensures told { IfOk result (λ reply. HasDoneSteps (IsReplied command reply) job sessions.old sessions.new) }
         ensures had { IfOk result (λ reply. IsHad line.now reply) }
     {
         match self.begin(job, sessions) {
@@ -316,7 +319,6 @@ impl<'a, B: BoardName, R: Wait, G: Gate> Worker<'a, B, R, G> {
     }
 
     // The reply to a line.
-    #[tactic(auto, using(crate::proofs::GoingOn::asked_goes, crate::proofs::GoingOn::refused_goes, crate::proofs::GoingOn::same_goes))]
     fn reply_asked(
         &mut self,
         sessions: &mut Sessions<B>,
@@ -324,8 +326,7 @@ impl<'a, B: BoardName, R: Wait, G: Gate> Worker<'a, B, R, G> {
         line: &[u8],
         asked: Result<Command, Refusal>,
     ) -> Result<Reply, ServerFault>
-        requires { IsReadFor job line.now asked }
-        ensures { IfOk result (λ reply. MayGoOnAt job line.now asked reply sessions.old sessions.new) }
+        ensures { IfOk result (λ reply. HasDoneSteps (IsDoneAs line.now asked reply) job sessions.old sessions.new) }
     {
         match asked {
             Ok(command) => self.reply_to(sessions, job, command, line),
@@ -341,8 +342,7 @@ impl<'a, B: BoardName, R: Wait, G: Gate> Worker<'a, B, R, G> {
         line: Line<'b>,
         asked: Result<Command, Refusal>,
     ) -> Result<Reply, ServerFault>
-        requires { IsReadFor job line.text.now asked }
-        ensures { IfOk result (λ reply. MayGoOnAt job line.entry.text.now asked reply sessions.old sessions.new) }
+        ensures { IfOk result (λ reply. HasDoneSteps (IsDoneAs line.entry.text.now asked reply) job sessions.old sessions.new) }
     {
         self.turns.note_writes(writes_of(&asked));
         self.calls.gate.before(job, line.number);
@@ -377,7 +377,7 @@ impl<'a, B: BoardName, R: Wait, G: Gate> Worker<'a, B, R, G> {
     }
 
     /// The same. Answers the place behind the line.
-    #[tactic(auto, using(crate::proofs::GoingOn::answered_advances, crate::proofs::GoingOn::answered_keeps))]
+    #[tactic(auto, using(crate::proofs::GoingOn::answered_advances))]
     pub(crate) fn pass_line<'b>(
         &mut self,
         run: &mut JobRun<B>,
@@ -387,8 +387,7 @@ impl<'a, B: BoardName, R: Wait, G: Gate> Worker<'a, B, R, G> {
     ) -> Result<Cursor<'b>, ServerFault>
         requires asks { IsReadFor job line.text.now asked }
         requires other { IsNoCommit asked }
-        ensures on { IfOk result (λ behind. Advances job line.entry behind run.old run.new) }
-        ensures keeps { OnOk result (Keeps run.old run.new) }
+        ensures { IfOk result (λ behind. Advances job line.entry behind run.old run.new) }
     {
         self.answer_line(run, job, line, asked)?;
         Ok(line.next)

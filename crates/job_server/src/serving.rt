@@ -1,10 +1,11 @@
 //! The workers, the channels, the reports in order.
-ghost use Rattle.std.specs.Prelude.{◌≡◌, ◌+◌, ◌^◌, ◌<◌, ℕ, List, IfOk, IfErr, OnOk, map, take, length};
+ghost use Rattle.std.specs.Prelude.{◌≡◌, ◌+◌, ◌^◌, ◌<◌, List, IfOk, IfErr, OnOk, map, take, length};
 ghost use Rattle.journal.specs.declared.unit.Unit.{Unit as JournalUnit};
 ghost use Rattle.loading.specs.Settings.{Setting};
 ghost use Rattle.job_server.specs.Loads.{load_books, BeginsWith, HasRunLoad, IsUnservedBy};
-ghost use Rattle.job_server.specs.Served.{Wanted, wanted, AreHanded, AreBooked, AreServed};
+ghost use Rattle.job_server.specs.Served.{wanted, AreHanded, AreAnswered, AreServed};
 
+use crate::in_turn::end_of;
 use crate::job_run::Calls;
 use crate::load::load_listing;
 use crate::turns::Turns;
@@ -13,10 +14,9 @@ use crate::{ServerFault, Unserved};
 use crossbeam_channel::{Receiver, Sender, bounded};
 use job_scripts::{Report, Script};
 use loading::LoadLog;
-use pin_board::{Blank, BoardName, SEATS};
+use pin_board::{Blank, SEATS};
 use shared_engine::{
-    Closed, Gate, Pass, Shared, histories_end, histories_go_on, sessions_are_one_run,
-    steps_are_exact,
+    BoardName, Closed, Gate, Pass, Shared, histories_end, histories_go_on, steps_are_exact,
 };
 use std::alloc::Global;
 use std::marker::{Brand, PhantomData};
@@ -85,14 +85,17 @@ struct Handed<B: BoardName> {
 }
 
 impl<B: BoardName + Batch> Handed<B> {
-    // One more, where it is there, and of this place.
-    fn take(&mut self, place: usize, slot: Option<Done<B>>) -> Result<(), ServerFault>
-        ensures { OnOk result (∥ AreHanded (take place B.scripts) self.old.reports.items self.old.passes.items ∥₁ → ∥ AreHanded (take (place + 1) B.scripts) self.new.reports.items self.new.passes.items ∥₁) }
+    // One more, where it is there, of this place, and its sessions began when there were so many units or more.
+    fn take(&mut self, place: usize, since: u64, slot: Option<Done<B>>) -> Result<(), ServerFault>
+        ensures { OnOk result (∥ AreHanded since (take place B.scripts) self.old.reports.items self.old.passes.items ∥₁ → ∥ AreHanded since (take (place + 1) B.scripts) self.new.reports.items self.new.passes.items ∥₁) }
     {
         let Some(done) = slot else {
             return Err(ServerFault::Missing);
         };
         if done.place != place {
+            return Err(ServerFault::Missing);
+        }
+        if done.since != since {
             return Err(ServerFault::Missing);
         }
         let mut ran = done.outcome?;
@@ -105,16 +108,17 @@ impl<B: BoardName + Batch> Handed<B> {
 // The reports in order, once all are there, and the passes.
 fn reports_of<B: BoardName + Batch>(
     alloc: Global,
+    since: u64,
     slots: Vec<Option<Done<B>>>,
 ) -> Result<Handed<B>, ServerFault>
-    ensures { IfOk result (λ handed. ∥ AreHanded (take (length slots.items) B.scripts) handed.reports.items handed.passes.items ∥₁) }
+    ensures { IfOk result (λ handed. ∥ AreHanded since (take (length slots.items) B.scripts) handed.reports.items handed.passes.items ∥₁) }
 {
     let mut handed = Handed {
         reports: Vec::new(alloc),
         passes: Vec::new(alloc),
     };
     for (place, slot) in slots.into_iter().enumerate() {
-        handed.take(place, slot)?;
+        handed.take(place, since, slot)?;
     }
     Ok(handed)
 }
@@ -195,11 +199,12 @@ fn start<'s, E, B: BoardName + Batch + Send + Sync, R: Wait + Sync, G: Gate + Sy
     }
 }
 
-// Starts the workers, hands the scripts out, and gathers what comes back.
+// Starts the workers, hands the scripts out, and gathers what comes back. So many units are there before.
 fn share_out<B: BoardName + Batch + Send + Sync, R: Threads + Wait + Sync, G: Gate + Sync>(
     rt: &R,
     alloc: Global,
     engine: &Shared<B>,
+    since: u64,
     scripts: Vec<Script>,
     workers: usize,
     gate: &G,
@@ -225,7 +230,13 @@ fn share_out<B: BoardName + Batch + Send + Sync, R: Threads + Wait + Sync, G: Ga
             for _ in 0..workers {
                 let tasks = task_receiver.clone()?;
                 let reports = report_sender.clone()?;
-                start(scope, alloc, Calls { rt, engine, gate }, tasks, reports)?;
+                let calls = Calls {
+                    rt,
+                    engine,
+                    gate,
+                    since,
+                };
+                start(scope, alloc, calls, tasks, reports)?;
             }
             drop(report_sender);
             queue(rt, scripts, &task_sender)?;
@@ -255,17 +266,18 @@ fn serve_on<B: BoardName + Batch + Send + Sync, R: Threads + Wait + Sync, G: Gat
 ) -> Result<Served, ServerFault>
     requires { map wanted scripts.items ≡ B.scripts }
     ensures begins { IfOk result (λ served. (ended : List JournalUnit) (settings : List Setting) → loaded.items ≡ load_books ended settings → BeginsWith settings served.closed.core.units) }
-    ensures booked { IfOk result (λ served. (ended : List JournalUnit) (settings : List Setting) → loaded.items ≡ load_books ended settings → HasRunLoad settings loaded.items → ∥ AreBooked settings (map wanted scripts.items) served.reports.items served.closed.core.units served.closed.sessions ∥₁) }
+    ensures answered { IfOk result (λ served. (ended : List JournalUnit) (settings : List Setting) → loaded.items ≡ load_books ended settings → HasRunLoad settings loaded.items → ∥ AreAnswered settings (map wanted scripts.items) served.reports.items served.closed.core.units ∥₁) }
 {
     let count = scripts.len();
-    let gathered = share_out(rt, alloc, &engine, scripts, workers, gate)?;
+    let since = end_of(loaded.as_slice())?;
+    let gathered = share_out(rt, alloc, &engine, since, scripts, workers, gate)?;
     if let Some(fault) = gathered.fault {
         return Err(fault);
     }
     if gathered.slots.len() != count {
         return Err(ServerFault::Missing);
     }
-    let mut handed = reports_of(alloc, gathered.slots)?;
+    let mut handed = reports_of(alloc, since, gathered.slots)?;
     let mut all = loaded;
     all.append(&mut handed.passes)?;
     let passes = all.len() as u64;
@@ -274,7 +286,6 @@ fn serve_on<B: BoardName + Batch + Send + Sync, R: Threads + Wait + Sync, G: Gat
     steps_are_exact();
     histories_go_on();
     histories_end();
-    sessions_are_one_run();
     is_counted(closed.core.now());
     if closed.sessions != passes {
         return Err(ServerFault::Missing);
@@ -304,7 +315,7 @@ fn load_and_serve<
 ) -> Result<Served, Unserved>
     requires board { (blank.seat.table_id ≡ B.table) × (blank.words.seats ≡ 4096) }
     requires scripts { map wanted scripts.items ≡ B.scripts }
-    ensures served { IfOk result (λ served. AreServed listing.now (map wanted scripts.items) served.reports.items served.closed.core.units served.closed.sessions) }
+    ensures served { IfOk result (λ served. AreServed listing.now (map wanted scripts.items) served.reports.items served.closed.core.units) }
     ensures fault { IfErr result (IsUnservedBy listing.now) }
 {
     let engine = Shared::<B>::new(alloc, blank);
@@ -332,23 +343,17 @@ fn load_and_serve<
 /// A script has as many lines as it says. One of another job is refused, `BadJob`, or for a fault of its own. With no
 /// worker no job is done, and each report is missing.
 ///
-/// A report's replies tell the units of its job's books, which are in the closed journal; a LOCK that no reply tells
-/// may stand among them: a first try of one that waited, or one of a try of a block that was overtaken. Each LOCK in
-/// the books is one that a line of the script asks for, and they have at least as many rollbacks and restarts of
-/// transactions that took a LOCK as are told; where they have no more, each LOCK that had its names is told. Each book
-/// ends where a HALT was replied `ok`, the last one with the lines, and has that HALT's End. All books' units are just
-/// the journal's. No TCOMMIT is replied with a restart.
-///
-/// Where no two scripts are of one job, nor one of job 1 behind a loaded listing, there is one run of the exact machine
-/// from nothing on, of which the closed journal is the story, and in which each job's steps are, in order, just those
-/// that its report shows: each line's command with its reply, and tries of which no reply tells.
+/// Where no two scripts are of one job, there is one run of the exact machine from nothing on, of which the closed
+/// journal is the story. In it are each job's steps, in order, and no others: those of the load, by job 1, and then
+/// those that the job's report shows, which are each line's command with its reply, a first try of a LOCK that waited,
+/// tries of a block that was overtaken, and at the end a HALT. No TCOMMIT is replied with a restart.
 ///
 /// After a fault no report is handed out: `Load` where the listing isn't loaded, as of `loading::load`, and no job was
 /// begun; `Memory` where memory was refused and no reply could say so, also where a worker couldn't be started or a
 /// session begun, or where the end of a block was refused and the transaction that stayed open is overtaken at its
-/// TCOMMIT; `AllWait` where the gate finds that all jobs that were begun and aren't over
-/// wait for names that others of them hold; `Missing` where a report didn't come, or isn't one reply for each line of
-/// its script, where a session's pass didn't come or isn't behind the one before, or where the units of a load aren't
+/// TCOMMIT; `AllWait` where the gate finds that all jobs that were begun and aren't over wait for names that others of
+/// them hold; `Missing` where a report didn't come, or isn't one reply for each line of its script, where a session's
+/// pass didn't come, or a session isn't behind the job's one before and the load, or where the units of a load aren't
 /// the journal's first. Once the gate stops jobs, which it may after a job's fault, no line more is done.
 pub fn serve<R: Threads + Wait + Sync, L: LoadLog, G: Gate + Sync>(
     rt: &R,
@@ -359,7 +364,7 @@ pub fn serve<R: Threads + Wait + Sync, L: LoadLog, G: Gate + Sync>(
     workers: usize,
     gate: &G,
 ) -> Result<Served, Unserved>
-    ensures served { IfOk result (λ served. AreServed listing.now (map wanted scripts.items) served.reports.items served.closed.core.units served.closed.sessions) }
+    ensures served { IfOk result (λ served. AreServed listing.now (map wanted scripts.items) served.reports.items served.closed.core.units) }
     ensures fault { IfErr result (IsUnservedBy listing.now) }
 {
     match Blank::new(alloc, SEATS) {

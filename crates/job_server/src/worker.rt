@@ -1,17 +1,16 @@
 //! The lines of one job, and of one job after the other.
-ghost use Rattle.std.specs.Prelude.{◌≡◌, ◌∷◌, ℕ, List, [], None, Some, true, slice_get, IfOk, OnOk};
+ghost use Rattle.std.specs.Prelude.{◌≡◌, ◌∷◌, ℕ, List, [], None, Some, slice_get, IfOk, OnOk};
 ghost use Rattle.command.specs.declared.request.Command.{Command};
+ghost use Rattle.command.specs.declared.request.Reply.{Reply};
 ghost use Rattle.job_scripts.specs.Lines.{lines_of_script, Asks};
 ghost use Rattle.std.proofs.Props.{props};
 ghost use Rattle.job_server.specs.Served.{wanted, IsReport, HasRunAs, IsReportAt};
-ghost use Rattle.job_server.specs.Told.{IsTold};
-ghost use Rattle.job_server.specs.Steps.{HasRunScript};
+ghost use Rattle.job_server.specs.Steps.{IsRefusedAlone, HasRunScript};
 ghost use Rattle.script.specs.Line.{IsReading};
-ghost use Rattle.job_server.specs.Telling.{Refuses, IsFaultOfNone, Serves, Advances, not_begun};
+ghost use Rattle.job_server.specs.Telling.{Refuses, Serves, Advances, not_begun};
 
 use crate::ServerFault;
 use crate::cursor::{Cursor, Line};
-use crate::in_turn::are_in_turn;
 use crate::job_run::Calls;
 use crate::running::{JobRun, Sessions};
 use crate::turns::Turns;
@@ -19,10 +18,9 @@ use collation::Job;
 use command::{Command, DataCommand, Reply};
 use crossbeam_channel::{Receiver, Sender};
 use job_scripts::{Report, Script, read_for};
-use pin_board::BoardName;
 use refusal::Refusal;
 use script::{Drafts, LineFault, read_line};
-use shared_engine::{Gate, Pass, Stop, Turn};
+use shared_engine::{BoardName, Gate, Pass, Stop, Turn};
 use std::alloc::{AllocError, Global};
 use std::marker::{Brand, PhantomData};
 use std::sync::Wait;
@@ -57,12 +55,14 @@ pub(crate) struct Ran<B: BoardName> {
     pub(crate) passes: Vec<Pass<B>>,
 }
 
-/// What came of a task, by its place: a report of its script, which tells the units of the passes.
+/// What came of a task, by its place: a report of its script, which shows the steps of the sessions that had these
+/// passes, and began when there were so many units or more.
 #[derive(Drop)]
 pub(crate) struct Done<B: BoardName + Batch> {
     pub(crate) place: usize,
+    pub(crate) since: u64,
     pub(crate) outcome: Result<Ran<B>, ServerFault>,
-    pub(crate) ghost told: { IfOk outcome (λ ran. ∥ IsReportAt B.scripts place ran.report ran.passes.items ∥₁) } by { Prim.hlevel props },
+    pub(crate) ghost told: { IfOk outcome (λ ran. ∥ IsReportAt B.scripts place since ran.report ran.passes.items ∥₁) } by { Prim.hlevel props },
 }
 
 // The fault of a report that isn't whole.
@@ -72,22 +72,17 @@ fn missing<B: BoardName>(replies: Vec<Reply>, passes: Vec<Pass<B>>) -> ServerFau
     ServerFault::Missing
 }
 
-// What a script's replies and passes make, where there is a reply for each line, and the sessions followed one another.
+// What a script's replies and passes make, where there is a reply for each line.
 fn ran_of<B: BoardName>(
     alloc: Global,
     script: &Script,
     replies: Vec<Reply>,
     passes: Vec<Pass<B>>,
 ) -> Result<Ran<B>, ServerFault>
-    requires told { IsTold script.now.job script.now.text.items replies.items passes.items }
-    requires run { HasRunScript script.now.job script.now.text.items replies.items passes.items }
-    ensures report { IfOk result (λ ran. IsReport (wanted script.now) ran.report ran.passes.items) }
-    ensures run { IfOk result (λ ran. HasRunAs (wanted script.now) ran.report ran.passes.items) }
+    ensures report { IfOk result (λ ran. IsReport (wanted script.now) ran.report) }
+    ensures run { IfOk result (λ ran. (since : ℕ) → HasRunScript since script.now.job script.now.text.items replies.items passes.items → HasRunAs since (wanted script.now) ran.report ran.passes.items) }
 {
     if replies.len() != script.lines {
-        return Err(missing(replies, passes));
-    }
-    if !are_in_turn(passes.as_slice()) {
         return Err(missing(replies, passes));
     }
     match Report::new(alloc, script.job, replies) {
@@ -105,17 +100,19 @@ fn ran_to_end<B: BoardName>(
     script: &Script,
     run: JobRun<B>,
 ) -> Result<Ran<B>, ServerFault>
-    requires told { IsTold script.now.job script.now.text.items run.replies run.sessions.books }
-    requires run { HasRunScript script.now.job script.now.text.items run.replies run.sessions.books }
-    ensures report { IfOk result (λ ran. IsReport (wanted script.now) ran.report ran.passes.items) }
-    ensures run { IfOk result (λ ran. HasRunAs (wanted script.now) ran.report ran.passes.items) }
+    ensures report { IfOk result (λ ran. IsReport (wanted script.now) ran.report) }
+    ensures run { IfOk result (λ ran. (since : ℕ) → HasRunScript since script.now.job script.now.text.items run.replies run.sessions.past.books → HasRunAs since (wanted script.now) ran.report ran.passes.items) }
 {
     let JobRun {
         sessions,
         replies,
         drafts,
     } = run;
-    let Sessions { open, passes } = sessions;
+    let Sessions {
+        open,
+        passes,
+        since: _,
+    } = sessions;
     drop(open);
     drop(drafts);
     ran_of(alloc, script, replies, passes)
@@ -124,7 +121,7 @@ fn ran_to_end<B: BoardName>(
 // The refusal of a line in a script without a job: its own, or `BadJob` where it can be read.
 #[tactic(auto, using(crate::proofs::Refusing::none_read, crate::proofs::Refusing::none_fault))]
 fn refusal_of(read: Result<(Job, Command), LineFault>) -> Refusal
-    ensures { (line : List ℕ) → IsReading line read → IsFaultOfNone line result }
+    ensures { (line : List ℕ) → IsReading line read → IsRefusedAlone line (Reply.Refused result) }
 {
     match read {
         Ok((_, command)) => {
@@ -325,21 +322,19 @@ impl<'a, B: BoardName, R: Wait, G: Gate> Worker<'a, B, R, G> {
 
     // Does a job's lines, and ends its session.
     fn serve_all(&mut self, run: &mut JobRun<B>, job: Job, lines: &[u8]) -> Result<(), ServerFault>
-        requires { run.old ≡ not_begun }
-        ensures told { OnOk result (IsTold (Some job) lines.now run.new.replies run.new.sessions.books) }
-        ensures run { OnOk result (HasRunScript (Some job) lines.now run.new.replies run.new.sessions.books) }
+        ensures { OnOk result ((since : ℕ) → run.old ≡ not_begun since → HasRunScript since (Some job) lines.now run.new.replies run.new.sessions.past.books) }
     {
         self.serve_lines(run, job, lines)?;
         self.stop(&mut run.sessions)
     }
 
-    // Runs the lines of a job.
-    fn run_job(&mut self, job: Job, script: &Script) -> Result<Ran<B>, ServerFault>
+    // Runs the lines of a job, whose sessions begin when there are so many units or more.
+    fn run_job(&mut self, job: Job, since: u64, script: &Script) -> Result<Ran<B>, ServerFault>
         requires { script.now.job ≡ Some job }
-        ensures report { IfOk result (λ ran. IsReport (wanted script.now) ran.report ran.passes.items) }
-        ensures run { IfOk result (λ ran. HasRunAs (wanted script.now) ran.report ran.passes.items) }
+        ensures report { IfOk result (λ ran. IsReport (wanted script.now) ran.report) }
+        ensures run { IfOk result (λ ran. HasRunAs since (wanted script.now) ran.report ran.passes.items) }
     {
-        let mut run = JobRun::new(self.alloc);
+        let mut run = JobRun::new(self.alloc, since);
         match self.serve_all(&mut run, job, &script.text) {
             Ok(()) => ran_to_end(self.alloc, script, run),
             Err(fault) => {
@@ -350,11 +345,11 @@ impl<'a, B: BoardName, R: Wait, G: Gate> Worker<'a, B, R, G> {
     }
 
     // The lines without a job: each is refused.
-    #[tactic(auto, using(crate::proofs::Refusing::none_told, crate::proofs::Refusing::none_run))]
+    #[tactic(auto, using(crate::proofs::Refusing::none_run))]
     fn run_none(&self, script: &Script) -> Result<Ran<B>, ServerFault>
         requires { script.now.job ≡ None }
-        ensures report { IfOk result (λ ran. IsReport (wanted script.now) ran.report ran.passes.items) }
-        ensures run { IfOk result (λ ran. HasRunAs (wanted script.now) ran.report ran.passes.items) }
+        ensures report { IfOk result (λ ran. IsReport (wanted script.now) ran.report) }
+        ensures run { IfOk result (λ ran. (since : ℕ) → HasRunAs since (wanted script.now) ran.report ran.passes.items) }
     {
         let mut drafts = Drafts::new(self.alloc);
         let mut replies = Vec::new(self.alloc);
@@ -370,12 +365,12 @@ impl<'a, B: BoardName, R: Wait, G: Gate> Worker<'a, B, R, G> {
     }
 
     // Runs a script to its end.
-    fn run_script(&mut self, script: &Script) -> Result<Ran<B>, ServerFault>
-        ensures report { IfOk result (λ ran. IsReport (wanted script.now) ran.report ran.passes.items) }
-        ensures run { IfOk result (λ ran. HasRunAs (wanted script.now) ran.report ran.passes.items) }
+    fn run_script(&mut self, since: u64, script: &Script) -> Result<Ran<B>, ServerFault>
+        ensures report { IfOk result (λ ran. IsReport (wanted script.now) ran.report) }
+        ensures run { IfOk result (λ ran. HasRunAs since (wanted script.now) ran.report ran.passes.items) }
     {
         match script.job {
-            Some(job) => self.run_job(job, script),
+            Some(job) => self.run_job(job, since, script),
             None => self.run_none(script),
         }
     }
@@ -391,11 +386,16 @@ impl<'a, B: BoardName + Batch, R: Wait, G: Gate> Worker<'a, B, R, G> {
             of: _,
         } = task;
         self.calls.gate.job_begun();
-        let outcome = self.run_script(&script);
+        let since = self.calls.since;
+        let outcome = self.run_script(since, &script);
         if outcome.is_err() {
             self.calls.gate.job_failed();
         }
-        Done { place, outcome }
+        Done {
+            place,
+            since,
+            outcome,
+        }
     }
 
     /// Runs one job after the other, until none waits any more or nobody takes a report.

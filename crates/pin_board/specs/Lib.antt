@@ -3,3 +3,4 @@ pub mod Views
 pub mod Rule
 pub mod Steps
 pub mod Tally
+pub mod Named

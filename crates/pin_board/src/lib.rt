@@ -1,6 +1,9 @@
 //! A board on which sessions pin the stamps that they read at, and from which a collector draws a horizon. A session
 //! takes no lock to settle or to leave.
 //!
+//! Which table a board, its desk and its seats are of is a value that callers see: each call asks that they are of one.
+//! Who lifts the desk, waiting or in a bounded number of tries, has to give it back.
+//!
 //! Callers see what the desk knows (the journal, the greatest horizon) and what a session's seat knows (its start, the
 //! journal as it was then, the longest beginning of the journal that it has seen, the units that it wrote):
 //! `src/view.rt`. All of this is for clauses alone; at run time there are the words of one table, and small numbers.
@@ -18,15 +21,17 @@
 //! A session that read 6 before that draw, and stores it only after its slot was passed, finds the floor at 7 and is
 //! refused.
 //!
-//! Read `specs/Views.antt`, `specs/Rule.antt`, then `board.rt`, `words.rt`, `specs/Steps.antt`, `specs/Slips.antt`.
+//! Read `specs/Views.antt`, `specs/Named.antt`, `specs/Rule.antt`, then `board.rt`, `desk.rt`, `words.rt`,
+//! `specs/Steps.antt`, `specs/Slips.antt`.
 //! Not promised: that a session settles at last; that a call which waits for the desk returns.
 #![tactic(auto)]
 
-pub use board::{Blank, Board, BoardName, Desk, FloorAbove, FreeSeat, Pin, SEATS, Slip, Tally};
+pub use board::{Blank, Board, FloorAbove, FreeSeat, Pin, SEATS, Slip, Tally};
+pub use desk::{Desk, Lifted};
 pub use view::{BoardRules, DeskView, PinView, SeatView};
 
 mod board;
-mod lending;
+mod desk;
 mod step_kinds;
 mod view;
 mod words;

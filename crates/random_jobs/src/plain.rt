@@ -46,9 +46,15 @@ fn whole_of(text: &[u8]) -> i64 {
         if !digit.is_ascii_digit() {
             break;
         }
-        number = number * 10 + i64::from(*digit - b'0');
+        number = number
+            .wrapping_mul(10)
+            .wrapping_add(i64::from(*digit - b'0'));
     }
-    if is_negative { -number } else { number }
+    if is_negative {
+        number.wrapping_neg()
+    } else {
+        number
+    }
 }
 
 /// The map, and the locks.
@@ -229,7 +235,7 @@ impl Plain {
         let Answer::Value(sum) = answer else {
             return Ok(false);
         };
-        let is_sum = whole_of(sum.as_slice()) == before + whole_of(number);
+        let is_sum = whole_of(sum.as_slice()) == before.wrapping_add(whole_of(number));
         self.set(alloc, key, sum.as_slice())?;
         Ok(is_sum)
     }

@@ -137,7 +137,7 @@ impl Numbers {
             3 => self.merge(),
             4 | 5 => self.look(),
             6 => self.lock(),
-            7 => Act::Increment(self.place(), (self.below(9) + 1) as u16),
+            7 => Act::Increment(self.place(), (self.below(9) % 9 + 1) as u16),
             _ => self.transaction(),
         }
     }

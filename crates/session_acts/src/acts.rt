@@ -5,10 +5,9 @@ use collation::Job;
 use command::{Answer, Command, DataCommand, Look, Reply};
 use key_codec::Key;
 use lock_name::LockCommand;
-use pin_board::BoardName;
 use refusal::Refusal;
 use script::{Drafts, read_line};
-use shared_engine::{Ended, Gate, Mark, Session, Shared, Stop, Turn};
+use shared_engine::{BoardName, Ended, Gate, Mark, Session, Shared, Stop, Turn};
 use std::alloc::Global;
 use std::sync::Wait;
 

@@ -1,5 +1,5 @@
 -- Nobody touches anything while one session's block is done.
-use Rattle.std.proofs.Common.{◌≡◌, ◌⊎◌, inl, inr, ℕ, zero, suc, ◌+◌, ◌<◌, ◌≤◌, List, [], ◌∷◌, ◌++◌, length, drop, Some, None, refl, sym, ap, ◌∙◌, subst, arith, true≢false}
+use Rattle.std.proofs.Common.{◌≡◌, ◌⊎◌, inl, inr, ℕ, zero, suc, ◌<◌, ◌≤◌, List, [], ◌∷◌, ◌++◌, length, drop, Some, None, refl, sym, ap, ◌∙◌, subst, arith, true≢false}
 use Rattle.std.specs.Prelude.{Bool, true, false, ◌||◌, ◌&&◌, Result, Ok, Err, IfOk, OnErr, Option, nat_lt, if◌then◌else◌}
 use Rattle.std.specs.List.{list_any}
 use Rattle.std.specs.FinMap as finmap
@@ -22,7 +22,8 @@ use Rattle.validate_commit.specs.Working.{Working}
 use Rattle.validate_commit.specs.Verdicts.{has_been_overtaken, IsCauseAtCommit}
 use Rattle.job_core.specs.Sessions.{Session as JobSession, after_lock}
 use Rattle.shared_engine.specs.Sessions.{Held, knowing, begun_anew, noted_lock}
-use Rattle.shared_engine.specs.Engines.{Engine, lock_unit, after_try, IsCauseAtRestart}
+use Rattle.job_core.specs.Common.{Common}
+use Rattle.shared_engine.specs.Engines.{lock_unit, after_try, IsCauseAtRestart}
 use Rattle.shared_engine.specs.Writes.{IsQuietSince, IsAlone}
 use Rattle.shared_engine.specs.Blocks.{AreSame, HasSeen, IsLone, IsReadAt, IsTried, IsOpened, IsDeeper, IsCommitted, IsRolledBack, IsRestarted, HasDone}
 use Rattle.shared_engine.proofs.Quiet.{everywhere}
@@ -137,10 +138,10 @@ alone_tried command (Ok had) units more old new h alone = alone_noted command ha
 alone_tried command (Err refusal) units more old new h alone = alone_seen units more old new h.1 alone
 
 -- the same by the clauses of a try
-pub alone_lock : (command : LockCommand) (result : Result Bool Refusal) (a b : Engine) (old new : Held) → IfOk result (λ had. b.common.units ≡ a.common.units ++ lock_unit old.state command had ∷ []) → IfOk result (λ had. new ≡ after_try a.common.units command had old)
-    → OnErr result ((b ≡ a) × (new ≡ knowing a.common.units old)) → IsAlone old a.common.units → IsAlone new b.common.units
-alone_lock command (Ok had) a b old new units is refused alone = alone_noted command had a.common.units b.common.units old new units is alone
-alone_lock command (Err refusal) a b old new units is refused alone = alone_seen a.common.units b.common.units old new (ap (λ (e : Engine). e.common.units) refused.0, refused.1) alone
+pub alone_lock : (command : LockCommand) (result : Result Bool Refusal) (a b : Common) (old new : Held) → IfOk result (λ had. b.units ≡ a.units ++ lock_unit old.state command had ∷ []) → IfOk result (λ had. new ≡ after_try a.units command had old)
+    → OnErr result ((b ≡ a) × (new ≡ knowing a.units old)) → IsAlone old a.units → IsAlone new b.units
+alone_lock command (Ok had) a b old new units is refused alone = alone_noted command had a.units b.units old new units is alone
+alone_lock command (Err refusal) a b old new units is refused alone = alone_seen a.units b.units old new (ap (λ (c : Common). c.units) refused.0, refused.1) alone
 
 alone_opened : (result : Result ℕ Refusal) (units more : List JournalUnit) (old new : Held) → IsOpened result units more old new → IsAlone old units → IsAlone new more
 alone_opened (Ok level) units more old new h alone = alone_now more new (ap (λ (s : Held). s.state.work.start) h.1.1.is ∙ ap length (sym h.1.0))

@@ -32,13 +32,15 @@ use Rattle.job_core.specs.contracts.state.JobState as JobState
 use Rattle.workspace.specs.contracts.writes.Workspace as Workspace
 use Rattle.shared_engine.specs.contracts.session.Session as Session
 use Rattle.shared_engine.specs.contracts.session.Session.TheInside as SessionInside
-use Rattle.pin_board.specs.declared.board.BoardName.{Ghosts as BoardGhosts}
+use Rattle.shared_engine.specs.declared.name.BoardName.{Ghosts as BoardGhosts}
+use Rattle.shared_engine.specs.contracts.inner.InnerSession as InnerSession
+use Rattle.shared_engine.specs.contracts.inner.InnerSession.TheInside as InnerInside
+use Rattle.shared_engine.specs.contracts.under.Under as Under
 use Rattle.pin_board.proofs.board.Pin.TheSendSync as pin
-use Rattle.pin_board.proofs.board.Desk.TheSendSync as desk
+use Rattle.pin_board.proofs.desk.Desk.TheSendSync as desk
 use Rattle.pin_board.proofs.board.Board.TheSendSync as board
 use Rattle.shared_engine.proofs.seats.Seats.TheSendSync as seats
 use Rattle.shared_engine.specs.contracts.locked.Locked as Locked
-use Rattle.shared_engine.specs.contracts.locked.Locked.TheInside as LockedInside
 use Rattle.shared_engine.proofs.adaptive.AdaptiveLock.TheSendSync as adaptive
 use Rattle.shared_engine.specs.contracts.shared.Shared as Shared
 use Rattle.job_core.specs.contracts.kernel.Core.TheInside as Inside
@@ -107,22 +109,33 @@ workspace_send = search (heap.crosses, nodes.crosses, key.the_send, key.the_sync
 pub state_send : IsSend JobState.the_row
 state_send = search (heap.crosses, workspace_send, key.the_send, key.the_sync, text.the_send, text.the_sync, sendable) depth 60 fits 20000
 
+pub inner_send : IsSend InnerSession.the_row
+inner_send =
+    let c = struct_send (shape InnerInside.the_type) (state_send, (pin.the_send, (search (heap.crosses, sendable) depth 60, tt))) in
+    record { owned = λ d vs x. (c.owned (InnerInside.the_type.to x.0) vs, tt); leaving = λ k d w. tt }
+
 pub session_send : (B : RattleType) (g : BoardGhosts B.Denot) → IsSend (Session.the_row B g)
 session_send B g =
-    let c = struct_send (shape (SessionInside.the_type B g)) (state_send, (pin.the_send B g, (search (heap.crosses, sendable) depth 60, tt))) in
+    let c = struct_send (shape (SessionInside.the_type B g)) (inner_send, (search sendable, tt)) in
     record { owned = λ d vs x. (c.owned ((SessionInside.the_type B g).to x.0) vs, tt); leaving = λ k d w. tt }
 
-pub locked_send : (B : RattleType) (g : BoardGhosts B.Denot) → IsSend (Locked.the_row B g)
-locked_send B g =
-    let c = struct_send (shape (LockedInside.the_type B g)) (seats.the_send B g, (search sendable, (search sendable, (search sendable, (core_send, (desk.the_send B g, tt)))))) in
-    record { owned = λ d vs x. (c.owned ((LockedInside.the_type B g).to x.0) vs, tt); leaving = λ k d w. tt }
+locked_send : IsSend (Locked.the_field).row
+locked_send = struct_send (shape Locked.the_type) (seats.the_send, (search sendable, (search sendable, (search sendable, (core_send, tt)))))
 
-pub locked_sync : (B : RattleType) (g : BoardGhosts B.Denot) → IsSync (Locked.the_row B g)
-locked_sync B g =
-    let c = struct_sync (shape (LockedInside.the_type B g)) (seats.the_sync B g, (search sendable, (search sendable, (search sendable, (core_sync, (desk.the_sync B g, tt)))))) in
-    record { shared = λ d b o κ x. (c.shared ((LockedInside.the_type B g).to x.0) b o κ, tt) }
+locked_sync : IsSync (Locked.the_field).row
+locked_sync = struct_sync (shape Locked.the_type) (seats.the_sync, (search sendable, (search sendable, (search sendable, (core_sync, tt)))))
+
+under_send : (B : RattleType) (g : BoardGhosts B.Denot) → IsSend (Under.the_row B g)
+under_send B g =
+    let c = struct_send (shape (Under.the_type B g)) (locked_send, (desk.the_send, (search sendable, tt))) in
+    record { owned = λ d vs. c.owned ((Under.the_type B g).to d) vs; leaving = λ k d w. c.leaving k ((Under.the_type B g).to d) w }
+
+under_sync : (B : RattleType) (g : BoardGhosts B.Denot) → IsSync (Under.the_row B g)
+under_sync B g =
+    let c = struct_sync (shape (Under.the_type B g)) (locked_sync, (desk.the_sync, (search sendable, tt))) in
+    record { shared = λ d b o κ. c.shared ((Under.the_type B g).to d) b o κ }
 
 pub shared_sync : (B : RattleType) (g : BoardGhosts B.Denot) → IsSync (Shared.the_row B g)
 shared_sync B g =
-    let c = struct_sync (shape (Shared.the_type B g)) (board.the_sync B g, (adaptive.the_field_sync (Locked.the_row B g) (locked_send B g) (locked_sync B g), tt)) in
+    let c = struct_sync (shape (Shared.the_type B g)) (board.the_sync, (adaptive.the_field_sync (Under.the_row B g) (under_send B g) (under_sync B g), tt)) in
     record { shared = λ d b o κ. c.shared ((Shared.the_type B g).to d) b o κ }

@@ -1,14 +1,12 @@
 -- What the machine replies and leaves, where the job's transaction and the units are these.
-use Rattle.std.proofs.Common.{◌≡◌, ◌⊎◌, inl, inr, ℕ, zero, suc, ◌+◌, ◌-◌, ◌^◌, ◌<◌, ◌≤◌, Bool, true, false, List, [], ◌∷◌, ◌++◌, length, length-append, take, refl, sym, ap, ◌∙◌, subst, arith, cond}
-use Rattle.std.specs.Prelude.{min, nat_lt, not, Option, Some, None, Result, Ok, Err}
+use Rattle.std.proofs.Common.{◌≡◌, inl, inr, ℕ, ◌+◌, ◌-◌, ◌^◌, ◌<◌, ◌≤◌, Bool, true, false, List, [], ◌∷◌, ◌++◌, length, length-append, refl, sym, ap, ◌∙◌, subst, arith, cond}
+use Rattle.std.specs.Prelude.{min, nat_lt, not, Option, Some, None}
 use Rattle.std.proofs.lemmas.Bool.Decides.{nat_tests}
 use Rattle.std.specs.Ordering.{nat_cmp}
-use Rattle.std.specs.FinMap as finmap
 use Rattle.std.specs.FinMap.{FinMap}
 use Rattle.refusal.specs.declared.Refusal.{Refusal}
 use Rattle.refusal.specs.declared.Refusal.TheVariants.{NoTransaction, LevelTooDeep, TransactionTooLong, StampsUsedUp, OutOfMemory, MergeOverlap, NeedSubscript}
 use Rattle.collation.specs.Limits.{most_commands, most_levels}
-use Rattle.collation.specs.Database.{Database}
 use Rattle.collation.specs.Levels.{has_level, overlap}
 use Rattle.lock_name.specs.declared.lock.LockCommand.{LockCommand}
 use Rattle.lock_name.specs.declared.lock.LockCommand.TheVariants.{Release, Only, More, Fewer}
@@ -20,16 +18,15 @@ use Rattle.command.specs.declared.access.Answer.{Answer}
 use Rattle.command.specs.declared.request.Command.{Command}
 use Rattle.command.specs.declared.request.Command.TheVariants.{Access, Lock as lock_command, Start, Commit, Rollback, Restart, Level, Restarts, Halt}
 use Rattle.command.specs.declared.request.Reply.{Reply}
-use Rattle.command.specs.declared.request.Reply.TheVariants.{Answered, Finished, Had, Count, AtLevel, Committed, Restarted, Refused}
+use Rattle.command.specs.declared.request.Reply.TheVariants.{Answered, Finished, Count, AtLevel, Committed, Restarted, Refused}
 use Rattle.command.specs.Data.{data_refusal, data_reply}
 use Rattle.globals.specs.Answering.{early_refusal}
-use Rattle.journal.specs.declared.unit.Exchange.{Exchange}
 use Rattle.journal.specs.declared.unit.Unit.{Unit as JournalUnit}
 use Rattle.journal.specs.declared.unit.Unit.TheVariants.{Lone, Whole, Lock, Back, End}
-use Rattle.journal.specs.History.{initial, after, all_after}
+use Rattle.journal.specs.History.{initial, after}
 use Rattle.journal.specs.Kept.{HasNoRoom}
 use Rattle.journal.specs.Story.{Transaction, Machine, transaction_of, add_unit, put_transaction, close, begin, told_answer, told_lock, told_level, told_commit, told_back, told}
-use Rattle.serial.specs.Machine.{state_at, seen_by, is_overtaken, refused_or, in_transaction, number_in, told_had, restarted, reply_on, reply_to_data, reply_to_lock, reply_to_start, reply_to_commit, reply_with_room, early_of, takes_none, MayWantMemory, IsReply}
+use Rattle.serial.specs.Machine.{seen_by, is_overtaken, refused_or, in_transaction, number_in, told_had, restarted, reply_on, reply_to_data, reply_to_start, reply_to_commit, reply_with_room, early_of, takes_none, IsReply}
 use Rattle.serial.specs.laws.ByJob.{get_here, gone_here}
 use Rattle.serial.specs.laws.Replies.{reply_within, reply_without}
 use Rattle.job_core.specs.Causes.{IsCauseOf}

@@ -1,5 +1,5 @@
 -- Histories of sessions go on step by step, and those of all jobs are one run.
-use Rattle.std.proofs.Common.{◌≡◌, ◌≢◌, ◌⊎◌, inl, inr, ℕ, zero, suc, ◌+◌, ◌^◌, ◌<◌, ◌≤◌, ◌==◌, Bool, true, false, List, [], ◌∷◌, ◌++◌, length, append_assoc, append-nil, map, None, refl, sym, ap, ◌∙◌, subst, arith, eq-eqb, eqb-true}
+use Rattle.std.proofs.Common.{◌≡◌, ◌⊎◌, inl, inr, ℕ, ◌+◌, ◌==◌, Bool, true, false, List, [], ◌∷◌, ◌++◌, length, append_assoc, append-nil, refl, sym, ap, ◌∙◌, subst, arith, eq-eqb, eqb-true}
 use Rattle.std.specs.Prelude.{⊤, if◌then◌else◌}
 use Rattle.std.specs.List.{sum_by}
 use Rattle.std.proofs.lemmas.List.Sums.{sum_by-append, sum_by-cons}
@@ -12,20 +12,19 @@ use Rattle.command.specs.declared.request.Reply.TheVariants.{Finished}
 use Rattle.journal.specs.declared.unit.Unit.{Unit as JournalUnit}
 use Rattle.journal.specs.Kept.{Claim, job_of}
 use Rattle.journal.specs.Story.{Machine, nothing_done, transaction_of}
-use Rattle.serial.specs.Interleaving.{Told, step_in, reply_in, of_job, after_told, IsHistory, IsWritten, AreWritten, IsOneRun, claims_of, AreAllClaims, IsClaimed, upto_of, after_all_told}
+use Rattle.serial.specs.Interleaving.{Told, of_job, after_told, IsHistory, IsWritten, AreWritten, claims_of, AreAllClaims, IsClaimed, upto_of, after_all_told}
 use Rattle.serial.specs.laws.ByJob.{same_or_not}
 use Rattle.serial.specs.laws.Claims.{each_is_claimed}
 use Rattle.serial.specs.laws.Growing.{histories_grow}
 use Rattle.serial.specs.laws.Merging.{one_interleaving}
-use Rattle.job_core.specs.Sessions.{idle}
 use Rattle.pin_board.specs.Slips as slips
 use Rattle.pin_board.specs.Slips.{IsBeginning, weigh}
 use Rattle.shared_engine.specs.Receipts.{Book}
-use Rattle.shared_engine.specs.Sessions.{Held, held, knowing, halted}
+use Rattle.shared_engine.specs.Sessions.{Held, halted}
 use Rattle.shared_engine.specs.Engines.{AreAllUnits, units_weigh}
-use Rattle.shared_engine.specs.Blocks.{HasDone, AreSame, AreDone}
-use Rattle.shared_engine.specs.Steps.{transaction_in, IsStanding, WasDone, step_at}
-use Rattle.shared_engine.specs.Histories.{IsToldOn, GoesOnFromAll, Wrote, HasHistory, HasClosed, HistoriesBegin, HistoriesBeginAgain, HistoriesKnow, HistoriesGoOn, AreStepsOf, HistoriesGoOnByBlocks, HistoriesEnd, JobTold, books_of, IsNoneOf, WroteAll, AreToldOf, HasStepsOf, SessionsAreOneRun}
+use Rattle.shared_engine.specs.Blocks.{HasDone}
+use Rattle.shared_engine.specs.Steps.{transaction_in, step_at}
+use Rattle.shared_engine.specs.Histories.{IsToldOn, HasHistory, HistoriesBegin, HistoriesBeginAgain, HistoriesKnow, HistoriesGoOn, AreStepsOf, HistoriesGoOnByBlocks, HistoriesEnd, JobTold, books_of, IsNoneOf, WroteAll, AreToldOf, HasStepsOf, SessionsAreOneRun}
 use Rattle.shared_engine.specs.laws.Prefixes.{begins_itself, begins_through}
 use Rattle.shared_engine.specs.laws.Seen.{done_seen}
 use Rattle.shared_engine.proofs.Stepping.{open_later, steps_exact, halts_exact}

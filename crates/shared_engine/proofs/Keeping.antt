@@ -12,8 +12,10 @@ use Rattle.validate_commit.specs.declared.committing.Verdict.{Verdict}
 use Rattle.validate_commit.specs.declared.committing.Verdict.TheVariants.{Committed, Restart}
 use Rattle.job_core.specs.Common.{Common, HasAdded, IsEnded, IsUnchanged, HasTurned, one_end_fewer}
 use Rattle.pin_board.specs.declared.view.DeskView.{DeskView}
+use Rattle.atomic_table.specs.Seated.{TableId}
+use Rattle.pin_board.specs.Named.{DeskAt, FreeAt}
 use Rattle.pin_board.specs.Views.{logged}
-use Rattle.shared_engine.specs.Engines.{IsLocked, sessions_in}
+use Rattle.shared_engine.specs.Engines.{IsLocked, AreInPlace, sessions_in}
 
 -- the desk has the unit that was added
 pub log_next : (u : JournalUnit) (told : Claim) (oldest : Option ℕ) (old new : Common) (desk later : DeskView) → desk.log ≡ old.units → HasAdded u told oldest old new → later ≡ logged desk told → later.log ≡ new.units
@@ -21,11 +23,11 @@ log_next u told oldest old new desk later same h step =
     ap (λ (d : DeskView). d.log) step ∙ ((λ i. same i ++ (ap (λ (c : Claim). c.unit) h.receipt) i ∷ []) ∙ sym h.units)
 
 -- a unit was added, and the core was told the horizon
-pub locked_added : (u : JournalUnit) (told : Claim) (old new : Common) (desk later : DeskView) (seats : List (Option ℕ)) (horizon opened : ℕ) → IsLocked old desk seats horizon opened → HasAdded u told (Some horizon) old new → later ≡ logged desk told
-    → IsLocked new later seats horizon opened
-locked_added u told old new desk later seats horizon opened is h step =
-    let high : later.high ≡ desk.high = ap (λ (d : DeskView). d.high) step in record {
-      log = log_next u told (Some horizon) old new desk later is.log h step;
+pub locked_added : (u : JournalUnit) (told : Claim) (old new : Common) (desk later : DeskAt) (seats : List (Option FreeAt)) (horizon opened : ℕ) → IsLocked old desk seats horizon opened → HasAdded u told (Some horizon) old new
+    → later.knows ≡ logged desk.knows told → later.table ≡ desk.table → IsLocked new later seats horizon opened
+locked_added u told old new desk later seats horizon opened is h step table =
+    let high : later.knows.high ≡ desk.knows.high = ap (λ (d : DeskView). d.high) step in record {
+      log = log_next u told (Some horizon) old new desk.knows later.knows is.log h step;
       cut = omega (arith, is.cut, is.high, h.cut, high);
       base = omega (arith, is.base, h.base, high);
       high = omega (arith, is.high, high);
@@ -34,10 +36,11 @@ locked_added u told old new desk later seats horizon opened is h step =
       dealt = is.dealt ∙ sym (ap (λ (d : DeskView). d.dealt) step);
       opened_is = subst (λ (n : ℕ). opened ≡ min n (2 ^ 64 - 1)) (sym (ap (λ (d : DeskView). d.given) step)) is.opened_is;
       ends = h.ends ∙ is.ends;
+      placed = subst (λ (t : TableId). AreInPlace t seats) (sym table) is.placed;
     }
 
 -- the core was refused something
-pub locked_unchanged : (old new : Common) (desk : DeskView) (seats : List (Option ℕ)) (horizon opened : ℕ) → IsLocked old desk seats horizon opened → IsUnchanged old new → IsLocked new desk seats horizon opened
+pub locked_unchanged : (old new : Common) (desk : DeskAt) (seats : List (Option FreeAt)) (horizon opened : ℕ) → IsLocked old desk seats horizon opened → IsUnchanged old new → IsLocked new desk seats horizon opened
 locked_unchanged old new desk seats horizon opened is h = record {
   log = is.log ∙ sym h.units;
   cut = omega (arith, is.cut, h.cut);
@@ -48,11 +51,13 @@ locked_unchanged old new desk seats horizon opened is h = record {
   dealt = is.dealt;
   opened_is = is.opened_is;
   ends = h.ends ∙ is.ends;
+  placed = is.placed;
 }
 
 -- a session has ended whose end had room
-locked_halted : (old : Common) (desk : DeskView) (seats fewer : List (Option ℕ)) (horizon opened : ℕ) → IsLocked old desk seats horizon opened → length fewer ≡ length seats → sessions_in fewer + 1 ≡ sessions_in seats → IsLocked (one_end_fewer old) desk fewer horizon opened
-locked_halted old desk seats fewer horizon opened is long one = record {
+locked_halted : (old : Common) (desk : DeskAt) (seats fewer : List (Option FreeAt)) (horizon opened : ℕ) → IsLocked old desk seats horizon opened → length fewer ≡ length seats → sessions_in fewer + 1 ≡ sessions_in seats → AreInPlace desk.table fewer
+    → IsLocked (one_end_fewer old) desk fewer horizon opened
+locked_halted old desk seats fewer horizon opened is long one placed = record {
   log = is.log;
   cut = is.cut;
   base = is.base;
@@ -62,12 +67,13 @@ locked_halted old desk seats fewer horizon opened is long one = record {
   dealt = long ∙ is.dealt;
   opened_is = is.opened_is;
   ends = omega (arith, is.ends, one);
+  placed = placed;
 }
 
-pub locked_after_halt : (u : JournalUnit) (told : Claim) (old new : Common) (desk later : DeskView) (seats fewer : List (Option ℕ)) (horizon opened : ℕ) → IsLocked old desk seats horizon opened → HasAdded u told (Some horizon) (one_end_fewer old) new → later ≡ logged desk told
-    → length fewer ≡ length seats → sessions_in fewer + 1 ≡ sessions_in seats → IsLocked new later fewer horizon opened
-locked_after_halt u told old new desk later seats fewer horizon opened is h step long one =
-    locked_added u told (one_end_fewer old) new desk later fewer horizon opened (locked_halted old desk seats fewer horizon opened is long one) h step
+pub locked_after_halt : (u : JournalUnit) (told : Claim) (old new : Common) (desk later : DeskAt) (seats fewer : List (Option FreeAt)) (horizon opened : ℕ) → IsLocked old desk seats horizon opened → HasAdded u told (Some horizon) (one_end_fewer old) new
+    → later.knows ≡ logged desk.knows told → later.table ≡ desk.table → length fewer ≡ length seats → sessions_in fewer + 1 ≡ sessions_in seats → AreInPlace desk.table fewer → IsLocked new later fewer horizon opened
+locked_after_halt u told old new desk later seats fewer horizon opened is h step table long one placed =
+    locked_added u told (one_end_fewer old) new desk later fewer horizon opened (locked_halted old desk seats fewer horizon opened is long one placed) h step table
 
 -- a turn of the collector was at some horizon
 pub turned_at : (result : Result Progress Refusal) (horizon limit : ℕ) (old new : Common) → IfOk result (λ p. HasTurned horizon limit p old.store new.store) → IfOk result (λ p. (h : ℕ) × HasTurned h limit p old.store new.store)

@@ -1,5 +1,5 @@
 -- What a session has seen after a step, and what a call says of the journal that it had.
-use Rattle.std.proofs.Common.{◌≡◌, ℕ, ◌+◌, Bool, true, false, List, [], ◌∷◌, ◌++◌, length, Some, None, refl, sym, ap, ◌∙◌, subst, Result, Ok, Err, IfOk, OnOk, OnErr}
+use Rattle.std.proofs.Common.{◌≡◌, ℕ, Bool, true, false, List, [], ◌∷◌, ◌++◌, length, Some, None, refl, sym, ap, ◌∙◌, subst, Result, Ok, Err, IfOk, OnOk, OnErr}
 use Rattle.std.specs.Prelude.{IfErr, IsErrOf, if◌then◌else◌}
 use Rattle.refusal.specs.declared.Refusal.{Refusal}
 use Rattle.lock_name.specs.declared.lock.LockCommand.{LockCommand}
@@ -11,14 +11,12 @@ use Rattle.globals.specs.Answering.{early_refusal}
 use Rattle.journal.specs.declared.unit.Unit.{Unit as JournalUnit}
 use Rattle.journal.specs.declared.unit.Unit.TheVariants.{Lone, Back}
 use Rattle.journal.specs.History.{initial, after}
-use Rattle.journal.specs.Kept.{HasNoNumber, HasNoRoom}
-use Rattle.validate_commit.specs.Verdicts.{IsCauseAtCommit}
+use Rattle.journal.specs.Kept.{HasNoRoom}
 use Rattle.job_core.specs.Causes.{IsCauseOf}
 use Rattle.job_core.specs.Common.{IsCauseOfLock}
 use Rattle.job_core.specs.Sessions.{Session as JobSession}
 use Rattle.pin_board.specs.Slips.{IsBeginning}
-use Rattle.shared_engine.specs.Receipts.{Book}
-use Rattle.shared_engine.specs.Sessions.{Held, knowing, ended, and_receipt, went_back, rolled_back, begun_anew, halted, IsJournalOf}
+use Rattle.shared_engine.specs.Sessions.{Held, knowing, ended, and_receipt, went_back, rolled_back, begun_anew, IsJournalOf}
 use Rattle.shared_engine.specs.Engines.{gone_back, after_try, OnOkThat}
 use Rattle.shared_engine.specs.laws.Prefixes.{begins_longer}
 use Rattle.shared_engine.proofs.Writing.{back_free}
@@ -104,25 +102,7 @@ pub anew_journal : (r : Result ℕ Refusal) (more : List JournalUnit) (old new :
 anew_journal (Ok restarts) more old new anew journal = subst (λ (us : List JournalUnit). IsJournalOf us old) (sym (ap (λ (s : Held). s.seen) anew.0)) journal
 anew_journal (Err refusal) more old new anew journal = tt
 
--- the session is over, or goes on
-pub halted_at : {E : Type 0} (r : Result Book E) (units : List JournalUnit) (s : Held) → IsBeginning units s.seen → IfOk r (λ pass. pass ≡ halted units s) → IfOk r (λ pass. (us : List JournalUnit) × IsBeginning us s.seen × (pass ≡ halted us s))
-halted_at (Ok pass) units s goes_on is = (units, goes_on, is)
-halted_at (Err e) units s goes_on is = tt
-
-pub not_halted : {P : Type 0} (A : Type 0) (r : Result P (Held × Refusal)) (units : List JournalUnit) (s : Held) → IsBeginning units s.seen → IfErr r (λ e. (e.0 ≡ knowing units s) × A) → IfErr r (λ e. IsBeginning e.0.seen s.seen × (e.0 ≡ knowing e.0.seen s))
-not_halted A (Ok pass) units s goes_on is = tt
-not_halted A (Err e) units s goes_on is =
-    let seen : units ≡ e.0.seen = sym (ap (λ (x : Held). x.seen) is.0) in (subst (λ (us : List JournalUnit). IsBeginning us s.seen) seen goes_on, is.0 ∙ ap (λ (us : List JournalUnit). knowing us s) seen)
-
-pub halt_cause : {P : Type 0} (A : Type 0) (r : Result P (Held × Refusal)) (units : List JournalUnit) (s : Held) → IfErr r (λ e. (e.0 ≡ knowing units s) × A) → IfErr r (λ e. HasNoNumber e.1 1 (length units)) → IfErr r (λ e. HasNoNumber e.1 1 (length e.0.seen))
-halt_cause A (Ok pass) units s is cause = tt
-halt_cause A (Err e) units s is cause = subst (λ (us : List JournalUnit). HasNoNumber e.1 1 (length us)) (sym (ap (λ (x : Held). x.seen) is.0)) cause
-
--- what holds of the units under the lock holds of what the session has seen then
-pub at_seen : {A E : Type 0} (r : Result A E) (units : List JournalUnit) (new : Held) (P : List JournalUnit → A → Type 0) → OnOk r (new.seen ≡ units) → IfOk r (P units) → IfOk r (P new.seen)
-at_seen (Ok a) units new P seen h = subst (λ (us : List JournalUnit). P us a) (sym seen) h
-at_seen (Err e) units new P seen h = tt
-
+-- what a block did is told of the journal that the session has seen then
 pub come_at : {A E : Type 0} (r : Result A E) (units more : List JournalUnit) (old new : Held) (P : List JournalUnit → List JournalUnit → A → Type 0) → OnOk r (IsJournalOf units old) → OnOk r (new.seen ≡ more) → IfOk r (P units more)
     → IfOk r (λ a. (us : List JournalUnit) × IsJournalOf us old × P us new.seen a)
 come_at (Ok a) units more old new P journal seen h = (units, journal, subst (λ (us : List JournalUnit). P units us a) (sym seen) h)

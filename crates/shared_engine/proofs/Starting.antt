@@ -13,6 +13,7 @@ use Rattle.job_core.specs.Sessions.{Session as JobSession, idle, just_opened, af
 use Rattle.pin_board.specs.declared.view.DeskView.{DeskView}
 use Rattle.pin_board.specs.declared.view.PinView.{PinView}
 use Rattle.pin_board.specs.Views.{Met}
+use Rattle.pin_board.specs.Named.{DeskAt, FreeAt}
 use Rattle.shared_engine.specs.Sessions.{start_in, IsAt, IsBegun, noted_lock}
 use Rattle.shared_engine.specs.Engines.{IsLocked}
 
@@ -73,11 +74,11 @@ noted_work s = by_level (nat_lt 0 s.level)
 pub met_base : (common : Common) (desk : DeskView) (pin : PinView) → desk.log ≡ common.units → Met desk pin → pin.base ≡ take (length pin.base) common.units
 met_base common desk pin log met = met.base ∙ ap (take (length pin.base)) log
 
-pub met_open : (common : Common) (desk : DeskView) (pin : PinView) (seats : List (Option ℕ)) (horizon opened : ℕ) (s : JobSession) → IsLocked common desk seats horizon opened → Met desk pin → IsAt (start_in pin) s → 0 < s.level → IsOpenOn common s
+pub met_open : (common : Common) (desk : DeskAt) (pin : PinView) (seats : List (Option FreeAt)) (horizon opened : ℕ) (s : JobSession) → IsLocked common desk seats horizon opened → Met desk.knows pin → IsAt (start_in pin) s → 0 < s.level → IsOpenOn common s
 met_open common desk pin seats horizon opened s is met at deep =
     let settled = settled_open pin s at deep in
     let begun = begun_settled pin s settled at in
-    let base : pin.base ≡ take s.work.start common.units = met_base common desk pin is.log met ∙ ap (λ (n : ℕ). take n common.units) (sym begun.start) in record {
+    let base : pin.base ≡ take s.work.start common.units = met_base common desk.knows pin is.log met ∙ ap (λ (n : ℕ). take n common.units) (sym begun.start) in record {
       whose = refl;
       kept = omega (arith, is.cut, met.below settled, begun.start);
       begun = omega (arith, met.before, begun.start, ap length is.log);

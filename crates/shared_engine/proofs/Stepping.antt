@@ -1,6 +1,6 @@
 -- Each step of a session is one of the machine.
-use Rattle.std.proofs.Common.{◌≡◌, ◌⊎◌, inl, inr, ℕ, zero, suc, ◌+◌, ◌-◌, ◌^◌, ◌<◌, ◌≤◌, Bool, true, false, List, [], ◌∷◌, ◌++◌, length, length-append, append_assoc, take, drop, refl, sym, ap, ◌∙◌, subst, arith, true≢false}
-use Rattle.std.specs.Prelude.{min, nat_lt, slice_get, Option, Some, None, Result, Ok, Err, IsErrOf, if◌then◌else◌}
+use Rattle.std.proofs.Common.{◌≡◌, ◌⊎◌, inl, inr, ℕ, zero, suc, ◌+◌, ◌-◌, ◌^◌, ◌<◌, ◌≤◌, Bool, true, false, List, [], ◌∷◌, ◌++◌, length, length-append, append_assoc, take, drop, refl, sym, ap, ◌∙◌, subst, arith}
+use Rattle.std.specs.Prelude.{min, nat_lt, slice_get, Option, Some, None, Result, Ok, Err, if◌then◌else◌}
 use Rattle.std.proofs.lemmas.Bool.Decides.{nat_tests}
 use Rattle.std.proofs.lemmas.List.{take-append-drop}
 use Rattle.std.specs.Ordering.{nat_cmp}
@@ -8,7 +8,7 @@ use Rattle.std.specs.FinMap as finmap
 use Rattle.std.specs.FinMap.{FinMap}
 use Rattle.refusal.specs.declared.Refusal.{Refusal}
 use Rattle.refusal.specs.declared.Refusal.TheVariants.{NoTransaction}
-use Rattle.collation.specs.Limits.{most_commands, most_levels}
+use Rattle.collation.specs.Limits.{most_commands}
 use Rattle.lock_name.specs.declared.lock.LockCommand.{LockCommand}
 use Rattle.lock_name.specs.Locks.{lock_refusal, lock_reply}
 use Rattle.command.specs.declared.access.DataCommand.{DataCommand}
@@ -20,27 +20,25 @@ use Rattle.command.specs.declared.request.Reply.TheVariants.{Answered, Finished,
 use Rattle.command.specs.Data.{data_refusal, data_reply}
 use Rattle.globals.specs.Answering.{early_refusal}
 use Rattle.journal.specs.declared.unit.Unit.{Unit as JournalUnit}
-use Rattle.journal.specs.declared.unit.Unit.TheVariants.{Lone, Whole, Lock, Back, End}
+use Rattle.journal.specs.declared.unit.Unit.TheVariants.{Lone, Lock, Back, End}
 use Rattle.journal.specs.History.{initial, after, all_after}
-use Rattle.journal.specs.Kept.{Claim, HasNoRoom, job_of}
+use Rattle.journal.specs.Kept.{Claim, job_of}
 use Rattle.journal.specs.Story.{Transaction, Machine, transaction_of, told}
 use Rattle.serial.specs.Machine.{seen_by, number_in, told_had, IsReply}
 use Rattle.serial.specs.Interleaving.{standing, after_told, IsToldAt, IsUnitOf, IsClaimed}
 use Rattle.serial.specs.laws.ByJob.{get_here}
 use Rattle.validate_commit.specs.Working.{Working, IsCauseInside}
-use Rattle.validate_commit.specs.Verdicts.{has_been_overtaken, IsCauseAtCommit}
-use Rattle.job_core.specs.Causes.{IsCauseOf}
+use Rattle.validate_commit.specs.Verdicts.{IsCauseAtCommit}
 use Rattle.job_core.specs.Common.{IsCauseOfLock}
-use Rattle.job_core.specs.Sessions.{Session as JobSession, shown, idle, just_opened, after_lock, anew, at_level}
+use Rattle.job_core.specs.Sessions.{Session as JobSession, shown, after_lock, anew, at_level}
 use Rattle.pin_board.specs.Slips.{IsBeginning}
-use Rattle.shared_engine.specs.Receipts.{Book, claim}
-use Rattle.shared_engine.specs.Sessions.{Held, held, knowing, and_receipt, went_back, begun_anew, rolled_back, ended, halted, noted_lock}
-use Rattle.shared_engine.specs.Engines.{HasEnded, IsCauseAtRestart, gone_back, whole_of, lock_unit, after_try}
+use Rattle.shared_engine.specs.Receipts.{claim}
+use Rattle.shared_engine.specs.Sessions.{Held, held, went_back, begun_anew}
+use Rattle.shared_engine.specs.Engines.{HasEnded, IsCauseAtRestart, gone_back, whole_of}
 use Rattle.shared_engine.specs.Blocks.{said, AreSame, HasSeen, IsLone, IsInside, IsReadAt, IsTried, IsOpened, IsDeeper, IsNone, IsCommitted, IsLower, IsRolledBack, IsRestarted, HasDone}
-use Rattle.shared_engine.specs.Steps.{transaction_in, IsOpenFrom, IsStanding, reply_at_end, WasEnded, WasCommitted, WasNotHalted, WasDone, step_at, AreWrittenBy, IsExactStep, StepsAreExact, IsLastStep, HaltsAreExact}
+use Rattle.shared_engine.specs.Steps.{transaction_in, IsOpenFrom, IsStanding, reply_at_end, WasEnded, WasDone, step_at, AreWrittenBy, StepsAreExact, HaltsAreExact}
 use Rattle.shared_engine.specs.declared.locked.Ended.{Ended}
 use Rattle.shared_engine.specs.declared.locked.Ended.TheVariants.{Committed, Restarted}
-use Rattle.shared_engine.proofs.Starting.{noted_work}
 use Rattle.shared_engine.specs.laws.Prefixes.{begins_itself, begins_longer, begins_through}
 use Rattle.shared_engine.proofs.Exact.{IsExact, lone_answered, lone_refused, inside_answered, inside_too_long, inside_rule, inside_memory, lock_outside, lock_inside, lock_memory, lock_rule, lock_stamps, start_outside, start_inside, start_too_deep, commit_outside, commit_inner, committed_outer, commit_memory, commit_stamps, rolled, restarted_there, overtaken_there, not_rolled, not_restarted, not_begun_anew, rollback_outside, restart_outside, level_there, restarts_there, halted_there, not_halted}
 

@@ -10,7 +10,7 @@ use Rattle.job_core.specs.Sessions.{Session as JobSession}
 use Rattle.shared_engine.specs.declared.locked.Ended.{Ended}
 use Rattle.shared_engine.specs.Sessions.{Held, knowing, IsJournalOf}
 use Rattle.shared_engine.specs.Engines.{OnOkThat, OnOkNot, HasEnded, IsCauseAtRestart}
-use Rattle.shared_engine.specs.Blocks.{WasTried, WasTriedAgain, HasItsNames, WasBlocked, WasRefused}
+use Rattle.shared_engine.specs.Blocks.{WasTried, HasItsNames, WasBlocked, WasRefused}
 use Rattle.shared_engine.specs.laws.Prefixes.{begins_itself}
 use Rattle.shared_engine.specs.laws.Seen.{ended_seen}
 use Rattle.shared_engine.proofs.Seeing.{tried_refused}

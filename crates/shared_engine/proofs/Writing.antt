@@ -11,7 +11,7 @@ use Rattle.pin_board.specs.declared.view.DeskView.{DeskView}
 use Rattle.pin_board.specs.declared.view.PinView.{PinView}
 use Rattle.pin_board.specs.Views.{wrote, aware, rested}
 use Rattle.pin_board.specs.Slips.{AreInJournal, IsBeginning}
-use Rattle.shared_engine.specs.Receipts.{has_receipt, receipts_in, others_in, seen_in, claim, book, IsBook}
+use Rattle.shared_engine.specs.Receipts.{has_receipt, receipts_in, others_in, claim, book, IsBook}
 use Rattle.shared_engine.specs.Sessions.{Held, held, start_in, GoesOnFromStart, IsSession, knowing, and_receipt, went_back, halted, noted_lock}
 use Rattle.shared_engine.proofs.Booking.{book_nothing, receipts_nothing, booked_next, booked_quiet, received, received_none, others_same, others_more, others_nothing}
 use Rattle.shared_engine.proofs.Starting.{start_free, at_noted, noted_work}

@@ -1,5 +1,5 @@
 -- What is seen of what lies under the lock, and what each step makes of it and of the session that does it.
-use Rattle.std.specs.Prelude.{◌≡◌, ◌≢◌, ◌⊎◌, ℕ, ◌+◌, ◌-◌, ◌^◌, ◌≤◌, nat_lt, min, Bool, true, false, List, [], ◌∷◌, ◌++◌, length, Option, None, Some, Result, Ok, Err, slice_get, if◌then◌else◌}
+use Rattle.std.specs.Prelude.{◌≡◌, ◌≢◌, ℕ, ◌+◌, ◌-◌, ◌^◌, ◌≤◌, nat_lt, min, Bool, true, false, List, [], ◌∷◌, ◌++◌, length, Option, None, Some, Result, Ok, Err, slice_get, if◌then◌else◌}
 use Rattle.std.specs.List.{All, sum_by}
 use Rattle.journal.specs.declared.unit.Unit.{Unit as JournalUnit}
 use Rattle.journal.specs.declared.unit.Unit.TheVariants.{Back, Whole, Lock}
@@ -9,7 +9,8 @@ use Rattle.lock_name.specs.declared.lock.LockCommand.{LockCommand}
 use Rattle.validate_commit.specs.Verdicts.{has_been_overtaken}
 use Rattle.job_core.specs.Sessions.{Session as JobSession}
 use Rattle.job_core.specs.Common.{Common, HasTurned}
-use Rattle.pin_board.specs.declared.view.DeskView.{DeskView}
+use Rattle.atomic_table.specs.Seated.{TableId}
+use Rattle.pin_board.specs.Named.{DeskAt, FreeAt, free_at}
 use Rattle.pin_board.specs.Slips.{AreInJournal, IsBeginning, claims_of, weigh}
 use Rattle.shared_engine.specs.Receipts.{Book, IsOwn, RisesFrom, of_receipts, claim}
 use Rattle.shared_engine.specs.Sessions.{Held, held, and_receipt, begun_anew, ended, noted_lock}
@@ -18,59 +19,51 @@ use Rattle.shared_engine.specs.declared.locked.Ended.TheVariants.{Committed, Res
 use Rattle.shared_engine.specs.declared.turn.Turn.{Turn}
 use Rattle.shared_engine.specs.declared.turn.Turn.TheVariants.{Due, Taken}
 
--- what all jobs share, how many sessions were opened, and the seats of the jobs up to the greatest that ever had one:
--- none where it is lent to the job's session
-pub record Engine : Type 0 where
-  pub common : Common
-  pub opened : ℕ
-  pub seats : List (Option ℕ)
-
-abbrev pub engine : Common → ℕ → List (Option ℕ) → Engine
-engine common opened seats = record { common = common; opened = opened; seats = seats }
-
 -- how many jobs have a session
-abbrev pub sessions_in : List (Option ℕ) → ℕ
+abbrev pub sessions_in : List (Option FreeAt) → ℕ
 sessions_in [] = 0
 sessions_in (None ∷ seats) = sessions_in seats + 1
-sessions_in (Some place ∷ seats) = sessions_in seats
+sessions_in (Some seat ∷ seats) = sessions_in seats
 
--- what lies under the lock: the desk knows the journal, no content from a horizon on is gone, the journal's base hasn't
--- passed the greatest horizon, there is a seat for each place that was dealt, and room is kept for the end of each session
-pub record IsLocked (common : Common) (desk : DeskView) (seats : List (Option ℕ)) (horizon opened : ℕ) : Type 0 where
-  pub log : desk.log ≡ common.units
-  pub cut : common.store.cut ≤ desk.high
-  pub base : common.base ≤ desk.high
-  pub high : horizon ≤ desk.high
+-- each seat is at its place, and of this table
+abbrev pub AreInPlace : TableId → List (Option FreeAt) → Type 0
+AreInPlace table seats = (i : ℕ) (seat : FreeAt) → slice_get seats i ≡ Some (Some seat) → seat ≡ free_at table i
+
+-- what lies under the lock goes with its desk: that knows the journal, no content from a horizon on is gone, the journal's base hasn't
+-- passed the greatest horizon, there is a seat for each place that was dealt, which is of the desk's table, and room is kept
+-- for the end of each session
+pub record IsLocked (common : Common) (desk : DeskAt) (seats : List (Option FreeAt)) (horizon opened : ℕ) : Type 0 where
+  pub log : desk.knows.log ≡ common.units
+  pub cut : common.store.cut ≤ desk.knows.high
+  pub base : common.base ≤ desk.knows.high
+  pub high : horizon ≤ desk.knows.high
   pub now : horizon ≤ length common.units
-  pub wide : desk.seats ≡ 4096
-  pub dealt : length seats ≡ desk.dealt
-  pub opened_is : opened ≡ min desk.given (2 ^ 64 - 1)
+  pub wide : desk.knows.seats ≡ 4096
+  pub dealt : length seats ≡ desk.knows.dealt
+  pub opened_is : opened ≡ min desk.knows.given (2 ^ 64 - 1)
   pub ends : common.ends ≡ sessions_in seats
+  pub placed : AreInPlace desk.table seats
 
 -- ---- seats
 
 -- whether a seat was dealt at a place and is lent, of what is kept there
-abbrev pub is_lent : Option (Option ℕ) → Bool
+abbrev pub is_lent : Option (Option FreeAt) → Bool
 is_lent None = false
 is_lent (Some None) = true
-is_lent (Some (Some place)) = false
+is_lent (Some (Some seat)) = false
 
 -- whether the job has a session
-abbrev pub has_session : List (Option ℕ) → ℕ → Bool
+abbrev pub has_session : List (Option FreeAt) → ℕ → Bool
 has_session seats job = is_lent (slice_get seats (job - 1))
 
 -- the job has a session now, or has none, and the others are as they were
-pub record SessionIs (is : Bool) (job : ℕ) (old new : List (Option ℕ)) : Type 0 where
+pub record SessionIs (is : Bool) (job : ℕ) (old new : List (Option FreeAt)) : Type 0 where
   pub this : has_session new job ≡ is
   pub others : (other : ℕ) → 1 ≤ other → other ≢ job → has_session new other ≡ has_session old other
 
 -- each job has a session exactly where it had one
-abbrev pub SameSessions : List (Option ℕ) → List (Option ℕ) → Type 0
+abbrev pub SameSessions : List (Option FreeAt) → List (Option FreeAt) → Type 0
 SameSessions old new = (job : ℕ) → 1 ≤ job → has_session new job ≡ has_session old job
-
--- each seat is at its place
-abbrev pub AreInPlace : List (Option ℕ) → Type 0
-AreInPlace seats = (i place : ℕ) → slice_get seats i ≡ Some (Some place) → place ≡ i
 
 -- ---- steps
 

@@ -5,5 +5,6 @@ pub mod Writes
 pub mod Blocks
 pub mod Steps
 pub mod Histories
+pub mod Named
 pub mod Codes
 pub mod laws

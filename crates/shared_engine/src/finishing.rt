@@ -4,13 +4,14 @@ ghost use Rattle.std.specs.List.{All};
 ghost use Rattle.pin_board.specs.Slips.{AreInJournal};
 ghost use Rattle.pin_board.specs.Tally.{tallied};
 ghost use Rattle.shared_engine.specs.Receipts.{Book, IsOwn, RisesFrom};
-ghost use Rattle.shared_engine.specs.Engines.{AreAllReceipts, AreAllUnits, HasSeenOf, IsDue};
+ghost use Rattle.shared_engine.specs.Engines.{IsLocked, AreAllReceipts, AreAllUnits, HasSeenOf, IsDue};
 
+use crate::inner::InnerPass;
 use crate::locked::Locked;
+use crate::name::BoardName;
 use crate::session::Pass;
 use job_core::Core;
-use pin_board::{Board, BoardName, Tally};
-use std::sync::Wait;
+use pin_board::{Board, Lifted, Tally};
 
 /// An engine at its end.
 #[derive(Drop)]
@@ -21,12 +22,19 @@ pub struct Closed {
     pub sessions: u64,
 }
 
-impl<B: BoardName> Locked<B> {
+impl Locked {
     /// The core at the end. Where all passes are in, their units are all units in the journal, and their receipts those
     /// of all, but for rollbacks and ends. Takes no memory.
-    pub(crate) fn finish<R: Wait>(self, rt: &R, board: &Board<B>, passes: Vec<Pass<B>>) -> Closed
-        ensures core { result.core.units ≡ self.common.units }
-        ensures sessions { result.sessions ≡ min self.opened (2 ^ 64 - 1) }
+    pub(crate) fn finish<B: BoardName>(
+        self,
+        board: &Board,
+        desk: Lifted,
+        passes: Vec<Pass<B>>,
+    ) -> Closed
+        requires own { (desk.table ≡ board.now.table) × (board.now.table ≡ B.table) }
+        requires stands { IsLocked self.core desk self.seats self.horizon self.opened }
+        ensures core { result.core.units ≡ self.core.units }
+        ensures sessions { result.sessions ≡ min desk.knows.given (2 ^ 64 - 1) }
         ensures in_journal { All (λ (p : Book). AreInJournal result.core.units p.receipts) passes.items }
         ensures others { All (λ (p : Book). AreInJournal result.core.units p.others) passes.items }
         ensures rising { All (λ (p : Book). RisesFrom 0 p.receipts) passes.items }
@@ -38,13 +46,12 @@ impl<B: BoardName> Locked<B> {
     {
         let Locked {
             core,
-            desk,
             seats: _,
             horizon: _,
             opened,
             sweep: _,
         } = self;
-        let mut tally = desk.into_tally(rt);
+        let mut tally = desk.into_tally();
         gather(board, &mut tally, passes);
         board.audit(&mut tally);
         Closed {
@@ -55,11 +62,13 @@ impl<B: BoardName> Locked<B> {
 }
 
 // Takes one pass in.
-fn take_in<B: BoardName>(board: &Board<B>, tally: &mut Tally<B>, pass: Pass<B>)
-    ensures tally { tally.new ≡ tallied tally.old.units tally.old.given (tally.old.returned + 1) tally.new.back tally.new.known }
-    ensures due { (all rest : List Book) → IsDue all (rest ++ pass ∷ []) tally.old.back tally.old.known → IsDue all rest tally.new.back tally.new.known }
+fn take_in(board: &Board, tally: &mut Tally, pass: InnerPass)
+    requires own { (tally.old.table ≡ board.now.table) × (pass.table ≡ board.now.table) }
+    ensures table { tally.new.table ≡ tally.old.table }
+    ensures tally { tally.new.knows ≡ tallied tally.old.knows.units tally.old.knows.given (tally.old.knows.returned + 1) tally.new.knows.back tally.new.knows.known }
+    ensures due { (all rest : List Book) → IsDue all (rest ++ pass.book ∷ []) tally.old.knows.back tally.old.knows.known → IsDue all rest tally.new.knows.back tally.new.knows.known }
 {
-    let Pass {
+    let InnerPass {
         job: _,
         slip,
         numbers: _,
@@ -69,12 +78,15 @@ fn take_in<B: BoardName>(board: &Board<B>, tally: &mut Tally<B>, pass: Pass<B>)
 }
 
 // Takes all passes in.
-fn gather<B: BoardName>(board: &Board<B>, tally: &mut Tally<B>, mut passes: Vec<Pass<B>>)
-    requires { (tally.old.returned ≡ 0) × ((tally.old.back ≡ []) × (tally.old.known ≡ [])) }
-    ensures tally { tally.new ≡ tallied tally.old.units tally.old.given (vec_len passes) tally.new.back tally.new.known }
-    ensures due { IsDue passes.items [] tally.new.back tally.new.known }
+fn gather<B: BoardName>(board: &Board, tally: &mut Tally, mut passes: Vec<Pass<B>>)
+    requires own { (tally.old.table ≡ board.now.table) × (board.now.table ≡ B.table) }
+    requires none { (tally.old.knows.returned ≡ 0) × ((tally.old.knows.back ≡ []) × (tally.old.knows.known ≡ [])) }
+    ensures table { tally.new.table ≡ tally.old.table }
+    ensures tally { tally.new.knows ≡ tallied tally.old.knows.units tally.old.knows.given (vec_len passes) tally.new.knows.back tally.new.knows.known }
+    ensures due { IsDue passes.items [] tally.new.knows.back tally.new.knows.known }
 {
     while let Some(pass) = passes.pop() {
-        take_in(board, tally, pass);
+        let Pass { inner, of: _ } = pass;
+        take_in(board, tally, inner);
     }
 }

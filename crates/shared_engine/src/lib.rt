@@ -14,10 +14,13 @@
 //! (3) once the engine is closed its journal is legal, its content is what that leaves, what a session had seen begins
 //!     it, each unit of a pass is in it at its number, and where all passes are in, their units are all of it.
 //!
-//! `Locked` (`src/locked.rt`) is what lies under the lock; each of its methods is a step, whose contract is exact.
-//! `Shared` takes the lock and calls one. Whenever the lock is free, no content that an open transaction sees is gone
-//! (`IsLocked` of `specs/Engines.antt`): the store's cut isn't above the greatest horizon, and by the board's rule no
-//! horizon is above a settled start.
+//! `Locked` (`src/locked.rt`) is what lies under the lock, but for the board's desk; each of its methods is a step, whose
+//! contract is exact. `Shared` takes the lock, lifts the desk and calls one. Whenever the lock is free, no content that an
+//! open transaction sees is gone (`IsLocked` of `specs/Engines.antt`): the store's cut isn't above the greatest horizon,
+//! and by the board's rule no horizon is above a settled start.
+//!
+//! Inside, which board a session is of is a value that its clauses see (`specs/Named.antt`, `src/inner.rt`). Outside it is
+//! a type, `BoardName`, under which `Session`, `Pass` and `Under` (`src/under.rt`) wrap what is inside.
 //!
 //! Read `specs/Receipts.antt`, `specs/Sessions.antt`, `specs/Engines.antt`, then `shared.rt`, `locked.rt`,
 //! `session.rt`. Not promised: that a call which waits for the lock returns, or that a LOCK has its names at last.
@@ -26,20 +29,25 @@
 pub use finishing::Closed;
 pub use gate::{Gate, Mark, Stop};
 pub use locked::Ended;
+pub use name::BoardName;
 pub use serial_run::SerialRun;
 pub use session::{Pass, Session};
-pub use shared::{Pause, Share, Shared};
+pub use shared::Shared;
 pub use steps::{
     halts_are_exact, histories_begin, histories_end, histories_go_on, sessions_are_one_run,
     steps_are_exact,
 };
 pub use turn::Turn;
+pub use under::{Pause, Share};
 
 mod adaptive;
 mod finishing;
 mod gate;
+mod halting;
+mod inner;
 mod locked;
 mod locking;
+mod name;
 mod read_run;
 mod seats;
 mod serial_run;
@@ -48,3 +56,4 @@ mod shared;
 mod steps;
 mod sweep;
 mod turn;
+mod under;

@@ -1,60 +1,55 @@
 //! Data commands of a transaction under one hold of the shared lock.
-ghost use Rattle.std.specs.Prelude.{◌≡◌, ◌≤◌, IfOk, IfSome, OnOk, OnErr, vec_len, take, length};
+ghost use Rattle.std.specs.Prelude.{◌≡◌, ◌≤◌, [], IfSome, vec_len, vec_capacity, take, length};
 ghost use Rattle.std.specs.List.{All};
 ghost use Rattle.command.specs.declared.access.DataCommand.{DataCommand};
 ghost use Rattle.command.specs.declared.request.Command.{Command};
 ghost use Rattle.job_core.specs.Sessions.{IsOpenOn};
 ghost use Rattle.shared_engine.specs.Blocks.{HasDone, AreDone};
-ghost use Rattle.shared_engine.specs.Sessions.{knowing, IsJournalOf};
 
+use crate::inner::InnerSession;
 use crate::locked::Locked;
 use crate::serial_run::answered;
-use crate::session::Session;
 use command::{Command, Reply};
-use pin_board::{Board, BoardName};
-use std::alloc::{AllocError, Global};
-use std::sync::Wait;
 
-impl<B: BoardName> Locked<B> {
-    /// Does data commands of an open transaction, each as `read` does it. The lock may be shared. A command's refusal
-    /// is its reply.
-    ///
-    /// `AllocError` where there is no room for the replies, and nothing has changed.
-    pub(crate) fn read_all<R: Wait>(
+impl Locked {
+    /// Does data commands of an open transaction whose start's content is there, each as `read_met` does it. The lock may
+    /// be shared. A command's refusal is its reply. There is room for the replies.
+    pub(crate) fn read_all(
         &self,
-        rt: &R,
-        board: &Board<B>,
-        alloc: Global,
-        session: &mut Session<B>,
+        session: &mut InnerSession,
         block: Vec<Command>,
-    ) -> Result<Vec<Reply>, AllocError>
-        requires level { 1 ≤ session.old.state.level }
+        mut replies: Vec<Reply>,
+    ) -> Vec<Reply>
+        requires level { 1 ≤ session.old.held.state.level }
         requires accesses { All (λ (c : Command). (d : DataCommand) × (c ≡ Command.Access d)) block.items }
-        ensures done { IfOk result (λ replies. AreDone block.items replies.items self.now.common.units self.now.common.units (knowing self.now.common.units session.old) session.new) }
-        ensures seen { OnOk result (session.new.seen ≡ self.now.common.units) }
-        ensures journal { OnOk result (IsJournalOf self.now.common.units session.old) }
-        ensures each { IfOk result (λ replies. vec_len replies ≡ vec_len block) }
-        ensures refused { OnErr result (session.new ≡ session.old) }
+        requires start { IfSome session.old.held.start (λ base. base ≡ take (length base) self.now.core.units) }
+        requires kept { IsOpenOn self.now.core session.old.held.state }
+        requires seen { session.old.held.seen ≡ self.now.core.units }
+        requires none { replies.items ≡ [] }
+        requires room { length block.items ≤ vec_capacity replies }
+        ensures table { session.new.table ≡ session.old.table }
+        ensures done { AreDone block.items result.items self.now.core.units self.now.core.units session.old.held session.new.held }
+        ensures seen { session.new.held.seen ≡ self.now.core.units }
+        ensures each { vec_len result ≡ vec_len block }
     {
-        let mut replies = Vec::with_capacity(alloc, block.len())?;
-        self.meet(rt, board, session);
         'block: for command in block {
             replies.push_reserved(self.read_step(session, command));
         }
-        Ok(replies)
+        replies
     }
 
     // One command of the block.
-    fn read_step(&self, session: &mut Session<B>, command: Command) -> Reply
+    fn read_step(&self, session: &mut InnerSession, command: Command) -> Reply
         requires accesses { (d : DataCommand) × (command ≡ Command.Access d) }
-        requires level { 1 ≤ session.old.state.level }
-        requires start { IfSome session.old.start (λ base. base ≡ take (length base) self.now.common.units) }
-        requires kept { IsOpenOn self.now.common session.old.state }
-        requires seen { session.old.seen ≡ self.now.common.units }
-        ensures done { HasDone command result self.now.common.units self.now.common.units session.old session.new }
-        ensures level { session.new.state.level ≡ session.old.state.level }
-        ensures start { (session.new.start ≡ session.old.start) × (session.new.seen ≡ session.old.seen) }
-        ensures kept { IsOpenOn self.now.common session.new.state }
+        requires level { 1 ≤ session.old.held.state.level }
+        requires start { IfSome session.old.held.start (λ base. base ≡ take (length base) self.now.core.units) }
+        requires kept { IsOpenOn self.now.core session.old.held.state }
+        requires seen { session.old.held.seen ≡ self.now.core.units }
+        ensures table { session.new.table ≡ session.old.table }
+        ensures done { HasDone command result self.now.core.units self.now.core.units session.old.held session.new.held }
+        ensures level { session.new.held.state.level ≡ session.old.held.state.level }
+        ensures start { (session.new.held.start ≡ session.old.held.start) × (session.new.held.seen ≡ session.old.held.seen) }
+        ensures kept { IsOpenOn self.now.core session.new.held.state }
     {
         match command {
             Command::Access(command) => answered(self.read_met(session, command)),

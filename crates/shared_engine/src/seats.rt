@@ -2,39 +2,37 @@
 ghost use Rattle.std.specs.Prelude.{◌≡◌, ◌≢◌, ◌⊎◌, ◌<◌, ◌≤◌, ◌+◌, ◌-◌, [], true, false, length, IsOk, IfOk, IfErr, OnOk, OnErr};
 ghost use Rattle.refusal.specs.declared.Refusal.{Refusal};
 ghost use Rattle.pin_board.specs.Views.{dealing};
-ghost use Rattle.shared_engine.specs.Engines.{has_session, SessionIs, SameSessions, sessions_in};
+ghost use Rattle.shared_engine.specs.Engines.{AreInPlace, has_session, SessionIs, SameSessions, sessions_in};
 
 use collation::Job;
-use pin_board::{Board, BoardName, Desk, FreeSeat, Pin};
+use pin_board::{Board, FreeSeat, Lifted, Pin};
 use refusal::Refusal;
 use std::alloc::{AllocError, Global};
 use std::marker::Model;
 use std::sync::Wait;
 
 /// The seats of the jobs up to the greatest that ever had a session, each at its job's place. One that is lent to a
-/// session isn't there.
+/// session isn't there. Whose board they are of, who holds them knows (`IsLocked`).
 #[derive(Drop)]
-pub(crate) struct Seats<B: BoardName> {
-    places: Vec<Option<FreeSeat<B>>>,
+pub(crate) struct Seats {
+    places: Vec<Option<FreeSeat>>,
 }
 
-impl<B: BoardName> Model for Seats<B> {
-    ghost use Rattle.std.specs.Prelude.{ℕ, List, Option};
-    ghost use Rattle.std.specs.Coded.{coded_ℕ, coded_list, coded_option};
-    ghost use Rattle.shared_engine.specs.Engines.{AreInPlace};
+impl Model for Seats {
+    ghost use Rattle.std.specs.Prelude.{List, Option};
+    ghost use Rattle.pin_board.specs.Named.{FreeAt};
+    ghost use Rattle.shared_engine.specs.Codes.{seats_code};
 
-    ghost Value = { List (Option ℕ) };
+    ghost Value = { List (Option FreeAt) };
 
-    ghost coded = { coded_list (coded_option coded_ℕ) };
+    ghost coded = { seats_code };
 
     ghost view = { λ s. s.places.items };
-
-    ghost invariant = { λ s. AreInPlace s.places.items };
 }
 
-impl<B: BoardName> Seats<B> {
+impl Seats {
     /// No job ever had a session. Takes no memory.
-    pub(crate) fn new(alloc: Global) -> Seats<B>
+    pub(crate) fn new(alloc: Global) -> Seats
         ensures { result ≡ [] }
     {
         Seats {
@@ -45,16 +43,12 @@ impl<B: BoardName> Seats<B> {
     // Deals seats until there is one at this place.
     //
     // `AllocError` where memory is refused; the seats dealt before stay.
-    fn reach<R: Wait>(
-        &mut self,
-        rt: &R,
-        board: &Board<B>,
-        desk: &mut Desk<B>,
-        place: usize,
-    ) -> Result<(), AllocError>
-        requires dealt { length self.old ≡ desk.old.dealt }
-        requires seats { (place < 4096) × (desk.old.seats ≡ 4096) }
-        ensures dealt { (length self.new ≡ desk.new.dealt) × (desk.new ≡ dealing desk.old desk.new.dealt) }
+    fn reach(&mut self, board: &Board, desk: &mut Lifted, place: usize) -> Result<(), AllocError>
+        requires own { (desk.old.table ≡ board.now.table) × AreInPlace board.now.table self.old }
+        requires dealt { length self.old ≡ desk.old.knows.dealt }
+        requires seats { (place < 4096) × (desk.old.knows.seats ≡ 4096) }
+        ensures own { (desk.new.table ≡ desk.old.table) × AreInPlace board.now.table self.new }
+        ensures dealt { (length self.new ≡ desk.new.knows.dealt) × (desk.new.knows ≡ dealing desk.old.knows desk.new.knows.dealt) }
         ensures same { SameSessions self.old self.new }
         ensures as_many { sessions_in self.new ≡ sessions_in self.old }
         ensures reached { OnOk result (place < length self.new) }
@@ -62,7 +56,7 @@ impl<B: BoardName> Seats<B> {
     {
         'deal: while self.places.len() <= place {
             self.places.reserve(1)?;
-            let pin = board.deal(rt, desk);
+            let pin = board.deal(desk);
             self.places.push_reserved(Some(pin.set_down()));
         }
         Ok(())
@@ -74,22 +68,25 @@ impl<B: BoardName> Seats<B> {
     pub(crate) fn lend<R: Wait>(
         &mut self,
         rt: &R,
-        board: &Board<B>,
-        desk: &mut Desk<B>,
+        board: &Board,
+        desk: &mut Lifted,
         job: Job,
-    ) -> Result<Pin<B>, Refusal>
-        requires dealt { (length self.old ≡ desk.old.dealt) × (desk.old.seats ≡ 4096) }
-        ensures pin { IfOk result (λ pin. (pin.place + 1 ≡ job) × ((pin.settled ≡ false) × ((pin.slips ≡ 0) × (pin.mine ≡ [])))) }
+    ) -> Result<Pin, Refusal>
+        requires own { (desk.old.table ≡ board.now.table) × AreInPlace board.now.table self.old }
+        requires dealt { (length self.old ≡ desk.old.knows.dealt) × (desk.old.knows.seats ≡ 4096) }
+        ensures own { (desk.new.table ≡ desk.old.table) × AreInPlace board.now.table self.new }
+        ensures table { IfOk result (λ pin. pin.table ≡ board.now.table) }
+        ensures pin { IfOk result (λ pin. (pin.knows.place + 1 ≡ job) × ((pin.knows.settled ≡ false) × ((pin.knows.slips ≡ 0) × (pin.knows.mine ≡ [])))) }
         ensures lent { OnOk result (SessionIs true job self.old self.new) }
         ensures free { OnOk result (has_session self.old job ≡ false) }
-        ensures dealt { (length self.new ≡ desk.new.dealt) × (desk.new ≡ dealing desk.old desk.new.dealt) }
+        ensures dealt { (length self.new ≡ desk.new.knows.dealt) × (desk.new.knows ≡ dealing desk.old.knows desk.new.knows.dealt) }
         ensures refused { OnErr result (SameSessions self.old self.new) }
         ensures one_more { OnOk result (sessions_in self.new ≡ sessions_in self.old + 1) }
         ensures as_many { OnErr result (sessions_in self.new ≡ sessions_in self.old) }
         ensures cause { IfErr result (λ refusal. ((refusal ≡ Refusal.BadJob) × (has_session self.old job ≡ true)) ⊎ ((refusal ≡ Refusal.OutOfMemory) × (has_session self.old job ≡ false))) }
     {
         let place = job.number() as usize - 1;
-        self.reach(rt, board, desk, place)?;
+        self.reach(board, desk, place)?;
         let Some(seat) = self.places[place].take() else {
             return Err(Refusal::BadJob);
         };
@@ -97,10 +94,11 @@ impl<B: BoardName> Seats<B> {
     }
 
     /// Shows that a job whose session goes on has one: no free seat is at the place of its seat. Takes no memory.
-    pub(crate) fn show_lent<R: Wait>(&self, rt: &R, board: &Board<B>, pin: &mut Pin<B>)
-        requires { pin.old.place < length self.now }
+    pub(crate) fn show_lent<R: Wait>(&self, rt: &R, board: &Board, pin: &mut Pin)
+        requires own { (pin.old.table ≡ board.now.table) × AreInPlace board.now.table self.now }
+        requires place { pin.old.knows.place < length self.now }
         ensures same { pin.new ≡ pin.old }
-        ensures lent { has_session self.now (pin.old.place + 1) ≡ true }
+        ensures lent { has_session self.now (pin.old.knows.place + 1) ≡ true }
     {
         let place = pin.place();
         if let Some(seat) = &self.places[place] {
@@ -109,14 +107,17 @@ impl<B: BoardName> Seats<B> {
     }
 
     /// Takes back the seat of a job whose session has ended. Takes no memory.
-    pub(crate) fn take_back(&mut self, pin: Pin<B>)
-        requires place { pin.place < length self.old }
-        requires lent { has_session self.old (pin.place + 1) ≡ true }
-        requires ended { (pin.settled ≡ false) × ((pin.slips ≡ 0) × (pin.mine ≡ [])) }
-        ensures back { SessionIs false (pin.place + 1) self.old self.new }
+    pub(crate) fn take_back(&mut self, board: &Board, pin: Pin)
+        requires own { (pin.table ≡ board.now.table) × AreInPlace board.now.table self.old }
+        requires place { pin.knows.place < length self.old }
+        requires lent { has_session self.old (pin.knows.place + 1) ≡ true }
+        requires ended { (pin.knows.settled ≡ false) × ((pin.knows.slips ≡ 0) × (pin.knows.mine ≡ [])) }
+        ensures own { AreInPlace board.now.table self.new }
+        ensures back { SessionIs false (pin.knows.place + 1) self.old self.new }
         ensures long { length self.new ≡ length self.old }
         ensures one_fewer { sessions_in self.new + 1 ≡ sessions_in self.old }
     {
+        let _ = board;
         let place = pin.place();
         self.places[place] = Some(pin.set_down());
     }

@@ -10,17 +10,16 @@ ghost use Rattle.serial.specs.Machine.{told_had};
 ghost use Rattle.pin_board.specs.Slips.{IsBeginning};
 ghost use Rattle.shared_engine.specs.Blocks.{said, IsLone, IsInside, IsTried, IsOpened, IsDeeper, IsNone, IsCommitted, IsLower, IsRolledBack, IsRestarted, HasDone, is_blocked as blocked, must_in, HasCome, NoneBeganAnew};
 ghost use Rattle.shared_engine.specs.Sessions.{knowing, begun_anew, IsJournalOf};
-ghost use Rattle.shared_engine.specs.Engines.{gone_back};
+ghost use Rattle.shared_engine.specs.Engines.{IsLocked, gone_back};
 ghost use Rattle.shared_engine.specs.Writes.{IsAlone};
 
+use crate::inner::InnerSession;
 use crate::locked::{Ended, Locked};
-use crate::session::Session;
 use command::{Answer, Command, DataCommand, Reply};
 use lock_name::LockCommand;
-use pin_board::{Board, BoardName};
+use pin_board::{Board, Lifted};
 use refusal::Refusal;
 use std::alloc::{AllocError, Global};
-use std::sync::Wait;
 
 /// What came of a block.
 #[derive(Drop)]
@@ -117,33 +116,37 @@ fn restarted(done: Result<u64, Refusal>) -> Reply
     }
 }
 
-impl<B: BoardName> Locked<B> {
+impl Locked {
     /// Does the commands of a session without a transaction. No other job does anything meanwhile, so no TCOMMIT in them
     /// begins anew. Each LOCK is one try; behind one that is blocked, and has to have its names, nothing is done. A
     /// command's refusal is its reply.
     ///
     /// `AllocError` where there is no room for the replies, and nothing has changed.
-    pub(crate) fn run_serial<R: Wait>(
+    pub(crate) fn run_serial(
         &mut self,
-        rt: &R,
-        board: &Board<B>,
+        board: &Board,
+        desk: &mut Lifted,
         alloc: Global,
-        session: &mut Session<B>,
+        session: &mut InnerSession,
         block: Vec<Command>,
         musts: &[bool],
     ) -> Result<SerialRun, AllocError>
-        requires level { session.old.state.level ≡ 0 }
+        requires own { (desk.old.table ≡ board.now.table) × (session.old.table ≡ board.now.table) }
+        requires stands { IsLocked self.old.core desk.old self.old.seats self.old.horizon self.old.opened }
+        requires level { session.old.held.state.level ≡ 0 }
         requires goes_on { All (λ (c : Command). c ≢ Command.Halt) block.items }
-        ensures come { IfOk result (λ run. HasCome musts.now block.items run self.old.common.units self.new.common.units (knowing self.old.common.units session.old) session.new) }
-        ensures journal { OnOk result (IsJournalOf self.old.common.units session.old) }
+        ensures table { (desk.new.table ≡ desk.old.table) × (session.new.table ≡ session.old.table) }
+        ensures stands { IsLocked self.new.core desk.new self.new.seats self.new.horizon self.new.opened }
+        ensures come { IfOk result (λ run. HasCome musts.now block.items run self.old.core.units self.new.core.units (knowing self.old.core.units session.old.held) session.new.held) }
+        ensures journal { OnOk result (IsJournalOf self.old.core.units session.old.held) }
         ensures commits { IfOk result (λ run. NoneBeganAnew block.items run) }
-        ensures seen { OnOk result (session.new.seen ≡ self.new.common.units) }
-        ensures refused { OnErr result ((self.new.common ≡ self.old.common) × (session.new ≡ session.old)) }
-        ensures others { (self.new.opened ≡ self.old.opened) × (self.new.seats ≡ self.old.seats) }
+        ensures seen { OnOk result (session.new.held.seen ≡ self.new.core.units) }
+        ensures refused { OnErr result ((self.new.core ≡ self.old.core) × (session.new.held ≡ session.old.held)) }
+        ensures others { (desk.new.knows.given ≡ desk.old.knows.given) × (self.new.seats ≡ self.old.seats) }
     {
         let replies = Vec::with_capacity(alloc, block.len())?;
-        self.find_journal(rt, board, session);
-        Ok(self.run_alone(rt, board, session, block, musts, replies))
+        self.find_journal(board, desk, session);
+        Ok(self.run_alone(board, desk, session, block, musts, replies))
     }
 
     /// TRESTART of an open transaction, and then the commands behind it, as `run_serial` does them: no other job does
@@ -152,35 +155,39 @@ impl<B: BoardName> Locked<B> {
     /// Refusals, after which nothing has changed but what the session has seen: those of TRESTART; and `OutOfMemory` for
     /// the replies.
     #[tactic(auto, using(crate::proofs::Alone::alone_anew_now))]
-    pub(crate) fn trestart_serially<R: Wait>(
+    pub(crate) fn trestart_serially(
         &mut self,
-        rt: &R,
-        board: &Board<B>,
+        board: &Board,
+        desk: &mut Lifted,
         alloc: Global,
-        session: &mut Session<B>,
+        session: &mut InnerSession,
         block: Vec<Command>,
         musts: &[bool],
     ) -> Result<SerialRun, Refusal>
-        requires level { 1 ≤ session.old.state.level }
+        requires own { (desk.old.table ≡ board.now.table) × (session.old.table ≡ board.now.table) }
+        requires stands { IsLocked self.old.core desk.old self.old.seats self.old.horizon self.old.opened }
+        requires level { 1 ≤ session.old.held.state.level }
         requires goes_on { All (λ (c : Command). c ≢ Command.Halt) block.items }
-        ensures come { IfOk result (λ run. HasCome musts.now block.items run (gone_back session.old.state self.old.common.units) self.new.common.units (begun_anew (gone_back session.old.state self.old.common.units) session.old) session.new) }
-        ensures goes_on { IsBeginning self.old.common.units session.old.seen }
-        ensures journal { OnOk result (IsJournalOf (gone_back session.old.state self.old.common.units) session.old) }
+        ensures table { (desk.new.table ≡ desk.old.table) × (session.new.table ≡ session.old.table) }
+        ensures stands { IsLocked self.new.core desk.new self.new.seats self.new.horizon self.new.opened }
+        ensures come { IfOk result (λ run. HasCome musts.now block.items run (gone_back session.old.held.state self.old.core.units) self.new.core.units (begun_anew (gone_back session.old.held.state self.old.core.units) session.old.held) session.new.held) }
+        ensures goes_on { IsBeginning self.old.core.units session.old.held.seen }
+        ensures journal { OnOk result (IsJournalOf (gone_back session.old.held.state self.old.core.units) session.old.held) }
         ensures commits { IfOk result (λ run. NoneBeganAnew block.items run) }
-        ensures seen { OnOk result (session.new.seen ≡ self.new.common.units) }
-        ensures refused { OnErr result ((self.new.common ≡ self.old.common) × (session.new ≡ knowing self.old.common.units session.old)) }
-        ensures cause { IfErr result (λ refusal. HasNoRoom refusal 1 (length self.old.common.units)) }
-        ensures others { (self.new.opened ≡ self.old.opened) × (self.new.seats ≡ self.old.seats) }
+        ensures seen { OnOk result (session.new.held.seen ≡ self.new.core.units) }
+        ensures refused { OnErr result ((self.new.core ≡ self.old.core) × (session.new.held ≡ knowing self.old.core.units session.old.held)) }
+        ensures cause { IfErr result (λ refusal. HasNoRoom refusal 1 (length self.old.core.units)) }
+        ensures others { (desk.new.knows.given ≡ desk.old.knows.given) × (self.new.seats ≡ self.old.seats) }
     {
         let replies = match Vec::with_capacity(alloc, block.len()) {
             Ok(replies) => replies,
             Err(_) => {
-                self.find_journal(rt, board, session);
+                self.find_journal(board, desk, session);
                 return Err(Refusal::OutOfMemory);
             }
         };
-        match self.trestart(rt, board, session) {
-            Ok(_) => Ok(self.run_alone(rt, board, session, block, musts, replies)),
+        match self.trestart(board, desk, session) {
+            Ok(_) => Ok(self.run_alone(board, desk, session, block, musts, replies)),
             Err(refusal) => Err(refusal),
         }
     }
@@ -188,29 +195,33 @@ impl<B: BoardName> Locked<B> {
     // Does the commands of a session that has seen all units, and since the start of whose transaction, where one is
     // open, no unit touches anything. There is room for the replies.
     #[tactic(auto, using(crate::proofs::Blocks::so_far_first, crate::proofs::Blocks::none_had))]
-    fn run_alone<R: Wait>(
+    fn run_alone(
         &mut self,
-        rt: &R,
-        board: &Board<B>,
-        session: &mut Session<B>,
+        board: &Board,
+        desk: &mut Lifted,
+        session: &mut InnerSession,
         block: Vec<Command>,
         musts: &[bool],
         mut replies: Vec<Reply>,
     ) -> SerialRun
+        requires own { (desk.old.table ≡ board.now.table) × (session.old.table ≡ board.now.table) }
+        requires stands { IsLocked self.old.core desk.old self.old.seats self.old.horizon self.old.opened }
         requires goes_on { All (λ (c : Command). c ≢ Command.Halt) block.items }
-        requires alone { IsAlone session.old self.old.common.units }
-        requires seen { session.old.seen ≡ self.old.common.units }
+        requires alone { IsAlone session.old.held self.old.core.units }
+        requires seen { session.old.held.seen ≡ self.old.core.units }
         requires none { replies.items ≡ [] }
         requires room { length block.items ≤ vec_capacity replies }
-        ensures come { HasCome musts.now block.items result self.old.common.units self.new.common.units session.old session.new }
+        ensures table { (desk.new.table ≡ desk.old.table) × (session.new.table ≡ session.old.table) }
+        ensures stands { IsLocked self.new.core desk.new self.new.seats self.new.horizon self.new.opened }
+        ensures come { HasCome musts.now block.items result self.old.core.units self.new.core.units session.old.held session.new.held }
         ensures commits { NoneBeganAnew block.items result }
-        ensures seen { session.new.seen ≡ self.new.common.units }
-        ensures others { (self.new.opened ≡ self.old.opened) × (self.new.seats ≡ self.old.seats) }
+        ensures seen { session.new.held.seen ≡ self.new.core.units }
+        ensures others { (desk.new.knows.given ≡ desk.old.knows.given) × (self.new.seats ≡ self.old.seats) }
     {
         'block: for command in block {
             let place = replies.len();
             let must = must_at(musts, place);
-            let reply = self.serial_step(rt, board, session, command);
+            let reply = self.serial_step(board, desk, session, command);
             if is_blocked(must, &reply) {
                 return SerialRun::Blocked(place);
             }
@@ -220,26 +231,30 @@ impl<B: BoardName> Locked<B> {
     }
 
     // One command of the block.
-    fn serial_step<R: Wait>(
+    fn serial_step(
         &mut self,
-        rt: &R,
-        board: &Board<B>,
-        session: &mut Session<B>,
+        board: &Board,
+        desk: &mut Lifted,
+        session: &mut InnerSession,
         command: Command,
     ) -> Reply
+        requires own { (desk.old.table ≡ board.now.table) × (session.old.table ≡ board.now.table) }
+        requires stands { IsLocked self.old.core desk.old self.old.seats self.old.horizon self.old.opened }
         requires goes_on { command ≢ Command.Halt }
-        requires alone { IsAlone session.old self.old.common.units }
-        ensures done { HasDone command result self.old.common.units self.new.common.units session.old session.new }
-        ensures alone { IsAlone session.new self.new.common.units }
-        ensures others { (self.new.opened ≡ self.old.opened) × (self.new.seats ≡ self.old.seats) }
+        requires alone { IsAlone session.old.held self.old.core.units }
+        ensures table { (desk.new.table ≡ desk.old.table) × (session.new.table ≡ session.old.table) }
+        ensures stands { IsLocked self.new.core desk.new self.new.seats self.new.horizon self.new.opened }
+        ensures done { HasDone command result self.old.core.units self.new.core.units session.old.held session.new.held }
+        ensures alone { IsAlone session.new.held self.new.core.units }
+        ensures others { (desk.new.knows.given ≡ desk.old.knows.given) × (self.new.seats ≡ self.old.seats) }
     {
         match command {
-            Command::Access(command) => answered(self.serial_access(rt, board, session, command)),
-            Command::Lock(command) => had(&command, self.lock(rt, board, session, &command)),
-            Command::Start => at_level(self.serial_start(rt, board, session)),
-            Command::Commit => committed(self.serial_commit(rt, board, session)),
-            Command::Rollback => finished(self.serial_rollback(rt, board, session)),
-            Command::Restart => restarted(self.serial_restart(rt, board, session)),
+            Command::Access(command) => answered(self.serial_access(board, desk, session, command)),
+            Command::Lock(command) => had(&command, self.lock(board, desk, session, &command)),
+            Command::Start => at_level(self.serial_start(board, desk, session)),
+            Command::Commit => committed(self.serial_commit(board, desk, session)),
+            Command::Rollback => finished(self.serial_rollback(board, desk, session)),
+            Command::Restart => restarted(self.serial_restart(board, desk, session)),
             Command::Level => Reply::Count(session.tlevel()),
             Command::Restarts => Reply::Count(session.trestarts()),
             Command::Halt => unreachable!(),
@@ -247,75 +262,91 @@ impl<B: BoardName> Locked<B> {
     }
 
     // A data command of the block, in a transaction or not.
-    fn serial_access<R: Wait>(
+    fn serial_access(
         &mut self,
-        rt: &R,
-        board: &Board<B>,
-        session: &mut Session<B>,
+        board: &Board,
+        desk: &mut Lifted,
+        session: &mut InnerSession,
         command: DataCommand,
     ) -> Result<Answer, Refusal>
-        ensures outside { session.old.state.level ≡ 0 → IsLone command result self.old.common.units self.new.common.units session.old session.new }
-        ensures inside { 1 ≤ session.old.state.level → IsInside command result self.old.common.units self.new.common.units session.old session.new }
-        ensures others { (self.new.opened ≡ self.old.opened) × (self.new.seats ≡ self.old.seats) }
+        requires own { (desk.old.table ≡ board.now.table) × (session.old.table ≡ board.now.table) }
+        requires stands { IsLocked self.old.core desk.old self.old.seats self.old.horizon self.old.opened }
+        ensures table { (desk.new.table ≡ desk.old.table) × (session.new.table ≡ session.old.table) }
+        ensures stands { IsLocked self.new.core desk.new self.new.seats self.new.horizon self.new.opened }
+        ensures outside { session.old.held.state.level ≡ 0 → IsLone command result self.old.core.units self.new.core.units session.old.held session.new.held }
+        ensures inside { 1 ≤ session.old.held.state.level → IsInside command result self.old.core.units self.new.core.units session.old.held session.new.held }
+        ensures others { (desk.new.knows.given ≡ desk.old.knows.given) × (self.new.seats ≡ self.old.seats) }
     {
         if session.tlevel() == 0 {
-            return self.lone(rt, board, session, command);
+            return self.lone(board, desk, session, command);
         }
-        self.read(rt, board, session, command)
+        self.read(board, desk, session, command)
     }
 
     // A TSTART of the block. Outside a transaction one begins now, and is never refused.
-    fn serial_start<R: Wait>(
+    fn serial_start(
         &mut self,
-        rt: &R,
-        board: &Board<B>,
-        session: &mut Session<B>,
+        board: &Board,
+        desk: &mut Lifted,
+        session: &mut InnerSession,
     ) -> Result<u64, Refusal>
-        ensures outside { session.old.state.level ≡ 0 → IsOpened result self.old.common.units self.new.common.units session.old session.new }
-        ensures inside { 1 ≤ session.old.state.level → IsDeeper result self.old.common.units self.new.common.units session.old session.new }
-        ensures same { self.new ≡ self.old }
+        requires own { (desk.old.table ≡ board.now.table) × (session.old.table ≡ board.now.table) }
+        requires stands { IsLocked self.old.core desk.old self.old.seats self.old.horizon self.old.opened }
+        ensures table { (desk.new.table ≡ desk.old.table) × (session.new.table ≡ session.old.table) }
+        ensures stands { IsLocked self.new.core desk.new self.new.seats self.new.horizon self.new.opened }
+        ensures outside { session.old.held.state.level ≡ 0 → IsOpened result self.old.core.units self.new.core.units session.old.held session.new.held }
+        ensures inside { 1 ≤ session.old.held.state.level → IsDeeper result self.old.core.units self.new.core.units session.old.held session.new.held }
+        ensures same { (self.new ≡ self.old) × (desk.new ≡ desk.old) }
     {
         if session.tlevel() > 0 {
             return session.tstart_inner();
         }
-        let now = board.settle_now(rt, &self.desk, &mut session.pin);
+        let now = board.settle_now(desk, &mut session.pin);
         session.state.begin(now);
         Ok(1)
     }
 
     // A TCOMMIT of the block.
-    fn serial_commit<R: Wait>(
+    fn serial_commit(
         &mut self,
-        rt: &R,
-        board: &Board<B>,
-        session: &mut Session<B>,
+        board: &Board,
+        desk: &mut Lifted,
+        session: &mut InnerSession,
     ) -> Result<Reply, Refusal>
-        requires { IsAlone session.old self.old.common.units }
-        ensures outside { session.old.state.level ≡ 0 → IsNone result self.old.common.units self.new.common.units session.old session.new }
-        ensures outermost { session.old.state.level ≡ 1 → IsCommitted result self.old.common.units self.new.common.units session.old session.new }
-        ensures inside { 1 < session.old.state.level → IsLower result self.old.common.units self.new.common.units session.old session.new }
-        ensures others { (self.new.opened ≡ self.old.opened) × (self.new.seats ≡ self.old.seats) }
+        requires own { (desk.old.table ≡ board.now.table) × (session.old.table ≡ board.now.table) }
+        requires stands { IsLocked self.old.core desk.old self.old.seats self.old.horizon self.old.opened }
+        requires level { IsAlone session.old.held self.old.core.units }
+        ensures table { (desk.new.table ≡ desk.old.table) × (session.new.table ≡ session.old.table) }
+        ensures stands { IsLocked self.new.core desk.new self.new.seats self.new.horizon self.new.opened }
+        ensures outside { session.old.held.state.level ≡ 0 → IsNone result self.old.core.units self.new.core.units session.old.held session.new.held }
+        ensures outermost { session.old.held.state.level ≡ 1 → IsCommitted result self.old.core.units self.new.core.units session.old.held session.new.held }
+        ensures inside { 1 < session.old.held.state.level → IsLower result self.old.core.units self.new.core.units session.old.held session.new.held }
+        ensures others { (desk.new.knows.given ≡ desk.old.knows.given) × (self.new.seats ≡ self.old.seats) }
     {
         match session.tlevel() {
             0 => Err(Refusal::NoTransaction),
-            1 => self.commit_alone(rt, board, session),
+            1 => self.commit_alone(board, desk, session),
             _ => Ok(Reply::AtLevel(session.tcommit_inner())),
         }
     }
 
     // The outermost TCOMMIT of the block. Nobody can have overtaken the transaction.
-    fn commit_alone<R: Wait>(
+    fn commit_alone(
         &mut self,
-        rt: &R,
-        board: &Board<B>,
-        session: &mut Session<B>,
+        board: &Board,
+        desk: &mut Lifted,
+        session: &mut InnerSession,
     ) -> Result<Reply, Refusal>
-        requires level { session.old.state.level ≡ 1 }
-        requires alone { IsAlone session.old self.old.common.units }
-        ensures done { IsCommitted result self.old.common.units self.new.common.units session.old session.new }
-        ensures others { (self.new.opened ≡ self.old.opened) × (self.new.seats ≡ self.old.seats) }
+        requires own { (desk.old.table ≡ board.now.table) × (session.old.table ≡ board.now.table) }
+        requires stands { IsLocked self.old.core desk.old self.old.seats self.old.horizon self.old.opened }
+        requires level { session.old.held.state.level ≡ 1 }
+        requires alone { IsAlone session.old.held self.old.core.units }
+        ensures table { (desk.new.table ≡ desk.old.table) × (session.new.table ≡ session.old.table) }
+        ensures stands { IsLocked self.new.core desk.new self.new.seats self.new.horizon self.new.opened }
+        ensures done { IsCommitted result self.old.core.units self.new.core.units session.old.held session.new.held }
+        ensures others { (desk.new.knows.given ≡ desk.old.knows.given) × (self.new.seats ≡ self.old.seats) }
     {
-        match self.tcommit(rt, board, session) {
+        match self.tcommit(board, desk, session) {
             Ok(Ended::Committed) => Ok(Reply::Committed),
             Ok(Ended::Restarted(_)) => unreachable!(),
             Err(refusal) => Err(refusal),
@@ -323,36 +354,44 @@ impl<B: BoardName> Locked<B> {
     }
 
     // A TROLLBACK of the block.
-    fn serial_rollback<R: Wait>(
+    fn serial_rollback(
         &mut self,
-        rt: &R,
-        board: &Board<B>,
-        session: &mut Session<B>,
+        board: &Board,
+        desk: &mut Lifted,
+        session: &mut InnerSession,
     ) -> Result<(), Refusal>
-        ensures outside { session.old.state.level ≡ 0 → IsNone result self.old.common.units self.new.common.units session.old session.new }
-        ensures inside { 1 ≤ session.old.state.level → IsRolledBack result self.old.common.units self.new.common.units session.old session.new }
-        ensures others { (self.new.opened ≡ self.old.opened) × (self.new.seats ≡ self.old.seats) }
+        requires own { (desk.old.table ≡ board.now.table) × (session.old.table ≡ board.now.table) }
+        requires stands { IsLocked self.old.core desk.old self.old.seats self.old.horizon self.old.opened }
+        ensures table { (desk.new.table ≡ desk.old.table) × (session.new.table ≡ session.old.table) }
+        ensures stands { IsLocked self.new.core desk.new self.new.seats self.new.horizon self.new.opened }
+        ensures outside { session.old.held.state.level ≡ 0 → IsNone result self.old.core.units self.new.core.units session.old.held session.new.held }
+        ensures inside { 1 ≤ session.old.held.state.level → IsRolledBack result self.old.core.units self.new.core.units session.old.held session.new.held }
+        ensures others { (desk.new.knows.given ≡ desk.old.knows.given) × (self.new.seats ≡ self.old.seats) }
     {
         if session.tlevel() == 0 {
             return Err(Refusal::NoTransaction);
         }
-        self.trollback(rt, board, session)
+        self.trollback(board, desk, session)
     }
 
     // A TRESTART of the block.
-    fn serial_restart<R: Wait>(
+    fn serial_restart(
         &mut self,
-        rt: &R,
-        board: &Board<B>,
-        session: &mut Session<B>,
+        board: &Board,
+        desk: &mut Lifted,
+        session: &mut InnerSession,
     ) -> Result<u64, Refusal>
-        ensures outside { session.old.state.level ≡ 0 → IsNone result self.old.common.units self.new.common.units session.old session.new }
-        ensures inside { 1 ≤ session.old.state.level → IsRestarted result self.old.common.units self.new.common.units session.old session.new }
-        ensures others { (self.new.opened ≡ self.old.opened) × (self.new.seats ≡ self.old.seats) }
+        requires own { (desk.old.table ≡ board.now.table) × (session.old.table ≡ board.now.table) }
+        requires stands { IsLocked self.old.core desk.old self.old.seats self.old.horizon self.old.opened }
+        ensures table { (desk.new.table ≡ desk.old.table) × (session.new.table ≡ session.old.table) }
+        ensures stands { IsLocked self.new.core desk.new self.new.seats self.new.horizon self.new.opened }
+        ensures outside { session.old.held.state.level ≡ 0 → IsNone result self.old.core.units self.new.core.units session.old.held session.new.held }
+        ensures inside { 1 ≤ session.old.held.state.level → IsRestarted result self.old.core.units self.new.core.units session.old.held session.new.held }
+        ensures others { (desk.new.knows.given ≡ desk.old.knows.given) × (self.new.seats ≡ self.old.seats) }
     {
         if session.tlevel() == 0 {
             return Err(Refusal::NoTransaction);
         }
-        self.trestart(rt, board, session)
+        self.trestart(board, desk, session)
     }
 }

@@ -1,4 +1,4 @@
-//! What one job holds.
+//! What one job holds, under the name of its board.
 ghost use Rattle.std.specs.Prelude.{◌≡◌, ◌<◌, ◌≤◌, ◌+◌, ◌-◌, map, is_some, length, IfOk, IfErr, IfSome, OnOk, OnErr, IsErrOf};
 ghost use Rattle.refusal.specs.declared.Refusal.{Refusal};
 ghost use Rattle.collation.specs.Limits.{most_levels};
@@ -12,13 +12,13 @@ ghost use Rattle.job_core.specs.Sessions.{at_level, HasWritten};
 ghost use Rattle.shared_engine.specs.Receipts.{number_of, RisesFrom};
 ghost use Rattle.shared_engine.specs.Sessions.{held, IsAt, GoesOnFromStart};
 
+use crate::inner::{InnerPass, InnerSession};
+use crate::name::BoardName;
 use collation::{Job, Text};
 use command::{Answer, Extent};
-use job_core::JobState;
 use key_codec::Key;
-use pin_board::{BoardName, Pin, Slip};
 use refusal::Refusal;
-use std::marker::Model;
+use std::marker::{Model, PhantomData};
 
 /// A job at work: its state, its seat on the board, and the numbers of its receipts. Contracts see the unit of each
 /// receipt too, and the other units that it wrote, which its seat knows, the journal at the start of its transaction,
@@ -28,45 +28,43 @@ use std::marker::Model;
 /// transaction is open no content from that start on is collected; `Closed` tells how many sessions there were.
 #[derive(Drop)]
 pub struct Session<B: BoardName> {
-    pub(crate) state: JobState,
-    pub(crate) pin: Pin<B>,
-    pub(crate) numbers: Vec<u64>,
+    pub(crate) inner: InnerSession,
+    pub(crate) of: PhantomData<B>,
 }
 
 impl<B: BoardName> Model for Session<B> {
+    ghost use Rattle.std.specs.Prelude.{◌≡◌};
     ghost use Rattle.shared_engine.specs.Codes.{held_code};
-    ghost use Rattle.shared_engine.specs.Receipts.{receipts_in, others_in};
-    ghost use Rattle.shared_engine.specs.Sessions.{Held, held, start_in, IsSession};
+    ghost use Rattle.shared_engine.specs.Sessions.{Held};
 
     ghost Value = { Held };
 
     ghost coded = { held_code };
 
-    ghost view = { λ s. held s.state (start_in s.pin) (receipts_in s.pin.mine) (others_in s.pin.mine) s.pin.seen };
+    ghost view = { λ s. s.inner.held };
 
-    ghost invariant = { λ s. IsSession s.state s.pin s.numbers.items };
+    ghost invariant = { λ s. s.inner.table ≡ B.table };
 }
 
 /// A job's receipts in order, once its session has ended.
 #[derive(Drop)]
 pub struct Pass<B: BoardName> {
-    pub(crate) job: Job,
-    pub(crate) slip: Slip<B>,
-    pub(crate) numbers: Vec<u64>,
-    pub(crate) end: u64,
+    pub(crate) inner: InnerPass,
+    pub(crate) of: PhantomData<B>,
 }
 
 impl<B: BoardName> Model for Pass<B> {
+    ghost use Rattle.std.specs.Prelude.{◌≡◌};
     ghost use Rattle.shared_engine.specs.Codes.{book_code};
-    ghost use Rattle.shared_engine.specs.Receipts.{Book, book, receipts_in, others_in, seen_in, IsPass};
+    ghost use Rattle.shared_engine.specs.Receipts.{Book};
 
     ghost Value = { Book };
 
     ghost coded = { book_code };
 
-    ghost view = { λ p. book p.job (receipts_in p.slip.mine) (others_in p.slip.mine) (seen_in p.slip.known) };
+    ghost view = { λ p. p.inner.book };
 
-    ghost invariant = { λ p. IsPass p.job p.numbers.items p.slip.mine p.end (seen_in p.slip.known) };
+    ghost invariant = { λ p. p.inner.table ≡ B.table };
 }
 
 impl<B: BoardName> Pass<B> {
@@ -74,7 +72,7 @@ impl<B: BoardName> Pass<B> {
     pub fn job(&self) -> Job
         ensures { result ≡ self.now.job }
     {
-        self.job
+        self.inner.job()
     }
 
     /// The numbers of the session's units, but those of rollbacks and of its end, in order. The first unit of a journal
@@ -83,14 +81,14 @@ impl<B: BoardName> Pass<B> {
         ensures all { map number_of self.now.receipts ≡ result.now }
         ensures rising { RisesFrom 0 self.now.receipts }
     {
-        self.numbers.as_slice()
+        self.inner.numbers()
     }
 
     /// How many units the journal had at the session's end, which is the last of them.
     pub fn end(&self) -> u64
         ensures { result ≡ length self.now.seen }
     {
-        self.end
+        self.inner.end()
     }
 }
 
@@ -99,7 +97,7 @@ impl<B: BoardName> Session<B> {
     pub fn job(&self) -> Job
         ensures { result ≡ self.now.state.work.job }
     {
-        self.state.job()
+        self.inner.job()
     }
 
     /// The numbers of the session's units so far, but those of rollbacks, in order. The first unit of a journal is 1.
@@ -107,28 +105,28 @@ impl<B: BoardName> Session<B> {
         ensures all { map number_of self.now.receipts ≡ result.now }
         ensures rising { RisesFrom 0 self.now.receipts }
     {
-        self.numbers.as_slice()
+        self.inner.numbers()
     }
 
     /// $TLEVEL: how deep transactions are nested, 0 outside.
     pub fn tlevel(&self) -> u64
         ensures { result ≡ self.now.state.level }
     {
-        self.state.level()
+        self.inner.tlevel()
     }
 
     /// $TRESTART: how often the open transaction began anew, 0 outside.
     pub fn trestarts(&self) -> u64
         ensures { result ≡ self.now.state.restarts }
     {
-        self.state.restarts()
+        self.inner.trestarts()
     }
 
     /// Whether the transaction took a LOCK since its start or last restart.
     pub fn took_lock(&self) -> bool
         ensures { result ≡ self.now.state.took_lock }
     {
-        self.state.took_lock()
+        self.inner.took_lock()
     }
 
     /// TSTART within a transaction: its level is one higher. Takes neither lock nor memory.
@@ -140,7 +138,7 @@ impl<B: BoardName> Session<B> {
         ensures refused { IfErr result (λ refusal. (refusal ≡ Refusal.LevelTooDeep) × ((most_levels ≤ self.old.state.level) × (self.new ≡ self.old))) }
         ensures start { GoesOnFromStart self.old.start self.old.seen }
     {
-        self.state.start_inner()
+        self.inner.tstart_inner()
     }
 
     /// TCOMMIT of an inner level: it is one lower. Takes neither lock nor memory.
@@ -150,7 +148,7 @@ impl<B: BoardName> Session<B> {
         ensures session { self.new ≡ held (at_level (self.old.state.level - 1) self.old.state) self.old.start self.old.receipts self.old.others self.old.seen }
         ensures start { GoesOnFromStart self.old.start self.old.seen }
     {
-        self.state.commit_inner()
+        self.inner.tcommit_inner()
     }
 
     /// SET in a transaction, which is open, and right where it began. The session has seen its start. Takes no lock, and
@@ -168,7 +166,7 @@ impl<B: BoardName> Session<B> {
         ensures start { GoesOnFromStart self.old.start self.old.seen }
         ensures begun { IsAt self.old.start self.old.state }
     {
-        self.state.set(key, value)
+        self.inner.set(key, value)
     }
 
     /// KILL, KVALUE or KSUBSCRIPTS in a transaction: as `set`.
@@ -182,7 +180,7 @@ impl<B: BoardName> Session<B> {
         ensures start { GoesOnFromStart self.old.start self.old.seen }
         ensures begun { IsAt self.old.start self.old.state }
     {
-        self.state.kill(key, extent)
+        self.inner.kill(key, extent)
     }
 
     /// What a $GET answers where the transaction's own writes decide it: some exactly there, and then what it answers
@@ -195,6 +193,6 @@ impl<B: BoardName> Session<B> {
         ensures answer { IfOk result (λ found. IfSome found (λ answer. (m : Database) → IsWorkOn self.now.state.work m → answer ≡ data_reply (look_command (get_command key.now default.now)) (seen self.now.state.work m))) }
         ensures memory { OnErr result (IsErrOf result Refusal.OutOfMemory) }
     {
-        self.state.own_get(key, default)
+        self.inner.own_get(key, default)
     }
 }

@@ -21,38 +21,29 @@ ghost use Rattle.shared_engine.specs.Writes.{AreWrites};
 use crate::adaptive::{AdaptiveLock, Patience};
 use crate::finishing::Closed;
 use crate::gate::{Delay, Gate, Mark};
-use crate::locked::{Ended, Locked};
+use crate::locked::Ended;
+use crate::name::BoardName;
 use crate::serial_run::SerialRun;
 use crate::session::{Pass, Session};
 use crate::turn::Turn;
+use crate::under::Under;
 use collation::Job;
 use collector::Progress;
 use command::{Answer, Command, DataCommand, Reply};
 use lock_name::LockCommand;
-use pin_board::{Blank, Board, BoardName, FloorAbove};
+use pin_board::{Blank, Board};
 use refusal::Refusal;
 use std::alloc::{AllocError, Global};
-use std::sync::{RwLockReadGuard, RwLockWriteGuard, Wait};
+use std::marker::PhantomData;
+use std::sync::Wait;
 
 /// An engine for many threads: what all jobs share under a lock, and the board beside it, on which transactions begin
 /// and end without the lock.
 #[derive(Drop)]
 pub struct Shared<B: BoardName> {
-    board: Board<B>,
-    lock: AdaptiveLock<Locked<B>>,
-}
-
-/// The shared lock, held until this is dropped: others read meanwhile, and nobody writes. It lends nothing.
-#[derive(Drop)]
-pub struct Share<'a, B: BoardName> {
-    _guard: RwLockReadGuard<'a, Locked<B>>,
-}
-
-/// The exclusive lock, held until this is dropped: nobody reads or writes meanwhile, and transactions begin and end. It
-/// lends nothing.
-#[derive(Drop)]
-pub struct Pause<'a, B: BoardName> {
-    _guard: RwLockWriteGuard<'a, Locked<B>>,
+    board: Board,
+    pub(crate) lock: AdaptiveLock<Under<B>>,
+    ghost own: { board.table ≡ B.table },
 }
 
 // How a block of this session waits for the lock: a run of lone commands long, a transaction that was overtaken not.
@@ -69,10 +60,10 @@ impl<B: BoardName> Shared<B> {
     pub fn new(alloc: Global, blank: Blank) -> Shared<B>
         requires { (blank.seat.table_id ≡ B.table) × (blank.words.seats ≡ 4096) }
     {
-        let (board, desk) = blank.named();
+        let (board, desk) = blank.open();
         Shared {
             board,
-            lock: AdaptiveLock::new(Locked::new(alloc, desk)),
+            lock: AdaptiveLock::new(Under::new(alloc, desk)),
         }
     }
 
@@ -83,9 +74,18 @@ impl<B: BoardName> Shared<B> {
         ensures session { IfOk result (λ session. (units : List JournalUnit) × (session ≡ held (idle job) None [] [] units)) }
         ensures cause { IfErr result (λ refusal. (refusal ≡ Refusal.BadJob) ⊎ (refusal ≡ Refusal.OutOfMemory)) }
     {
-        self.lock
-            .write(rt, Patience::Short)
-            .open(rt, &self.board, alloc, job)
+        let mut guard = self.lock.write(rt, Patience::Short);
+        let under = &mut *guard;
+        let mut desk = under.desk.lift(rt);
+        let opened = under.locked.open(rt, &self.board, &mut desk, alloc, job);
+        under.desk.set_down(desk);
+        match opened {
+            Ok(inner) => Ok(Session {
+                inner,
+                of: PhantomData,
+            }),
+            Err(refusal) => Err(refusal),
+        }
     }
 
     /// A data command of a session without a transaction: a unit of its own, with a receipt. Takes the exclusive lock.
@@ -104,9 +104,14 @@ impl<B: BoardName> Shared<B> {
         ensures done { (units : List JournalUnit) × IsBeginning units session.old.seen × IsLone command result units session.new.seen session.old session.new }
         ensures early { (refusal : Refusal) → early_refusal command ≡ Some refusal → IsErrOf result refusal }
     {
-        self.lock
-            .write(rt, Patience::Long)
-            .lone(rt, &self.board, session, command)
+        let mut guard = self.lock.write(rt, Patience::Long);
+        let under = &mut *guard;
+        let mut desk = under.desk.lift(rt);
+        let done = under
+            .locked
+            .lone(&self.board, &mut desk, &mut session.inner, command);
+        under.desk.set_down(desk);
+        done
     }
 
     // The first try of a LOCK. The lock is given back before the caller goes on.
@@ -119,9 +124,14 @@ impl<B: BoardName> Shared<B> {
         ensures tried { IfOk result (λ had. WasTried command.now (Ok had) session.old session.new) }
         ensures refused { IfErr result (λ refusal. WasTried command.now (Err refusal) session.old session.new) }
     {
-        self.lock
-            .write(rt, Patience::Short)
-            .lock(rt, &self.board, session, command)
+        let mut guard = self.lock.write(rt, Patience::Short);
+        let under = &mut *guard;
+        let mut desk = under.desk.lift(rt);
+        let done = under
+            .locked
+            .lock(&self.board, &mut desk, &mut session.inner, command);
+        under.desk.set_down(desk);
+        done
     }
 
     // A later try of a LOCK.
@@ -135,9 +145,14 @@ impl<B: BoardName> Shared<B> {
         ensures blocked { OnOkNot result (session.new ≡ session.old) }
         ensures refused { IfErr result (λ refusal. WasTried command.now (Err refusal) session.old session.new) }
     {
-        self.lock
-            .write(rt, Patience::Short)
-            .lock_again(rt, &self.board, session, command)
+        let mut guard = self.lock.write(rt, Patience::Short);
+        let under = &mut *guard;
+        let mut desk = under.desk.lift(rt);
+        let done = under
+            .locked
+            .lock_again(&self.board, &mut desk, &mut session.inner, command);
+        under.desk.set_down(desk);
+        done
     }
 
     // Later tries, until one has the names or the gate stops them.
@@ -257,13 +272,7 @@ impl<B: BoardName> Shared<B> {
         ensures begun { OnOk result ((base : List JournalUnit) × HasBegun base session.old session.new) }
         ensures refused { IfErr result (λ refusal. (refusal ≡ Refusal.Again) × (session.new ≡ session.old)) }
     {
-        match self.board.settle(&mut session.pin) {
-            Ok(start) => {
-                session.state.begin(start);
-                Ok(())
-            }
-            Err(FloorAbove) => Err(Refusal::Again),
-        }
+        session.inner.tstart(&self.board)
     }
 
     /// A data command of an open transaction, on the map of its start followed by its own commands. The present journal
@@ -285,8 +294,10 @@ impl<B: BoardName> Shared<B> {
         ensures same { (session.new.start ≡ session.old.start) × (session.new.receipts ≡ session.old.receipts) }
         ensures others { session.new.others ≡ session.old.others }
     {
-        let locked = self.lock.read(rt);
-        locked.read(rt, &self.board, session, command)
+        let guard = self.lock.read(rt);
+        let under = &*guard;
+        under.meet(rt, &self.board, &mut session.inner);
+        under.locked.read_met(&mut session.inner, command)
     }
 
     /// Data commands of an open transaction, one after the other, each as `read` does it, under one hold of the shared
@@ -307,8 +318,11 @@ impl<B: BoardName> Shared<B> {
         ensures each { IfOk result (λ replies. vec_len replies ≡ vec_len block) }
         ensures refused { OnErr result (session.new ≡ session.old) }
     {
-        let locked = self.lock.read(rt);
-        locked.read_all(rt, &self.board, alloc, session, block)
+        let replies = Vec::with_capacity(alloc, block.len())?;
+        let guard = self.lock.read(rt);
+        let under = &*guard;
+        under.meet(rt, &self.board, &mut session.inner);
+        Ok(under.locked.read_all(&mut session.inner, block, replies))
     }
 
     /// The outermost TCOMMIT: the transaction is a unit with a receipt, or, where another unit touched what it had read,
@@ -331,9 +345,14 @@ impl<B: BoardName> Shared<B> {
         ensures cause { IfErr result (λ refusal. IsCauseAtCommit refusal session.old.state.work session.new.seen ⊎ IsCauseAtRestart refusal session.old.state session.new.seen) }
         ensures turn { MayBeTaken turn.old turn.new }
     {
-        let mut locked = self.lock.write(rt, Patience::Short);
-        let ended = locked.tcommit(rt, &self.board, session);
-        locked.take_turn(rt, &self.board, turn);
+        let mut guard = self.lock.write(rt, Patience::Short);
+        let under = &mut *guard;
+        let mut desk = under.desk.lift(rt);
+        let ended = under
+            .locked
+            .tcommit(&self.board, &mut desk, &mut session.inner);
+        under.locked.take_turn(&self.board, &mut desk, turn);
+        under.desk.set_down(desk);
         ended
     }
 
@@ -344,8 +363,7 @@ impl<B: BoardName> Shared<B> {
         requires free { session.old.state.took_lock ≡ false }
         ensures { session.new ≡ ended session.old }
     {
-        self.board.leave(&mut session.pin);
-        session.state.end();
+        session.inner.rollback_free(&self.board);
     }
 
     /// TROLLBACK: nothing of the transaction is left. Where it took a LOCK a unit says so, one of the session's others,
@@ -358,10 +376,14 @@ impl<B: BoardName> Shared<B> {
         ensures done { (units : List JournalUnit) × IsBeginning units session.old.seen × IsRolledBack result units session.new.seen session.old session.new }
     {
         if session.took_lock() {
-            return self
-                .lock
-                .write(rt, Patience::Short)
-                .trollback(rt, &self.board, session);
+            let mut guard = self.lock.write(rt, Patience::Short);
+            let under = &mut *guard;
+            let mut desk = under.desk.lift(rt);
+            let done = under
+                .locked
+                .trollback(&self.board, &mut desk, &mut session.inner);
+            under.desk.set_down(desk);
+            return done;
         }
         self.rollback_free(session);
         Ok(())
@@ -379,9 +401,14 @@ impl<B: BoardName> Shared<B> {
         ensures done { (units : List JournalUnit) × IsBeginning units session.old.seen × IsRestarted result units session.new.seen session.old session.new }
         ensures journal { OnOk result (IsJournalOf session.new.seen session.old) }
     {
-        self.lock
-            .write(rt, Patience::Short)
-            .trestart(rt, &self.board, session)
+        let mut guard = self.lock.write(rt, Patience::Short);
+        let under = &mut *guard;
+        let mut desk = under.desk.lift(rt);
+        let done = under
+            .locked
+            .trestart(&self.board, &mut desk, &mut session.inner);
+        under.desk.set_down(desk);
+        done
     }
 
     /// HALT: the session is over, its locks are released and its transaction is gone; its job may have another. Gives
@@ -400,9 +427,16 @@ impl<B: BoardName> Shared<B> {
         ensures refused { IfErr result (λ r. IsBeginning r.0.seen session.seen × (r.0 ≡ knowing r.0.seen session)) }
         ensures cause { IfErr result (λ r. HasNoNumber r.1 1 (length r.0.seen)) }
     {
-        self.lock
-            .write(rt, Patience::Short)
-            .halt(rt, &self.board, session)
+        let mut guard = self.lock.write(rt, Patience::Short);
+        let under = &mut *guard;
+        let mut desk = under.desk.lift(rt);
+        let Session { inner, of } = session;
+        let done = under.locked.halt(rt, &self.board, &mut desk, inner);
+        under.desk.set_down(desk);
+        match done {
+            Ok(inner) => Ok(Pass { inner, of }),
+            Err((inner, refusal)) => Err((Session { inner, of }, refusal)),
+        }
     }
 
     /// Does the commands of a session without a transaction under one hold of the exclusive lock. Nobody else does
@@ -431,9 +465,15 @@ impl<B: BoardName> Shared<B> {
         ensures refused { OnErr result (session.new ≡ session.old) }
         ensures turn { MayBeTaken turn.old turn.new }
     {
-        let mut locked = self.lock.write(rt, patience_of(session));
-        let done = locked.run_serial(rt, &self.board, alloc, session, block, musts);
-        locked.take_turn(rt, &self.board, turn);
+        let mut guard = self.lock.write(rt, patience_of(session));
+        let under = &mut *guard;
+        let mut desk = under.desk.lift(rt);
+        let inner = &mut session.inner;
+        let done = under
+            .locked
+            .run_serial(&self.board, &mut desk, alloc, inner, block, musts);
+        under.locked.take_turn(&self.board, &mut desk, turn);
+        under.desk.set_down(desk);
         done
     }
 
@@ -460,9 +500,15 @@ impl<B: BoardName> Shared<B> {
         ensures cause { IfErr result (λ refusal. HasNoRoom refusal 1 (length session.new.seen)) }
         ensures turn { MayBeTaken turn.old turn.new }
     {
-        let mut locked = self.lock.write(rt, Patience::Short);
-        let done = locked.trestart_serially(rt, &self.board, alloc, session, block, musts);
-        locked.take_turn(rt, &self.board, turn);
+        let mut guard = self.lock.write(rt, Patience::Short);
+        let under = &mut *guard;
+        let mut desk = under.desk.lift(rt);
+        let inner = &mut session.inner;
+        let done = under
+            .locked
+            .trestart_serially(&self.board, &mut desk, alloc, inner, block, musts);
+        under.locked.take_turn(&self.board, &mut desk, turn);
+        under.desk.set_down(desk);
         done
     }
 
@@ -473,8 +519,14 @@ impl<B: BoardName> Shared<B> {
         ensures same { session.new ≡ knowing session.new.seen session.old }
         ensures count { result ≡ length session.new.seen }
     {
-        let locked = self.lock.read(rt);
-        locked.look(rt, &self.board, session)
+        let guard = self.lock.read(rt);
+        let under = &*guard;
+        let mut desk = under.desk.lift(rt);
+        let count = under
+            .locked
+            .look(&self.board, &mut desk, &mut session.inner);
+        under.desk.give_back(desk);
+        count
     }
 
     /// A turn of the collector over so many keys, at a horizon that is above no open transaction's start. Where all
@@ -486,8 +538,9 @@ impl<B: BoardName> Shared<B> {
         ensures few { IfOk result (λ progress. progress.visited ≤ limit) }
         ensures cause { IfErr result (λ refusal. refusal ≡ Refusal.OutOfMemory) }
     {
-        let mut locked = self.lock.write(rt, Patience::Short);
-        if locked.is_swept() {
+        let mut guard = self.lock.write(rt, Patience::Short);
+        let under = &mut *guard;
+        if under.locked.is_swept() {
             return Ok(Progress {
                 visited: 0,
                 dropped: 0,
@@ -495,7 +548,10 @@ impl<B: BoardName> Shared<B> {
                 left: 0,
             });
         }
-        locked.collect(rt, &self.board, limit)
+        let mut desk = under.desk.lift(rt);
+        let done = under.locked.collect(&self.board, &mut desk, limit);
+        under.desk.set_down(desk);
+        done
     }
 
     /// Moves the journal's base on to a horizon that is above no open transaction's start: what the units up to it
@@ -507,23 +563,12 @@ impl<B: BoardName> Shared<B> {
     pub fn checkpoint<R: Wait>(&self, rt: &R) -> Result<u64, Refusal>
         ensures cause { IfErr result (λ refusal. refusal ≡ Refusal.OutOfMemory) }
     {
-        self.lock
-            .write(rt, Patience::Short)
-            .checkpoint(rt, &self.board)
-    }
-
-    /// Holds the shared lock until the share is dropped.
-    pub fn share<R: Wait>(&self, rt: &R) -> Share<'_, B> {
-        Share {
-            _guard: self.lock.read(rt),
-        }
-    }
-
-    /// Holds the exclusive lock until the pause is dropped.
-    pub fn pause<R: Wait>(&self, rt: &R) -> Pause<'_, B> {
-        Pause {
-            _guard: self.lock.write(rt, Patience::Short),
-        }
+        let mut guard = self.lock.write(rt, Patience::Short);
+        let under = &mut *guard;
+        let mut desk = under.desk.lift(rt);
+        let done = under.locked.checkpoint(&self.board, &mut desk);
+        under.desk.set_down(desk);
+        done
     }
 
     /// Closes the engine. Each unit of a pass is in its journal at its number, and is its job's, and what a session had
@@ -541,6 +586,12 @@ impl<B: BoardName> Shared<B> {
         ensures seen { All (HasSeenOf result.core.units) passes.items }
     {
         let Shared { board, lock } = self;
-        lock.into_inner().finish(rt, &board, passes)
+        let Under {
+            locked,
+            desk,
+            of: _,
+        } = lock.into_inner();
+        let desk = desk.lift(rt);
+        locked.finish(&board, desk, passes)
     }
 }

@@ -1,11 +1,10 @@
 //! A turn of the collector within a hold of the lock.
 ghost use Rattle.std.specs.Prelude.{◌≡◌};
-ghost use Rattle.shared_engine.specs.Engines.{MayBeTaken, HasTakenTurn};
+ghost use Rattle.shared_engine.specs.Engines.{IsLocked, MayBeTaken, HasTakenTurn};
 
 use crate::locked::Locked;
 use collector::Progress;
-use pin_board::{Board, BoardName};
-use std::sync::Wait;
+use pin_board::{Board, Lifted};
 
 /// A turn of the collector that a call may take at the end of its hold of the exclusive lock, so that it needs no hold
 /// of its own. It is at a horizon that is above no open transaction's start. Where all keys were visited since the last
@@ -20,13 +19,17 @@ pub enum Turn {
     Taken(Progress),
 }
 
-impl<B: BoardName> Locked<B> {
+impl Locked {
     /// Takes a turn that is due. Where all keys were visited since the last write, or memory is refused, it stays due.
-    pub(crate) fn take_turn<R: Wait>(&mut self, rt: &R, board: &Board<B>, turn: &mut Turn)
-        ensures units { self.new.common.units ≡ self.old.common.units }
+    pub(crate) fn take_turn(&mut self, board: &Board, desk: &mut Lifted, turn: &mut Turn)
+        requires own { desk.old.table ≡ board.now.table }
+        requires stands { IsLocked self.old.core desk.old self.old.seats self.old.horizon self.old.opened }
+        ensures table { desk.new.table ≡ desk.old.table }
+        ensures stands { IsLocked self.new.core desk.new self.new.seats self.new.horizon self.new.opened }
+        ensures units { self.new.core.units ≡ self.old.core.units }
         ensures turn { MayBeTaken turn.old turn.new }
-        ensures store { HasTakenTurn turn.old turn.new self.old.common self.new.common }
-        ensures others { (self.new.opened ≡ self.old.opened) × (self.new.seats ≡ self.old.seats) }
+        ensures store { HasTakenTurn turn.old turn.new self.old.core self.new.core }
+        ensures others { (desk.new.knows.given ≡ desk.old.knows.given) × (self.new.seats ≡ self.old.seats) }
     {
         let Turn::Due(keys) = *turn else {
             return;
@@ -34,7 +37,7 @@ impl<B: BoardName> Locked<B> {
         if self.is_swept() {
             return;
         }
-        if let Ok(progress) = self.collect(rt, board, keys) {
+        if let Ok(progress) = self.collect(board, desk, keys) {
             *turn = Turn::Taken(progress);
         }
     }

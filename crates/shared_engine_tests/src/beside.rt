@@ -1,9 +1,9 @@
 //! Calls that return while another thread holds a lock.
 ghost use Rattle.std.specs.Prelude.{◌≡◌};
 
-use pin_board::{Blank, BoardName, SEATS};
+use pin_board::{Blank, SEATS};
 use session_acts::{is_replied, opened};
-use shared_engine::{Session, Shared};
+use shared_engine::{BoardName, Session, Shared};
 use std::alloc::Global;
 use std::marker::Brand;
 use std::rt::Clock;

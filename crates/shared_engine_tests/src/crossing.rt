@@ -1,6 +1,5 @@
 //! What may cross to other threads. A bound is only looked at where it is asked for, so it is asked for here.
-use pin_board::BoardName;
-use shared_engine::{Session, Shared};
+use shared_engine::{BoardName, Session, Shared};
 
 // Asks for the bound.
 fn is_shared<T: Sync>(it: &T) {

@@ -2,9 +2,9 @@
 ghost use Rattle.std.specs.Prelude.{◌≡◌};
 
 use collation::Job;
-use pin_board::{Blank, BoardName, SEATS};
+use pin_board::{Blank, SEATS};
 use refusal::Refusal;
-use shared_engine::{Pass, Session, Shared};
+use shared_engine::{BoardName, Pass, Session, Shared};
 use std::alloc::Global;
 use std::marker::Brand;
 use std::sync::Wait;

@@ -4,9 +4,9 @@ ghost use Rattle.std.specs.List.{All};
 ghost use Rattle.command.specs.declared.request.Command.{Command};
 
 use command::{Command, Reply};
-use pin_board::{Blank, BoardName, SEATS};
+use pin_board::{Blank, SEATS};
 use session_acts::{command_of, is_replied, is_written, opened};
-use shared_engine::{SerialRun, Session, Shared, Turn};
+use shared_engine::{BoardName, SerialRun, Session, Shared, Turn};
 use std::alloc::Global;
 use std::marker::Brand;
 use std::sync::Wait;

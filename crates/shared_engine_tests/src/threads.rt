@@ -3,9 +3,9 @@ ghost use Rattle.std.specs.Prelude.{◌≡◌};
 
 use crate::kinds::kinds_of;
 use command::Reply;
-use pin_board::{Blank, BoardName, SEATS};
+use pin_board::{Blank, SEATS};
 use session_acts::{data_of, is_replied, opened, reply_to_line};
-use shared_engine::{Pass, Session, Shared};
+use shared_engine::{BoardName, Pass, Session, Shared};
 use std::alloc::{AllocError, Global};
 use std::marker::Brand;
 use std::sync::Wait;

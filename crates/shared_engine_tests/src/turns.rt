@@ -3,9 +3,9 @@ ghost use Rattle.std.specs.Prelude.{◌≡◌};
 
 use crate::serial_runs::block_of;
 use command::Reply;
-use pin_board::{Blank, BoardName, SEATS};
+use pin_board::{Blank, SEATS};
 use session_acts::{is_replied, is_written, opened};
-use shared_engine::{SerialRun, Session, Shared, Turn};
+use shared_engine::{BoardName, SerialRun, Session, Shared, Turn};
 use std::alloc::Global;
 use std::marker::Brand;
 use std::sync::Wait;

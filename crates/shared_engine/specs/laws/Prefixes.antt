@@ -1,5 +1,5 @@
 -- Beginnings of a journal.
-use Rattle.std.proofs.Common.{◌≤◌, le_refl, ◌++◌, List, length, length-append, sym, ap, ◌∙◌, arith}
+use Rattle.std.proofs.Common.{le_refl, ◌++◌, List, length, length-append, sym, ap, ◌∙◌, arith}
 use Rattle.std.specs.Prelude.{take}
 use Rattle.std.proofs.lemmas.List.{take_all, take-append-le, take-take}
 use Rattle.journal.specs.declared.unit.Unit.{Unit as JournalUnit}

@@ -2,7 +2,7 @@ use Rattle.std.proofs.Common.{◌≡◌, ◌∷◌, ◌++◌, [], ap, ◌∙◌}
 use Rattle.loading.specs.Settings.{before}
 use Rattle.loading.specs.Pending.{asked_of}
 use Rattle.job_server.proofs.Loads.{none_loaded, book_loaded}
-use Rattle.job_server.proofs.Ending.{where_none, where_some}
+use Rattle.job_server.proofs.Answering.{where_none, where_some}
 use Rattle.job_server.proofs.load.load_listing.Goals.{in-Some+in_ok-pass+in_ok-push, in_default}
 use Rattle.job_server.proofs.load.load_listing.Goals as goal
 

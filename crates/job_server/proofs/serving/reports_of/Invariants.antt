@@ -8,5 +8,5 @@ use Rattle.job_server.proofs.serving.reports_of.Given as goal
 abbrev pub invariant-loop-place : goal.invariant-loop-place
 invariant-loop-place g l = record {
   count : enumerate_count l.place-iterator + length (into_iter_items (enumerate_source l.place-iterator)) ≡ length l.fn.slots.items;
-  handed : ∥ AreHanded (take (enumerate_count l.place-iterator) g.B.Batch.scripts) l.handed.reports.items l.handed.passes.items ∥₁;
+  handed : ∥ AreHanded l.fn.since (take (enumerate_count l.place-iterator) g.B.Batch.scripts) l.handed.reports.items l.handed.passes.items ∥₁;
 }

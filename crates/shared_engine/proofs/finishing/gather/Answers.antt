@@ -7,5 +7,5 @@ use Rattle.shared_engine.proofs.finishing.gather.Goals as goal
 pub returns-clause-tally : goal.returns-clause-tally
 returns-clause-tally g c =
     let i = c.loop-pass.invariant in
-    let count : c.loop-pass.tally.returned ≡ vec_len c.args.passes = omega (arith, i.count, c.in_default.ensures.cases.0, c.loop-pass.passes.ok.0, c.args.passes.ok.0) in
-    λ k. tallied (i.units k) (i.given k) (count k) c.loop-pass.tally.back c.loop-pass.tally.known
+    let count : c.loop-pass.tally.knows.returned ≡ vec_len c.args.passes = omega (arith, i.count, c.in_default.ensures.cases.0, c.loop-pass.passes.ok.0, c.args.passes.ok.0) in
+    λ k. tallied (i.units k) (i.given k) (count k) c.loop-pass.tally.knows.back c.loop-pass.tally.knows.known

@@ -5,10 +5,11 @@ use Rattle.shared_engine.proofs.finishing.gather.Given as goal
 -- the passes that are left are due, and each one taken in was counted
 abbrev pub invariant-loop-pass : goal.invariant-loop-pass
 invariant-loop-pass g l = record {
-  due : IsDue l.fn.passes.items l.passes.items l.tally.back l.tally.known;
-  units : l.tally.units ≡ l.fn.tally.units;
-  given : l.tally.given ≡ l.fn.tally.given;
-  count : l.tally.returned + length l.passes.items ≡ length l.fn.passes.items;
+  due : IsDue l.fn.passes.items l.passes.items l.tally.knows.back l.tally.knows.known;
+  units : l.tally.knows.units ≡ l.fn.tally.knows.units;
+  given : l.tally.knows.given ≡ l.fn.tally.knows.given;
+  table : l.tally.table ≡ l.fn.tally.table;
+  count : l.tally.knows.returned + length l.passes.items ≡ length l.fn.passes.items;
 }
 
 abbrev pub decreases-loop-pass : goal.decreases-loop-pass

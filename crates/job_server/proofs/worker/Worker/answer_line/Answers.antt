@@ -9,4 +9,4 @@ returns g c =
     let inside = running c.run.inside.replies.items c.run.inside.sessions in
     let new = running c.push.new.self.items c.do_line.new.sessions in
     subst (λ (x : Running). HasAnswered c.args.job line x new) c.run.view_is
-    (has_answered c.args.job line c.args.asked c.in_ok-reply.reply inside new c.requires.other c.in_ok-push.ensures.items c.in_ok-reply.ensures)
+    (has_answered c.args.job line c.args.asked c.in_ok-reply.reply inside new c.requires.asks c.requires.other c.in_ok-push.ensures.items c.in_ok-reply.ensures)

@@ -1,17 +1,13 @@
-use Rattle.std.proofs.Common.{ap, ◌∙◌}
+use Rattle.std.proofs.Common.{◌∙◌}
 use Rattle.std.proofs.lemmas.Result.{on_ok_weaker}
-use Rattle.job_server.specs.Steps.{SessionsSoFar, sessions_so_far}
-use Rattle.job_server.specs.Telling.{is_open}
-use Rattle.job_server.proofs.GoingOn.{untold_from}
+use Rattle.job_server.specs.Steps.{past, sessions_so_far, IsNoStep}
+use Rattle.job_server.proofs.GoingOn.{goes_from}
 use Rattle.job_server.proofs.worker.Worker.begin.Goals as goal
 
-pub returns-in-Ok-clause-told : goal.returns-in-Ok-clause-told
-returns-in-Ok-clause-told g c =
+pub returns-in-Ok : goal.returns-in-Ok
+returns-in-Ok g c =
     let inside = c.sessions.inside in
+    let p = past inside.since inside.passes.items in
     on_ok_weaker c.open.result
-    (λ told. untold_from c.args.job (sessions_so_far inside.passes.items inside.open) c.args.sessions.now (sessions_so_far inside.passes.items c.open.new.session) (c.sessions.view_is ∙ c.make_room.ensures) told)
-    c.open.ensures.told
-
-pub returns-in-Ok-clause-stays : goal.returns-in-Ok-clause-stays
-returns-in-Ok-clause-stays g c =
-    on_ok_weaker c.open.result (λ stays. stays ∙ ap (λ (x : SessionsSoFar). is_open x.session) (c.sessions.view_is ∙ c.make_room.ensures)) c.open.ensures.stays
+    (λ told. goes_from IsNoStep c.args.job (sessions_so_far p inside.open) c.args.sessions.now (sessions_so_far p c.open.new.session) (c.sessions.view_is ∙ c.make_room.ensures) told)
+    c.open.ensures

@@ -3,9 +3,9 @@ use Rattle.std.specs.Prelude.{Result}
 use Rattle.refusal.specs.declared.Refusal.{Refusal}
 use Rattle.command.specs.declared.request.Command.{Command}
 use Rattle.command.specs.declared.request.Reply.TheVariants.{Refused}
-use Rattle.job_scripts.specs.Lines.{IsReadFor}
-use Rattle.job_server.specs.Telling.{MayGoOnAt}
-use Rattle.job_server.proofs.GoingOn.{asked_goes, refused_goes, none_goes, both_ok}
+use Rattle.job_server.specs.Steps.{HasDoneSteps}
+use Rattle.job_server.specs.Telling.{IsDoneAs}
+use Rattle.job_server.proofs.GoingOn.{asked_goes, refused_goes, both_ok}
 use Rattle.job_server.proofs.worker.Worker.reply_asked.Goals as goal
 
 pub returns-in-Ok : goal.returns-in-Ok
@@ -14,9 +14,8 @@ returns-in-Ok g c =
     let line = c.args.line.now in
     let old = c.args.sessions.now in
     let new = c.reply_to.new.sessions in
-    let asks = subst (λ (a : Result Command Refusal). IsReadFor job line a) c.in-Ok.is c.requires in
     both_ok c.reply_to.result
-    (λ reply h had. subst (λ (a : Result Command Refusal). MayGoOnAt job line a reply old new) (sym c.in-Ok.is) (asked_goes job line c.in-Ok.command reply old new asks h had))
+    (λ reply h had. subst (λ (a : Result Command Refusal). HasDoneSteps (IsDoneAs line a reply) job old new) (sym c.in-Ok.is) (asked_goes line job c.in-Ok.command reply old new h had))
     c.reply_to.ensures.told c.reply_to.ensures.had
 
 pub returns-in-Err : goal.returns-in-Err
@@ -24,5 +23,4 @@ returns-in-Err g c =
     let job = c.args.job in
     let line = c.args.line.now in
     let now = c.args.sessions.now in
-    let fault = subst (λ (a : Result Command Refusal). IsReadFor job line a) c.in-Err.is c.requires in
-    subst (λ (a : Result Command Refusal). MayGoOnAt job line a (Refused c.in-Err.refusal) now now) (sym c.in-Err.is) (refused_goes job line c.in-Err.refusal now now fault (none_goes job now))
+    subst (λ (a : Result Command Refusal). HasDoneSteps (IsDoneAs line a (Refused c.in-Err.refusal)) job now now) (sym c.in-Err.is) (refused_goes line job c.in-Err.refusal now)

@@ -1,4 +1,4 @@
-use Rattle.job_server.proofs.Levels.{no_halts}
+use Rattle.job_server.proofs.AtOnce.{no_halts}
 use Rattle.job_server.proofs.worker.Worker.run_outside.Goals as goal
 
 pub run_serial-requires-clause-goes_on : goal.run_serial-requires-clause-goes_on

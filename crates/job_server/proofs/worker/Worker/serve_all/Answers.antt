@@ -2,24 +2,14 @@ use Rattle.std.proofs.Common.{[], sym, subst}
 use Rattle.std.proofs.lemmas.Result.{on_ok_weaker}
 use Rattle.job_scripts.specs.Lines.{lines_of_script}
 use Rattle.job_server.specs.Telling.{Running, running, Serves}
-use Rattle.job_server.proofs.Ending.{run_told, run_steps, none_left}
+use Rattle.job_server.proofs.Ending.{run_steps}
 use Rattle.job_server.proofs.worker.Worker.serve_all.Goals as goal
 
-pub returns-clause-told : goal.returns-clause-told
-returns-clause-told g c =
+pub returns : goal.returns
+returns g c =
     let inside = c.run.inside in
     on_ok_weaker c.stop.result
-    (λ stopped.
-    run_told c.args.job c.args.lines.now c.args.run.now (running inside.replies.items inside.sessions) c.stop.new.sessions c.requires
+    (λ stopped since begun.
+    run_steps c.args.job since c.args.lines.now c.args.run.now (running inside.replies.items inside.sessions) c.stop.new.sessions begun
     (subst (λ (x : Running). Serves c.args.job (lines_of_script c.args.lines.now) [] c.args.run.now x) (sym c.run.view_is) c.in_ok-serve_lines.ensures) (stopped c.args.job))
-    c.stop.ensures
-
-pub returns-clause-run : goal.returns-clause-run
-returns-clause-run g c =
-    let inside = c.run.inside in
-    on_ok_weaker c.stop.result
-    (λ stopped.
-    run_steps c.args.job c.args.lines.now c.args.run.now (running inside.replies.items inside.sessions) c.stop.new.sessions c.requires
-    (subst (λ (x : Running). Serves c.args.job (lines_of_script c.args.lines.now) [] c.args.run.now x) (sym c.run.view_is) c.in_ok-serve_lines.ensures) (stopped c.args.job)
-    (none_left c.args.job inside.sessions c.stop.new.sessions (stopped c.args.job)))
     c.stop.ensures

@@ -1,7 +1,7 @@
 use Rattle.std.proofs.Common.{◌≡◌, length, take, refl, sym, ap, ◌∙◌, arith}
 use Rattle.job_server.specs.Telling.{Running, running, Reaches}
 use Rattle.job_server.proofs.GoingOn.{begins, begins_again, begins_advances, cut_back}
-use Rattle.job_server.proofs.Ending.{where_none, where_some}
+use Rattle.job_server.proofs.Answering.{where_none, where_some}
 use Rattle.job_server.proofs.Waiting.{tried_alone, tried_back}
 use Rattle.job_server.proofs.worker.Worker.serve_block.Goals as goal
 
@@ -9,7 +9,7 @@ pub returns-in-Some : goal.returns-in-Some
 returns-in-Some g c =
     let line = c.args.line in
     let new = c.try_block.new.run in
-    begins_advances c.args.job line c.in-Some.place c.args.run.now c.tries.run new c.requires.asks c.tries.invariant.began
+    begins_advances c.args.job line c.in-Some.place c.args.run.now c.tries.run new c.tries.invariant.began
     (where_some c.in_ok-place.field-0 c.in-Some.place (λ behind. Reaches c.args.job line.next.lines.now behind c.tries.run new) c.in_ok-place.ensures.over c.in-Some.is)
 
 pub tries-preserved : goal.tries-preserved
@@ -22,7 +22,7 @@ tries-preserved g c =
     let same = cut_back before.replies tried.replies cut c.len-kept.result (where_none c.in_ok-place.field-0 c.in_ok-place.ensures.replies none) c.tries.invariant.kept (c.truncate.ensures.items ∙ ap (λ (r : Running). take c.len-kept.result r.replies) view) in
     record {
       kept = c.tries.invariant.kept ∙ ap length (sym same);
-      began = begins_again c.args.job c.args.line c.args.run.now before tried (running cut c.run-in-tries.inside.sessions) c.requires.asks c.tries.invariant.began (where_none c.in_ok-place.field-0 c.in_ok-place.ensures.again none) (ap (λ (r : Running). r.sessions) view) same;
+      began = begins_again c.args.job c.args.line c.args.run.now before tried (running cut c.run-in-tries.inside.sessions) c.requires c.tries.invariant.began (where_none c.in_ok-place.field-0 c.in_ok-place.ensures.again none) (ap (λ (r : Running). r.sessions) view) same;
     }
 
 pub returns-in-Some-3 : goal.returns-in-Some-3
@@ -30,16 +30,16 @@ returns-in-Some-3 g c =
     let line = c.args.line in
     let new = c.try_serially.new.run in
     let tried = tried_alone c.args.job line.next.lines.now c.in_ok-place-2.field-0 c.in-Some-3.place c.alone.run new c.in_ok-place-2.ensures c.in-Some-3.is in
-    begins_advances c.args.job line c.in-Some-3.place c.args.run.now tried.0 new c.requires.asks (begins_again c.args.job line c.args.run.now c.alone.run tried.0 tried.0 c.requires.asks c.alone.invariant.began tried.1.0 refl tried.1.1) tried.2
+    begins_advances c.args.job line c.in-Some-3.place c.args.run.now tried.0 new (begins_again c.args.job line c.args.run.now c.alone.run tried.0 tried.0 c.requires c.alone.invariant.began tried.1.0 refl tried.1.1) tried.2
 
 pub alone-preserved : goal.alone-preserved
 alone-preserved g c =
     let back = tried_back c.args.job c.args.line.next.lines.now c.in_ok-place-2.field-0 c.alone.run c.try_serially.new.run c.in_ok-place-2.ensures c.in_default-2.is in
-    record { began = begins_again c.args.job c.args.line c.args.run.now c.alone.run c.try_serially.new.run c.try_serially.new.run c.requires.asks c.alone.invariant.began back.0 refl back.1 }
+    record { began = begins_again c.args.job c.args.line c.args.run.now c.alone.run c.try_serially.new.run c.try_serially.new.run c.requires c.alone.invariant.began back.0 refl back.1 }
 
 pub tries-init : goal.tries-init
 tries-init g c =
     let here : c.len-kept.result ≡ length c.run.inside.replies.items = omega (arith, c.len-kept.ensures, c.run.inside.replies.ok.0) in record {
       kept = here ∙ ap (λ (r : Running). length r.replies) c.run.view_is;
-      began = begins c.args.job c.args.line c.args.run.now c.answer_line.new.run c.requires.asks c.in_ok-answer_line.ensures c.requires.closed (sym c.is_open.ensures ∙ c.if-not-is_open.false);
+      began = begins c.args.job c.args.line c.args.run.now c.answer_line.new.run c.in_ok-answer_line.ensures;
     }

@@ -1,7 +1,7 @@
 use Rattle.std.proofs.Common.{subst}
-use Rattle.job_server.specs.Telling.{Running, running, Advances, Keeps, WasOvertaken}
+use Rattle.job_server.specs.Telling.{Running, running, Advances, WasOvertaken}
 use Rattle.job_server.proofs.GoingOn.{committed_tried, was_overtaken}
-use Rattle.job_server.proofs.Ending.{where_yes, where_no}
+use Rattle.job_server.proofs.Answering.{where_yes, where_no}
 use Rattle.job_server.proofs.worker.Worker.try_commit.Goals as goal
 
 pub returns-then-branch : goal.returns-then-branch
@@ -9,8 +9,8 @@ returns-then-branch g c =
     let line = c.args.line in
     let inside = running c.run.inside.replies.items c.run.inside.sessions in
     let new = running c.push_unless_restarted.new.replies.items c.do_line.new.sessions in
-    subst (λ (x : Running). Advances c.args.job line line.next x new × Keeps x new) c.run.view_is
-    (committed_tried c.args.job line c.in_ok-reply.reply inside new (where_yes c.push_unless_restarted.result c.push_unless_restarted.ensures.kept (cc)) c.in_ok-reply.ensures)
+    subst (λ (x : Running). Advances c.args.job line line.next x new) c.run.view_is
+    (committed_tried c.args.job line c.in_ok-reply.reply inside new c.requires (where_yes c.push_unless_restarted.result c.push_unless_restarted.ensures.kept (cc)) c.in_ok-reply.ensures)
 
 pub returns : goal.returns
 returns g c =

@@ -1,4 +1,4 @@
 use Rattle.shared_engine.proofs.locked.Locked.collect.Goals as goal
 
 pub returns-clause-turn : goal.returns-clause-turn
-returns-clause-turn g c = rw (← c.self.view_is) (_, c.in_ok-turn.ensures.turn)
+returns-clause-turn c = (_, c.in_ok-turn.ensures.turn)

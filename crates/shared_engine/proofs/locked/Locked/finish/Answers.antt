@@ -9,24 +9,24 @@ use Rattle.shared_engine.proofs.locked.Locked.finish.Goals as goal
 
 pub returns-clause-in_journal : goal.returns-clause-in_journal
 returns-clause-in_journal g c =
-    let log = c.self.inside.core.units in
-    let units = units_told _ _ _ _ _ _ c.gather.ensures.tally c.into_tally-tally.ensures c.self.invariant.log in
-    c.gather.ensures.due.in_journal log (subst (λ l. AreInJournal l c.gather.new.tally.back) units c.audit.ensures.in_journal) (All-nil (λ (p : Book). AreInJournal log p.receipts))
+    let log = c.args.self.core.units in
+    let units = units_told _ _ _ _ _ _ c.gather.ensures.tally (ap (λ t. t.knows) c.into_tally-tally.ensures) c.requires.stands.log in
+    c.gather.ensures.due.in_journal log (subst (λ l. AreInJournal l c.gather.new.tally.knows.back) units c.audit.ensures.in_journal) (All-nil (λ (p : Book). AreInJournal log p.receipts))
 
 pub returns-clause-others : goal.returns-clause-others
 returns-clause-others g c =
-    let log = c.self.inside.core.units in
-    let units = units_told _ _ _ _ _ _ c.gather.ensures.tally c.into_tally-tally.ensures c.self.invariant.log in
-    c.gather.ensures.due.others log (subst (λ l. AreInJournal l c.gather.new.tally.back) units c.audit.ensures.in_journal) (All-nil (λ (p : Book). AreInJournal log p.others))
+    let log = c.args.self.core.units in
+    let units = units_told _ _ _ _ _ _ c.gather.ensures.tally (ap (λ t. t.knows) c.into_tally-tally.ensures) c.requires.stands.log in
+    c.gather.ensures.due.others log (subst (λ l. AreInJournal l c.gather.new.tally.knows.back) units c.audit.ensures.in_journal) (All-nil (λ (p : Book). AreInJournal log p.others))
 
 pub returns-clause-seen : goal.returns-clause-seen
 returns-clause-seen g c =
-    let log = c.self.inside.core.units in
-    let units = units_told _ _ _ _ _ _ c.gather.ensures.tally c.into_tally-tally.ensures c.self.invariant.log in
-    c.gather.ensures.due.seen log (subst (λ l. All (IsBeginning l) c.gather.new.tally.known) units c.audit.ensures.known) (All-nil (HasSeenOf log))
+    let log = c.args.self.core.units in
+    let units = units_told _ _ _ _ _ _ c.gather.ensures.tally (ap (λ t. t.knows) c.into_tally-tally.ensures) c.requires.stands.log in
+    c.gather.ensures.due.seen log (subst (λ l. All (IsBeginning l) c.gather.new.tally.knows.known) units c.audit.ensures.known) (All-nil (HasSeenOf log))
 
 pub returns-clause-few : goal.returns-clause-few
 returns-clause-few g c =
     let returned = ap (λ t. t.returned) c.gather.ensures.tally in
     let given = ap (λ t. t.given) c.gather.ensures.tally in
-    let opened = ap (λ t. t.given) c.into_tally-tally.ensures in omega (arith, returned, given, opened, c.audit.ensures.few, c.self.invariant.opened_is, c.args.passes.ok.0)
+    let opened = ap (λ t. t.knows.given) c.into_tally-tally.ensures in omega (arith, returned, given, opened, c.audit.ensures.few, c.requires.stands.opened_is, c.args.passes.ok.0)

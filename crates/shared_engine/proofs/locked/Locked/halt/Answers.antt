@@ -6,8 +6,8 @@ use Rattle.shared_engine.proofs.locked.Locked.halt.Goals as goal
 
 pub returns-clause-pass : goal.returns-clause-pass
 returns-clause-pass g c =
-    subst (λ (s : Held). IfOk c.halt_found.result (λ pass. pass ≡ halted c.args.self.now.common.units s)) c.find_end.ensures.same c.halt_found.ensures.pass
+    subst (λ (s : Held). IfOk c.halt_found.result (λ pass. pass.book ≡ halted c.args.self.now.core.units s)) c.find_end.ensures.same c.halt_found.ensures.pass
 
 pub returns-clause-units : goal.returns-clause-units
 returns-clause-units g c =
-    subst (λ (s : Held). OnOk c.halt_found.result (c.halt_found.new.self.common.units ≡ c.args.self.now.common.units ++ End s.state.work.job ∷ [])) c.find_end.ensures.same c.halt_found.ensures.units
+    subst (λ (s : Held). OnOk c.halt_found.result (c.halt_found.new.self.core.units ≡ c.args.self.now.core.units ++ End s.state.work.job ∷ [])) c.find_end.ensures.same c.halt_found.ensures.units

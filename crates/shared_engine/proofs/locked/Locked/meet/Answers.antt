@@ -3,10 +3,10 @@ use Rattle.shared_engine.proofs.Writing.{session_met, view_met}
 use Rattle.shared_engine.proofs.locked.Locked.meet.Goals as goal
 
 pub invariant_of-session : goal.invariant_of-session
-invariant_of-session g c = session_met _ c.self.inside.desk _ _ _ c.session.invariant c.meet.ensures.met.seen c.meet.ensures.pin
+invariant_of-session c = session_met _ c.args.desk.now.knows _ _ _ c.session.invariant c.meet.ensures.met.seen c.meet.ensures.pin
 
 pub returns-clause-same : goal.returns-clause-same
-returns-clause-same g c = rw (← c.self.view_is, ← c.session.view_is) (view_met _ c.self.inside.desk c.session.inside.state c.session.inside.pin _ c.meet.ensures.pin c.self.invariant.log)
+returns-clause-same c = rw (← c.session.view_is) (view_met _ c.args.desk.now.knows c.session.inside.state c.session.inside.pin.knows _ c.meet.ensures.pin c.requires.stands.log)
 
 pub returns-clause-journal : goal.returns-clause-journal
-returns-clause-journal g c = rw (← c.self.view_is, ← c.session.view_is) (met_journal _ _ _ _ c.journal.ensures.legal c.self.invariant.log c.meet.ensures.met)
+returns-clause-journal c = rw (← c.session.view_is) (met_journal _ _ _ _ c.journal.ensures.legal c.requires.stands.log c.meet.ensures.met)

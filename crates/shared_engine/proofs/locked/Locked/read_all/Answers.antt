@@ -1,4 +1,4 @@
-use Rattle.std.proofs.Common.{◌≡◌, sym, ap, ◌∙◌, arith, rules}
+use Rattle.std.proofs.Common.{◌≡◌, refl, sym, ◌∙◌, arith, rules}
 use Rattle.std.proofs.lemmas.List.Elements.{All-head, All-rest, All-same}
 use Rattle.command.specs.declared.access.DataCommand.{DataCommand}
 use Rattle.command.specs.declared.request.Command.{Command}
@@ -10,27 +10,27 @@ abbrev IsData : Command → Type 0
 IsData c = (d : DataCommand) × (c ≡ Access d)
 
 pub block-init : goal.block-init
-block-init g c =
-    let same = c.meet.ensures.same in
-    record {
-      so_far = rw (c.into_iter-command-iterator.ensures.into_iter_gives.0, c.in_ok-replies.ensures.items, same) (so_far_begun _ _ _);
-      level = rw same c.requires.level;
-      start = rw same c.meet.ensures.start;
-      seen = ap (λ h. h.seen) same;
-      kept = rw same c.meet.ensures.kept;
-      accesses = All-same IsData _ _ c.into_iter-command-iterator.ensures.into_iter_gives.0 c.requires.accesses;
-      room = search rules;
-    }
+block-init c = record {
+  table = refl;
+  so_far = rw (c.into_iter-command-iterator.ensures.into_iter_gives.0, c.requires.none) (so_far_begun _ _ _);
+  level = c.requires.level;
+  start = c.requires.start;
+  seen = c.requires.seen;
+  kept = c.requires.kept;
+  accesses = All-same IsData _ _ c.into_iter-command-iterator.ensures.into_iter_gives.0 c.requires.accesses;
+  room = search rules;
+}
 
 pub read_step-requires-clause-accesses : goal.read_step-requires-clause-accesses
-read_step-requires-clause-accesses g c = All-head IsData _ _ (All-same IsData _ _ (sym c.in-Some.ensures.steps.0) c.block.invariant.accesses)
+read_step-requires-clause-accesses c = All-head IsData _ _ (All-same IsData _ _ (sym c.in-Some.ensures.steps.0) c.block.invariant.accesses)
 
 pub block-preserved : goal.block-preserved
-block-preserved g c =
+block-preserved c =
     let before = c.block.invariant in
     let taken = c.in-Some.ensures.steps in
     let done = c.read_step.ensures in
     record {
+      table = done.table ∙ before.table;
       so_far = rw c.push_reserved.ensures.items (so_far_next _ _ _ _ _ _ _ _ _ _ _ (rw taken.0 at before.so_far) done.done);
       level = omega (arith, before.level, done.level);
       start = rw done.start.0 before.start;
@@ -41,13 +41,10 @@ block-preserved g c =
     }
 
 pub returns-clause-done : goal.returns-clause-done
-returns-clause-done g c = so_far_all _ _ _ _ _ _ _ (none_left _ (omega (arith, c.in-None.ensures.steps.0, c.block.command-iterator.rest.ok.0))) c.block.invariant.so_far
+returns-clause-done c = so_far_all _ _ _ _ _ _ _ (none_left _ (omega (arith, c.in-None.ensures.steps.0, c.block.command-iterator.rest.ok.0))) c.block.invariant.so_far
 
 pub returns-clause-each : goal.returns-clause-each
-returns-clause-each g c =
+returns-clause-each c =
     let done = so_far_all _ _ _ _ _ _ _ (none_left _ (omega (arith, c.in-None.ensures.steps.0, c.block.command-iterator.rest.ok.0))) c.block.invariant.so_far in
     let each = done_each _ _ _ _ _ _ done in
     omega (arith, each, c.block.replies.ok.0, c.args.block.ok.0)
-
-pub returns-clause-journal : goal.returns-clause-journal
-returns-clause-journal g c = c.meet.ensures.journal

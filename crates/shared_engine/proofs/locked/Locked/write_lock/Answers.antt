@@ -8,26 +8,25 @@ use Rattle.pin_board.specs.Slips.{IsBeginning}
 use Rattle.shared_engine.proofs.locked.Locked.write_lock.Goals as goal
 
 pub invariant_of-session-2 : goal.invariant_of-session-2
-invariant_of-session-2 g c =
+invariant_of-session-2 c =
     let numbers = numbers_next _ _ _ _ _ c.push_reserved.ensures.items c.reserve.ensures.items c.number.ensures in
     rw c.note_lock.ensures
-    (session_noted _ _ _ (session_next _ _ _ _ _ c.self.inside.desk _ _ _ _ _ c.session.invariant c.self.invariant.log c.in_ok-had.ensures.added c.write.ensures.in_journal c.write.ensures.goes_on c.write.ensures.pin numbers refl c.job-2.ensures))
+    (session_noted _ _ _ (session_next _ _ _ _ _ c.args.desk.now.knows _ _ _ _ _ c.session.invariant c.requires.stands.log c.in_ok-had.ensures.added c.write.ensures.in_journal c.write.ensures.goes_on c.write.ensures.pin numbers refl c.job-2.ensures))
 
 pub returns-clause-receipt : goal.returns-clause-receipt
-returns-clause-receipt g c =
-    let s = c.session.view_is in
-    let units = ap (λ e. e.common.units) c.self.view_is in
-    let next = view_next _ _ _ _ _ c.self.inside.desk c.session.inside.state c.session.inside.pin _ c.self.invariant.log c.in_ok-had.ensures.added c.write.ensures.pin refl in
+returns-clause-receipt c =
+    let s = ap (λ h. h.held) c.session.view_is in
+    let next = view_next _ _ _ _ _ c.args.desk.now.knows c.session.inside.state c.session.inside.pin.knows _ c.requires.stands.log c.in_ok-had.ensures.added c.write.ensures.pin refl in
     let start = ap (λ h. h.start) next in
     let receipts = ap (λ h. h.receipts) next in
     let others = ap (λ h. h.others) next in
     let seen = ap (λ h. h.seen) next in
     let state = c.session.inside.state in
-    let pin = c.session.inside.pin in
-    let here = length c.self.inside.core.units + 1 in
+    let pin = c.session.inside.pin.knows in
+    let here = length c.args.self.now.core.units + 1 in
     (λ i. held (c.note_lock.ensures i) (start i) (receipts i) (others i) (seen i))
-    ∙ ((λ i. held (noted_lock state) (start_in pin) (receipts_in pin.mine ++ claim here (Lock (c.job-2.ensures i) (nat_lt 0 (c.level-inside.ensures i)) c.args.command.now c.in_ok-had.had) ∷ []) (others_in pin.mine) (c.self.inside.core.units ++ Lock (c.job-2.ensures i) (nat_lt 0 (c.level-inside.ensures i)) c.args.command.now c.in_ok-had.had ∷ []))
-    ∙ (λ i. after_try (units i) c.args.command.now c.in_ok-had.had (s i)))
+    ∙ ((λ i. held (noted_lock state) (start_in pin) (receipts_in pin.mine ++ claim here (Lock (c.job-2.ensures i) (nat_lt 0 (c.level-inside.ensures i)) c.args.command.now c.in_ok-had.had) ∷ []) (others_in pin.mine) (c.args.self.now.core.units ++ Lock (c.job-2.ensures i) (nat_lt 0 (c.level-inside.ensures i)) c.args.command.now c.in_ok-had.had ∷ []))
+    ∙ (λ i. after_try c.args.self.now.core.units c.args.command.now c.in_ok-had.had (s i)))
 
 pub returns-clause-goes_on : goal.returns-clause-goes_on
-returns-clause-goes_on g c = rw (← c.self.view_is, ← c.session.view_is) (subst (λ us. IsBeginning us c.session.inside.pin.seen) c.self.invariant.log c.write.ensures.goes_on)
+returns-clause-goes_on c = rw (← c.session.view_is) (subst (λ us. IsBeginning us c.session.inside.pin.knows.seen) c.requires.stands.log c.write.ensures.goes_on)

@@ -3,4 +3,4 @@ use Rattle.shared_engine.proofs.shared.Shared.lone.Goals as goal
 
 pub returns-clause-done : goal.returns-clause-done
 returns-clause-done g c =
-    let h = c.lone.ensures in (_, h.goes_on, lone_done _ _ _ _ _ _ h.answer h.accepted h.receipt h.refused h.early h.cause)
+    let h = c.lone-done.ensures in rw (← c.session.view_is) (_, h.goes_on, lone_done _ _ _ _ _ _ h.answer h.accepted h.receipt h.refused h.early h.cause)
