@@ -41,6 +41,7 @@ impl KeyDraft {
     }
 
     /// Begins anew, with a name word. A word that is no name isn't kept.
+    #[inline(always)]
     #[tactic(auto, using(crate::proofs::Drafting::begun_key))]
     pub fn begin(&mut self, word: &[u8]) -> Result<(), AllocError>
         ensures { OnOk result (IsDraft self.new (record { name = word.now; subscripts = [] })) }

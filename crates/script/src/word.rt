@@ -106,6 +106,7 @@ fn is_named(word: Word, letters: &[u8]) -> bool
 }
 
 // The first of a table's words that letters name.
+#[inline(always)]
 fn named_by(letters: &[u8], table: &[Word]) -> Option<Word>
     ensures { result ≡ find (λ w. words.is_named w letters.now) table.now }
 {
