@@ -105,8 +105,18 @@ fn is_named(word: Word, letters: &[u8]) -> bool
     is_either(short, long, letters)
 }
 
-// The first of a table's words that letters name.
+// The word, where letters name it.
 #[inline(always)]
+fn named(word: Word, letters: &[u8]) -> Option<Word>
+    ensures { result ≡ find (λ w. words.is_named w letters.now) (word ∷ []) }
+{
+    if is_named(word, letters) {
+        return Some(word);
+    }
+    None
+}
+
+// The first of a table's words that letters name.
 fn named_by(letters: &[u8], table: &[Word]) -> Option<Word>
     ensures { result ≡ find (λ w. words.is_named w letters.now) table.now }
 {
@@ -118,8 +128,8 @@ fn transaction_act_of(letters: &[u8]) -> Option<Word>
     ensures { result ≡ find (λ w. words.is_named w letters.now) (Word.Alone AloneWord.Start ∷ Word.Alone AloneWord.Commit ∷ Word.Alone AloneWord.Rollback ∷ Word.Alone AloneWord.Restart ∷ []) }
 {
     match letters.get(1)?.to_ascii_uppercase() {
-        b'S' => named_by(letters, &[Word::Alone(AloneWord::Start)]),
-        b'C' => named_by(letters, &[Word::Alone(AloneWord::Commit)]),
+        b'S' => named(Word::Alone(AloneWord::Start), letters),
+        b'C' => named(Word::Alone(AloneWord::Commit), letters),
         b'R' => named_by(
             letters,
             &[
@@ -137,7 +147,7 @@ pub(crate) fn act_of(letters: &[u8]) -> Option<Word>
     ensures { result ≡ words.act_of letters.now }
 {
     match letters.first()?.to_ascii_uppercase() {
-        b'S' => named_by(letters, &[Word::Access(DataWord::Set)]),
+        b'S' => named(Word::Access(DataWord::Set), letters),
         b'K' => named_by(
             letters,
             &[
@@ -146,10 +156,10 @@ pub(crate) fn act_of(letters: &[u8]) -> Option<Word>
                 Word::Access(DataWord::Kill(Extent::Below)),
             ],
         ),
-        b'M' => named_by(letters, &[Word::Access(DataWord::Merge)]),
-        b'L' => named_by(letters, &[Word::Lock]),
+        b'M' => named(Word::Access(DataWord::Merge), letters),
+        b'L' => named(Word::Lock, letters),
         b'T' => transaction_act_of(letters),
-        b'H' => named_by(letters, &[Word::Alone(AloneWord::Halt)]),
+        b'H' => named(Word::Alone(AloneWord::Halt), letters),
         _ => None,
     }
 }
@@ -160,11 +170,11 @@ pub(crate) fn function_of(letters: &[u8]) -> Option<Word>
     ensures { result ≡ words.function_of letters.now }
 {
     match letters.first()?.to_ascii_uppercase() {
-        b'I' => named_by(letters, &[Word::Access(DataWord::Increment)]),
-        b'D' => named_by(letters, &[Word::Access(DataWord::Data)]),
-        b'G' => named_by(letters, &[Word::Access(DataWord::Get)]),
-        b'O' => named_by(letters, &[Word::Access(DataWord::Order)]),
-        b'Q' => named_by(letters, &[Word::Access(DataWord::Query)]),
+        b'I' => named(Word::Access(DataWord::Increment), letters),
+        b'D' => named(Word::Access(DataWord::Data), letters),
+        b'G' => named(Word::Access(DataWord::Get), letters),
+        b'O' => named(Word::Access(DataWord::Order), letters),
+        b'Q' => named(Word::Access(DataWord::Query), letters),
         b'T' => named_by(
             letters,
             &[
