@@ -7,6 +7,8 @@ mod cells;
 #[cfg(test)]
 mod chains;
 #[cfg(test)]
+mod gates;
+#[cfg(test)]
 mod locks;
 #[cfg(test)]
 mod threads;
