@@ -26,7 +26,7 @@ use Rattle.job_core.specs.Common.{Common}
 use Rattle.shared_engine.specs.Engines.{lock_unit, after_try, IsCauseAtRestart}
 use Rattle.shared_engine.specs.Writes.{IsQuietSince, IsAlone}
 use Rattle.shared_engine.specs.Blocks.{AreSame, HasSeen, IsLone, IsReadAt, IsTried, IsOpened, IsDeeper, IsCommitted, IsRolledBack, IsRestarted, HasDone}
-use Rattle.shared_engine.proofs.Quiet.{everywhere}
+use Rattle.shared_engine.specs.laws.Quiet.{everywhere}
 use Rattle.shared_engine.proofs.Starting.{noted_work}
 
 -- ---- no unit since a start touches anything

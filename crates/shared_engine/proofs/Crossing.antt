@@ -119,10 +119,10 @@ session_send B g =
     let c = struct_send (shape (SessionInside.the_type B g)) (inner_send, (search sendable, tt)) in
     record { owned = λ d vs x. (c.owned ((SessionInside.the_type B g).to x.0) vs, tt); leaving = λ k d w. tt }
 
-locked_send : IsSend (Locked.the_field).row
+pub locked_send : IsSend (Locked.the_field).row
 locked_send = struct_send (shape Locked.the_type) (seats.the_send, (search sendable, (search sendable, (search sendable, (core_send, tt)))))
 
-locked_sync : IsSync (Locked.the_field).row
+pub locked_sync : IsSync (Locked.the_field).row
 locked_sync = struct_sync (shape Locked.the_type) (seats.the_sync, (search sendable, (search sendable, (search sendable, (core_sync, tt)))))
 
 under_send : (B : RattleType) (g : BoardGhosts B.Denot) → IsSend (Under.the_row B g)

@@ -5,7 +5,6 @@ pub mod Writing
 pub mod Keeping
 pub mod Lending
 pub mod Closing
-pub mod Quiet
 pub mod Alone
 pub mod Seeing
 pub mod Blocks

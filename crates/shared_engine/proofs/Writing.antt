@@ -1,6 +1,6 @@
 -- A session's seat after a step, and what is seen of the session then.
 use Rattle.std.proofs.Common.{◌≡◌, ℕ, ◌+◌, true, false, List, [], ◌∷◌, ◌++◌, length, length-append, refl, sym, ap, ◌∙◌, subst}
-use Rattle.std.specs.Prelude.{Option, None, Bool, if◌then◌else◌}
+use Rattle.std.specs.Prelude.{Option, None, Bool}
 use Rattle.journal.specs.declared.unit.Unit.{Unit as JournalUnit}
 use Rattle.journal.specs.declared.unit.Unit.TheVariants.{Back, End}
 use Rattle.journal.specs.Kept.{Claim, job_of}
@@ -13,6 +13,7 @@ use Rattle.pin_board.specs.Views.{wrote, aware, rested}
 use Rattle.pin_board.specs.Slips.{AreInJournal, IsBeginning}
 use Rattle.shared_engine.specs.Receipts.{has_receipt, receipts_in, others_in, claim, book, IsBook}
 use Rattle.shared_engine.specs.Sessions.{Held, held, start_in, GoesOnFromStart, IsSession, knowing, and_receipt, went_back, halted, noted_lock}
+use Rattle.shared_engine.specs.laws.Told.{others_back}
 use Rattle.shared_engine.proofs.Booking.{book_nothing, receipts_nothing, booked_next, booked_quiet, received, received_none, others_same, others_more, others_nothing}
 use Rattle.shared_engine.proofs.Starting.{start_free, at_noted, noted_work}
 use Rattle.shared_engine.proofs.Prefixes.{start_later, start_longer, start_none}
@@ -77,15 +78,8 @@ view_quiet u told oldest old new desk s pin later log h step has =
     let seen : later.seen ≡ new.units = seen_next u told oldest old new desk pin later log h step ∙ sym h.units in
     λ i. held s (start i) (same i) (more i) (seen i)
 
--- the unit of a rollback is there exactly where the transaction took a LOCK
-abbrev others_back : Bool → List JournalUnit → Held → Held
-others_back b units s = held s.state s.start s.receipts (if b then s.others ++ claim (length units) (Back s.state.work.job) ∷ [] else s.others) (if b then units else s.seen)
-
 pub back_written : (units : List JournalUnit) (s : Held) → s.state.took_lock ≡ true → and_other units (Back s.state.work.job) s ≡ went_back units s
 back_written units s took = ap (λ (b : Bool). others_back b units s) (sym took)
-
-pub back_free : (units : List JournalUnit) (s : Held) → s.state.took_lock ≡ false → s ≡ went_back units s
-back_free units s free = ap (λ (b : Bool). others_back b units s) (sym free)
 
 pub view_back : (told : Claim) (oldest : Option ℕ) (old new : Common) (desk : DeskView) (s : JobSession) (pin later : PinView) (job : ℕ) (h : Held) → desk.log ≡ old.units → HasAdded (Back job) told oldest old new → later ≡ wrote desk pin told → job ≡ s.work.job → s.took_lock ≡ true
     → shown s pin ≡ h → shown s later ≡ went_back new.units h

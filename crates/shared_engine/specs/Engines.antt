@@ -13,7 +13,7 @@ use Rattle.atomic_table.specs.Seated.{TableId}
 use Rattle.pin_board.specs.Named.{DeskAt, FreeAt, free_at}
 use Rattle.pin_board.specs.Slips.{AreInJournal, IsBeginning, claims_of, weigh}
 use Rattle.shared_engine.specs.Receipts.{Book, IsOwn, RisesFrom, of_receipts, claim}
-use Rattle.shared_engine.specs.Sessions.{Held, held, and_receipt, begun_anew, ended, noted_lock}
+use Rattle.shared_engine.specs.Sessions.{Held, held, knowing, and_receipt, begun_anew, ended, noted_lock}
 use Rattle.shared_engine.specs.declared.locked.Ended.{Ended}
 use Rattle.shared_engine.specs.declared.locked.Ended.TheVariants.{Committed, Restarted}
 use Rattle.shared_engine.specs.declared.turn.Turn.{Turn}
@@ -118,6 +118,11 @@ MayBeTaken old new = new ≡ old
 abbrev pub HasTakenTurn : Turn → Turn → Common → Common → Type 0
 HasTakenTurn (Due keys) (Taken progress) old new = (horizon : ℕ) × HasTurned horizon keys progress old.store new.store
 HasTakenTurn turn next old new = new ≡ old
+
+-- a session that isn't over goes on: where it was refused, it has seen these units; where nothing was tried, it is as it was
+abbrev pub GoesOnBy : Option Refusal → List JournalUnit → Held → Held → Type 0
+GoesOnBy None units old new = new ≡ old
+GoesOnBy (Some refusal) units old new = IsBeginning units old.seen × (new ≡ knowing units old)
 
 -- ---- the end
 

@@ -1,2 +1,4 @@
 pub mod Prefixes
 pub mod Seen
+pub mod Quiet
+pub mod Told

@@ -25,7 +25,7 @@ use std::marker::Model;
 /// and what it holds: the unit of each receipt, too, and the other units that it wrote, which its seat knows, the journal
 /// at the start of its transaction, and the longest beginning of the journal that it has seen.
 #[derive(Drop)]
-pub(crate) struct InnerSession {
+pub struct InnerSession {
     pub(crate) state: JobState,
     pub(crate) pin: Pin,
     pub(crate) numbers: Vec<u64>,
@@ -48,7 +48,7 @@ impl Model for InnerSession {
 
 /// A job's receipts in order, once its session has ended. It is seen as the table of its board, and its book.
 #[derive(Drop)]
-pub(crate) struct InnerPass {
+pub struct InnerPass {
     pub(crate) job: Job,
     pub(crate) slip: Slip,
     pub(crate) numbers: Vec<u64>,
@@ -71,14 +71,14 @@ impl Model for InnerPass {
 
 impl InnerPass {
     /// The job that had the session.
-    pub(crate) fn job(&self) -> Job
+    pub fn job(&self) -> Job
         ensures { result ≡ self.now.book.job }
     {
         self.job
     }
 
     /// The numbers of its receipts, in order.
-    pub(crate) fn numbers(&self) -> &[u64]
+    pub fn numbers(&self) -> &[u64]
         ensures all { map number_of self.now.book.receipts ≡ result.now }
         ensures rising { RisesFrom 0 self.now.book.receipts }
     {
@@ -86,7 +86,7 @@ impl InnerPass {
     }
 
     /// The number of the session's end.
-    pub(crate) fn end(&self) -> u64
+    pub fn end(&self) -> u64
         ensures { result ≡ length self.now.book.seen }
     {
         self.end
@@ -95,14 +95,14 @@ impl InnerPass {
 
 impl InnerSession {
     /// The job that has the session.
-    pub(crate) fn job(&self) -> Job
+    pub fn job(&self) -> Job
         ensures { result ≡ self.now.held.state.work.job }
     {
         self.state.job()
     }
 
     /// The numbers of its receipts so far, in order.
-    pub(crate) fn numbers(&self) -> &[u64]
+    pub fn numbers(&self) -> &[u64]
         ensures all { map number_of self.now.held.receipts ≡ result.now }
         ensures rising { RisesFrom 0 self.now.held.receipts }
     {
@@ -110,28 +110,28 @@ impl InnerSession {
     }
 
     /// How deep transactions are nested.
-    pub(crate) fn tlevel(&self) -> u64
+    pub fn tlevel(&self) -> u64
         ensures { result ≡ self.now.held.state.level }
     {
         self.state.level()
     }
 
     /// How often the open transaction began anew.
-    pub(crate) fn trestarts(&self) -> u64
+    pub fn trestarts(&self) -> u64
         ensures { result ≡ self.now.held.state.restarts }
     {
         self.state.restarts()
     }
 
     /// Whether the transaction took a LOCK since its start or last restart.
-    pub(crate) fn took_lock(&self) -> bool
+    pub fn took_lock(&self) -> bool
         ensures { result ≡ self.now.held.state.took_lock }
     {
         self.state.took_lock()
     }
 
     /// TSTART within a transaction.
-    pub(crate) fn tstart_inner(&mut self) -> Result<u64, Refusal>
+    pub fn tstart_inner(&mut self) -> Result<u64, Refusal>
         requires { 1 ≤ self.old.held.state.level }
         ensures table { self.new.table ≡ self.old.table }
         ensures deeper { IfOk result (λ level. (level ≡ self.old.held.state.level + 1) × ((self.old.held.state.level < most_levels) × (self.new.held ≡ held (at_level level self.old.held.state) self.old.held.start self.old.held.receipts self.old.held.others self.old.held.seen))) }
@@ -142,7 +142,7 @@ impl InnerSession {
     }
 
     /// TCOMMIT of an inner level.
-    pub(crate) fn tcommit_inner(&mut self) -> u64
+    pub fn tcommit_inner(&mut self) -> u64
         requires { 1 < self.old.held.state.level }
         ensures table { self.new.table ≡ self.old.table }
         ensures level { result ≡ self.old.held.state.level - 1 }
@@ -153,7 +153,7 @@ impl InnerSession {
     }
 
     /// SET in a transaction.
-    pub(crate) fn set(&mut self, key: Key, value: Text) -> Result<(), Refusal>
+    pub fn set(&mut self, key: Key, value: Text) -> Result<(), Refusal>
         requires { 1 ≤ self.old.held.state.level }
         ensures table { self.new.table ≡ self.old.table }
         ensures written { OnOk result (HasWritten (set_command key value) self.old.held.state self.new.held.state) }
@@ -168,7 +168,7 @@ impl InnerSession {
     }
 
     /// KILL, KVALUE or KSUBSCRIPTS in a transaction.
-    pub(crate) fn kill(&mut self, key: Key, extent: Extent) -> Result<(), Refusal>
+    pub fn kill(&mut self, key: Key, extent: Extent) -> Result<(), Refusal>
         requires { 1 ≤ self.old.held.state.level }
         ensures table { self.new.table ≡ self.old.table }
         ensures written { OnOk result (HasWritten (kill_command key extent) self.old.held.state self.new.held.state) }
@@ -183,11 +183,7 @@ impl InnerSession {
     }
 
     /// What a $GET answers where the transaction's own writes decide it.
-    pub(crate) fn own_get(
-        &self,
-        key: &Key,
-        default: &Option<Text>,
-    ) -> Result<Option<Answer>, Refusal>
+    pub fn own_get(&self, key: &Key, default: &Option<Text>) -> Result<Option<Answer>, Refusal>
         ensures decided { IfOk result (λ found. is_some found ≡ decides self.now.held.state.work.layer key.now) }
         ensures answer { IfOk result (λ found. IfSome found (λ answer. (m : Database) → IsWorkOn self.now.held.state.work m → answer ≡ data_reply (look_command (get_command key.now default.now)) (seen self.now.held.state.work m))) }
         ensures memory { OnErr result (IsErrOf result Refusal.OutOfMemory) }
@@ -198,7 +194,7 @@ impl InnerSession {
     /// The outermost TSTART: a transaction begins on a journal in which the session's own units are.
     ///
     /// Refusals, after which nothing has changed: `Again` where a horizon passed the start as it was taken.
-    pub(crate) fn tstart(&mut self, board: &Board) -> Result<(), Refusal>
+    pub fn tstart(&mut self, board: &Board) -> Result<(), Refusal>
         requires own { self.old.table ≡ board.now.table }
         requires level { self.old.held.state.level ≡ 0 }
         ensures table { self.new.table ≡ self.old.table }
@@ -215,7 +211,7 @@ impl InnerSession {
     }
 
     /// TROLLBACK of a transaction that took no LOCK: nothing of it is left.
-    pub(crate) fn rollback_free(&mut self, board: &Board)
+    pub fn rollback_free(&mut self, board: &Board)
         requires own { self.old.table ≡ board.now.table }
         requires level { 1 ≤ self.old.held.state.level }
         requires free { self.old.held.state.took_lock ≡ false }

@@ -15,7 +15,8 @@
 //!     it, each unit of a pass is in it at its number, and where all passes are in, their units are all of it.
 //!
 //! `Locked` (`src/locked.rt`) is what lies under the lock, but for the board's desk; each of its methods is a step, whose
-//! contract is exact. `Shared` takes the lock, lifts the desk and calls one. Whenever the lock is free, no content that an
+//! contract is exact. `Shared` takes the lock, lifts the desk and calls one; so does, with no lock that waits, the crate
+//! `hub`, for which the steps are public. Whenever the lock is free, no content that an
 //! open transaction sees is gone (`IsLocked` of `specs/Engines.antt`): the store's cut isn't above the greatest horizon,
 //! and by the board's rule no horizon is above a settled start.
 //!
@@ -28,7 +29,8 @@
 
 pub use finishing::Closed;
 pub use gate::{Gate, Mark, Stop};
-pub use locked::Ended;
+pub use inner::{InnerPass, InnerSession};
+pub use locked::{Ended, Locked};
 pub use name::BoardName;
 pub use serial_run::SerialRun;
 pub use session::{Pass, Session};
@@ -41,6 +43,7 @@ pub use turn::Turn;
 pub use under::{Pause, Share};
 
 mod adaptive;
+mod entry;
 mod finishing;
 mod gate;
 mod halting;

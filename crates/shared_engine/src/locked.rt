@@ -1,5 +1,5 @@
 //! What lies under the lock, but for the desk. Each step of a session is a method, whose contract says exactly what it
-//! does. It is given the desk lifted, and doesn't wait, but for seats that somebody may have (`open`, `halt`).
+//! does. It is given the desk lifted, and never waits.
 ghost use Rattle.std.specs.Prelude.{◌≡◌, ◌⊎◌, ◌<◌, ◌≤◌, ◌+◌, ◌-◌, ◌^◌, ◌∷◌, ◌++◌, ℕ, true, false, List, [], min, max, nat_lt, length, vec_len, take, None, Some, IfOk, IfErr, IsErrOf, IfSome, IsSome, OnOk, OnErr};
 ghost use Rattle.refusal.specs.declared.Refusal.{Refusal};
 ghost use Rattle.command.specs.Data.{data_refusal, data_reply};
@@ -26,7 +26,6 @@ use job_core::{Core, JobState};
 use pin_board::{Board, Lifted};
 use refusal::Refusal;
 use std::alloc::{AllocError, Global};
-use std::sync::Wait;
 use validate_commit::Verdict;
 
 /// How an outermost TCOMMIT ended.
@@ -42,7 +41,7 @@ pub enum Ended {
 /// were opened, and how far the collector has gone round. Each method asks that all of it goes with the desk
 /// (`IsLocked`), and leaves it so.
 #[derive(Drop)]
-pub(crate) struct Locked {
+pub struct Locked {
     // What only a writer looks at comes first: it lies beside the lock's own word, which each reader changes.
     pub(crate) seats: Seats,
     pub(crate) horizon: u64,
@@ -115,7 +114,7 @@ fn begin(core: &mut Core, alloc: Global, job: Job) -> Result<JobState, AllocErro
 
 impl Locked {
     /// No unit, and no session. Takes no memory.
-    pub(crate) fn new(alloc: Global) -> Locked
+    pub fn new(alloc: Global) -> Locked
         ensures core { (result.core.units ≡ []) × ((result.core.store.cut ≡ 0) × ((result.core.base ≡ 0) × (result.core.ends ≡ 0))) }
         ensures rest { (result.seats ≡ []) × ((result.horizon ≡ 0) × (result.opened ≡ 0)) }
     {
@@ -128,17 +127,16 @@ impl Locked {
         }
     }
 
-    /// Begins a session of a job that has none, once room is kept for its end.
+    /// Begins a session of a job that has none, once room is kept for its end. None where somebody has the job's seat.
     ///
     /// Refusals, after which the same jobs have sessions: `BadJob` where the job has one; else `OutOfMemory`.
-    pub(crate) fn open<R: Wait>(
+    pub fn open(
         &mut self,
-        rt: &R,
         board: &Board,
         desk: &mut Lifted,
         alloc: Global,
         job: Job,
-    ) -> Result<InnerSession, Refusal>
+    ) -> Result<InnerSession, Option<Refusal>>
         requires own { desk.old.table ≡ board.now.table }
         requires stands { IsLocked self.old.core desk.old self.old.seats self.old.horizon self.old.opened }
         ensures table { desk.new.table ≡ desk.old.table }
@@ -149,14 +147,14 @@ impl Locked {
         ensures opened { OnOk result ((desk.new.knows.given ≡ desk.old.knows.given + 1) × SessionIs true job self.old.seats self.new.seats) }
         ensures common { OnOk result (self.new.core ≡ record self.old.core { ends = self.old.core.ends + 1 }) }
         ensures refused { OnErr result ((self.new.core ≡ self.old.core) × ((desk.new.knows.given ≡ desk.old.knows.given) × SameSessions self.old.seats self.new.seats)) }
-        ensures cause { IfErr result (λ refusal. ((refusal ≡ Refusal.BadJob) × (has_session self.old.seats job ≡ true)) ⊎ ((refusal ≡ Refusal.OutOfMemory) × (has_session self.old.seats job ≡ false))) }
+        ensures cause { IfErr result (λ why. IfSome why (λ refusal. ((refusal ≡ Refusal.BadJob) × (has_session self.old.seats job ≡ true)) ⊎ ((refusal ≡ Refusal.OutOfMemory) × (has_session self.old.seats job ≡ false)))) }
     {
-        let mut pin = self.seats.lend(rt, board, desk, job)?;
+        let mut pin = self.seats.lend(board, desk, job)?;
         let state = match begin(&mut self.core, alloc, job) {
             Ok(state) => state,
             Err(_) => {
                 self.seats.take_back(board, pin);
-                return Err(Refusal::OutOfMemory);
+                return Err(Some(Refusal::OutOfMemory));
             }
         };
         board.give_slip(desk, &mut pin);
@@ -172,7 +170,7 @@ impl Locked {
     ///
     /// Refusals, after which nothing has changed but that the session has seen the whole journal: those of `Core::lone`;
     /// and `OutOfMemory` for the receipt, which hides no rule that is looked at before memory is asked for.
-    pub(crate) fn lone(
+    pub fn lone(
         &mut self,
         board: &Board,
         desk: &mut Lifted,
@@ -272,7 +270,7 @@ impl Locked {
     ///
     /// Others may have written meanwhile, and a collector may have drawn a horizon: the board says that none is above
     /// this session's start.
-    pub(crate) fn meet(&self, board: &Board, desk: &mut Lifted, session: &mut InnerSession)
+    pub fn meet(&self, board: &Board, desk: &mut Lifted, session: &mut InnerSession)
         requires own { (desk.old.table ≡ board.now.table) × (session.old.table ≡ board.now.table) }
         requires stands { IsLocked self.now.core desk.old self.now.seats self.now.horizon self.now.opened }
         requires level { 1 ≤ session.old.held.state.level }
@@ -305,7 +303,7 @@ impl Locked {
     }
 
     /// How many units the journal has, which goes on from all that the session had seen.
-    pub(crate) fn look(&self, board: &Board, desk: &mut Lifted, session: &mut InnerSession) -> u64
+    pub fn look(&self, board: &Board, desk: &mut Lifted, session: &mut InnerSession) -> u64
         requires own { (desk.old.table ≡ board.now.table) × (session.old.table ≡ board.now.table) }
         requires stands { IsLocked self.now.core desk.old self.now.seats self.now.horizon self.now.opened }
         ensures desk { desk.new ≡ desk.old }
@@ -319,7 +317,7 @@ impl Locked {
     }
 
     /// A data command of an open transaction whose start's content is there.
-    pub(crate) fn read_met(
+    pub fn read_met(
         &self,
         session: &mut InnerSession,
         command: DataCommand,
@@ -342,7 +340,7 @@ impl Locked {
     ///
     /// Refusals, after which nothing has changed but that the session has seen the whole journal, and only where it
     /// took a LOCK: `StampsUsedUp`, `OutOfMemory`.
-    pub(crate) fn trollback(
+    pub fn trollback(
         &mut self,
         board: &Board,
         desk: &mut Lifted,
@@ -378,7 +376,7 @@ impl Locked {
     ///
     /// Refusals, after which nothing has changed but that the session has seen the whole journal, and only where it
     /// took a LOCK: `StampsUsedUp`, `OutOfMemory`.
-    pub(crate) fn trestart(
+    pub fn trestart(
         &mut self,
         board: &Board,
         desk: &mut Lifted,
@@ -417,7 +415,7 @@ impl Locked {
     ///
     /// Refusals, after which nothing has changed but that the session has seen the whole journal: those of
     /// `Core::commit`; those of TRESTART where it was overtaken and took a LOCK; and `OutOfMemory` for the receipt.
-    pub(crate) fn tcommit(
+    pub fn tcommit(
         &mut self,
         board: &Board,
         desk: &mut Lifted,
@@ -458,7 +456,7 @@ impl Locked {
     /// Draws a horizon, and lets the collector visit so many keys: what nobody sees from that horizon on is dropped.
     ///
     /// Refusals, after which what all jobs share is as it was: `OutOfMemory`.
-    pub(crate) fn collect(
+    pub fn collect(
         &mut self,
         board: &Board,
         desk: &mut Lifted,
@@ -487,7 +485,7 @@ impl Locked {
     /// whenever the lock is free it isn't above the greatest horizon (`IsLocked`), and no horizon is above such a start.
     ///
     /// Refusals, after which what all jobs share is as it was: `OutOfMemory`.
-    pub(crate) fn checkpoint(&mut self, board: &Board, desk: &mut Lifted) -> Result<u64, Refusal>
+    pub fn checkpoint(&mut self, board: &Board, desk: &mut Lifted) -> Result<u64, Refusal>
         requires own { desk.old.table ≡ board.now.table }
         requires stands { IsLocked self.old.core desk.old self.old.seats self.old.horizon self.old.opened }
         ensures table { desk.new.table ≡ desk.old.table }
@@ -508,7 +506,7 @@ impl Locked {
     }
 
     /// Whether the collector has visited all keys since the last write: it would find nothing.
-    pub(crate) fn is_swept(&self) -> bool {
+    pub fn is_swept(&self) -> bool {
         self.sweep.is_done()
     }
 }

@@ -40,7 +40,7 @@ impl Locked {
     ///
     /// Refusals, after which nothing has changed but that the session has seen the whole journal: those of `Core::lock`;
     /// and `OutOfMemory` for the receipt, which hides its rule only where memory was refused while that was looked at.
-    pub(crate) fn lock(
+    pub fn lock(
         &mut self,
         board: &Board,
         desk: &mut Lifted,
@@ -106,7 +106,7 @@ impl Locked {
     /// A later try of a LOCK that was blocked: it is a unit where it has its names now, and else nothing is done.
     ///
     /// Refusals: as `lock`.
-    pub(crate) fn lock_again(
+    pub fn lock_again(
         &mut self,
         board: &Board,
         desk: &mut Lifted,

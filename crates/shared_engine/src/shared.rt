@@ -4,17 +4,17 @@ ghost use Rattle.std.specs.List.{All};
 ghost use Rattle.refusal.specs.declared.Refusal.{Refusal};
 ghost use Rattle.globals.specs.Answering.{early_refusal};
 ghost use Rattle.journal.specs.History.{initial, after};
-ghost use Rattle.journal.specs.Kept.{Claim, HasNoNumber, HasNoRoom};
+ghost use Rattle.journal.specs.Kept.{Claim, HasNoRoom};
 ghost use Rattle.journal.specs.declared.unit.Unit.{Unit as JournalUnit};
 ghost use Rattle.journal.specs.declared.unit.Unit.TheVariants.{Lone};
 ghost use Rattle.validate_commit.specs.Verdicts.{IsCauseAtCommit};
-ghost use Rattle.job_core.specs.Sessions.{idle, IsAnsweredOrRefused};
+ghost use Rattle.job_core.specs.Sessions.{IsAnsweredOrRefused};
 ghost use Rattle.pin_board.specs.Slips.{AreInJournal, IsBeginning};
 ghost use Rattle.command.specs.declared.access.DataCommand.{DataCommand};
 ghost use Rattle.command.specs.declared.request.Command.{Command};
 ghost use Rattle.shared_engine.specs.Blocks.{IsLone, WasTried, HasItsNames, WasBlocked, WasRefused, IsRolledBack, IsRestarted, AreDone, HasCome, NoneBeganAnew};
 ghost use Rattle.shared_engine.specs.Receipts.{Book, IsOwn, RisesFrom};
-ghost use Rattle.shared_engine.specs.Sessions.{held, knowing, begun_anew, ended, halted, HasBegun, IsJournalOf};
+ghost use Rattle.shared_engine.specs.Sessions.{held, knowing, begun_anew, ended, HasBegun, IsJournalOf};
 ghost use Rattle.shared_engine.specs.Engines.{HasEnded, gone_back, IsCauseAtRestart, MayBeTaken, OnOkThat, OnOkNot, AreAllReceipts, AreAllUnits, HasSeenOf};
 ghost use Rattle.shared_engine.specs.Writes.{AreWrites};
 
@@ -27,7 +27,6 @@ use crate::serial_run::SerialRun;
 use crate::session::{Pass, Session};
 use crate::turn::Turn;
 use crate::under::Under;
-use collation::Job;
 use collector::Progress;
 use command::{Answer, Command, DataCommand, Reply};
 use lock_name::LockCommand;
@@ -41,7 +40,7 @@ use std::sync::Wait;
 /// and end without the lock.
 #[derive(Drop)]
 pub struct Shared<B: BoardName> {
-    board: Board,
+    pub(crate) board: Board,
     pub(crate) lock: AdaptiveLock<Under<B>>,
     ghost own: { board.table ≡ B.table },
 }
@@ -64,27 +63,6 @@ impl<B: BoardName> Shared<B> {
         Shared {
             board,
             lock: AdaptiveLock::new(Under::new(alloc, desk)),
-        }
-    }
-
-    /// Begins a session of a job that has none. Takes the exclusive lock.
-    ///
-    /// Refusals: `BadJob` where the job has a session; `OutOfMemory`.
-    pub fn open<R: Wait>(&self, rt: &R, alloc: Global, job: Job) -> Result<Session<B>, Refusal>
-        ensures session { IfOk result (λ session. (units : List JournalUnit) × (session ≡ held (idle job) None [] [] units)) }
-        ensures cause { IfErr result (λ refusal. (refusal ≡ Refusal.BadJob) ⊎ (refusal ≡ Refusal.OutOfMemory)) }
-    {
-        let mut guard = self.lock.write(rt, Patience::Short);
-        let under = &mut *guard;
-        let mut desk = under.desk.lift(rt);
-        let opened = under.locked.open(rt, &self.board, &mut desk, alloc, job);
-        under.desk.set_down(desk);
-        match opened {
-            Ok(inner) => Ok(Session {
-                inner,
-                of: PhantomData,
-            }),
-            Err(refusal) => Err(refusal),
         }
     }
 
@@ -409,34 +387,6 @@ impl<B: BoardName> Shared<B> {
             .trestart(&self.board, &mut desk, &mut session.inner);
         under.desk.set_down(desk);
         done
-    }
-
-    /// HALT: the session is over, its locks are released and its transaction is gone; its job may have another. Gives
-    /// its pass, whose last unit is that end, or the session back with the refusal. Takes the exclusive lock.
-    ///
-    /// It takes no memory: room for its unit was kept when the session began.
-    ///
-    /// Refusals, after which the session goes on as it was, but for what it has seen: `StampsUsedUp` where the journal is
-    /// full.
-    pub fn halt<R: Wait>(
-        &self,
-        rt: &R,
-        session: Session<B>,
-    ) -> Result<Pass<B>, (Session<B>, Refusal)>
-        ensures pass { IfOk result (λ pass. (units : List JournalUnit) × IsBeginning units session.seen × (pass ≡ halted units session)) }
-        ensures refused { IfErr result (λ r. IsBeginning r.0.seen session.seen × (r.0 ≡ knowing r.0.seen session)) }
-        ensures cause { IfErr result (λ r. HasNoNumber r.1 1 (length r.0.seen)) }
-    {
-        let mut guard = self.lock.write(rt, Patience::Short);
-        let under = &mut *guard;
-        let mut desk = under.desk.lift(rt);
-        let Session { inner, of } = session;
-        let done = under.locked.halt(rt, &self.board, &mut desk, inner);
-        under.desk.set_down(desk);
-        match done {
-            Ok(inner) => Ok(Pass { inner, of }),
-            Err((inner, refusal)) => Err((Session { inner, of }, refusal)),
-        }
     }
 
     /// Does the commands of a session without a transaction under one hold of the exclusive lock. Nobody else does

@@ -1,4 +1,4 @@
-use Rattle.shared_engine.proofs.Seeing.{tried_again, refused_again}
+use Rattle.shared_engine.specs.laws.Told.{tried_again, refused_again}
 use Rattle.shared_engine.proofs.shared.Shared.lock_again.Goals as goal
 
 pub returns-clause-had : goal.returns-clause-had

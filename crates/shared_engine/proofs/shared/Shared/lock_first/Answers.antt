@@ -1,4 +1,4 @@
-use Rattle.shared_engine.proofs.Seeing.{tried_first, refused_first}
+use Rattle.shared_engine.specs.laws.Told.{tried_first, refused_first}
 use Rattle.shared_engine.proofs.shared.Shared.lock_first.Goals as goal
 
 pub returns-clause-tried : goal.returns-clause-tried

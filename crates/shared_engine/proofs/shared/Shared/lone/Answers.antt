@@ -1,4 +1,4 @@
-use Rattle.shared_engine.proofs.Seeing.{lone_done}
+use Rattle.shared_engine.specs.laws.Told.{lone_done}
 use Rattle.shared_engine.proofs.shared.Shared.lone.Goals as goal
 
 pub returns-clause-done : goal.returns-clause-done

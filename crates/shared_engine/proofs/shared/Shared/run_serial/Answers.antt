@@ -1,6 +1,6 @@
 use Rattle.shared_engine.specs.Sessions.{knowing}
 use Rattle.shared_engine.specs.Blocks.{HasCome}
-use Rattle.shared_engine.proofs.Seeing.{come_at}
+use Rattle.shared_engine.specs.laws.Told.{come_at}
 use Rattle.shared_engine.proofs.shared.Shared.run_serial.Goals as goal
 
 pub returns-clause-come : goal.returns-clause-come

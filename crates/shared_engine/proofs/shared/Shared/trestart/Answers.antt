@@ -1,4 +1,4 @@
-use Rattle.shared_engine.proofs.Seeing.{anew_done, anew_journal}
+use Rattle.shared_engine.specs.laws.Told.{anew_done, anew_journal}
 use Rattle.shared_engine.proofs.shared.Shared.trestart.Goals as goal
 
 pub returns-clause-done : goal.returns-clause-done

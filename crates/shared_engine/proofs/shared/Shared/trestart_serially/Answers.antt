@@ -1,6 +1,6 @@
 use Rattle.shared_engine.specs.Sessions.{begun_anew}
 use Rattle.shared_engine.specs.Blocks.{HasCome}
-use Rattle.shared_engine.proofs.Seeing.{anew_come, anew_refused, anew_cause}
+use Rattle.shared_engine.specs.laws.Told.{anew_come, anew_refused, anew_cause}
 use Rattle.shared_engine.proofs.shared.Shared.trestart_serially.Goals as goal
 
 pub returns-clause-come : goal.returns-clause-come

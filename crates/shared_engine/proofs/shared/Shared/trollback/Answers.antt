@@ -1,6 +1,6 @@
 use Rattle.std.proofs.Common.{sym, ap, ◌∙◌}
 use Rattle.shared_engine.specs.laws.Prefixes.{begins_itself}
-use Rattle.shared_engine.proofs.Seeing.{rolled_free, rolled_done}
+use Rattle.shared_engine.specs.laws.Told.{rolled_free, rolled_done}
 use Rattle.shared_engine.proofs.shared.Shared.trollback.Goals as goal
 
 pub returns-then-took_lock : goal.returns-then-took_lock
