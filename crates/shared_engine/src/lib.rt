@@ -16,9 +16,9 @@
 //!
 //! `Locked` (`src/locked.rt`) is what lies under the lock, but for the board's desk; each of its methods is a step, whose
 //! contract is exact. `Shared` takes the lock, lifts the desk and calls one; so does, with no lock that waits, the crate
-//! `hub`, for which the steps are public. Whenever the lock is free, no content that an
-//! open transaction sees is gone (`IsLocked` of `specs/Engines.antt`): the store's cut isn't above the greatest horizon,
-//! and by the board's rule no horizon is above a settled start.
+//! `hub`, for which the steps are public. Whenever the lock is free, no content that an open transaction sees is gone
+//! (`IsLocked` of `specs/Engines.antt`): the store's cut isn't above the greatest horizon, and by the board's rule no
+//! horizon is above a settled start.
 //!
 //! Inside, which board a session is of is a value that its clauses see (`specs/Named.antt`, `src/inner.rt`). Outside it is
 //! a type, `BoardName`, under which `Session`, `Pass` and `Under` (`src/under.rt`) wrap what is inside.
