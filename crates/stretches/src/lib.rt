@@ -8,10 +8,10 @@
 //! look-up begins in a stretch it goes on from that stretch's end, and a run of neighbours ends where one begins, unless
 //! it has none.
 //!
-//! A stretch is found by a scout: look-ups from where a $ORDER or $QUERY begins tell that nothing stands up to the next
-//! nodes on both sides, or for $DATA that nothing stands below its reference, or up to the first node there. A MERGE's
-//! begins at a killed node below its source and goes up to the next node; a KILL's is all at and under its reference,
-//! once it is done. What lies in the way, killed nodes, is what makes it worth while (`InTheWay`).
+//! A stretch is found by a scout: look-ups from where a $ORDER, also of names, or $QUERY begins tell that nothing stands
+//! up to the next nodes on both sides, or for $DATA that nothing stands below its reference, or up to the first node
+//! there. A MERGE's begins at a killed node below its source and goes up to the next node; a KILL's is all at and under
+//! its reference, once it is done. What lies in the way, killed nodes, is what makes it worth while (`InTheWay`).
 //!
 //! Where ^A(1) to ^A(5000) were killed of ^A(1) to ^A(9000), $ORDER(^A("")) passes over 5,000 killed nodes to ^A(5001).
 //! Its scout finds the stretch from after ^A to past ^A(5000); once that is noted the next $ORDER(^A("")) begins there,

@@ -9,9 +9,12 @@ ghost use Rattle.stretches.specs.Empty.{IsEmpty, IsFree};
 
 use crate::Stretches;
 use crate::cuts::{earlier, later};
-use collation::Direction;
+use collation::{Direction, Name};
 use command::{Extent, Look};
-use globals::{Cut, OrderedView, order_start, query_start, stands_before, taken_from, taken_to};
+use globals::{
+    Cut, OrderedView, key_of_start, names_from, order_start, query_start, stands_before,
+    taken_from, taken_to,
+};
 use key_codec::{Key, Place};
 use read_ranges::{ReadRange, is_at_most};
 use std::alloc::{AllocError, Global};
@@ -28,11 +31,11 @@ pub trait InTheWay {
 // From how many references in the way on a stretch below a reference is worth while.
 const MANY: usize = 8;
 
-/// The stretch in which a $ORDER or $QUERY begins, or that begins where one ends in which it begins, if something lies
-/// in the way there. It takes in what lies in the way up to the next nodes on both sides, and no more; beyond the last
-/// node of all it goes to the end of the global. For $DATA the stretch below its reference, up to the first node there,
-/// if eight or more lie in the way. None for $GET and $ORDER of names, and where memory is refused, which is asked for only where a key has
-/// over 38 bytes.
+/// The stretch in which a $ORDER, of nodes or names, or $QUERY begins, or that begins where one ends in which it begins,
+/// if something lies in the way there. It takes in what lies in the way up to the next nodes on both sides, and no more;
+/// beyond the last node of all it goes to the end of the global, of names to the end of all. For $DATA the stretch below
+/// its reference, up to the first node there, if eight or more lie in the way. None for $GET, and where memory is
+/// refused, which is asked for only where a key has over 38 bytes.
 pub fn scout<V: OrderedView, W: InTheWay>(
     alloc: Global,
     view: &V,
@@ -44,7 +47,8 @@ pub fn scout<V: OrderedView, W: InTheWay>(
 {
     match look {
         Look::Data(key) => scout_below(view, way, stretches, key),
-        Look::Get(_, _) | Look::Name(_, _) => None,
+        Look::Get(_, _) => None,
+        Look::Name(start, direction) => scout_names(alloc, view, way, stretches, start, *direction),
         Look::Order(place, Direction::Forward) => {
             let cut = order_start(place, Direction::Forward);
             scout_ahead(alloc, view, way, stretches, cut, place)
@@ -168,7 +172,7 @@ pub fn scout_kill<W: InTheWay>(
     }
 }
 
-// The stretch of a look-up forward from the cut.
+// The stretch of a look-up forward from the cut, within the place's global where no node follows.
 fn scout_ahead<V: OrderedView, W: InTheWay>(
     alloc: Global,
     view: &V,
@@ -182,16 +186,10 @@ fn scout_ahead<V: OrderedView, W: InTheWay>(
     let Ok(name) = place.key().root(alloc) else {
         return None;
     };
-    let from = stretches.end_from(cut);
-    let high = next_edge(view, from, &name);
-    if !is_there(way.first_from(from), from, high) {
-        return None;
-    }
-    let low = low_edge(view, stretches, cut, from);
-    narrowed(view, way, low, from, high)
+    scout_forward(view, way, stretches, cut, Cut::Past(&name))
 }
 
-// The stretch of a look-up backward from the cut.
+// The stretch of a look-up backward from the cut, within the place's global where no node follows.
 fn scout_behind<V: OrderedView, W: InTheWay>(
     alloc: Global,
     view: &V,
@@ -205,12 +203,65 @@ fn scout_behind<V: OrderedView, W: InTheWay>(
     let Ok(name) = place.key().root(alloc) else {
         return None;
     };
+    scout_backward(view, way, stretches, cut, Cut::Past(&name))
+}
+
+// The stretch of a look-up of names.
+fn scout_names<V: OrderedView, W: InTheWay>(
+    alloc: Global,
+    view: &V,
+    way: &W,
+    stretches: &Stretches,
+    start: &Option<Name>,
+    direction: Direction,
+) -> Option<ReadRange>
+    ensures { IfSome result (λ stretch. IsEmpty stretch (V.content view.now)) }
+{
+    let Ok(start) = key_of_start(alloc, start) else {
+        return None;
+    };
+    let cut = names_from(&start, direction);
+    match direction {
+        Direction::Forward => scout_forward(view, way, stretches, cut, Cut::End),
+        Direction::Backward => scout_backward(view, way, stretches, cut, Cut::End),
+    }
+}
+
+// The stretch of a look-up forward from the cut. Where no node follows it goes to the last cut at most.
+fn scout_forward<V: OrderedView, W: InTheWay>(
+    view: &V,
+    way: &W,
+    stretches: &Stretches,
+    cut: Cut<'_>,
+    last: Cut<'_>,
+) -> Option<ReadRange>
+    ensures { IfSome result (λ stretch. IsEmpty stretch (V.content view.now)) }
+{
+    let from = stretches.end_from(cut);
+    let high = next_edge(view, from, last);
+    if !is_there(way.first_from(from), from, high) {
+        return None;
+    }
+    let low = low_edge(view, stretches, cut, from);
+    narrowed(view, way, low, from, high)
+}
+
+// The stretch of a look-up backward from the cut. Where no node follows it goes to the last cut at most.
+fn scout_backward<V: OrderedView, W: InTheWay>(
+    view: &V,
+    way: &W,
+    stretches: &Stretches,
+    cut: Cut<'_>,
+    last: Cut<'_>,
+) -> Option<ReadRange>
+    ensures { IfSome result (λ stretch. IsEmpty stretch (V.content view.now)) }
+{
     let to = stretches.start_before(cut);
     let low = last_edge(view, to);
     if !is_there(way.last_before(to), low, to) {
         return None;
     }
-    let high = high_edge(view, stretches, cut, to, &name);
+    let high = high_edge(view, stretches, cut, to, last);
     narrowed(view, way, low, to, high)
 }
 
@@ -269,13 +320,13 @@ fn is_there(found: Option<&Key>, low: Cut<'_>, high: Cut<'_>) -> bool {
     }
 }
 
-// Up to where no node stands from the cut on; to the end of the global where none follows.
-fn next_edge<'v, V: OrderedView>(view: &'v V, cut: Cut<'_>, name: &'v Key) -> Cut<'v>
+// Up to where no node stands from the cut on; to the last cut where none follows.
+fn next_edge<'v, V: OrderedView>(view: &'v V, cut: Cut<'_>, last: Cut<'v>) -> Cut<'v>
     ensures { IsFree cut.entry result (V.content view.now) }
 {
     match view.next(cut, None) {
         Some((found, _)) => Cut::Before(found),
-        None => Cut::Past(name),
+        None => last,
     }
 }
 
@@ -312,14 +363,14 @@ fn high_edge<'v, V: OrderedView>(
     stretches: &Stretches,
     cut: Cut<'_>,
     to: Cut<'v>,
-    name: &'v Key,
+    last: Cut<'v>,
 ) -> Cut<'v>
     ensures { IsFree to.entry result (V.content view.now) }
 {
     if stretches.have(cut) {
         to
     } else {
-        next_edge(view, to, name)
+        next_edge(view, to, last)
     }
 }
 

@@ -185,17 +185,32 @@ impl Stretches {
         None
     }
 
-    // Where a look-up backward from the cut begins: at the beginning of a stretch in which the cut lies.
+    // Where a look-up backward from the cut begins: at the beginning of a stretch in which the cut lies, or of one in
+    // which that beginning lies.
     pub(crate) fn start_before<'c>(&'c self, cut: Cut<'c>) -> Cut<'c>
         ensures { (m : Database) → AreEmpty self.now m → PartAlike cut.entry result m }
     {
-        for i in 0..self.ranges.len() {
-            let stretch = &self.ranges.ranges()[i];
-            if has_cut(stretch, cut) {
-                return stretch.low();
+        let mut start = cut;
+        for _ in 0..MOST {
+            match self.start_ahead(start) {
+                Some(next) => start = next,
+                None => return start,
             }
         }
-        cut
+        start
+    }
+
+    // The beginning of a stretch in which the cut lies, where it stands before the cut.
+    fn start_ahead<'c>(&'c self, cut: Cut<'c>) -> Option<Cut<'c>>
+        ensures { (m : Database) → AreEmpty self.now m → IfSome result (λ start. PartAlike cut.entry start m) }
+    {
+        for i in 0..self.ranges.len() {
+            let stretch = &self.ranges.ranges()[i];
+            if goes_back(stretch, cut) {
+                return Some(stretch.low());
+            }
+        }
+        None
     }
 
     // Where the next stretch behind the cut begins, if that is before the end.
@@ -338,4 +353,11 @@ fn goes_on(stretch: &ReadRange, cut: Cut<'_>) -> bool
     ensures { result ≡ true → LiesIn cut.entry stretch.now }
 {
     has_cut(stretch, cut) && !is_at_most(stretch.high(), cut)
+}
+
+// Whether the cut lies in the stretch, or at its end.
+fn goes_back(stretch: &ReadRange, cut: Cut<'_>) -> bool
+    ensures { result ≡ true → LiesIn cut.entry stretch.now }
+{
+    has_cut(stretch, cut) && !is_at_most(cut, stretch.low())
 }

@@ -1,12 +1,8 @@
-use Rattle.std.proofs.Common.{◌≡◌, List, arith, length, sym, ap, subst, ◌∙◌}
-use Rattle.read_ranges.specs.declared.range.ReadRange.{ReadRange}
-use Rattle.stretches.specs.Empty.{AreEmpty}
-use Rattle.stretches.proofs.Alike.{start_alike}
+use Rattle.std.proofs.Common.{refl, ◌∙◌}
 use Rattle.stretches.proofs.stretches_kept.Stretches.start_before.Goals as goal
 
-pub returns-then-has_cut : goal.returns-then-has_cut
-returns-then-has_cut c = λ m empty x there.
-    let all : c.ranges-in-loop-i.result.now ≡ c.args.self.now = c.ranges-in-loop-i.ensures ∙ c.self.view_is in
-    start_alike c.ranges-in-loop-i.result.now c.loop-i.i c.index-ranges-i.result c.args.cut (omega (arith, c.loop-i-test.true, c.len-i-end.ensures, ap length c.ranges-in-loop-i.ensures)) c.index-ranges-i.is
-    (c.has_cut.ensures c.if-has_cut.true) m (subst (λ (rs : List ReadRange). AreEmpty rs m) (sym all) empty) x there
-    ∙ sym (c.low.ensures x)
+pub loop-init : goal.loop-init
+loop-init c = λ m empty x there. refl
+
+pub loop-preserved : goal.loop-preserved
+loop-preserved c = λ m empty x there. c.loop.invariant m empty x there ∙ c.in-Some.ensures m empty x there
