@@ -56,4 +56,4 @@ on_ok_both (Err e) f p q = tt
 pub kept_set : (w n : Working) (r : Reference) (value : List ℕ) → length w.exchanges < 65535 → n.exchanges ≡ w.exchanges ++ record { command = Set r value; answer = Done } ∷ [] → n.ranges ≡ w.ranges
     → n.layer ≡ record w.layer { written = finmap.insert w.layer.written r value } → StayEmpty (Set r value) None w.stretches n.stretches → n.job ≡ w.job → n.start ≡ w.start → IsKept (Set r value) w n
 kept_set w n r value few more ranges layer stay job start =
-    kept_alone w n (Set r value) [] tt refl few more (λ own same x. ap (λ (rs : List ReadRange). is_in_one rs x) ranges ∙ sym (or-false (is_in_one w.ranges x))) layer stay job start
+    kept_alone w n (Set r value) [] None (λ m. tt) tt refl few more (λ own same x. ap (λ (rs : List ReadRange). is_in_one rs x) ranges ∙ sym (or-false (is_in_one w.ranges x))) layer stay job start
