@@ -54,8 +54,8 @@ impl Passing {
         &self.stretches
     }
 
-    /// Before a lone data command: a $ORDER, $QUERY or $DATA looks for the stretch over which it will pass; where another
-    /// may put a node into one of them, what is left of it is kept.
+    /// Before a lone data command: a $ORDER, also of names, $QUERY or $DATA looks for the stretch over which it will pass;
+    /// where another may put a node into one of them, what is left of it is kept.
     pub(crate) fn make_ready(
         &mut self,
         alloc: Global,
@@ -197,7 +197,7 @@ impl Passing {
             Look::Get(_, _) => {}
             Look::Order(_, _) => self.seek(alloc, store, look),
             Look::Query(_, _) => self.seek(alloc, store, look),
-            Look::Name(_, _) => {}
+            Look::Name(_, _) => self.seek(alloc, store, look),
         }
     }
 
