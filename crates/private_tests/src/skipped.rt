@@ -78,8 +78,8 @@ fn is_text(answer: Answer, expected: &[u8]) -> bool {
     }
 }
 
-// How many look-ups of the map a $ORDER makes that is answered this text, before its stretch is noted and after; none
-// where it isn't answered so.
+// How many look-ups of the map a $ORDER, of nodes or names, makes that is answered this text, before its stretch is
+// noted and after; none where it isn't answered so.
 fn counts_of(
     alloc: Global,
     own: &Workspace,
@@ -190,6 +190,47 @@ fn counts_of_killed_thousand(alloc: Global) -> Result<EndCounts, Refusal> {
 #[test]
 fn a_level_that_is_empty_is_passed_over_by_one_look_up(rt: HostRuntime) -> Result<(), Fail> {
     let (forward, backward) = counts_of_killed_thousand(rt.alloc())?;
+    assert!(rt; forward == Some((11, 1)));
+    assert!(rt; backward == Some((11, 1)));
+    Ok(())
+}
+
+fn name_counts_toward(
+    alloc: Global,
+    own: &Workspace,
+    map: &KeyMap<Text>,
+    direction: Direction,
+) -> Option<(u64, u64)> {
+    let look = Look::Name(None, direction);
+    let counts = counts_of(alloc, own, map, &look, b"");
+    drop(look);
+    counts
+}
+
+// The counts of $ORDERs of names from both ends, where all of the thousand are killed.
+fn name_counts(
+    alloc: Global,
+    own: &mut Workspace,
+    map: &KeyMap<Text>,
+) -> Result<EndCounts, Refusal> {
+    kill_ten(alloc, own)?;
+    let forward = name_counts_toward(alloc, own, map, Direction::Forward);
+    let backward = name_counts_toward(alloc, own, map, Direction::Backward);
+    Ok((forward, backward))
+}
+
+fn name_counts_of_killed_thousand(alloc: Global) -> Result<EndCounts, Refusal> {
+    let map = thousand(alloc)?;
+    let mut own = Workspace::new(alloc);
+    let counts = name_counts(alloc, &mut own, &map);
+    drop(own);
+    drop(map);
+    counts
+}
+
+#[test]
+fn names_of_which_none_is_left_are_passed_over_by_one_look_up(rt: HostRuntime) -> Result<(), Fail> {
+    let (forward, backward) = name_counts_of_killed_thousand(rt.alloc())?;
     assert!(rt; forward == Some((11, 1)));
     assert!(rt; backward == Some((11, 1)));
     Ok(())
