@@ -1,5 +1,12 @@
 use Rattle.job_core.proofs.Bases.{behind_same}
+use Rattle.job_core.proofs.AtWork.{kept_same}
 use Rattle.job_core.proofs.machine.JobCore.collect.Goals as goal
 
 pub invariant_of-self : goal.invariant_of-self
-invariant_of-self c = (c.collect-turn.ensures.whole, behind_same _ _ _ _ c.collect-turn.ensures.base c.collect-turn.ensures.machine c.self.invariant.1)
+invariant_of-self c = (
+  c.collect-turn.ensures.whole,
+  (
+    behind_same _ _ _ _ c.collect-turn.ensures.base c.collect-turn.ensures.machine c.self.invariant.1.0,
+    kept_same _ _ _ _ _ c.self.invariant.1.1 c.collect-turn.ensures.ends c.collect-turn.ensures.machine,
+  ),
+)

@@ -1,8 +1,48 @@
+use Rattle.std.proofs.Common.{refl, ◌∙◌}
 use Rattle.command.specs.declared.access.DataCommand.TheVariants.{Set}
 use Rattle.command.specs.declared.request.Command.TheVariants.{Access}
 use Rattle.job_core.specs.Lent.{done_reply}
-use Rattle.job_core.proofs.Bases.{behind_after}
+use Rattle.job_core.specs.Joined.{machine_shown}
+use Rattle.job_core.proofs.Bases.{behind_after, behind_same}
+use Rattle.job_core.proofs.AtWork.{kept_same, kept_step, rests_outside, roomier, roomier_whole, roomier_shown, roomier_base, roomier_step, wants}
 use Rattle.job_core.proofs.machine.JobCore.set.Goals as goal
 
+pub set-requires : goal.set-requires
+set-requires c = roomier_whole c.self.inside.engine c.begin.new.core c.begin.new.core.ends c.begin.ensures.core c.self.invariant.0
+
 pub invariant_of-self : goal.invariant_of-self
-invariant_of-self c = (c.set.ensures.step.whole, behind_after _ _ _ _ c.args.job (Access (Set c.args.key.now c.args.value.now)) (done_reply c.set.result) c.set.ensures.base c.set.ensures.step.machine c.self.invariant.1)
+invariant_of-self c =
+    let e = c.self.inside.engine in
+    let core = c.begin.new.core in
+    let is = c.begin.ensures.core in
+    let s = machine_shown e in
+    let command = Access (Set c.args.key.now c.args.value.now) in
+    let reply = done_reply c.set.result in
+    let step = roomier_step e core core.ends is c.args.job command reply c.set.new.self c.set.ensures.step in (
+      step.whole,
+      (
+        behind_after e.core.base c.set.new.self.core.base s (machine_shown c.set.new.self) c.args.job command reply (c.set.ensures.base ∙ roomier_base e core core.ends is) step.machine c.self.invariant.1.0,
+        kept_step c.begin.new.ends.items core.ends c.set.new.self.core.ends c.args.job command reply s (machine_shown c.set.new.self) (c.begin.ensures.room s c.self.invariant.1.1) c.in-Ok.ensures.kept c.set.ensures.ends step.machine,
+      ),
+    )
+
+pub invariant_of-self-in-Err : goal.invariant_of-self-in-Err
+invariant_of-self-in-Err c =
+    let e = c.self.inside.engine in
+    let core = c.begin.new.core in
+    let is = c.begin.ensures.core in
+    let s = machine_shown e in
+    let mid = machine_shown (roomier e core core.ends is) in
+    let same = roomier_shown e core core.ends is in (
+      roomier_whole e core core.ends is c.self.invariant.0,
+      (
+        behind_same e.core.base core.base s mid (roomier_base e core core.ends is) same c.self.invariant.1.0,
+        kept_same c.begin.new.ends.items core.ends core.ends s mid (c.begin.ensures.room s c.self.invariant.1.1) refl same,
+      ),
+    )
+
+pub returns-in-Err-clause-exact : goal.returns-in-Err-clause-exact
+returns-in-Err-clause-exact c =
+    let s = machine_shown c.self.inside.engine in
+    let outside = rests_outside c.begin.new.ends.items c.begin.new.core.ends c.args.job s (c.begin.ensures.room s c.self.invariant.1.1) c.begin.ensures.low c.in-Err.ensures.none in
+    rw (← c.self.view_is) (wants (Set c.args.key.now c.args.value.now) c.in-Err.refusal c.args.job s c.in-Err.ensures.cause outside refl)
