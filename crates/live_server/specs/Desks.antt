@@ -1,6 +1,6 @@
 -- The lines that wait, job by job.
 use Rattle.std.specs.Prelude.{◌≡◌, ◌==◌, ◌&&◌, ℕ, Bool, true, false, List, [], ◌∷◌, ◌++◌, length, drop, get_or, Option, None, Some, if◌then◌else◌}
-use Rattle.std.specs.List.{All}
+use Rattle.std.specs.List.{All, list_all}
 use Rattle.script.specs.Line.{job_of_line}
 
 -- a job's lines that wait, in their order, and whether the first was tried in vain
@@ -27,6 +27,10 @@ HasChangedAt job change old new = (other : ℕ) → desk_of new other ≡ (if ot
 abbrev pub has_lines : List (List ℕ) → Bool
 has_lines [] = false
 has_lines (line ∷ lines) = true
+
+-- each of these jobs has a line that waits
+abbrev pub all_wait : List DeskShown → List ℕ → Bool
+all_wait desks jobs = list_all (λ job. has_lines (desk_of desks job).lines) jobs
 
 -- a line comes behind the others
 abbrev pub pushed : List ℕ → DeskShown → DeskShown

@@ -10,6 +10,10 @@ pub trait Bell {
     /// Lets time pass until then.
     fn sleep(&self, until: u64);
 
-    /// Input has ended, and the job waits in this line for names that no job will free.
-    fn waits(&self, job: Job, line: &[u8]);
+    /// The job waits in this line for names that no job will free: those of this holder, where it is known that there
+    /// is just one.
+    fn waits(&self, job: Job, line: &[u8], holder: Option<Job>);
+
+    /// Of all open jobs this was told. Input hasn't ended.
+    fn stands_still(&self);
 }

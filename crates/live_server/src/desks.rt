@@ -2,6 +2,7 @@
 ghost use Rattle.std.specs.Prelude.{◌≡◌, ℕ, Some, [], true, false, OnOk, OnErr, IfOk, IfSome};
 ghost use Rattle.script.specs.Line.{job_of_line};
 ghost use Rattle.live_server.specs.Desks.{no_lines, desk_of, first_of, HasChangedAt, pushed, passed, tried};
+ghost use Rattle.live_server.specs.Desks.{has_lines as has_lines_spec};
 
 use collation::Job;
 use std::alloc::{AllocError, Global};
@@ -76,6 +77,7 @@ impl Desk {
 
     fn has_lines(&self) -> bool
         ensures none { result ≡ false → self.now.lines ≡ [] }
+        ensures is { result ≡ has_lines_spec self.now.lines }
     {
         self.lines.front().is_some()
     }
@@ -133,6 +135,8 @@ pub(crate) struct Waiting {
 pub(crate) struct Desks {
     desks: Vec<Desk>,
     order: Vec<Waiting>,
+    // When the first of those that wait with a timeout is due.
+    due: Option<u64>,
 }
 
 impl Model for Desks {
@@ -157,12 +161,17 @@ impl Desks {
             desks.push_reserved(Desk::new(alloc));
         }
         let order = Vec::with_capacity(alloc, DESKS)?;
-        Ok(Desks { desks, order })
+        Ok(Desks {
+            desks,
+            order,
+            due: None,
+        })
     }
 
     /// Whether lines of the job wait.
     pub(crate) fn has_lines(&self, job: Job) -> bool
         ensures none { result ≡ false → (desk_of self.now job).lines ≡ [] }
+        ensures is { result ≡ has_lines_spec (desk_of self.now job).lines }
     {
         self.desks[job.number() as usize].has_lines()
     }
@@ -214,6 +223,7 @@ impl Desks {
     {
         self.desks[job.number() as usize].try_in_vain();
         self.order.push(Waiting { job, until })?;
+        self.due = earlier(self.due, until);
         Ok(())
     }
 
@@ -227,17 +237,21 @@ impl Desks {
         ensures { self.new ≡ self.old }
     {
         if at < self.order.len() {
-            let _waiting = self.order.remove(at);
+            let waiting = self.order.remove(at);
+            if waiting.until.is_some() && waiting.until == self.due {
+                self.due = first_due_of(&self.order);
+            }
         }
+    }
+
+    /// How many wait.
+    pub(crate) fn count_waiting(&self) -> usize {
+        self.order.len()
     }
 
     /// When the first of those that wait with a timeout is due.
     pub(crate) fn first_due(&self) -> Option<u64> {
-        let mut first: Option<u64> = None;
-        for waiting in &self.order {
-            first = earlier(first, waiting.until);
-        }
-        first
+        self.due
     }
 
     /// Whether no line waits.
@@ -254,6 +268,14 @@ impl Desks {
         }
         true
     }
+}
+
+fn first_due_of(order: &[Waiting]) -> Option<u64> {
+    let mut first = None;
+    for waiting in order {
+        first = earlier(first, waiting.until);
+    }
+    first
 }
 
 // The earlier of two times, where there are such.

@@ -13,7 +13,7 @@
 //! A job's lines behind a LOCK that waits lie on its desk (`desks.rt`). Once names may have been freed the LOCKs that
 //! wait are looked at in the order in which they came, and each that would have its names now is done; so is one whose
 //! time is over. After the last line jobs without lines are halted while others wait. Where those that are left wait
-//! without a timeout, the run ends (`LiveFault::Stuck`).
+//! without a timeout, the run ends (`LiveFault::Stuck`). While input is open that is only told (`standstill.rt`).
 //!
 //! The thread that reads isn't the one that runs: bytes go through a ring between them (`reading.rt`, `arrived.rt`).
 //! `run_live` promises what it does of the bytes that it took (`Arrivals`), `relay_live` of those that the reader had.
@@ -39,3 +39,4 @@ mod live;
 mod reading;
 mod relay;
 mod run;
+mod standstill;

@@ -81,20 +81,16 @@ fn is_patient(line: &[u8]) -> bool
     timeout_of(line) != Some(0)
 }
 
-// Whether the command may free names: a LOCK but with `+`, HALT, and what ends or restarts a transaction.
-fn may_free(command: &Command) -> bool {
-    matches!(
-        command,
-        Command::Lock(LockCommand::Release | LockCommand::Only(_) | LockCommand::Fewer(_))
-            | Command::Commit
-            | Command::Rollback
-            | Command::Restart
-            | Command::Halt
-    )
+// The command may free names where fewer than these are held after it: always, if it is a LOCK that may take others.
+fn names_before(core: &JobCore, command: &Command) -> usize {
+    match command {
+        Command::Lock(LockCommand::Only(_)) => usize::MAX,
+        _ => core.locks().names_held(),
+    }
 }
 
-// Whether the command is a LOCK that wouldn't have its names now.
-fn is_blocked(core: &JobCore, job: Job, command: &Command) -> bool
+/// Whether the command is a LOCK that wouldn't have its names now.
+pub(crate) fn is_blocked(core: &JobCore, job: Job, command: &Command) -> bool
     ensures had { result ≡ false → IsReply job command.now (Had false) core.now.machine → ⊥ }
     ensures lock { result ≡ true → IsLock command.now }
 {
@@ -151,8 +147,9 @@ fn gather_command(
     ensures ran { OnOk result ((text : Option (List ℕ)) → Ran (line.now ∷ []) live.old live.new text text) }
     ensures err { OnErr result (Lacked (line.now ∷ []) live.old live.new) }
 {
-    live.freed |= may_free(&command);
+    let names = names_before(&live.script.core, &command);
     let (accepted, ended, reply) = answer_command(&mut live.script.core, job, command);
+    live.freed |= live.script.core.locks().names_held() < names;
     gather_reply(
         &mut live.script,
         Some(job),
@@ -414,8 +411,10 @@ fn do_line(
 {
     match read_line(alloc, line, &mut script.drafts) {
         Ok((job, command)) => {
-            *freed |= may_free(&command);
-            do_command(script, job, command, line, log)
+            let names = names_before(&script.core, &command);
+            let is_done = do_command(script, job, command, line, log);
+            *freed |= script.core.locks().names_held() < names;
+            is_done
         }
         Err(fault) => do_refusal(script, fault, line, log),
     }

@@ -27,8 +27,12 @@ const RING_BYTES: usize = 262144;
 
 /// Told where a run can't go on.
 pub trait Teller {
-    /// Input has ended, and the job waits in this line for names that no job will free.
-    fn tell_waits(&self, job: Job, line: &[u8]);
+    /// The job waits in this line for names that no job will free: those of this holder, where it is known that there
+    /// is just one.
+    fn tell_waits(&self, job: Job, line: &[u8], holder: Option<Job>);
+
+    /// Of all open jobs this was told: they have waited for a second. Input hasn't ended, and the run goes on.
+    fn tell_standstill(&self);
 }
 
 struct Watch<'a, R, T> {
@@ -56,8 +60,12 @@ impl<'a, R: Wait + Clock, T: Teller> Bell for Watch<'a, R, T> {
         sleep(self.rt, self.begun.left_until(self.rt, until));
     }
 
-    fn waits(&self, job: Job, line: &[u8]) {
-        self.teller.tell_waits(job, line);
+    fn waits(&self, job: Job, line: &[u8], holder: Option<Job>) {
+        self.teller.tell_waits(job, line, holder);
+    }
+
+    fn stands_still(&self) {
+        self.teller.tell_standstill();
     }
 }
 

@@ -13,6 +13,7 @@ ghost use Rattle.live_server.specs.Runs.{Ran, Broke, RanFront, BrokeFront, RanEn
 
 use crate::desks::{Desks, Waiting};
 use crate::live::{Live, do_first, take_line, try_again};
+use crate::standstill::{Standstill, tell_waiting};
 use crate::{Arrivals, Bell, LiveFault};
 use collation::Job;
 use command::{Command, Reply};
@@ -355,20 +356,9 @@ fn halt_idle(live: &mut Live) -> bool
     some
 }
 
-// Tells which jobs wait for names that no job will free.
-fn tell_stuck(desks: &Desks, bell: &impl Bell) {
-    'desks: for at in 0..usize::MAX {
-        let Some(waiting) = desks.waiting(at) else {
-            return;
-        };
-        if let Some(line) = desks.first(waiting.job) {
-            bell.waits(waiting.job, line.text());
-        }
-    }
-}
-
 // All lines have come, and some wait: open jobs without such are halted, or time passes until the next is due.
 fn go_on<W: Write>(
+    alloc: Global,
     live: &mut Live,
     writer: &mut Counted<W>,
     bell: &impl Bell,
@@ -386,7 +376,7 @@ fn go_on<W: Write>(
             Ok(())
         }
         None => {
-            tell_stuck(&live.desks, bell);
+            tell_waiting(alloc, live, bell);
             Err(LiveFault::Stuck)
         }
     }
@@ -410,7 +400,7 @@ fn settle<W: Write>(
             writer.write_gathered(&mut live.script.out)?;
             return Ok(());
         }
-        go_on(live, writer, bell)?;
+        go_on(alloc, live, writer, bell)?;
         try_all(alloc, live, writer, bell, log)?;
     }
     Err(LiveFault::Memory)
@@ -443,6 +433,7 @@ fn come<A: Arrivals, W: Write>(
     arrivals: &mut A,
     begun: &mut Vec<u8>,
     buffer: &mut [u8],
+    standstill: &mut Standstill,
     writer: &mut Counted<W>,
     bell: &impl Bell,
     log: &mut impl RunLog,
@@ -453,7 +444,8 @@ fn come<A: Arrivals, W: Write>(
     ensures err { OnErr result (HasBrokenOff (A.taken arrivals.old) (A.taken arrivals.new) begun.old.items live.old (W.contents writer.old.inner) (W.contents writer.new.inner)) }
     ensures origin { A.origin arrivals.new ≡ A.origin arrivals.old }
 {
-    if !arrivals.wait(live.desks.first_due()) {
+    if !arrivals.wait(standstill.next_time(live, bell)) {
+        standstill.tell(alloc, live, bell);
         try_all(alloc, live, writer, bell, log)?;
         writer.write_gathered(&mut live.script.out)?;
         return Ok(false);
@@ -485,6 +477,7 @@ fn run_pieces<A: Arrivals, W: Write>(
 {
     let mut begun = Vec::new(alloc);
     let mut buffer = [0; PIECE_BYTES];
+    let mut standstill = Standstill::new();
     'pieces: for _ in 0..u64::MAX {
         let is_over = come(
             alloc,
@@ -492,6 +485,7 @@ fn run_pieces<A: Arrivals, W: Write>(
             arrivals,
             &mut begun,
             &mut buffer,
+            &mut standstill,
             writer,
             bell,
             log,

@@ -51,12 +51,24 @@ impl<'a, P: Eprint + AllocGlobal> RunLog for Told<'a, P> {
 }
 
 impl<'a, P: Eprint + AllocGlobal> Teller for Told<'a, P> {
-    fn tell_waits(&self, job: Job, line: &[u8]) {
-        if let Ok(text) = str::from_utf8(line) {
-            let _ = eprintln!(self.rt; "{PROGRAM}: still waits: {text}");
-        } else {
-            let _ = eprintln!(self.rt; "{PROGRAM}: job {} waits", job.number());
-        }
+    fn tell_waits(&self, job: Job, line: &[u8], holder: Option<Job>) {
+        let text = str::from_utf8(line).unwrap_or("LOCK");
+        let _ = match holder {
+            Some(holder) => {
+                eprintln!(self.rt;
+                    "{PROGRAM}: job {} waits for job {}: {text}",
+                    job.number(),
+                    holder.number()
+                )
+            }
+            None => eprintln!(self.rt; "{PROGRAM}: job {} waits for others: {text}", job.number()),
+        };
+    }
+
+    fn tell_standstill(&self) {
+        let _ = eprintln!(self.rt;
+            "{PROGRAM}: these jobs wait for each other, so none of them goes on; lines of other jobs are still done"
+        );
     }
 }
 
