@@ -12,6 +12,8 @@
 //!
 //! Read `specs/Engines.antt` and `specs/Blocks.antt` of `shared_engine`, then `session.rt`, `hub.rt`, `inside.rt`.
 //! Not promised: that a try succeeds, or who is next.
+//!
+//! Not there yet: LOCK, TRESTART, `own_get`, the collector, checkpoints, and the end that closes the journal.
 #![tactic(auto)]
 
 pub use hub::{Busy, Hub, HubShare};
