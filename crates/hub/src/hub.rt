@@ -26,13 +26,6 @@ pub struct Hub {
     ghost own: { gate.slot ≡ board },
 }
 
-/// What all share, held for reading until this is dropped: others read meanwhile, and who would write is busy. It lends
-/// nothing, and may go to another thread.
-#[derive(Drop)]
-pub struct HubShare {
-    _inside: Arc<Inside, Global>,
-}
-
 impl Hub {
     /// A hub without a unit or a session.
     ///
@@ -65,12 +58,6 @@ impl Hub {
     {
         // It goes in: it is out, and nobody else has it to put in.
         let _ = self.gate.put(inside);
-    }
-
-    /// Holds what all share, for reading. None where somebody writes.
-    pub fn share(&self) -> Option<HubShare> {
-        let inside = self.gate.share()?;
-        Some(HubShare { _inside: inside })
     }
 
     /// Begins a session of a job that has none.

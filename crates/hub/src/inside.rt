@@ -82,6 +82,23 @@ impl Inside {
         self.desk.give_back(desk);
         Ok(())
     }
+
+    /// As `Locked::look`, in the same way.
+    pub(crate) fn look(&self, board: &Board, session: &mut InnerSession) -> Result<u64, Busy>
+        requires own { (self.now.desk.table ≡ board.now.table) × (session.old.table ≡ board.now.table) }
+        ensures table { session.new.table ≡ session.old.table }
+        ensures same { OnOk result (session.new.held ≡ knowing self.now.locked.core.units session.old.held) }
+        ensures journal { OnOk result (IsJournalOf self.now.locked.core.units session.old.held) }
+        ensures count { IfOk result (λ count. count ≡ length self.now.locked.core.units) }
+        ensures busy { OnErr result (session.new ≡ session.old) }
+    {
+        let Some(mut desk) = self.desk.try_lift() else {
+            return Err(Busy);
+        };
+        let count = self.locked.look(board, &mut desk, session);
+        self.desk.give_back(desk);
+        Ok(count)
+    }
 }
 
 /// As `Locked::open`.
@@ -182,6 +199,31 @@ pub(crate) fn rolled_back(
         return Err(Busy);
     };
     let done = alone.locked.trollback(board, &mut desk, session);
+    alone.desk.set_down(desk);
+    Ok(done)
+}
+
+/// As `Locked::trestart`.
+pub(crate) fn restarted(
+    board: &Board,
+    inside: &mut Arc<Inside, Global>,
+    session: &mut InnerSession,
+) -> Result<Result<u64, Refusal>, Busy>
+    requires own { (inside.old.value.desk.table ≡ board.now.table) × (session.old.table ≡ board.now.table) }
+    requires level { 1 ≤ session.old.held.state.level }
+    ensures own { inside.new.value.desk.table ≡ inside.old.value.desk.table }
+    ensures table { session.new.table ≡ session.old.table }
+    ensures done { IfOk result (λ done. (units : List JournalUnit) × IsBeginning units session.old.held.seen × IsRestarted done units session.new.held.seen session.old.held session.new.held) }
+    ensures journal { IfOk result (λ done. OnOk done (IsJournalOf session.new.held.seen session.old.held)) }
+    ensures busy { OnErr result (session.new ≡ session.old) }
+{
+    let Some(alone) = Arc::get_mut(inside) else {
+        return Err(Busy);
+    };
+    let Some(mut desk) = alone.desk.try_lift() else {
+        return Err(Busy);
+    };
+    let done = alone.locked.trestart(board, &mut desk, session);
     alone.desk.set_down(desk);
     Ok(done)
 }

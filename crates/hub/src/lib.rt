@@ -16,9 +16,14 @@
 //! Not there yet: LOCK, TRESTART, `own_get`, the collector, checkpoints, and the end that closes the journal.
 #![tactic(auto)]
 
-pub use hub::{Busy, Hub, HubShare};
+pub use hub::{Busy, Hub};
+pub use moments::HubShare;
 pub use session::HubSession;
 
+mod finishing;
 mod hub;
 mod inside;
+mod locking;
+mod moments;
 mod session;
+mod tidying;

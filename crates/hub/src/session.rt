@@ -15,14 +15,14 @@ ghost use Rattle.validate_commit.specs.Verdicts.{IsCauseAtCommit};
 ghost use Rattle.validate_commit.specs.Working.{IsCauseAlone, IsWorkOn, seen};
 ghost use Rattle.job_core.specs.Sessions.{at_level, HasWritten, IsAnsweredOrRefused};
 ghost use Rattle.pin_board.specs.Slips.{IsBeginning};
-ghost use Rattle.shared_engine.specs.Blocks.{IsLone, IsRolledBack};
+ghost use Rattle.shared_engine.specs.Blocks.{IsLone, IsRolledBack, IsRestarted};
 ghost use Rattle.shared_engine.specs.Receipts.{number_of, RisesFrom};
 ghost use Rattle.shared_engine.specs.Sessions.{held, knowing, ended, halted, HasBegun, IsAt, IsJournalOf, GoesOnFromStart};
 ghost use Rattle.shared_engine.specs.Engines.{HasEnded, IsCauseAtRestart};
 ghost use Rattle.shared_engine.specs.Writes.{AreWrites};
 
 use crate::hub::{Busy, Hub};
-use crate::inside::{committed, lone, over, rolled_back};
+use crate::inside::{committed, lone, over, restarted, rolled_back};
 use collation::{Job, Text};
 use command::{Answer, DataCommand, Extent};
 use key_codec::Key;
@@ -164,6 +164,19 @@ impl HubSession {
         self.inner.kill(key, extent)
     }
 
+    /// What a $GET answers where the transaction's own writes decide it: some exactly there, and then what it answers
+    /// whatever database the transaction began with. It is no step of the machine, which keeps each $GET: nothing is kept
+    /// of it. Never busy.
+    ///
+    /// Refusals: `OutOfMemory`.
+    pub fn own_get(&self, key: &Key, default: &Option<Text>) -> Result<Option<Answer>, Refusal>
+        ensures decided { IfOk result (λ found. is_some found ≡ decides self.now.held.state.work.layer key.now) }
+        ensures answer { IfOk result (λ found. IfSome found (λ answer. (m : Database) → IsWorkOn self.now.held.state.work m → answer ≡ data_reply (look_command (get_command key.now default.now)) (seen self.now.held.state.work m))) }
+        ensures memory { OnErr result (IsErrOf result Refusal.OutOfMemory) }
+    {
+        self.inner.own_get(key, default)
+    }
+
     /// A data command of a session without a transaction: a unit of its own, with a receipt. Where others are at what all
     /// share the command comes back, and nothing has changed.
     ///
@@ -264,6 +277,27 @@ impl HubSession {
         }
         self.rollback_free();
         Ok(Ok(()))
+    }
+
+    /// TRESTART: nothing of the transaction is left but its LOCKs' units, and it begins anew at level 1, at the present
+    /// moment, on a journal that goes on from all that the session had seen and has the units of its receipts. Where it
+    /// took a LOCK the last unit of that says so, one of the session's others. Answers how often it has.
+    ///
+    /// Refusals, after which nothing has changed but what the session has seen, and only where it took a LOCK:
+    /// `StampsUsedUp`, `OutOfMemory`.
+    pub fn trestart(&mut self) -> Result<Result<u64, Refusal>, Busy>
+        requires { 1 ≤ self.old.held.state.level }
+        ensures table { self.new.table ≡ self.old.table }
+        ensures done { IfOk result (λ done. (units : List JournalUnit) × IsBeginning units self.old.held.seen × IsRestarted done units self.new.held.seen self.old.held self.new.held) }
+        ensures journal { IfOk result (λ done. OnOk done (IsJournalOf self.new.held.seen self.old.held)) }
+        ensures busy { OnErr result (self.new ≡ self.old) }
+    {
+        let Some(mut inside) = self.hub.take() else {
+            return Err(Busy);
+        };
+        let done = restarted(&self.hub.board, &mut inside, &mut self.inner);
+        self.hub.put(inside);
+        done
     }
 
     /// HALT: the session is over, its locks are released and its transaction is gone; its job may have another. Gives its

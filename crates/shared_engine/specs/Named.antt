@@ -1,4 +1,6 @@
 -- What is seen of a session and of its pass where the name of the board is a value: its table, and what it has.
+use Rattle.std.specs.Prelude.{◌≡◌, List, map}
+use Rattle.std.specs.List.{All}
 use Rattle.atomic_table.specs.Seated.{TableId}
 use Rattle.shared_engine.specs.Receipts.{Book}
 use Rattle.shared_engine.specs.Sessions.{Held}
@@ -16,3 +18,11 @@ session_at t h = record { table = t; held = h }
 
 abbrev pub pass_at : TableId → Book → PassAt
 pass_at t b = record { table = t; book = b }
+
+-- each of these passes is of this table
+abbrev pub AreOf : TableId → List PassAt → Type 0
+AreOf t passes = All (λ (p : PassAt). p.table ≡ t) passes
+
+-- what they have
+abbrev pub books_of : List PassAt → List Book
+books_of passes = map (λ (p : PassAt). p.book) passes

@@ -130,6 +130,13 @@ impl InnerSession {
         self.state.took_lock()
     }
 
+    /// The stamp at which the open transaction reads, 0 outside.
+    pub fn start(&self) -> u64
+        ensures { result ≡ self.now.held.state.work.start }
+    {
+        self.state.start()
+    }
+
     /// TSTART within a transaction.
     pub fn tstart_inner(&mut self) -> Result<u64, Refusal>
         requires { 1 ≤ self.old.held.state.level }

@@ -505,6 +505,13 @@ impl Locked {
         self.core.checkpoint(Some(self.horizon))
     }
 
+    /// What all jobs share.
+    pub fn core(&self) -> &Core
+        ensures { result.now ≡ self.now.core }
+    {
+        &self.core
+    }
+
     /// Whether the collector has visited all keys since the last write: it would find nothing.
     pub fn is_swept(&self) -> bool {
         self.sweep.is_done()
