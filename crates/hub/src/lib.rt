@@ -10,10 +10,11 @@
 //! it; one that writes takes it out, waits a bounded number of looks until no other owner is left, and puts it back.
 //! TSTART, SET, KILL, and a TROLLBACK that has no LOCK to give back need none of it, and are never busy.
 //!
-//! Read `specs/Engines.antt` and `specs/Blocks.antt` of `shared_engine`, then `session.rt`, `hub.rt`, `inside.rt`.
-//! Not promised: that a try succeeds, or who is next.
+//! The database of a moment can be looked at (`HubShare`), as it is now or as a transaction's start left it: no command,
+//! and no trace in the journal. A LOCK is tried once a call; who waits for its names waits outside.
 //!
-//! Not there yet: LOCK, TRESTART, `own_get`, the collector, checkpoints, and the end that closes the journal.
+//! Read `specs/Engines.antt` and `specs/Blocks.antt` of `shared_engine`, then `session.rt`, `locking.rt`, `moments.rt`,
+//! `hub.rt`, `tidying.rt`, `finishing.rt`, `inside.rt`. Not promised: that a try succeeds, or who is next.
 #![tactic(auto)]
 
 pub use hub::{Busy, Hub};

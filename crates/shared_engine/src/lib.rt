@@ -43,6 +43,7 @@ pub use turn::Turn;
 pub use under::{Pause, Share};
 
 mod adaptive;
+mod ending;
 mod entry;
 mod finishing;
 mod gate;

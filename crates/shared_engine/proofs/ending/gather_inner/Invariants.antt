@@ -1,7 +1,7 @@
 use Rattle.std.proofs.Common.{◌≡◌, ◌+◌, length}
 use Rattle.shared_engine.specs.Engines.{IsDue}
 use Rattle.shared_engine.specs.Named.{AreOf, books_of}
-use Rattle.shared_engine.proofs.finishing.gather_inner.Given as goal
+use Rattle.shared_engine.proofs.ending.gather_inner.Given as goal
 
 -- the passes that are left are due, and are of the board, and each one taken in was counted
 abbrev pub invariant-loop-pass : goal.invariant-loop-pass

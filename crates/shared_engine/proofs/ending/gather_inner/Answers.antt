@@ -1,7 +1,7 @@
 use Rattle.std.proofs.Common.{◌≡◌, arith}
 use Rattle.std.specs.Prelude.{vec_len}
 use Rattle.pin_board.specs.Tally.{tallied}
-use Rattle.shared_engine.proofs.finishing.gather_inner.Goals as goal
+use Rattle.shared_engine.proofs.ending.gather_inner.Goals as goal
 
 -- none is left, so all passes are counted
 pub returns-clause-tally : goal.returns-clause-tally
