@@ -4,6 +4,8 @@ import subprocess
 
 ROOT = os.path.dirname(os.path.dirname(os.path.abspath(__file__)))
 MRUN = os.path.join(ROOT, "crates", "mrun", "out", "mrun")
+TIMINGS = os.path.join(ROOT, "bench", "timings")
+COPY = os.path.join(os.environ.get("XDG_CACHE_HOME") or os.path.expanduser("~/.cache"), "vorgushan-timings")
 
 
 def built():
@@ -71,3 +73,50 @@ def restarts_of(path):
     """How many replies are a restart."""
     with open(path, "rb") as file:
         return sum(1 for line in file if line.split()[1:2] == [b"restart"])
+
+
+def read(*path):
+    with open(os.path.join(*path), "rb") as file:
+        return file.read()
+
+
+def texts_of(folder, end=""):
+    """The files of a crate, by their paths in it, without this end of their names."""
+    found = {}
+    for part in ("src", "specs", "proofs"):
+        for at, _, names in os.walk(os.path.join(folder, part)):
+            for name in names:
+                path = os.path.relpath(os.path.join(at, name), folder)
+                found[path.removesuffix(end)] = read(at, name)
+    return found
+
+
+def put(folder, texts):
+    """Leaves just these files in a crate's folder of the copy; one that is the same stays, with what was built of it."""
+    for path in texts_of(folder).keys() - texts.keys():
+        os.remove(os.path.join(folder, path))
+    for path, text in texts.items():
+        to = os.path.join(folder, path)
+        if os.path.exists(to) and read(to) == text:
+            continue
+        os.makedirs(os.path.dirname(to), exist_ok=True)
+        with open(to, "wb") as file:
+            file.write(text)
+
+
+def timings_crate(name):
+    """The folder of a program of bench/timings in a copy of the crates, which follows what they are now."""
+    texts = {each: texts_of(os.path.join(ROOT, "crates", each)) for each in os.listdir(os.path.join(ROOT, "crates"))}
+    texts[f"{name}_timings"] = texts_of(os.path.join(TIMINGS, name), ".txt")
+    for each, files in texts.items():
+        put(os.path.join(COPY, "crates", each), files)
+    lines = read(ROOT, "crates.txt") + read(TIMINGS, name, "crate.txt")
+    put(COPY, {"HANDLES": read(ROOT, "HANDLES"), "crates.txt": lines})
+    return os.path.join(COPY, "crates", f"{name}_timings")
+
+
+def built_timings(name):
+    """The path of a program of bench/timings, which is built, and so proved, where it isn't yet."""
+    folder = timings_crate(name)
+    subprocess.run(["rt", "run", "--", "1"], cwd=folder, check=True, stdout=subprocess.DEVNULL)
+    return os.path.join(folder, "out", f"{name}_timings")

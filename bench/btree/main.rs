@@ -1,4 +1,4 @@
-//! The work of `crates/btree_timings` with std's `BTreeMap<Vec<u8>, u64>`: the same keys, the same checksums.
+//! The work of `bench/timings/btree` with std's `BTreeMap<Vec<u8>, u64>`: the same keys, the same checksums.
 use std::collections::BTreeMap;
 use std::time::Instant;
 

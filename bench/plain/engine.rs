@@ -1,4 +1,4 @@
-//! The work of `crates/engine_timings` in plain Rust, over one `BTreeMap` under one `RwLock`: what `bench/engine`
+//! The work of `bench/timings/engine` in plain Rust, over one `BTreeMap` under one `RwLock`: what `bench/engine`
 //! compares the shared engine with. The same lines are read, in the same turns and threads, and the same counts are
 //! printed.
 //!
