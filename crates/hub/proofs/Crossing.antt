@@ -12,6 +12,8 @@ use Rattle.hub.specs.contracts.inside.Inside as Inside
 use Rattle.hub.specs.contracts.hub.Hub as Hub
 use Rattle.hub.specs.contracts.session.HubSession as HubSession
 use Rattle.hub.specs.contracts.session.HubSession.TheInside as SessionInside
+use Rattle.hub.specs.contracts.moments.HubShare as HubShare
+use Rattle.hub.specs.contracts.moments.HubShare.TheInside as ShareInside
 
 pub inside_send : IsSend Inside.the_row
 inside_send =
@@ -37,3 +39,8 @@ pub session_send : IsSend HubSession.the_row
 session_send =
     let c = struct_send (shape SessionInside.the_type) (search (heap.crosses, hub_send, hub_sync, sendable) depth 60 fits 20000, (inner_send, tt)) in
     record { owned = λ d vs x. (c.owned (SessionInside.the_type.to x.0) vs, tt); leaving = λ k d w. tt }
+
+pub share_send : IsSend HubShare.the_row
+share_send =
+    let c = struct_send (shape ShareInside.the_type) (search (heap.crosses, inside_send, inside_sync, sendable) depth 60 fits 20000, (search sendable, tt)) in
+    record { owned = λ d vs x. (c.owned (ShareInside.the_type.to x.0) vs, tt); leaving = λ k d w. tt }

@@ -1,5 +1,5 @@
 //! The end of a hub.
-ghost use Rattle.std.specs.Prelude.{◌≡◌, ◌<◌, ◌≤◌, ◌^◌, vec_len, IfOk, IfErr};
+ghost use Rattle.std.specs.Prelude.{◌≡◌, ◌<◌, ◌≤◌, ◌-◌, ◌^◌, vec_len, IfOk, IfErr};
 ghost use Rattle.std.specs.List.{All};
 ghost use Rattle.pin_board.specs.Slips.{AreInJournal};
 ghost use Rattle.shared_engine.specs.Receipts.{Book, IsOwn, RisesFrom};

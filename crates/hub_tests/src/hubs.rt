@@ -1,8 +1,10 @@
 //! Sessions of a hub. No call of theirs waits: each is tried again here, in bounded turns.
-use collation::Job;
-use command::{Answer, DataCommand};
+use crate::tries::{
+    TURNS, begin, commit, end, fill, is_done, key_of, line, number_in, opened, roll_back, transfers,
+};
+use command::DataCommand;
 use hub::{Busy, Hub, HubSession};
-use refusal::Refusal;
+use key_codec::Key;
 use session_acts::data_of;
 use shared_engine::{Ended, InnerPass};
 use std::alloc::{AllocError, Global};
@@ -10,179 +12,6 @@ use std::sync::{Arc, Wait};
 use std::test::*;
 use std::thread;
 use std::thread::Threads;
-
-// How often a call is tried.
-const TURNS: u64 = 1_000_000;
-
-// How many transfers each thread makes.
-const TRANSFERS: u64 = 200;
-
-// One try to begin a session: none where others are at it.
-fn tried(alloc: Global, hub: &Arc<Hub, Global>, job: Job) -> Option<Result<HubSession, Refusal>> {
-    Hub::open(hub, alloc, job).ok()
-}
-
-// A session of the job of this number, or none.
-fn opened<R: Wait>(
-    rt: &R,
-    alloc: Global,
-    hub: &Arc<Hub, Global>,
-    number: u64,
-) -> Option<HubSession> {
-    let _ = rt;
-    let job = Job::new(number).ok()?;
-    for _ in 0..TURNS {
-        if let Some(done) = tried(alloc, hub, job) {
-            return done.ok();
-        }
-        thread::yield_now();
-    }
-    None
-}
-
-// The number that is answered, or 0.
-fn number_in(answer: Answer) -> u64 {
-    let mut number = 0u64;
-    if let Answer::Value(text) = &answer {
-        for byte in text.as_slice() {
-            number = number
-                .wrapping_mul(10)
-                .wrapping_add((*byte).wrapping_sub(b'0') as u64);
-        }
-    }
-    drop(answer);
-    number
-}
-
-// What a data command is answered, outside a transaction or in one, once it has been tried as often as needed.
-fn answered<R: Wait>(rt: &R, session: &mut HubSession, command: DataCommand) -> Option<Answer> {
-    let _ = rt;
-    let mut command = command;
-    for _ in 0..TURNS {
-        let done = if session.tlevel() == 0 {
-            session.lone(command)
-        } else {
-            session.read(command)
-        };
-        match done {
-            Ok(done) => return done.ok(),
-            Err(back) => command = back,
-        }
-        thread::yield_now();
-    }
-    drop(command);
-    None
-}
-
-// What the data command of a line is answered.
-fn line<R: Wait>(rt: &R, alloc: Global, session: &mut HubSession, text: &str) -> Option<Answer> {
-    let command = data_of(alloc, text)?;
-    answered(rt, session, command)
-}
-
-// Whether it is done.
-fn is_done<R: Wait>(rt: &R, alloc: Global, session: &mut HubSession, text: &str) -> bool {
-    line(rt, alloc, session, text).is_some()
-}
-
-// TCOMMIT: how it ended, or none where it is refused.
-fn commit<R: Wait>(rt: &R, session: &mut HubSession) -> Option<Ended> {
-    let _ = rt;
-    for _ in 0..TURNS {
-        if session.tlevel() != 1 {
-            return None;
-        }
-        if let Ok(done) = session.tcommit() {
-            return done.ok();
-        }
-        thread::yield_now();
-    }
-    None
-}
-
-// TROLLBACK.
-fn roll_back<R: Wait>(rt: &R, session: &mut HubSession) -> bool {
-    let _ = rt;
-    for _ in 0..TURNS {
-        if session.tlevel() == 0 {
-            return false;
-        }
-        if let Ok(done) = session.trollback() {
-            return done.is_ok();
-        }
-        thread::yield_now();
-    }
-    false
-}
-
-// TSTART.
-fn begin(session: &mut HubSession) -> bool {
-    for _ in 0..TURNS {
-        if session.tlevel() != 0 {
-            return false;
-        }
-        if session.tstart().is_ok() {
-            return true;
-        }
-    }
-    false
-}
-
-// The pass of a session that ends.
-fn end<R: Wait>(rt: &R, session: HubSession) -> Option<InnerPass> {
-    let _ = rt;
-    let mut session = session;
-    for _ in 0..TURNS {
-        match session.halt() {
-            Ok(done) => return done.ok(),
-            Err(back) => session = back,
-        }
-        thread::yield_now();
-    }
-    drop(session);
-    None
-}
-
-// One transfer between two accounts in an open transaction: whether it was done.
-fn moves<R: Wait>(
-    rt: &R,
-    alloc: Global,
-    session: &mut HubSession,
-    from: &str,
-    to: &str,
-) -> Option<bool> {
-    if !is_done(rt, alloc, session, from) || !is_done(rt, alloc, session, to) {
-        return None;
-    }
-    match commit(rt, session)? {
-        Ended::Committed => Some(true),
-        Ended::Restarted(_) => {
-            if roll_back(rt, session) {
-                Some(false)
-            } else {
-                None
-            }
-        }
-    }
-}
-
-// Transfers from one account to another. How many were done, or none where a call failed.
-fn transfers<R: Wait>(
-    rt: &R,
-    alloc: Global,
-    session: &mut HubSession,
-    from: &str,
-    to: &str,
-) -> Option<u64> {
-    let mut done = 0u64;
-    for _ in 0..TRANSFERS {
-        if !begin(session) {
-            return None;
-        }
-        done = done.wrapping_add(moves(rt, alloc, session, from, to)? as u64);
-    }
-    Some(done)
-}
 
 // A job's transfers, and its end: how many were done, and its pass.
 fn teller<R: Wait>(
@@ -230,14 +59,6 @@ fn sum<R: Wait>(rt: &R, alloc: Global, session: &mut HubSession) -> Option<u64> 
         all = all.wrapping_add(number_in(line(rt, alloc, session, account)?));
     }
     Some(all)
-}
-
-// The accounts begin with a thousand each.
-fn fill<R: Wait>(rt: &R, alloc: Global, session: &mut HubSession) -> bool {
-    is_done(rt, alloc, session, "1 SET ^A(1)=1000")
-        && is_done(rt, alloc, session, "1 SET ^A(2)=1000")
-        && is_done(rt, alloc, session, "1 SET ^A(3)=1000")
-        && is_done(rt, alloc, session, "1 SET ^A(4)=1000")
 }
 
 // Whether at least one transfer was done, and what all accounts have together at the end.
@@ -397,5 +218,65 @@ fn each_call<R: Wait>(rt: &R, alloc: Global) -> Option<([u64; 3], [u64; 2], usiz
 fn each_call_of_a_session_does_its_part(rt: HostRuntime) -> Result<(), Fail> {
     let told = each_call(&rt, rt.alloc());
     assert_eq!(rt; told, Some(([2, 2, 1], [1, 0], 1, [3, 3, 2])));
+    Ok(())
+}
+
+// Whether the transaction's own writes decide what a node has, or none where memory is refused.
+fn is_own(session: &HubSession, key: &Key) -> Option<bool> {
+    match session.own_get(key, &None) {
+        Ok(Some(answer)) => {
+            drop(answer);
+            Some(true)
+        }
+        Ok(None) => Some(false),
+        Err(_) => None,
+    }
+}
+
+// TRESTART: how often the transaction has begun anew.
+fn restart<R: Wait>(rt: &R, session: &mut HubSession) -> Option<u64> {
+    let _ = rt;
+    for _ in 0..TURNS {
+        if session.tlevel() == 0 {
+            return None;
+        }
+        if let Ok(done) = session.trestart() {
+            return done.ok();
+        }
+        thread::yield_now();
+    }
+    None
+}
+
+// A node that a transaction has set is its own until the transaction begins anew.
+fn own_until_anew<R: Wait>(
+    rt: &R,
+    alloc: Global,
+    session: &mut HubSession,
+    key: &Key,
+) -> Option<([bool; 2], [u64; 3])> {
+    if !begin(session) || !writes(alloc, session)? {
+        return None;
+    }
+    let before = is_own(session, key)?;
+    let restarts = restart(rt, session)?;
+    let after = is_own(session, key)?;
+    Some((
+        [before, after],
+        [restarts, session.trestarts(), session.tlevel()],
+    ))
+}
+
+// The same, of a session of a hub of its own.
+fn anew<R: Wait>(rt: &R, alloc: Global) -> Option<([bool; 2], [u64; 3])> {
+    let key = key_of(alloc, "1 $GET(^A(1))")?;
+    let hub = Hub::new(alloc).ok()?;
+    let mut session = opened(rt, alloc, &hub, 1)?;
+    own_until_anew(rt, alloc, &mut session, &key)
+}
+
+#[test]
+fn a_transaction_begins_anew(rt: HostRuntime) -> Result<(), Fail> {
+    assert_eq!(rt; anew(&rt, rt.alloc()), Some(([true, false], [1, 1, 1])));
     Ok(())
 }

@@ -1,8 +1,7 @@
 -- What the passes add up to.
-use Rattle.std.proofs.Common.{◌≡◌, ℕ, ◌+◌, Bool, true, false, List, [], ◌∷◌, ◌++◌, refl, sym, ap, ◌∙◌, subst, arith}
+use Rattle.std.proofs.Common.{◌≡◌, ℕ, ◌+◌, Bool, true, false, List, [], ◌∷◌, ◌++◌, refl, sym, ap, ◌∙◌, arith}
 use Rattle.std.specs.Prelude.{if◌then◌else◌, not}
 use Rattle.std.specs.List.{All, filter}
-use Rattle.std.proofs.lemmas.List.{map-append}
 use Rattle.std.proofs.lemmas.List.Elements.{All-nil, All-cons, All-head, All-tail, All-push, All-append, All-filter}
 use Rattle.std.proofs.lemmas.List.Sums.{sum_by-append, sum_by_push, sum_by-cons}
 use mathlib.Core.Bool.{cond}
@@ -12,8 +11,6 @@ use Rattle.pin_board.specs.Tally.{Tallied, tallied}
 use Rattle.pin_board.specs.Slips.{IsInJournal, AreInJournal, IsBeginning, weigh}
 use Rattle.shared_engine.specs.Receipts.{Book, book, of_receipts, IsOwn, RisesFrom, gives, gives_none, receipts_in, others_in, seen_in, IsBook}
 use Rattle.shared_engine.specs.Engines.{receipts_weigh, units_weigh, HasSeenOf, IsDue}
-use Rattle.atomic_table.specs.Seated.{TableId}
-use Rattle.shared_engine.specs.Named.{PassAt, AreOf, books_of}
 use Rattle.shared_engine.proofs.Booking.{in_journal_receipts, in_journal_others}
 
 all_left : {X : Type 0} (P : X → Type 0) (xs ys : List X) → All P (xs ++ ys) → All P xs
@@ -111,20 +108,3 @@ due_step all rest job ns back mine known more k d = let b : Book = book job (rec
 -- the tally knows the journal
 pub units_told : (log units : List JournalUnit) (given returned : ℕ) (before now : Tallied) → now ≡ tallied before.units before.given returned now.back now.known → before ≡ tallied log given 0 [] [] → log ≡ units → now.units ≡ units
 units_told log units given returned before now gathered begun same = ap (λ (t : Tallied). t.units) gathered ∙ (ap (λ (t : Tallied). t.units) begun ∙ same)
-
--- ---- passes that are of their board by a value
-
--- one more of them has its book behind the others'
-pub books_push : (ps : List PassAt) (p : PassAt) → books_of (ps ++ p ∷ []) ≡ books_of ps ++ p.book ∷ []
-books_push ps p = map-append (λ (q : PassAt). q.book) ps (p ∷ [])
-
--- the last is due
-pub due_last : (every : List Book) (old ps : List PassAt) (p : PassAt) (back : List Claim) (known : List (List JournalUnit)) → old ≡ ps ++ p ∷ [] → IsDue every (books_of old) back known → IsDue every (books_of ps ++ p.book ∷ []) back known
-due_last every old ps p back known is d = subst (λ (bs : List Book). IsDue every bs back known) (ap books_of is ∙ books_push ps p) d
-
--- each is of the table, the last and the others
-pub of_last : (t : TableId) (old ps : List PassAt) (p : PassAt) → old ≡ ps ++ p ∷ [] → AreOf t old → p.table ≡ t
-of_last t old ps p is a = All-head (λ (q : PassAt). q.table ≡ t) p [] (all_right (λ (q : PassAt). q.table ≡ t) ps (p ∷ []) (subst (AreOf t) is a))
-
-pub of_others : (t : TableId) (old ps : List PassAt) (p : PassAt) → old ≡ ps ++ p ∷ [] → AreOf t old → AreOf t ps
-of_others t old ps p is a = all_left (λ (q : PassAt). q.table ≡ t) ps (p ∷ []) (subst (AreOf t) is a)

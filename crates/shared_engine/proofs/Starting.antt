@@ -1,6 +1,6 @@
 -- The start of a session's transaction, and what the board shows of it under the lock.
 use Rattle.std.proofs.Common.{◌≡◌, ℕ, ◌<◌, Bool, true, false, List, length, Some, None, refl, sym, ap, ◌∙◌, subst, arith}
-use Rattle.std.specs.Prelude.{Option, cond, take, nat_lt, if◌then◌else◌, Result, Ok, Err, IfSome}
+use Rattle.std.specs.Prelude.{Option, cond, take, nat_lt, if◌then◌else◌, Result, Ok, Err, IfSome, IsSome}
 use Rattle.refusal.specs.declared.Refusal.{Refusal}
 use Rattle.command.specs.declared.access.DataCommand.{DataCommand}
 use Rattle.command.specs.declared.access.Answer.{Answer}
@@ -37,6 +37,15 @@ start_settled p is = ap (λ (b : Bool). cond b (Some p.base) None) is
 
 pub start_free : (p : PinView) → p.settled ≡ false → start_in p ≡ None
 start_free p is = ap (λ (b : Bool). cond b (Some p.base) None) is
+
+-- where a transaction is open it has a start, whose units are as many as its stamp
+pub start_long : (start : Option (List JournalUnit)) (s : JobSession) (n : ℕ) → n ≡ s.work.start → IsAt start s → IfSome start (λ base. n ≡ length base)
+start_long None s n is at = tt
+start_long (Some base) s n is at = is ∙ at.start
+
+pub start_open : (start : Option (List JournalUnit)) (s : JobSession) → IsAt start s → 0 < s.level → IsSome start
+start_open None s at deep = let level : s.level ≡ 0 = ap (λ (t : JobSession). t.level) at in absurd (omega (arith, level, deep))
+start_open (Some base) s at deep = refl
 
 -- the transaction of a settled seat
 pub begun_settled : (p : PinView) (s : JobSession) → p.settled ≡ true → IsAt (start_in p) s → IsBegun p.base s

@@ -1,5 +1,5 @@
 //! What one job holds. Which board it is of is a value of what it is seen as.
-ghost use Rattle.std.specs.Prelude.{◌≡◌, ◌<◌, ◌≤◌, ◌+◌, ◌-◌, List, false, map, is_some, length, IfOk, IfErr, IfSome, OnOk, OnErr, IsErrOf};
+ghost use Rattle.std.specs.Prelude.{◌≡◌, ◌<◌, ◌≤◌, ◌+◌, ◌-◌, List, false, map, is_some, length, IfOk, IfErr, IfSome, IsSome, OnOk, OnErr, IsErrOf};
 ghost use Rattle.refusal.specs.declared.Refusal.{Refusal};
 ghost use Rattle.collation.specs.Limits.{most_levels};
 ghost use Rattle.collation.specs.Database.{Database};
@@ -132,7 +132,9 @@ impl InnerSession {
 
     /// The stamp at which the open transaction reads, 0 outside.
     pub fn start(&self) -> u64
-        ensures { result ≡ self.now.held.state.work.start }
+        ensures stamp { result ≡ self.now.held.state.work.start }
+        ensures base { IfSome self.now.held.start (λ base. result ≡ length base) }
+        ensures open { 1 ≤ self.now.held.state.level → IsSome self.now.held.start }
     {
         self.state.start()
     }
