@@ -84,7 +84,7 @@ impl HubSession {
         done
     }
 
-    /// A later try of a LOCK that was blocked: a unit with a receipt where it has its names now, and else nothing is done.
+    /// A later try of a LOCK that was blocked: a unit with a receipt where it has its names now; else nothing is done.
     ///
     /// Refusals: as `lock`.
     pub fn lock_again(&mut self, command: &LockCommand) -> Result<Result<bool, Refusal>, Busy>

@@ -35,8 +35,8 @@ use std::sync::Arc;
 /// A job at work, which owns its hub together with others. It is given to one call at a time, and may go to another
 /// thread between two. Contracts see it as the table of its hub's board, and what it holds.
 ///
-/// It ends by `halt`. One that is dropped instead keeps its job, its seat and its locks for good, and where its transaction
-/// is open no content from that start on is collected. It keeps nobody busy, and its hub can be closed.
+/// It ends by `halt`. One that is dropped instead keeps its job, its seat and its locks for good, and where its
+/// transaction is open no content from that start on is collected. It keeps nobody busy, and its hub can be closed.
 #[derive(Drop)]
 pub struct HubSession {
     pub(crate) hub: Arc<Hub, Global>,
