@@ -25,7 +25,7 @@
 //!
 //! Proved: what is written, or a beginning of it after a fault; and that each step's text is one line and read as just
 //! that step, where its command has no fault, so that this holds for each line of a journal of such commands
-//! (`steps_are_read_again`). Only tested, by the program `random_runs`: that the lines leave the same database,
+//! (`steps_are_read_again`). Only tested, by `tests/random_steps`: that the lines leave the same database,
 //! lone commands and transactions, and that none of them is refused or restarts.
 //!
 //! Whoever keeps a journal while it grows takes the lines unit by unit, from one `JournalPlace` to the next

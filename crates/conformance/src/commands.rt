@@ -1,24 +1,9 @@
 //! The data commands on worked databases. Expected values are those of ISO/IEC 11756:1999 ($DATA, $ORDER, $QUERY, KILL,
 //! MERGE) and, for what the standard leaves open, of docs/RULES.md, "Data commands".
-use crate::answers::{Row, core_of, first_other};
-use refusal::Refusal;
-use std::alloc::Global;
-use std::test::Fail;
-
-// The number of the first row whose reply is another, on a core that has done the lines before; or none.
-fn first_other_after(
-    alloc: Global,
-    before: &[&str],
-    rows: &[Row],
-) -> Result<Option<usize>, Refusal> {
-    let mut core = core_of(alloc, before)?;
-    let other = first_other(alloc, &mut core, rows);
-    drop(core);
-    other
-}
+use crate::answers::{Row, Rows, goes};
 
 #[test]
-fn data_tells_values_and_descendants(rt: HostRuntime) -> Result<(), Fail> {
+fn data_tells_values_and_descendants(rt: HostRuntime) {
     let before: &[&str] = &["1 SET ^A(1,2)=1", "1 SET ^A(3)=1", "1 SET ^A(3,4)=1"];
     let rows: &[Row] = &[
         ("1 $DATA(^A)", "1 10"),
@@ -27,13 +12,12 @@ fn data_tells_values_and_descendants(rt: HostRuntime) -> Result<(), Fail> {
         ("1 $DATA(^A(2))", "1 0"),
         ("4096 $DATA(^A(3))", "4096 11"),
     ];
-    assert_eq!(rt; first_other_after(rt.alloc(), before, rows)?, None);
-    Ok(())
+    assert!(rt; goes(rt.alloc(), before, Rows(rows)));
 }
 
 // ^A(3) has no value, only a descendant; ^A(2) is no node.
 #[test]
-fn order_goes_both_ways_from_any_start(rt: HostRuntime) -> Result<(), Fail> {
+fn order_goes_both_ways_from_any_start(rt: HostRuntime) {
     let before: &[&str] = &[
         "1 SET ^A(1)=1",
         "1 SET ^A(3,\"x\")=1",
@@ -50,13 +34,12 @@ fn order_goes_both_ways_from_any_start(rt: HostRuntime) -> Result<(), Fail> {
         ("1 $ORDER(^A(3,\"\"))", "1 \"x\""),
         ("1 $ORDER(^A)", "1 error 7 NeedSubscript"),
     ];
-    assert_eq!(rt; first_other_after(rt.alloc(), before, rows)?, None);
-    Ok(())
+    assert!(rt; goes(rt.alloc(), before, Rows(rows)));
 }
 
 // Backward from an open place: what is under it, else the reference itself, else the one before.
 #[test]
-fn query_walks_depth_first_from_any_start(rt: HostRuntime) -> Result<(), Fail> {
+fn query_walks_depth_first_from_any_start(rt: HostRuntime) {
     let before: &[&str] = &[
         "1 SET ^A(4)=1",
         "1 SET ^A(5)=1",
@@ -75,12 +58,11 @@ fn query_walks_depth_first_from_any_start(rt: HostRuntime) -> Result<(), Fail> {
         ("1 $QUERY(^A(4),-1)", "1 \"\""),
         ("1 $QUERY(^AB(\"\"))", "1 \"\""),
     ];
-    assert_eq!(rt; first_other_after(rt.alloc(), before, rows)?, None);
-    Ok(())
+    assert!(rt; goes(rt.alloc(), before, Rows(rows)));
 }
 
 #[test]
-fn kill_takes_descendants_and_no_longer_sibling(rt: HostRuntime) -> Result<(), Fail> {
+fn kill_takes_descendants_and_no_longer_sibling(rt: HostRuntime) {
     let before: &[&str] = &[
         "1 SET ^A(12)=\"kept\"",
         "1 SET ^A(1,1)=1",
@@ -94,13 +76,12 @@ fn kill_takes_descendants_and_no_longer_sibling(rt: HostRuntime) -> Result<(), F
         ("1 $GET(^A(12))", "1 \"kept\""),
         ("1 $ORDER(^A(\"\"))", "1 12"),
     ];
-    assert_eq!(rt; first_other_after(rt.alloc(), before, rows)?, None);
-    Ok(())
+    assert!(rt; goes(rt.alloc(), before, Rows(rows)));
 }
 
 // What is copied holds each kind of subscript, and bytes that end one inside a text.
 #[test]
-fn merge_copies_the_value_and_the_descendants(rt: HostRuntime) -> Result<(), Fail> {
+fn merge_copies_the_value_and_the_descendants(rt: HostRuntime) {
     let before: &[&str] = &[
         "1 SET ^A(1)=\"one\"",
         "1 SET ^A(1,$C(0,255),-1.5,0,.5)=\"deep\"",
@@ -120,6 +101,5 @@ fn merge_copies_the_value_and_the_descendants(rt: HostRuntime) -> Result<(), Fai
         ("1 MERGE ^A=^A", "1 ok"),
         ("1 MERGE ^A(1)=^Nil", "1 ok"),
     ];
-    assert_eq!(rt; first_other_after(rt.alloc(), before, rows)?, None);
-    Ok(())
+    assert!(rt; goes(rt.alloc(), before, Rows(rows)));
 }

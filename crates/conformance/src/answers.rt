@@ -39,24 +39,14 @@ pub fn answers(
 /// A line and its reply.
 pub type Row = (&'static str, &'static str);
 
-/// The number of the first row whose reply is another; or none.
-pub fn first_other(
-    alloc: Global,
-    core: &mut JobCore,
-    rows: &[Row],
-) -> Result<Option<usize>, Refusal> {
-    for (i, (line, reply)) in rows.iter().enumerate() {
-        if !answers(alloc, core, line.as_bytes(), reply.as_bytes())? {
-            return Ok(Some(i));
-        }
-    }
-    Ok(None)
-}
-
 /// Whether the lines have these replies, one after the other.
 pub fn are_answered(alloc: Global, core: &mut JobCore, rows: &[Row]) -> Result<bool, Refusal> {
-    let other = first_other(alloc, core, rows)?;
-    Ok(other.is_none())
+    for (line, reply) in rows {
+        if !answers(alloc, core, line.as_bytes(), reply.as_bytes())? {
+            return Ok(false);
+        }
+    }
+    Ok(true)
 }
 
 fn do_all(alloc: Global, core: &mut JobCore, lines: &[&str]) -> Result<(), Refusal> {
@@ -67,14 +57,27 @@ fn do_all(alloc: Global, core: &mut JobCore, lines: &[&str]) -> Result<(), Refus
     Ok(())
 }
 
-/// A core that has done these lines.
-pub fn core_of(alloc: Global, lines: &[&str]) -> Result<JobCore, Refusal> {
-    let mut core = JobCore::new(alloc);
-    match do_all(alloc, &mut core, lines) {
-        Ok(()) => Ok(core),
-        Err(refusal) => {
-            drop(core);
-            Err(refusal)
-        }
+/// What is done on a core.
+pub trait Acts {
+    /// Whether all goes as it should.
+    fn act(self, alloc: Global, core: &mut JobCore) -> Result<bool, Refusal>;
+}
+
+/// Rows, one after the other.
+#[derive(Clone, Copy)]
+pub struct Rows<'a>(pub &'a [Row]);
+
+impl Acts for Rows<'_> {
+    fn act(self, alloc: Global, core: &mut JobCore) -> Result<bool, Refusal> {
+        are_answered(alloc, core, self.0)
     }
+}
+
+/// Whether all goes as it should on a new core, after these lines.
+pub fn goes<A: Acts>(alloc: Global, lines: &[&str], case: A) -> bool {
+    let mut core = JobCore::new(alloc);
+    let done = do_all(alloc, &mut core, lines);
+    let went = case.act(alloc, &mut core);
+    drop(core);
+    done == Ok(()) && went == Ok(true)
 }

@@ -1,6 +1,6 @@
 //! Lists of steps, from docs/RULES.md: their replies, the journal and the content that they leave; and long lists,
 //! which end within the runner's limit.
-use crate::answers::answers;
+use crate::answers::{Acts, answers, goes};
 use command::Reply;
 use job_core::{JobCore, Step, run_from_nothing};
 use listing::{Counted, ListingFault, write_listing};
@@ -118,24 +118,34 @@ fn first_lost(alloc: Global, core: &mut JobCore, factor: u32) -> Result<Option<u
     Ok(None)
 }
 
-#[test]
-fn many_rising_subscripts_are_set_and_got(rt: HostRuntime) -> Result<(), Fail> {
-    let mut core = JobCore::new(rt.alloc());
-    let lost = first_lost(rt.alloc(), &mut core, 1);
-    let units = core.journal().len();
-    drop(core);
-    assert_eq!(rt; lost, Ok(None));
-    assert_eq!(rt; units, 2 * u64::from(MANY));
-    Ok(())
+// 100,000 nodes, each of them set and got.
+#[derive(Clone, Copy)]
+enum Case {
+    Rising,
+    Shuffled,
+}
+
+impl Acts for Case {
+    fn act(self, alloc: Global, core: &mut JobCore) -> Result<bool, Refusal> {
+        match self {
+            Case::Rising => Ok(
+                first_lost(alloc, core, 1)?.is_none()
+                    && core.journal().len() == 2 * u64::from(MANY),
+            ),
+            Case::Shuffled => Ok(
+                first_lost(alloc, core, 646_957)?.is_none()
+                    && answers(alloc, core, b"1 $DATA(^A)", b"1 10")?,
+            ),
+        }
+    }
 }
 
 #[test]
-fn many_shuffled_subscripts_are_set_and_got(rt: HostRuntime) -> Result<(), Fail> {
-    let mut core = JobCore::new(rt.alloc());
-    let lost = first_lost(rt.alloc(), &mut core, 646_957);
-    let has_descendants = answers(rt.alloc(), &mut core, b"1 $DATA(^A)", b"1 10");
-    drop(core);
-    assert_eq!(rt; lost, Ok(None));
-    assert_eq!(rt; has_descendants, Ok(true));
-    Ok(())
+fn many_rising_subscripts_are_set_and_got(rt: HostRuntime) {
+    assert!(rt; goes(rt.alloc(), &[], Case::Rising));
+}
+
+#[test]
+fn many_shuffled_subscripts_are_set_and_got(rt: HostRuntime) {
+    assert!(rt; goes(rt.alloc(), &[], Case::Shuffled));
 }

@@ -5,7 +5,6 @@ use job_core::JobCore;
 use old_stores::{fill, is_seen_at};
 use refusal::Refusal;
 use std::alloc::Global;
-use std::test::*;
 use version_store::Store;
 
 fn core_of_store(alloc: Global, store: Store) -> Result<JobCore, Refusal> {
@@ -51,17 +50,6 @@ fn store_of_old_keys(alloc: Global) -> Result<Store, Refusal> {
     }
 }
 
-// Ten of the fifteen references have a value at the last of 45 stamps.
-#[test]
-fn a_store_of_old_keys_is_taken_over(rt: HostRuntime) -> Result<(), Fail> {
-    let store = store_of_old_keys(rt.alloc())?;
-    let mut core = core_of_store(rt.alloc(), store)?;
-    let went = goes_on(rt.alloc(), &mut core);
-    drop(core);
-    assert_eq!(rt; went, Ok(true));
-    Ok(())
-}
-
 // What is told of a store without references, and after one unit more.
 fn begins(alloc: Global, core: &mut JobCore) -> Result<bool, Refusal> {
     let first = told(core)? == (0, 0, 0, 0);
@@ -69,11 +57,39 @@ fn begins(alloc: Global, core: &mut JobCore) -> Result<bool, Refusal> {
     Ok(first && is_set && told(core)? == (1, 0, 0, 0))
 }
 
-#[test]
-fn a_store_without_references_is_taken_over(rt: HostRuntime) -> Result<(), Fail> {
-    let mut core = core_of_store(rt.alloc(), Store::new(rt.alloc()))?;
-    let went = begins(rt.alloc(), &mut core);
+fn is_begun(alloc: Global, core: JobCore, is_filled: bool) -> bool {
+    let mut core = core;
+    let went = if is_filled {
+        goes_on(alloc, &mut core)
+    } else {
+        begins(alloc, &mut core)
+    };
     drop(core);
-    assert_eq!(rt; went, Ok(true));
-    Ok(())
+    went == Ok(true)
+}
+
+// Whether a core goes on from a store that it took over.
+fn is_taken_over(alloc: Global, store: Store, is_filled: bool) -> bool {
+    match core_of_store(alloc, store) {
+        Ok(core) => is_begun(alloc, core, is_filled),
+        Err(_) => false,
+    }
+}
+
+fn is_old_taken_over(alloc: Global) -> bool {
+    match store_of_old_keys(alloc) {
+        Ok(store) => is_taken_over(alloc, store, true),
+        Err(_) => false,
+    }
+}
+
+// Ten of the fifteen references have a value at the last of 45 stamps.
+#[test]
+fn a_store_of_old_keys_is_taken_over(rt: HostRuntime) {
+    assert!(rt; is_old_taken_over(rt.alloc()));
+}
+
+#[test]
+fn a_store_without_references_is_taken_over(rt: HostRuntime) {
+    assert!(rt; is_taken_over(rt.alloc(), Store::new(rt.alloc()), false));
 }

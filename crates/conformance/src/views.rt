@@ -1,12 +1,12 @@
 //! The content of a core, looked at through `OrderedView`: docs/RULES.md, "Order".
-use crate::answers::core_of;
+use crate::answers::{Acts, goes};
 use collation::Text;
 use globals::{Cut, OrderedView, subtree, walk_from};
+use job_core::JobCore;
 use key_codec::{Key, KeyDraft};
 use m_text::read_reference;
 use refusal::Refusal;
 use std::alloc::{AllocError, Global};
-use std::test::Fail;
 
 fn key_of(alloc: Global, text: &[u8]) -> Result<Key, Refusal> {
     let mut draft = KeyDraft::new(alloc);
@@ -51,15 +51,6 @@ fn are_parted_at_one<V: OrderedView>(alloc: Global, view: &V) -> Result<bool, Re
     Ok(are_parted)
 }
 
-#[test]
-fn next_and_prev_part_the_nodes_at_each_form_of_cut(rt: HostRuntime) -> Result<(), Fail> {
-    let core = core_of(rt.alloc(), &LINES)?;
-    let are_parted = are_parted_at_one(rt.alloc(), &core.content());
-    drop(core);
-    assert_eq!(rt; are_parted, Ok(true));
-    Ok(())
-}
-
 // Ten nodes of three globals, of which four lie in the subtree of ^B(2). Each value tells the place in order.
 const MORE_LINES: [&str; 10] = [
     "1 SET ^C(\"x\")=9",
@@ -97,15 +88,6 @@ fn subtree_meets<V: OrderedView>(
     Ok(met.as_slice() == want)
 }
 
-#[test]
-fn walks_meet_each_node_in_order(rt: HostRuntime) -> Result<(), Fail> {
-    let core = core_of(rt.alloc(), &MORE_LINES)?;
-    let all = walk_meets(rt.alloc(), &core.content(), b"0123456789");
-    drop(core);
-    assert!(rt; all?);
-    Ok(())
-}
-
 // Whether a walk over the subtree of the reference in the text does.
 fn subtree_at_meets<V: OrderedView>(
     alloc: Global,
@@ -119,11 +101,36 @@ fn subtree_at_meets<V: OrderedView>(
     Ok(meets?)
 }
 
+// What a core's content shows.
+#[derive(Clone, Copy)]
+enum Case {
+    Parted,
+    Walk,
+    Subtree,
+}
+
+impl Acts for Case {
+    fn act(self, alloc: Global, core: &mut JobCore) -> Result<bool, Refusal> {
+        let view = core.content();
+        match self {
+            Case::Parted => are_parted_at_one(alloc, &view),
+            Case::Walk => Ok(walk_meets(alloc, &view, b"0123456789")?),
+            Case::Subtree => subtree_at_meets(alloc, &view, b"^B(2)", b"3456"),
+        }
+    }
+}
+
 #[test]
-fn walks_meet_each_node_of_a_subtree(rt: HostRuntime) -> Result<(), Fail> {
-    let core = core_of(rt.alloc(), &MORE_LINES)?;
-    let below = subtree_at_meets(rt.alloc(), &core.content(), b"^B(2)", b"3456");
-    drop(core);
-    assert_eq!(rt; below, Ok(true));
-    Ok(())
+fn next_and_prev_part_the_nodes_at_each_form_of_cut(rt: HostRuntime) {
+    assert!(rt; goes(rt.alloc(), &LINES, Case::Parted));
+}
+
+#[test]
+fn walks_meet_each_node_in_order(rt: HostRuntime) {
+    assert!(rt; goes(rt.alloc(), &MORE_LINES, Case::Walk));
+}
+
+#[test]
+fn walks_meet_each_node_of_a_subtree(rt: HostRuntime) {
+    assert!(rt; goes(rt.alloc(), &MORE_LINES, Case::Subtree));
 }

@@ -1,10 +1,9 @@
 //! What a checkpoint lets go of, and what it keeps: docs/THEOREMS.md, "Checkpoints".
-use crate::answers::{Row, are_answered, core_of};
+use crate::answers::{Acts, Row, are_answered, goes};
 use collation::Job;
 use job_core::{JobCore, Step};
 use refusal::Refusal;
 use std::alloc::{AllocError, Global};
-use std::test::Fail;
 
 // How many units the journal still has.
 fn units_kept(core: &JobCore) -> Result<u64, AllocError> {
@@ -61,40 +60,13 @@ fn moves_to_the_least_open_start(alloc: Global, core: &mut JobCore) -> Result<bo
     Ok(stops_at_the_start(alloc, core)? && goes_on_to_now(alloc, core)?)
 }
 
-#[test]
-fn a_checkpoint_moves_the_base_to_the_least_open_start(rt: HostRuntime) -> Result<(), Fail> {
-    let lines: &[&str] = &["1 SET ^A=1", "2 TSTART", "1 SET ^A=2"];
-    let mut core = core_of(rt.alloc(), lines)?;
-    let moves = moves_to_the_least_open_start(rt.alloc(), &mut core);
-    drop(core);
-    assert_eq!(rt; moves, Ok(true));
-    Ok(())
-}
-
-// Where a checkpoint stands whose base has one empty value, and the tallies of jobs 1 and 2 there.
-fn tallies_at(core: &mut JobCore) -> Result<(u64, u64), Refusal> {
+// Whether a checkpoint's base has one empty value, and the tallies of jobs 1 and 2 there.
+fn has_tallies(core: &mut JobCore) -> Result<bool, Refusal> {
     if core.checkpoint() != Ok(5) || !base_is(core, 5, b"") {
-        return Ok((0, 0));
+        return Ok(false);
     }
     let base = core.base();
-    Ok((base.tally(Job::new(1)?), base.tally(Job::new(2)?)))
-}
-
-#[test]
-fn a_base_keeps_empty_values_and_tallies(rt: HostRuntime) -> Result<(), Fail> {
-    let lines: &[&str] = &[
-        "1 SET ^A=\"\"",
-        "1 TSTART",
-        "1 LOCK +^B",
-        "1 TROLLBACK",
-        "2 $GET(^A)",
-        "1 HALT",
-    ];
-    let mut core = core_of(rt.alloc(), lines)?;
-    let tallies = tallies_at(&mut core);
-    drop(core);
-    assert_eq!(rt; tallies, Ok((2, 1)));
-    Ok(())
+    Ok(base.tally(Job::new(1)?) == 2 && base.tally(Job::new(2)?) == 1)
 }
 
 // Job 2 is blocked by what job 1 had before the checkpoint, and goes on as job 1 gives it back.
@@ -108,15 +80,6 @@ fn blocks_until_given_back(alloc: Global, core: &mut JobCore) -> Result<bool, Re
     let first = stops_at(core, 2) && are_answered(alloc, core, before)?;
     let second = stops_at(core, 4) && are_answered(alloc, core, after)?;
     Ok(first && second)
-}
-
-#[test]
-fn locks_go_on_over_checkpoints(rt: HostRuntime) -> Result<(), Fail> {
-    let mut core = core_of(rt.alloc(), &["1 LOCK +^A(1)", "1 LOCK +^A(1)"])?;
-    let went = blocks_until_given_back(rt.alloc(), &mut core);
-    drop(core);
-    assert_eq!(rt; went, Ok(true));
-    Ok(())
 }
 
 fn push_checkpoints(steps: &mut Vec<Step>) -> Result<(), AllocError> {
@@ -149,11 +112,54 @@ fn moves_without_replies(alloc: Global, core: &mut JobCore) -> Result<bool, Refu
     Ok(replies == 0 && base_is(core, 1, b"1"))
 }
 
+// What a checkpoint does.
+#[derive(Clone, Copy)]
+enum Case {
+    Start,
+    Tallies,
+    Locks,
+    Among,
+}
+
+impl Acts for Case {
+    fn act(self, alloc: Global, core: &mut JobCore) -> Result<bool, Refusal> {
+        match self {
+            Case::Start => moves_to_the_least_open_start(alloc, core),
+            Case::Tallies => has_tallies(core),
+            Case::Locks => blocks_until_given_back(alloc, core),
+            Case::Among => moves_without_replies(alloc, core),
+        }
+    }
+}
+
+// Of a transaction that begins between two SETs.
+const BESIDE: [&str; 3] = ["1 SET ^A=1", "2 TSTART", "1 SET ^A=2"];
+
+const TALLIED: [&str; 6] = [
+    "1 SET ^A=\"\"",
+    "1 TSTART",
+    "1 LOCK +^B",
+    "1 TROLLBACK",
+    "2 $GET(^A)",
+    "1 HALT",
+];
+
 #[test]
-fn a_checkpoint_among_steps_has_no_reply(rt: HostRuntime) -> Result<(), Fail> {
-    let mut core = core_of(rt.alloc(), &["1 SET ^A=1"])?;
-    let moves = moves_without_replies(rt.alloc(), &mut core);
-    drop(core);
-    assert_eq!(rt; moves, Ok(true));
-    Ok(())
+fn a_checkpoint_moves_the_base_to_the_least_open_start(rt: HostRuntime) {
+    assert!(rt; goes(rt.alloc(), &BESIDE, Case::Start));
+}
+
+#[test]
+fn a_base_keeps_empty_values_and_tallies(rt: HostRuntime) {
+    assert!(rt; goes(rt.alloc(), &TALLIED, Case::Tallies));
+}
+
+#[test]
+fn locks_go_on_over_checkpoints(rt: HostRuntime) {
+    assert!(rt; goes(rt.alloc(), &["1 LOCK +^A(1)"; 2], Case::Locks));
+}
+
+#[test]
+fn a_checkpoint_among_steps_has_no_reply(rt: HostRuntime) {
+    assert!(rt; goes(rt.alloc(), &["1 SET ^A=1"], Case::Among));
 }
