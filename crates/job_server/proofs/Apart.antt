@@ -2,7 +2,7 @@
 use Rattle.std.proofs.Common.{◌≡◌, ℕ, ◌==◌, Bool, true, false, not, List, [], ◌∷◌, map, refl, sym, ap, ◌∙◌, subst, eq-eqb, true≢false}
 use Rattle.std.specs.Prelude.{⊤, Option, Some, None, IfSome, unwrap_or, cond}
 use Rattle.std.specs.List.{filter}
-use Rattle.job_scripts.specs.Groups.{Group, group, group_of, groups_in, lines_in, firsts, numbers_in}
+use Rattle.job_scripts.specs.Groups.{group, group_of, groups_in, lines_in, firsts, numbers_in}
 use Rattle.job_server.specs.Served.{Wanted, IsNoJobOf, AreApart}
 use Rattle.job_server.specs.Texts.{group_of_script}
 

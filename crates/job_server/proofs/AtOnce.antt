@@ -15,13 +15,13 @@ use Rattle.shared_engine.specs.declared.serial_run.SerialRun.{SerialRun}
 use Rattle.shared_engine.specs.declared.serial_run.SerialRun.TheVariants.{Done, Blocked}
 use Rattle.shared_engine.specs.Blocks.{said, HasDone, AreDone, is_blocked, AreHad, HasCome}
 use Rattle.job_scripts.specs.declared.block.Block.{Block}
-use Rattle.job_scripts.specs.Blocks.{in_place, AreInFront}
+use Rattle.job_scripts.specs.Blocks.{in_place, AreAsked, AreInFront}
 use Rattle.job_scripts.specs.Lines.{lines_of_script}
 use Rattle.job_server.specs.declared.cursor.Cursor.{Cursor}
 use Rattle.job_server.specs.declared.cursor.Line.{Line}
-use Rattle.job_server.specs.Steps.{Past, sessions_so_far, HasDoneSteps, IsNoStep, IsBetween, AreShown}
-use Rattle.job_server.specs.Telling.{HaveNoHalt, Running, running, Serves, Advances, Reaches, ServesBlock, HasRunOutside, HasReadAll, AreDataCommands}
-use Rattle.job_server.proofs.Stepping.{between_knowing, no_steps, steps_behind, done_then, block_steps, block_shown}
+use Rattle.job_server.specs.Steps.{Past, sessions_so_far, HasDoneSteps, IsNoStep, IsBetween, IsNoEnd, AreShown}
+use Rattle.job_server.specs.Telling.{HaveNoHalt, Running, running, Serves, AreWithin, ServesWithin, AdvancesWithin, ServesBlock, HasRunOutside, HasReadAll, AreDataCommands}
+use Rattle.job_server.proofs.Stepping.{between_knowing, no_steps, steps_behind, done_then, block_steps, block_shown, asks_once, command_no_end, refused_no_end}
 
 -- done from a session that stands so
 block_from : (job : ℕ) (before rest : List (List ℕ)) (places : List (Option Refusal)) (commands : List Command) (musts : List Bool) (served replies more_replies : List Reply) (p : Past) (units more : List JournalUnit) (old start new : Held)
@@ -45,13 +45,42 @@ all_done : (musts : List Bool) (commands : List Command) (run : SerialRun) (serv
 all_done musts commands (Done replies) served units more old new all come = subst (λ (rs : List Reply). AreDone commands rs units more old new × AreHad musts rs) all come
 all_done musts commands (Blocked place) served units more old new all come = absurd all
 
-pub run_serves : (job : ℕ) (before rest : List (List ℕ)) (places : List (Option Refusal)) (commands : List Command) (musts : List Bool) (run : SerialRun) (served replies more_replies : List Reply) (p : Past) (session later : Option Held) → AreInFront job before rest places commands musts
-    → HasRunOutside musts commands run session later → IsAll run served → more_replies ≡ replies ++ in_place places served → Serves job before rest (running replies (sessions_so_far p session)) (running more_replies (sessions_so_far p later))
-run_serves job before rest places commands musts run served replies more_replies p None later in_front ran all is = absurd ran
-run_serves job before rest places commands musts run served replies more_replies p (Some old) None in_front ran all is = absurd ran
-run_serves job before rest places commands musts run served replies more_replies p (Some old) (Some new) in_front ran all is =
+-- no data command ends a transaction
+data_within : (job : ℕ) (lines : List (List ℕ)) (places : List (Option Refusal)) (commands : List Command) (replies : List Reply) (units more : List JournalUnit) (old new : Held) → AreDataCommands commands → AreAsked job lines places commands → AreDone commands replies units more old new
+    → AreWithin job lines (in_place places replies)
+data_within job [] [] [] replies units more old new all asked done = tt
+data_within job [] [] (command ∷ commands) replies units more old new all asked done = absurd asked
+data_within job [] (place ∷ places) commands replies units more old new all asked done = absurd asked
+data_within job (line ∷ lines) [] commands replies units more old new all asked done = absurd asked
+data_within job (line ∷ lines) (Some refusal ∷ places) commands replies units more old new all asked done =
+    ((λ command asks. refused_no_end command refusal), data_within job lines places commands replies units more old new all asked.1 done)
+data_within job (line ∷ lines) (None ∷ places) [] replies units more old new all asked done = absurd asked
+data_within job (line ∷ lines) (None ∷ places) (command ∷ commands) [] units more old new all asked done = absurd done
+data_within job (line ∷ lines) (None ∷ places) (command ∷ commands) (reply ∷ replies) units more old new all asked done = (
+  (λ other asks. subst (λ (c : Command). IsNoEnd c reply) (asks_once job line command other asked.0 asks) (access_no_end command reply (all 0 command (omega arith)))),
+  data_within job lines places commands replies done.0 more done.1 new (All-rest (λ (c : Command). (d : DataCommand) × (c ≡ Access d)) command commands (command ∷ commands) refl all) asked.1 done.3,
+)
+  where
+    access_no_end : (c : Command) (r : Reply) → ((d : DataCommand) × (c ≡ Access d)) → IsNoEnd c r
+    access_no_end c r (d, is) = subst (λ (x : Command). IsNoEnd x r) (sym is) (command_no_end (Access d) r (λ e. absurd (cc)) (λ e. absurd (cc)) (λ e. absurd (cc)))
+
+-- data commands of these lines were done from a session that stands so
+data_from : (job : ℕ) (before rest : List (List ℕ)) (places : List (Option Refusal)) (commands : List Command) (musts : List Bool) (served replies more_replies : List Reply) (p : Past) (units more : List JournalUnit) (old start new : Held)
+    → AreDataCommands commands → AreInFront job before rest places commands musts → start.seen ≡ units → IsBetween job (sessions_so_far p (Some old)) (sessions_so_far p (Some start)) → AreDone commands served units more start new → AreHad musts served → more_replies ≡ replies ++ in_place places served
+    → ServesWithin job before rest (running replies (sessions_so_far p (Some old))) (running more_replies (sessions_so_far p (Some new)))
+unfolding block_from
+data_from job before rest places commands musts served replies more_replies p units more old start new all in_front seen between done had is = (
+  block_from job before rest places commands musts served replies more_replies p units more old start new in_front seen between done had is,
+  data_within job in_front.front places commands served units more start new all in_front.asked done,
+)
+
+pub run_serves : (job : ℕ) (before rest : List (List ℕ)) (places : List (Option Refusal)) (commands : List Command) (musts : List Bool) (run : SerialRun) (served replies more_replies : List Reply) (p : Past) (session later : Option Held) → AreDataCommands commands → AreInFront job before rest places commands musts
+    → HasRunOutside musts commands run session later → IsAll run served → more_replies ≡ replies ++ in_place places served → ServesWithin job before rest (running replies (sessions_so_far p session)) (running more_replies (sessions_so_far p later))
+run_serves job before rest places commands musts run served replies more_replies p None later accesses in_front ran all is = absurd ran
+run_serves job before rest places commands musts run served replies more_replies p (Some old) None accesses in_front ran all is = absurd ran
+run_serves job before rest places commands musts run served replies more_replies p (Some old) (Some new) accesses in_front ran all is =
     let come = all_done musts commands run served ran.0 new.seen (knowing ran.0 old) new all ran.2 in
-    block_from job before rest places commands musts served replies more_replies p ran.0 new.seen old (knowing ran.0 old) new in_front refl (between_knowing job p ran.0 old ran.1.goes_on) come.0 come.1 is
+    data_from job before rest places commands musts served replies more_replies p ran.0 new.seen old (knowing ran.0 old) new accesses in_front refl (between_knowing job p ran.0 old ran.1.goes_on) come.0 come.1 is
 
 -- where the transaction began anew, from there
 pub anew_serves : (job : ℕ) (before rest : List (List ℕ)) (places : List (Option Refusal)) (commands : List Command) (musts : List Bool) (run : SerialRun) (served replies more_replies : List Reply) (p : Past) (units more : List JournalUnit) (middle new : Held) → middle.seen ≡ units
@@ -90,29 +119,31 @@ no_halts commands all k command lt is = absurd (not_halt (all k command lt).0 (s
     not_halt d same = absurd (cc)
 
 pub reads_serve : (job : ℕ) (before rest : List (List ℕ)) (places : List (Option Refusal)) (commands : List Command) (musts : List Bool) (served replies more_replies : List Reply) (p : Past) (session later : Option Held) → AreDataCommands commands → AreInFront job before rest places commands musts
-    → HasReadAll commands served session later → more_replies ≡ replies ++ in_place places served → Serves job before rest (running replies (sessions_so_far p session)) (running more_replies (sessions_so_far p later))
+    → HasReadAll commands served session later → more_replies ≡ replies ++ in_place places served → ServesWithin job before rest (running replies (sessions_so_far p session)) (running more_replies (sessions_so_far p later))
 reads_serve job before rest places commands musts served replies more_replies p None later all in_front reads is = absurd reads
 reads_serve job before rest places commands musts served replies more_replies p (Some old) None all in_front reads is = absurd reads
 reads_serve job before rest places commands musts served replies more_replies p (Some old) (Some new) all in_front reads is =
-    block_from job before rest places commands musts served replies more_replies p reads.0 reads.0 old (knowing reads.0 old) new in_front refl (between_knowing job p reads.0 old reads.1.goes_on) reads.2 (data_had musts commands served reads.0 reads.0 (knowing reads.0 old) new all reads.2) is
+    data_from job before rest places commands musts served replies more_replies p reads.0 reads.0 old (knowing reads.0 old) new all in_front refl (between_knowing job p reads.0 old reads.1.goes_on) reads.2 (data_had musts commands served reads.0 reads.0 (knowing reads.0 old) new all reads.2) is
 
 -- the lines of a block were done
 pub block_advances : (job : ℕ) (line : Line) (behind : Cursor) (block : Block) (old new : Running) → AreInFront job (line.text.now ∷ lines_of_script line.next.lines.now) (lines_of_script block.rest.now) block.places.items block.commands.items block.musts.items → length block.rest.now ≤ length line.next.lines.now
-    → behind.lines.now ≡ block.rest.now → ServesBlock block old new → Advances job line behind old new
-block_advances job line behind block old new in_front fewer same serves = record {
-  fewer = omega (arith, fewer, ap length same);
-  serves = subst (λ (l : List ℕ). Serves job (line.text.now ∷ lines_of_script line.next.lines.now) (lines_of_script l) old new) (sym same) (serves job (line.text.now ∷ lines_of_script line.next.lines.now) in_front);
-}
+    → behind.lines.now ≡ block.rest.now → ServesBlock block old new → AdvancesWithin job line behind old new
+block_advances job line behind block old new in_front fewer same serves =
+    let served : ServesWithin job (line.text.now ∷ lines_of_script line.next.lines.now) (lines_of_script behind.lines.now) old new = subst (λ (l : List ℕ). ServesWithin job (line.text.now ∷ lines_of_script line.next.lines.now) (lines_of_script l) old new) (sym same) (serves job (line.text.now ∷ lines_of_script line.next.lines.now) in_front) in
+    (record { fewer = omega (arith, fewer, ap length same); serves = served.0 }, served.1)
 
 -- a session was begun before it
-pub opened_advances : (job : ℕ) (line : Line) (behind : Cursor) (same old middle new : Running) → same ≡ old → middle.replies ≡ same.replies → HasDoneSteps IsNoStep job same.sessions middle.sessions → Advances job line behind middle new → Advances job line behind old new
-opened_advances job line behind same old middle new is replied opened h = subst (λ (x : Running). Advances job line behind x new) is (record {
-  fewer = h.fewer;
-  serves = record {
-    lines_done = h.serves.lines_done;
-    their_replies = h.serves.their_replies;
-    split = h.serves.split;
-    replied = h.serves.replied ∙ ap (λ (rs : List Reply). rs ++ h.serves.their_replies) replied;
-    steps = done_then (AreShown job (lines_of_script behind.lines.now) h.serves.lines_done h.serves.their_replies) job same.sessions middle.sessions new.sessions opened h.serves.steps;
-  };
-})
+pub opened_advances : (job : ℕ) (line : Line) (behind : Cursor) (same old middle new : Running) → same ≡ old → middle.replies ≡ same.replies → HasDoneSteps IsNoStep job same.sessions middle.sessions → AdvancesWithin job line behind middle new → AdvancesWithin job line behind old new
+opened_advances job line behind same old middle new is replied opened (h, within) = subst (λ (x : Running). AdvancesWithin job line behind x new) is (
+  record {
+    fewer = h.fewer;
+    serves = record {
+      lines_done = h.serves.lines_done;
+      their_replies = h.serves.their_replies;
+      split = h.serves.split;
+      replied = h.serves.replied ∙ ap (λ (rs : List Reply). rs ++ h.serves.their_replies) replied;
+      steps = done_then (AreShown job (lines_of_script behind.lines.now) h.serves.lines_done h.serves.their_replies) job same.sessions middle.sessions new.sessions opened h.serves.steps;
+    };
+  },
+  within,
+)

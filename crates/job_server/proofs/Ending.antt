@@ -66,7 +66,7 @@ run_steps job since text old new later first serves stopped =
     let shown : HasDoneSteps (AreShown job [] (lines_of_script text) new.replies) job (none_since since) new.sessions =
     subst (λ (ls : List (List ℕ)). HasDoneSteps (AreShown job [] ls new.replies) job (none_since since) new.sessions) lines
     (subst (λ (rs : List Reply). HasDoneSteps (AreShown job [] h.lines_done rs) job (none_since since) new.sessions) (sym h.replied) h.steps) in
-    let over : HasDoneSteps (AreShownToEnd job (lines_of_script text) new.replies) job (none_since since) later = shown_to_end job (lines_of_script text) new.replies (none_since since) new.sessions later shown (by_stop stopped) in
+    let over : HasDoneSteps (AreShownToEnd job (lines_of_script text) new.replies) job (none_since since) later = shown_to_end job (lines_of_script text) new.replies (none_since since) new.sessions later (none_left stopped) shown (by_stop stopped) in
     subst (λ (n : ℕ). HasDoneSteps (AreShownToEnd job (lines_of_script text) new.replies) job (none_since since) (sessions_so_far (past n later.past.books) None)) (since_stays job over.0 (none_since since) later over.2)
     (subst (λ (o : Option Held). HasDoneSteps (AreShownToEnd job (lines_of_script text) new.replies) job (none_since since) (sessions_so_far later.past o)) (none_left stopped) over)
   where

@@ -1,27 +1,28 @@
 -- A job goes on, line by line.
-use Rattle.std.proofs.Common.{◌≡◌, ◌≢◌, inl, inr, ℕ, ◌≤◌, ◌<◌, List, [], ◌∷◌, ◌++◌, length, take, refl, sym, ap, ◌∙◌, subst, arith, append_assoc, append-nil}
-use Rattle.std.specs.Prelude.{Option, Some, None, Result, Ok, Err, IfOk, slice_get}
+use Rattle.std.proofs.Common.{◌≡◌, ◌≢◌, inl, inr, ℕ, ◌<◌, Bool, true, false, List, [], ◌∷◌, ◌++◌, length, take, refl, sym, ap, ◌∙◌, subst, arith, append_assoc, append-nil}
+use Rattle.std.specs.Prelude.{Option, Some, Result, Ok, Err, IfOk, slice_get}
 use Rattle.refusal.specs.declared.Refusal.{Refusal}
 use Rattle.command.specs.declared.request.Command.{Command}
-use Rattle.command.specs.declared.request.Command.TheVariants.{Start, Commit, Halt}
+use Rattle.command.specs.declared.request.Command.TheVariants.{Start, Halt}
 use Rattle.command.specs.declared.request.Reply.{Reply}
-use Rattle.command.specs.declared.request.Reply.TheVariants.{Finished, Restarted, Refused}
-use Rattle.journal.specs.declared.unit.Unit.{Unit as JournalUnit}
+use Rattle.command.specs.declared.request.Reply.TheVariants.{Finished, AtLevel, Committed, Restarted, Refused}
 use Rattle.journal.specs.Kept.{HasNoRoom}
 use Rattle.serial.specs.Interleaving.{Told}
 use Rattle.pin_board.specs.Slips.{IsBeginning}
 use Rattle.shared_engine.specs.Blocks.{IsNoRestart}
+use Rattle.shared_engine.specs.Engines.{OnOkThat}
 use Rattle.shared_engine.specs.Receipts.{Book}
 use Rattle.shared_engine.specs.Sessions.{Held, knowing}
 use Rattle.job_scripts.specs.Lines.{lines_of_script, Asks, IsReadFor}
 use Rattle.job_scripts.specs.Reports.{Answers}
 use Rattle.job_server.specs.declared.cursor.Cursor.{Cursor}
 use Rattle.job_server.specs.declared.cursor.Line.{Line}
+use Rattle.job_server.specs.declared.fault.ServerFault.{ServerFault}
 use Rattle.job_server.specs.Served.{Wanted, IsReport, HasRunAs, IsReportAt}
-use Rattle.job_server.specs.Steps.{Past, SessionsSoFar, sessions_so_far, HasDoneSteps, IsNoStep, IsReplied, IsHad, IsShownBy, AreShown}
-use Rattle.job_server.specs.Telling.{IsNoCommit, IsDoneAs, Running, Serves, HasAnswered, Advances, Reaches, Begins, WasOvertaken, IsBack, GoesOnFrom}
+use Rattle.job_server.specs.Steps.{Past, SessionsSoFar, sessions_so_far, HasDoneSteps, IsNoStep, IsReplied, IsHad, IsShownBy, IsNoEnd, AreShown}
+use Rattle.job_server.specs.Telling.{IsNoCommit, EndsNone, IsDoneAs, Running, Serves, IsWithin, AreWithin, ServesWithin, Advances, AdvancesWithin, Reaches, ReachesWithin, Begins, WasOvertaken, IsBack, GoesOnFrom}
 use Rattle.job_server.proofs.Stepped.{halt_stepped}
-use Rattle.job_server.proofs.Stepping.{between_same, no_steps, none_done, done_then, shows_other, call_steps, line_shown, shown_behind, shown_tried, tried_to}
+use Rattle.job_server.proofs.Stepping.{between_same, no_steps, none_done, shows_other, call_steps, line_shown, shown_behind, shown_tried, tried_to, asks_once, other_no_end, command_no_end, refused_no_end}
 
 -- ---- steps
 
@@ -86,16 +87,6 @@ reaches_end job text place old new h none = subst (λ (ls : List (List ℕ)). Se
 
 -- ---- one line
 
-answered_shown : (job : ℕ) (line : Line) (left : List (List ℕ)) (old new : Running) → (h : HasAnswered job line old new) → HasDoneSteps (AreShown job left (line.text.now ∷ []) (h.reply ∷ [])) job old.sessions new.sessions
-answered_shown job line left old new h =
-    shows_other (IsShownBy job line.text.now h.reply) (AreShown job left (line.text.now ∷ []) (h.reply ∷ [])) job old.sessions new.sessions (λ xs shown. line_shown job left line.text.now h.reply xs shown) h.steps
-
-pub answered_advances : (job : ℕ) (line : Line) (old new : Running) → HasAnswered job line old new → Advances job line line.next old new
-answered_advances job line old new h = record {
-  fewer = omega arith;
-  serves = record { lines_done = line.text.now ∷ []; their_replies = h.reply ∷ []; split = refl; replied = h.replied; steps = answered_shown job line (lines_of_script line.next.lines.now) old new h };
-}
-
 -- what was read is shown by its line
 shown_as : (job : ℕ) (line : List ℕ) (asked : Result Command Refusal) (reply : Reply) (xs : List Told) → IsReadFor job line asked → ((command : Command) → asked ≡ Ok command → IsNoRestart command reply) → IsDoneAs line asked reply xs → IsShownBy job line reply xs
 shown_as job line (Ok command) reply xs asks kept h = inr (command, asks, h.0, kept command refl, h.1)
@@ -109,44 +100,80 @@ no_commit : (asked : Result Command Refusal) (command : Command) (reply : Reply)
 no_commit (Ok read) command reply other is commit = absurd (other (same_ok read command is ∙ commit))
 no_commit (Err refusal) command reply other is commit = absurd (cc)
 
-pub has_answered : (job : ℕ) (line : Line) (asked : Result Command Refusal) (reply : Reply) (old new : Running) → IsReadFor job line.text.now asked → IsNoCommit asked → new.replies ≡ old.replies ++ reply ∷ [] → HasDoneSteps (IsDoneAs line.text.now asked reply) job old.sessions new.sessions
-    → HasAnswered job line old new
-has_answered job line asked reply old new asks other replied h = record {
-  reply = reply;
-  replied = replied;
-  steps = shows_other (IsDoneAs line.text.now asked reply) (IsShownBy job line.text.now reply) job old.sessions new.sessions (λ xs done. shown_as job line.text.now asked reply xs asks (λ command is. no_commit asked command reply other is) done) h;
+-- a line that was done so
+line_shown_as : (job : ℕ) (left : List (List ℕ)) (line : List ℕ) (asked : Result Command Refusal) (reply : Reply) (old new : SessionsSoFar) → IsReadFor job line asked → ((command : Command) → asked ≡ Ok command → IsNoRestart command reply) → HasDoneSteps (IsDoneAs line asked reply) job old new
+    → HasDoneSteps (AreShown job left (line ∷ []) (reply ∷ [])) job old new
+line_shown_as job left line asked reply old new asks kept h =
+    shows_other (IsDoneAs line asked reply) (AreShown job left (line ∷ []) (reply ∷ [])) job old new (λ xs done. line_shown job left line reply xs (shown_as job line asked reply xs asks kept done)) h
+
+line_advances : (job : ℕ) (line : Line) (asked : Result Command Refusal) (reply : Reply) (old new : Running) → IsReadFor job line.text.now asked → ((command : Command) → asked ≡ Ok command → IsNoRestart command reply) → new.replies ≡ old.replies ++ reply ∷ []
+    → HasDoneSteps (IsDoneAs line.text.now asked reply) job old.sessions new.sessions → Advances job line line.next old new
+line_advances job line asked reply old new asks kept replied h = record {
+  fewer = omega arith;
+  serves = record { lines_done = line.text.now ∷ []; their_replies = reply ∷ []; split = refl; replied = replied; steps = line_shown_as job (lines_of_script line.next.lines.now) line.text.now asked reply old.sessions new.sessions asks kept h };
 }
 
--- a TCOMMIT that is no restart
-pub committed_tried : (job : ℕ) (line : Line) (reply : Reply) (old new : Running) → Asks job line.text.now Commit → (new.replies ≡ old.replies ++ reply ∷ []) × ((restarts : ℕ) → reply ≢ Restarted restarts) → HasDoneSteps (IsDoneAs line.text.now (Ok Commit) reply) job old.sessions new.sessions
-    → Advances job line line.next old new
-committed_tried job line reply old new asks kept h = answered_advances job line old new (record {
-  reply = reply;
-  replied = kept.0;
-  steps = shows_other (IsDoneAs line.text.now (Ok Commit) reply) (IsShownBy job line.text.now reply) job old.sessions new.sessions (λ xs done. shown_as job line.text.now (Ok Commit) reply xs asks (λ command is commit. kept.1) done) h;
-})
+line_within : (job : ℕ) (line : Line) (asked : Result Command Refusal) (reply : Reply) (old new : Running) → IsReadFor job line.text.now asked → ((command : Command) → asked ≡ Ok command → IsNoRestart command reply) → new.replies ≡ old.replies ++ reply ∷ []
+    → HasDoneSteps (IsDoneAs line.text.now asked reply) job old.sessions new.sessions → IsWithin job line.text.now reply → AdvancesWithin job line line.next old new
+unfolding line_advances
+line_within job line asked reply old new asks kept replied h within = (line_advances job line asked reply old new asks kept replied h, (within, tt))
 
--- one that is
-pub was_overtaken : (job : ℕ) (line : List ℕ) (reply : Reply) (old new : Running) → Asks job line Commit → HasDoneSteps (IsDoneAs line (Ok Commit) reply) job old.sessions new.sessions → (new.replies ≡ old.replies) × (restarts : ℕ) × (reply ≡ Restarted restarts) → WasOvertaken job line old new
-was_overtaken job line reply old new asks h again = (
-  again.0,
-  again.1,
-  shows_other (IsDoneAs line (Ok Commit) reply) (IsReplied Commit (Restarted again.1)) job old.sessions new.sessions (λ xs done. subst (λ (r : Reply). IsReplied Commit r xs) again.2 done.1) h,
+-- one that is no TCOMMIT
+pub passed : (job : ℕ) (line : Line) (asked : Result Command Refusal) (reply : Reply) (old new : Running) → IsReadFor job line.text.now asked → IsNoCommit asked → new.replies ≡ old.replies ++ reply ∷ [] → HasDoneSteps (IsDoneAs line.text.now asked reply) job old.sessions new.sessions
+    → Advances job line line.next old new
+passed job line asked reply old new asks other replied h = line_advances job line asked reply old new asks (λ command is. no_commit asked command reply other is) replied h
+
+read_within : (job : ℕ) (line : List ℕ) (asked : Result Command Refusal) (reply : Reply) (old new : SessionsSoFar) → IsReadFor job line asked → EndsNone asked → HasDoneSteps (IsDoneAs line asked reply) job old new → IsWithin job line reply
+read_within job line (Ok read) reply old new asks none h command others = subst (λ (c : Command). IsNoEnd c reply) (asks_once job line read command asks others) (command_no_end read reply none.0 none.1 none.2)
+read_within job line (Err refusal) reply old new asks none h command others = subst (IsNoEnd command) (sym h.1.0) (refused_no_end command refusal)
+
+-- and ends no transaction
+pub passed_within : (job : ℕ) (line : Line) (asked : Result Command Refusal) (reply : Reply) (old new : Running) → IsReadFor job line.text.now asked → IsNoCommit asked → EndsNone asked → new.replies ≡ old.replies ++ reply ∷ []
+    → HasDoneSteps (IsDoneAs line.text.now asked reply) job old.sessions new.sessions → AdvancesWithin job line line.next old new
+passed_within job line asked reply old new asks other none replied h =
+    line_within job line asked reply old new asks (λ command is. no_commit asked command reply other is) replied h (read_within job line.text.now asked reply old.sessions new.sessions asks none h)
+
+-- one that didn't begin the transaction anew
+pub ended_advances : (job : ℕ) (line : Line) (command : Command) (reply : Reply) (old new : Running) → Asks job line.text.now command → ((restarts : ℕ) → reply ≢ Restarted restarts) → new.replies ≡ old.replies ++ reply ∷ [] → HasDoneSteps (IsDoneAs line.text.now (Ok command) reply) job old.sessions new.sessions
+    → Advances job line line.next old new
+ended_advances job line command reply old new asks kept replied h = line_advances job line (Ok command) reply old new asks (λ other is commit. kept) replied h
+
+-- nor ended it
+pub ended_within : (job : ℕ) (line : Line) (command : Command) (reply : Reply) (old new : Running) → Asks job line.text.now command → ((restarts : ℕ) → reply ≢ Restarted restarts) → (reply ≢ Committed) × (reply ≢ Finished) → new.replies ≡ old.replies ++ reply ∷ []
+    → HasDoneSteps (IsDoneAs line.text.now (Ok command) reply) job old.sessions new.sessions → AdvancesWithin job line line.next old new
+ended_within job line command reply old new asks kept none replied h = line_within job line (Ok command) reply old new asks (λ other is commit. kept) replied h (λ other others. other_no_end other reply none.0 none.1)
+
+-- one that did
+pub was_overtaken : (job : ℕ) (line : List ℕ) (command : Command) (reply : Reply) (old new : Running) → Asks job line command → HasDoneSteps (IsDoneAs line (Ok command) reply) job old.sessions new.sessions → (restarts : ℕ) × (reply ≡ Restarted restarts) → new.replies ≡ old.replies → WasOvertaken job line old new
+was_overtaken job line command reply old new asks h again kept = (
+  kept,
+  command,
   asks,
+  again.0,
+  shows_other (IsDoneAs line (Ok command) reply) (IsReplied command (Restarted again.0)) job old.sessions new.sessions (λ xs done. subst (λ (r : Reply). IsReplied command r xs) again.1 done.1) h,
 )
 
 -- ---- blocks that are tried
 
-pub begins : (job : ℕ) (line : Line) (old new : Running) → HasAnswered job line old new → Begins job line old new
-begins job line old new h = record { reply = h.reply; replied = h.replied; steps = answered_shown job line (lines_of_script line.next.lines.now) old new h }
+pub begins : (job : ℕ) (line : Line) (reply : Reply) (old new : Running) → Asks job line.text.now Start → reply ≡ AtLevel 1 → new.replies ≡ old.replies ++ reply ∷ [] → HasDoneSteps (IsDoneAs line.text.now (Ok Start) reply) job old.sessions new.sessions → Begins job line old new
+begins job line reply old new asks is replied h = record {
+  replied = replied ∙ ap (λ (r : Reply). old.replies ++ r ∷ []) is;
+  steps = line_shown_as job (lines_of_script line.next.lines.now) line.text.now (Ok Start) (AtLevel 1) old.sessions new.sessions asks (λ command same commit restarts again. absurd (cc))
+      (subst (λ (r : Reply). HasDoneSteps (IsDoneAs line.text.now (Ok Start) r) job old.sessions new.sessions) is h);
+}
+
+-- where the reply says so
+pub begun_where : (job : ℕ) (line : Line) (reply : Reply) (found : Bool) (same old new : Running) → old ≡ same → Asks job line.text.now Start → (found ≡ true → reply ≡ AtLevel 1) → new.replies ≡ old.replies ++ reply ∷ [] → HasDoneSteps (IsDoneAs line.text.now (Ok Start) reply) job old.sessions new.sessions
+    → OnOkThat {E = ServerFault} (Ok found) (Begins job line same new)
+begun_where job line reply true same old new is asks found replied h = subst (λ (x : Running). Begins job line x new) is (begins job line reply old new asks (found refl) replied h)
+begun_where job line reply false same old new is asks found replied h = tt
 
 -- the same behind a try
 pub begins_again : (job : ℕ) (line : Line) (old middle tried new : Running) → Asks job line.text.now Start → Begins job line old middle → IsBack job line.next.lines.now middle tried → new.sessions ≡ tried.sessions → new.replies ≡ middle.replies → Begins job line old new
 begins_again job line old middle tried new asks h back kept same = record {
-  reply = h.reply;
   replied = same ∙ h.replied;
-  steps = subst (λ (x : SessionsSoFar). HasDoneSteps (AreShown job (lines_of_script line.next.lines.now) (line.text.now ∷ []) (h.reply ∷ [])) job old.sessions x) (sym kept)
-      (shown_tried job line.text.now (lines_of_script line.next.lines.now) h.reply old.sessions middle.sessions tried.sessions asks h.steps back);
+  steps = subst (λ (x : SessionsSoFar). HasDoneSteps (AreShown job (lines_of_script line.next.lines.now) (line.text.now ∷ []) (AtLevel 1 ∷ [])) job old.sessions x) (sym kept)
+      (shown_tried job line.text.now (lines_of_script line.next.lines.now) old.sessions middle.sessions tried.sessions asks h.steps back);
 }
 
 -- the lines behind the TSTART were done
@@ -154,16 +181,39 @@ pub begins_advances : (job : ℕ) (line : Line) (behind : Cursor) (old middle ne
 begins_advances job line behind old middle new h reached = record {
   fewer = reached.fewer;
   serves = serves_then job (line.text.now ∷ lines_of_script line.next.lines.now) (lines_of_script line.next.lines.now) (lines_of_script behind.lines.now) old middle new
-      (record { lines_done = line.text.now ∷ []; their_replies = h.reply ∷ []; split = refl; replied = h.replied; steps = h.steps }) reached.serves;
+      (record { lines_done = line.text.now ∷ []; their_replies = AtLevel 1 ∷ []; split = refl; replied = h.replied; steps = h.steps }) reached.serves;
 }
 
--- the TCOMMIT of a try found that it was overtaken
-pub is_back : (job : ℕ) (text : List ℕ) (place : Cursor) (line : Line) (old middle new : Running) → Reaches job text place old middle → lines_of_script place.lines.now ≡ line.text.now ∷ lines_of_script line.next.lines.now → WasOvertaken job line.text.now middle new → IsBack job text old new
-is_back job text place line old middle new h next over =
-    tried_to job (lines_of_script text) h.serves.lines_done (lines_of_script place.lines.now) (lines_of_script line.next.lines.now) line.text.now h.serves.their_replies over.1 old.sessions middle.sessions new.sessions h.serves.split next over.3 h.serves.steps over.2
+-- none of these lines has ended a transaction, nor of those behind them
+within_then : (job : ℕ) (front back : List (List ℕ)) (replies more : List Reply) → AreWithin job front replies → AreWithin job back more → AreWithin job (front ++ back) (replies ++ more)
+within_then job [] back [] more first second = second
+within_then job [] back (reply ∷ replies) more first second = absurd first
+within_then job (line ∷ front) back [] more first second = absurd first
+within_then job (line ∷ front) back (reply ∷ replies) more first second = (first.0, within_then job front back replies more first.1 second)
 
-pub tried_replies : (job : ℕ) (text line : List ℕ) (place : Cursor) (old middle new : Running) → Reaches job text place old middle → WasOvertaken job line middle new → GoesOnFrom old.replies new.replies
-tried_replies job text line place old middle new h over = (h.serves.their_replies, over.0 ∙ h.serves.replied)
+pub within_none : (job : ℕ) (text : List ℕ) (place : Cursor) (now : Running) → place.lines.now ≡ text → ReachesWithin job text place now now
+unfolding serves_none
+within_none job text place now same = subst (λ (t : List ℕ). ReachesWithin job t place now now) same (record { fewer = omega arith; serves = serves_none job (lines_of_script place.lines.now) now }, tt)
+
+pub within_on : (job : ℕ) (text : List ℕ) (place : Cursor) (line : Line) (behind : Cursor) (old between new : Running) → ReachesWithin job text place old between → lines_of_script place.lines.now ≡ line.text.now ∷ lines_of_script line.next.lines.now
+    → length line.next.lines.now < length place.lines.now → AdvancesWithin job line behind between new → ReachesWithin job text behind old new
+unfolding serves_then
+within_on job text place line behind old between new h first shorter step =
+    let served : ServesWithin job (lines_of_script place.lines.now) (lines_of_script behind.lines.now) between new = subst (λ (ls : List (List ℕ)). ServesWithin job ls (lines_of_script behind.lines.now) between new) (sym first) (step.0.serves, step.1) in (
+      record {
+        fewer = omega (arith, h.0.fewer, shorter, step.0.fewer);
+        serves = serves_then job (lines_of_script text) (lines_of_script place.lines.now) (lines_of_script behind.lines.now) old between new h.0.serves served.0;
+      },
+      within_then job h.0.serves.lines_done served.0.lines_done h.0.serves.their_replies served.0.their_replies h.1 served.1,
+    )
+
+-- a line of a try found that the transaction was overtaken
+pub is_back : (job : ℕ) (text : List ℕ) (place : Cursor) (line : Line) (old middle new : Running) → ReachesWithin job text place old middle → lines_of_script place.lines.now ≡ line.text.now ∷ lines_of_script line.next.lines.now → WasOvertaken job line.text.now middle new → IsBack job text old new
+is_back job text place line old middle new (h, within) next over =
+    tried_to job (lines_of_script text) h.serves.lines_done (lines_of_script place.lines.now) (lines_of_script line.next.lines.now) line.text.now h.serves.their_replies over.1 over.3 old.sessions middle.sessions new.sessions h.serves.split next over.2 within h.serves.steps over.4
+
+pub tried_replies : (job : ℕ) (text line : List ℕ) (place : Cursor) (old middle new : Running) → ReachesWithin job text place old middle → WasOvertaken job line middle new → GoesOnFrom old.replies new.replies
+tried_replies job text line place old middle new h over = (h.0.serves.their_replies, over.0 ∙ h.0.serves.replied)
 
 -- the replies of a try are cut off
 pub cut_back : (old tried now : List Reply) (kept : ℕ) → GoesOnFrom old tried → kept ≡ length old → now ≡ take kept tried → now ≡ old
@@ -176,9 +226,6 @@ cut_back old tried now kept more is cut = cut ∙ (ap (λ (k : ℕ). take k trie
     taken : (front back : List Reply) → take (length front) (front ++ back) ≡ front
     taken [] back = take_zero back
     taken (r ∷ rs) back = ap (λ (l : List Reply). r ∷ l) (taken rs back)
-
-pub reaches_replies : (job : ℕ) (text : List ℕ) (place : Cursor) (old new : Running) → Reaches job text place old new → GoesOnFrom old.replies new.replies
-reaches_replies job text place old new h = (h.serves.their_replies, h.serves.replied)
 
 -- ---- answers and reports
 

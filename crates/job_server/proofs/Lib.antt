@@ -7,6 +7,7 @@ pub mod GoingOn
 pub mod Handing
 pub mod Histories
 pub mod Lasting
+pub mod Levels
 pub mod Loads
 pub mod OneRun
 pub mod Outputs

@@ -1,5 +1,5 @@
 -- What all jobs did is one run of the exact machine, by the law of serial.
-use Rattle.std.proofs.Common.{◌≡◌, ◌⊎◌, inl, inr, ℕ, ◌+◌, ◌^◌, ◌<◌, ◌==◌, Bool, true, false, List, [], ◌∷◌, ◌++◌, length, refl, sym, ap, ◌∙◌, subst, arith, append_assoc, append-nil, eq-eqb, eqb-true}
+use Rattle.std.proofs.Common.{◌≡◌, ◌⊎◌, inl, inr, ℕ, ◌+◌, ◌^◌, ◌<◌, ◌==◌, Bool, true, false, List, [], ◌∷◌, ◌++◌, length, refl, sym, ap, ◌∙◌, subst, append-nil, eq-eqb, eqb-true}
 use Rattle.std.specs.Prelude.{Option, Some, None, IfSome, if◌then◌else◌}
 use Rattle.std.specs.List.{All, sum_by}
 use Rattle.std.proofs.lemmas.List.Elements.{All-nil, All-cons, All-head, All-tail, All-append}
@@ -22,7 +22,7 @@ use Rattle.loading.specs.Settings.{Setting}
 use Rattle.job_server.specs.Steps.{past, sessions_so_far, none_since, AreBefore, AreSteps, HasRunScript}
 use Rattle.job_server.specs.Loads.{load_books, HasRunLoad}
 use Rattle.job_server.specs.Served.{Wanted, AreOfJob, IsLoadedBy, IsShownAs, IsReport, AreShownAll, IsRun, IsNoJobOf, AreApart, HasRunAs, HaveRun, all_of}
-use Rattle.job_server.proofs.Histories.{Laws, IsToldAll, all_told, joined_steps, wrote_more}
+use Rattle.job_server.proofs.Histories.{Laws, all_told, joined_steps, wrote_more}
 
 -- ---- the steps of a job among others
 

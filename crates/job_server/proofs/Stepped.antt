@@ -1,11 +1,12 @@
 -- What a call of the engine answered is a step of its session.
-use Rattle.std.proofs.Common.{◌≡◌, ◌⊎◌, inl, inr, ℕ, ◌+◌, ◌-◌, ◌≤◌, ◌<◌, Bool, true, false, List, refl, sym, ap, subst, arith, length, true≢false}
+use Rattle.std.proofs.Common.{◌≡◌, ◌≢◌, ◌⊎◌, inl, inr, ℕ, ◌+◌, ◌-◌, ◌≤◌, ◌<◌, Bool, true, false, List, refl, sym, ap, subst, arith, length, true≢false}
 use Rattle.std.specs.Prelude.{Option, Some, None, Result, Ok, Err, IfSome, IsSome, IfOk, IfErr, OnOk, OnErr}
 use Rattle.refusal.specs.declared.Refusal.{Refusal}
 use Rattle.refusal.specs.declared.Refusal.TheVariants.{NoTransaction, LevelTooDeep, TransactionTooLong}
 use Rattle.collation.specs.Limits.{most_commands, most_levels}
 use Rattle.collation.specs.Database.{Database}
 use Rattle.lock_name.specs.declared.lock.LockCommand.{LockCommand}
+use Rattle.lock_name.specs.declared.lock.LockCommand.TheVariants.{Release, Only, More, Fewer}
 use Rattle.command.specs.declared.access.DataCommand.{DataCommand}
 use Rattle.command.specs.declared.access.DataCommand.TheVariants.{Set, Kill, Merge, Increment, Look}
 use Rattle.command.specs.declared.access.Answer.{Answer}
@@ -14,7 +15,7 @@ use Rattle.command.specs.Data.{data_refusal, data_reply}
 use Rattle.command.specs.declared.request.Command.{Command}
 use Rattle.command.specs.declared.request.Command.TheVariants.{Access, Lock as lock_command, Start, Commit, Rollback, Restart, Level, Restarts, Halt}
 use Rattle.command.specs.declared.request.Reply.{Reply}
-use Rattle.command.specs.declared.request.Reply.TheVariants.{Answered, Finished, Count, AtLevel, Restarted as restarted_reply, Refused}
+use Rattle.command.specs.declared.request.Reply.TheVariants.{Answered, Finished, Had, Count, AtLevel, Restarted as restarted_reply, Refused}
 use Rattle.globals.specs.Answering.{early_refusal}
 use Rattle.journal.specs.declared.unit.Unit.{Unit as JournalUnit}
 use Rattle.journal.specs.History.{initial, after}
@@ -136,15 +137,36 @@ written_stepped command done result old new w one at written same others refused
 tried_once : (command : LockCommand) (result : Result Bool Refusal) (old new : Held) → WasTried command result old new → IsDoneOnce (lock_command command) (said (told_had command) result) old new
 tried_once command result old new h = (h.0, h.1, λ stands. inl (result, refl, h.2))
 
-tried_twice : (command : LockCommand) (result : Result Bool Refusal) (old new : Held) → WasTriedAgain command result old new → WasDoneBy (lock_command command) (said (told_had command) result) old new
-tried_twice command result old new h = inr (command, refl, h.0, tried_once command (Ok false) old h.0 h.1, tried_once command result h.0 new h.2)
+-- no LOCK without names is ever blocked
+blocked_had : (command : LockCommand) (old new : Held) → WasTried command (Ok false) old new → told_had command false ≡ Had false
+blocked_had Release old new h = absurd (true≢false (sym h.2.0.0))
+blocked_had (Only names) old new h = refl
+blocked_had (More names) old new h = refl
+blocked_had (Fewer names) old new h = refl
+
+-- nor is one that has its names
+had_other : (command : LockCommand) → told_had command true ≢ Had false
+had_other Release is = absurd (cc)
+had_other (Only names) is = absurd (cc)
+had_other (More names) is = absurd (cc)
+had_other (Fewer names) is = absurd (cc)
+
+tried_twice : (command : LockCommand) (result : Result Bool Refusal) (old new : Held) → said (told_had command) result ≢ Had false → WasTriedAgain command result old new → WasDoneBy (lock_command command) (said (told_had command) result) old new
+tried_twice command result old new other h = inr (
+  command,
+  refl,
+  h.0,
+  subst (λ (r : Reply). IsDoneOnce (lock_command command) r old h.0) (blocked_had command old h.0 h.1) (tried_once command (Ok false) old h.0 h.1),
+  other,
+  tried_once command result h.0 new h.2,
+)
 
 pub locked_stepped : (command : LockCommand) (result : Result Bool Refusal) (old new : Held) → HasLocked command result old new → WasDoneBy (lock_command command) (said (told_had command) result) old new
 locked_stepped command (Ok true) old new (inl h) = inl (tried_once command (Ok true) old new h)
-locked_stepped command (Ok true) old new (inr h) = tried_twice command (Ok true) old new h
+locked_stepped command (Ok true) old new (inr h) = tried_twice command (Ok true) old new (had_other command) h
 locked_stepped command (Ok false) old new h = inl (tried_once command (Ok false) old new h)
 locked_stepped command (Err refusal) old new (inl h) = inl (tried_once command (Err refusal) old new h)
-locked_stepped command (Err refusal) old new (inr h) = tried_twice command (Err refusal) old new h
+locked_stepped command (Err refusal) old new (inr h) = tried_twice command (Err refusal) old new (λ is. absurd (cc)) h
 
 -- ---- TSTART
 

@@ -1,18 +1,17 @@
 -- Steps of a job, one behind the other, and how replies show them.
-use Rattle.std.proofs.Common.{◌≡◌, ◌⊎◌, inl, inr, ℕ, ◌+◌, ◌≤◌, List, [], ◌∷◌, ◌++◌, length, get_or, true, false, refl, sym, ap, ◌∙◌, subst, arith, append_assoc, append-nil}
-use Rattle.std.specs.Prelude.{⊤, Bool, Option, Some, None}
+use Rattle.std.proofs.Common.{◌≡◌, ◌≢◌, ◌⊎◌, inl, inr, ℕ, ◌≤◌, List, [], ◌∷◌, ◌++◌, length, get_or, true, false, refl, sym, ap, ◌∙◌, subst, arith, append_assoc, append-nil}
+use Rattle.std.specs.Prelude.{⊤, Bool, Option, Some, None, Result, Ok, Err}
 use Rattle.std.specs.List.{All}
-use Rattle.std.proofs.lemmas.List.Elements.{All-nil, All-cons, All-push, All-append, All-same}
+use Rattle.std.proofs.lemmas.List.Elements.{All-nil, All-cons, All-append, All-same}
 use Rattle.refusal.specs.declared.Refusal.{Refusal}
 use Rattle.lock_name.specs.declared.lock.LockCommand.{LockCommand}
 use Rattle.command.specs.declared.access.DataCommand.{DataCommand}
 use Rattle.command.specs.declared.request.Command.{Command}
-use Rattle.command.specs.declared.request.Command.TheVariants.{Access, Lock as lock_command, Start, Commit, Restart, Halt}
+use Rattle.command.specs.declared.request.Command.TheVariants.{Access, Lock as lock_command, Start, Commit, Rollback, Restart, Halt}
 use Rattle.command.specs.declared.request.Reply.{Reply}
-use Rattle.command.specs.declared.request.Reply.TheVariants.{Finished, Restarted, Refused}
+use Rattle.command.specs.declared.request.Reply.TheVariants.{Finished, Had, AtLevel, Committed, Restarted, Refused}
 use Rattle.journal.specs.declared.unit.Unit.{Unit as JournalUnit}
 use Rattle.serial.specs.Interleaving.{Told}
-use Rattle.serial.specs.Machine.{told_had}
 use Rattle.job_core.specs.Sessions.{idle}
 use Rattle.pin_board.specs.Slips.{IsBeginning}
 use Rattle.shared_engine.specs.Receipts.{Book}
@@ -24,7 +23,8 @@ use Rattle.shared_engine.specs.laws.Seen.{done_seen}
 use Rattle.job_scripts.specs.Blocks.{in_place, AreAsked, AreMusts, AreInFront}
 use Rattle.job_scripts.specs.Lines.{Asks}
 use Rattle.job_scripts.specs.Timeouts.{timeout_in}
-use Rattle.job_server.specs.Steps.{Past, and_book, SessionsSoFar, sessions_so_far, KnowsMore, IsDoneOnce, WasDoneBy, AreBefore, IsOver, IsBetweenIn, IsBetween, AreSteps, HasDoneSteps, IsNoStep, MayWait, IsReplied, IsHad, IsShownBy, OneAsks, IsOfTry, EndAnew, AreTries, AreShown, AreShownToEnd}
+use Rattle.job_server.specs.Steps.{Past, and_book, SessionsSoFar, sessions_so_far, KnowsMore, IsDoneOnce, WasDoneBy, AreBefore, IsOver, IsBetweenIn, IsBetween, IsStepIn, AreSteps, HasDoneSteps, IsNoStep, IsStepWith, IsReplied, IsHad, IsShownBy, OneAsks, IsNoEnd, IsOfTry, EndWith, AreTries, AreShown, AreShownToEnd}
+use Rattle.job_server.specs.Telling.{AreWithin}
 use Rattle.job_server.proofs.Lasting.{no_restart}
 
 -- ---- between two steps
@@ -117,12 +117,12 @@ one_call job p command reply old new (inr twice) = absurd (no_lock twice.0 twice
 pub call_steps : (job : ℕ) (p : Past) (command : Command) (reply : Reply) (old new : Held) → WasDoneBy command reply old new → HasDoneSteps (IsReplied command reply) job (sessions_so_far p (Some old)) (sessions_so_far p (Some new))
 call_steps job p command reply old new (inl once) =
     let step = one_step job p command reply old new once in
-    (step.0 ∷ [], record { before = []; last = step.0; steps = refl; waits = tt; command_is = step.1.0; reply_is = step.1.1 }, step.2)
+    (step.0 ∷ [], step.1, step.2)
 call_steps job p command reply old new (inr twice) =
-    let first = one_step job p command (told_had twice.0 false) old twice.2 twice.3 in
-    let second = one_step job p command reply twice.2 new twice.4 in (
+    let first = one_step job p command (Had false) old twice.2 twice.3 in
+    let second = one_step job p command reply twice.2 new twice.5 in (
       first.0 ∷ (second.0 ∷ []),
-      record { before = first.0 ∷ []; last = second.0; steps = refl; waits = ((first.1.0, twice.0, twice.1, first.1.1), refl); command_is = second.1.0; reply_is = second.1.1 },
+      (first.1, second.1, twice.4, refl),
       steps_then job (first.0 ∷ []) (second.0 ∷ []) (sessions_so_far p (Some old)) (sessions_so_far p (Some twice.2)) (sessions_so_far p (Some new)) first.2 second.2,
     )
 
@@ -157,7 +157,7 @@ had_where line must reply timed had none = subst (λ (b : Bool). is_blocked b re
 
 -- no try
 no_tries : (job : ℕ) (all : List (List ℕ)) → AreTries job all []
-no_tries job all = record { asked = All-nil (IsOfTry job all); anew = tt }
+no_tries job all = (All-nil (IsOfTry job all), tt)
 
 -- the lines that ask for the commands show them
 pub block_shown : (job : ℕ) (left lines : List (List ℕ)) (places : List (Option Refusal)) (commands : List Command) (musts : List Bool) (replies : List Reply) (units more : List JournalUnit) (old new : Held) (xs : List Told)
@@ -179,7 +179,7 @@ block_shown job left (line ∷ lines) (None ∷ places) (command ∷ commands) (
   [],
   xs,
   refl,
-  inr (command, asked.0, had_where line must reply timed.0 had.0, no_restart command reply units done.0 old done.1 done.2, record { before = []; last = x; steps = refl; waits = tt; command_is = steps.0.0; reply_is = steps.0.1 }),
+  inr (command, asked.0, had_where line must reply timed.0 had.0, no_restart command reply units done.0 old done.1 done.2, steps.0),
   inr refl,
   no_tries job (lines ++ left),
   block_shown job left lines places commands musts replies done.0 more done.1 new xs asked.1 timed.1 done.3 had.1 steps.1,
@@ -215,32 +215,39 @@ abbrev pub AsksOf : ℕ → List (List ℕ) → List (List ℕ) → Type 0
 AsksOf job lines others = (command : Command) → OneAsks job lines command → OneAsks job others command
 
 of_try_more : (job : ℕ) (lines others : List (List ℕ)) (x : Told) → AsksOf job lines others → IsOfTry job lines x → IsOfTry job others x
-of_try_more job lines others x each (inl anew) = inl anew
-of_try_more job lines others x each (inr asks) = inr (each x.command asks)
+of_try_more job lines others x each (asked, none) = (by_asked asked, none)
+  where
+    by_asked : (x.command ≡ Restart) ⊎ OneAsks job lines x.command → (x.command ≡ Restart) ⊎ OneAsks job others x.command
+    by_asked (inl anew) = inl anew
+    by_asked (inr asks) = inr (each x.command asks)
 
 all_more : (job : ℕ) (lines others : List (List ℕ)) (xs : List Told) → AsksOf job lines others → All (IsOfTry job lines) xs → All (IsOfTry job others) xs
 all_more job lines others xs each all k x lt = of_try_more job lines others (get_or xs k x) each (all k x lt)
 
 -- ---- tries
 
-end_then : (xs ys : List Told) → EndAnew xs → EndAnew ys → EndAnew (xs ++ ys)
-end_then [] ys first second = second
-end_then (x ∷ []) [] first second = first
-end_then (x ∷ []) (y ∷ ys) first second = second
-end_then (x ∷ (z ∷ zs)) ys first second = end_then (z ∷ zs) ys first second
+-- the step began the transaction anew
+abbrev pub IsAnew : Told → Type 0
+IsAnew x = (restarts : ℕ) × (x.reply ≡ Restarted restarts)
+
+end_then : (is : Told → Type 0) (xs ys : List Told) → EndWith is xs → EndWith is ys → EndWith is (xs ++ ys)
+end_then is [] ys first second = second
+end_then is (x ∷ []) [] first second = first
+end_then is (x ∷ []) (y ∷ ys) first second = second
+end_then is (x ∷ (z ∷ zs)) ys first second = end_then is (z ∷ zs) ys first second
 
 pub tries_then : (job : ℕ) (lines : List (List ℕ)) (xs ys : List Told) → AreTries job lines xs → AreTries job lines ys → AreTries job lines (xs ++ ys)
-tries_then job lines xs ys first second = record { asked = All-append (IsOfTry job lines) xs ys first.asked second.asked; anew = end_then xs ys first.anew second.anew }
+tries_then job lines xs ys first second = (All-append (IsOfTry job lines) xs ys first.0 second.0, end_then IsAnew xs ys first.1 second.1)
 
 -- steps of which the last began the transaction anew
-end_by : (xs ys : List Told) → EndAnew ys → (ys ≡ [] → ⊥) → EndAnew (xs ++ ys)
-end_by [] ys anew some = anew
-end_by (x ∷ []) [] anew some = absurd (some refl)
-end_by (x ∷ []) (y ∷ ys) anew some = anew
-end_by (x ∷ (z ∷ zs)) ys anew some = end_by (z ∷ zs) ys anew some
+end_by : (is : Told → Type 0) (xs ys : List Told) → EndWith is ys → (ys ≡ [] → ⊥) → EndWith is (xs ++ ys)
+end_by is [] ys anew some = anew
+end_by is (x ∷ []) [] anew some = absurd (some refl)
+end_by is (x ∷ []) (y ∷ ys) anew some = anew
+end_by is (x ∷ (z ∷ zs)) ys anew some = end_by is (z ∷ zs) ys anew some
 
 pub tries_by : (job : ℕ) (lines : List (List ℕ)) (xs ys : List Told) → All (IsOfTry job lines) xs → AreTries job lines ys → (ys ≡ [] → ⊥) → AreTries job lines (xs ++ ys)
-tries_by job lines xs ys all last some = record { asked = All-append (IsOfTry job lines) xs ys all last.asked; anew = end_by xs ys last.anew some }
+tries_by job lines xs ys all last some = (All-append (IsOfTry job lines) xs ys all last.0, end_by IsAnew xs ys last.1 some)
 
 -- ---- the end of a session
 
@@ -251,9 +258,18 @@ halt_call job p now h goes_on =
 
 pub halt_steps : (job : ℕ) (p : Past) (now : List JournalUnit) (h : Held) → IsBeginning now h.seen → HasDoneSteps (IsReplied Halt Finished) job (sessions_so_far p (Some h)) (sessions_so_far (and_book p (halted now h)) None)
 halt_steps job p now h goes_on =
-    let x = halt_call job p now h goes_on in (x.0 ∷ [], record { before = []; last = x.0; steps = refl; waits = tt; command_is = x.1.0; reply_is = x.1.1 }, x.2)
+    let x = halt_call job p now h goes_on in (x.0 ∷ [], x.1, x.2)
 
--- ---- lines behind others
+-- ---- lines that ask
+
+-- the command of what was read
+abbrev command_in : Result (ℕ × Command) Refusal → Command → Command
+command_in (Ok step) other = step.1
+command_in (Err refusal) other = other
+
+-- a line asks for one command
+pub asks_once : (job : ℕ) (line : List ℕ) (a b : Command) → Asks job line a → Asks job line b → a ≡ b
+asks_once job line a b first second = ap (λ (r : Result (ℕ × Command) Refusal). command_in r a) (sym first ∙ second)
 
 one_behind : (job : ℕ) (front back : List (List ℕ)) (command : Command) → OneAsks job back command → OneAsks job (front ++ back) command
 one_behind job [] back command h = h
@@ -271,49 +287,80 @@ shown_behind job left front middle back replies more a b c split h k =
 
 -- ---- what tries are made of
 
--- a command that is replied
-replied_of : (job : ℕ) (lines : List (List ℕ)) (command : Command) (reply : Reply) (xs : List Told) → ((x : Told) → x.command ≡ command → IsOfTry job lines x) → IsReplied command reply xs → All (IsOfTry job lines) xs
-replied_of job lines command reply xs each h = All-same (IsOfTry job lines) xs (h.before ++ h.last ∷ []) h.steps (All-push (IsOfTry job lines) h.before h.last (waited h.before h.waits) (each h.last h.command_is))
+-- one of the lines asks for it, or the server does
+abbrev pub IsAskedIn : ℕ → List (List ℕ) → Command → Type 0
+IsAskedIn job lines command = (command ≡ Restart) ⊎ OneAsks job lines command
+
+of_try : (job : ℕ) (lines : List (List ℕ)) (command : Command) (reply : Reply) (x : Told) → IsAskedIn job lines command → IsNoEnd command reply → IsStepWith command reply x → IsOfTry job lines x
+of_try job lines command reply x asked none is = (
+  subst (IsAskedIn job lines) (sym is.0) asked,
+  subst (λ (c : Command). IsNoEnd c x.reply) (sym is.0) (subst (IsNoEnd command) (sym is.1) none),
+)
+
+-- replies that end no transaction
+pub other_no_end : (command : Command) (reply : Reply) → reply ≢ Committed → reply ≢ Finished → IsNoEnd command reply
+other_no_end command reply uncommitted undone = ((λ is. uncommitted), (λ is. undone))
+
+had_no_end : (command : Command) (had : Bool) → IsNoEnd command (Had had)
+had_no_end command had = other_no_end command (Had had) (λ e. absurd (cc)) (λ e. absurd (cc))
+
+anew_no_end : (command : Command) (restarts : ℕ) → IsNoEnd command (Restarted restarts)
+anew_no_end command restarts = other_no_end command (Restarted restarts) (λ e. absurd (cc)) (λ e. absurd (cc))
+
+pub refused_no_end : (command : Command) (refusal : Refusal) → IsNoEnd command (Refused refusal)
+refused_no_end command refusal = other_no_end command (Refused refusal) (λ e. absurd (cc)) (λ e. absurd (cc))
+
+-- commands that end none
+pub command_no_end : (command : Command) (reply : Reply) → command ≢ Commit → command ≢ Rollback → command ≢ Halt → IsNoEnd command reply
+command_no_end command reply no_commit no_rollback no_halt = ((λ is. absurd (no_commit is)), either)
   where
-    waited : (ys : List Told) → MayWait command ys → All (IsOfTry job lines) ys
-    waited [] may = All-nil (IsOfTry job lines)
-    waited (y ∷ ys) may = All-cons (IsOfTry job lines) y ys (each y may.0.0) (All-same (IsOfTry job lines) ys [] may.1 (All-nil (IsOfTry job lines)))
+    either : (command ≡ Rollback) ⊎ (command ≡ Halt) → reply ≢ Finished
+    either (inl is) = absurd (no_rollback is)
+    either (inr is) = absurd (no_halt is)
 
-asked_of : (job : ℕ) (lines : List (List ℕ)) (command : Command) → OneAsks job lines command → (x : Told) → x.command ≡ command → IsOfTry job lines x
-asked_of job lines command asks x is = inr (subst (OneAsks job lines) (sym is) asks)
+pub lock_no_end : (command : LockCommand) (reply : Reply) → IsNoEnd (lock_command command) reply
+lock_no_end command reply = command_no_end (lock_command command) reply (λ e. absurd (cc)) (λ e. absurd (cc)) (λ e. absurd (cc))
 
-restart_of : (job : ℕ) (lines : List (List ℕ)) (x : Told) → x.command ≡ Restart → IsOfTry job lines x
-restart_of job lines x is = inl is
+-- a command that is replied
+replied_of : (job : ℕ) (lines : List (List ℕ)) (command : Command) (reply : Reply) (xs : List Told) → IsAskedIn job lines command → IsNoEnd command reply → IsReplied command reply xs → All (IsOfTry job lines) xs
+replied_of job lines command reply [] asked none h = absurd h
+replied_of job lines command reply (x ∷ []) asked none h = All-cons (IsOfTry job lines) x [] (of_try job lines command reply x asked none h) (All-nil (IsOfTry job lines))
+replied_of job lines command reply (x ∷ (y ∷ ys)) asked none h =
+    All-cons (IsOfTry job lines) x (y ∷ ys) (of_try job lines command (Had false) x asked (had_no_end command false) h.0)
+    (All-cons (IsOfTry job lines) y ys (of_try job lines command reply y asked none h.1) (All-same (IsOfTry job lines) ys [] h.3 (All-nil (IsOfTry job lines))))
 
 -- lines that are shown, of all that ask
-shown_asked : (job : ℕ) (all left lines : List (List ℕ)) (replies : List Reply) (xs : List Told) → AsksOf job (lines ++ left) all → AreShown job left lines replies xs → All (IsOfTry job all) xs
-shown_asked job all left [] [] xs each h = All-same (IsOfTry job all) xs [] h (All-nil (IsOfTry job all))
-shown_asked job all left [] (reply ∷ replies) xs each h = absurd h
-shown_asked job all left (line ∷ lines) [] xs each h = absurd h
-shown_asked job all left (line ∷ lines) (reply ∷ replies) xs each h =
+shown_asked : (job : ℕ) (all left lines : List (List ℕ)) (replies : List Reply) (xs : List Told) → AsksOf job (lines ++ left) all → AreWithin job lines replies → AreShown job left lines replies xs → All (IsOfTry job all) xs
+shown_asked job all left [] [] xs each within h = All-same (IsOfTry job all) xs [] h (All-nil (IsOfTry job all))
+shown_asked job all left [] (reply ∷ replies) xs each within h = absurd h
+shown_asked job all left (line ∷ lines) [] xs each within h = absurd h
+shown_asked job all left (line ∷ lines) (reply ∷ replies) xs each within h =
     All-same (IsOfTry job all) xs (h.0 ++ (h.1 ++ h.2)) h.3
-    (All-append (IsOfTry job all) h.0 (h.1 ++ h.2) (own h.4) (All-append (IsOfTry job all) h.1 h.2 (all_more job (lines ++ left) all h.1 (λ command asks. each command (inr asks)) h.6.asked) (shown_asked job all left lines replies h.2 (λ command asks. each command (inr asks)) h.7)))
+    (All-append (IsOfTry job all) h.0 (h.1 ++ h.2) (own h.4)
+    (All-append (IsOfTry job all) h.1 h.2 (all_more job (lines ++ left) all h.1 (λ command asks. each command (inr asks)) h.6.0) (shown_asked job all left lines replies h.2 (λ command asks. each command (inr asks)) within.1 h.7)))
   where
     own : IsShownBy job line reply h.0 → All (IsOfTry job all) h.0
     own (inl none) = All-same (IsOfTry job all) h.0 [] none.3 (All-nil (IsOfTry job all))
-    own (inr asked) = replied_of job all asked.0 reply h.0 (asked_of job all asked.0 (each asked.0 (inl asked.1))) asked.4
+    own (inr asked) = replied_of job all asked.0 reply h.0 (inr (each asked.0 (inl asked.1))) (within.0 asked.0 asked.1) asked.4
 
 -- tries up to one that began the transaction anew
 pub record AreTriesTo (job : ℕ) (lines : List (List ℕ)) (xs : List Told) : Type 0 where
   pub tries : AreTries job lines xs
   pub some : xs ≡ [] → ⊥
 
-not_empty : (xs : List Told) (x : Told) → xs ++ x ∷ [] ≡ [] → ⊥
-not_empty [] x e = absurd (cc)
-not_empty (y ∷ ys) x e = absurd (cc)
+replied_anew : (command : Command) (restarts : ℕ) (xs : List Told) → IsReplied command (Restarted restarts) xs → EndWith IsAnew xs
+replied_anew command restarts [] h = absurd h
+replied_anew command restarts (x ∷ []) h = (restarts, h.1)
+replied_anew command restarts (x ∷ (y ∷ ys)) h = subst (λ (zs : List Told). EndWith IsAnew (y ∷ zs)) (sym h.3) (restarts, h.1.1)
 
-replied_to : (job : ℕ) (lines : List (List ℕ)) (command : Command) (restarts : ℕ) (xs : List Told) → ((x : Told) → x.command ≡ command → IsOfTry job lines x) → IsReplied command (Restarted restarts) xs → AreTriesTo job lines xs
-replied_to job lines command restarts xs each h = record {
-  tries = record {
-    asked = replied_of job lines command (Restarted restarts) xs each h;
-    anew = subst EndAnew (sym h.steps) (end_by h.before (h.last ∷ []) (restarts, h.reply_is) (λ e. not_empty [] h.last e));
-  };
-  some = λ none. not_empty h.before h.last (sym h.steps ∙ none);
+replied_some : (command : Command) (reply : Reply) (xs : List Told) → IsReplied command reply xs → xs ≡ [] → ⊥
+replied_some command reply [] h none = absurd h
+replied_some command reply (x ∷ xs) h none = absurd (cc)
+
+replied_to : (job : ℕ) (lines : List (List ℕ)) (command : Command) (restarts : ℕ) (xs : List Told) → IsAskedIn job lines command → IsReplied command (Restarted restarts) xs → AreTriesTo job lines xs
+replied_to job lines command restarts xs asked h = record {
+  tries = (replied_of job lines command (Restarted restarts) xs asked (anew_no_end command restarts) h, replied_anew command restarts xs h);
+  some = λ none. replied_some command (Restarted restarts) xs h none;
 }
 
 tries_to : (job : ℕ) (lines : List (List ℕ)) (a b c : SessionsSoFar) → HasDoneSteps (All (IsOfTry job lines)) job a b → HasDoneSteps (AreTriesTo job lines) job b c → HasDoneSteps (AreTriesTo job lines) job a c
@@ -328,26 +375,26 @@ tries_to job lines a b c h k = (
     back_none (x ∷ xs) ys e = absurd (cc)
 
 all_tried : (job : ℕ) (lines : List (List ℕ)) (a b : SessionsSoFar) → HasDoneSteps (AreTriesTo job lines) job a b → HasDoneSteps (All (IsOfTry job lines)) job a b
-all_tried job lines a b h = (h.0, h.1.tries.asked, h.2)
+all_tried job lines a b h = (h.0, h.1.tries.0, h.2)
 
 pub tries_done : (job : ℕ) (lines : List (List ℕ)) (a b : SessionsSoFar) → HasDoneSteps (AreTriesTo job lines) job a b → HasDoneSteps (AreTries job lines) job a b
 tries_done job lines a b h = (h.0, h.1.tries, h.2)
 
--- a TCOMMIT of one of the lines found that it was overtaken
-pub tried_to : (job : ℕ) (lines front left next : List (List ℕ)) (line : List ℕ) (replies : List Reply) (restarts : ℕ) (a b c : SessionsSoFar) → lines ≡ front ++ left → left ≡ line ∷ next → Asks job line Commit → HasDoneSteps (AreShown job left front replies) job a b
-    → HasDoneSteps (IsReplied Commit (Restarted restarts)) job b c → HasDoneSteps (AreTries job lines) job a c
-tried_to job lines front left next line replies restarts a b c split first asks h k =
+-- the command of one of the lines began the transaction anew, and those in front of it ended none
+pub tried_to : (job : ℕ) (lines front left next : List (List ℕ)) (line : List ℕ) (replies : List Reply) (command : Command) (restarts : ℕ) (a b c : SessionsSoFar) → lines ≡ front ++ left → left ≡ line ∷ next → Asks job line command → AreWithin job front replies
+    → HasDoneSteps (AreShown job left front replies) job a b → HasDoneSteps (IsReplied command (Restarted restarts)) job b c → HasDoneSteps (AreTries job lines) job a c
+tried_to job lines front left next line replies command restarts a b c split first asks within h k =
     tries_done job lines a c
-    (tries_to job lines a b c (h.0, shown_asked job lines left front replies h.0 (λ command one. subst (λ (ls : List (List ℕ)). OneAsks job ls command) (sym split) one) h.1, h.2)
-    (k.0, replied_to job lines Commit restarts k.0 (asked_of job lines Commit here) k.1, k.2))
+    (tries_to job lines a b c (h.0, shown_asked job lines left front replies h.0 (λ other one. subst (λ (ls : List (List ℕ)). OneAsks job ls other) (sym split) one) within h.1, h.2)
+    (k.0, replied_to job lines command restarts k.0 (inr here) k.1, k.2))
   where
-    here : OneAsks job lines Commit
-    here = subst (λ (ls : List (List ℕ)). OneAsks job ls Commit) (sym (split ∙ ap (λ (ls : List (List ℕ)). front ++ ls) first)) (one_behind job front (line ∷ next) Commit (inl asks))
+    here : OneAsks job lines command
+    here = subst (λ (ls : List (List ℕ)). OneAsks job ls command) (sym (split ∙ ap (λ (ls : List (List ℕ)). front ++ ls) first)) (one_behind job front (line ∷ next) command (inl asks))
 
 -- a TRESTART by the server
 pub restart_tries : (job : ℕ) (lines : List (List ℕ)) (p : Past) (restarts : ℕ) (old new : Held) → WasDoneBy Restart (Restarted restarts) old new → HasDoneSteps (AreTriesTo job lines) job (sessions_so_far p (Some old)) (sessions_so_far p (Some new))
 restart_tries job lines p restarts old new done =
-    shows_other (IsReplied Restart (Restarted restarts)) (AreTriesTo job lines) job (sessions_so_far p (Some old)) (sessions_so_far p (Some new)) (λ xs replied. replied_to job lines Restart restarts xs (restart_of job lines) replied)
+    shows_other (IsReplied Restart (Restarted restarts)) (AreTriesTo job lines) job (sessions_so_far p (Some old)) (sessions_so_far p (Some new)) (λ xs replied. replied_to job lines Restart restarts xs (inl refl) replied)
     (call_steps job p Restart (Restarted restarts) old new done)
 
 -- the lines ask for all of the commands
@@ -368,13 +415,20 @@ asked_in_front : (job : ℕ) (lines : List (List ℕ)) (front back : List Comman
 asked_in_front job lines [] back h = tt
 asked_in_front job lines (command ∷ front) back h = (h.0, asked_in_front job lines front back h.1)
 
-steps_asked : (job : ℕ) (lines : List (List ℕ)) (commands : List Command) (replies : List Reply) (xs : List Told) → AreAllAsked job lines commands → AreStepsFor commands replies xs → All (IsOfTry job lines) xs
-steps_asked job lines [] [] [] asked steps = All-nil (IsOfTry job lines)
-steps_asked job lines [] [] (x ∷ xs) asked steps = absurd steps
-steps_asked job lines [] (reply ∷ replies) xs asked steps = absurd steps
-steps_asked job lines (command ∷ commands) [] xs asked steps = absurd steps
-steps_asked job lines (command ∷ commands) (reply ∷ replies) [] asked steps = absurd steps
-steps_asked job lines (command ∷ commands) (reply ∷ replies) (x ∷ xs) asked steps = All-cons (IsOfTry job lines) x xs (asked_of job lines command asked.0 x steps.0.0) (steps_asked job lines commands replies xs asked.1 steps.1)
+-- none of the commands has ended a transaction
+abbrev pub AreNoEnds : List Command → List Reply → Type 0
+AreNoEnds [] replies = ⊤
+AreNoEnds (command ∷ commands) [] = ⊤
+AreNoEnds (command ∷ commands) (reply ∷ replies) = IsNoEnd command reply × AreNoEnds commands replies
+
+steps_asked : (job : ℕ) (lines : List (List ℕ)) (commands : List Command) (replies : List Reply) (xs : List Told) → AreAllAsked job lines commands → AreNoEnds commands replies → AreStepsFor commands replies xs → All (IsOfTry job lines) xs
+steps_asked job lines [] [] [] asked none steps = All-nil (IsOfTry job lines)
+steps_asked job lines [] [] (x ∷ xs) asked none steps = absurd steps
+steps_asked job lines [] (reply ∷ replies) xs asked none steps = absurd steps
+steps_asked job lines (command ∷ commands) [] xs asked none steps = absurd steps
+steps_asked job lines (command ∷ commands) (reply ∷ replies) [] asked none steps = absurd steps
+steps_asked job lines (command ∷ commands) (reply ∷ replies) (x ∷ xs) asked none steps =
+    All-cons (IsOfTry job lines) x xs (of_try job lines command reply x (inr asked.0) none.0 steps.0) (steps_asked job lines commands replies xs asked.1 none.1 steps.1)
 
 -- those of a block
 pub front_asked : (job : ℕ) (all rest : List (List ℕ)) (places : List (Option Refusal)) (commands : List Command) (musts : List Bool) → AreInFront job all rest places commands musts → AreAllAsked job all commands
@@ -382,17 +436,17 @@ front_asked job all rest places commands musts h =
     commands_asked job all h.front places commands (λ command one. subst (λ (ls : List (List ℕ)). OneAsks job ls command) (sym h.split) (one_front job h.front rest command one)) h.asked
 
 pub cut_tries : (job : ℕ) (p : Past) (all rest : List (List ℕ)) (places : List (Option Refusal)) (musts : List Bool) (commands front back : List Command) (replies : List Reply) (units more : List JournalUnit) (old new : Held) → AreInFront job all rest places commands musts → commands ≡ front ++ back
-    → old.seen ≡ units → AreDone front replies units more old new → HasDoneSteps (All (IsOfTry job all)) job (sessions_so_far p (Some old)) (sessions_so_far p (Some new))
-cut_tries job p all rest places musts commands front back replies units more old new in_front split seen done =
+    → AreNoEnds front replies → old.seen ≡ units → AreDone front replies units more old new → HasDoneSteps (All (IsOfTry job all)) job (sessions_so_far p (Some old)) (sessions_so_far p (Some new))
+cut_tries job p all rest places musts commands front back replies units more old new in_front split none seen done =
     let asked : AreAllAsked job all commands = front_asked job all rest places commands musts in_front in
     shows_other (AreStepsFor front replies) (All (IsOfTry job all)) job (sessions_so_far p (Some old)) (sessions_so_far p (Some new))
-    (λ xs steps. steps_asked job all front replies xs (asked_in_front job all front back (subst (AreAllAsked job all) split asked)) steps)
+    (λ xs steps. steps_asked job all front replies xs (asked_in_front job all front back (subst (AreAllAsked job all) split asked)) none steps)
     (block_steps job p front replies units more old new seen done)
 
 pub lock_tries : (job : ℕ) (p : Past) (lines : List (List ℕ)) (command : LockCommand) (reply : Reply) (old new : Held) → OneAsks job lines (lock_command command) → WasDoneBy (lock_command command) reply old new → HasDoneSteps (All (IsOfTry job lines)) job (sessions_so_far p (Some old)) (sessions_so_far p (Some new))
 lock_tries job p lines command reply old new asks done =
     shows_other (IsReplied (lock_command command) reply) (All (IsOfTry job lines)) job (sessions_so_far p (Some old)) (sessions_so_far p (Some new))
-    (λ xs replied. replied_of job lines (lock_command command) reply xs (asked_of job lines (lock_command command) asks) replied) (call_steps job p (lock_command command) reply old new done)
+    (λ xs replied. replied_of job lines (lock_command command) reply xs (inr asks) (lock_no_end command reply) replied) (call_steps job p (lock_command command) reply old new done)
 
 -- a block that began anew was cut, and then its LOCK was waited for
 pub waited_tries : (job : ℕ) (lines : List (List ℕ)) (a b c d e f : SessionsSoFar) → HasDoneSteps (AreTriesTo job lines) job a b → HasDoneSteps (All (IsOfTry job lines)) job b c → HasDoneSteps (AreTriesTo job lines) job c d → HasDoneSteps (All (IsOfTry job lines)) job d e
@@ -402,9 +456,9 @@ waited_tries job lines a b c d e f first cut second lock last =
 
 -- ---- tries behind a TSTART
 
-pub shown_tried : (job : ℕ) (line : List ℕ) (left : List (List ℕ)) (reply : Reply) (a b c : SessionsSoFar) → Asks job line Start → HasDoneSteps (AreShown job left (line ∷ []) (reply ∷ [])) job a b → HasDoneSteps (AreTries job left) job b c
-    → HasDoneSteps (AreShown job left (line ∷ []) (reply ∷ [])) job a c
-shown_tried job line left reply a b c asks h k =
+pub shown_tried : (job : ℕ) (line : List ℕ) (left : List (List ℕ)) (a b c : SessionsSoFar) → Asks job line Start → HasDoneSteps (AreShown job left (line ∷ []) (AtLevel 1 ∷ [])) job a b → HasDoneSteps (AreTries job left) job b c
+    → HasDoneSteps (AreShown job left (line ∷ []) (AtLevel 1 ∷ [])) job a c
+shown_tried job line left a b c asks h k =
     let own : List Told = h.1.0 in
     let tries : List Told = h.1.1 in
     let whole : h.0 ≡ own ++ tries = h.1.3 ∙ (ap (λ (zs : List Told). own ++ (tries ++ zs)) h.1.7 ∙ ap (λ (zs : List Told). own ++ zs) (append-nil tries)) in (
@@ -415,7 +469,7 @@ shown_tried job line left reply a b c asks h k =
         [],
         ap (λ (zs : List Told). zs ++ k.0) whole ∙ (append_assoc own tries k.0 ∙ ap (λ (zs : List Told). own ++ zs) (sym (append-nil (tries ++ k.0)))),
         h.1.4,
-        inl asks,
+        inl (asks, refl),
         tries_then job left tries k.0 h.1.6 k.1,
         refl,
       ),
@@ -424,6 +478,29 @@ shown_tried job line left reply a b c asks h k =
 
 -- ---- the end of a job's lines
 
-pub shown_to_end : (job : ℕ) (lines : List (List ℕ)) (replies : List Reply) (a b c : SessionsSoFar) → HasDoneSteps (AreShown job [] lines replies) job a b → ((c ≡ b) ⊎ HasDoneSteps (IsReplied Halt Finished) job b c) → HasDoneSteps (AreShownToEnd job lines replies) job a c
-shown_to_end job lines replies a b c h (inl same) = (h.0, (h.0, [], sym (append-nil h.0), h.1, inl refl), subst (λ (s : SessionsSoFar). AreSteps job h.0 a s) (sym same) h.2)
-shown_to_end job lines replies a b c h (inr over) = (h.0 ++ over.0, (h.0, over.0, refl, h.1, inr over.1), steps_then job h.0 over.0 a b c h.2 over.2)
+-- no session is left only where there was none
+none_between : (job : ℕ) (p : Past) (old new : Option Held) → new ≡ None → IsBetweenIn job p old new → old ≡ None
+none_between job p None new is between = refl
+none_between job p (Some old) None is between = absurd between
+none_between job p (Some old) (Some new) is between = absurd (cc)
+
+-- a step that leaves none ended it
+halted_by : (x : Told) (p more : Past) (old new : Option Held) → new ≡ None → IsStepIn x p old more new → IsStepWith Halt Finished x
+halted_by x p more None new is step = absurd step
+halted_by x p more (Some old) None is step = (ap (λ (y : Told). y.command) step.2, ap (λ (y : Told). y.reply) step.2)
+halted_by x p more (Some old) (Some new) is step = absurd (cc)
+
+-- where a job has no session any more its last step ended one
+end_halted : (job : ℕ) (xs : List Told) (old new : SessionsSoFar) → new.session ≡ None → AreSteps job xs old new → EndWith (IsStepWith Halt Finished) xs
+end_halted job [] old new none steps = tt
+end_halted job (x ∷ []) old new none steps =
+    let after : SessionsSoFar = steps.1 in halted_by x steps.0.past after.past steps.0.session after.session (none_between job after.past after.session new.session none steps.4.1) steps.3
+end_halted job (x ∷ (y ∷ ys)) old new none steps = end_halted job (y ∷ ys) steps.1 new none steps.4
+
+pub shown_to_end : (job : ℕ) (lines : List (List ℕ)) (replies : List Reply) (a b c : SessionsSoFar) → c.session ≡ None → HasDoneSteps (AreShown job [] lines replies) job a b → ((c ≡ b) ⊎ HasDoneSteps (IsReplied Halt Finished) job b c) → HasDoneSteps (AreShownToEnd job lines replies) job a c
+shown_to_end job lines replies a b c none h (inl same) =
+    let steps : AreSteps job h.0 a c = subst (λ (s : SessionsSoFar). AreSteps job h.0 a s) (sym same) h.2 in
+    (h.0, (end_halted job h.0 a c none steps, h.0, [], sym (append-nil h.0), h.1, inl refl), steps)
+shown_to_end job lines replies a b c none h (inr over) =
+    let steps : AreSteps job (h.0 ++ over.0) a c = steps_then job h.0 over.0 a b c h.2 over.2 in
+    (h.0 ++ over.0, (end_halted job (h.0 ++ over.0) a c none steps, h.0, over.0, refl, h.1, inr over.1), steps)

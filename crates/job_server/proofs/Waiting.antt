@@ -1,6 +1,6 @@
 -- A block whose LOCK was blocked: its job waits for the names, and its transaction begins anew.
-use Rattle.std.proofs.Common.{◌≡◌, inl, inr, ℕ, zero, suc, ◌≤◌, ◌<◌, Bool, List, [], ◌∷◌, ◌++◌, length, refl, sym, ap, ◌∙◌, subst, arith}
-use Rattle.std.specs.Prelude.{⊤, Option, Some, None, Result, Ok, slice_index_or}
+use Rattle.std.proofs.Common.{◌≡◌, ℕ, zero, suc, ◌≤◌, ◌<◌, Bool, List, [], ◌∷◌, ◌++◌, length, refl, sym, ap, subst, arith}
+use Rattle.std.specs.Prelude.{Option, Some, None, Result, Ok, slice_index_or}
 use Rattle.refusal.specs.declared.Refusal.{Refusal}
 use Rattle.lock_name.specs.declared.lock.LockCommand.{LockCommand}
 use Rattle.command.specs.declared.request.Command.{Command}
@@ -13,16 +13,17 @@ use Rattle.shared_engine.specs.Sessions.{Held, begun_anew}
 use Rattle.shared_engine.specs.declared.serial_run.SerialRun.{SerialRun}
 use Rattle.shared_engine.specs.declared.serial_run.SerialRun.TheVariants.{Blocked}
 use Rattle.pin_board.specs.Slips.{IsBeginning}
-use Rattle.shared_engine.specs.Blocks.{said, HasCome}
+use Rattle.shared_engine.specs.Blocks.{said, must_in, HasCome}
 use Rattle.shared_engine.specs.Engines.{gone_back}
-use Rattle.job_scripts.specs.Blocks.{in_place, AreInFront}
+use Rattle.job_scripts.specs.Blocks.{in_place, IsOneBlock, AreInFront}
 use Rattle.job_scripts.specs.Lines.{lines_of_script}
 use Rattle.job_server.specs.declared.cursor.Cursor.{Cursor}
 use Rattle.job_server.specs.Steps.{Past, SessionsSoFar, sessions_so_far, WasDoneBy, HasDoneSteps, OneAsks, AreTries}
-use Rattle.job_server.specs.Telling.{HasLocked, Running, running, BeganAnew, HasRunAnew, HasWaited, HasWaitedFor, Serves, Reaches, IsBackAt, HasTriedAlone}
+use Rattle.job_server.specs.Telling.{HasLocked, Running, running, BeganAnew, HasRunAnew, HasWaited, HasWaitedFor, Serves, IsBackAt, HasTriedAlone}
 use Rattle.job_server.proofs.AtOnce.{IsAll, anew_serves}
 use Rattle.job_server.proofs.Stepped.{restart_stepped, locked_stepped}
-use Rattle.job_server.proofs.Stepping.{AreAllAsked, front_asked, tries_done, restart_tries, cut_tries, lock_tries, waited_tries}
+use Rattle.job_server.proofs.Levels.{cut_no_ends, blocked_no_end}
+use Rattle.job_server.proofs.Stepping.{AreAllAsked, AreNoEnds, front_asked, tries_done, restart_tries, cut_tries, lock_tries, waited_tries}
 
 -- ---- the LOCK that was blocked
 
@@ -50,12 +51,12 @@ waited command done old begun locked new first tried last = record { begun = beg
 
 -- where a block's LOCK was blocked, its job has waited for these names
 pub blocked_back : (job : ℕ) (text : List ℕ) (rest : List (List ℕ)) (places : List (Option Refusal)) (commands : List Command) (musts : List Bool) (run : SerialRun) (place : ℕ) (command : LockCommand) (replies more_replies : List Reply) (p : Past) (session middle later : Option Held)
-    → AreInFront job (lines_of_script text) rest places commands musts → HasRunAnew musts commands run session middle → run ≡ Blocked place → OneAsks job (lines_of_script text) (lock_command command) → HasWaitedFor command middle later → more_replies ≡ replies
+    → AreInFront job (lines_of_script text) rest places commands musts → IsOneBlock 1 commands → HasRunAnew musts commands run session middle → run ≡ Blocked place → OneAsks job (lines_of_script text) (lock_command command) → HasWaitedFor command middle later → more_replies ≡ replies
     → IsBackAt job text (running replies (sessions_so_far p session)) (running more_replies (sessions_so_far p later))
-blocked_back job text rest places commands musts run place command replies more_replies p None middle later in_front ran blocked asks waited same = absurd ran
-blocked_back job text rest places commands musts run place command replies more_replies p (Some old) None later in_front ran blocked asks waited same = absurd ran
-blocked_back job text rest places commands musts run place command replies more_replies p (Some old) (Some middle) None in_front ran blocked asks waited same = absurd waited
-blocked_back job text rest places commands musts run place command replies more_replies p (Some old) (Some middle) (Some new) in_front ran blocked asks waited same = (tries, same)
+blocked_back job text rest places commands musts run place command replies more_replies p None middle later in_front one ran blocked asks waited same = absurd ran
+blocked_back job text rest places commands musts run place command replies more_replies p (Some old) None later in_front one ran blocked asks waited same = absurd ran
+blocked_back job text rest places commands musts run place command replies more_replies p (Some old) (Some middle) None in_front one ran blocked asks waited same = absurd waited
+blocked_back job text rest places commands musts run place command replies more_replies p (Some old) (Some middle) (Some new) in_front one ran blocked asks waited same = (tries, same)
   where
     units : List JournalUnit
     units = gone_back old.state ran.1
@@ -72,10 +73,13 @@ blocked_back job text rest places commands musts run place command replies more_
     cut : HasCome musts commands (Blocked place) units middle.seen begun middle
     cut = subst (λ (r : SerialRun). HasCome musts commands r units middle.seen begun middle) blocked ran.3
 
+    none : AreNoEnds cut.front (cut.before ++ cut.last ∷ [])
+    none = cut_no_ends 1 cut.front cut.back cut.before cut.last units middle.seen begun middle (omega arith) (omega arith) (subst (IsOneBlock 1) cut.split one) cut.done (blocked_no_end (must_in musts place) cut.last cut.blocked)
+
     tries : HasDoneSteps (AreTries job lines) job (stands_with old) (stands_with new)
     tries = waited_tries job lines (stands_with old) (stands_with begun) (stands_with middle) (stands_with waited.begun) (stands_with waited.locked) (stands_with new)
         (restart_tries job lines p begun.state.restarts old begun (begins_anew ran.1 old ran.0 ran.2))
-        (cut_tries job p lines rest places musts commands cut.front cut.back (cut.before ++ cut.last ∷ []) units middle.seen begun middle in_front cut.split refl cut.done)
+        (cut_tries job p lines rest places musts commands cut.front cut.back (cut.before ++ cut.last ∷ []) units middle.seen begun middle in_front cut.split none refl cut.done)
         (restart_tries job lines p waited.first.0 middle waited.begun waited.first.1) (lock_tries job p lines command (said (told_had command) waited.done) waited.begun waited.locked asks waited.tried)
         (restart_tries job lines p waited.last.0 waited.locked new waited.last.1)
 

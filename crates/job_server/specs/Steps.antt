@@ -1,18 +1,17 @@
 -- What a job's sessions did, step by step, and how a report shows it.
 -- Read HasStepped, IsStepIn, IsBetweenIn and AreSteps; then IsReplied, IsShownBy, AreTries, AreShown and AreShownToEnd.
-use Rattle.std.specs.Prelude.{◌≡◌, ◌⊎◌, ⊤, ℕ, ◌+◌, ◌≤◌, true, false, List, [], ◌∷◌, ◌++◌, length, Option, None, Some, Ok}
+use Rattle.std.specs.Prelude.{◌≡◌, ◌≢◌, ◌⊎◌, ⊤, ℕ, ◌≤◌, true, false, List, [], ◌∷◌, ◌++◌, length, Option, None, Some, Ok}
 use Rattle.std.specs.List.{All}
 use Rattle.refusal.specs.declared.Refusal.{Refusal}
 use Rattle.refusal.specs.declared.Refusal.TheVariants.{BadJob}
 use Rattle.lock_name.specs.declared.lock.LockCommand.{LockCommand}
 use Rattle.command.specs.declared.request.Command.{Command}
-use Rattle.command.specs.declared.request.Command.TheVariants.{Lock as lock_command, Start, Restart, Halt}
+use Rattle.command.specs.declared.request.Command.TheVariants.{Lock as lock_command, Start, Commit, Rollback, Restart, Halt}
 use Rattle.command.specs.declared.request.Reply.{Reply}
-use Rattle.command.specs.declared.request.Reply.TheVariants.{Finished, Restarted, Refused}
+use Rattle.command.specs.declared.request.Reply.TheVariants.{Finished, Had, AtLevel, Committed, Restarted, Refused}
 use Rattle.journal.specs.declared.unit.Unit.{Unit as JournalUnit}
 use Rattle.script.specs.Line.{reading_of, IsRefusalOf}
 use Rattle.serial.specs.Interleaving.{Told}
-use Rattle.serial.specs.Machine.{told_had}
 use Rattle.job_core.specs.Sessions.{idle}
 use Rattle.pin_board.specs.Slips.{IsBeginning}
 use Rattle.shared_engine.specs.Receipts.{Book}
@@ -63,9 +62,9 @@ pub record HasStepped (x : Told) (old new : Held) : Type 0 where
 abbrev pub IsDoneOnce : Command → Reply → Held → Held → Type 0
 IsDoneOnce command reply old new = (units : List JournalUnit) × IsBeginning units old.seen × (IsStanding old → WasDone command reply units new.seen old new)
 
--- a LOCK that waited was done twice, and was blocked at first
+-- a LOCK that waited was done twice: it was blocked at first, and then it wasn't
 abbrev pub IsDoneTwice : Command → Reply → Held → Held → Type 0
-IsDoneTwice command reply old new = (c : LockCommand) × (command ≡ lock_command c) × (middle : Held) × IsDoneOnce command (told_had c false) old middle × IsDoneOnce command reply middle new
+IsDoneTwice command reply old new = (c : LockCommand) × (command ≡ lock_command c) × (middle : Held) × IsDoneOnce command (Had false) old middle × (reply ≢ Had false) × IsDoneOnce command reply middle new
 
 abbrev pub WasDoneBy : Command → Reply → Held → Held → Type 0
 WasDoneBy command reply old new = IsDoneOnce command reply old new ⊎ IsDoneTwice command reply old new
@@ -118,19 +117,15 @@ IsNoStep xs = xs ≡ []
 
 -- ---- how a report shows it
 
--- nothing, or one try of a LOCK that was blocked
-abbrev pub MayWait : Command → List Told → Type 0
-MayWait command [] = ⊤
-MayWait command (x ∷ xs) = ((x.command ≡ command) × (c : LockCommand) × (command ≡ lock_command c) × (x.reply ≡ told_had c false)) × (xs ≡ [])
+-- a step of this command, which was replied so
+abbrev pub IsStepWith : Command → Reply → Told → Type 0
+IsStepWith command reply x = (x.command ≡ command) × (x.reply ≡ reply)
 
--- a command was replied so; a LOCK perhaps behind a first try that was blocked
-pub record IsReplied (command : Command) (reply : Reply) (xs : List Told) : Type 0 where
-  pub before : List Told
-  pub last : Told
-  pub steps : xs ≡ before ++ last ∷ []
-  pub waits : MayWait command before
-  pub command_is : last.command ≡ command
-  pub reply_is : last.reply ≡ reply
+-- a command was replied so; a LOCK perhaps behind one try that was blocked, if it then wasn't
+abbrev pub IsReplied : Command → Reply → List Told → Type 0
+IsReplied command reply [] = ⊥
+IsReplied command reply (x ∷ []) = IsStepWith command reply x
+IsReplied command reply (x ∷ (y ∷ ys)) = IsStepWith command (Had false) x × IsStepWith command reply y × (reply ≢ Had false) × (ys ≡ [])
 
 -- a line without a timeout is never replied that its LOCK was blocked
 abbrev pub IsHad : List ℕ → Reply → Type 0
@@ -147,37 +142,40 @@ abbrev pub OneAsks : ℕ → List (List ℕ) → Command → Type 0
 OneAsks job [] command = ⊥
 OneAsks job (line ∷ lines) command = Asks job line command ⊎ OneAsks job lines command
 
--- a step of a try: one of the lines asks for its command, or the server began the transaction anew
+-- no TCOMMIT that has committed, and no TROLLBACK or HALT that was done
+abbrev pub IsNoEnd : Command → Reply → Type 0
+IsNoEnd command reply = (command ≡ Commit → reply ≢ Committed) × ((command ≡ Rollback) ⊎ (command ≡ Halt) → reply ≢ Finished)
+
+-- a step of a try: one of the lines asks for its command, or the server began the transaction anew; and it ends none
 abbrev pub IsOfTry : ℕ → List (List ℕ) → Told → Type 0
-IsOfTry job lines x = (x.command ≡ Restart) ⊎ OneAsks job lines x.command
+IsOfTry job lines x = ((x.command ≡ Restart) ⊎ OneAsks job lines x.command) × IsNoEnd x.command x.reply
 
--- the last of the steps, where there is one, began the transaction anew
-abbrev pub EndAnew : List Told → Type 0
-EndAnew [] = ⊤
-EndAnew (x ∷ []) = (restarts : ℕ) × (x.reply ≡ Restarted restarts)
-EndAnew (x ∷ (y ∷ ys)) = EndAnew (y ∷ ys)
+-- the last of the steps, where there is one, is such
+abbrev pub EndWith : (Told → Type 0) → List Told → Type 0
+EndWith is [] = ⊤
+EndWith is (x ∷ []) = is x
+EndWith is (x ∷ (y ∷ ys)) = EndWith is (y ∷ ys)
 
--- tries of these lines that no reply tells of, each up to where the transaction began anew
-pub record AreTries (job : ℕ) (lines : List (List ℕ)) (xs : List Told) : Type 0 where
-  pub asked : All (IsOfTry job lines) xs
-  pub anew : EndAnew xs
+-- tries of these lines that no reply tells of: no step ends the transaction, and the last begins it anew
+abbrev pub AreTries : ℕ → List (List ℕ) → List Told → Type 0
+AreTries job lines xs = All (IsOfTry job lines) xs × EndWith (λ (x : Told). (restarts : ℕ) × (x.reply ≡ Restarted restarts)) xs
 
--- only a TSTART has such behind it
-abbrev pub MayBeTried : ℕ → List ℕ → List Told → Type 0
-MayBeTried job line xs = Asks job line Start ⊎ (xs ≡ [])
+-- only a TSTART that began a transaction has such behind it
+abbrev pub MayBeTried : ℕ → List ℕ → Reply → List Told → Type 0
+MayBeTried job line reply xs = (Asks job line Start × (reply ≡ AtLevel 1)) ⊎ (xs ≡ [])
 
--- the replies to lines show these steps, each line its own; behind a TSTART there may be tries of the lines behind it, first of these, then of those left
+-- the replies to lines show these steps, each line its own; behind an outermost TSTART there may be tries of the lines behind it, first of these, then of those left
 abbrev pub AreShown : ℕ → List (List ℕ) → List (List ℕ) → List Reply → List Told → Type 0
 AreShown job left [] [] xs = xs ≡ []
 AreShown job left [] (reply ∷ replies) xs = ⊥
 AreShown job left (line ∷ lines) [] xs = ⊥
 AreShown job left (line ∷ lines) (reply ∷ replies) xs =
-    (own tries rest : List Told) × (xs ≡ own ++ (tries ++ rest)) × IsShownBy job line reply own × MayBeTried job line tries × AreTries job (lines ++ left) tries × AreShown job left lines replies rest
+    (own tries rest : List Told) × (xs ≡ own ++ (tries ++ rest)) × IsShownBy job line reply own × MayBeTried job line reply tries × AreTries job (lines ++ left) tries × AreShown job left lines replies rest
 
--- at the end of its lines a job's session ends, where it has one
+-- a job's last step is a HALT: its last line's, or one more at the end
 abbrev pub AreShownToEnd : ℕ → List (List ℕ) → List Reply → List Told → Type 0
 AreShownToEnd job lines replies xs =
-    (own last : List Told) × (xs ≡ own ++ last) × AreShown job [] lines replies own × ((last ≡ []) ⊎ IsReplied Halt Finished last)
+    EndWith (IsStepWith Halt Finished) xs × (own last : List Told) × (xs ≡ own ++ last) × AreShown job [] lines replies own × ((last ≡ []) ⊎ IsReplied Halt Finished last)
 
 -- a line that is no job's is refused: it can be read, and has a job of its own, or for its own fault
 abbrev pub IsRefusedAlone : List ℕ → Reply → Type 0

@@ -1,14 +1,14 @@
 -- How a job goes on while its lines are done: its replies so far, its sessions, and the steps that they did.
 -- Read HasLocked, Serves, Advances, Begins, IsBack and HasTriedAlone.
-use Rattle.std.specs.Prelude.{◌≡◌, ◌≢◌, ◌⊎◌, ℕ, ◌≤◌, Bool, true, false, List, [], ◌∷◌, ◌++◌, length, Option, None, Some, Result, Ok, Err}
+use Rattle.std.specs.Prelude.{◌≡◌, ◌≢◌, ◌⊎◌, ⊤, ℕ, ◌≤◌, Bool, true, false, List, [], ◌∷◌, ◌++◌, length, Option, None, Some, Result, Ok, Err}
 use Rattle.std.specs.List.{All}
 use Rattle.refusal.specs.declared.Refusal.{Refusal}
 use Rattle.lock_name.specs.declared.lock.LockCommand.{LockCommand}
 use Rattle.command.specs.declared.access.DataCommand.{DataCommand}
 use Rattle.command.specs.declared.request.Command.{Command}
-use Rattle.command.specs.declared.request.Command.TheVariants.{Access, Lock as lock_command, Commit, Restart, Halt}
+use Rattle.command.specs.declared.request.Command.TheVariants.{Access, Lock as lock_command, Commit, Rollback, Restart, Halt}
 use Rattle.command.specs.declared.request.Reply.{Reply}
-use Rattle.command.specs.declared.request.Reply.TheVariants.{Finished, Restarted, Refused}
+use Rattle.command.specs.declared.request.Reply.TheVariants.{Finished, AtLevel, Restarted, Refused}
 use Rattle.journal.specs.declared.unit.Unit.{Unit as JournalUnit}
 use Rattle.serial.specs.Interleaving.{Told}
 use Rattle.serial.specs.Machine.{told_had}
@@ -20,7 +20,9 @@ use Rattle.shared_engine.specs.declared.serial_run.SerialRun.{SerialRun}
 use Rattle.job_scripts.specs.declared.block.Block.{Block}
 use Rattle.job_scripts.specs.Blocks.{AreInFront}
 use Rattle.job_scripts.specs.Lines.{lines_of_script, Asks}
-use Rattle.job_server.specs.Steps.{SessionsSoFar, none_since, WasDoneBy, HasDoneSteps, IsReplied, IsHad, IsShownBy, AreTries, AreShown, AreRefusedAlone}
+use Rattle.job_server.specs.Steps.{SessionsSoFar, none_since, WasDoneBy, HasDoneSteps, IsReplied, IsHad, IsNoEnd, AreTries, AreShown, AreRefusedAlone}
+use Rattle.job_server.specs.declared.blocks.Tried.{Tried}
+use Rattle.job_server.specs.declared.blocks.Tried.TheVariants.{Within, Over, Back}
 use Rattle.job_server.specs.declared.cursor.Cursor.{Cursor}
 use Rattle.job_server.specs.declared.cursor.Line.{Line}
 
@@ -34,6 +36,11 @@ HasLocked command (Err refusal) old new = WasRefused command refusal old new
 abbrev pub IsNoCommit : Result Command Refusal → Type 0
 IsNoCommit (Ok command) = command ≢ Commit
 IsNoCommit (Err refusal) = Unit {0}
+
+-- what was read of a line ends no transaction
+abbrev pub EndsNone : Result Command Refusal → Type 0
+EndsNone (Ok command) = (command ≢ Commit) × (command ≢ Rollback) × (command ≢ Halt)
+EndsNone (Err refusal) = Unit {0}
 
 -- the command that was read of a line was replied so, a TCOMMIT perhaps that its transaction began anew; or the line was refused, and that is no step
 abbrev pub IsDoneAs : List ℕ → Result Command Refusal → Reply → List Told → Type 0
@@ -72,21 +79,38 @@ pub record Serves (job : ℕ) (lines rest : List (List ℕ)) (old new : Running)
   pub replied : new.replies ≡ old.replies ++ their_replies
   pub steps : HasDoneSteps (AreShown job rest lines_done their_replies) job old.sessions new.sessions
 
--- a line was answered
-pub record HasAnswered (job : ℕ) (line : Line) (old new : Running) : Type 0 where
-  pub reply : Reply
-  pub replied : new.replies ≡ old.replies ++ reply ∷ []
-  pub steps : HasDoneSteps (IsShownBy job line.text.now reply) job old.sessions new.sessions
+-- no command that the line asks for has ended its transaction, if it was replied so
+abbrev pub IsWithin : ℕ → List ℕ → Reply → Type 0
+IsWithin job line reply = (command : Command) → Asks job line command → IsNoEnd command reply
+
+-- the same of each line
+abbrev pub AreWithin : ℕ → List (List ℕ) → List Reply → Type 0
+AreWithin job [] [] = ⊤
+AreWithin job [] (reply ∷ replies) = ⊥
+AreWithin job (line ∷ lines) [] = ⊥
+AreWithin job (line ∷ lines) (reply ∷ replies) = IsWithin job line reply × AreWithin job lines replies
+
+-- and none of these lines has ended a transaction
+abbrev pub ServesWithin : ℕ → List (List ℕ) → List (List ℕ) → Running → Running → Type 0
+ServesWithin job lines rest old new = (serves : Serves job lines rest old new) × AreWithin job serves.lines_done serves.their_replies
 
 -- a line was done, and perhaps some of those behind it, up to this place
 pub record Advances (job : ℕ) (line : Line) (behind : Cursor) (old new : Running) : Type 0 where
   pub fewer : length behind.lines.now ≤ length line.next.lines.now
   pub serves : Serves job (line.text.now ∷ lines_of_script line.next.lines.now) (lines_of_script behind.lines.now) old new
 
+-- and none of them has ended a transaction
+abbrev pub AdvancesWithin : ℕ → Line → Cursor → Running → Running → Type 0
+AdvancesWithin job line behind old new = (advances : Advances job line behind old new) × AreWithin job advances.serves.lines_done advances.serves.their_replies
+
 -- lines of the text were done, up to this place
 pub record Reaches (job : ℕ) (text : List ℕ) (behind : Cursor) (old new : Running) : Type 0 where
   pub fewer : length behind.lines.now ≤ length text
   pub serves : Serves job (lines_of_script text) (lines_of_script behind.lines.now) old new
+
+-- and none of them has ended a transaction
+abbrev pub ReachesWithin : ℕ → List ℕ → Cursor → Running → Running → Type 0
+ReachesWithin job text behind old new = (reaches : Reaches job text behind old new) × AreWithin job reaches.serves.lines_done reaches.serves.their_replies
 
 -- ---- blocks
 
@@ -98,9 +122,9 @@ HaveNoHalt commands = All (λ (c : Command). c ≢ Halt) commands
 abbrev pub AreDataCommands : List Command → Type 0
 AreDataCommands commands = All (λ (c : Command). (d : DataCommand) × (c ≡ Access d)) commands
 
--- the lines of a block were done, whatever lines they stand in front of
+-- the lines of a block were done, whatever lines they stand in front of, and none has ended a transaction
 abbrev pub ServesBlock : Block → Running → Running → Type 0
-ServesBlock block old new = (job : ℕ) (lines : List (List ℕ)) → AreInFront job lines (lines_of_script block.rest.now) block.places.items block.commands.items block.musts.items → Serves job lines (lines_of_script block.rest.now) old new
+ServesBlock block old new = (job : ℕ) (lines : List (List ℕ)) → AreInFront job lines (lines_of_script block.rest.now) block.places.items block.commands.items block.musts.items → ServesWithin job lines (lines_of_script block.rest.now) old new
 
 -- outside a transaction the session did data commands, or a part of them
 abbrev pub HasRunOutside : List Bool → List Command → SerialRun → Option Held → Option Held → Type 0
@@ -140,20 +164,21 @@ HasReadAll commands replies None later = ⊥
 HasReadAll commands replies (Some old) None = ⊥
 HasReadAll commands replies (Some old) (Some new) = (units : List JournalUnit) × IsJournalOf units old × AreDone commands replies units units (knowing units old) new
 
--- a TSTART was answered, and its lines may have been tried
+-- a TSTART has begun a transaction, and its lines may have been tried
 pub record Begins (job : ℕ) (line : Line) (old new : Running) : Type 0 where
-  pub reply : Reply
-  pub replied : new.replies ≡ old.replies ++ reply ∷ []
-  pub steps : HasDoneSteps (AreShown job (lines_of_script line.next.lines.now) (line.text.now ∷ []) (reply ∷ [])) job old.sessions new.sessions
+  pub replied : new.replies ≡ old.replies ++ AtLevel 1 ∷ []
+  pub steps : HasDoneSteps (AreShown job (lines_of_script line.next.lines.now) (line.text.now ∷ []) (AtLevel 1 ∷ [])) job old.sessions new.sessions
 
--- the outermost TCOMMIT of this line began the transaction anew, and no reply was kept
+-- the command of this line began the transaction anew, and no reply was kept
 abbrev pub WasOvertaken : ℕ → List ℕ → Running → Running → Type 0
-WasOvertaken job line old new = (new.replies ≡ old.replies) × (restarts : ℕ) × HasDoneSteps (IsReplied Commit (Restarted restarts)) job old.sessions new.sessions × Asks job line Commit
+WasOvertaken job line old new =
+    (new.replies ≡ old.replies) × (command : Command) × Asks job line command × (restarts : ℕ) × HasDoneSteps (IsReplied command (Restarted restarts)) job old.sessions new.sessions
 
--- a line of a block was tried: it was done, and perhaps some of those behind it, up to this place; or it is a TCOMMIT that began the transaction anew
-abbrev pub HasTried : ℕ → Line → Option Cursor → Running → Running → Type 0
-HasTried job line None old new = WasOvertaken job line.text.now old new
-HasTried job line (Some behind) old new = Advances job line behind old new
+-- a line of a block was tried: it was done, and perhaps some of those behind it, up to this place; or it began the transaction anew
+abbrev pub HasTried : ℕ → Line → Tried → Running → Running → Type 0
+HasTried job line (Within behind) old new = AdvancesWithin job line behind old new
+HasTried job line (Over behind) old new = Advances job line behind old new
+HasTried job line Back old new = WasOvertaken job line.text.now old new
 
 -- the text's lines were tried, and the transaction began anew
 abbrev pub IsBack : ℕ → List ℕ → Running → Running → Type 0

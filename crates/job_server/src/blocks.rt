@@ -1,15 +1,17 @@
 //! Blocks: a TSTART, and the lines behind it as often as they are overtaken.
-ghost use Rattle.std.specs.Prelude.{IfOk, IfSome, IfNone};
+ghost use Rattle.std.specs.Prelude.{◌≡◌, ◌≢◌, true, false, IfOk, IfSome, IfNone, OnOk};
 ghost use Rattle.command.specs.declared.request.Command.{Command};
+ghost use Rattle.command.specs.declared.request.Reply.{Reply};
 ghost use Rattle.job_scripts.specs.Lines.{Asks, IsReadFor};
-ghost use Rattle.job_server.specs.Telling.{Advances, Reaches, HasTried, IsBack, GoesOnFrom};
+ghost use Rattle.shared_engine.specs.Engines.{OnOkThat};
+ghost use Rattle.job_server.specs.Telling.{Advances, Begins, Reaches, HasTried, IsBack, GoesOnFrom};
 
 use crate::ServerFault;
 use crate::cursor::{Cursor, Line};
-use crate::running::{JobRun, push_unless_restarted, read_within};
+use crate::running::{JobRun, is_restarted, read_within};
 use crate::worker::Worker;
 use collation::Job;
-use command::Command;
+use command::{Command, Reply};
 use refusal::Refusal;
 use shared_engine::{BoardName, Gate};
 use std::sync::Wait;
@@ -17,24 +19,70 @@ use std::sync::Wait;
 // How often a block is begun anew before it is done alone, with nobody between its lines.
 const MOST_RESTARTS: usize = 3;
 
+/// What came of a line of a block that was tried, and perhaps of some behind it.
+pub(crate) enum Tried<'b> {
+    /// The transaction goes on behind them, at this place.
+    Within(Cursor<'b>),
+    /// They were done up to this place, and the transaction is over.
+    Over(Cursor<'b>),
+    /// The transaction was overtaken, and has begun anew.
+    Back,
+}
+
+// Whether a command that is replied so has begun a transaction.
+fn is_begun(reply: &Reply) -> bool
+    ensures { result ≡ true → reply.now ≡ Reply.AtLevel 1 }
+{
+    matches!(reply, Reply::AtLevel(1))
+}
+
+// Whether a TCOMMIT or TROLLBACK that is replied so has ended its transaction.
+fn is_over(reply: &Reply) -> bool
+    ensures { result ≡ false → (reply.now ≢ Reply.Committed) × (reply.now ≢ Reply.Finished) }
+{
+    matches!(reply, Reply::Committed | Reply::Finished)
+}
+
 impl<'a, B: BoardName, R: Wait, G: Gate> Worker<'a, B, R, G> {
-    /// Does a TCOMMIT. Answers the place behind it, or none where it found that the transaction was overtaken, and has
-    /// begun it anew.
-    #[tactic(auto, using(crate::proofs::GoingOn::was_overtaken))]
-    pub(crate) fn try_commit<'b>(
+    // Does a TSTART. Answers whether it has begun a transaction.
+    fn begin_block<'b>(
         &mut self,
         run: &mut JobRun<B>,
         job: Job,
         line: Line<'b>,
-    ) -> Result<Option<Cursor<'b>>, ServerFault>
-        requires { Asks job line.text.now Command.Commit }
+    ) -> Result<bool, ServerFault>
+        requires { Asks job line.text.now Command.Start }
+        ensures passed { OnOk result (Advances job line.entry line.entry.next run.old run.new) }
+        ensures begun { OnOkThat result (Begins job line.entry run.old run.new) }
+    {
+        let reply = self.do_line(&mut run.sessions, job, line, Ok(Command::Start))?;
+        let begun = is_begun(&reply);
+        run.replies.push(reply)?;
+        Ok(begun)
+    }
+
+    /// Does a command that may end its transaction.
+    pub(crate) fn try_end<'b>(
+        &mut self,
+        run: &mut JobRun<B>,
+        job: Job,
+        line: Line<'b>,
+        command: Command,
+    ) -> Result<Tried<'b>, ServerFault>
+        requires { Asks job line.text.now command }
         ensures { IfOk result (λ ended. HasTried job line.entry ended run.old run.new) }
     {
-        let reply = self.do_line(&mut run.sessions, job, line, Ok(Command::Commit))?;
-        if push_unless_restarted(&mut run.replies, reply)? {
-            return Ok(Some(line.next));
+        let reply = self.do_line(&mut run.sessions, job, line, Ok(command))?;
+        if is_restarted(&reply) {
+            drop(reply);
+            return Ok(Tried::Back);
         }
-        Ok(None)
+        let over = is_over(&reply);
+        run.replies.push(reply)?;
+        if over {
+            return Ok(Tried::Over(line.next));
+        }
+        Ok(Tried::Within(line.next))
     }
 
     // Does a command of a block's line.
@@ -44,14 +92,22 @@ impl<'a, B: BoardName, R: Wait, G: Gate> Worker<'a, B, R, G> {
         job: Job,
         line: Line<'b>,
         command: Command,
-    ) -> Result<Option<Cursor<'b>>, ServerFault>
+    ) -> Result<Tried<'b>, ServerFault>
         requires { Asks job line.text.now command }
         ensures { IfOk result (λ ended. HasTried job line.entry ended run.old run.new) }
     {
         match command {
-            Command::Commit => self.try_commit(run, job, line),
-            Command::Access(first) => Ok(Some(self.serve_access(run, job, first, line)?)),
-            command => Ok(Some(self.pass_line(run, job, line, Ok(command))?)),
+            Command::Access(first) => {
+                let behind = self.serve_access(run, job, first, line)?;
+                Ok(Tried::Within(behind))
+            }
+            Command::Commit => self.try_end(run, job, line, Command::Commit),
+            Command::Rollback => self.try_end(run, job, line, Command::Rollback),
+            Command::Halt => self.try_end(run, job, line, Command::Halt),
+            command => {
+                let behind = self.pass_line(run, job, line, Ok(command))?;
+                Ok(Tried::Within(behind))
+            }
         }
     }
 
@@ -62,19 +118,22 @@ impl<'a, B: BoardName, R: Wait, G: Gate> Worker<'a, B, R, G> {
         job: Job,
         line: Line<'b>,
         asked: Result<Command, Refusal>,
-    ) -> Result<Option<Cursor<'b>>, ServerFault>
+    ) -> Result<Tried<'b>, ServerFault>
         requires { IsReadFor job line.text.now asked }
         ensures { IfOk result (λ ended. HasTried job line.entry ended run.old run.new) }
     {
         match asked {
             Ok(command) => self.try_command(run, job, line, command),
-            Err(refusal) => Ok(Some(self.pass_line(run, job, line, Err(refusal))?)),
+            Err(refusal) => {
+                let behind = self.pass_line(run, job, line, Err(refusal))?;
+                Ok(Tried::Within(behind))
+            }
         }
     }
 
     // Tries the lines of a block behind its TSTART. Answers the place behind it, or none where its TCOMMIT found that
     // the transaction was overtaken, and has begun it anew.
-    #[tactic(auto, using(crate::proofs::GoingOn::reaches_none, crate::proofs::GoingOn::reaches_on, crate::proofs::GoingOn::tried_replies, crate::proofs::GoingOn::reaches_replies))]
+    #[tactic(auto, using(crate::proofs::GoingOn::within_none, crate::proofs::GoingOn::tried_replies))]
     fn try_block<'b>(
         &mut self,
         run: &mut JobRun<B>,
@@ -90,19 +149,16 @@ impl<'a, B: BoardName, R: Wait, G: Gate> Worker<'a, B, R, G> {
             let Some(asked) = read_within(self.alloc, job, line.text, &mut run.drafts) else {
                 return Ok(Some(place));
             };
-            let Some(behind) = self.try_line(run, job, line, asked)? else {
-                return Ok(None);
-            };
-            place = behind;
-            if !run.is_open() {
-                return Ok(Some(place));
+            match self.try_line(run, job, line, asked)? {
+                Tried::Within(behind) => place = behind,
+                Tried::Over(behind) => return Ok(Some(behind)),
+                Tried::Back => return Ok(None),
             }
         }
         Ok(Some(place))
     }
 
     /// Does a block. Answers the place behind it.
-    #[tactic(auto, using(crate::proofs::GoingOn::answered_advances, crate::proofs::GoingOn::begins))]
     pub(crate) fn serve_block<'b>(
         &mut self,
         run: &mut JobRun<B>,
@@ -112,8 +168,7 @@ impl<'a, B: BoardName, R: Wait, G: Gate> Worker<'a, B, R, G> {
         requires { Asks job line.text.now Command.Start }
         ensures { IfOk result (λ behind. Advances job line.entry behind run.old run.new) }
     {
-        self.answer_line(run, job, line, Ok(Command::Start))?;
-        if !run.is_open() {
+        if !self.begin_block(run, job, line)? {
             return Ok(line.next);
         }
         let kept = run.replies.len();

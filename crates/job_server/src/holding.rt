@@ -4,7 +4,7 @@ ghost use Rattle.command.specs.declared.request.Command.{Command};
 ghost use Rattle.job_scripts.specs.Blocks.{in_place};
 ghost use Rattle.job_scripts.specs.Lines.{lines_of_script, Asks};
 ghost use Rattle.job_server.specs.Steps.{OneAsks};
-ghost use Rattle.job_server.specs.Telling.{Advances, HaveNoHalt, AreDataCommands, ServesBlock, HasRunOutside, BeganAnew, HasRunAnew, HasReadAll, HasWaited, HasWaitedFor, HasTriedAlone};
+ghost use Rattle.job_server.specs.Telling.{AdvancesWithin, HaveNoHalt, AreDataCommands, ServesBlock, HasRunOutside, BeganAnew, HasRunAnew, HasReadAll, HasWaited, HasWaitedFor, HasTriedAlone};
 
 use crate::ServerFault;
 use crate::cursor::{Cursor, Line};
@@ -342,7 +342,7 @@ impl<'a, B: BoardName, R: Wait, G: Gate> Worker<'a, B, R, G> {
         line: Line<'b>,
     ) -> Result<Cursor<'b>, ServerFault>
         requires { Asks job line.text.now (Command.Access first) }
-        ensures { IfOk result (λ behind. Advances job line.entry behind run.old run.new) }
+        ensures { IfOk result (λ behind. AdvancesWithin job line.entry behind run.old run.new) }
     {
         let most = if run.is_open() {
             READS_PER_HOLD
@@ -373,7 +373,7 @@ impl<'a, B: BoardName, R: Wait, G: Gate> Worker<'a, B, R, G> {
         line: Line<'b>,
     ) -> Result<Cursor<'b>, ServerFault>
         requires { Asks job line.text.now (Command.Access first) }
-        ensures { IfOk result (λ behind. Advances job line.entry behind run.old run.new) }
+        ensures { IfOk result (λ behind. AdvancesWithin job line.entry behind run.old run.new) }
     {
         match self.begin(job, &mut run.sessions) {
             Ok(()) => self.serve_run(run, job, first, line),
@@ -393,7 +393,7 @@ impl<'a, B: BoardName, R: Wait, G: Gate> Worker<'a, B, R, G> {
         line: Line<'b>,
     ) -> Result<Cursor<'b>, ServerFault>
         requires { Asks job line.text.now (Command.Access first) }
-        ensures { IfOk result (λ behind. Advances job line.entry behind run.old run.new) }
+        ensures { IfOk result (λ behind. AdvancesWithin job line.entry behind run.old run.new) }
     {
         if self.may_go_on(run, &first) {
             return self.serve_data(run, job, first, line);

@@ -1,12 +1,11 @@
 //! A job as it is run, and one line of it.
-ghost use Rattle.std.specs.Prelude.{◌≡◌, ◌≢◌, ◌<◌, ◌∷◌, ◌++◌, ℕ, [], None, true, false, length, vec_capacity, IfOk, IfSome, OnOk};
+ghost use Rattle.std.specs.Prelude.{◌≡◌, ◌≢◌, ◌<◌, ℕ, None, true, false, length, vec_capacity, IfOk, IfSome, OnOk};
 ghost use Rattle.command.specs.declared.request.Command.{Command};
 ghost use Rattle.command.specs.declared.request.Reply.{Reply};
 ghost use Rattle.job_scripts.specs.Lines.{IsReadFor};
-ghost use Rattle.shared_engine.specs.Engines.{OnOkThat, OnOkNot};
 ghost use Rattle.shared_engine.specs.Blocks.{is_blocked};
 ghost use Rattle.job_server.specs.Steps.{Past, past, sessions_so_far, IsBegunBehind, HasDoneSteps, IsNoStep, IsReplied, IsHad};
-ghost use Rattle.job_server.specs.Telling.{IsDoneAs, HasStopped, IsNoCommit, HasAnswered, Advances, not_begun};
+ghost use Rattle.job_server.specs.Telling.{IsDoneAs, HasStopped, IsNoCommit, EndsNone, Advances, AdvancesWithin, not_begun};
 
 use crate::ServerFault;
 use crate::cursor::{Cursor, Line};
@@ -126,27 +125,12 @@ fn is_finished(reply: Reply) -> bool
     matches!(reply, Reply::Finished)
 }
 
-fn is_restarted(reply: &Reply) -> bool
+/// Whether a command that is replied so has begun its transaction anew.
+pub(crate) fn is_restarted(reply: &Reply) -> bool
     ensures anew { result ≡ true → (restarts : ℕ) × (reply.now ≡ Reply.Restarted restarts) }
     ensures kept { result ≡ false → (restarts : ℕ) → reply.now ≢ Reply.Restarted restarts }
 {
     matches!(reply, Reply::Restarted(_))
-}
-
-/// Takes a reply in, unless it says that a transaction was begun anew. Answers whether it was taken in.
-pub(crate) fn push_unless_restarted(
-    replies: &mut Vec<Reply>,
-    reply: Reply,
-) -> Result<bool, AllocError>
-    ensures kept { OnOkThat result ((replies.new.items ≡ replies.old.items ++ reply ∷ []) × ((restarts : ℕ) → reply ≢ Reply.Restarted restarts)) }
-    ensures again { OnOkNot result ((replies.new.items ≡ replies.old.items) × (restarts : ℕ) × (reply ≡ Reply.Restarted restarts)) }
-{
-    if is_restarted(&reply) {
-        drop(reply);
-        return Ok(false);
-    }
-    replies.push(reply)?;
-    Ok(true)
 }
 
 impl<'a, B: BoardName, R: Wait, G: Gate> Worker<'a, B, R, G> {
@@ -358,26 +342,8 @@ impl<'a, B: BoardName, R: Wait, G: Gate> Worker<'a, B, R, G> {
         }
     }
 
-    /// Does a line that is no TCOMMIT, and takes its reply in.
-    #[tactic(auto, using(crate::proofs::GoingOn::has_answered))]
-    pub(crate) fn answer_line<'b>(
-        &mut self,
-        run: &mut JobRun<B>,
-        job: Job,
-        line: Line<'b>,
-        asked: Result<Command, Refusal>,
-    ) -> Result<(), ServerFault>
-        requires asks { IsReadFor job line.text.now asked }
-        requires other { IsNoCommit asked }
-        ensures { OnOk result (HasAnswered job line.entry run.old run.new) }
-    {
-        let reply = self.do_line(&mut run.sessions, job, line, asked)?;
-        run.replies.push(reply)?;
-        Ok(())
-    }
-
-    /// The same. Answers the place behind the line.
-    #[tactic(auto, using(crate::proofs::GoingOn::answered_advances))]
+    /// Does a line that is no TCOMMIT, and takes its reply in. Answers the place behind the line.
+    #[tactic(auto, using(crate::proofs::GoingOn::passed, crate::proofs::GoingOn::passed_within))]
     pub(crate) fn pass_line<'b>(
         &mut self,
         run: &mut JobRun<B>,
@@ -387,9 +353,11 @@ impl<'a, B: BoardName, R: Wait, G: Gate> Worker<'a, B, R, G> {
     ) -> Result<Cursor<'b>, ServerFault>
         requires asks { IsReadFor job line.text.now asked }
         requires other { IsNoCommit asked }
-        ensures { IfOk result (λ behind. Advances job line.entry behind run.old run.new) }
+        ensures served { IfOk result (λ behind. Advances job line.entry behind run.old run.new) }
+        ensures within { EndsNone asked → IfOk result (λ behind. AdvancesWithin job line.entry behind run.old run.new) }
     {
-        self.answer_line(run, job, line, asked)?;
+        let reply = self.do_line(&mut run.sessions, job, line, asked)?;
+        run.replies.push(reply)?;
         Ok(line.next)
     }
 }

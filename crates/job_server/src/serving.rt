@@ -346,7 +346,8 @@ fn load_and_serve<
 /// Where no two scripts are of one job, there is one run of the exact machine from nothing on, of which the closed
 /// journal is the story. In it are each job's steps, in order, and no others: those of the load, by job 1, and then
 /// those that the job's report shows, which are each line's command with its reply, a first try of a LOCK that waited,
-/// tries of a block that was overtaken, and at the end a HALT. No TCOMMIT is replied with a restart.
+/// tries of a block, of which none ends its transaction and each begins it anew, and at the end a HALT. No TCOMMIT is
+/// replied with a restart.
 ///
 /// After a fault no report is handed out: `Load` where the listing isn't loaded, as of `loading::load`, and no job was
 /// begun; `Memory` where memory was refused and no reply could say so, also where a worker couldn't be started or a

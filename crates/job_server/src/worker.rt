@@ -10,6 +10,7 @@ ghost use Rattle.script.specs.Line.{IsReading};
 ghost use Rattle.job_server.specs.Telling.{Refuses, Serves, Advances, not_begun};
 
 use crate::ServerFault;
+use crate::blocks::Tried;
 use crate::cursor::{Cursor, Line};
 use crate::job_run::Calls;
 use crate::running::{JobRun, Sessions};
@@ -253,9 +254,10 @@ impl<'a, B: BoardName, R: Wait, G: Gate> Worker<'a, B, R, G> {
         requires { Asks job line.text.now Command.Commit }
         ensures { IfOk result (λ behind. Advances job line.entry behind run.old run.new) }
     {
-        match self.try_commit(run, job, line)? {
-            Some(behind) => Ok(behind),
-            None => Err(ServerFault::Memory),
+        match self.try_end(run, job, line, Command::Commit)? {
+            Tried::Within(behind) => Ok(behind),
+            Tried::Over(behind) => Ok(behind),
+            Tried::Back => Err(ServerFault::Memory),
         }
     }
 

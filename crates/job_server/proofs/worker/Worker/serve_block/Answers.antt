@@ -1,6 +1,6 @@
-use Rattle.std.proofs.Common.{◌≡◌, length, take, refl, sym, ap, ◌∙◌, arith}
+use Rattle.std.proofs.Common.{length, take, refl, sym, ap, ◌∙◌}
 use Rattle.job_server.specs.Telling.{Running, running, Reaches}
-use Rattle.job_server.proofs.GoingOn.{begins, begins_again, begins_advances, cut_back}
+use Rattle.job_server.proofs.GoingOn.{begins_again, begins_advances, cut_back}
 use Rattle.job_server.proofs.Answering.{where_none, where_some}
 use Rattle.job_server.proofs.Waiting.{tried_alone, tried_back}
 use Rattle.job_server.proofs.worker.Worker.serve_block.Goals as goal
@@ -36,10 +36,3 @@ pub alone-preserved : goal.alone-preserved
 alone-preserved g c =
     let back = tried_back c.args.job c.args.line.next.lines.now c.in_ok-place-2.field-0 c.alone.run c.try_serially.new.run c.in_ok-place-2.ensures c.in_default-2.is in
     record { began = begins_again c.args.job c.args.line c.args.run.now c.alone.run c.try_serially.new.run c.try_serially.new.run c.requires c.alone.invariant.began back.0 refl back.1 }
-
-pub tries-init : goal.tries-init
-tries-init g c =
-    let here : c.len-kept.result ≡ length c.run.inside.replies.items = omega (arith, c.len-kept.ensures, c.run.inside.replies.ok.0) in record {
-      kept = here ∙ ap (λ (r : Running). length r.replies) c.run.view_is;
-      began = begins c.args.job c.args.line c.args.run.now c.answer_line.new.run c.in_ok-answer_line.ensures;
-    }

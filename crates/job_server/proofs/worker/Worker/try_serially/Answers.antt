@@ -37,4 +37,4 @@ returns-in-Ok-Blocked g c =
     let ran = subst (λ (ms : List Bool). HasRunAnew ms block.commands.items c.in-Ok-Blocked.field-0 sessions.open c.run_block_anew.new.session) c.deref-2.ensures.value c.in-Ok-Blocked.ensures in
     subst (λ (x : Running). IsBackAt job text x new) same
     (blocked_back job text (lines_of_script block.rest.now) block.places.items block.commands.items block.musts.items c.in-Ok-Blocked.field-0 c.in-Ok-Blocked.place c.in_ok-command-in-Ok-Blocked.command replies replies p sessions.open c.run_block_anew.new.session c.wait_for.new.session c.in_ok-block.ensures.asked
-    ran c.in-Ok-Blocked.field-0-is c.in_ok-command-in-Ok-Blocked.ensures c.in_ok-wait_for-in-Ok-Blocked.ensures refl)
+    c.in_ok-block.ensures.one ran c.in-Ok-Blocked.field-0-is c.in_ok-command-in-Ok-Blocked.ensures c.in_ok-wait_for-in-Ok-Blocked.ensures refl)
