@@ -1,10 +1,10 @@
-//! What lone look-ups pass over at once: stretches in which no node is left.
-ghost use Rattle.std.specs.Prelude.{◌≡◌, ℕ, List, [], true, IfSome};
+//! What look-ups pass over at once: stretches in which no node is left.
+ghost use Rattle.std.specs.Prelude.{◌≡◌, ◌≤◌, ℕ, List, [], true, IfSome};
 ghost use Rattle.std.specs.FinMap as finmap;
 ghost use Rattle.collation.specs.Database.{Database};
 ghost use Rattle.command.specs.Data.{data_after};
 ghost use Rattle.stretches.specs.Empty.{AreEmpty, IsEmpty};
-ghost use Rattle.version_store.specs.Versions.{content_now};
+ghost use Rattle.version_store.specs.Versions.{content_at, content_now};
 
 use crate::absences::Absences;
 use collation::Direction;
@@ -52,6 +52,17 @@ impl Passing {
         ensures { result.now ≡ self.now }
     {
         &self.stretches
+    }
+
+    /// Whether there are stretches that have no node of the content at a stamp: where nothing was written since. Takes no
+    /// memory.
+    pub(crate) fn hold_at(&self, store: &KeyedStore, stamp: u64) -> bool
+        ensures { result ≡ true → stamp ≤ store.now.present → AreEmpty self.now (content_now store.now) → AreEmpty self.now (content_at store.now.versions stamp) }
+    {
+        if self.stretches.are_none() {
+            return false;
+        }
+        store.latest() <= stamp
     }
 
     /// Before a lone data command: a $ORDER, also of names, $QUERY or $DATA looks for the stretch over which it will pass;
@@ -145,13 +156,13 @@ impl Passing {
         self.stretches.follow(left, &None);
     }
 
-    /// Before a commit: where what it has set may stand in one of the stretches all are dropped.
+    /// Before a commit: what it has set is taken out of the stretches.
     pub(crate) fn make_way(&mut self, store: &KeyedStore, work: &Work, oldest: Option<u64>)
         ensures before { (m : Database) → AreEmpty self.old m → AreEmpty self.new m }
         ensures written { AreEmpty self.new work.now.layer.written }
     {
         self.note_killed(store, work, oldest);
-        self.leave_for(work);
+        work.leave_out(&mut self.stretches);
     }
 
     fn note_killed(&mut self, store: &KeyedStore, work: &Work, oldest: Option<u64>)
@@ -159,16 +170,6 @@ impl Passing {
     {
         if oldest.is_some() && work.has_killed() {
             self.note_kills(store, oldest);
-        }
-    }
-
-    // Drops the stretches, where what a transaction has set may stand in one of them.
-    fn leave_for(&mut self, work: &Work)
-        ensures before { (m : Database) → AreEmpty self.old m → AreEmpty self.new m }
-        ensures written { AreEmpty self.new work.now.layer.written }
-    {
-        if work.may_enter(&self.stretches) {
-            self.stretches.clear();
         }
     }
 
@@ -188,7 +189,8 @@ impl Passing {
         self.absences.note_turn(horizon, limit);
     }
 
-    fn look_ahead(&mut self, alloc: Global, store: &KeyedStore, look: &Look)
+    /// Before a look-up: one that isn't a $GET looks for the stretch over which it will pass.
+    pub(crate) fn look_ahead(&mut self, alloc: Global, store: &KeyedStore, look: &Look)
         requires { AreEmpty self.old (content_now store.now) }
         ensures { AreEmpty self.new (content_now store.now) }
     {

@@ -324,6 +324,27 @@ impl Ranges {
         ensures err { OnErr result (self.new ≡ self.old) }
     {
         let first = self.list.len().saturating_sub(NEAR);
+        self.add_from(first, low, high)
+    }
+
+    /// Puts in what lies between two cuts: into the first of all ranges that it joins, or else as a range of its own.
+    ///
+    /// Refusals, after which nothing has changed: `AllocError`.
+    pub fn add_to_any(&mut self, low: Cut<'_>, high: Cut<'_>) -> Result<(), AllocError>
+        ensures more { OnOk result ((x : Reference) → is_in_one self.new x ≡ (is_in_one self.old x || between low.entry high.entry x)) }
+        ensures few { length self.new ≤ length self.old + 1 }
+        ensures err { OnErr result (self.new ≡ self.old) }
+    {
+        self.add_from(0, low, high)
+    }
+
+    // Puts in what lies between two cuts: into one of the ranges from this place on that it joins, or else as a range of
+    // its own.
+    fn add_from(&mut self, first: usize, low: Cut<'_>, high: Cut<'_>) -> Result<(), AllocError>
+        ensures more { OnOk result ((x : Reference) → is_in_one self.new x ≡ (is_in_one self.old x || between low.entry high.entry x)) }
+        ensures few { length self.new ≤ length self.old + 1 }
+        ensures err { OnErr result (self.new ≡ self.old) }
+    {
         for i in first..self.list.len() {
             if self.join(i, low, high)? {
                 return Ok(());

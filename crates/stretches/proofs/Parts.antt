@@ -1,5 +1,5 @@
 -- The parts of a stretch beside what lies between two cuts.
-use Rattle.std.proofs.Common.{◌≡◌, ℕ, ◌<◌, Bool, true, false, List, length, get_or, refl, sym, ap, ◌∙◌}
+use Rattle.std.proofs.Common.{◌≡◌, ℕ, ◌<◌, Bool, true, false, List, [], ◌∷◌, length, get_or, take, zero, suc, refl, sym, ap, ◌∙◌}
 use Rattle.std.specs.Prelude.{not, ◌&&◌, ◌||◌}
 use Rattle.std.proofs.lemmas.Bool.{and_from}
 use Rattle.std.specs.Cmp.{first_so, second_so}
@@ -51,3 +51,14 @@ left_more low high all i s old new inside is left more x here = by_old (is_in_on
     by_old : (b : Bool) → is_in_one old x ≡ b → (b || (is_in s x && not (between low high x))) ≡ true → (is_in_one all x && not (between low high x)) ≡ true
     by_old true was h = left x was
     by_old false was h = and_from _ _ (one_has all i s inside is x (first_so (is_in s x) _ h)) (second_so (is_in s x) _ h)
+
+-- ---- the first of several
+
+or_kept : (b t u : Bool) → (t ≡ true → u ≡ true) → (b || t) ≡ true → (b || u) ≡ true
+or_kept true t u f h = refl
+or_kept false t u f h = f h
+
+pub one_of_first : (n : ℕ) (rs : List ReadRange) (x : Reference) → is_in_one (take n rs) x ≡ true → is_in_one rs x ≡ true
+one_of_first zero rs x h = absurd (cc)
+one_of_first (suc n) [] x h = h
+one_of_first (suc n) (r ∷ rs) x h = or_kept (is_in r x) (is_in_one (take n rs) x) (is_in_one rs x) (one_of_first n rs x) h

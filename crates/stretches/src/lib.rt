@@ -1,6 +1,6 @@
 //! Stretches of the order in which nothing stands, so that a look-up needn't pass again over what was killed there.
 //!
-//! `Stretches` are up to four ranges of references. They say nothing by themselves: who has them knows of which
+//! `Stretches` are up to eight ranges of references. They say nothing by themselves: who has them knows of which
 //! database that no member stands in them (`AreEmpty` of `specs/Empty.antt`). They are advice: any may be dropped at
 //! any time, for want of memory too, and then a look-up takes longer and answers the same.
 //!

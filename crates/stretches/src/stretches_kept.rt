@@ -1,6 +1,6 @@
 //! What is kept of stretches in which nothing stands.
 ghost use Rattle.std.specs.FinMap as finmap;
-ghost use Rattle.std.specs.Prelude.{◌≡◌, ◌&&◌, ◌||◌, ◌≤◌, ◌+◌, ℕ, List, true, not, [], length, nat_eq, unwrap_or, IfSome};
+ghost use Rattle.std.specs.Prelude.{◌≡◌, ◌&&◌, ◌||◌, ◌≤◌, ◌+◌, ℕ, List, true, false, not, [], length, nat_eq, unwrap_or, is_some, IfSome};
 ghost use Rattle.collation.specs.Reference.{Reference};
 ghost use Rattle.collation.specs.Database.{Database};
 ghost use Rattle.command.specs.Data.{data_after};
@@ -17,9 +17,12 @@ use std::alloc::{AllocError, Global};
 use std::marker::Model;
 
 // How many stretches are kept at most.
-pub(crate) const MOST: usize = 4;
+pub(crate) const MOST: usize = 8;
 
-/// Some stretches of the order, at most four. They are seen as a list of ranges.
+// How many members are taken out of them one by one; with the last all stretches are dropped.
+const MOST_LEFT_OUT: usize = 64;
+
+/// Some stretches of the order, at most eight. They are seen as a list of ranges.
 #[derive(Debug, Drop)]
 pub struct Stretches {
     ranges: Ranges,
@@ -33,7 +36,7 @@ impl Model for Stretches {
 
     ghost view = { λ s. s.ranges };
 
-    ghost invariant = { λ s. length s.ranges ≤ 4 };
+    ghost invariant = { λ s. length s.ranges ≤ 8 };
 }
 
 impl Stretches {
@@ -61,7 +64,7 @@ impl Stretches {
     }
 
     /// What is left of the stretches after a command that may put nodes into one of them: their parts before and behind
-    /// the references that it may set, and the others, as far as that makes four; less where memory is refused. None
+    /// the references that it may set, and the others, as far as that makes eight; less where memory is refused. None
     /// where all of them stay as they are. What is left is empty where they are, before the command and after it.
     ///
     /// Takes memory only for a SET or $INCREMENT into one of them and for MERGE.
@@ -102,19 +105,28 @@ impl Stretches {
         Stretches { ranges: left }
     }
 
-    /// Whether no member of a view stands in one of the stretches. One look-up for each; takes no memory.
-    pub fn are_empty_on<V: OrderedView>(&self, view: &V) -> bool
-        ensures { result ≡ true → AreEmpty self.now (V.content view.now) }
+    /// Takes the members of a view out of the stretches. What is left is empty where they are, and of the view too: their
+    /// parts before and behind each member, and the others, as far as that makes eight; less where memory is refused.
+    /// With the 64th member that stands in one all are dropped. Takes memory only where one stands in one.
+    pub fn leave_out<V: OrderedView>(&mut self, alloc: Global, view: &V)
+        ensures before { (m : Database) → AreEmpty self.old m → AreEmpty self.new m }
+        ensures out { AreEmpty self.new (V.content view.now) }
     {
-        are_all_empty(self.ranges.ranges(), view)
+        for _ in 0..MOST_LEFT_OUT {
+            match first_member(self.ranges.ranges(), view) {
+                Some(key) => *self = self.without(alloc, Cut::Before(key), Cut::After(key)),
+                None => return,
+            }
+        }
+        self.clear();
     }
 
-    /// Puts in a stretch: it grows one that it joins, or is kept as one more. Where there would be five all are
+    /// Puts in a stretch: it grows one that it joins, or is kept as one more. Where there would be nine all are
     /// dropped; where memory is refused it isn't kept.
     pub fn note(&mut self, stretch: &ReadRange)
         ensures { AreNoMore stretch.now self.old self.new }
     {
-        match self.ranges.add(stretch.low(), stretch.high()) {
+        match self.ranges.add_to_any(stretch.low(), stretch.high()) {
             Ok(()) => {}
             Err(AllocError) => {}
         }
@@ -152,9 +164,9 @@ impl Stretches {
             .any(|stretch| has_cut(stretch, cut))
     }
 
-    // Whether one that no look-up has found may be put in: it leaves room for those of three. Advice.
+    // Whether one that no look-up has found may be put in: it leaves room for those of four. Advice.
     pub(crate) fn have_room(&self) -> bool {
-        self.ranges.len() < 2
+        self.ranges.len() < MOST / 2
     }
 
     // Where a look-up forward from the cut begins: at the end of a stretch in which the cut lies, or of one in which
@@ -313,31 +325,32 @@ fn put_in(left: &mut Ranges, low: Cut<'_>, high: Cut<'_>)
     if is_at_most(high, low) {
         return;
     }
-    match left.add(low, high) {
+    match left.add_to_any(low, high) {
         Ok(()) => {}
         Err(AllocError) => {}
     }
 }
 
-// Whether no member of the view stands in one of these.
-fn are_all_empty<V: OrderedView>(stretches: &[ReadRange], view: &V) -> bool
-    ensures { result ≡ true → AreEmpty stretches.now (V.content view.now) }
+// A member of the view that stands in one of these, if one does.
+fn first_member<'v, V: OrderedView>(stretches: &[ReadRange], view: &'v V) -> Option<&'v Key>
+    ensures { is_some result ≡ false → AreEmpty stretches.now (V.content view.now) }
 {
     for stretch in stretches {
-        if !is_empty_on(stretch, view) {
-            return false;
+        let member = member_in(stretch, view);
+        if member.is_some() {
+            return member;
         }
     }
-    true
+    None
 }
 
-// Whether no member of the view stands in the stretch.
-fn is_empty_on<V: OrderedView>(stretch: &ReadRange, view: &V) -> bool
-    ensures { result ≡ true → IsEmpty stretch.now (V.content view.now) }
+// The first member of the view that stands in the stretch, if one does.
+fn member_in<'v, V: OrderedView>(stretch: &ReadRange, view: &'v V) -> Option<&'v Key>
+    ensures { is_some result ≡ false → IsEmpty stretch.now (V.content view.now) }
 {
     match view.next(stretch.low(), Some(stretch.high())) {
-        Some(_) => false,
-        None => true,
+        Some((member, _)) => Some(member),
+        None => None,
     }
 }
 

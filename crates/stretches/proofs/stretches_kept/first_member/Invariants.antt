@@ -1,6 +1,6 @@
 use Rattle.std.proofs.Common.{drop}
 use Rattle.stretches.specs.Empty.{AreEmpty}
-use Rattle.stretches.proofs.stretches_kept.are_all_empty.Given as goal
+use Rattle.stretches.proofs.stretches_kept.first_member.Given as goal
 
 -- with what is left all are empty
 abbrev pub invariant-loop-stretch : goal.invariant-loop-stretch
