@@ -13,8 +13,9 @@ use Rattle.command.specs.Replies.{is_refused}
 use Rattle.journal.specs.History.{initial, after, IsLegal}
 use Rattle.journal.specs.Story.{Machine}
 use Rattle.serial.specs.Answers.{IsReplyOrMemory, told_by}
-use Rattle.serial.specs.Machine.{reply_of, run_of}
+use Rattle.serial.specs.Machine.{reply_of, step_of, run_of}
 use Rattle.serial.specs.Memory.{is_out_of_memory}
+use Rattle.job_core.specs.AtWork.{is_at_work}
 use Rattle.script.specs.Line.{reading_of, job_of_line, HasOperands}
 use Rattle.script.specs.Text.{reply_text}
 use Rattle.listing.specs.Listing.{listing_text, IsListedFront}
@@ -99,6 +100,11 @@ left_open (a ∷ answers) jobs = left_open answers (open_after (accepted_job (re
 -- each job's HALT, in order
 abbrev pub halts_of : List ℕ → List (ℕ × Command)
 halts_of jobs = map (λ job. (job, Halt)) jobs
+
+-- these jobs were halted in order, as far as the journal wasn't full; only one that wasn't at work may have been passed over
+abbrev pub AreHalted : List ℕ → Machine → Machine → Type 0
+AreHalted [] s t = t ≡ s
+AreHalted (job ∷ jobs) s t = AreHalted jobs (step_of job Halt s) t ⊎ ((is_at_work job s ≡ false) × AreHalted jobs s t)
 
 -- what is left at the end of input: after the last line each open job was halted
 abbrev pub left_at_end : List Answer → List ℕ → Machine → Machine

@@ -2,9 +2,9 @@
 //!
 //! Callers see it as one relation between the bytes read and the bytes written: `IsOutput` of
 //! `specs/Output.antt`. Each line that isn't empty has one reply: the machine's at its place, or that memory was
-//! wanting. After the last line each open job is halted. The journal that is left is legal, and what is written is the
-//! text of the replies, `--`, and the listing of the map that the journal leaves. After a fault what was written is a
-//! beginning of such a text.
+//! wanting. After the last line each open job is halted; just one that isn't at work may be passed over, for want of
+//! memory (`AreHalted`). The journal that is left is legal, and what is written is the text of the replies, `--`, and
+//! the listing of the map that the journal leaves. After a fault what was written is a beginning of such a text.
 //!
 //! A job is open from its first accepted line, one that is read as a command and not refused memory, until a HALT that
 //! is done; its next accepted line opens it anew.

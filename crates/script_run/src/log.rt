@@ -16,7 +16,8 @@ pub trait RunLog {
     fn shown(&mut self, core: &JobCore);
 
     /// The run is over, well or not; not told where memory was refused for the run's buffer. This is what the core
-    /// holds then. Where the run ended before the last line was done, no open job was halted.
+    /// holds then. Where the run ended before the last line was done, no open job was halted; else each that was at work
+    /// was, unless the journal was full (`halt_open`).
     fn ended(&mut self, core: &JobCore);
 }
 

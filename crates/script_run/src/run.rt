@@ -319,8 +319,9 @@ pub fn run_with<R: Read, W: Write>(
 
 /// Runs a script: reads lines to the end of input, does each in its turn and writes a reply to each. Then it halts the
 /// open jobs, in order of their first accepted lines, and writes the listing. A job is open from its first accepted
-/// line, which is read as a command and not refused memory, until a HALT that is done; a HALT at the end that is refused,
-/// by a full journal (`StampsUsedUp`) or for want of memory, is passed over, since it changes no node. Replies are
+/// line, which is read as a command and not refused memory, until a HALT that is done. A HALT at the end changes no node,
+/// and one that is refused is passed over: by a full journal (`StampsUsedUp`), or for want of memory, which may refuse
+/// only that of a job without an open transaction and without a unit since its last HALT (`halt_open`). Replies are
 /// written before the next read, and earlier where 16,384 bytes of them are gathered.
 ///
 /// After as many replies as `upkeep` says, or where it costs little, the collector passes over keys, and a checkpoint
