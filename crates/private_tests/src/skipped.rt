@@ -3,7 +3,7 @@ ghost use Rattle.std.specs.Prelude.{◌≡◌, false, IfSome};
 ghost use Rattle.stretches.specs.Empty.{AreEmpty};
 
 use crate::counting::{Counting, kill, thousand};
-use crate::keys::{key_of, text};
+use crate::keys::{key_of, put};
 use collation::{Direction, Text};
 use command::{Answer, DataCommand, Extent, Look};
 use globals::{Cut, OrderedView};
@@ -192,6 +192,82 @@ fn a_level_that_is_empty_is_passed_over_by_one_look_up(rt: HostRuntime) -> Resul
     let (forward, backward) = counts_of_killed_thousand(rt.alloc())?;
     assert!(rt; forward == Some((11, 1)));
     assert!(rt; backward == Some((11, 1)));
+    Ok(())
+}
+
+// How many look-ups of the map a $ORDER makes that finds nothing, once its stretch is noted and these are left out of it.
+fn count_without(
+    alloc: Global,
+    own: &Workspace,
+    map: &KeyMap<Text>,
+    members: &KeyMap<Text>,
+    look: &Look,
+) -> Option<u64> {
+    let counting = Counting::new(map);
+    let overlay = Overlay::new(own, &counting);
+    let mut stretches = Stretches::new(alloc);
+    let scouted = is_scouted(alloc, &overlay, own, &mut stretches, look);
+    stretches.leave_out(alloc, members);
+    let _scout = counting.taken();
+    let found = is_found(alloc, &overlay, &stretches, look, b"");
+    let count = counting.taken();
+    if found && scouted { Some(count) } else { None }
+}
+
+fn count_without_toward(
+    alloc: Global,
+    own: &Workspace,
+    map: &KeyMap<Text>,
+    members: &KeyMap<Text>,
+    direction: Direction,
+) -> Result<Option<u64>, Refusal> {
+    let place = Place::new(key_of(alloc, b"A")?, true);
+    let look = Look::Order(place, direction);
+    let count = count_without(alloc, own, map, members, &look);
+    drop(look);
+    Ok(count)
+}
+
+type BothCounts = (Option<u64>, Option<u64>);
+
+// The counts of $ORDERs from both ends of the thousand, of which all are killed.
+fn counts_without(
+    alloc: Global,
+    own: &mut Workspace,
+    map: &KeyMap<Text>,
+    members: &KeyMap<Text>,
+) -> Result<BothCounts, Refusal> {
+    kill_ten(alloc, own)?;
+    let forward = count_without_toward(alloc, own, map, members, Direction::Forward)?;
+    let backward = count_without_toward(alloc, own, map, members, Direction::Backward)?;
+    Ok((forward, backward))
+}
+
+fn counts_without_those(alloc: Global, members: &KeyMap<Text>) -> Result<BothCounts, Refusal> {
+    let map = thousand(alloc)?;
+    let mut own = Workspace::new(alloc);
+    let counts = counts_without(alloc, &mut own, &map, members);
+    drop(own);
+    drop(map);
+    counts
+}
+
+fn counts_without_one(alloc: Global) -> Result<BothCounts, Refusal> {
+    let mut members = KeyMap::new(alloc);
+    let counts = match put(alloc, &mut members, b"A5", b'5') {
+        Ok(()) => counts_without_those(alloc, &members),
+        Err(refusal) => Err(refusal),
+    };
+    drop(members);
+    counts
+}
+
+// What lies before ^A(5), and behind it, is still passed over at once, and five killed ranges on the other side aren't.
+#[test]
+fn a_member_left_out_parts_a_stretch(rt: HostRuntime) -> Result<(), Fail> {
+    let (forward, backward) = counts_without_one(rt.alloc())?;
+    assert!(rt; forward == Some(6));
+    assert!(rt; backward == Some(6));
     Ok(())
 }
 
