@@ -12,8 +12,10 @@ use key_codec::{Key, Place};
 use refusal::Refusal;
 use std::alloc::Global;
 
-// Copies the subscript that $ORDER answers on a view.
-fn copy_sibling<V: OrderedView>(
+/// Copies the subscript that $ORDER answers on a view, and tells how long it is; none where no other follows.
+///
+/// `NeedSubscript` where the place has no subscript, `OutOfMemory`, `BufferTooShort`: then nothing is copied.
+pub fn copy_sibling<V: OrderedView>(
     alloc: Global,
     view: &V,
     place: &Place,
@@ -31,8 +33,10 @@ fn copy_sibling<V: OrderedView>(
     }
 }
 
-// Moves a key to the node that $QUERY answers on a view.
-fn move_to_found<V: OrderedView>(
+/// Moves a key to the node that $QUERY answers on a view.
+///
+/// `AtEnd` where no node is left, `OutOfMemory`: then the key is as it was.
+pub fn move_to_found<V: OrderedView>(
     view: &V,
     place: &Place,
     direction: Direction,

@@ -23,9 +23,11 @@
 //! Not promised: the time of a call.
 #![tactic(auto)]
 
+pub use asked::{copy_sibling, move_to_found};
 pub use copied::{copied_as, name_outcome};
 pub use engine::{Answered, Embedded};
 pub use laws::names_are_nearest;
+pub use looked::{copy_value, copy_walked};
 pub use outcome::Outcome;
 pub use statistics::Statistics;
 

@@ -177,8 +177,15 @@ fn copy_records(
     }
 }
 
-// Copies the value that a view has at a key.
-fn copy_value<V: OrderedView>(view: &V, key: &Key, buffer: &mut [u8], wanted: &mut usize) -> Outcome
+/// Copies the value that a view has at a key, and tells how long it is.
+///
+/// `NoValue` where it has none, `BufferTooShort`: then nothing is copied.
+pub fn copy_value<V: OrderedView>(
+    view: &V,
+    key: &Key,
+    buffer: &mut [u8],
+    wanted: &mut usize,
+) -> Outcome
     ensures { IsLook (V.content view.now) key.now result buffer.old buffer.new wanted.new }
 {
     *wanted = 0;
@@ -188,8 +195,11 @@ fn copy_value<V: OrderedView>(view: &V, key: &Key, buffer: &mut [u8], wanted: &m
     }
 }
 
-// Copies the next nodes of a walk over a view, and moves its place.
-fn copy_walked<V: OrderedView>(
+/// Copies the next nodes of a walk over a view, as many as the buffer has room for, and moves its place.
+///
+/// `AtEnd` where no node is left; `BufferTooShort` where the next alone is longer than the buffer; `OutOfMemory`: then
+/// nothing is copied, and the place stays.
+pub fn copy_walked<V: OrderedView>(
     alloc: Global,
     view: &V,
     root: &Option<Box<Key>>,

@@ -36,8 +36,10 @@ impl LockForm {
     }
 }
 
-// KILL, KVALUE or KSUBSCRIPTS.
-pub(crate) fn kill_command(key: &Key, extent: Extent) -> Result<Command, Refusal>
+/// KILL, KVALUE or KSUBSCRIPTS of the reference.
+///
+/// Refusals: `OutOfMemory`.
+pub fn kill_command(key: &Key, extent: Extent) -> Result<Command, Refusal>
     ensures ok { IfOk result (λ command. command ≡ Command.Access (DataCommand.Kill key.now extent)) }
     ensures err { IfErr result (λ refusal. IsMemory refusal) }
 {
@@ -45,7 +47,10 @@ pub(crate) fn kill_command(key: &Key, extent: Extent) -> Result<Command, Refusal
     Ok(Command::Access(DataCommand::Kill(key, extent)))
 }
 
-pub(crate) fn merge_command(to: &Key, from: &Key) -> Result<Command, Refusal>
+/// MERGE of what is at and under `from` to `to`.
+///
+/// Refusals: `OutOfMemory`.
+pub fn merge_command(to: &Key, from: &Key) -> Result<Command, Refusal>
     ensures ok { IfOk result (λ command. command ≡ merge_of to.now from.now) }
     ensures err { IfErr result (λ refusal. IsMemory refusal) }
 {
@@ -54,8 +59,10 @@ pub(crate) fn merge_command(to: &Key, from: &Key) -> Result<Command, Refusal>
     Ok(Command::Access(DataCommand::Merge(to, from)))
 }
 
-// $INCREMENT by this number.
-pub(crate) fn increment_command(alloc: Global, key: &Key, number: &[u8]) -> Result<Command, Refusal>
+/// $INCREMENT by this number.
+///
+/// Refusals: `BadLine` where it isn't canonic, `ValueTooLong` over 32,767 bytes; `OutOfMemory`.
+pub fn increment_command(alloc: Global, key: &Key, number: &[u8]) -> Result<Command, Refusal>
     ensures ok { IfOk result (λ command. command ≡ increment_of key.now number.now) }
     ensures err { IfErr result (λ refusal. IsNumberCause number.now refusal) }
 {
@@ -70,7 +77,10 @@ pub(crate) fn increment_command(alloc: Global, key: &Key, number: &[u8]) -> Resu
     Ok(Command::Access(DataCommand::Increment(key, number)))
 }
 
-pub(crate) fn data_command(key: &Key) -> Result<Command, Refusal>
+/// $DATA of the reference.
+///
+/// Refusals: `OutOfMemory`.
+pub fn data_command(key: &Key) -> Result<Command, Refusal>
     ensures ok { IfOk result (λ command. command ≡ data_of key.now) }
     ensures err { IfErr result (λ refusal. IsMemory refusal) }
 {
@@ -78,7 +88,10 @@ pub(crate) fn data_command(key: &Key) -> Result<Command, Refusal>
     Ok(Command::Access(DataCommand::Look(Look::Data(key))))
 }
 
-pub(crate) fn get_command(key: &Key) -> Result<Command, Refusal>
+/// $GET of the reference, without a default.
+///
+/// Refusals: `OutOfMemory`.
+pub fn get_command(key: &Key) -> Result<Command, Refusal>
     ensures ok { IfOk result (λ command. command ≡ get_of key.now) }
     ensures err { IfErr result (λ refusal. IsMemory refusal) }
 {
@@ -86,8 +99,10 @@ pub(crate) fn get_command(key: &Key) -> Result<Command, Refusal>
     Ok(Command::Access(DataCommand::Look(Look::Get(key, None))))
 }
 
-// $ORDER from this subscript below the key; from an empty one, the first or, backward, the last.
-pub(crate) fn order_command(
+/// $ORDER from this subscript below the key; from an empty one, the first or, backward, the last.
+///
+/// Refusals: `TooManySubscripts` below a key with 31, `SubscriptTooLong` over 255 bytes; `OutOfMemory`.
+pub fn order_command(
     alloc: Global,
     level: &Key,
     start: &[u8],
@@ -100,20 +115,20 @@ pub(crate) fn order_command(
     Ok(Command::Access(DataCommand::Look(Look::Order(place, direction))))
 }
 
-// The place of the key, or of an empty subscript below it.
-pub(crate) fn place_at(key: &Key, is_open: bool) -> Result<Place, AllocError>
+/// The place of the key, or of an empty subscript below it.
+///
+/// `AllocError` where memory is refused.
+pub fn place_at(key: &Key, is_open: bool) -> Result<Place, AllocError>
     ensures { IfOk result (λ place. place ≡ record { reference = key.now; is_open = is_open }) }
 {
     let key = key.clone()?;
     Ok(Place::new(key, is_open))
 }
 
-// $QUERY from the key, or from an empty subscript below it.
-pub(crate) fn query_command(
-    key: &Key,
-    is_open: bool,
-    direction: Direction,
-) -> Result<Command, Refusal>
+/// $QUERY from the key, or from an empty subscript below it.
+///
+/// Refusals: `OutOfMemory`.
+pub fn query_command(key: &Key, is_open: bool, direction: Direction) -> Result<Command, Refusal>
     ensures ok { IfOk result (λ command. command ≡ query_of key.now is_open direction) }
     ensures err { IfErr result (λ refusal. IsMemory refusal) }
 {
@@ -136,12 +151,10 @@ fn start_of(alloc: Global, start: &[u8]) -> Result<Option<Name>, Refusal>
     }
 }
 
-// $ORDER of names from this one; from an empty one, the first or, backward, the last.
-pub(crate) fn name_command(
-    alloc: Global,
-    start: &[u8],
-    direction: Direction,
-) -> Result<Command, Refusal>
+/// $ORDER of names from this one; from an empty one, the first or, backward, the last.
+///
+/// Refusals: `BadName` where it is neither empty nor a name; `OutOfMemory`.
+pub fn name_command(alloc: Global, start: &[u8], direction: Direction) -> Result<Command, Refusal>
     ensures ok { IfOk result (λ command. command ≡ name_of start.now direction) }
     ensures err { IfErr result (λ refusal. IsNameCause start.now refusal) }
 {
@@ -149,15 +162,17 @@ pub(crate) fn name_command(
     Ok(Command::Access(DataCommand::Look(Look::Name(name, direction))))
 }
 
-// LOCK of these names.
-pub(crate) fn lock_names_command(form: LockForm, names: Vec<LockName>) -> Command
+/// LOCK of these names.
+pub fn lock_names_command(form: LockForm, names: Vec<LockName>) -> Command
     ensures { result ≡ Command.Lock (lock_of form names.items) }
 {
     Command::Lock(form.of(LockNames::new(names)))
 }
 
-// LOCK of the key's reference, with its caret.
-pub(crate) fn lock_command(alloc: Global, form: LockForm, key: &Key) -> Result<Command, Refusal>
+/// LOCK of the key's reference, with its caret.
+///
+/// Refusals: `OutOfMemory`.
+pub fn lock_command(alloc: Global, form: LockForm, key: &Key) -> Result<Command, Refusal>
     ensures ok { IfOk result (λ command. command ≡ lock_of_key form key.now) }
     ensures err { IfErr result (λ refusal. IsMemory refusal) }
 {

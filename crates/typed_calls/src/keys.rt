@@ -125,12 +125,12 @@ fn open_below(key: &Key) -> Result<Place, Refusal>
     Ok(Place::new(key, true))
 }
 
-// The place one level below a key, at this subscript; it is open where that is empty.
-//
-// Refusals, in this order: `TooManySubscripts` over 31, an empty one among them; `SubscriptTooLong` over 255 bytes;
-// `OutOfMemory`.
+/// The place one level below a key, at this subscript; it is open where that is empty.
+///
+/// Refusals, in this order: `TooManySubscripts` over 31, an empty one among them; `SubscriptTooLong` over 255 bytes;
+/// `OutOfMemory`.
 #[tactic(auto, using(crate::proofs::Below::open_place, crate::proofs::Below::closed_place, crate::proofs::Below::closed_due))]
-pub(crate) fn place_below(alloc: Global, key: &Key, subscript: &[u8]) -> Result<Place, Refusal>
+pub fn place_below(alloc: Global, key: &Key, subscript: &[u8]) -> Result<Place, Refusal>
     ensures ok { IfOk result (λ place. place ≡ place_of (longer key.now subscript.now)) }
     ensures err { IfErr result (λ refusal. IsDueOrMemory refusal (place_due (longer key.now subscript.now))) }
 {

@@ -18,10 +18,13 @@ pub use calls::{
     data, get, increment, kill, kill_subscripts, kill_value, lock, lock_names, merge, next_name,
     order, push_name, query, set,
 };
-pub use commands::LockForm;
-pub use keys::{LentText, key_below, key_of_name, spell_key};
+pub use commands::{
+    LockForm, data_command, get_command, increment_command, kill_command, lock_command,
+    lock_names_command, merge_command, name_command, order_command, place_at, query_command,
+};
+pub use keys::{LentText, key_below, key_of_name, place_below, spell_key};
 pub use looks::{begin_view, level, look_children, look_order, look_query, restarts};
-pub use steps::{copy_value, run_command, run_numbered};
+pub use steps::{copy_name, copy_value, last_number, run_command, run_numbered, take_found};
 
 mod calls;
 mod commands;

@@ -97,8 +97,8 @@ pub(crate) fn number_of(reply: &Reply) -> u64
     }
 }
 
-// The number that the last reply tells.
-fn last_number(last: &Option<Answered>) -> u64
+/// The number that the last reply tells, and 0 where it has none.
+pub fn last_number(last: &Option<Answered>) -> u64
     ensures { result ≡ typed.last_number last.now }
 {
     match last {
@@ -183,8 +183,11 @@ fn put_copy(found: &Key, key: &mut Key) -> Outcome
     }
 }
 
-// Puts the reference that the last reply has in the key's place.
-fn take_found(last: &Option<Answered>, key: &mut Key) -> Outcome
+/// Puts the reference that the last reply has in the key's place.
+///
+/// Where it has none, its refusal, or `AtEnd`; `ReplyKept` where memory is refused for a key of over 38 bytes. Then the
+/// key is as it was.
+pub fn take_found(last: &Option<Answered>, key: &mut Key) -> Outcome
     ensures { IsFoundTaken last.now key.old key.new result }
 {
     let Some(answered) = last else {
@@ -213,8 +216,10 @@ pub(crate) fn run_found(engine: &mut Embedded, job: u64, command: Command, key: 
     }
 }
 
-// Copies the name of the reference that the last reply has.
-fn copy_name(last: &Option<Answered>, buffer: &mut [u8], wanted: &mut usize) -> Outcome
+/// Copies the name of the reference that the last reply has, and tells how long it is.
+///
+/// Where it has none, its refusal, or `AtEnd`; `BufferTooShort`: then nothing is copied.
+pub fn copy_name(last: &Option<Answered>, buffer: &mut [u8], wanted: &mut usize) -> Outcome
     ensures { IsNameCopied last.now result buffer.old buffer.new wanted.new }
 {
     *wanted = 0;
