@@ -1,0 +1,15 @@
+use Rattle.std.proofs.Common.{ap, refl, rules}
+use Rattle.std.specs.Prelude.{Some}
+use Rattle.session_calls.proofs.calls.keep.Goals as goal
+
+pub returns : goal.returns
+returns c =
+    record {
+      old = c.in-Some.session;
+      new = c.step.new.session;
+      was = search rules;
+      is = refl;
+      table = c.step.ensures.table;
+      hub = refl;
+      done = record { last = record { job = Some c.job-job.result; reply = c.in_ok-reply.reply }; is_kept = refl; by = ap Some c.job-job.ensures; done = c.in_ok-reply.ensures.done };
+    }

@@ -1,0 +1,4 @@
+pub mod Steps
+pub mod Calls
+pub mod Endings
+pub mod Looks
