@@ -16,9 +16,9 @@
  * In order: outcomes, engines, lines, the listing, the journal, upkeep, keys, data, walks, views, looks, locks,
  * transactions.
  *
- * An engine does the commands of up to 4,096 jobs, one call at a time. Callers on several threads hold a mutex of
- * their own round each call, also of one that only looks: each call takes the engine out and puts it back. Two engines
- * have nothing in common.
+ * An engine does the commands of up to 4,096 jobs, one call at a time. Callers on several threads use
+ * vorgushan_threads.h, or hold a mutex of their own round each call, also of one that only looks: each call takes the
+ * engine out and puts it back. Two engines have nothing in common.
  *
  * Reads by vg_get, vg_data, vg_order and vg_query are commands, and stay in the journal until vg_checkpoint. Use
  * vg_look, its like and vg_walk where that isn't wanted, and a view (vg_view_begin)
@@ -86,7 +86,8 @@ enum {
     VG_NO_KEY = 39,           /* none was made, or it was ended */
     VG_RESTARTED = 40,        /* the transaction restarts: what it did is dropped */
     VG_NO_VALUE = 41,         /* the reference has no value */
-    VG_TRANSACTION_OPEN = 42  /* the job has an open transaction or a view already */
+    VG_TRANSACTION_OPEN = 42, /* the job has an open transaction or a view already */
+    VG_BUSY = 43              /* others are at it: nothing has changed, call again; of vorgushan_threads.h alone */
 };
 
 /* The ways in which vg_order, vg_query and their like go. Any other number is backward too. */

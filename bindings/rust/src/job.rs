@@ -62,7 +62,7 @@ pub enum LockForm {
 }
 
 impl LockForm {
-    fn number(self) -> u32 {
+    pub(crate) fn number(self) -> u32 {
         match self {
             LockForm::Only => 0,
             LockForm::More => 1,

@@ -25,6 +25,7 @@
 //! - [`Database`]: makes an engine; lines, looks, walks, listings, the journal, upkeep. [`View`]: the same moment in
 //!   many looks.
 //! - [`Job`]: commands on keys, locks, [transactions](Job::transaction) that are done again after a restart.
+//! - [`SharedDatabase`]: a database of many threads, each with a [`Session`] of its own.
 //! - [`Key`] and [`Reference`]: names and subscripts, by pieces or by text. [`Subscript`]: what may be one.
 //! - [`Error`]: why a call wasn't done. [`Fault`]: where a listing is at fault.
 //!
@@ -32,8 +33,8 @@
 //!
 //! # Threads
 //!
-//! A [`Database`] is neither `Send` nor `Sync`. A [`Key`] is `Send`, as is proved of the library's keys, and not
-//! `Sync`. [`Reference`], [`Node`] and [`Error`] are plain values.
+//! A [`Database`] is neither `Send` nor `Sync`; for many threads take a [`SharedDatabase`]. A [`Session`] and a [`Key`]
+//! are `Send`, as is proved of the library's, and not `Sync`. [`Reference`], [`Node`] and [`Error`] are plain values.
 //!
 //! # Upkeep
 //!
@@ -55,6 +56,8 @@ mod job;
 mod key;
 mod literal;
 mod raw;
+mod raw_sessions;
+mod shared;
 mod transaction;
 mod view;
 mod walk;
@@ -64,6 +67,7 @@ pub use error::Error;
 pub use fault::Fault;
 pub use job::{Data, Direction, Job, LockForm, Start};
 pub use key::{Key, Reference, Subscript};
+pub use shared::{Session, SessionTransaction, SessionView, SharedDatabase};
 pub use transaction::Transaction;
 pub use view::View;
 pub use walk::{Child, Children, Level, Names, Node, Walk};

@@ -246,7 +246,7 @@ fn split_length(bytes: &[u8]) -> Option<(usize, &[u8])> {
 }
 
 /// The nodes in a buffer, each the lengths of key and value and then these; none where it isn't so.
-fn nodes_of(mut bytes: &[u8]) -> Option<Vec<Node>> {
+pub(crate) fn nodes_of(mut bytes: &[u8]) -> Option<Vec<Node>> {
     let mut nodes = Vec::new();
     while !bytes.is_empty() {
         let (key_length, rest) = split_length(bytes)?;

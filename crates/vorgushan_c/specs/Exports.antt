@@ -1,10 +1,10 @@
 -- What an exported call does with the engine that it is given.
 -- Read IsCalled, which each export on an engine cites with what the call does, then IsMade.
-use Rattle.std.specs.Prelude.{◌≡◌, ◌⊎◌, ℕ, List, Option, Some, None}
+use Rattle.std.specs.Prelude.{◌≡◌, ◌⊎◌, ℕ, List, codes, Option, Some, None}
 use Rattle.refusal.specs.declared.Refusal.TheVariants.{OutOfMemory}
 use Rattle.journal.specs.Story.{nothing_done}
 use Rattle.journal_lines.specs.Places.{placed_at}
-use Rattle.embedded.specs.Calls.{IsCount, IsNamed}
+use Rattle.embedded.specs.Calls.{IsCopied, IsCount, IsNamed}
 use Rattle.embedded.specs.Outcomes.{outcome_number}
 use Rattle.embedded.specs.declared.engine.Embedded.{Embedded}
 use Rattle.embedded.specs.declared.outcome.Outcome.{Outcome}
@@ -45,8 +45,17 @@ pub record IsCounted (before after : Embedded) (outcome : Outcome) (statistics :
   pub same : after ≡ before
   pub outcome_done : outcome ≡ Done
 
--- the name of the outcome with this number was copied, or why not
+-- the number of a call that others kept from being done
+abbrev pub busy_number : ℕ
+busy_number = 43
+
+-- the name of what this number tells was copied, or why not
+abbrev pub IsNameOf : ℕ → Outcome → List ℕ → List ℕ → ℕ → Type 0
+IsNameOf number outcome old new wanted =
+    (number ≡ busy_number → IsCopied (codes "Busy") Done outcome old new wanted) × ((number ≡ busy_number → ⊥) → IsNamed number outcome old new wanted)
+
+-- the same, with the number that was told
 pub record IsNamedBy (number told : ℕ) (old new : List ℕ) (wanted : ℕ) : Type 0 where
   pub outcome : Outcome
   pub is_told : told ≡ outcome_number outcome
-  pub named : IsNamed number outcome old new wanted
+  pub named : IsNameOf number outcome old new wanted

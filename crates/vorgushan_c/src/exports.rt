@@ -6,7 +6,8 @@ ghost use Rattle.embedded.specs.Outcomes.{outcome_number};
 ghost use Rattle.vorgushan_c.specs.Exports.{IsMade, IsCalled, IsCounted, IsNamedBy};
 
 use crate::handle::VgEngine;
-use embedded::{Embedded, Outcome, name_outcome};
+use crate::sessions::BUSY;
+use embedded::{Embedded, Outcome, copied_as, name_outcome};
 use refusal::Refusal;
 use std::alloc::Global;
 
@@ -218,12 +219,15 @@ pub extern "C" fn vorgushan_units(alloc: Global, engine: &mut VgEngine, number: 
     Outcome::Done.number()
 }
 
-/// Copies the name of the outcome with this number, as `OutOfMemory`, where the buffer is long enough.
+/// Copies the name of the outcome with this number, as `OutOfMemory` or, of 43, `Busy`, where the buffer is long enough.
 ///
 /// `UnknownNumber` where no outcome has it, `BufferTooShort`: then nothing is copied.
 #[unsafe(no_mangle)]
 pub extern "C" fn vorgushan_outcome_name(number: u32, name: &mut [u8], wanted: &mut usize) -> u32
     ensures { IsNamedBy number result name.old name.new wanted.new }
 {
+    if number == BUSY {
+        return copied_as(Outcome::Done, b"Busy", name, wanted).number();
+    }
     name_outcome(number, name, wanted).number()
 }

@@ -44,7 +44,10 @@ fn add_name(alloc: Global, key: &mut VgKey, names: &mut Vec<LockName>) -> Result
 }
 
 // The names of keys, where all are there.
-fn names_of(alloc: Global, keys: &mut [VgWholeKey]) -> Result<Option<Vec<LockName>>, Refusal>
+pub(crate) fn names_of(
+    alloc: Global,
+    keys: &mut [VgWholeKey],
+) -> Result<Option<Vec<LockName>>, Refusal>
     ensures keys { held_in keys.new ≡ held_in keys.old }
     ensures named { IfOk result (λ found. MatchOption found (asked_keys (held_in keys.old) ≡ None) (λ names. AreTheirs (asked_keys (held_in keys.old)) names.items)) }
     ensures some { IfOk result (λ found. IfSome found (λ names. names.items ≡ [] → ⊥)) }
@@ -66,7 +69,7 @@ fn names_of(alloc: Global, keys: &mut [VgWholeKey]) -> Result<Option<Vec<LockNam
 }
 
 // 0 is without a sign, 1 is +, and any other number -.
-fn form_of(form: u32) -> LockForm
+pub(crate) fn form_of(form: u32) -> LockForm
     ensures { result ≡ spec.form_of form }
 {
     match form {

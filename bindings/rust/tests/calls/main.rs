@@ -6,6 +6,7 @@ mod errors;
 mod keys;
 mod lines;
 mod locks;
+mod shared;
 mod transactions;
 mod values;
 mod views;

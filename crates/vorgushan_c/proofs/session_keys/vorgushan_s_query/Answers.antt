@@ -1,0 +1,8 @@
+use Rattle.std.proofs.Common.{rules, sym}
+use Rattle.vorgushan_c.proofs.SeatCalled.{seat_key_called}
+use Rattle.vorgushan_c.proofs.session_keys.vorgushan_s_query.Goals as goal
+
+pub returns : goal.returns
+returns c =
+    rw (sym c.direction_of-direction.ensures)
+    (seat_key_called _ _ _ _ _ _ c.deref_mut.result.now c.query-answered.new.seat c.deref_mut-2.result.now c.query-answered.result (search rules) (search rules) (search rules) (search rules) (record { found = c.query-answered.new.key; there = search rules; so = c.query-answered.ensures }))
