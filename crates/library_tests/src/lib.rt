@@ -1,5 +1,5 @@
-//! Tests of the library's calls with ample memory: each public call of `embedded` and `typed_calls` does what it is
-//! for, where its contract also lets it answer `OutOfMemory`.
+//! Tests of the library's calls with ample memory: each public call of `embedded`, `typed_calls` and `session_calls`
+//! does what it is for, where its contract also lets it answer `OutOfMemory`.
 //!
 //! Expected values come from docs/RULES.md, docs/FORMATS.md and include/vorgushan.h, never from the program.
 #![tactic(auto)]
@@ -20,6 +20,8 @@ mod locks;
 mod looks;
 #[cfg(test)]
 mod outcomes;
+#[cfg(test)]
+mod sessions;
 #[cfg(test)]
 mod texts;
 #[cfg(test)]
