@@ -5,6 +5,7 @@ import subprocess
 ROOT = os.path.dirname(os.path.dirname(os.path.abspath(__file__)))
 MRUN = os.path.join(ROOT, "crates", "mrun", "out", "mrun")
 TIMINGS = os.path.join(ROOT, "bench", "timings")
+STORES = os.path.join(ROOT, "bench", "stores")
 COPY = os.path.join(os.environ.get("XDG_CACHE_HOME") or os.path.expanduser("~/.cache"), "vorgushan-timings")
 
 
@@ -120,3 +121,24 @@ def built_timings(name):
     folder = timings_crate(name)
     subprocess.run(["rt", "run", "--", "1"], cwd=folder, check=True, stdout=subprocess.DEVNULL)
     return os.path.join(folder, "out", f"{name}_timings")
+
+
+def built_library():
+    """The library for C, proved and built."""
+    crate = os.path.join(ROOT, "crates", "vorgushan_c")
+    subprocess.run(["rt", "lib"], cwd=crate, check=True, stdout=subprocess.DEVNULL)
+    return os.path.join(crate, "out", "libvorgushan_c.a")
+
+
+def with_memory(library):
+    """The library, and the kit's C code for memory that it calls."""
+    page = subprocess.run(["rt", "doc"], capture_output=True, text=True, check=True).stdout.strip()
+    return [library, os.path.join(os.path.dirname(os.path.realpath(page)), "c", "liblibc_c.a")]
+
+
+def compile_store(program, sources, words):
+    """A program in C of these sources of bench/stores; the words are flags and libraries."""
+    paths = [os.path.join(STORES, source + ".c") for source in sources]
+    flags = ["-std=gnu11", "-Wall", "-Wextra", "-Werror", "-O2", "-I" + os.path.join(ROOT, "include")]
+    subprocess.run(["cc", *flags, *paths, *words, "-o", program], check=True)
+    return program

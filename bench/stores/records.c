@@ -11,13 +11,6 @@
 
 static const char *const FIELDS[2] = {"name", "visit"};
 
-void must(int ok, const char *what) {
-    if (!ok) {
-        fprintf(stderr, "%s failed\n", what);
-        exit(2);
-    }
-}
-
 static double now(void) {
     struct timespec at;
     must(!clock_gettime(CLOCK_PROCESS_CPUTIME_ID, &at), "clock_gettime");

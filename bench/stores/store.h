@@ -5,8 +5,7 @@
 #include <stddef.h>
 #include <stdint.h>
 
-/* Ends the program where a call of the store failed. */
-void must(int ok, const char *what);
+#include "must.h"
 
 void open_store(void);
 void close_store(void);
