@@ -1,7 +1,7 @@
 //! C's allocation, counted. Before each write to standard output it reports on standard error how many bytes are
 //! allocated apart from the largest block; where `WHOLE` is set, the most of all blocks since the last write. Where `ROOM`
 //! is set, what isn't large is refused once it would take so many bytes more than at the 21st write. To be preloaded, into
-//! a program of one thread.
+//! a program of which one thread alone takes large blocks.
 use std::ffi::{c_char, c_void};
 use std::sync::atomic::{AtomicUsize, Ordering::Relaxed};
 
