@@ -19,11 +19,14 @@ use collation::Job;
 use command::{Command, Reply};
 use listing::{Counted, ListingFault, WriteFault};
 use script_run::{
-    Outcome, PIECE_BYTES, RunLog, end_begun, extend_line, halt_open, keep_up, line_end,
-    strip_return, write_ending,
+    Outcome, RunLog, end_begun, extend_line, halt_open, keep_up, line_end, strip_return,
+    write_ending,
 };
 use std::alloc::{AllocError, Global};
 use std::io::Write;
+
+// How many bytes are taken at once, at most. They lie on the stack, which a limit of address space counts too.
+const TAKEN_BYTES: usize = 16384;
 
 // After a reply was gathered: what is gathered is written once it is enough, and upkeep is done where it is due.
 fn note_done<W: Write>(live: &mut Live, writer: &mut Counted<W>) -> Result<(), ListingFault>
@@ -476,7 +479,7 @@ fn run_pieces<A: Arrivals, W: Write>(
     ensures origin { A.origin arrivals.new ≡ A.origin arrivals.old }
 {
     let mut begun = Vec::new(alloc);
-    let mut buffer = [0; PIECE_BYTES];
+    let mut buffer = [0; TAKEN_BYTES];
     let mut standstill = Standstill::new();
     'pieces: for _ in 0..u64::MAX {
         let is_over = come(

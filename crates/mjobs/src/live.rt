@@ -11,7 +11,7 @@ use live_server::{Live, LiveFault, Lived, Teller, relay_live, status_of};
 use loading::load_with;
 use program_front::{
     Keeping, ListingFile, MjobsArgs, Piped, Statistics, Ticker, keeping_of, print_fault,
-    print_load_fault, print_refused, print_statistics,
+    print_load_fault, print_refused, print_statistics, print_unread,
 };
 use refusal::Refusal;
 use script_run::RunLog;
@@ -90,10 +90,10 @@ fn first_core(
     }
 }
 
-// Prints a fault, unless it is that nobody reads the output.
-fn tell_fault(rt: &impl Eprint, fault: LiveFault, is_closed: bool) {
+// Prints a fault; that nobody reads the output only where something was to be kept.
+fn tell_fault(rt: &impl Eprint, args: MjobsArgs, fault: LiveFault, is_closed: bool) {
     match fault {
-        LiveFault::Write if is_closed => {}
+        LiveFault::Write if is_closed => print_unread(rt, PROGRAM, args.names()),
         _ => {
             let _status = print_fault(rt, PROGRAM, fault.text());
         }
@@ -104,15 +104,15 @@ fn tell_fault(rt: &impl Eprint, fault: LiveFault, is_closed: bool) {
 // status.
 fn end_live<P: Files + Eprint + AllocGlobal, W: Write + Drop, F: Write + Drop>(
     rt: &P,
+    args: MjobsArgs,
     lived: Lived<Piped<W>>,
-    statistics: bool,
     keeping: Keeping<'_, F>,
 ) -> u8 {
     if let Err(fault) = &lived.outcome {
-        tell_fault(rt, *fault, lived.writer.inner().is_closed());
+        tell_fault(rt, args, *fault, lived.writer.inner().is_closed());
     }
     let core = lived.live.core();
-    if statistics {
+    if args.statistics {
         let held = Statistics::of(
             &core.content(),
             core.versions(),
@@ -154,7 +154,7 @@ fn run_live_from<
                 &teller,
                 log,
             );
-            end_live(rt, lived, args.statistics, keeping)
+            end_live(rt, args, lived, keeping)
         }
         Err(AllocError) => print_fault(rt, PROGRAM, LiveFault::Memory.text()),
     }

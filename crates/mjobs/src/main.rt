@@ -22,7 +22,7 @@ use program_front::{
     Keeping, ListingFile, MjobsArgs, Piped, Progress, Statistics, Ticker, Workers, arguments_of,
     keeping_of, look_at_input, mjobs_args_with, open_input, path_of, print_bad_name, print_fault,
     print_help_or_error, print_jobs_greeting, print_load_fault, print_no_transaction,
-    print_refused, print_statistics, read_listing,
+    print_refused, print_statistics, print_unread, read_listing,
 };
 use script::{Drafts, read_line};
 use std::alloc::AllocError;
@@ -108,10 +108,10 @@ fn print_unserved(rt: &impl Eprint, file: &ListingFile<'_>, fault: JobsFault) ->
     }
 }
 
-// Prints a fault, unless it is that nobody reads the output.
-fn tell_fault(rt: &impl Eprint, fault: JobsFault, is_closed: bool) {
+// Prints a fault; that nobody reads the output only where something was to be kept.
+fn tell_fault(rt: &impl Eprint, args: MjobsArgs, fault: JobsFault, is_closed: bool) {
     match fault {
-        JobsFault::Write if is_closed => {}
+        JobsFault::Write if is_closed => print_unread(rt, PROGRAM, args.names()),
         _ => {
             let _status = print_fault(rt, PROGRAM, fault.text());
         }
@@ -142,7 +142,7 @@ fn write_and_tell<P: Files + Print + Eprint + AllocGlobal, F: Write + Drop>(
     let outcome = match write_served(rt.alloc(), args.listed, served, &mut writer) {
         Ok(()) => Ok(served.refused()),
         Err(fault) => {
-            tell_fault(rt, fault, writer.inner().is_closed());
+            tell_fault(rt, args, fault, writer.inner().is_closed());
             Err(fault)
         }
     };
@@ -162,7 +162,9 @@ fn write_and_tell<P: Files + Print + Eprint + AllocGlobal, F: Write + Drop>(
     }
 }
 
-// Runs the script, once it is known that what is to be kept can be written, and answers the exit status.
+// Runs the script, once it is known that what is to be kept can be written, and answers the exit status. Its frame has the
+// room that all input is read by, which a live run does without.
+#[inline(never)]
 fn run_and_tell<
     P: Files + Print + Eprint + AllocGlobal + Clock + Threads + Wait + Sync,
     R: Read + Drop,

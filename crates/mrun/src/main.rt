@@ -21,7 +21,7 @@ use loading::load_with;
 use program_front::{
     Drafts, Keeping, ListingFile, MrunArgs, NamePlace, Piped, Ticker, arguments_of, keeping_of,
     look_at_input, mrun_args_with, open_input, path_of, print_bad_name, print_fault,
-    print_help_or_error, print_load_fault, print_wanting, read_listing,
+    print_help_or_error, print_load_fault, print_unread, print_wanting, read_listing,
 };
 use script_run::{Fault, Outcome, run_with_core, status_of};
 use side_log::{SideLog, Source, Telling};
@@ -84,9 +84,11 @@ fn first_core(
     }
 }
 
-// Tells of a want of memory where refused lines are told, and of a fault, unless it is that nobody reads the output.
+// Tells of a want of memory where refused lines are told, and of a fault: of output that nobody reads only where
+// something was to be kept.
 fn tell_outcome(
     rt: &impl Eprint,
+    args: MrunArgs,
     telling: Telling,
     outcome: Result<Outcome, Fault>,
     is_closed: bool,
@@ -97,7 +99,7 @@ fn tell_outcome(
                 print_wanting(rt, PROGRAM);
             }
         }
-        Err(Fault::Write) if is_closed => {}
+        Err(Fault::Write) if is_closed => print_unread(rt, PROGRAM, args.names()),
         Err(fault) => {
             let _status = print_fault(rt, PROGRAM, fault.text());
         }
@@ -140,7 +142,8 @@ fn run_from<R: Read + Drop, F: Write + Drop>(
         &mut writer,
         &mut log,
     );
-    tell_outcome(rt, log.telling(), outcome, writer.inner().is_closed());
+    let is_closed = writer.inner().is_closed();
+    tell_outcome(rt, args, log.telling(), outcome, is_closed);
     status_after(rt, &outcome, log.take_kept())
 }
 

@@ -66,6 +66,14 @@ fn is_same_file(kept: &Metadata, used: &Option<Metadata>) -> bool {
     }
 }
 
+/// Whether these two names stand for one file that is there.
+pub(crate) fn are_one_file(rt: &impl Files, one: &str, other: &str) -> bool {
+    match fs::metadata(rt, one) {
+        Ok(kept) => is_same_file(&kept, &fs::metadata(rt, other).ok()),
+        Err(_) => false,
+    }
+}
+
 // Whether replies or faults are printed to this file.
 fn is_printed_to(rt: &impl Files, kept: &Metadata) -> bool {
     is_same_file(kept, &fs::metadata(rt, STANDARD_OUTPUT).ok())

@@ -4,6 +4,7 @@ ghost use Rattle.std.specs.Io.KnownBytes.{Appends};
 ghost use Rattle.journal_lines.specs.Journals.{journal_text};
 ghost use Rattle.listing.specs.Listing.{listing_text};
 
+use crate::in_use::are_one_file;
 use crate::printing::{FAULT_STATUS, path_of, print_left, print_unkept, print_unput};
 use crate::words::{FileNames, NamePlace};
 use globals::OrderedView;
@@ -13,12 +14,25 @@ use listing::{Counted, ListingFault, write_listing};
 use std::alloc::Global;
 use std::fs::{Metadata, OpenFile, OpenOptions};
 use std::io::{ErrorKind, Write};
-use std::os::unix::fs::{MetadataExt, chown};
+use std::os::unix::fs::{MetadataExt, OpenOptionsExt, chown};
 use std::rt::Files;
 use std::{fs, io};
 
 // How many names are tried for the new file: one that a killed run left is passed over.
 const MOST_NAMES: usize = 9;
+
+// What is said where all of them are there.
+const ALL_THERE: &str =
+    "its new file can't be made: remove those beside it with .new-1 to .new-9 that no run is writing";
+
+// What is said where the listing's new file would be the journal's.
+const WRITTEN_BESIDE: &str = "it is first written where the journal is to be";
+
+// Whom a new file lets read and write it: its owner alone, until it has the mode of the file whose place it will take.
+const OWNER_ALONE: u32 = 0o600;
+
+// Or everybody, less the process's mask, where no file is there.
+const EVERYBODY: u32 = 0o666;
 
 // What is kept.
 #[derive(Clone, Copy, Debug, PartialEq, Eq)]
@@ -62,12 +76,17 @@ fn open_as_it_is<P: Files>(rt: &P, path: &str) -> io::Result<P::File> {
 }
 
 // A new file beside this place, with its name: the place's with `.new-1` behind, or a greater digit where that is there.
-fn create_beside<P: Files + AllocGlobal>(rt: &P, place: &str) -> io::Result<(String, P::File)> {
+fn create_beside<P: Files + AllocGlobal>(
+    rt: &P,
+    place: &str,
+    mode: u32,
+) -> io::Result<(String, P::File)> {
     for i in 1..=MOST_NAMES {
         let name = format!(in rt.alloc(); "{place}.new-{i}")?;
         match OpenOptions::new()
             .write(true)
             .create_new(true)
+            .mode(mode)
             .open(rt, name.as_str())
         {
             Ok(file) => return Ok((name, file)),
@@ -75,7 +94,7 @@ fn create_beside<P: Files + AllocGlobal>(rt: &P, place: &str) -> io::Result<(Str
             Err(why) => return Err(why),
         }
     }
-    Err(io::Error::from(ErrorKind::AlreadyExists))
+    Err(io::Error::new(ErrorKind::AlreadyExists, ALL_THERE))
 }
 
 // Removes a new file. Where it can't be removed it stays.
@@ -83,39 +102,68 @@ fn remove(rt: &impl Files, name: &str) {
     let _ = fs::remove_file(rt, name);
 }
 
-// Finds out whether a new file can be created beside this place. None is left there.
-fn try_beside(rt: &(impl Files + AllocGlobal), place: &str) -> io::Result<()> {
-    let (name, file) = create_beside(rt, place)?;
+// Finds out whether a new file can be created beside this place, and isn't the one that the journal's name stands for,
+// where such a name is given. None is left there.
+fn try_beside(
+    rt: &(impl Files + AllocGlobal),
+    place: &str,
+    journal: Option<&str>,
+) -> io::Result<()> {
+    let (name, file) = create_beside(rt, place, OWNER_ALONE)?;
     drop(file);
+    let is_journal = match journal {
+        Some(journal) => are_one_file(rt, journal, name.as_str()),
+        None => false,
+    };
     remove(rt, name.as_str());
+    if is_journal {
+        return Err(io::Error::new(ErrorKind::Other, WRITTEN_BESIDE));
+    }
     Ok(())
 }
 
 // The way to a file that bytes are kept in and that may be written to.
-fn way_to_file<P: Files + AllocGlobal>(rt: &P, path: &str) -> io::Result<Way<P::File>> {
+fn way_to_file<P: Files + AllocGlobal>(
+    rt: &P,
+    path: &str,
+    journal: Option<&str>,
+) -> io::Result<Way<P::File>> {
     let file = open_as_it_is(rt, path)?;
     drop(file);
     let place = fs::canonicalize(rt, path)?.into_string();
-    try_beside(rt, place.as_str())?;
+    try_beside(rt, place.as_str(), journal)?;
     Ok(Way::Anew(place))
 }
 
 // The way to a file that isn't there yet.
-fn way_to_none<P: Files + AllocGlobal>(rt: &P, path: &str) -> io::Result<Way<P::File>> {
+fn way_to_none<P: Files + AllocGlobal>(
+    rt: &P,
+    path: &str,
+    journal: Option<&str>,
+) -> io::Result<Way<P::File>> {
     let place = String::from_str(rt.alloc(), path)?;
-    try_beside(rt, place.as_str())?;
+    try_beside(rt, place.as_str(), journal)?;
     Ok(Way::Anew(place))
 }
 
-// The way to what is named so, as the system knows it now.
-fn way_to<P: Files + AllocGlobal>(rt: &P, path: &str) -> io::Result<Way<P::File>> {
+// The way to what is named so, as the system knows it now. What is first written beside it isn't to be the journal.
+fn way_to<P: Files + AllocGlobal>(
+    rt: &P,
+    path: &str,
+    journal: Option<&str>,
+) -> io::Result<Way<P::File>> {
     match fs::metadata(rt, path) {
         Ok(known) if known.is_dir() => Err(io::Error::from(ErrorKind::IsADirectory)),
-        Ok(known) if known.is_file() => way_to_file(rt, path),
+        Ok(known) if known.is_file() => way_to_file(rt, path, journal),
         Ok(_) => Ok(Way::Straight(open_as_it_is(rt, path)?)),
-        Err(why) if why.kind() == ErrorKind::NotFound => way_to_none(rt, path),
+        Err(why) if why.kind() == ErrorKind::NotFound => way_to_none(rt, path, journal),
         Err(why) => Err(why),
     }
+}
+
+// The name that stands there among the arguments.
+fn named_at(arguments: &[Vec<u8>], place: Option<NamePlace>) -> Option<&str> {
+    place?.name_in(arguments).and_then(path_of)
 }
 
 // Where something is kept, if its name stands there among the arguments. It is looked whether it can be written; the
@@ -126,16 +174,19 @@ fn place_of<'a, P: Files + Eprint + AllocGlobal>(
     arguments: &'a [Vec<u8>],
     what: Kept,
     place: Option<NamePlace>,
+    journal: Option<&str>,
 ) -> Result<Option<KeptPlace<'a, P::File>>, u8>
     ensures { IfErr result (λ status. status ≡ FAULT_STATUS) }
 {
-    let Some(place) = place else {
+    if place.is_none() {
         return Ok(None);
+    }
+    let name = match named_at(arguments, place) {
+        Some("") => return Err(print_unkept(rt, program, what.fault(), "its name is empty")),
+        Some(name) => name,
+        None => return Err(print_unkept(rt, program, what.fault(), "its name isn't UTF-8")),
     };
-    let Some(name) = place.name_in(arguments).and_then(path_of) else {
-        return Err(print_unkept(rt, program, what.fault(), "its name isn't UTF-8"));
-    };
-    match way_to(rt, name) {
+    match way_to(rt, name, journal) {
         Ok(way) => Ok(Some(KeptPlace { what, name, way })),
         Err(why) => Err(print_unput(rt, program, what.fault(), name, why)),
     }
@@ -149,10 +200,10 @@ fn take_after(rt: &impl Files, name: &str, known: &Metadata) -> io::Result<()> {
 
 // A new file for this place, with its name.
 fn begin_beside<P: Files + AllocGlobal>(rt: &P, place: &str) -> io::Result<(String, P::File)> {
-    let (name, file) = create_beside(rt, place)?;
     let Ok(known) = fs::metadata(rt, place) else {
-        return Ok((name, file));
+        return create_beside(rt, place, EVERYBODY);
     };
+    let (name, file) = create_beside(rt, place, OWNER_ALONE)?;
     match take_after(rt, name.as_str(), &known) {
         Ok(()) => Ok((name, file)),
         Err(why) => {
@@ -339,11 +390,12 @@ pub fn keeping_of<'a, P: Files + Eprint + AllocGlobal>(
 ) -> Result<Keeping<'a, P::File>, u8>
     ensures { IfErr result (λ status. status ≡ FAULT_STATUS) }
 {
-    let journal = match place_of(rt, program, arguments, Kept::Journal, names.journal) {
+    let journal = match place_of(rt, program, arguments, Kept::Journal, names.journal, None) {
         Ok(journal) => journal,
         Err(status) => return Err(status),
     };
-    match place_of(rt, program, arguments, Kept::Listing, names.save) {
+    let beside = named_at(arguments, names.journal);
+    match place_of(rt, program, arguments, Kept::Listing, names.save, beside) {
         Ok(listing) => Ok(Keeping { journal, listing }),
         Err(status) => Err(status),
     }

@@ -25,7 +25,7 @@ pub use piped::Piped;
 pub use printing::{
     FAULT_STATUS, arguments_of, path_of, print_bad_name, print_fault, print_greeting,
     print_help_or_error, print_jobs_greeting, print_load_fault, print_mark, print_no_transaction,
-    print_refused, print_unloaded, print_unopened, print_wanting, room_before,
+    print_refused, print_unloaded, print_unopened, print_unread, print_wanting, room_before,
 };
 pub use progress::Progress;
 pub use run_words::{MrunArgs, mrun_args_of, mrun_args_with};

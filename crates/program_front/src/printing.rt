@@ -3,6 +3,7 @@ ghost use Rattle.std.specs.Prelude.{◌≡◌};
 
 use crate::hints::{hint_of, listing_hint};
 use crate::listing_file::ListingFile;
+use crate::words::FileNames;
 use clap::error::ErrorKind;
 use loading::{FaultyLine, LoadFault};
 use refusal::Refusal;
@@ -150,6 +151,13 @@ pub fn print_wanting(rt: &impl Eprint, program: &str) {
     let _ = eprintln!(rt;
         "{program}: memory was refused: with more of it, the lines that got OutOfMemory would have other replies"
     );
+}
+
+/// Prints, where something was to be kept, that nothing is, since nobody reads the output any more.
+pub fn print_unread(rt: &impl Eprint, program: &str, names: FileNames) {
+    if names.keep_something() {
+        let _ = eprintln!(rt; "{program}: nobody reads the output any more, so nothing is kept");
+    }
 }
 
 /// Prints that a file can't be opened, and why, and answers the exit status.

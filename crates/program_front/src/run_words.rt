@@ -17,9 +17,9 @@ use std::rt::Files;
 const ERRORS: &str = "Print each refused line's number, column and fault";
 
 // What `--help` prints under the options.
-const LINES: &str = "Each line is a job, 1 to 4096, a blank, and SET, KILL, MERGE, LOCK, TSTART,
-TCOMMIT, TROLLBACK, TRESTART or HALT, or a function: $DATA, $GET, $ORDER,
-$QUERY, $TLEVEL or $TRESTART:
+const LINES: &str = "Each line is a job, 1 to 4096, a blank, and SET, KILL, KVALUE, KSUBSCRIPTS,
+MERGE, LOCK, TSTART, TCOMMIT, TROLLBACK, TRESTART or HALT, or a function: $DATA,
+$GET, $INCREMENT, $ORDER, $QUERY, $TLEVEL or $TRESTART:
 
   1 SET ^Fruit(\"apple\",\"price\")=1.2
   1 $GET(^Fruit(\"apple\",\"price\"))

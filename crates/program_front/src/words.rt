@@ -36,6 +36,13 @@ pub struct FileNames {
     pub journal: Option<NamePlace>,
 }
 
+impl FileNames {
+    /// Whether something is to be kept.
+    pub(crate) fn keep_something(self) -> bool {
+        self.save.is_some() || self.journal.is_some()
+    }
+}
+
 /// The version of both programs.
 pub(crate) const VERSION: &str = "0.1.0";
 
