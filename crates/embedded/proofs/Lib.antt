@@ -1,3 +1,4 @@
+mod Ends
 mod Given
 mod Nodes
 mod Siblings

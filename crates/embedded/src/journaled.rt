@@ -64,7 +64,8 @@ fn copy_lines(
     }
 }
 
-// The same of the units of a journal that are behind a place.
+// The same of the units of a journal that are behind a place. Where none is there none is read.
+#[tactic(auto, using(crate::proofs::Ends::none_left))]
 fn copy_journal(
     journal: &Journal,
     place: &mut JournalPlace,
@@ -76,6 +77,9 @@ fn copy_journal(
     ensures { IsJournalRead journal.now.base journal.now.units place.old place.new result buffer.old buffer.new wanted.new }
 {
     *wanted = 0;
+    if journal.len() <= place.number() {
+        return Outcome::AtEnd;
+    }
     match units_behind(journal, place.number()) {
         Ok(Some(units)) => copy_lines(units, place, text, buffer, wanted),
         Ok(None) => Outcome::Refused(Refusal::Gone),
@@ -97,7 +101,8 @@ impl Embedded {
 
     /// Copies the lines of the journal's next unit, and of as many more as there are room and memory for, tells how long
     /// they are, and moves on behind them. They are the lines of `journal_lines`, which do the units again: a
-    /// transaction is written where it commits. It is no command. All units are read that no checkpoint has dropped.
+    /// transaction is written where it commits. It is no command. Where a unit is left all are read that no checkpoint has
+    /// dropped.
     ///
     /// `AtEnd` where no unit is left; `Gone` where a checkpoint has dropped the next; `BufferTooShort` where the next
     /// unit's lines are longer than the buffer, and then their length is told; `OutOfMemory`: then nothing is copied,

@@ -146,6 +146,7 @@ impl<'a, B: BoardName, R: Wait, G: Gate> Worker<'a, B, R, G> {
     {
         let mut place = begin;
         'lines: while let Some(line) = place.next() {
+            self.check_stop()?;
             let Some(asked) = read_within(self.alloc, job, line.text, &mut run.drafts) else {
                 return Ok(Some(place));
             };

@@ -12,6 +12,9 @@ use std::marker::Model;
 // One more than the greatest number of a job.
 const DESKS: usize = 4097;
 
+// For how many lines a desk keeps its room once none waits there.
+const MOST_LINES_KEPT: usize = 64;
+
 /// A line that waits, and its number in the input. Contracts see its bytes.
 #[derive(Drop)]
 pub(crate) struct Line {
@@ -109,11 +112,15 @@ impl Desk {
         }
     }
 
+    // Where no line waits any more the room for many is given back.
     fn pass(&mut self)
         ensures { self.new ≡ passed self.old }
     {
         self.was_tried = false;
         let _line = self.lines.pop_front();
+        if self.lines.is_empty() && self.lines.capacity() > MOST_LINES_KEPT {
+            self.lines.shrink_to_fit();
+        }
     }
 
     fn try_in_vain(&mut self)
