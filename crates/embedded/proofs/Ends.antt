@@ -12,4 +12,4 @@ use Rattle.embedded.specs.declared.outcome.Outcome.TheVariants.{AtEnd}
 pub none_left : (base : ℕ) (units : List JournalUnit) (place : Placed) (bytes : List ℕ) → length units ≤ place.number → IsJournalRead base units place place AtEnd bytes bytes 0
 none_left base units place bytes h =
     let few : length (take base units) ≤ place.number = omega (arith, length-take base units, min-le_right base (length units), h) in
-    inr (inl (few, subst (λ us. IsNextRead us place place AtEnd bytes bytes 0) (sym (drop_all place.number units h)) (record { left = refl; told = refl; answered = refl; }, refl)))
+    inr (inl (few, subst (λ us. IsNextRead us place place AtEnd bytes bytes 0) (sym (drop_all place.number units h)) (record { left = refl; told = refl; answered = refl }, refl)))
