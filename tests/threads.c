@@ -4,7 +4,7 @@
  *
  * The linker's --wrap leads each call of the library through a function below, which answers VG_BUSY as often as `busy`
  * says: so it shows that each inline function calls again, and which of them wait in line. Those of malloc and realloc
- * refuse memory, and what isn't given back is counted. */
+ * refuse memory, and what isn't given back is counted. That of clock_gettime stops the clock. */
 #include <stdio.h>
 #include <string.h>
 #include <unistd.h>
@@ -89,6 +89,21 @@ BUSY_AT_TIMES(vorgushan_s_walk, (vg_session * s, uint32_t m, vg_key *r, vg_key *
               (s, m, r, p, v, z, n))
 BUSY_AT_TIMES(vorgushan_s_collect, (vg_session * s, size_t n), (s, n))
 BUSY_AT_TIMES(vorgushan_s_checkpoint, (vg_session * s), (s))
+
+/* The time that is told while the clock stands, and how often it was asked for then. */
+static struct timespec standing;
+static int clock_stands = 0;
+static int asked = 0;
+
+int __real_clock_gettime(clockid_t clock, struct timespec *time);
+int __wrap_clock_gettime(clockid_t clock, struct timespec *time);
+int __wrap_clock_gettime(clockid_t clock, struct timespec *time) {
+    if (!__atomic_load_n(&clock_stands, __ATOMIC_SEQ_CST))
+        return __real_clock_gettime(clock, time);
+    *time = standing;
+    __atomic_add_fetch(&asked, 1, __ATOMIC_SEQ_CST);
+    return 0;
+}
 
 /* How many blocks of memory the library gets before all are refused; as many as it wants, where that is below 0. */
 static int blocks = -1;
@@ -596,7 +611,7 @@ static void *waits(void *with) {
     uint64_t had = 0;
     const struct timespec start = vgt_after(0);
     CHECK(vgt_lock(&other, VG_LOCK_ONLY, &who->key, who->wait, &had) == VG_DONE && had == 1);
-    CHECK(who->wait < 0 || milliseconds_since(&start) < who->wait / 2);
+    CHECK(who->wait < 0 || milliseconds_since(&start) < who->wait * 3 / 4);
     CHECK(vgt_unlock(&other) == VG_DONE);
     return NULL;
 }
@@ -630,65 +645,66 @@ static void use_all_releases(void) {
     use_waiting(&one, has_it_in_a_transaction, -1, by_tcommit);
     use_waiting(&one, has_it_in_a_transaction, -1, vgt_trollback);
     use_waiting(&one, has_it_in_a_transaction, -1, by_trestart);
-    use_waiting(&one, keeps_it_until_the_end, 6000, by_the_commit);
-    use_waiting(&one, has_it_again_by_a_rollback, 6000, vgt_unlock);
-    use_waiting(&one, keeps_it_for_want_of_memory, 6000, vgt_unlock);
+    use_waiting(&one, keeps_it_until_the_end, 16000, by_the_commit);
+    use_waiting(&one, has_it_again_by_a_rollback, 16000, vgt_unlock);
+    use_waiting(&one, keeps_it_for_want_of_memory, 16000, vgt_unlock);
     CHECK(vgt_open(&hub, &third, 3) == VG_DONE);
     use_waiting(&third, has_it, -1, vgt_halt);
 }
 
 /* ---- Readers without a pause ---- */
 
-/* One who waits in line comes through, or goes, a little later. */
+/* Until a look that gives way has begun to wait. */
+static void wait_for_its_wait(void) {
+    while (__atomic_load_n(&asked, __ATOMIC_SEQ_CST) < 2)
+        sched_yield();
+}
+
+/* One who waits in line comes through while another still waits, or goes. */
 static void *is_served(void *nothing) {
-    const struct timespec little = {0, 1000000};
-    nanosleep(&little, NULL);
+    wait_for_its_wait();
     __atomic_add_fetch(&hub.served_writers, 1, __ATOMIC_RELAXED);
     return nothing;
 }
 
 static void *goes(void *nothing) {
-    const struct timespec little = {0, 1000000};
-    nanosleep(&little, NULL);
+    wait_for_its_wait();
     __atomic_store_n(&hub.waiting_writers, 0, __ATOMIC_RELAXED);
     return nothing;
 }
 
-/* A look that gives way begins before its 50 milliseconds are over where somebody comes through: on a machine that does
- * other work too, at least once in many times. */
+/* A look that gives way ends then, though its 50 milliseconds are never over. */
 static void use_giving_way(void *(*comes_through)(void *)) {
     pthread_t thread;
-    long least = 1000;
-    int times;
-    for (times = 0; times < 100 && least >= 40; times++) {
-        const struct timespec start = vgt_after(0);
-        long took;
-        __atomic_store_n(&hub.waiting_writers, 1, __ATOMIC_RELAXED);
-        pthread_create(&thread, NULL, comes_through, NULL);
-        CHECK(vgt_look(&one, VG_PRESENT, &root, text, sizeof text, &length) == VG_DONE);
-        took = milliseconds_since(&start);
-        pthread_join(thread, NULL);
-        least = took < least ? took : least;
-    }
-    __atomic_store_n(&hub.waiting_writers, 0, __ATOMIC_RELAXED);
-    CHECK(least < 40);
+    asked = 0;
+    standing = vgt_after(0);
+    clock_stands = 1;
+    hub.waiting_writers = 1;
+    pthread_create(&thread, NULL, comes_through, NULL);
+    CHECK(vgt_look(&one, VG_PRESENT, &root, text, sizeof text, &length) == VG_DONE);
+    pthread_join(thread, NULL);
+    hub.waiting_writers = 0;
+    clock_stands = 0;
 }
 
-/* Calls that read without a pause, until others have come through, and for some seconds at most. */
-enum { WALKERS = 4, MOST_WALKING = 5000 };
+/* Calls that read without a pause, until others have come through, and so often at most. */
+enum { WALKERS = 4, MOST_WALKS = 10000 };
 
 static int over = 0;
-static struct timespec walking_since;
+static int tired = 0;
 
 static void *walks(void *with) {
     vgt_session *session = with;
     char nodes[70000];
     size_t size;
-    while (!__atomic_load_n(&over, __ATOMIC_RELAXED) && milliseconds_since(&walking_since) < MOST_WALKING) {
+    int times;
+    for (times = 0; times < MOST_WALKS && !__atomic_load_n(&over, __ATOMIC_SEQ_CST); times++) {
         vg_key place = VG_KEY_NONE;
         CHECK(vgt_walk(session, VG_PRESENT, NULL, &place, nodes, sizeof nodes, &size) == VG_DONE);
         vg_key_end(&place);
     }
+    if (times == MOST_WALKS)
+        __atomic_add_fetch(&tired, 1, __ATOMIC_SEQ_CST);
     return NULL;
 }
 
@@ -706,15 +722,14 @@ static void use_walkers(void) {
         CHECK(vg_key_spell(&node, VG_TEXT("C"), &subscript, 1) == VG_DONE);
         CHECK(vgt_set(&one, &node, VG_TEXT("value")) == VG_DONE);
     }
-    walking_since = vgt_after(0);
     for (number = 0; number < WALKERS; number++) {
         CHECK(vgt_open(&hub, &walkers[number], 10 + (uint64_t)number) == VG_DONE);
         pthread_create(&threads[number], NULL, walks, &walkers[number]);
     }
     nanosleep(&little, NULL);
     CHECK(vgt_set(&one, &node, VG_TEXT("another")) == VG_DONE && vgt_open(&hub, &third, 3) == VG_DONE);
-    CHECK(milliseconds_since(&walking_since) < MOST_WALKING);
-    __atomic_store_n(&over, 1, __ATOMIC_RELAXED);
+    CHECK(__atomic_load_n(&tired, __ATOMIC_SEQ_CST) == 0);
+    __atomic_store_n(&over, 1, __ATOMIC_SEQ_CST);
     for (number = 0; number < WALKERS; number++) {
         pthread_join(threads[number], NULL);
         CHECK(vgt_halt(&walkers[number]) == VG_DONE);
@@ -763,7 +778,7 @@ static void use_upkeep(void) {
 
 int main(void) {
     setvbuf(stdout, NULL, _IONBF, 0);
-    alarm(20);
+    alarm(30);
     begin_all();
     begin_without_memory();
     use_data();
