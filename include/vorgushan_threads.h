@@ -2,8 +2,8 @@
  * vorgushan.h about keys, outcomes and texts holds here too; docs/LIBRARY.md is the page of both. NULL may be given for
  * a text or buffer of length 0, and for a length or number that the caller doesn't need, but for nothing else.
  *
- *     static vgt_hub bank;                                     // shared by all threads
- *     vgt_session teller;                                      // of one thread, in one call at a time
+ *     static vgt_hub bank = VGT_HUB_NONE;                      // shared by all threads
+ *     vgt_session teller = VGT_SESSION_NONE;                   // of one thread, in one call at a time
  *     if (vgt_new(&bank) != VG_DONE || vgt_open(&bank, &teller, 1) != VG_DONE) return 1;
  *     vgt_set(&teller, &key, VG_TEXT("100"));
  *     vgt_transaction(&teller, move, &what);                   // calls move(&teller, &what) again after each conflict
@@ -16,8 +16,14 @@
  * has changed nothing, and may be made again. The calls named vgt_ do that for you: they spin, then yield, then sleep.
  * They are written by hand, for POSIX threads, and tested; what they call is proved.
  *
+ * Looks, and commands that read in a transaction, go on side by side; most other calls have the database for themselves
+ * for a moment. Where one waits long for that, each of the former lets one of the latter by before it begins.
+ *
+ * There are no calls here for command lines, a listing, a load, the journal, children and counts: a walk of all in a
+ * view, at VG_AT_START, reads all that is there at one moment.
+ *
  * What a caller owes: a session is given to one call at a time. It may go to another thread between two calls. A key
- * too is given to one call at a time, so each thread has its own.
+ * too is given to one call at a time, so each thread has its own. No thread is cancelled in a call.
  *
  * With -std=c11 or -std=c99 compile with -D_POSIX_C_SOURCE=200809L, and always with -pthread. */
 #ifndef VORGUSHAN_THREADS_H
@@ -98,27 +104,39 @@ vg_outcome vorgushan_s_checkpoint(vg_session *session);
 
 /* ---- Waiting ---- */
 
-/* A database that threads share. No two threads may make or end it at once; what else they do with it they may. */
+/* A database that threads share. Begin it with VGT_HUB_NONE, an initializer (memory set to zero is the same). No two
+ * threads may make or end it at once; what else they do with it they may. */
 typedef struct vgt_hub {
     vg_hub own;
-    pthread_mutex_t opening; /* held round each call that is given the hub */
-    pthread_mutex_t waiting; /* held for `turns` */
-    pthread_cond_t freed;    /* names may have been given back */
-    uint64_t turns;          /* how often that was */
+    unsigned waiting_writers; /* calls that have spun in vain to have the database for themselves */
+    unsigned served_writers;  /* how many of those came through */
+    pthread_mutex_t opening;  /* held round each call that is given the hub */
+    pthread_mutex_t waiting;  /* held for `turns` */
+    pthread_cond_t freed;     /* names may have been given back */
+    uint64_t turns;           /* how often that was */
 } vgt_hub;
 
-/* A session of one job. */
+#define VGT_HUB_NONE                                                                                                   \
+    {{NULL}, 0, 0, PTHREAD_MUTEX_INITIALIZER, PTHREAD_MUTEX_INITIALIZER, PTHREAD_COND_INITIALIZER, 0}
+
+/* A session of one job. Begin it with VGT_SESSION_NONE, an initializer (memory set to zero is the same). */
 typedef struct vgt_session {
     vg_session own;
     vgt_hub *hub;
-    int locked; /* it may have names that others wait for */
+    int locked;         /* it may have names that others wait for, or get them back by a rollback */
+    int in_transaction; /* its vgt_tstart has begun one, which is open */
 } vgt_session;
+
+#define VGT_SESSION_NONE {{NULL}, NULL, 0, 0}
+
+/* So often vgt_pause spins before it yields. */
+enum { VGT_SPINNING_TURNS = 8 };
 
 /* Spins, then yields, then sleeps: longer at each turn. */
 static inline void vgt_pause(unsigned *turn) {
     const struct timespec nap = {0, 50000};
     unsigned spin;
-    if (*turn < 8) {
+    if (*turn < VGT_SPINNING_TURNS) {
         for (spin = 0; spin < 16u << *turn; spin++)
             __builtin_ia32_pause();
     } else if (*turn < 64) {
@@ -130,12 +148,81 @@ static inline void vgt_pause(unsigned *turn) {
     ++*turn;
 }
 
-/* Makes a call until it isn't in the way of others. */
-#define VGT_RETRY(outcome, call)                                                                                       \
+/* The time so many milliseconds from now. */
+static inline struct timespec vgt_after(long milliseconds) {
+    struct timespec time;
+    clock_gettime(CLOCK_MONOTONIC, &time);
+    time.tv_sec += milliseconds / 1000;
+    time.tv_nsec += milliseconds % 1000 * 1000000;
+    if (time.tv_nsec >= 1000000000) {
+        time.tv_sec++;
+        time.tv_nsec -= 1000000000;
+    }
+    return time;
+}
+
+/* Whether that time is over. */
+static inline int vgt_is_over(const struct timespec *until) {
+    const struct timespec now = vgt_after(0);
+    return now.tv_sec > until->tv_sec || (now.tv_sec == until->tv_sec && now.tv_nsec >= until->tv_nsec);
+}
+
+/* Pauses for a call that may need the database for itself. Once it has spun in vain it is among the waiting writers. */
+static inline void vgt_wait_in_line(vgt_hub *hub, unsigned *turn) {
+    if (*turn == VGT_SPINNING_TURNS)
+        __atomic_add_fetch(&hub->waiting_writers, 1, __ATOMIC_RELAXED);
+    vgt_pause(turn);
+}
+
+/* Such a call is through, after so many turns. */
+static inline void vgt_leave_line(vgt_hub *hub, unsigned turn) {
+    if (turn <= VGT_SPINNING_TURNS)
+        return;
+    __atomic_add_fetch(&hub->served_writers, 1, __ATOMIC_RELAXED);
+    __atomic_sub_fetch(&hub->waiting_writers, 1, __ATOMIC_RELAXED);
+}
+
+/* Waits until one of the waiting writers came through, or none waits, or 50 milliseconds are over. */
+static inline void vgt_let_one_by(vgt_hub *hub) {
+    const unsigned served = __atomic_load_n(&hub->served_writers, __ATOMIC_RELAXED);
+    const struct timespec until = vgt_after(50);
+    unsigned turn = 0;
+    while (__atomic_load_n(&hub->waiting_writers, __ATOMIC_RELAXED) > 0 &&
+           __atomic_load_n(&hub->served_writers, __ATOMIC_RELAXED) == served && !vgt_is_over(&until))
+        vgt_pause(&turn);
+}
+
+/* What a call that reads does first, so that readers without a pause between them keep nobody out. */
+static inline void vgt_give_way(vgt_hub *hub) {
+    if (hub && __atomic_load_n(&hub->waiting_writers, __ATOMIC_RELAXED) > 0)
+        vgt_let_one_by(hub);
+}
+
+/* Makes a session's call until it isn't in the way of others: one that may need the database for itself. */
+#define VGT_RETRY(session, outcome, call)                                                                              \
     do {                                                                                                               \
         unsigned vgt_turn = 0;                                                                                         \
         while (((outcome) = (call)) == VG_BUSY)                                                                        \
+            vgt_wait_in_line((session)->hub, &vgt_turn);                                                               \
+        vgt_leave_line((session)->hub, vgt_turn);                                                                      \
+    } while (0)
+
+/* The same of one that only looks at the database, and never needs it for itself. */
+#define VGT_LOOK(session, outcome, call)                                                                               \
+    do {                                                                                                               \
+        unsigned vgt_turn = 0;                                                                                         \
+        vgt_give_way((session)->hub);                                                                                  \
+        while (((outcome) = (call)) == VG_BUSY)                                                                        \
             vgt_pause(&vgt_turn);                                                                                      \
+    } while (0)
+
+/* The same of a command that reads: in a transaction it only looks, and else it is a unit of the journal. */
+#define VGT_READ(session, outcome, call)                                                                               \
+    do {                                                                                                               \
+        if ((session)->in_transaction)                                                                                 \
+            VGT_LOOK(session, outcome, call);                                                                          \
+        else                                                                                                           \
+            VGT_RETRY(session, outcome, call);                                                                         \
     } while (0)
 
 /* Wakes those who wait for names, where the session may have given some back. */
@@ -157,19 +244,6 @@ static inline uint64_t vgt_turns(vgt_hub *hub) {
     return turns;
 }
 
-/* The time so many milliseconds from now. */
-static inline struct timespec vgt_after(long milliseconds) {
-    struct timespec time;
-    clock_gettime(CLOCK_MONOTONIC, &time);
-    time.tv_sec += milliseconds / 1000;
-    time.tv_nsec += milliseconds % 1000 * 1000000;
-    if (time.tv_nsec >= 1000000000) {
-        time.tv_sec++;
-        time.tv_nsec -= 1000000000;
-    }
-    return time;
-}
-
 /* Waits until names may have been given back once more than so often, or until that time, where there is one. Returns
  * whether the time is over. */
 static inline int vgt_wait(vgt_hub *hub, uint64_t turns, const struct timespec *until) {
@@ -184,15 +258,16 @@ static inline int vgt_wait(vgt_hub *hub, uint64_t turns, const struct timespec *
 
 /* ---- Hubs and sessions ---- */
 
-/* Makes an empty database that threads share. VG_OUT_OF_MEMORY: then it needs no vgt_end. */
+/* Makes an empty database that threads share. VG_ENGINE_THERE where one is there; VG_OUT_OF_MEMORY: then it needs no
+ * vgt_end. */
 static inline vg_outcome vgt_new(vgt_hub *hub) {
     pthread_condattr_t clock;
-    vg_outcome outcome;
-    hub->own.own = NULL;
-    hub->turns = 0;
-    outcome = vorgushan_hub_new(&hub->own);
+    vg_outcome outcome = vorgushan_hub_new(&hub->own);
     if (outcome != VG_DONE)
         return outcome;
+    hub->waiting_writers = 0;
+    hub->served_writers = 0;
+    hub->turns = 0;
     pthread_condattr_init(&clock);
     pthread_condattr_setclock(&clock, CLOCK_MONOTONIC);
     pthread_mutex_init(&hub->opening, NULL);
@@ -202,33 +277,48 @@ static inline vg_outcome vgt_new(vgt_hub *hub) {
     return outcome;
 }
 
-/* Ends the hub, after all of its sessions: their memory is what goes last. VG_NO_ENGINE where none was made. */
+/* Ends the hub, which is then as VGT_HUB_NONE. Before it each of its sessions was halted, so no thread is in a call of
+ * one any more, nor waits in one for a name. VG_NO_ENGINE where none was made. */
 static inline vg_outcome vgt_end(vgt_hub *hub) {
+    vg_outcome outcome;
     if (!hub->own.own)
         return VG_NO_ENGINE;
+    outcome = vorgushan_hub_end(&hub->own);
     pthread_cond_destroy(&hub->freed);
     pthread_mutex_destroy(&hub->waiting);
     pthread_mutex_destroy(&hub->opening);
-    return vorgushan_hub_end(&hub->own);
-}
-
-/* Begins a session of a job, 1 to 4,096, which has no other. VG_BAD_JOB, VG_OUT_OF_MEMORY. */
-static inline vg_outcome vgt_open(vgt_hub *hub, vgt_session *session, uint64_t job) {
-    vg_outcome outcome;
-    session->own.own = NULL;
-    session->hub = hub;
-    session->locked = 0;
-    pthread_mutex_lock(&hub->opening);
-    VGT_RETRY(outcome, vorgushan_open(&hub->own, &session->own, job));
-    pthread_mutex_unlock(&hub->opening);
+    memset(hub, 0, sizeof *hub);
     return outcome;
 }
 
-/* HALT: ends a session; its transaction is dropped, and its names are released. The job may then have another. */
+/* Begins a session of a job, 1 to 4,096, which has no other. VG_BAD_JOB, VG_OUT_OF_MEMORY: then none is there.
+ * VG_ENGINE_THERE where it has begun already: then it goes on as it was. */
+static inline vg_outcome vgt_open(vgt_hub *hub, vgt_session *session, uint64_t job) {
+    vg_outcome outcome;
+    if (session->own.own)
+        return VG_ENGINE_THERE;
+    session->hub = hub;
+    session->locked = 0;
+    session->in_transaction = 0;
+    pthread_mutex_lock(&hub->opening);
+    VGT_RETRY(session, outcome, vorgushan_open(&hub->own, &session->own, job));
+    pthread_mutex_unlock(&hub->opening);
+    if (outcome != VG_DONE)
+        session->hub = NULL;
+    return outcome;
+}
+
+/* HALT: ends a session; its transaction is dropped, and its names are released. It is then as VGT_SESSION_NONE, and the
+ * job may have another. */
 static inline vg_outcome vgt_halt(vgt_session *session) {
     vg_outcome outcome;
-    VGT_RETRY(outcome, vorgushan_s_halt(&session->own));
+    VGT_RETRY(session, outcome, vorgushan_s_halt(&session->own));
     vgt_wake(session);
+    if (outcome == VG_DONE) {
+        session->hub = NULL;
+        session->locked = 0;
+        session->in_transaction = 0;
+    }
     return outcome;
 }
 
@@ -238,14 +328,15 @@ static inline vg_outcome vgt_halt(vgt_session *session) {
 static inline vg_outcome vgt_set(vgt_session *session, vg_key *key, const char *value, size_t value_length) {
     char nothing = 0;
     vg_outcome outcome;
-    VGT_RETRY(outcome, vorgushan_s_set(&session->own, key, value ? value : &nothing, value ? value_length : 0));
+    VGT_RETRY(session, outcome,
+              vorgushan_s_set(&session->own, key, value ? value : &nothing, value ? value_length : 0));
     return outcome;
 }
 
 /* As vg_kill, vg_kill_value or vg_kill_subscripts, by what is taken. */
 static inline vg_outcome vgt_kill(vgt_session *session, uint32_t extent, vg_key *key) {
     vg_outcome outcome;
-    VGT_RETRY(outcome, vorgushan_s_kill(&session->own, extent, key));
+    VGT_RETRY(session, outcome, vorgushan_s_kill(&session->own, extent, key));
     return outcome;
 }
 
@@ -255,8 +346,8 @@ static inline vg_outcome vgt_get(vgt_session *session, vg_key *key, char *value,
     char nothing = 0;
     size_t length = 0;
     vg_outcome outcome;
-    VGT_RETRY(outcome,
-              vorgushan_s_get(&session->own, key, value ? value : &nothing, value ? value_size : 0, &length));
+    VGT_READ(session, outcome,
+             vorgushan_s_get(&session->own, key, value ? value : &nothing, value ? value_size : 0, &length));
     if (value_length)
         *value_length = length;
     return outcome;
@@ -277,7 +368,7 @@ static inline vg_outcome vgt_merge(vgt_session *session, vg_key *to, vg_key *fro
     vg_outcome outcome;
     if (to == from)
         return VG_MERGE_OVERLAP;
-    VGT_RETRY(outcome, vorgushan_s_merge(&session->own, to, from));
+    VGT_READ(session, outcome, vorgushan_s_merge(&session->own, to, from));
     return outcome;
 }
 
@@ -285,7 +376,7 @@ static inline vg_outcome vgt_merge(vgt_session *session, vg_key *to, vg_key *fro
 static inline vg_outcome vgt_data(vgt_session *session, vg_key *key, uint64_t *number) {
     uint64_t told = 0;
     vg_outcome outcome;
-    VGT_RETRY(outcome, vorgushan_s_data(&session->own, key, &told));
+    VGT_READ(session, outcome, vorgushan_s_data(&session->own, key, &told));
     if (number)
         *number = told;
     return outcome;
@@ -297,8 +388,9 @@ static inline vg_outcome vgt_increment(vgt_session *session, vg_key *key, const 
     char nothing = 0;
     size_t length = 0;
     vg_outcome outcome;
-    VGT_RETRY(outcome, vorgushan_s_increment(&session->own, key, number ? number : &nothing, number ? number_length : 0,
-                                             sum ? sum : &nothing, sum ? sum_size : 0, &length));
+    VGT_READ(session, outcome,
+             vorgushan_s_increment(&session->own, key, number ? number : &nothing, number ? number_length : 0,
+                                   sum ? sum : &nothing, sum ? sum_size : 0, &length));
     if (sum_length)
         *sum_length = length;
     return outcome;
@@ -313,8 +405,9 @@ static inline vg_outcome vgt_order(vgt_session *session, vg_key *key, const char
     size_t length = 0;
     size_t from_length = vg_start_copied(from, start, start_length);
     vg_outcome outcome;
-    VGT_RETRY(outcome, vorgushan_s_order(&session->own, key, from, from_length, direction,
-                                         subscript ? subscript : &nothing, subscript ? subscript_size : 0, &length));
+    VGT_READ(session, outcome,
+             vorgushan_s_order(&session->own, key, from, from_length, direction, subscript ? subscript : &nothing,
+                               subscript ? subscript_size : 0, &length));
     if (subscript_length)
         *subscript_length = length;
     return outcome;
@@ -323,7 +416,7 @@ static inline vg_outcome vgt_order(vgt_session *session, vg_key *key, const char
 /* As vg_query. */
 static inline vg_outcome vgt_query(vgt_session *session, vg_key *key, uint32_t from, uint32_t direction) {
     vg_outcome outcome;
-    VGT_RETRY(outcome, vorgushan_s_query(&session->own, key, from, direction));
+    VGT_READ(session, outcome, vorgushan_s_query(&session->own, key, from, direction));
     return outcome;
 }
 
@@ -335,8 +428,9 @@ static inline vg_outcome vgt_next_name(vgt_session *session, const char *start, 
     size_t length = 0;
     size_t from_length = vg_start_copied(from, start, start_length);
     vg_outcome outcome;
-    VGT_RETRY(outcome, vorgushan_s_next_name(&session->own, from, from_length, direction, name ? name : &nothing,
-                                             name ? name_size : 0, &length));
+    VGT_READ(session, outcome,
+             vorgushan_s_next_name(&session->own, from, from_length, direction, name ? name : &nothing,
+                                   name ? name_size : 0, &length));
     if (name_length)
         *name_length = length;
     return outcome;
@@ -348,7 +442,9 @@ static inline vg_outcome vgt_next_name(vgt_session *session, const char *start, 
 static inline vg_outcome vgt_act(vgt_session *session, uint32_t act, uint64_t *number) {
     uint64_t told = 0;
     vg_outcome outcome;
-    VGT_RETRY(outcome, vorgushan_s_act(&session->own, act, &told));
+    VGT_RETRY(session, outcome, vorgushan_s_act(&session->own, act, &told));
+    if (outcome == VG_DONE && (act == VG_TSTART || act == VG_TCOMMIT || act == VG_TROLLBACK))
+        session->in_transaction = told > 0;
     if (number)
         *number = told;
     return outcome;
@@ -391,21 +487,35 @@ static inline vg_outcome vgt_trestarts(vgt_session *session, uint64_t *restarts)
 }
 
 /* Does a block as a transaction, and again after each conflict, so it may be called more than once: what it changes
- * outside of the database it sets anew each time. Where it returns VG_DONE the transaction is committed; where it
- * returns another outcome nothing of it is done, and that is returned. */
+ * outside of the database it sets anew each time. Where it returns VG_DONE the transaction is committed. Where it
+ * returns VG_RESTARTED, as it does with what vgt_trestart returns, nothing of it is done and it is called again. Where
+ * it returns another outcome nothing of it is done, and that is returned.
+ *
+ * VG_TRANSACTION_OPEN where the session is in a transaction already: then the block isn't called, and nothing has
+ * changed. It is returned too where the block left a TSTART of its own open: then nothing of it is done. A block that
+ * commits or rolls back by itself gets VG_NO_TRANSACTION in place of VG_DONE, and what it did stays. Where memory is
+ * refused for a rollback, the transaction stays open. */
 static inline vg_outcome vgt_transaction(vgt_session *session, vg_outcome (*block)(vgt_session *session, void *with),
                                          void *with) {
-    vg_outcome outcome = vgt_tstart(session, NULL);
+    uint64_t level = 0;
+    vg_outcome outcome = vgt_tstart(session, &level);
+    if (outcome == VG_LEVEL_TOO_DEEP)
+        return VG_TRANSACTION_OPEN;
     if (outcome != VG_DONE)
         return outcome;
+    if (level > 1) {
+        vgt_tcommit(session, NULL); /* lowers the level again, which is all that it does there */
+        return VG_TRANSACTION_OPEN;
+    }
     do {
         outcome = block(session, with);
-        if (outcome != VG_DONE) {
-            vgt_trollback(session);
-            return outcome;
-        }
-        outcome = vgt_tcommit(session, NULL);
+        if (outcome == VG_DONE)
+            outcome = vgt_tcommit(session, &level);
+        else if (outcome == VG_RESTARTED)
+            outcome = vgt_trestart(session, NULL);
     } while (outcome == VG_RESTARTED);
+    if (outcome == VG_DONE && level > 0)
+        outcome = VG_TRANSACTION_OPEN;
     if (outcome != VG_DONE)
         vgt_trollback(session);
     return outcome;
@@ -415,21 +525,22 @@ static inline vg_outcome vgt_transaction(vgt_session *session, vg_outcome (*bloc
 
 /* LOCK of the names of several keys at once, in a form of vg_lock_all: had is 1 where all of them were granted. Where
  * another session is in the way it waits for so many milliseconds, for ever where that is below 0, and not at all at 0;
- * had is 0 where that time is over. VG_NO_KEY where no key is given, or one isn't there; VG_LOCK_COUNT_FULL. */
+ * had is 0 where that time is over. VG_LOCK_FEWER releases one count of each name, passes over those that the session
+ * doesn't have, and never waits: had is 1. VG_NO_KEY where no key is given, or one isn't there; VG_LOCK_COUNT_FULL. */
 static inline vg_outcome vgt_lock_all(vgt_session *session, uint32_t form, vg_key keys[], size_t count, long wait,
                                       uint64_t *had) {
     uint64_t told = 0;
-    uint64_t turns = vgt_turns(session->hub);
+    uint64_t turns = session->hub ? vgt_turns(session->hub) : 0;
     const struct timespec until = vgt_after(wait > 0 ? wait : 0);
     int over = wait == 0;
     vg_outcome outcome;
-    VGT_RETRY(outcome, vorgushan_s_lock(&session->own, form, 0, keys, count, &told));
+    VGT_RETRY(session, outcome, vorgushan_s_lock(&session->own, form, 0, keys, count, &told));
     if (form != VG_LOCK_MORE)
         vgt_wake(session);
     while (outcome == VG_DONE && !told && !over) {
         over = vgt_wait(session->hub, turns, wait < 0 ? NULL : &until);
         turns = vgt_turns(session->hub);
-        VGT_RETRY(outcome, vorgushan_s_lock(&session->own, form, 1, keys, count, &told));
+        VGT_RETRY(session, outcome, vorgushan_s_lock(&session->own, form, 1, keys, count, &told));
     }
     if (told)
         session->locked = 1;
@@ -443,11 +554,14 @@ static inline vg_outcome vgt_lock(vgt_session *session, uint32_t form, vg_key *k
     return vgt_lock_all(session, form, key, 1, wait, had);
 }
 
-/* LOCK without names: all names of the session are released. */
+/* LOCK without names: all names of the session are released; in a transaction others see that after its end, and a
+ * rollback gives back those that the session had before it. */
 static inline vg_outcome vgt_unlock(vgt_session *session) {
+    uint64_t level = 0;
     vg_outcome outcome = vgt_act(session, VG_UNLOCK, NULL);
     vgt_wake(session);
-    session->locked = 0;
+    if (outcome == VG_DONE && vgt_tlevel(session, &level) == VG_DONE && level == 0)
+        session->locked = 0;
     return outcome;
 }
 
@@ -460,8 +574,8 @@ static inline vg_outcome vgt_look(vgt_session *session, uint32_t moment, vg_key 
     char nothing = 0;
     size_t length = 0;
     vg_outcome outcome;
-    VGT_RETRY(outcome, vorgushan_s_look(&session->own, moment, key, value ? value : &nothing, value ? value_size : 0,
-                                        &length));
+    VGT_LOOK(session, outcome,
+             vorgushan_s_look(&session->own, moment, key, value ? value : &nothing, value ? value_size : 0, &length));
     if (value_length)
         *value_length = length;
     return outcome;
@@ -471,7 +585,7 @@ static inline vg_outcome vgt_look(vgt_session *session, uint32_t moment, vg_key 
 static inline vg_outcome vgt_look_data(vgt_session *session, uint32_t moment, vg_key *key, uint64_t *number) {
     uint64_t told = 0;
     vg_outcome outcome;
-    VGT_RETRY(outcome, vorgushan_s_look_data(&session->own, moment, key, &told));
+    VGT_LOOK(session, outcome, vorgushan_s_look_data(&session->own, moment, key, &told));
     if (number)
         *number = told;
     return outcome;
@@ -486,9 +600,9 @@ static inline vg_outcome vgt_look_order(vgt_session *session, uint32_t moment, v
     size_t length = 0;
     size_t from_length = vg_start_copied(from, start, start_length);
     vg_outcome outcome;
-    VGT_RETRY(outcome,
-              vorgushan_s_look_order(&session->own, moment, key, from, from_length, direction,
-                                     subscript ? subscript : &nothing, subscript ? subscript_size : 0, &length));
+    VGT_LOOK(session, outcome,
+             vorgushan_s_look_order(&session->own, moment, key, from, from_length, direction,
+                                    subscript ? subscript : &nothing, subscript ? subscript_size : 0, &length));
     if (subscript_length)
         *subscript_length = length;
     return outcome;
@@ -498,7 +612,7 @@ static inline vg_outcome vgt_look_order(vgt_session *session, uint32_t moment, v
 static inline vg_outcome vgt_look_query(vgt_session *session, uint32_t moment, vg_key *key, uint32_t from,
                                         uint32_t direction) {
     vg_outcome outcome;
-    VGT_RETRY(outcome, vorgushan_s_look_query(&session->own, moment, key, from, direction));
+    VGT_LOOK(session, outcome, vorgushan_s_look_query(&session->own, moment, key, from, direction));
     return outcome;
 }
 
@@ -511,8 +625,9 @@ static inline vg_outcome vgt_walk(vgt_session *session, uint32_t moment, vg_key 
     vg_outcome outcome;
     if (!place || place == root)
         return VG_NO_KEY;
-    VGT_RETRY(outcome, vorgushan_s_walk(&session->own, moment, root ? root : &all, place, nodes ? nodes : &nothing,
-                                        nodes ? nodes_size : 0, &length));
+    VGT_LOOK(session, outcome,
+             vorgushan_s_walk(&session->own, moment, root ? root : &all, place, nodes ? nodes : &nothing,
+                              nodes ? nodes_size : 0, &length));
     if (nodes_length)
         *nodes_length = length;
     return outcome;
@@ -535,17 +650,17 @@ static inline vg_outcome vgt_view_end(vgt_session *session) {
 
 /* ---- Upkeep ---- */
 
-/* As vg_collect. */
+/* As vg_collect; and VG_AT_END where it has looked at no node: none is left to look at, or `nodes` is 0. */
 static inline vg_outcome vgt_collect(vgt_session *session, size_t nodes) {
     vg_outcome outcome;
-    VGT_RETRY(outcome, vorgushan_s_collect(&session->own, nodes));
+    VGT_RETRY(session, outcome, vorgushan_s_collect(&session->own, nodes));
     return outcome;
 }
 
 /* As vg_checkpoint. */
 static inline vg_outcome vgt_checkpoint(vgt_session *session) {
     vg_outcome outcome;
-    VGT_RETRY(outcome, vorgushan_s_checkpoint(&session->own));
+    VGT_RETRY(session, outcome, vorgushan_s_checkpoint(&session->own));
     return outcome;
 }
 

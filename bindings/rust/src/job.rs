@@ -316,7 +316,8 @@ impl<'a> Job<'a> {
     /// All commands of this job in the closure belong to the transaction, also those that come by lines; levels that it
     /// opened by lines and left open are committed with it. Refusals:
     /// [`TransactionOpen`](Error::TransactionOpen) where the job is in a transaction already, and then the closure
-    /// isn't called; [`NoTransaction`](Error::NoTransaction) where the closure has ended it.
+    /// isn't called; [`NoTransaction`](Error::NoTransaction) where the closure has ended it by a line, as
+    /// `1 TROLLBACK`: what it did after that stays done.
     ///
     /// ```
     /// # use vorgushan::{Database, Error, Key};

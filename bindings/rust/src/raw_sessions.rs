@@ -5,8 +5,9 @@ use crate::raw::{outcome, RawKey};
 use std::ffi::c_void;
 use std::hint::spin_loop;
 use std::ptr::null_mut;
+use std::sync::atomic::{AtomicU32, Ordering::Relaxed};
 use std::thread::{sleep, yield_now};
-use std::time::Duration;
+use std::time::{Duration, Instant};
 
 /// What `vorgushan_s_act` does.
 pub(crate) mod act {
@@ -45,7 +46,7 @@ unsafe extern "C" {
     safe fn vorgushan_hub_new(hub: &mut RawHub) -> u32;
     safe fn vorgushan_hub_end(hub: &mut RawHub) -> u32;
     pub(crate) safe fn vorgushan_open(hub: &mut RawHub, session: &mut RawSession, job: u64) -> u32;
-    safe fn vorgushan_s_halt(session: &mut RawSession) -> u32;
+    pub(crate) safe fn vorgushan_s_halt(session: &mut RawSession) -> u32;
     pub(crate) safe fn vorgushan_s_act(session: &mut RawSession, act: u32, number: &mut u64) -> u32;
     fn vorgushan_s_set(session: &mut RawSession, key: &mut RawKey, value: *const u8, value_length: usize) -> u32;
     pub(crate) safe fn vorgushan_s_kill(session: &mut RawSession, extent: u32, key: &mut RawKey) -> u32;
@@ -99,6 +100,24 @@ unsafe extern "C" {
         key: &mut RawKey,
         number: &mut u64,
     ) -> u32;
+    fn vorgushan_s_look_order(
+        session: &mut RawSession,
+        moment: u32,
+        key: &mut RawKey,
+        start: *const u8,
+        start_length: usize,
+        backward: u32,
+        subscript: *mut u8,
+        subscript_size: usize,
+        subscript_length: &mut usize,
+    ) -> u32;
+    pub(crate) safe fn vorgushan_s_look_query(
+        session: &mut RawSession,
+        moment: u32,
+        key: &mut RawKey,
+        is_open: u32,
+        backward: u32,
+    ) -> u32;
     fn vorgushan_s_walk(
         session: &mut RawSession,
         moment: u32,
@@ -112,17 +131,23 @@ unsafe extern "C" {
     pub(crate) safe fn vorgushan_s_checkpoint(session: &mut RawSession) -> u32;
 }
 
+/// So often a pause spins before it yields.
+const SPINNING_TURNS: u32 = 8;
+
+/// So long a call that reads lets others by at most.
+const MOST_GIVEN_WAY: Duration = Duration::from_millis(50);
+
 /// Spins, then yields, then sleeps: longer at each turn.
 fn pause(turn: u32) {
     match turn {
-        0..=7 => (0..16 << turn).for_each(|_| spin_loop()),
-        8..=63 => yield_now(),
+        0..SPINNING_TURNS => (0..16 << turn).for_each(|_| spin_loop()),
+        SPINNING_TURNS..64 => yield_now(),
         _ => sleep(Duration::from_micros(50)),
     }
 }
 
-/// Makes a call until it isn't in the way of others.
-pub(crate) fn tried(mut call: impl FnMut() -> u32) -> u32 {
+/// Makes a call until it isn't in the way of others, with a pause by each turn's number between.
+fn tried(mut call: impl FnMut() -> u32, mut pause: impl FnMut(u32)) -> u32 {
     let mut turn = 0;
     loop {
         match call() {
@@ -130,6 +155,66 @@ pub(crate) fn tried(mut call: impl FnMut() -> u32) -> u32 {
             outcome => return outcome,
         }
         turn = turn.saturating_add(1);
+    }
+}
+
+/// The calls that wait to have the database for themselves. Those that only look let one of them by before they begin, so
+/// that they keep nobody out, however little they pause.
+pub(crate) struct Line {
+    /// Calls that have spun in vain.
+    waiting: AtomicU32,
+    /// How many of those came through.
+    served: AtomicU32,
+}
+
+impl Line {
+    pub(crate) const fn new() -> Line {
+        Line { waiting: AtomicU32::new(0), served: AtomicU32::new(0) }
+    }
+
+    /// Makes a call that may need the database for itself. Once it has spun in vain it waits in the line.
+    pub(crate) fn tried(&self, call: impl FnMut() -> u32) -> u32 {
+        let mut is_waiting = false;
+        let outcome = tried(call, |turn| {
+            if turn == SPINNING_TURNS {
+                self.waiting.fetch_add(1, Relaxed);
+                is_waiting = true;
+            }
+            pause(turn);
+        });
+        if is_waiting {
+            self.served.fetch_add(1, Relaxed);
+            self.waiting.fetch_sub(1, Relaxed);
+        }
+        outcome
+    }
+
+    /// The same of one that only looks at the database, and never needs it for itself.
+    pub(crate) fn looked(&self, call: impl FnMut() -> u32) -> u32 {
+        if self.waiting.load(Relaxed) > 0 {
+            self.let_one_by();
+        }
+        tried(call, pause)
+    }
+
+    /// The same of a command that reads: in a transaction it only looks, and else it is a unit of the journal.
+    pub(crate) fn read(&self, in_transaction: bool, call: impl FnMut() -> u32) -> u32 {
+        if in_transaction {
+            self.looked(call)
+        } else {
+            self.tried(call)
+        }
+    }
+
+    /// Waits until one of those in the line came through, or none is there, or the time for it is over.
+    #[cold]
+    fn let_one_by(&self) {
+        let (served, start, mut turn) = (self.served.load(Relaxed), Instant::now(), 0);
+        while self.waiting.load(Relaxed) > 0 && self.served.load(Relaxed) == served && start.elapsed() < MOST_GIVEN_WAY
+        {
+            pause(turn);
+            turn += 1;
+        }
     }
 }
 
@@ -154,12 +239,6 @@ impl RawSession {
     /// None yet.
     pub(crate) const fn none() -> RawSession {
         RawSession { own: null_mut() }
-    }
-}
-
-impl Drop for RawSession {
-    fn drop(&mut self) {
-        tried(|| vorgushan_s_halt(self));
     }
 }
 
@@ -215,6 +294,18 @@ pub(crate) fn look(
     unsafe { vorgushan_s_look(session, moment, key, value.as_mut_ptr(), value.len(), length) }
 }
 
+pub(crate) fn look_order(
+    session: &mut RawSession,
+    moment: u32,
+    from: &mut crate::raw::Place,
+    found: &mut [u8],
+    length: &mut usize,
+) -> u32 {
+    let (start, count, back, size) = (from.start.as_ptr(), from.start.len(), from.backward, found.len());
+    // SAFETY: pointers and lengths are those of two slices, which are lent for the call and don't overlap.
+    unsafe { vorgushan_s_look_order(session, moment, from.key, start, count, back, found.as_mut_ptr(), size, length) }
+}
+
 pub(crate) fn walk(
     session: &mut RawSession,
     moment: u32,
@@ -225,4 +316,46 @@ pub(crate) fn walk(
 ) -> u32 {
     // SAFETY: pointer and length are those of a slice, which is lent for the call; two `&mut` are two keys.
     unsafe { vorgushan_s_walk(session, moment, root, place, nodes.as_mut_ptr(), nodes.len(), length) }
+}
+
+#[cfg(test)]
+mod tests {
+    use super::{outcome, Line, BUSY, MOST_GIVEN_WAY, SPINNING_TURNS};
+    use std::sync::atomic::Ordering::Relaxed;
+    use std::time::Instant;
+
+    /// Calls once more after so often `BUSY`; how many were seen in the line at the last call.
+    fn seen_in(line: &Line, often: u32, make: impl FnOnce(&Line, &mut dyn FnMut() -> u32) -> u32) -> u32 {
+        let (mut turn, mut seen) = (0, 0);
+        let answer = make(line, &mut || {
+            seen = line.waiting.load(Relaxed);
+            let is_busy = turn < often;
+            turn += 1;
+            [outcome::DONE, BUSY][usize::from(is_busy)]
+        });
+        assert_eq!((answer, turn, line.waiting.load(Relaxed)), (outcome::DONE, often + 1, 0));
+        seen
+    }
+
+    #[test]
+    fn those_that_spun_in_vain_wait_in_the_line() {
+        let line = Line::new();
+        assert_eq!(seen_in(&line, SPINNING_TURNS, |line, call| line.tried(call)), 0);
+        assert_eq!(seen_in(&line, SPINNING_TURNS + 1, |line, call| line.looked(call)), 0);
+        assert_eq!(seen_in(&line, SPINNING_TURNS + 1, |line, call| line.read(true, call)), 0);
+        assert_eq!(line.served.load(Relaxed), 0);
+        assert_eq!(seen_in(&line, SPINNING_TURNS + 1, |line, call| line.tried(call)), 1);
+        assert_eq!(seen_in(&line, SPINNING_TURNS + 1, |line, call| line.read(false, call)), 1);
+        assert_eq!(line.served.load(Relaxed), 2);
+    }
+
+    #[test]
+    fn looks_give_way_for_a_bounded_time() {
+        let (line, start) = (Line::new(), Instant::now());
+        line.waiting.store(1, Relaxed);
+        assert_eq!(line.looked(|| outcome::DONE), outcome::DONE);
+        assert!(start.elapsed() >= MOST_GIVEN_WAY);
+        assert_eq!(line.read(true, || outcome::DONE), outcome::DONE);
+        assert!(start.elapsed() >= 2 * MOST_GIVEN_WAY);
+    }
 }

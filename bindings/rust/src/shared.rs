@@ -1,11 +1,12 @@
 //! A database that threads share, and their sessions.
 
 use crate::error::{done, Error};
-use crate::job::{Data, Direction, LockForm};
-use crate::key::{check_version, Key, Subscript};
-use crate::raw::{outcome, Place, RawKey};
-use crate::raw_sessions::{self as raw, act, tried, RawHub, RawSession};
+use crate::job::{Data, Direction, LockForm, Start};
+use crate::key::{check_version, Key, Reference, Subscript};
+use crate::raw::{key_bytes, outcome, Place, RawKey};
+use crate::raw_sessions::{self as raw, act, Line, RawHub, RawSession};
 use crate::walk::{nodes_of, Node};
+use std::fmt;
 use std::ops::{Deref, DerefMut};
 use std::ptr;
 use std::sync::{Arc, Condvar, Mutex, MutexGuard, PoisonError};
@@ -24,6 +25,7 @@ const AT_START: u32 = 1;
 /// What the handles of a shared database own together.
 struct Shared {
     hub: Mutex<RawHub>,
+    line: Line,
     turns: Mutex<u64>,
     freed: Condvar,
 }
@@ -98,17 +100,26 @@ impl SharedDatabase {
     pub fn new() -> Result<SharedDatabase, Error> {
         check_version()?;
         let hub = Mutex::new(RawHub::new().map_err(Error::of)?);
-        Ok(SharedDatabase { shared: Arc::new(Shared { hub, turns: Mutex::new(0), freed: Condvar::new() }) })
+        let shared = Shared { hub, line: Line::new(), turns: Mutex::new(0), freed: Condvar::new() };
+        Ok(SharedDatabase { shared: Arc::new(shared) })
     }
 
     /// A session of a job, 1 to 4,096, which has no other.
     ///
     /// [`BadJob`](Error::BadJob), [`OutOfMemory`](Error::OutOfMemory).
     pub fn session(&self, job: u64) -> Result<Session, Error> {
-        let mut raw = RawSession::none();
+        let (raw, shared) = (RawSession::none(), Arc::clone(&self.shared));
+        let (buffer, has_names, in_transaction) = (vec![0; BUFFER], false, false);
+        let mut session = Session { raw, shared, buffer, has_names, in_transaction };
         let mut hub = held(&self.shared.hub);
-        done(tried(|| raw::vorgushan_open(&mut hub, &mut raw, job)))?;
-        Ok(Session { raw, shared: Arc::clone(&self.shared), buffer: vec![0; BUFFER], has_names: false })
+        done(self.shared.line.tried(|| raw::vorgushan_open(&mut hub, &mut session.raw, job)))?;
+        Ok(session)
+    }
+}
+
+impl fmt::Debug for SharedDatabase {
+    fn fmt(&self, to: &mut fmt::Formatter<'_>) -> fmt::Result {
+        to.write_str("SharedDatabase")
     }
 }
 
@@ -133,16 +144,50 @@ pub struct Session {
     shared: Arc<Shared>,
     buffer: Vec<u8>,
     has_names: bool,
+    in_transaction: bool,
 }
 
 impl Session {
-    /// Makes a call that copies bytes into the buffer.
-    fn copied(
+    /// Makes a call until it isn't in the way of others: one that may need the database for itself.
+    fn tried(&mut self, mut call: impl FnMut(&mut RawSession) -> u32) -> u32 {
+        self.shared.line.tried(|| call(&mut self.raw))
+    }
+
+    /// The same of a command that reads.
+    fn read(&mut self, mut call: impl FnMut(&mut RawSession) -> u32) -> u32 {
+        self.shared.line.read(self.in_transaction, || call(&mut self.raw))
+    }
+
+    /// The same of a look.
+    fn looked(&mut self, mut call: impl FnMut(&mut RawSession) -> u32) -> u32 {
+        self.shared.line.looked(|| call(&mut self.raw))
+    }
+
+    /// A command that reads, and copies bytes into the buffer.
+    fn read_copied(
         &mut self,
         mut call: impl FnMut(&mut RawSession, &mut [u8], &mut usize) -> u32,
     ) -> Result<Option<Vec<u8>>, Error> {
+        let Session { raw, shared, buffer, in_transaction, .. } = self;
         let mut length = 0;
-        match tried(|| call(&mut self.raw, &mut self.buffer, &mut length)) {
+        let outcome = shared.line.read(*in_transaction, || call(raw, buffer, &mut length));
+        self.copied(outcome, length)
+    }
+
+    /// The same of a look.
+    fn looked_copied(
+        &mut self,
+        mut call: impl FnMut(&mut RawSession, &mut [u8], &mut usize) -> u32,
+    ) -> Result<Option<Vec<u8>>, Error> {
+        let Session { raw, shared, buffer, .. } = self;
+        let mut length = 0;
+        let outcome = shared.line.looked(|| call(raw, buffer, &mut length));
+        self.copied(outcome, length)
+    }
+
+    /// What a call has copied into the buffer.
+    fn copied(&self, outcome: u32, length: usize) -> Result<Option<Vec<u8>>, Error> {
+        match outcome {
             outcome::NO_VALUE | outcome::AT_END => Ok(None),
             outcome => done(outcome).map(|()| Some(self.buffer[..length].to_vec())),
         }
@@ -151,21 +196,25 @@ impl Session {
     /// TSTART and its like; the number that is told.
     fn act(&mut self, act: u32) -> Result<u64, Error> {
         let mut told = 0;
-        let outcome = tried(|| raw::vorgushan_s_act(&mut self.raw, act, &mut told));
+        let outcome = self.tried(|session| raw::vorgushan_s_act(session, act, &mut told));
         if self.has_names && act != act::TSTART && act != act::TLEVEL {
             self.shared.wake();
         }
-        done(outcome).map(|()| told)
+        done(outcome)?;
+        if matches!(act, act::TSTART | act::TCOMMIT | act::TROLLBACK) {
+            self.in_transaction = told > 0;
+        }
+        Ok(told)
     }
 
     /// SET, as [`Job::set`](crate::Job::set).
     pub fn set(&mut self, key: &Key, value: impl AsRef<[u8]>) -> Result<(), Error> {
-        done(key.with(|key| tried(|| raw::set(&mut self.raw, key, value.as_ref()))))
+        done(key.with(|key| self.tried(|session| raw::set(session, key, value.as_ref()))))
     }
 
     /// $GET, as [`Job::get`](crate::Job::get).
     pub fn get(&mut self, key: &Key) -> Result<Vec<u8>, Error> {
-        let value = key.with(|key| self.copied(|session, value, length| raw::get(session, key, value, length)))?;
+        let value = key.with(|key| self.read_copied(|session, value, length| raw::get(session, key, value, length)))?;
         Ok(value.unwrap_or_default())
     }
 
@@ -175,7 +224,7 @@ impl Session {
     }
 
     fn kill_by(&mut self, extent: u32, key: &Key) -> Result<(), Error> {
-        done(key.with(|key| tried(|| raw::vorgushan_s_kill(&mut self.raw, extent, key))))
+        done(key.with(|key| self.tried(|session| raw::vorgushan_s_kill(session, extent, key))))
     }
 
     /// KILL, as [`Job::kill`](crate::Job::kill).
@@ -197,7 +246,7 @@ impl Session {
     pub fn increment(&mut self, key: &Key, number: impl AsRef<[u8]>) -> Result<String, Error> {
         let number = number.as_ref();
         let sum = key
-            .with(|key| self.copied(|session, sum, length| raw::increment(session, key, number, sum, length)))?
+            .with(|key| self.read_copied(|session, sum, length| raw::increment(session, key, number, sum, length)))?
             .unwrap_or_default();
         String::from_utf8(sum).map_err(|_| Error::NotText)
     }
@@ -207,13 +256,13 @@ impl Session {
         if ptr::eq(to, from) {
             return Err(Error::MergeOverlap);
         }
-        done(to.with(|to| from.with(|from| tried(|| raw::vorgushan_s_merge(&mut self.raw, to, from)))))
+        done(to.with(|to| from.with(|from| self.read(|session| raw::vorgushan_s_merge(session, to, from)))))
     }
 
     /// $DATA, as [`Job::data`](crate::Job::data).
     pub fn data(&mut self, key: &Key) -> Result<Data, Error> {
         let mut told = 0;
-        done(key.with(|key| tried(|| raw::vorgushan_s_data(&mut self.raw, key, &mut told))))?;
+        done(key.with(|key| self.read(|session| raw::vorgushan_s_data(session, key, &mut told))))?;
         Ok(data_of(told))
     }
 
@@ -222,7 +271,7 @@ impl Session {
         let start = start.bytes();
         let found = key.with(|key| {
             let mut from = Place { key, start: &start, backward: direction.number() };
-            self.copied(|session, found, length| raw::order(session, &mut from, found, length))
+            self.read_copied(|session, found, length| raw::order(session, &mut from, found, length))
         })?;
         Ok(found.filter(|found| !found.is_empty()))
     }
@@ -232,12 +281,17 @@ impl Session {
         self.look_at(PRESENT, key)
     }
 
+    /// As [`look`](Session::look), as text. [`NotText`](Error::NotText).
+    pub fn look_text(&mut self, key: &Key) -> Result<Option<String>, Error> {
+        text_of(self.look(key)?)
+    }
+
     fn look_at(&mut self, moment: u32, key: &Key) -> Result<Option<Vec<u8>>, Error> {
-        key.with(|key| self.copied(|session, value, length| raw::look(session, moment, key, value, length)))
+        key.with(|key| self.looked_copied(|session, value, length| raw::look(session, moment, key, value, length)))
     }
 
     /// LOCK of the names of several keys at once: whether all of them were granted. Where another session is in the way
-    /// it waits for them: for as long as is said, or until it has them.
+    /// it waits for them: for as long as is said, or until it has them. [`Fewer`](LockForm::Fewer) never waits.
     ///
     /// [`LockCountFull`](Error::LockCountFull); [`NoKey`](Error::NoKey) where no key is given.
     pub fn lock(&mut self, form: LockForm, keys: &[&Key], wait: Option<Duration>) -> Result<bool, Error> {
@@ -245,7 +299,7 @@ impl Session {
         let (mut keys, mut had, form) = (copies?, 0, form.number());
         let until = wait.and_then(|wait| Instant::now().checked_add(wait));
         let mut turns = self.shared.turns();
-        let first = tried(|| raw::lock(&mut self.raw, form, 0, &mut keys, &mut had));
+        let first = self.tried(|session| raw::lock(session, form, 0, &mut keys, &mut had));
         if self.has_names {
             self.shared.wake();
         }
@@ -254,16 +308,19 @@ impl Session {
         while had == 0 && !is_over {
             is_over = self.shared.wait(turns, until);
             turns = self.shared.turns();
-            done(tried(|| raw::lock(&mut self.raw, form, 1, &mut keys, &mut had)))?;
+            done(self.tried(|session| raw::lock(session, form, 1, &mut keys, &mut had)))?;
         }
         self.has_names |= had == 1;
         Ok(had == 1)
     }
 
-    /// LOCK without names: all names of the session are released.
+    /// LOCK without names: all names of the session are released; in a transaction others see that after its end, and a
+    /// rollback gives back those that it had before.
     pub fn unlock(&mut self) -> Result<(), Error> {
         self.act(act::UNLOCK)?;
-        self.has_names = false;
+        if self.has_names && self.act(act::TLEVEL) == Ok(0) {
+            self.has_names = false;
+        }
         Ok(())
     }
 
@@ -273,6 +330,10 @@ impl Session {
     /// **The closure is called again** after a restart, as that of [`Job::transaction`](crate::Job::transaction).
     /// [`TransactionOpen`](Error::TransactionOpen) where the session is in a transaction already, and then the closure
     /// isn't called.
+    ///
+    /// The closure leaves the session in its place. Where it puts another there, as by [`mem::swap`](std::mem::swap), the
+    /// transaction stays open in the session that was moved, and what is committed is that of the other, or
+    /// [`NoTransaction`](Error::NoTransaction) is answered.
     pub fn transaction<T, E: From<Error>>(
         &mut self,
         body: impl FnMut(&mut SessionTransaction<'_>) -> Result<T, E>,
@@ -288,9 +349,9 @@ impl Session {
     }
 
     /// Lets the collector look at so many nodes, as [`Database::collect`](crate::Database::collect). Whether it looked
-    /// at one.
+    /// at one: otherwise none is left to look at.
     pub fn collect(&mut self, nodes: usize) -> Result<bool, Error> {
-        match tried(|| raw::vorgushan_s_collect(&mut self.raw, nodes)) {
+        match self.tried(|session| raw::vorgushan_s_collect(session, nodes)) {
             outcome::AT_END => Ok(false),
             outcome => done(outcome).map(|()| true),
         }
@@ -298,18 +359,29 @@ impl Session {
 
     /// Drops the journal up to the oldest open transaction, as [`Database::checkpoint`](crate::Database::checkpoint).
     pub fn checkpoint(&mut self) -> Result<(), Error> {
-        done(tried(|| raw::vorgushan_s_checkpoint(&mut self.raw)))
+        done(self.tried(|session| raw::vorgushan_s_checkpoint(session)))
     }
 }
 
 impl Drop for Session {
     /// Others may have its names once it is over.
     fn drop(&mut self) {
-        self.raw = RawSession::none();
+        self.tried(|session| raw::vorgushan_s_halt(session));
         if self.has_names {
             self.shared.wake();
         }
     }
+}
+
+impl fmt::Debug for Session {
+    fn fmt(&self, to: &mut fmt::Formatter<'_>) -> fmt::Result {
+        to.write_str("Session")
+    }
+}
+
+/// A value as text.
+fn text_of(value: Option<Vec<u8>>) -> Result<Option<String>, Error> {
+    value.map(|value| String::from_utf8(value).map_err(|_| Error::NotText)).transpose()
 }
 
 /// What a number of $DATA says.
@@ -351,7 +423,9 @@ impl<'a> SessionTransaction<'a> {
         }
     }
 
-    /// Drops what the transaction did, and begins anew over the present database: the closure goes on in it.
+    /// Drops what the transaction did, and begins anew over the present database: the closure goes on in it, and isn't
+    /// called again for this. What it set before is gone, what it read before may have changed, and what it sets from
+    /// then on is committed.
     pub fn restart(&mut self) -> Result<(), Error> {
         match self.session.act(act::TRESTART) {
             Err(Error::Restarted) => {
@@ -383,6 +457,12 @@ impl DerefMut for SessionTransaction<'_> {
     }
 }
 
+impl fmt::Debug for SessionTransaction<'_> {
+    fn fmt(&self, to: &mut fmt::Formatter<'_>) -> fmt::Result {
+        to.write_str("SessionTransaction")
+    }
+}
+
 impl Drop for SessionTransaction<'_> {
     /// Rolls back what wasn't committed. Where memory is refused for that, the transaction stays open.
     fn drop(&mut self) {
@@ -408,28 +488,62 @@ impl SessionView<'_> {
 
     /// As [`look`](SessionView::look), as text. [`NotText`](Error::NotText).
     pub fn look_text(&mut self, key: &Key) -> Result<Option<String>, Error> {
-        self.look(key)?.map(|value| String::from_utf8(value).map_err(|_| Error::NotText)).transpose()
+        text_of(self.look(key)?)
     }
 
     /// As $DATA: whether a key's reference has a value in it, and whether a node below it has one.
     pub fn data(&mut self, key: &Key) -> Result<Data, Error> {
-        let (mut told, session) = (0, &mut self.transaction.session.raw);
-        done(key.with(|key| tried(|| raw::vorgushan_s_look_data(session, AT_START, key, &mut told))))?;
+        let (mut told, session) = (0, &mut self.transaction.session);
+        let data = raw::vorgushan_s_look_data;
+        done(key.with(|key| session.looked(|session| data(session, AT_START, key, &mut told))))?;
         Ok(data_of(told))
+    }
+
+    /// As $ORDER, of [`Job::order`](crate::Job::order).
+    pub fn order(&mut self, key: &Key, start: impl Subscript, direction: Direction) -> Result<Option<Vec<u8>>, Error> {
+        let (start, session) = (start.bytes(), &mut self.transaction.session);
+        let found = key.with(|key| {
+            let mut from = Place { key, start: &start, backward: direction.number() };
+            session.looked_copied(|session, found, length| raw::look_order(session, AT_START, &mut from, found, length))
+        })?;
+        Ok(found.filter(|found| !found.is_empty()))
+    }
+
+    /// As $QUERY: the nearest node with a value in the key's name; none where no node is left.
+    pub fn query(&mut self, key: &Key, start: Start, direction: Direction) -> Result<Option<Key>, Error> {
+        let (moved, is_open) = (key.try_clone()?, u32::from(start == Start::BelowKey));
+        let (query, backward) = (raw::vorgushan_s_look_query, direction.number());
+        let session = &mut *self.transaction.session;
+        let outcome = moved.with(|key| session.looked(|session| query(session, AT_START, key, is_open, backward)));
+        if outcome == outcome::AT_END {
+            return Ok(None);
+        }
+        done(outcome)?;
+        let (bytes, mut length) = (&mut session.buffer, 0);
+        done(moved.with(|key| key_bytes(key, bytes, &mut length)))?;
+        let found = Reference::of_key(&bytes[..length]).expect("a key's bytes are as the header says");
+        Ok(Some(moved.moved_to(found)))
     }
 
     /// The nodes with a value at and under a key, in order.
     pub fn nodes(&mut self, root: &Key) -> Result<Vec<Node>, Error> {
         let (mut place, mut buffer, mut nodes) = (RawKey::none(), vec![0; NODES], Vec::new());
         loop {
-            let (mut length, session) = (0, &mut self.transaction.session.raw);
-            let outcome =
-                root.with(|root| tried(|| raw::walk(session, AT_START, root, &mut place, &mut buffer, &mut length)));
+            let (mut length, session) = (0, &mut self.transaction.session);
+            let outcome = root.with(|root| {
+                session.looked(|session| raw::walk(session, AT_START, root, &mut place, &mut buffer, &mut length))
+            });
             if outcome == outcome::AT_END {
                 return Ok(nodes);
             }
             done(outcome)?;
             nodes.extend(nodes_of(&buffer[..length]).expect("nodes lie in the buffer as the header says"));
         }
+    }
+}
+
+impl fmt::Debug for SessionView<'_> {
+    fn fmt(&self, to: &mut fmt::Formatter<'_>) -> fmt::Result {
+        to.write_str("SessionView")
     }
 }

@@ -51,7 +51,8 @@ impl<'a> Transaction<'a> {
     }
 
     /// TRESTART: drops what the transaction did, and answers [`Error::Restarted`], with which the closure has to end;
-    /// it is then called again, whatever it answers.
+    /// it is then called again, whatever it answers. What it sets before it ends all the same is done in the
+    /// transaction begun anew: it is committed with what the next call does, where that doesn't restart too.
     pub fn restart<T>(&self) -> Result<T, Error> {
         match self.job.trestart() {
             Err(Error::Restarted) => {

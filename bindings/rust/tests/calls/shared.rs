@@ -1,9 +1,10 @@
 //! A database that threads share: every call of a session, what waits for what, and a bank on four threads.
 
 use crate::key;
+use std::sync::atomic::{AtomicBool, Ordering::SeqCst};
 use std::thread;
 use std::time::{Duration, Instant};
-use vorgushan::{Direction, Error, LockForm, Session, SharedDatabase};
+use vorgushan::{Direction, Error, LockForm, Session, SharedDatabase, Start};
 
 /// An empty database and two sessions of it.
 fn two() -> (SharedDatabase, Session, Session) {
@@ -41,9 +42,26 @@ fn each_command_of_a_session() -> Result<(), Error> {
     assert_eq!((one.look(&a)?, one.look(&a1)?), (Some(b"5".to_vec()), None));
     one.kill(&a)?;
     assert_eq!(one.get(&a)?, b"");
+    one.set(&b, "text")?;
+    assert_eq!((one.look_text(&a)?, one.look_text(&b)?.as_deref()), (None, Some("text")));
+    one.set(&b, b"\xff")?;
+    assert_eq!(one.look_text(&b), Err(Error::NotText));
     one.checkpoint()?;
     assert!(one.collect(10)?);
+    while one.collect(10)? {}
+    assert!(!one.collect(10)?);
     Ok(())
+}
+
+#[test]
+fn each_type_can_be_shown() -> Result<(), Error> {
+    let (database, mut one, mut other) = two();
+    assert_eq!((format!("{database:?}"), format!("{one:?}")), ("SharedDatabase".into(), "Session".into()));
+    assert_eq!(format!("{:?}", one.view()?), "SessionView");
+    other.transaction(|t| {
+        assert_eq!(format!("{t:?}"), "SessionTransaction");
+        Ok(())
+    })
 }
 
 #[test]
@@ -93,7 +111,19 @@ fn a_view_stays() -> Result<(), Error> {
     other.set(&a1, "3")?;
     assert_eq!((view.look_text(&a)?.as_deref(), view.data(&a)?.has_descendants), (Some("1"), false));
     assert_eq!(view.nodes(&a)?.len(), 1);
+    assert_eq!(view.order(&a, "", Direction::Forward)?, None);
+    assert!(view.query(&a, Start::AtKey, Direction::Forward)?.is_none());
     drop(view);
+    let mut view = one.view()?;
+    other.kill(&a)?;
+    assert_eq!(view.order(&a, "", Direction::Forward)?, Some(b"1".to_vec()));
+    assert_eq!(view.order(&a, "1", Direction::Backward)?, None);
+    let first = view.query(&a, Start::AtKey, Direction::Forward)?.expect("a node is there");
+    assert_eq!(first.reference(), a1.reference());
+    assert!(view.query(&a1, Start::BelowKey, Direction::Backward)?.is_some());
+    drop(view);
+    other.set(&a, "2")?;
+    other.set(&a1, "3")?;
     assert_eq!((one.look(&a)?, one.view()?.nodes(&a)?.len()), (Some(b"2".to_vec()), 2));
     Ok(())
 }
@@ -136,6 +166,76 @@ fn a_waiting_lock_is_had_once_the_other_gives_it_back() -> Result<(), Error> {
     })?;
     is_had_after(|mut one| one.lock(LockForm::Fewer, &[&key("^A")], None).ok().map(|_| one))?;
     is_had_after(|mut one| one.lock(LockForm::Only, &[&key("^B")], None).ok().map(|_| one))
+}
+
+/// How long the next waits at most, and they are to have it in the half of that.
+const PATIENCE: Duration = Duration::from_secs(20);
+
+/// Whether a session has a name long before its patience is over.
+fn has_it_soon(mut waits: Session) -> bool {
+    let start = Instant::now();
+    let had = waits.lock(LockForm::Only, &[&key("^A")], Some(PATIENCE));
+    had == Ok(true) && start.elapsed() < PATIENCE / 2
+}
+
+#[test]
+fn what_is_released_in_a_transaction_others_have_after_the_commit() -> Result<(), Error> {
+    let (_database, mut one, other) = two();
+    let mut other = Some(other);
+    let waits = one.transaction(|t| {
+        t.lock(LockForm::Only, &[&key("^A")], None)?;
+        t.unlock()?;
+        let other = other.take().expect("the closure is called once");
+        let waits = thread::spawn(|| has_it_soon(other));
+        thread::sleep(Duration::from_millis(50));
+        Ok::<_, Error>(waits)
+    })?;
+    assert!(waits.join().expect("no panic"));
+    Ok(())
+}
+
+#[test]
+fn what_a_rollback_gives_back_others_have_after_the_next_unlock() -> Result<(), Error> {
+    let (_database, mut one, other) = two();
+    one.lock(LockForm::Only, &[&key("^A")], None)?;
+    let rolled_back = one.transaction(|t| t.unlock().and(Err::<(), _>(Error::NoKey)));
+    assert_eq!(rolled_back, Err(Error::NoKey));
+    let waits = thread::spawn(|| has_it_soon(other));
+    thread::sleep(Duration::from_millis(50));
+    one.unlock()?;
+    assert!(waits.join().expect("no panic"));
+    Ok(())
+}
+
+#[test]
+fn a_set_comes_through_beside_readers_without_a_pause() -> Result<(), Error> {
+    let (database, mut one, _other) = two();
+    let (a, over, tired) = (key("^A"), AtomicBool::new(false), AtomicBool::new(false));
+    for number in 0..3000 {
+        one.set(&a.child(number)?, "value")?;
+    }
+    thread::scope(|scope| {
+        let read = |job: u64| -> Result<(), Error> {
+            let (mut session, a) = (database.session(job)?, key("^A"));
+            for _ in 0..1000 {
+                if over.load(SeqCst) {
+                    return Ok(());
+                }
+                session.view()?.nodes(&a)?;
+                session.look(&a)?;
+            }
+            tired.store(true, SeqCst);
+            Ok(())
+        };
+        let readers: Vec<_> = (3..7).map(|job| scope.spawn(move || read(job))).collect();
+        thread::sleep(Duration::from_millis(50));
+        one.set(&a, "another").expect("a SET");
+        drop(database.session(9).expect("a session"));
+        assert!(!tired.load(SeqCst));
+        over.store(true, SeqCst);
+        readers.into_iter().for_each(|reader| assert_eq!(reader.join().expect("no panic"), Ok(())));
+    });
+    Ok(())
 }
 
 #[test]

@@ -12,7 +12,7 @@
 
 enum { ACCOUNTS = 20, TELLERS = 4, TRANSFERS = 500, VIEWS = 50, CLERK = 9, AUDITOR = 10 };
 
-static vgt_hub bank;
+static vgt_hub bank = VGT_HUB_NONE;
 
 /* Ends the program where a call didn't go as it has to. */
 static void must(vg_outcome outcome, const char *what) {
@@ -59,7 +59,7 @@ static vg_outcome move_one(vgt_session *session, void *with) {
 
 static void *teller(void *job) {
     transfer move = {VG_KEY_NONE, VG_KEY_NONE};
-    vgt_session session;
+    vgt_session session = VGT_SESSION_NONE;
     uint64_t number = (uint64_t)(size_t)job;
     uint64_t turn;
     must(vgt_open(&bank, &session, number), "a teller's session");
@@ -81,7 +81,7 @@ static atomic_int has_tried;
 /* Waits for an account that the auditor has locked: first for 10 milliseconds, then for as long as it takes. */
 static void *clerk(void *had) {
     uint64_t *answers = had;
-    vgt_session session;
+    vgt_session session = VGT_SESSION_NONE;
     vg_key key = VG_KEY_NONE;
     must(vgt_open(&bank, &session, CLERK), "the clerk's session");
     account(&key, 0);
@@ -114,7 +114,7 @@ static long total(vgt_session *session) {
 
 int main(void) {
     pthread_t threads[TELLERS + 1];
-    vgt_session session;
+    vgt_session session = VGT_SESSION_NONE;
     vg_key key = VG_KEY_NONE;
     uint64_t had = 0;
     uint64_t answers[2] = {0, 0};
