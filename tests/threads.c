@@ -450,6 +450,7 @@ static void use_blocks(void) {
 
 static void use_looks(void) {
     uint64_t number = 7;
+    vg_key at = VG_KEY_NONE, place = VG_KEY_NONE;
     CHECK_LOOK(VG_DONE, vgt_look(&one, VG_PRESENT, &second, text, sizeof text, &length));
     CHECK(is_text("3") && vgt_look(&one, VG_PRESENT, &copy, text, sizeof text, &length) == VG_NO_VALUE && !length);
     CHECK(vgt_look(&one, VG_PRESENT, &root, NULL, 0, &length) == VG_BUFFER_TOO_SHORT && length == 5);
@@ -460,6 +461,11 @@ static void use_looks(void) {
     CHECK(is_text("2"));
     CHECK(vgt_look_order(&one, VG_PRESENT, &root, text, length, VG_BACKWARD, text, sizeof text, &length) == VG_DONE);
     CHECK(is_text("1"));
+    spell(&at, "A", "1");
+    CHECK_LOOK(VG_DONE, vgt_look_query(&one, VG_PRESENT, &at, VG_AT_KEY, VG_BACKWARD));
+    CHECK_LOOK(VG_DONE, vgt_walk(&one, VG_PRESENT, &root, &place, text, sizeof text, &length));
+    vg_key_end(&at);
+    vg_key_end(&place);
 }
 
 /* How many nodes a walk of ^A has at a moment. */
