@@ -1,3 +1,4 @@
+pub mod LoneLemmas
 pub mod NextLemmas
 pub mod RowLemmas
 pub mod TurnLemmas

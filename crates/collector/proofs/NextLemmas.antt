@@ -26,7 +26,7 @@ either true false = refl
 either false true = refl
 either false false = refl
 
-among_filter : (P : Reference → Bool) (r : Reference) (rs : List Reference) → is_among (filter P rs) r ≡ (P r && is_among rs r)
+pub among_filter : (P : Reference → Bool) (r : Reference) (rs : List Reference) → is_among (filter P rs) r ≡ (P r && is_among rs r)
 among_filter P r rs = any-filter_same (eq_by_cmp ref_cmp r) P (P r) (λ k tie. ap P (sym (same_key r k tie))) rs
 
 -- in turn are just the placed ones
@@ -81,7 +81,7 @@ no_more P k rs off = among_filter P k rs ∙ ap (λ t. P k && t) off ∙ by_test
     by_test true = refl
     by_test false = refl
 
-distinct_filter : (P : Reference → Bool) (rs : List Reference) → AreDistinct rs → AreDistinct (filter P rs)
+pub distinct_filter : (P : Reference → Bool) (rs : List Reference) → AreDistinct rs → AreDistinct (filter P rs)
 distinct_filter P [] is = tt
 distinct_filter P (r ∷ rs) is = by_test (P r) (distinct_filter P rs is.1)
   where

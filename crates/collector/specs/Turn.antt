@@ -8,6 +8,8 @@ use Rattle.collation.specs.Reference.{Reference}
 use Rattle.collation.specs.Order.{ref_cmp}
 use Rattle.version_chain.specs.Cut.{left_after}
 use Rattle.version_store.specs.Versions.{Row, Versions, versions_of, is_bare}
+pub use Rattle.version_chain.specs.Versions.{is_one_value}
+pub use Rattle.version_store.specs.Versions.{last_or}
 use Rattle.collector.specs.declared.turning.Progress.{Progress}
 
 -- a row, or none where no version is left
@@ -27,11 +29,6 @@ row_left horizon visits m r = if is_among visits r then kept (left_after horizon
 abbrev pub after_horizon : ℕ → Row → Row
 after_horizon horizon vs = filter (λ v. not (leb v.0 horizon)) vs
 
--- the last of these, or else the old mark
-abbrev pub last_or : Option Reference → List Reference → Option Reference
-last_or mark [] = mark
-last_or mark (r ∷ rs) = last_or (Some r) rs
-
 -- how many versions of these references go
 abbrev pub versions_gone : ℕ → Versions → List Reference → ℕ
 versions_gone horizon m [] = 0
@@ -47,13 +44,6 @@ pub record IsProgress (horizon : ℕ) (visits : List Reference) (m : Versions) (
   pub dropped : progress.dropped ≡ min 18446744073709551615 (versions_gone horizon m visits)
   pub removed : progress.removed ≡ keys_gone horizon m visits
   pub left : progress.left ≡ 0
-
--- a row of one version, which is a value
-abbrev pub is_one_value : Row → Bool
-is_one_value [] = false
-is_one_value ((s, None) ∷ vs) = false
-is_one_value ((s, Some x) ∷ []) = true
-is_one_value ((s, Some x) ∷ v ∷ vs) = false
 
 -- ---- what a visit of keys asks for
 

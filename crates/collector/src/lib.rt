@@ -11,9 +11,11 @@
 //! With `^A` at 3 absent, 2 "y" and 1 "x", and `^B` at 2 "z" and 1 "w", a pass at 3 takes out `^A` and leaves `^B` at 2
 //! "z": 2 visited, 4 dropped, 1 removed. A turn at 2 with limit 1 leaves `^A` at 3 absent and 2 "y", and marks `^A`.
 //!
-//! All memory is taken before the first change: a list with a copy of each key that is to be visited; a copy takes
-//! memory of its own only past 38 key bytes. After a refusal nothing has changed. So the limit bounds what a turn
-//! takes, and a pass takes a list of all keys.
+//! A key that has one version, which is a value, is counted as visited and passed over: no cut changes it.
+//!
+//! All memory is taken before the first change: a list with a copy of each other key that is to be visited; a copy
+//! takes memory of its own only past 38 key bytes. After a refusal nothing has changed. So the limit bounds what a turn
+//! takes, and a pass takes a list of all keys but those passed over.
 //!
 //! Read `specs/Turn.antt`, then `turning.rt`; `laws.rt` says what the definitions come to. Not promised: any time; that
 //! cells go back to the allocator (they are reserved for later versions).

@@ -4,13 +4,13 @@ ghost use Rattle.std.specs.FinMap as finmap;
 ghost use Rattle.refusal.specs.declared.Refusal.{Refusal};
 ghost use Rattle.collation.specs.Reference.{Reference};
 ghost use Rattle.version_chain.specs.Cut.{left_after};
-ghost use Rattle.version_store.specs.Versions.{Row, content_at, versions_of, next_in_turn, is_bare, tidied};
+ghost use Rattle.version_store.specs.Versions.{Row, content_at, versions_of, next_in_turn, is_bare, tidied, AreNextVisits};
 ghost use Rattle.collector.specs.Turn.{row_left, kept, last_or, after_horizon, is_one_value, IsProgress, AreAllPlaced, AreDistinct};
 
 use key_codec::Key;
 use refusal::Refusal;
 use std::alloc::Global;
-use version_store::KeyedStore;
+use version_store::{KeyedStore, Visits};
 
 /// What a turn did.
 #[derive(Clone, Copy, Debug, PartialEq, Eq)]
@@ -25,8 +25,8 @@ pub struct Progress {
     pub left: usize,
 }
 
-// Drops what nobody at or after the horizon sees of a key, takes it out where nothing is left, and marks it. Answers
-// how many versions went, and whether the key did.
+// Drops what nobody at or after the horizon sees of a key, and takes it out where nothing is left. Answers how many
+// versions went, and whether the key did.
 fn visit(store: &mut KeyedStore, horizon: u64, key: Key) -> (usize, bool)
     requires placed { finmap.contains_key store.old.versions key ≡ true }
     requires horizon { horizon ≤ store.old.cut }
@@ -36,16 +36,14 @@ fn visit(store: &mut KeyedStore, horizon: u64, key: Key) -> (usize, bool)
     ensures placed { finmap.len store.new.versions + cond result.1 1 0 ≡ finmap.len store.old.versions }
     ensures present { store.new.present ≡ store.old.present }
     ensures cut { store.new.cut ≡ store.old.cut }
-    ensures mark { store.new.mark ≡ Some key }
+    ensures mark { store.new.mark ≡ store.old.mark }
     ensures spare { store.old.spare ≤ store.new.spare }
 {
-    let counts = store.cut_and_drop(&key, horizon);
-    store.mark(key);
-    counts
+    store.cut_and_drop(&key, horizon)
 }
 
 // Visits these keys.
-fn visit_all(store: &mut KeyedStore, horizon: u64, keys: Vec<Key>) -> Progress
+fn visit_each(store: &mut KeyedStore, horizon: u64, keys: Vec<Key>) -> Progress
     requires placed { AreAllPlaced store.old.versions keys.items }
     requires distinct { AreDistinct keys.items }
     requires horizon { horizon ≤ store.old.cut }
@@ -54,7 +52,7 @@ fn visit_all(store: &mut KeyedStore, horizon: u64, keys: Vec<Key>) -> Progress
     ensures placed { finmap.len store.new.versions + result.removed ≡ finmap.len store.old.versions }
     ensures present { store.new.present ≡ store.old.present }
     ensures cut { store.new.cut ≡ store.old.cut }
-    ensures mark { store.new.mark ≡ last_or store.old.mark keys.items }
+    ensures mark { store.new.mark ≡ store.old.mark }
     ensures spare { store.old.spare ≤ store.new.spare }
 {
     let visited = keys.len();
@@ -72,6 +70,35 @@ fn visit_all(store: &mut KeyedStore, horizon: u64, keys: Vec<Key>) -> Progress
         dropped,
         removed,
         left: 0,
+    }
+}
+
+// Visits what is next in turn, and marks the last. A key that has one version, which is a value, is only counted: a cut
+// leaves it as it is.
+fn visit_all(store: &mut KeyedStore, horizon: u64, limit: usize, visits: Visits) -> Progress
+    requires next { AreNextVisits limit store.old visits.keys.items visits.visited visits.last }
+    requires horizon { horizon ≤ store.old.cut }
+    ensures rows { (r : Reference) → finmap.get store.new.versions r ≡ row_left horizon (next_in_turn limit store.old) store.old.versions r }
+    ensures progress { IsProgress horizon (next_in_turn limit store.old) store.old.versions result }
+    ensures placed { finmap.len store.new.versions + result.removed ≡ finmap.len store.old.versions }
+    ensures present { store.new.present ≡ store.old.present }
+    ensures cut { store.new.cut ≡ store.old.cut }
+    ensures mark { store.new.mark ≡ last_or store.old.mark (next_in_turn limit store.old) }
+    ensures spare { store.old.spare ≤ store.new.spare }
+{
+    let Visits {
+        keys,
+        visited,
+        last,
+    } = visits;
+    let progress = visit_each(store, horizon, keys);
+    match last {
+        Some(last) => store.mark(last),
+        None => {}
+    }
+    Progress {
+        visited,
+        ..progress
     }
 }
 
@@ -109,13 +136,13 @@ pub fn turn(
     if horizon > store.now() {
         return Err(Refusal::Ahead);
     }
-    let Ok(keys) = store.next_keys(alloc, limit) else {
+    let Ok(visits) = store.next_visits(alloc, limit) else {
         return Err(Refusal::OutOfMemory);
     };
     match store.raise_cut(horizon) {
-        Ok(()) => Ok(visit_all(store, horizon, keys)),
+        Ok(()) => Ok(visit_all(store, horizon, limit, visits)),
         Err(refusal) => {
-            drop(keys);
+            drop(visits);
             Err(refusal)
         }
     }

@@ -1,14 +1,19 @@
 -- A chain is its newest version and the chain below.
 use Rattle.std.proofs.Common.{◌≡◌, ℕ, ◌+◌, ◌<◌, ◌≤◌, List, [], ◌∷◌, length, Some, refl, sym, ap, ◌∙◌, subst, arith}
 use Rattle.std.specs.Prelude.{Option}
-use Rattle.std.specs.Prelude.{leb, cond}
+use Rattle.std.specs.Prelude.{leb, cond, false}
+use Rattle.std.specs.Borrow.{Bor}
+use Rattle.version_chain.specs.Slots.{lent_held}
 use denote.RawPtr.{Ptr}
 use Rattle.cell_pool.specs.declared.cell.Cell.{Cell}
-use Rattle.version_chain.specs.Versions.{Entry}
+use Rattle.version_chain.specs.Versions.{Entry, is_one_value}
 use Rattle.version_chain.specs.laws.Versions.{leb_yes, leb_no}
 use Rattle.version_chain.specs.Cut.{cut_of, if_value, newest_value}
-use Rattle.version_chain.specs.Links.{versions, from_version, pages, pages_behind, AllOf, back_onto, AllAfter, FromAtMost}
+use Rattle.version_chain.specs.Links.{versions, entries_of, entry_step, newer_of, held_versions, from_version, pages, pages_behind, AllOf, back_onto, AllAfter, FromAtMost}
+use Rattle.version_chain.specs.declared.version.Held.{Held}
+use Rattle.version_chain.specs.declared.version.Held.TheVariants.{Absence, Value, AbsenceOver, ValueOver}
 use Rattle.version_chain.specs.declared.version.Version.{Version}
+use Rattle.version_chain.specs.declared.version.Version.TheFolds.{fold_out-Version}
 
 pub all_at : (qs rs ps : List Ptr) → qs ≡ rs → AllOf rs ps → AllOf qs ps
 all_at qs rs ps e h = subst (λ l. AllOf l ps) (sym e) h
@@ -46,6 +51,20 @@ module _ {V : Type 0} where
   -- two readings of one version begin with one entry
   pub same_front : (u v : Version V) (k l : Entry V) (ks ls : List (Entry V)) → u ≡ v → from_version u ≡ k ∷ ks → from_version v ≡ l ∷ ls → k ≡ l
   same_front u v k l ks ls e a b = let both : k ∷ ks ≡ l ∷ ls = sym a ∙ ap from_version e ∙ b in cc
+
+  over_held : {L : Type 0} (s : ℕ) (x : V) (below : L → ℕ × List (Entry V)) (h : Held V L) → is_one_value ((s, Some x) ∷ entries_of below h) ≡ false
+  over_held s x below (Absence stamp) = refl
+  over_held s x below (Value stamp value) = refl
+  over_held s x below (AbsenceOver older) = refl
+  over_held s x below (ValueOver value older) = refl
+
+  -- a version over another isn't the only one
+  pub over_version : (s : ℕ) (x : V) (v : Version V) → is_one_value ((s, Some x) ∷ from_version v) ≡ false
+  over_version s x v = ap (λ (p : ℕ × List (Entry V)). is_one_value ((s, Some x) ∷ p.1)) (fold_out-Version V (ℕ × List (Entry V)) entry_step v) ∙ over_held s x (λ c. c.value) _
+
+  -- the same of one that is lent
+  pub over_lent : (h : Held (Bor V) (Bor (Cell (Version V)))) (value : Bor V) (older : Bor (Cell (Version V))) → h ≡ ValueOver value older → false ≡ is_one_value (held_versions (lent_held h))
+  over_lent h value older e = sym (ap (λ k. is_one_value (held_versions (lent_held k))) e ∙ over_version (newer_of older.now.value) value.now older.now.value)
 
   cut_skip : (h : ℕ) (k : Entry V) (rs : List (Entry V)) → h < k.0 → cut_of h (k ∷ rs) ≡ k ∷ cut_of h rs
   cut_skip h k rs lt = ap (λ b. cond b (if_value k k.1) (k ∷ cut_of h rs)) (leb_no k.0 h (leb k.0 h) refl lt)

@@ -57,11 +57,12 @@ module _ {V : Type 0} where
           ∙ ap (λ us. v ∷ us) (more (tail_same v (cut_of g vs) vs (sym (cut_late g v vs early) ∙ same)))
           ∙ sym (cut_late h v vs at)
 
-  -- a version in front of a chain of which a cut drops nothing
-  pub cut_pushed : (h since stamp : ℕ) (x : Option V) (vs : List (Entry V)) → h ≤ since → IsAbove stamp vs → IsNewerThan since vs → cut_of h vs ≡ vs → cut_of h ((stamp, x) ∷ vs) ≡ (stamp, x) ∷ vs
-  cut_pushed h since stamp x [] low above newer same = absurd newer
-  cut_pushed h since stamp x (v ∷ vs) low above newer same =
-      cut_late h (stamp, x) (v ∷ vs) (leb_no stamp h (leb stamp h) refl (omega (arith, low, above, newer))) ∙ ap (λ us. (stamp, x) ∷ us) same
+  -- a version after the horizon in front of a chain of which a cut drops nothing, or of none
+  pub cut_pushed : (h since stamp : ℕ) (x : Option V) (vs : List (Entry V)) → h < stamp → (¬ (vs ≡ []) → IsNewerThan since vs) → (IsNewerThan since vs → cut_of h vs ≡ vs) → cut_of h ((stamp, x) ∷ vs) ≡ (stamp, x) ∷ vs
+  cut_pushed h since stamp x [] late newer same = cut_late h (stamp, x) [] (leb_no stamp h (leb stamp h) refl late)
+  cut_pushed h since stamp x (v ∷ vs) late newer same =
+      let none : v ∷ vs ≡ [] → ⊥ = λ e. cc in
+      cut_late h (stamp, x) (v ∷ vs) (leb_no stamp h (leb stamp h) refl late) ∙ ap (λ us. (stamp, x) ∷ us) (same (newer none))
 
   above_more : (m n : ℕ) (vs : List (Entry V)) → m ≤ n → IsAbove m vs → IsAbove n vs
   above_more m n [] le above = tt

@@ -2,9 +2,9 @@
 ghost use Rattle.std.specs.Prelude.{◌≡◌, ◌+◌, ◌-◌, ◌^◌, ◌<◌, [], ◌∷◌, length, min, option_copied};
 ghost use Rattle.version_chain.specs.Slots.{lent};
 ghost use Rattle.version_chain.specs.Links.{from_version, versions, pages, line_versions, line_pages, AllOf};
-ghost use Rattle.version_chain.specs.Versions.{newest_of, at_of, cells_of};
+ghost use Rattle.version_chain.specs.Versions.{newest_of, at_of, is_one_value, cells_of};
 
-use crate::version::{Held, Link, Version, lent_parts};
+use crate::version::{Held, Link, Version, is_lone_value, lent_parts};
 use cell_pool::{Cell, Pool};
 
 /// A chain: its newest version, or none.
@@ -53,6 +53,16 @@ fn at_version<V>(newest: &Version<V>, stamp: u64) -> Option<&V>
             Some(cell) => here = cell.get(),
             None => return None,
         }
+    }
+}
+
+/// Whether there is one version, which is a value.
+pub(crate) fn is_alone<V>(line: LentLine<'_, V>) -> bool
+    ensures { result ≡ is_one_value (line_versions (lent line.entry)) }
+{
+    match line {
+        None => false,
+        Some(newest) => is_lone_value(newest),
     }
 }
 

@@ -4,7 +4,7 @@ ghost use Rattle.version_chain.specs.Slots.{slot_at, lent};
 ghost use Rattle.version_chain.specs.Links.{line_versions};
 ghost use Rattle.version_chain.specs.Tidy.{since_at as since_at_spec};
 
-use crate::chain::{LentLine, Line, at, count, end, newest, push};
+use crate::chain::{LentLine, Line, at, count, end, is_alone, newest, push};
 use crate::cut::{cut, push_and_cut};
 use crate::slots::Slots;
 use crate::version::Version;
@@ -76,7 +76,7 @@ fn since_at(now: u64, horizon: u64, since: u64, latest: u64) -> u64
 }
 
 impl<V: Drop> Chains<V> {
-    ghost use Rattle.version_chain.specs.Versions.{newest_of, at_of, IsAbove, IsFalling};
+    ghost use Rattle.version_chain.specs.Versions.{newest_of, at_of, is_one_value, IsAbove, IsFalling};
     ghost use Rattle.version_chain.specs.Cut.{left_after};
     ghost use Rattle.version_chain.specs.Chains.{chain_at, versions_at, cells_at, IsOpen, HasCell, Updates, open_count, number_count};
 
@@ -163,6 +163,14 @@ impl<V: Drop> Chains<V> {
         ensures falls { IsFalling (versions_at self.now id) }
     {
         newest(self.line(id))
+    }
+
+    /// Whether an open chain has one version, which is a value: no cut drops anything of it.
+    pub fn is_alone(&self, id: ChainId) -> bool
+        requires { IsOpen self.now id }
+        ensures { result ≡ is_one_value (versions_at self.now id) }
+    {
+        is_alone(self.line(id))
     }
 
     /// How many versions an open chain has, up to 2^64 - 1. Goes through all of them.

@@ -116,19 +116,19 @@ pub(crate) fn cut<V: Drop>(
     }
 }
 
-// Whether the newest version is after the stamp.
+// Whether the newest version is after the stamp, or there is none.
 fn is_newer<V>(line: &Line<V>, stamp: u64) -> bool
-    ensures { result ≡ true → IsNewerThan stamp (line_versions line.now) }
+    ensures { result ≡ true → ¬ (line_versions line.now ≡ []) → IsNewerThan stamp (line_versions line.now) }
 {
     match line {
         Some(newest) => lent_parts(newest.lend()).0 > stamp,
-        None => false,
+        None => true,
     }
 }
 
 /// Puts a version in front, and drops what a cut drops. A version that isn't after the horizon hides all others, so that
 /// these go and none takes a cell. Where the newest one so far is after `since`, it is known that no older one has to go, and
-/// none is looked at but the first, whose cell keeps the stamp.
+/// none is looked at but the first, whose cell keeps the stamp. Where there is none so far, nothing has to go either.
 pub(crate) fn push_and_cut<V: Drop>(
     pool: &mut Pool<Version<V>>,
     line: Line<V>,

@@ -3,6 +3,7 @@
 //! A version with one before it keeps no stamp: the cell of that one does, beside it.
 ghost use Rattle.std.specs.Prelude.{◌≡◌, ◌∷◌, [], Some, option_copied};
 ghost use Rattle.version_chain.specs.Slots.{lent_held};
+ghost use Rattle.version_chain.specs.Versions.{is_one_value};
 ghost use Rattle.version_chain.specs.Links.{newer_of, from_version, pages_behind, versions, pages, held_versions, held_pages};
 
 use cell_pool::Cell;
@@ -101,6 +102,18 @@ pub(crate) fn lent_parts<'a, V>(
         Held::Value(stamp, value) => (stamp, Some(value), None),
         Held::AbsenceOver(older) => (older.get().newer, None, Some(older)),
         Held::ValueOver(value, older) => (older.get().newer, Some(value), Some(older)),
+    }
+}
+
+/// Whether a version that is lent is a value, with none before it.
+pub(crate) fn is_lone_value<V>(held: Held<&V, &Cell<Version<V>>>) -> bool
+    ensures { result ≡ is_one_value (held_versions (lent_held held.entry)) }
+{
+    match held {
+        Held::Absence(_) => false,
+        Held::Value(_, _) => true,
+        Held::AbsenceOver(_) => false,
+        Held::ValueOver(_, _) => false,
     }
 }
 

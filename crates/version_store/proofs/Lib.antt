@@ -8,6 +8,7 @@ pub mod PlaceLemmas
 pub mod RangeLemmas
 pub mod RowLemmas
 pub mod SeekLemmas
+pub mod SeenLemmas
 pub mod SetLemmas
 pub mod ShortLemmas
 pub mod TiedLemmas

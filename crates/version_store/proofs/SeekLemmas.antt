@@ -146,10 +146,10 @@ last_left P (q ∷ ps) p at = by_rest (order.find_last (λ e. P e.0) ps) refl (P
 -- ---- the ids that a walk passes are open
 
 -- the first pair is found by its key, and those after it by theirs
-first_found : (p : Reference × ℕ) (ps : Pairs) → finmap.find ref_cmp p.0 (p ∷ ps) ≡ Some p.1
+pub first_found : (p : Reference × ℕ) (ps : Pairs) → finmap.find ref_cmp p.0 (p ∷ ps) ≡ Some p.1
 first_found p ps = ap (λ r. cond r (Some p.1) (finmap.find ref_cmp p.0 ps)) (let laws = eq_by_cmp_equiv ref_cmp_total in laws.refl p.0)
 
-found_behind : (p : Reference × ℕ) (ps : Pairs) (q : Reference) (id : ℕ) → is_sorted ref_cmp (p ∷ ps) ≡ true → finmap.find ref_cmp q ps ≡ Some id → finmap.find ref_cmp q (p ∷ ps) ≡ Some id
+pub found_behind : (p : Reference × ℕ) (ps : Pairs) (q : Reference) (id : ℕ) → is_sorted ref_cmp (p ∷ ps) ≡ true → finmap.find ref_cmp q ps ≡ Some id → finmap.find ref_cmp q (p ∷ ps) ≡ Some id
 found_behind p ps q id h at = by_tie (eq_by_cmp ref_cmp q p.0) refl
   where
     by_tie : (t : Bool) → eq_by_cmp ref_cmp q p.0 ≡ t → cond t (Some p.1) (finmap.find ref_cmp q ps) ≡ Some id

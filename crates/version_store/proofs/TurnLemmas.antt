@@ -37,7 +37,7 @@ turn_step ks js left rest all n k pushed steps less is =
 pub turn_none : (ks : List Reference) (n : ℕ) → ks ++ take n [] ≡ ks
 turn_none ks n = ap (λ l. ks ++ l) (take_all n [] (omega arith)) ∙ append-nil ks
 
-keys_filter : (P : Reference → Bool) (ps : Pairs) → filter P (keys_of ps) ≡ keys_of (filter (λ p. P p.0) ps)
+pub keys_filter : (P : Reference → Bool) (ps : Pairs) → filter P (keys_of ps) ≡ keys_of (filter (λ p. P p.0) ps)
 keys_filter P [] = refl
 keys_filter P (p ∷ ps) = by_test (P p.0) (keys_filter P ps)
   where

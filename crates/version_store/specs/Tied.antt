@@ -1,5 +1,5 @@
 -- How a tree of ids and chains hold the versions together.
-use Rattle.std.specs.Prelude.{◌≡◌, ℕ, suc, ◌<◌, ◌≤◌, Bool, true, not, List, [], ◌∷◌, ◌++◌, Option, Some, map, filter, length}
+use Rattle.std.specs.Prelude.{◌≡◌, ℕ, suc, ◌<◌, ◌≤◌, Bool, true, not, List, [], ◌∷◌, ◌++◌, Option, Some, None, map, filter, length}
 use Rattle.std.specs.List.{list_any}
 use Rattle.std.specs.Ordering.{eq_by_cmp}
 use Rattle.std.specs.FinMap.{find, is_sorted, from_sorted, contains_key}
@@ -7,9 +7,9 @@ use Rattle.collation.specs.Reference.{Reference}
 use Rattle.collation.specs.Order.{ref_cmp}
 use Rattle.globals.specs.declared.cut.Cut.{Cut}
 use Rattle.globals.specs.Cuts.{stands_before, stands_within}
-use Rattle.version_chain.specs.Versions.{IsAbove, IsFalling}
+use Rattle.version_chain.specs.Versions.{is_one_value, IsAbove, IsFalling}
 use Rattle.version_chain.specs.Chains.{ChainsState, versions_at, IsOpen, open_count}
-use Rattle.version_store.specs.Versions.{Row, Versions, newest_among, seen_at}
+use Rattle.version_store.specs.Versions.{Row, Versions, newest_among, seen_at, keys_of, last_or}
 
 -- each key with the versions under its id
 abbrev pub rows : ChainsState (List ℕ) → List (Reference × ℕ) → List (Reference × Row)
@@ -46,6 +46,16 @@ AreOpen chains (p ∷ ps) = IsOpen chains p.1 × AreOpen chains ps
 abbrev pub AreKeysOf : Versions → List (Reference × ℕ) → Type 0
 AreKeysOf m [] = Unit {0}
 AreKeysOf m (p ∷ ps) = (contains_key m p.0 ≡ true) × AreKeysOf m ps
+
+-- the keys of the pairs of whose versions something may go
+abbrev pub keys_worth : ChainsState (List ℕ) → List (Reference × ℕ) → List Reference
+keys_worth chains pairs = keys_of (filter (λ p. not (is_one_value (versions_at chains p.1))) pairs)
+
+-- these pairs were seen: what was copied, how many there are, and the last
+pub record HasSeen (chains : ChainsState (List ℕ)) (pairs : List (Reference × ℕ)) (keys : List Reference) (visited : ℕ) (last : Option Reference) : Type 0 where
+  pub keys_are : keys ≡ keys_worth chains pairs
+  pub visited_is : visited ≡ length pairs
+  pub last_is : last ≡ last_or None (keys_of pairs)
 
 -- the keys rise, each has an open chain, no chain is named twice, no other is open, no version is after now, none is there
 -- where that is 0, and stamps fall

@@ -10,7 +10,7 @@ use Rattle.collation.specs.Database.{Database, reference_code}
 use Rattle.collation.specs.Changes.{Change}
 pub use Rattle.collation.specs.Changes.{changed}
 use Rattle.std.specs.Ordering.{is_lt}
-use Rattle.version_chain.specs.Versions.{Entry, newest_of, at_of, IsAbove, cells_of}
+use Rattle.version_chain.specs.Versions.{Entry, newest_of, at_of, is_one_value, IsAbove, cells_of}
 use Rattle.version_chain.specs.Chains.{listed}
 use Rattle.version_chain.specs.Cut.{left_after}
 use Rattle.globals.specs.declared.cut.Cut.{Cut}
@@ -198,6 +198,21 @@ next_in_turn limit s = take limit (in_turn s.mark s.versions)
 -- without the reference, where it has no versions
 abbrev pub unless_bare : Reference → Versions → Versions
 unless_bare r m = cond (is_bare (finmap.get m r)) (finmap.remove m r) m
+
+-- the last of these, or else the old one
+abbrev pub last_or : Option Reference → List Reference → Option Reference
+last_or mark [] = mark
+last_or mark (r ∷ rs) = last_or (Some r) rs
+
+-- the reference has more than one version, or one that isn't a value, or none
+abbrev pub is_worth_a_cut : Versions → Reference → Bool
+is_worth_a_cut m r = not (is_one_value (versions_of m r))
+
+-- what a collector visits next: those of which something may go, how many there are in all, and the last of all
+pub record AreNextVisits (limit : ℕ) (s : Stored) (keys : List Reference) (visited : ℕ) (last : Option Reference) : Type 0 where
+  pub keys_are : keys ≡ filter (is_worth_a_cut s.versions) (next_in_turn limit s)
+  pub visited_is : visited ≡ length (next_in_turn limit s)
+  pub last_is : last ≡ last_or None (next_in_turn limit s)
 
 -- the reference without what nobody at or after the horizon sees, and not placed where nothing is left
 abbrev pub tidied : ℕ → Reference → Versions → Versions

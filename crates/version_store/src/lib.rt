@@ -21,6 +21,7 @@
 pub use kept::Store;
 pub use snapshot::Snapshot;
 pub use store::KeyedStore;
+pub use turn::Visits;
 
 mod collect;
 mod kept;

@@ -2,7 +2,7 @@
 use Rattle.std.proofs.Common.{length, ◌≡◌, ℕ, ◌+◌, ◌<◌, ◌≤◌, List, [], ◌∷◌, Option, Some, None, refl, sym, ap, ◌∙◌, subst, arith}
 use Rattle.std.specs.Prelude.{leb, cond, is_none}
 use mathlib.Core.Bool.{Bool, true, false}
-use Rattle.version_chain.specs.Versions.{Entry, newest_of, at_of, IsAbove, IsFalling, cells_of}
+use Rattle.version_chain.specs.Versions.{Entry, newest_of, at_of, is_one_value, IsAbove, IsFalling, cells_of}
 use Rattle.version_chain.specs.laws.Versions.{leb_yes, leb_no, below_of}
 use Rattle.version_chain.specs.Cut.{covers, uncovered, without_old_absence, left_after, cut_of, if_value, newest_value}
 
@@ -99,6 +99,17 @@ module _ {V : Type 0} where
   pub left_after-settled : (h : ℕ) (vs : List (Entry V)) → IsAbove (h + 1) vs → left_after h vs ≡ newest_value vs
   left_after-settled h [] low = refl
   left_after-settled h (v ∷ vs) low = left_after-cut_of h (v ∷ vs) ∙ cut_early h v vs (leb_yes v.0 h (omega (arith, low)))
+
+  -- a cut drops nothing of one version that is a value
+  pub left_after-one : (h : ℕ) (vs : List (Entry V)) → is_one_value vs ≡ true → left_after h vs ≡ vs
+  left_after-one h [] e = absurd (cc)
+  left_after-one h ((s, None) ∷ vs) e = absurd (cc)
+  left_after-one h ((s, Some x) ∷ []) e = left_after-cut_of h ((s, Some x) ∷ []) ∙ by_stamp (leb s h)
+    where
+      by_stamp : (b : Bool) → cond b (if_value (s, Some x) (Some x)) ((s, Some x) ∷ []) ≡ (s, Some x) ∷ []
+      by_stamp true = refl
+      by_stamp false = refl
+  left_after-one h ((s, Some x) ∷ v ∷ vs) e = absurd (cc)
 
   -- a stamp after all versions is after those that are left
   pub IsAbove-left_after : (h s : ℕ) (vs : List (Entry V)) → IsAbove s vs → IsAbove s (left_after h vs)

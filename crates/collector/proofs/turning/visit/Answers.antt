@@ -8,8 +8,8 @@ use Rattle.collector.proofs.turning.visit.Goals as goal
 pub returns-clause-placed : goal.returns-clause-placed
 returns-clause-placed c =
     let m = c.args.store.now.versions in
-    let done = c.cut_and_drop-counts in
-    let versions : c.mark.new.self.versions ≡ tidied c.args.horizon c.args.key m = search rules in
+    let done = c.cut_and_drop in
+    let versions : c.cut_and_drop.new.self.versions ≡ tidied c.args.horizon c.args.key m = search rules in
     ap (λ n. finmap.len n + cond done.result.1 1 0) versions
     ∙ ap (λ b. finmap.len (tidied c.args.horizon c.args.key m) + cond b 1 0) done.ensures.bare
     ∙ len_visited c.args.horizon c.args.key m c.requires.placed

@@ -1,47 +1,49 @@
-use Rattle.std.proofs.Common.{◌≡◌, ◌+◌, ◌∷◌, ◌∙◌, ap, refl, rules, arith, min, length}
-use Rattle.std.specs.Prelude.{cond}
-use Rattle.std.specs.Vec.Iter.{into_iter_items}
-use Rattle.collector.specs.Turn.{last_or}
-use Rattle.collector.proofs.TurnLemmas.{stands_more, stands_last}
+use Rattle.std.proofs.Common.{sym, ap, ◌∙◌}
+use Rattle.std.specs.FinMap as finmap
+use Rattle.version_store.specs.Versions.{next_in_turn, is_worth_a_cut}
+use Rattle.collector.proofs.TurnLemmas.{itself}
+use Rattle.collector.proofs.NextLemmas.{placed_next, distinct_next, distinct_filter}
+use Rattle.collector.proofs.LoneLemmas.{row_worth, progress_worth, placed_filter, marked_some, marked_none}
 use Rattle.collector.proofs.turning.visit_all.Goals as goal
 
-pub loop-key-preserved-then-is_removed : goal.loop-key-preserved-then-is_removed
-loop-key-preserved-then-is_removed c =
-    let now = c.loop-key.invariant in
-    let steps : into_iter_items c.loop-key.key-iterator ≡ c.in-Some.key ∷ into_iter_items c.next.new.self = search rules in
-    let sum : c.saturating_add-dropped.result ≡ min 18446744073709551615 (c.loop-key.dropped + c.visit-count.result.0) = search (rules, arith) in
-    let visited = c.visit-count.ensures in
-    let more : c.loop-key.removed + 1 ≡ c.loop-key.removed + cond c.visit-count.result.1 1 0 = rw c.if-is_removed.true refl in
-    record {
-      can_next = tt;
-      is_finite = tt;
-      stands = stands_more _ _ _ _ _ c.in-Some.key _ _ c.visit-count.result.0 _ _ _ _ c.visit-count.result.1 now.stands steps visited.versions visited.dropped visited.removed sum more;
-      horizon = omega (arith, now.horizon, visited.cut);
-      present = visited.present ∙ now.present;
-      cut = visited.cut ∙ now.cut;
-      mark = ap (λ o. last_or o (into_iter_items c.next.new.self)) visited.mark ∙ (rw steps at now.mark);
-      spare = omega (arith, now.spare, visited.spare);
-    }
+pub visit_each-progress-requires-clause-placed : goal.visit_each-progress-requires-clause-placed
+visit_each-progress-requires-clause-placed c =
+    let s = c.args.store.now in
+    rw c.requires.next.keys_are (placed_filter (is_worth_a_cut s.versions) s.versions (next_in_turn c.args.limit s) (placed_next c.args.limit s itself))
 
-pub loop-key-preserved : goal.loop-key-preserved
-loop-key-preserved c =
-    let now = c.loop-key.invariant in
-    let steps : into_iter_items c.loop-key.key-iterator ≡ c.in-Some.key ∷ into_iter_items c.next.new.self = search rules in
-    let sum : c.saturating_add-dropped.result ≡ min 18446744073709551615 (c.loop-key.dropped + c.visit-count.result.0) = search (rules, arith) in
-    let visited = c.visit-count.ensures in
-    let more : c.loop-key.removed ≡ c.loop-key.removed + cond c.visit-count.result.1 1 0 = rw c.if-is_removed.false (omega arith) in
-    record {
-      can_next = tt;
-      is_finite = tt;
-      stands = stands_more _ _ _ _ _ c.in-Some.key _ _ c.visit-count.result.0 _ _ _ _ c.visit-count.result.1 now.stands steps visited.versions visited.dropped visited.removed sum more;
-      horizon = omega (arith, now.horizon, visited.cut);
-      present = visited.present ∙ now.present;
-      cut = visited.cut ∙ now.cut;
-      mark = ap (λ o. last_or o (into_iter_items c.next.new.self)) visited.mark ∙ (rw steps at now.mark);
-      spare = omega (arith, now.spare, visited.spare);
-    }
+pub visit_each-progress-requires-clause-distinct : goal.visit_each-progress-requires-clause-distinct
+visit_each-progress-requires-clause-distinct c =
+    let s = c.args.store.now in
+    rw c.requires.next.keys_are (distinct_filter (is_worth_a_cut s.versions) (next_in_turn c.args.limit s) (distinct_next c.args.limit s))
 
-pub returns-clause-progress : goal.returns-clause-progress
-returns-clause-progress c =
-    let none : length (into_iter_items c.loop-key.key-iterator) ≡ 0 = search (rules, arith) in
-    stands_last _ _ _ _ _ _ _ _ c.loop-key.invariant.stands none (search rules)
+pub returns-in-Some-clause-rows : goal.returns-in-Some-clause-rows
+returns-in-Some-clause-rows c = λ r.
+    let s = c.args.store.now in
+    let rows = rw c.requires.next.keys_are at c.visit_each-progress.ensures.rows in
+    ap (λ t. finmap.get t.versions r) c.mark.ensures ∙ rows r ∙ row_worth c.args.horizon s.versions (next_in_turn c.args.limit s) r
+
+pub returns-in-None-clause-rows : goal.returns-in-None-clause-rows
+returns-in-None-clause-rows c = λ r.
+    let s = c.args.store.now in
+    let rows = rw c.requires.next.keys_are at c.visit_each-progress.ensures.rows in
+    rows r ∙ row_worth c.args.horizon s.versions (next_in_turn c.args.limit s) r
+
+pub returns-in-Some-clause-progress : goal.returns-in-Some-clause-progress
+returns-in-Some-clause-progress c =
+    let s = c.args.store.now in
+    progress_worth c.args.horizon s.versions (next_in_turn c.args.limit s) _ _ _ c.requires.next.keys_are c.requires.next.visited_is c.visit_each-progress.ensures.progress
+
+pub returns-in-None-clause-progress : goal.returns-in-None-clause-progress
+returns-in-None-clause-progress c =
+    let s = c.args.store.now in
+    progress_worth c.args.horizon s.versions (next_in_turn c.args.limit s) _ _ _ c.requires.next.keys_are c.requires.next.visited_is c.visit_each-progress.ensures.progress
+
+pub returns-in-Some-clause-mark : goal.returns-in-Some-clause-mark
+returns-in-Some-clause-mark c =
+    let s = c.args.store.now in
+    ap (λ t. t.mark) c.mark.ensures ∙ sym (marked_some s.mark (next_in_turn c.args.limit s) c.in-Some.last (sym c.requires.next.last_is ∙ c.in-Some.is))
+
+pub returns-in-None-clause-mark : goal.returns-in-None-clause-mark
+returns-in-None-clause-mark c =
+    let s = c.args.store.now in
+    c.visit_each-progress.ensures.mark ∙ sym (marked_none s.mark (next_in_turn c.args.limit s) (sym c.requires.next.last_is ∙ c.in-None.is))

@@ -1,8 +1,7 @@
 use Rattle.std.proofs.Common.{◌≡◌, ◌≤◌}
 use Rattle.std.specs.Vec.Iter.{into_iter_items}
-use Rattle.collector.specs.Turn.{last_or}
 use Rattle.collector.proofs.TurnLemmas.{Stands}
-use Rattle.collector.proofs.turning.visit_all.Given as goal
+use Rattle.collector.proofs.turning.visit_each.Given as goal
 
 abbrev pub invariant-loop-key : goal.invariant-loop-key
 invariant-loop-key l = record {
@@ -12,6 +11,6 @@ invariant-loop-key l = record {
   horizon : l.horizon ≤ l.store.cut;
   present : l.store.present ≡ l.initial.store.present;
   cut : l.store.cut ≡ l.initial.store.cut;
-  mark : last_or l.store.mark (into_iter_items l.key-iterator) ≡ last_or l.initial.store.mark l.fn.keys.items;
+  mark : l.store.mark ≡ l.initial.store.mark;
   spare : l.initial.store.spare ≤ l.store.spare;
 }

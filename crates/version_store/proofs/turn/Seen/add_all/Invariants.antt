@@ -1,0 +1,15 @@
+use Rattle.std.proofs.Common.{ℕ, List}
+use Rattle.std.specs.Option.{option_copied}
+use Rattle.collation.specs.Reference.{Reference}
+use Rattle.version_store.specs.Tied.{AreOpen, HasSeen}
+use Rattle.version_store.proofs.SeenLemmas.{StandsAt}
+use Rattle.version_store.proofs.turn.Seen.add_all.Given as goal
+
+abbrev pub invariant-loop-key : goal.invariant-loop-key
+invariant-loop-key l = record {
+  can_next : goal.iterator-loop-key.can_next l.key-iterator;
+  is_finite : goal.iterator-loop-key.is_finite l.key-iterator;
+  opened : AreOpen l.chains l.key-iterator;
+  stands : (qs : List (Reference × ℕ)) → HasSeen l.chains qs l.initial.self.keys.items l.initial.self.visited (option_copied l.initial.self.last)
+      → StandsAt l.chains qs l.fn.walk l.limit l.key-iterator l.self.keys.items l.self.visited (option_copied l.self.last);
+}
