@@ -103,6 +103,7 @@ fn data(alloc: Global, draft: &KeyDraft) -> Result<DataCommand, Refusal>
 }
 
 /// The key of a $GET without a default, or its fault.
+#[inline(always)]
 pub(crate) fn get_key(alloc: Global, draft: &KeyDraft) -> Result<Key, Refusal>
     requires { IsSpelled draft.now }
     ensures { (r : Reference) → IsDraft draft.now r → Answers (λ key. DataCommand.Look (Look.Get key None)) result (unless (data_fault (DataCommand.Look (Look.Get r None))) (DataCommand.Look (Look.Get r None))) }
@@ -131,6 +132,7 @@ pub(crate) fn order_place(
 }
 
 /// The key of a SET to this value, or the first fault of both.
+#[inline(always)]
 pub(crate) fn set_key(alloc: Global, draft: &KeyDraft, value: &Text) -> Result<Key, Refusal>
     requires { IsSpelled draft.now }
     ensures { (r : Reference) → IsDraft draft.now r → Answers (λ key. DataCommand.Set key value.now) result (unless (data_fault (DataCommand.Set r value.now)) (DataCommand.Set r value.now)) }

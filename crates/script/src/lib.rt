@@ -30,7 +30,7 @@ pub use line::{
 };
 pub use locate::{LocatedFault, locate_fault};
 pub use lock::Form;
-pub use reply::{write_done, write_got, write_reply};
+pub use reply::{write_answered, write_done, write_got, write_reply};
 pub use sentence::{DataSentence, Drafts, Sentence};
 pub use word::AloneWord;
 

@@ -147,6 +147,7 @@ pub fn finish_request(
 }
 
 /// The key of a $GET without a default, which is all that is left of its line. Refusals: those of `finish_request`.
+#[inline(always)]
 pub fn key_of_get(alloc: Global, job: Job, drafts: &mut Drafts) -> Result<Key, LineFault>
     requires { SpellsSome drafts.old (Sentence.Access DataSentence.Get) }
     ensures key { (line : List ℕ) → IsAsked line drafts.old job (Sentence.Access DataSentence.Get) → IsKeyOfGet line job result }
@@ -161,6 +162,7 @@ pub fn key_of_get(alloc: Global, job: Job, drafts: &mut Drafts) -> Result<Key, L
 }
 
 /// The key of a SET; its value stays in the drafts (`Drafts::value_mut`). Refusals: those of `finish_request`.
+#[inline(always)]
 pub fn key_of_set(alloc: Global, job: Job, drafts: &mut Drafts) -> Result<Key, LineFault>
     requires { SpellsSome drafts.old (Sentence.Access DataSentence.Set) }
     ensures key { (line : List ℕ) → IsAsked line drafts.old job (Sentence.Access DataSentence.Set) → IsKeyOfSet line job (value_in drafts.old) result }

@@ -139,6 +139,37 @@ pub fn write_reply(job: Option<Job>, reply: &Reply, out: &mut Vec<u8>) -> Result
     }
 }
 
+fn push_answered(job: Option<Job>, answer: &Answer, out: &mut Vec<u8>) -> Result<(), AllocError>
+    ensures ok { OnOk result (out.new.items ≡ out.old.items ++ text.reply_text job (Reply.Answered answer.now)) }
+    ensures kept { GoesOnFrom out.old.items out.new.items }
+{
+    write_number(job_number(job), out)?;
+    out.push(b' ')?;
+    write_answer(answer, out)?;
+    out.push(b'\n')?;
+    Ok(())
+}
+
+/// Writes the reply that is this answer; refused as `write_reply`.
+#[tactic(auto, using(key_codec::specs::laws::Grown::back_to))]
+pub fn write_answered(
+    job: Option<Job>,
+    answer: &Answer,
+    out: &mut Vec<u8>,
+) -> Result<(), AllocError>
+    ensures ok { OnOk result (out.new.items ≡ out.old.items ++ text.reply_text job (Reply.Answered answer.now)) }
+    ensures err { OnErr result (out.new.items ≡ out.old.items) }
+{
+    let before = out.len();
+    match push_answered(job, answer, out) {
+        Ok(()) => Ok(()),
+        Err(error) => {
+            out.truncate(before);
+            Err(error)
+        }
+    }
+}
+
 #[inline(always)]
 fn push_got(job: Job, value: &[u8], out: &mut Vec<u8>) -> Result<(), AllocError>
     ensures ok { OnOk result (out.new.items ≡ out.old.items ++ text.reply_text (Some job) (Reply.Answered (Answer.Value value.now))) }
