@@ -127,6 +127,37 @@ pub(crate) fn prepare_got(
     }
 }
 
+/// The same, with the value copied behind these: all of it, or nothing.
+pub(crate) fn prepare_copied(
+    store: &KeyedStore,
+    journal: &mut Journal,
+    job: Job,
+    key: &Key,
+    values: &mut Vec<u8>,
+) -> Result<usize, Refusal>
+    ensures units { journal.new.units ≡ journal.old.units }
+    ensures base { journal.new.base ≡ journal.old.base }
+    ensures ends { journal.new.ends ≡ journal.old.ends }
+    ensures prepared { OnOk result (journal.new.prepared ≡ Some (Lone job (Look (Get key.now None)) (Value (value_at key.now (content_now store.now))))) }
+    ensures counted { OnOk result (length journal.old.units < 2 ^ 64 - 1) }
+    ensures size { IfOk result (λ size. size ≡ length (value_at key.now (content_now store.now))) }
+    ensures cause { IfErr result (λ refusal. HasNoRoom refusal 1 (length journal.old.units)) }
+    ensures copied { OnOk result (values.new.items ≡ values.old.items ++ value_at key.now (content_now store.now)) }
+    ensures uncopied { OnErr result (values.new.items ≡ values.old.items) }
+{
+    let view = store.view_now();
+    let found = bytes_of(view.get(key));
+    let before = values.len();
+    values.extend_from_slice(found)?;
+    match journal.prepare_get(job, key, found) {
+        Ok(()) => Ok(found.len()),
+        Err(refusal) => {
+            values.truncate(before);
+            Err(refusal)
+        }
+    }
+}
+
 // The answer of a $ORDER, on a store of which no node stands in the stretches.
 fn order_past(
     alloc: Global,

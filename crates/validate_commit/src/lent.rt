@@ -86,6 +86,35 @@ pub(crate) fn keep_got(
     }
 }
 
+// As `keep_got`, with the value copied behind these: all of it, or nothing.
+pub(crate) fn keep_copied(
+    exchanges: &mut ExchangeLog,
+    ranges: &mut Ranges,
+    key: &Key,
+    value: &[u8],
+    decided: bool,
+    values: &mut Vec<u8>,
+) -> Result<usize, Refusal>
+    ensures exchanges { OnOk result (exchanges.new ≡ exchanges.old ++ (record { command = look_command (get_command key.now None); answer = Value value.now }) ∷ []) }
+    ensures ranges { OnOk result (IsNoted ranges.old ranges.new (look_command (get_command key.now None)) (Value value.now) decided) }
+    ensures size { IfOk result (λ size. size ≡ length value.now) }
+    ensures err { OnErr result (exchanges.new ≡ exchanges.old) }
+    ensures unread { OnErr result (ranges.new ≡ ranges.old) }
+    ensures memory { IfErr result (λ refusal. refusal ≡ RefusalView.OutOfMemory) }
+    ensures copied { OnOk result (values.new.items ≡ values.old.items ++ value.now) }
+    ensures uncopied { OnErr result (values.new.items ≡ values.old.items) }
+{
+    let before = values.len();
+    values.extend_from_slice(value)?;
+    match keep_got(exchanges, ranges, key, value, decided) {
+        Ok(size) => Ok(size),
+        Err(refusal) => {
+            values.truncate(before);
+            Err(refusal)
+        }
+    }
+}
+
 // The bytes of a value, and none where there is none.
 pub(crate) fn bytes_of(found: Option<&Text>) -> &[u8]
     ensures { result.now ≡ unwrap_or (option_copied found.entry) [] }
