@@ -15,7 +15,7 @@ use key_map::CutPoint;
 use read_ranges::ReadRange;
 use std::alloc::Global;
 use std::marker::Model;
-use stretches::{InTheWay, Stretches, scout, scout_kill};
+use stretches::{InTheWay, Left, Stretches, scout, scout_kill};
 use validate_commit::Work;
 use version_store::KeyedStore;
 
@@ -81,7 +81,7 @@ impl Passing {
         match command {
             DataCommand::Look(look) => self.look_ahead(alloc, store, look),
             DataCommand::Kill(_, _) => self.begin_kill(store, oldest),
-            _ => self.leave(alloc, command),
+            _ => self.leave(command),
         }
     }
 
@@ -126,7 +126,7 @@ impl Passing {
         if !is_done {
             return;
         }
-        self.stretches.follow(None, killed);
+        self.stretches.follow(Left::All, killed);
     }
 
     fn begin_kill(&mut self, store: &KeyedStore, oldest: Option<u64>)
@@ -139,20 +139,20 @@ impl Passing {
     }
 
     // Keeps what is left of the stretches by a command that may put nodes into one of them.
-    fn leave(&mut self, alloc: Global, command: &DataCommand)
+    fn leave(&mut self, command: &DataCommand)
         ensures before { (m : Database) → AreEmpty self.old m → AreEmpty self.new m }
         ensures behind { (m : Database) → AreEmpty self.old m → AreEmpty self.new (data_after command.now m) }
     {
-        let left = self.stretches.left_by(alloc, command);
+        let left = self.stretches.left_by(command);
         self.stretches.follow(left, &None);
     }
 
     /// Before a lone SET of the reference: what is left of the stretches by it is kept.
-    pub(crate) fn leave_set(&mut self, alloc: Global, key: &Key)
+    pub(crate) fn leave_set(&mut self, key: &Key)
         ensures before { (m : Database) → AreEmpty self.old m → AreEmpty self.new m }
         ensures behind { (value : List ℕ) → (m : Database) → AreEmpty self.old m → AreEmpty self.new (finmap.insert m key.now value) }
     {
-        let left = self.stretches.left_by_set(alloc, key);
+        let left = self.stretches.left_by_set(key);
         self.stretches.follow(left, &None);
     }
 
@@ -233,7 +233,7 @@ impl Passing {
         ensures { (m : Database) → AreEmpty self.old m → IfSome passed.now (λ stretch. IsEmpty stretch m) → AreEmpty self.new m }
     {
         self.absences.note_search(passed.is_some());
-        self.stretches.follow(None, passed);
+        self.stretches.follow(Left::All, passed);
     }
 }
 

@@ -13,7 +13,7 @@ use overlay_view::Overlay;
 use refusal::Refusal;
 use std::alloc::Global;
 use std::test::*;
-use stretches::{InTheWay, Skipping, Stretches, scout, scout_kill, scout_merge};
+use stretches::{InTheWay, Left, Skipping, Stretches, scout, scout_kill, scout_merge};
 use workspace::Workspace;
 
 // What is killed lies in the way.
@@ -50,7 +50,7 @@ fn is_scouted<V: OrderedView>(
     ensures { AreEmpty stretches.new (V.content view.now) }
 {
     let stretch = scout(alloc, view, &Killed { own }, stretches, look);
-    stretches.follow(None, &stretch);
+    stretches.follow(Left::All, &stretch);
     stretch.is_some()
 }
 
@@ -207,7 +207,7 @@ fn count_without(
     let overlay = Overlay::new(own, &counting);
     let mut stretches = Stretches::new(alloc);
     let scouted = is_scouted(alloc, &overlay, own, &mut stretches, look);
-    stretches.leave_out(alloc, members);
+    stretches.leave_out(members);
     let _scout = counting.taken();
     let found = is_found(alloc, &overlay, &stretches, look, b"");
     let count = counting.taken();

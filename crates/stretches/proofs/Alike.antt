@@ -41,9 +41,9 @@ as_start true c h f g never = f refl
 as_start false true h f g never = absurd (never (g refl))
 as_start false false h f g never = refl
 
-module _ (rs : List ReadRange) (i : ℕ) (s : ReadRange) (cut : Cut) (inside : i < length rs) (is : s ≡ get_or rs i s) (lies : LiesIn cut s) (m : Database) (empty : AreEmpty rs m) (x : Reference) (there : finmap.contains_key m x ≡ true) where
+module _ (rs : List ReadRange) (s : ReadRange) (cut : Cut) (one : (x : Reference) → is_in s x ≡ true → is_in_one rs x ≡ true) (lies : LiesIn cut s) (m : Database) (empty : AreEmpty rs m) (x : Reference) (there : finmap.contains_key m x ≡ true) where
   never : is_in s x ≡ true → ⊥
-  never h = let none : finmap.contains_key m x ≡ false = empty x (one_has rs i s inside is x h) in absurd (cc)
+  never h = let none : finmap.contains_key m x ≡ false = empty x (one x h) in absurd (cc)
 
   pub end_alike : stands_before cut x ≡ ends_after s x
   end_alike = as_end (begins_after s x) (stands_before cut x) (ends_after s x) (lies.begun x) (lies.ended x) never

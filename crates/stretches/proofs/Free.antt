@@ -1,6 +1,6 @@
 -- Nothing stands between a cut and the member that is found from it, or beyond a cut from which none is found.
-use Rattle.std.proofs.Common.{◌≡◌, Bool, true, false, List, ◌∷◌, refl, sym, ap, ◌∙◌}
-use Rattle.std.specs.Prelude.{cond, not, ◌&&◌, ◌||◌, is_some, Option, Some, None}
+use Rattle.std.proofs.Common.{◌≡◌, Bool, true, false, refl, sym, ap, ◌∙◌}
+use Rattle.std.specs.Prelude.{cond, not, ◌&&◌, is_some, Option, Some, None}
 use Rattle.std.specs.FinMap as finmap
 use Rattle.std.proofs.Math.Bool.{not-not}
 use Rattle.std.proofs.lemmas.Bool.{false_from_ne_true}
@@ -15,8 +15,8 @@ use Rattle.globals.specs.Cuts.{stands_before, stands_within, up_to, first_from_c
 use Rattle.globals.specs.laws.Nearest.{keep, nearest_is, nearest_none}
 use Rattle.globals.specs.laws.Ends.{first_to, get_to}
 use Rattle.read_ranges.specs.declared.range.ReadRange.{ReadRange}
-use Rattle.read_ranges.specs.Ranges.{begins_after, between, ends_after, is_in, is_in_one, AreEarlier}
-use Rattle.stretches.specs.Empty.{AreEmpty, IsEmpty, IsFree}
+use Rattle.read_ranges.specs.Ranges.{between, is_in, AreEarlier}
+use Rattle.stretches.specs.Empty.{IsEmpty, IsFree}
 use Rattle.stretches.proofs.Alike.{Node}
 
 pub free_from : (cut end : Cut) (m : Database) (e : Node) → first_from_cut cut m ≡ Some e → ((x : Reference) → stands_before end x ≡ is_lt (ref_cmp x e.0)) → IsFree cut end m
@@ -76,21 +76,3 @@ free_part low middle high begin end s m before behind begins ends of x h =
     by_side : (t : Bool) → stands_before middle x ≡ t → not (stands_before low x) ≡ true → stands_before high x ≡ true → finmap.contains_key m x ≡ false
     by_side true is l r = before x (λ i. l i && is i)
     by_side false is l r = behind x (λ i. not (is i) && r i)
-
--- ---- a stretch with its ends
-
-pub empty_within : (s : ReadRange) (low high : Cut) (m : Database) → ((x : Reference) → stands_before low x ≡ begins_after s x) → ((x : Reference) → stands_before high x ≡ ends_after s x) → first_from_cut low (up_to (Some high) m) ≡ None → IsEmpty s m
-empty_within s low high m begins ends none x h = free_within low high m none x ((λ i. not (begins x i) && ends x i) ∙ h)
-
--- ---- several
-
-pub true_if_not : (b : Bool) → not b ≡ false → b ≡ true
-true_if_not true h = refl
-true_if_not false h = absurd (cc)
-
-pub one_more_empty : (s : ReadRange) (rs : List ReadRange) (m : Database) → IsEmpty s m → AreEmpty rs m → AreEmpty (s ∷ rs) m
-one_more_empty s rs m is are x h = by_test (is_in s x) refl h
-  where
-    by_test : (b : Bool) → is_in s x ≡ b → (b || is_in_one rs x) ≡ true → finmap.contains_key m x ≡ false
-    by_test true inside h = is x inside
-    by_test false outside h = are x h

@@ -1,5 +1,7 @@
 pub mod Alike
 pub mod Apart
 pub mod Free
-pub mod Parts
+pub mod LeftOut
+pub mod Order
+pub mod Places
 pub mod Runs

@@ -1,10 +1,9 @@
 -- What leaves empty stretches empty.
 use Rattle.std.proofs.Common.{◌≡◌, ℕ, Bool, true, false, List, [], refl, sym, ap, ◌∙◌}
 use Rattle.std.specs.Prelude.{cond, not, ◌&&◌, ◌||◌, is_some, Option, Some, None}
-use Rattle.std.proofs.Math.Bool.{not-not}
 use Rattle.std.specs.Option.{option_or}
 use Rattle.std.specs.Ordering.{is_lt}
-use Rattle.std.specs.Cmp.{first_so, second_so, tied_itself}
+use Rattle.std.specs.Cmp.{tied_itself}
 use Rattle.std.specs.FinMap as finmap
 use Rattle.collation.specs.Reference.{Reference}
 use Rattle.collation.specs.Order.{ref_cmp, ref_eq}
@@ -19,7 +18,8 @@ use Rattle.globals.specs.laws.Cuts.{under_between}
 use Rattle.globals.specs.laws.Changing.{set_one, kill_taken, merge_subtree}
 use Rattle.read_ranges.specs.declared.range.ReadRange.{ReadRange}
 use Rattle.read_ranges.specs.Ranges.{is_in, is_in_one}
-use Rattle.stretches.specs.Empty.{AreEmpty, AreNoMore, IsEmpty}
+use Rattle.stretches.specs.declared.left.Left.{Left}
+use Rattle.stretches.specs.Empty.{stays, AreEmpty, AreEmptyBut, AreNoMore, IsEmpty}
 
 another : {A : Type 0} (b : Bool) (v : A) (o : Option A) → b ≡ false → is_some o ≡ false → is_some (cond b (Some v) o) ≡ false
 another true v o is none = absurd (cc)
@@ -51,29 +51,7 @@ pub empty_after_merge : (s : ReadRange) (a b : Reference) (m : Database) → IsE
 empty_after_merge s a b m is beside x h =
     ap is_some (merge_subtree m a b x ∙ ap (λ u. cond u (option_or (finmap.get m (moved b a x)) (finmap.get m x)) (finmap.get m x)) (beside x h)) ∙ is x h
 
--- ---- what is left without some references
-
-module _ (P : Reference → Bool) (old new : List ReadRange) (left : (x : Reference) → is_in_one new x ≡ true → (is_in_one old x && not (P x)) ≡ true) (m : Database) (were : AreEmpty old m) where
-  beside : (x : Reference) → is_in_one new x ≡ true → P x ≡ false
-  beside x h = sym (not-not (P x)) ∙ ap not (second_so (is_in_one old x) _ (left x h))
-
-  still_empty : (x : Reference) → is_in_one new x ≡ true → finmap.contains_key m x ≡ false
-  still_empty x h = were x (first_so (is_in_one old x) _ (left x h))
-
-  pub left_after_set : (r : Reference) (v : List ℕ) → P r ≡ true → AreEmpty new (data_after (Set r v) m)
-  left_after_set r v itself x h = ap is_some (set_one m r v x) ∙ another (ref_eq x r) v (finmap.get m x) (by_same (ref_eq x r) refl) (still_empty x h)
-    where
-      by_same : (b : Bool) → ref_eq x r ≡ b → b ≡ false
-      by_same true is =
-          let there : P x ≡ true = ap P ((ref_eq_decides x r).0 is) ∙ itself in
-          let none : P x ≡ false = beside x h in
-          absurd (cc)
-      by_same false is = refl
-
-  pub left_after_merge : (a b : Reference) → ((x : Reference) → P x ≡ is_under a x) → AreEmpty new (data_after (Merge a b) m)
-  left_after_merge a b under x h =
-      ap is_some (merge_subtree m a b x ∙ ap (λ u. cond u (option_or (finmap.get m (moved b a x)) (finmap.get m x)) (finmap.get m x)) (sym (under x) ∙ beside x h))
-      ∙ still_empty x h
+-- ---- what is left but what is to be taken out
 
 -- what lies between the cuts before and after a reference, and before and past it
 abbrev pub is_at : Reference → Reference → Bool
@@ -87,6 +65,30 @@ is_at_or_under r x = not (is_lt (ref_cmp x r)) && is_before true r x
 
 pub at_or_under_is : (r x : Reference) → is_at_or_under r x ≡ is_under r x
 at_or_under_is r x = sym (under_between r x)
+
+-- P says what that has at least
+module _ (P : Reference → Bool) (rs : List ReadRange) (left : Left) (out : (x : Reference) → P x ≡ true → stays left x ≡ false) (m : Database) (were : AreEmpty rs m) where
+  apart : (x : Reference) → stays left x ≡ true → P x ≡ false
+  apart x stay = by_case (P x) refl
+    where
+      by_case : (b : Bool) → P x ≡ b → b ≡ false
+      by_case false is = refl
+      by_case true is = let gone : stays left x ≡ false = out x is in absurd (cc)
+
+  pub but_after_set : (r : Reference) (v : List ℕ) → P r ≡ true → AreEmptyBut left rs (data_after (Set r v) m)
+  but_after_set r v itself x inside stay = ap is_some (set_one m r v x) ∙ another (ref_eq x r) v (finmap.get m x) (by_same (ref_eq x r) refl) (were x inside)
+    where
+      by_same : (b : Bool) → ref_eq x r ≡ b → b ≡ false
+      by_same true is =
+          let there : P x ≡ true = ap P ((ref_eq_decides x r).0 is) ∙ itself in
+          let none : P x ≡ false = apart x stay in
+          absurd (cc)
+      by_same false is = refl
+
+  pub but_after_merge : (a b : Reference) → ((x : Reference) → P x ≡ is_under a x) → AreEmptyBut left rs (data_after (Merge a b) m)
+  but_after_merge a b under x inside stay =
+      ap is_some (merge_subtree m a b x ∙ ap (λ u. cond u (option_or (finmap.get m (moved b a x)) (finmap.get m x)) (finmap.get m x)) (sym (under x) ∙ apart x stay))
+      ∙ were x inside
 
 -- ---- no stretches, and one more
 

@@ -7,4 +7,4 @@ pub returns-then-not-is_done : goal.returns-then-not-is_done
 returns-then-not-is_done c = λ m were came. subst (λ (rs : List ReadRange). AreEmpty rs m) (sym c.self.view_is) were
 
 pub returns : goal.returns
-returns c = λ m were came. c.follow.ensures m (subst (λ (rs : List ReadRange). AreEmpty rs m) (sym c.self.view_is) were) (came c.if-not-is_done.false)
+returns c = λ m were came. c.follow.ensures m (λ x inside _. subst (λ (rs : List ReadRange). AreEmpty rs m) (sym c.self.view_is) were x inside) (came c.if-not-is_done.false)

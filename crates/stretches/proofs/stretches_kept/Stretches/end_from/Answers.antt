@@ -1,8 +1,6 @@
-use Rattle.std.proofs.Common.{refl, ◌∙◌}
+use Rattle.std.proofs.Common.{sym, ◌∙◌}
+use Rattle.stretches.proofs.Alike.{end_alike}
 use Rattle.stretches.proofs.stretches_kept.Stretches.end_from.Goals as goal
 
-pub loop-init : goal.loop-init
-loop-init c = λ m empty x there. refl
-
-pub loop-preserved : goal.loop-preserved
-loop-preserved c = λ m empty x there. c.loop.invariant m empty x there ∙ c.in-Some.ensures m empty x there
+pub returns-in-Some : goal.returns-in-Some
+returns-in-Some c = λ m empty x there. end_alike c.args.self.now c.in-Some.stretch.now c.args.cut c.in-Some.ensures.one c.in-Some.ensures.lies m empty x there ∙ sym (c.high.ensures x)
