@@ -9,13 +9,13 @@ ghost use Rattle.version_store.specs.Versions.{content_at, content_now};
 use crate::absences::Absences;
 use collation::Direction;
 use command::{DataCommand, Look};
-use globals::Cut;
+use globals::{Cut, OrderedView};
 use key_codec::{Key, Place};
 use key_map::CutPoint;
 use read_ranges::ReadRange;
 use std::alloc::Global;
 use std::marker::Model;
-use stretches::{InTheWay, Left, Stretches, scout, scout_kill};
+use stretches::{InTheWay, Left, Skipping, Stretches, scout, scout_kill};
 use validate_commit::Work;
 use version_store::KeyedStore;
 
@@ -223,10 +223,12 @@ impl Passing {
     }
 
     fn passed(&self, alloc: Global, store: &KeyedStore, look: &Look) -> Option<ReadRange>
+        requires { AreEmpty self.now (content_now store.now) }
         ensures { IfSome result (λ stretch. IsEmpty stretch (content_now store.now)) }
     {
         let placed = Placed { store };
-        scout(alloc, &store.view_now(), &placed, &self.stretches, look)
+        let view = store.view_now();
+        scout_past(alloc, &view, &placed, &self.stretches, look)
     }
 
     fn note(&mut self, passed: &Option<ReadRange>)
@@ -235,6 +237,26 @@ impl Passing {
         self.absences.note_search(passed.is_some());
         self.stretches.follow(Left::All, passed);
     }
+}
+
+// The stretch over which a look-up passes, which is looked for past those that are known.
+fn scout_past<V: OrderedView>(
+    alloc: Global,
+    view: &V,
+    placed: &Placed<'_>,
+    stretches: &Stretches,
+    look: &Look,
+) -> Option<ReadRange>
+    requires { AreEmpty stretches.now (V.content view.now) }
+    ensures { IfSome result (λ stretch. IsEmpty stretch (V.content view.now)) }
+{
+    scout(
+        alloc,
+        &Skipping::new(view, stretches),
+        placed,
+        stretches,
+        look,
+    )
 }
 
 // All placed references lie in the way of look-ups.

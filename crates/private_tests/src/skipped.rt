@@ -262,12 +262,12 @@ fn counts_without_one(alloc: Global) -> Result<BothCounts, Refusal> {
     counts
 }
 
-// What lies before ^A(5), and behind it, is still passed over at once, and five killed ranges on the other side aren't.
+// What lies before ^A(5), and behind it, is still passed over at once.
 #[test]
 fn a_member_left_out_parts_a_stretch(rt: HostRuntime) -> Result<(), Fail> {
     let (forward, backward) = counts_without_one(rt.alloc())?;
-    assert!(rt; forward == Some(6));
-    assert!(rt; backward == Some(6));
+    assert!(rt; forward == Some(2));
+    assert!(rt; backward == Some(2));
     Ok(())
 }
 

@@ -11,9 +11,9 @@ use Rattle.collation.specs.Order.{ref_cmp}
 use Rattle.collation.specs.laws.Order.{ref_cmp_total, ref_cmp-IsAntisymmetric, is_less}
 use Rattle.collation.specs.Database.{Database}
 use Rattle.globals.specs.declared.cut.Cut.{Cut}
-use Rattle.globals.specs.Cuts.{stands_before, stands_within, up_to, first_from_cut, last_before_cut}
+use Rattle.globals.specs.Cuts.{stands_before, stands_within, up_to, down_to, first_from_cut, last_before_cut}
 use Rattle.globals.specs.laws.Nearest.{keep, nearest_is, nearest_none}
-use Rattle.globals.specs.laws.Ends.{first_to, get_to}
+use Rattle.globals.specs.laws.Ends.{first_to, get_to, get_down}
 use Rattle.read_ranges.specs.declared.range.ReadRange.{ReadRange}
 use Rattle.read_ranges.specs.Ranges.{between, is_in, AreEarlier}
 use Rattle.stretches.specs.Empty.{IsEmpty, IsFree}
@@ -52,6 +52,12 @@ free_within cut end m none x h =
     ap (λ b. is_some (cond b (finmap.get m x) None)) (sym (second_so (not (stands_before cut x)) _ h))
     ∙ ap is_some (sym (get_to (Some end) m x))
     ∙ ap is_some (nearest_none ref_cmp ref_cmp_total ref_cmp-IsAntisymmetric true (λ x. not (stands_before cut x)) (up_to (Some end) m) none x (first_so (not (stands_before cut x)) _ h))
+
+pub free_behind : (start cut : Cut) (m : Database) → last_before_cut cut (down_to (Some start) m) ≡ None → IsFree start cut m
+free_behind start cut m none x h =
+    ap (λ b. is_some (cond b (finmap.get m x) None)) (sym (first_so (not (stands_before start x)) _ h))
+    ∙ ap is_some (sym (get_down (Some start) m x))
+    ∙ ap is_some (nearest_none ref_cmp ref_cmp_total ref_cmp-IsAntisymmetric false (stands_before cut) (down_to (Some start) m) none x (second_so (not (stands_before start x)) _ h))
 
 -- ---- nothing stands between a cut and itself
 

@@ -45,7 +45,7 @@ none_passes P (e ∷ es) none = elim (P e.0) as (λ b. cond b (e ∷ filter (λ 
 ] none
 
 -- f, s: x stands before the cut, and before the start
-same_side : (f s : Bool) → (f ≡ true → s ≡ true) → ((not f && s) ≡ true → ⊥) → f ≡ s
+pub same_side : (f s : Bool) → (f ≡ true → s ≡ true) → ((not f && s) ≡ true → ⊥) → f ≡ s
 same_side true s behind never = sym (behind refl)
 same_side false true behind never = absurd (never refl)
 same_side false false behind never = refl

@@ -4,7 +4,7 @@ use Rattle.std.specs.FinMap as finmap
 use Rattle.collation.specs.Reference.{Reference}
 use Rattle.collation.specs.Database.{Database}
 use Rattle.globals.specs.declared.cut.Cut.{Cut}
-use Rattle.globals.specs.Cuts.{stands_before, stands_within}
+use Rattle.globals.specs.Cuts.{stands_before, stands_within, stands_under}
 use Rattle.read_ranges.specs.declared.range.ReadRange.{ReadRange}
 use Rattle.stretches.specs.declared.left.Left.{Left}
 use Rattle.stretches.specs.declared.left.Left.TheVariants.{All, Without, Nothing}
@@ -113,3 +113,8 @@ IsFree low high m = (x : Reference) → between low high x ≡ true → finmap.c
 pub record StartsBetween (cut start : Cut) (end : Option Cut) : Type 0 where
   pub behind : AreEarlier cut start
   pub within : (x : Reference) → stands_before start x ≡ true → stands_within end x ≡ true
+
+-- the second cut doesn't stand behind the first, nor before the floor
+pub record EndsBetween (cut end : Cut) (floor : Option Cut) : Type 0 where
+  pub ahead : AreEarlier end cut
+  pub within : (x : Reference) → stands_under floor x ≡ true → stands_before end x ≡ true

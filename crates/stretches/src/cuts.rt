@@ -1,11 +1,12 @@
-//! The earlier and the later of two cuts.
-ghost use Rattle.std.specs.Prelude.{◌≡◌, ◌&&◌, ◌||◌};
+//! The earlier and the later of two cuts, and whether one stands between others.
+ghost use Rattle.std.specs.Prelude.{◌≡◌, ◌&&◌, ◌||◌, true};
 ghost use Rattle.collation.specs.Reference.{Reference};
-ghost use Rattle.globals.specs.Cuts.{stands_before};
+ghost use Rattle.globals.specs.Cuts.{stands_before, stands_under, stands_within};
 ghost use Rattle.read_ranges.specs.Ranges.{AreEarlier};
+ghost use Rattle.stretches.specs.Empty.{EndsBetween, LiesIn, StartsBetween};
 
 use globals::Cut;
-use read_ranges::is_at_most;
+use read_ranges::{ReadRange, is_at_most};
 
 // The first of two cuts, or the second where that stands after it.
 pub(crate) fn later<'c>(first: Cut<'c>, second: Cut<'c>) -> Cut<'c>
@@ -31,4 +32,45 @@ pub(crate) fn earlier<'c>(first: Cut<'c>, second: Cut<'c>) -> Cut<'c>
     } else {
         second
     }
+}
+
+// Whether the second cut stands behind the first, and not behind the end.
+pub(crate) fn stands_between(cut: Cut<'_>, start: Cut<'_>, end: Option<Cut<'_>>) -> bool
+    ensures { result ≡ true → StartsBetween cut.entry start.entry end.entry }
+{
+    !is_at_most(start, cut) && is_within(start, end)
+}
+
+// Whether the cut doesn't stand behind the end, where there is one.
+fn is_within(cut: Cut<'_>, end: Option<Cut<'_>>) -> bool
+    ensures { result ≡ true → (x : Reference) → stands_before cut.entry x ≡ true → stands_within end.entry x ≡ true }
+{
+    match end {
+        Some(end) => is_at_most(cut, end),
+        None => true,
+    }
+}
+
+// Whether the second cut stands before the first, and not before the floor.
+pub(crate) fn ends_between(cut: Cut<'_>, end: Cut<'_>, floor: Option<Cut<'_>>) -> bool
+    ensures { result ≡ true → EndsBetween cut.entry end.entry floor.entry }
+{
+    !is_at_most(cut, end) && is_over(end, floor)
+}
+
+// Whether the cut doesn't stand before the floor, where there is one.
+fn is_over(cut: Cut<'_>, floor: Option<Cut<'_>>) -> bool
+    ensures { result ≡ true → (x : Reference) → stands_under floor.entry x ≡ true → stands_before cut.entry x ≡ true }
+{
+    match floor {
+        Some(floor) => is_at_most(floor, cut),
+        None => true,
+    }
+}
+
+// Whether the cut lies in the stretch, or at one of its ends.
+pub(crate) fn has_cut(stretch: &ReadRange, cut: Cut<'_>) -> bool
+    ensures { result ≡ true → LiesIn cut.entry stretch.now }
+{
+    is_at_most(stretch.low(), cut) && is_at_most(cut, stretch.high())
 }

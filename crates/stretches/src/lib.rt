@@ -18,8 +18,9 @@
 //! `follow` takes that out, in place. No list is copied.
 //!
 //! A `Skipping` is a view over another view and its empty stretches: an ordered view with the same content. Where a
-//! look-up begins in a stretch it goes on from that stretch's end, and a run of neighbours ends where one begins, unless
-//! it has none.
+//! look-up begins in a stretch it goes on from that stretch's end. Then it ends where the next stretch begins, and only
+//! where it has found nothing it goes on behind that one: so it passes over stretches before which it begins, too, and so
+//! does a run of neighbours. A scout looks through it as well, and so goes past no killed node that is in a stretch.
 //!
 //! A stretch is found by a scout: look-ups from where a $ORDER, also of names, or $QUERY begins tell that nothing stands
 //! up to the next nodes on both sides, or for $DATA that nothing stands below its reference, or up to the first node
@@ -31,7 +32,7 @@
 //! and after KILL ^A(5001) its scout's stretch, from there to past ^A(5001), becomes one with it. SET ^A(3000) leaves
 //! two of it, before ^A(3000) and behind.
 //!
-//! Read `specs/Empty.antt`, then `stretches_kept.rt`, `left.rt`, `skipping.rt`, `scouting.rt`.
+//! Read `specs/Empty.antt`, then `stretches_kept.rt`, `parts.rt`, `left.rt`, `skipping.rt`, `scouting.rt`.
 //! Not promised: which stretches are kept, and how many look-ups a view is spared.
 #![tactic(auto)]
 
@@ -42,6 +43,7 @@ pub use stretches_kept::Stretches;
 
 mod cuts;
 mod left;
+mod parts;
 mod scouting;
 mod skipping;
 mod stretches_kept;

@@ -1,6 +1,6 @@
 //! The view that passes over stretches in which nothing stands.
-ghost use Rattle.std.specs.Prelude.{◌≡◌, ◌≤◌};
-ghost use Rattle.globals.specs.Cuts.{entries_from, up_to, IsRun};
+ghost use Rattle.std.specs.Prelude.{◌≡◌, ◌≤◌, None, Some, MatchOption};
+ghost use Rattle.globals.specs.Cuts.{down_to, entries_from, first_from_cut, last_before_cut, up_to, IsRun};
 ghost use Rattle.stretches.specs.Empty.{AreEmpty};
 
 use crate::Stretches;
@@ -25,6 +25,56 @@ impl<'v, V: OrderedView> Skipping<'v, V> {
     {
         Skipping { view, stretches }
     }
+}
+
+// The first member from the cut on and before the end: one up to the next stretch, and if there is none one behind it.
+fn next_past<'v, V: OrderedView>(
+    view: &'v V,
+    stretches: &'v Stretches,
+    cut: Cut<'_>,
+    end: Option<Cut<'_>>,
+) -> Option<(&'v Key, &'v Text)>
+    requires { AreEmpty stretches.now (V.content view.now) }
+    ensures { MatchOption result (first_from_cut cut.entry (up_to end.entry (V.content view.now)) ≡ None)
+        (λ e. first_from_cut cut.entry (up_to end.entry (V.content view.now)) ≡ Some (e.0.now, e.1.now)) }
+{
+    let mut from = cut;
+    for _ in 0..MOST {
+        from = stretches.end_from(from);
+        let Some(start) = stretches.next_start(from, end) else {
+            return view.next(from, end);
+        };
+        match view.next(from, Some(start)) {
+            Some((key, value)) => return Some((key, value)),
+            None => from = start,
+        }
+    }
+    view.next(from, end)
+}
+
+// The last member before the cut and not before the floor, as `next_past`.
+fn prev_past<'v, V: OrderedView>(
+    view: &'v V,
+    stretches: &'v Stretches,
+    cut: Cut<'_>,
+    floor: Option<Cut<'_>>,
+) -> Option<(&'v Key, &'v Text)>
+    requires { AreEmpty stretches.now (V.content view.now) }
+    ensures { MatchOption result (last_before_cut cut.entry (down_to floor.entry (V.content view.now)) ≡ None)
+        (λ e. last_before_cut cut.entry (down_to floor.entry (V.content view.now)) ≡ Some (e.0.now, e.1.now)) }
+{
+    let mut to = cut;
+    for _ in 0..MOST {
+        to = stretches.start_before(to);
+        let Some(end) = stretches.last_end(to, floor) else {
+            return view.prev(to, floor);
+        };
+        match view.prev(to, Some(end)) {
+            Some((key, value)) => return Some((key, value)),
+            None => to = end,
+        }
+    }
+    view.prev(to, floor)
 }
 
 // The first members from the cut on and before the end: those up to the next stretch, and if there are none those behind
@@ -66,7 +116,7 @@ impl<'v, V: OrderedView> OrderedView for Skipping<'v, V> {
     }
 
     fn next(&self, cut: Cut<'_>, end: Option<Cut<'_>>) -> Option<(&Key, &Text)> {
-        self.view.next(self.stretches.end_from(cut), end)
+        next_past(self.view, self.stretches, cut, end)
     }
 
     fn gather(&self, cut: Cut<'_>, end: Option<Cut<'_>>, most: usize) -> Run<'_> {
@@ -74,6 +124,6 @@ impl<'v, V: OrderedView> OrderedView for Skipping<'v, V> {
     }
 
     fn prev(&self, cut: Cut<'_>, floor: Option<Cut<'_>>) -> Option<(&Key, &Text)> {
-        self.view.prev(self.stretches.start_before(cut), floor)
+        prev_past(self.view, self.stretches, cut, floor)
     }
 }

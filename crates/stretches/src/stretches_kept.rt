@@ -5,19 +5,19 @@ ghost use Rattle.collation.specs.Reference.{Reference};
 ghost use Rattle.collation.specs.Database.{Database};
 ghost use Rattle.command.specs.Data.{data_after};
 ghost use Rattle.globals.specs.declared.cut.Cut.{Cut};
-ghost use Rattle.globals.specs.Cuts.{stands_before, stands_within};
+ghost use Rattle.globals.specs.Cuts.{stands_before, stands_under, stands_within};
 ghost use Rattle.read_ranges.specs.Ranges.{between, is_in, is_in_one};
-ghost use Rattle.stretches.specs.Empty.{AreEmpty, AreEmptyBut, AreEndedBy, AreLeft, AreNoMore, ArePut, BeginFrom, Fits, FitsIn, IsEmpty, IsRightWay, LiesIn, PartAlike, StartsBetween};
+ghost use Rattle.stretches.specs.Empty.{AreEmpty, AreEmptyBut, AreEndedBy, AreLeft, AreNoMore, ArePut, BeginFrom, EndsBetween, Fits, FitsIn, IsEmpty, IsRightWay, LiesIn, PartAlike, StartsBetween};
 
-use crate::cuts::{earlier, later};
+use crate::cuts::{ends_between, has_cut, stands_between};
 use crate::left::Left;
+use crate::parts::{cut_out, joined, part_before, part_behind, put_in_place};
 use command::DataCommand;
 use globals::{Cut, OrderedView};
 use key_codec::Key;
 use read_ranges::{ReadRange, is_at_most};
 use std::alloc::{AllocError, Global};
 use std::marker::Model;
-use std::mem::replace;
 
 // How many stretches are kept at most.
 pub(crate) const MOST: usize = 1024;
@@ -498,92 +498,25 @@ impl Stretches {
             None => None,
         }
     }
-}
 
-// Takes out the elements of a list between two places.
-fn cut_out(list: &mut Vec<ReadRange>, first: usize, last: usize)
-    requires order { first ≤ last }
-    requires within { last ≤ length list.old.items }
-    ensures { list.new.items ≡ take first list.old.items ++ drop last list.old.items }
-{
-    if first < last {
-        drop(list.drain(first..last));
+    // Where the last stretch before the cut ends, if that is behind the floor.
+    pub(crate) fn last_end<'c>(&'c self, cut: Cut<'_>, floor: Option<Cut<'_>>) -> Option<Cut<'c>>
+        ensures { IfSome result (λ end. EndsBetween cut.entry end floor.entry) }
+    {
+        let begun = self.count_before(cut);
+        if begun == 0 {
+            return None;
+        }
+        match self.at(begun - 1) {
+            Some(stretch) => {
+                let end = stretch.high();
+                if ends_between(cut, end, floor) {
+                    Some(end)
+                } else {
+                    None
+                }
+            }
+            None => None,
+        }
     }
-}
-
-// Puts an element in place of those of a list between two places.
-fn put_in_place(list: &mut Vec<ReadRange>, first: usize, last: usize, stretch: ReadRange)
-    requires order { first < last }
-    requires within { last ≤ length list.old.items }
-    ensures { list.new.items ≡ take first list.old.items ++ stretch ∷ drop last list.old.items }
-{
-    cut_out(list, first + 1, last);
-    drop(replace(&mut list[first], stretch));
-}
-
-// Whether the second cut stands behind the first, and not behind the end.
-fn stands_between(cut: Cut<'_>, start: Cut<'_>, end: Option<Cut<'_>>) -> bool
-    ensures { result ≡ true → StartsBetween cut.entry start.entry end.entry }
-{
-    !is_at_most(start, cut) && is_within(start, end)
-}
-
-// Whether the cut doesn't stand behind the end, where there is one.
-fn is_within(cut: Cut<'_>, end: Option<Cut<'_>>) -> bool
-    ensures { result ≡ true → (x : Reference) → stands_before cut.entry x ≡ true → stands_within end.entry x ≡ true }
-{
-    match end {
-        Some(end) => is_at_most(cut, end),
-        None => true,
-    }
-}
-
-// The part of a stretch before a cut; none where that is nothing, or memory is refused.
-fn part_before(stretch: &ReadRange, cut: Cut<'_>) -> Option<ReadRange>
-    ensures { IfSome result (λ part. (x : Reference) → is_in part x ≡ true → (is_in stretch.now x && stands_before cut.entry x) ≡ true) }
-{
-    part_between(stretch.low(), earlier(stretch.high(), cut))
-}
-
-// The part of a stretch behind a cut; none where that is nothing, or memory is refused.
-fn part_behind(stretch: &ReadRange, cut: Cut<'_>) -> Option<ReadRange>
-    ensures { IfSome result (λ part. (x : Reference) → is_in part x ≡ true → (is_in stretch.now x && not (stands_before cut.entry x)) ≡ true) }
-{
-    part_between(later(stretch.low(), cut), stretch.high())
-}
-
-// What lies between two cuts; none where that is nothing, or memory is refused.
-fn part_between(low: Cut<'_>, high: Cut<'_>) -> Option<ReadRange>
-    ensures { IfSome result (λ part. (x : Reference) → is_in part x ≡ between low.entry high.entry x) }
-{
-    if is_at_most(high, low) {
-        return None;
-    }
-    match ReadRange::new(low, high) {
-        Ok(part) => Some(part),
-        Err(AllocError) => None,
-    }
-}
-
-// A stretch with the two at its ends, which it touches; none where it doesn't, or memory is refused.
-fn joined(first: &ReadRange, last: &ReadRange, stretch: &ReadRange) -> Option<ReadRange>
-    ensures { IfSome result (λ joined. (x : Reference) → is_in joined x ≡ true → ((is_in first.now x || is_in last.now x) || is_in stretch.now x) ≡ true) }
-{
-    let (low, high) = (stretch.low(), stretch.high());
-    let (begin, end) = (first.low(), last.high());
-    let (first_end, last_begin) = (first.high(), last.low());
-    if !is_at_most(low, first_end) || !is_at_most(last_begin, high) {
-        return None;
-    }
-    match ReadRange::new(earlier(begin, low), later(end, high)) {
-        Ok(joined) => Some(joined),
-        Err(AllocError) => None,
-    }
-}
-
-// Whether the cut lies in the stretch, or at one of its ends.
-fn has_cut(stretch: &ReadRange, cut: Cut<'_>) -> bool
-    ensures { result ≡ true → LiesIn cut.entry stretch.now }
-{
-    is_at_most(stretch.low(), cut) && is_at_most(cut, stretch.high())
 }

@@ -4,4 +4,4 @@ use Rattle.stretches.specs.Empty.{IsEmpty}
 use Rattle.job_core.proofs.passing.Passing.passed.Goals as goal
 
 pub returns : goal.returns
-returns c = subst (λ m. IfSome c.scout.result (λ s. IsEmpty s m)) c.view_now.ensures c.scout.ensures
+returns c = subst (λ m. IfSome c.scout_past.result (λ s. IsEmpty s m)) c.view_now-view.ensures c.scout_past.ensures

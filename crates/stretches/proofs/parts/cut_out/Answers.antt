@@ -1,6 +1,6 @@
 use Rattle.std.proofs.Common.{◌≡◌, ℕ, ◌++◌, arith, take, drop, sym, ap, ◌∙◌}
 use Rattle.std.proofs.lemmas.List.{take-append-drop}
-use Rattle.stretches.proofs.stretches_kept.cut_out.Goals as goal
+use Rattle.stretches.proofs.parts.cut_out.Goals as goal
 
 pub returns-else-first-last : goal.returns-else-first-last
 returns-else-first-last c =

@@ -1,5 +1,5 @@
 use Rattle.stretches.proofs.Places.{joined_in}
-use Rattle.stretches.proofs.stretches_kept.joined.Goals as goal
+use Rattle.stretches.proofs.parts.joined.Goals as goal
 
 pub returns-in-Ok : goal.returns-in-Ok
 returns-in-Ok c =

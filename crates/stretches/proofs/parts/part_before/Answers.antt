@@ -1,5 +1,5 @@
 use Rattle.stretches.proofs.Places.{some_before}
-use Rattle.stretches.proofs.stretches_kept.part_before.Goals as goal
+use Rattle.stretches.proofs.parts.part_before.Goals as goal
 
 pub returns : goal.returns
 returns c =

@@ -1,6 +1,6 @@
 use Rattle.std.proofs.Common.{arith, ap, slice_set, ◌∙◌}
 use Rattle.stretches.proofs.Places.{same_place}
-use Rattle.stretches.proofs.stretches_kept.put_in_place.Goals as goal
+use Rattle.stretches.proofs.parts.put_in_place.Goals as goal
 
 pub returns : goal.returns
 returns c =
