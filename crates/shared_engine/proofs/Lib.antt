@@ -14,3 +14,5 @@ pub mod Waiting
 pub mod Exact
 pub mod Stepping
 pub mod Histories
+pub mod Holding
+pub mod Serving

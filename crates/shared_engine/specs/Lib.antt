@@ -3,6 +3,8 @@ pub mod Sessions
 pub mod Engines
 pub mod Writes
 pub mod Blocks
+pub mod Holds
+pub mod Serving
 pub mod Steps
 pub mod Histories
 pub mod Named

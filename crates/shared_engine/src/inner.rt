@@ -8,7 +8,9 @@ ghost use Rattle.command.specs.declared.access.Look.TheVariants.{Get as get_comm
 ghost use Rattle.command.specs.Data.{data_reply};
 ghost use Rattle.workspace.specs.Layers.{decides};
 ghost use Rattle.validate_commit.specs.Working.{IsCauseAlone, IsWorkOn, seen};
-ghost use Rattle.job_core.specs.Sessions.{at_level, HasWritten};
+ghost use Rattle.journal.specs.History.{initial, after};
+ghost use Rattle.job_core.specs.Lent.{done_answer};
+ghost use Rattle.job_core.specs.Sessions.{at_level, HasWritten, IsAnsweredOrRefused};
 ghost use Rattle.shared_engine.specs.Receipts.{number_of, RisesFrom};
 ghost use Rattle.shared_engine.specs.Sessions.{held, ended, IsAt, GoesOnFromStart, HasBegun};
 ghost use Rattle.journal.specs.declared.unit.Unit.{Unit as JournalUnit};
@@ -174,6 +176,19 @@ impl InnerSession {
         ensures begun { IsAt self.old.held.start self.old.held.state }
     {
         self.state.set(key, value)
+    }
+
+    /// SET in a transaction, of which key and value are lent. The value is taken out of where it lies.
+    pub(crate) fn set_lent(&mut self, key: &Key, value: &mut Text) -> Result<(), Refusal>
+        requires { 1 ≤ self.old.held.state.level }
+        ensures table { self.new.table ≡ self.old.table }
+        ensures answered { IfSome self.old.held.start (λ base. IsAnsweredOrRefused (set_command key.now value.old) (done_answer result) (after base initial).map self.old.held.state self.new.held.state) }
+        ensures begun { IsSome self.old.held.start }
+        ensures same { (self.new.held.start ≡ self.old.held.start) × (self.new.held.receipts ≡ self.old.held.receipts) }
+        ensures others { (self.new.held.others ≡ self.old.held.others) × (self.new.held.seen ≡ self.old.held.seen) }
+        ensures level { self.new.held.state.level ≡ self.old.held.state.level }
+    {
+        self.state.set_lent(key, value)
     }
 
     /// KILL, KVALUE or KSUBSCRIPTS in a transaction.

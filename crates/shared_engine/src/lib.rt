@@ -29,6 +29,7 @@
 
 pub use finishing::Closed;
 pub use gate::{Gate, Mark, Stop};
+pub use hold::Hold;
 pub use inner::{InnerPass, InnerSession};
 pub use locked::{Ended, Locked};
 pub use name::BoardName;
@@ -39,16 +40,21 @@ pub use steps::{
     halts_are_exact, histories_begin, histories_end, histories_go_on, sessions_are_one_run,
     steps_are_exact,
 };
+pub use told::{Served, Told};
 pub use turn::Turn;
 pub use under::{Pause, Share};
 
 mod adaptive;
+mod asked;
 mod ending;
 mod entry;
 mod finishing;
 mod gate;
 mod halting;
+mod hold;
+mod hold_run;
 mod inner;
+mod lent;
 mod locked;
 mod locking;
 mod name;
@@ -59,5 +65,6 @@ mod session;
 mod shared;
 mod steps;
 mod sweep;
+mod told;
 mod turn;
 mod under;

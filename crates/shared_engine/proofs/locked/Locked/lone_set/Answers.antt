@@ -1,0 +1,26 @@
+use Rattle.std.proofs.Common.{◌∙◌, [], arith}
+use Rattle.command.specs.declared.access.DataCommand.TheVariants.{Set}
+use Rattle.command.specs.declared.access.Answer.TheVariants.{Done}
+use Rattle.command.specs.declared.request.Reply.TheVariants.{Answered}
+use Rattle.shared_engine.specs.Blocks.{said}
+use Rattle.shared_engine.proofs.Serving.{set_first, lone_set_done}
+use Rattle.shared_engine.proofs.locked.Locked.lone_set.Goals as goal
+
+pub returns-clause-served : goal.returns-clause-served
+returns-clause-served c =
+    let first = c.requires.command in
+    let taken = c.take_text-text.ensures in
+    let texts = taken.text first.0 first.1 first.2 first.3 in
+    let key = c.key.ensures.set first.0 [] first.2 texts.1 in
+    let passed = c.pass_set.ensures.passed (Set first.0 []) first.2 texts.1 in
+    let did = c.set_lone-set.ensures in
+    record {
+      command = Set c.key.result.now c.take_text-text.result;
+      reply = said (λ _. Answered Done) c.set_lone-set.result;
+      first = set_first _ _ _ _ _ _ _ first.3 key texts.0 passed;
+      done = lone_set_done _ _ _ _ _ _ _ c.requires.level did.units did.receipt did.refused did.cause;
+      replied = c.push_done.ensures.served;
+      room = c.push_done.ensures.rest.0;
+      spare = c.pass_set.ensures.rest.0 ∙ taken.rest.1.0;
+      answers = omega (arith, c.pass_set.ensures.rest.1, taken.rest.1.1, c.push_done.ensures.rest.1);
+    }
