@@ -16,8 +16,9 @@
  * has changed nothing, and may be made again. The calls named vgt_ do that for you: they spin, then yield, then sleep.
  * They are written by hand, for POSIX threads, and tested; what they call is proved.
  *
- * Looks, and commands that read in a transaction, go on side by side; most other calls have the database for themselves
- * for a moment. Where one waits long for that, each of the former lets one of the latter by before it begins.
+ * Looks, and commands that read in a transaction, go on side by side, quickest under a vgt_hold; most other calls have
+ * the database for themselves for a moment, one after another. Where one waits long for that, each of the former lets
+ * one of the latter by before it begins.
  *
  * There are no calls here for command lines, a listing, a load, the journal, children and counts: a walk of all in a
  * view, at VG_AT_START, reads all that is there at one moment.
@@ -99,6 +100,8 @@ vg_outcome vorgushan_s_look_query(vg_session *session, uint32_t moment, vg_key *
                                   uint32_t backward);
 vg_outcome vorgushan_s_walk(vg_session *session, uint32_t moment, vg_key *root, vg_key *place, char *nodes,
                             size_t nodes_size, size_t *nodes_length);
+vg_outcome vorgushan_s_hold(vg_session *session);
+vg_outcome vorgushan_s_release(vg_session *session);
 vg_outcome vorgushan_s_collect(vg_session *session, size_t nodes);
 vg_outcome vorgushan_s_checkpoint(vg_session *session);
 
@@ -111,13 +114,15 @@ typedef struct vgt_hub {
     unsigned waiting_writers; /* calls that have spun in vain to have the database for themselves */
     unsigned served_writers;  /* how many of those came through */
     pthread_mutex_t opening;  /* held round each call that is given the hub */
+    pthread_mutex_t writing;  /* held by the call that is next to have the database for itself */
     pthread_mutex_t waiting;  /* held for `turns` */
     pthread_cond_t freed;     /* names may have been given back */
     uint64_t turns;           /* how often that was */
 } vgt_hub;
 
 #define VGT_HUB_NONE                                                                                                   \
-    {{NULL}, 0, 0, PTHREAD_MUTEX_INITIALIZER, PTHREAD_MUTEX_INITIALIZER, PTHREAD_COND_INITIALIZER, 0}
+    {{NULL}, 0, 0, PTHREAD_MUTEX_INITIALIZER, PTHREAD_MUTEX_INITIALIZER, PTHREAD_MUTEX_INITIALIZER,                    \
+     PTHREAD_COND_INITIALIZER, 0}
 
 /* A session of one job. Begin it with VGT_SESSION_NONE, an initializer (memory set to zero is the same). */
 typedef struct vgt_session {
@@ -125,9 +130,10 @@ typedef struct vgt_session {
     vgt_hub *hub;
     int locked;         /* it may have names that others wait for, or get them back by a rollback */
     int in_transaction; /* its vgt_tstart has begun one, which is open */
+    int holds;          /* its vgt_hold goes on */
 } vgt_session;
 
-#define VGT_SESSION_NONE {{NULL}, NULL, 0, 0}
+#define VGT_SESSION_NONE {{NULL}, NULL, 0, 0, 0}
 
 /* So often vgt_pause spins before it yields. */
 enum { VGT_SPINNING_TURNS = 8 };
@@ -198,8 +204,37 @@ static inline void vgt_give_way(vgt_hub *hub) {
         vgt_let_one_by(hub);
 }
 
+/* Ends a session's hold, where it has one: before each call with which it could be in its own way. */
+static inline void vgt_let_go(vgt_session *session) {
+    if (!session->holds)
+        return;
+    session->holds = 0;
+    vorgushan_s_release(&session->own);
+}
+
+/* Calls that may need the database for themselves come one after another, and the others sleep meanwhile: where all of
+ * them spun, each would keep the others from it. */
+static inline void vgt_queue(vgt_hub *hub) {
+    if (hub)
+        pthread_mutex_lock(&hub->writing);
+}
+
+static inline void vgt_leave_queue(vgt_hub *hub) {
+    if (hub)
+        pthread_mutex_unlock(&hub->writing);
+}
+
 /* Makes a session's call until it isn't in the way of others: one that may need the database for itself. */
 #define VGT_RETRY(session, outcome, call)                                                                              \
+    do {                                                                                                               \
+        vgt_let_go(session);                                                                                           \
+        vgt_queue((session)->hub);                                                                                     \
+        VGT_TRY(session, outcome, call);                                                                               \
+        vgt_leave_queue((session)->hub);                                                                               \
+    } while (0)
+
+/* The same of one that mostly needs nothing of the database, out of the queue. */
+#define VGT_TRY(session, outcome, call)                                                                                \
     do {                                                                                                               \
         unsigned vgt_turn = 0;                                                                                         \
         while (((outcome) = (call)) == VG_BUSY)                                                                        \
@@ -211,9 +246,19 @@ static inline void vgt_give_way(vgt_hub *hub) {
 #define VGT_LOOK(session, outcome, call)                                                                               \
     do {                                                                                                               \
         unsigned vgt_turn = 0;                                                                                         \
-        vgt_give_way((session)->hub);                                                                                  \
+        if (!(session)->holds)                                                                                         \
+            vgt_give_way((session)->hub);                                                                              \
         while (((outcome) = (call)) == VG_BUSY)                                                                        \
             vgt_pause(&vgt_turn);                                                                                      \
+    } while (0)
+
+/* The same of SET and KILL: in a transaction of a session that holds they look at no more than what is held. */
+#define VGT_WRITE(session, outcome, call)                                                                              \
+    do {                                                                                                               \
+        if ((session)->holds && (session)->in_transaction)                                                             \
+            VGT_LOOK(session, outcome, call);                                                                          \
+        else                                                                                                           \
+            VGT_RETRY(session, outcome, call);                                                                         \
     } while (0)
 
 /* The same of a command that reads: in a transaction it only looks, and else it is a unit of the journal. */
@@ -271,6 +316,7 @@ static inline vg_outcome vgt_new(vgt_hub *hub) {
     pthread_condattr_init(&clock);
     pthread_condattr_setclock(&clock, CLOCK_MONOTONIC);
     pthread_mutex_init(&hub->opening, NULL);
+    pthread_mutex_init(&hub->writing, NULL);
     pthread_mutex_init(&hub->waiting, NULL);
     pthread_cond_init(&hub->freed, &clock);
     pthread_condattr_destroy(&clock);
@@ -286,6 +332,7 @@ static inline vg_outcome vgt_end(vgt_hub *hub) {
     outcome = vorgushan_hub_end(&hub->own);
     pthread_cond_destroy(&hub->freed);
     pthread_mutex_destroy(&hub->waiting);
+    pthread_mutex_destroy(&hub->writing);
     pthread_mutex_destroy(&hub->opening);
     memset(hub, 0, sizeof *hub);
     return outcome;
@@ -300,6 +347,7 @@ static inline vg_outcome vgt_open(vgt_hub *hub, vgt_session *session, uint64_t j
     session->hub = hub;
     session->locked = 0;
     session->in_transaction = 0;
+    session->holds = 0;
     pthread_mutex_lock(&hub->opening);
     VGT_RETRY(session, outcome, vorgushan_open(&hub->own, &session->own, job));
     pthread_mutex_unlock(&hub->opening);
@@ -328,7 +376,7 @@ static inline vg_outcome vgt_halt(vgt_session *session) {
 static inline vg_outcome vgt_set(vgt_session *session, vg_key *key, const char *value, size_t value_length) {
     char nothing = 0;
     vg_outcome outcome;
-    VGT_RETRY(session, outcome,
+    VGT_WRITE(session, outcome,
               vorgushan_s_set(&session->own, key, value ? value : &nothing, value ? value_length : 0));
     return outcome;
 }
@@ -336,7 +384,7 @@ static inline vg_outcome vgt_set(vgt_session *session, vg_key *key, const char *
 /* As vg_kill, vg_kill_value or vg_kill_subscripts, by what is taken. */
 static inline vg_outcome vgt_kill(vgt_session *session, uint32_t extent, vg_key *key) {
     vg_outcome outcome;
-    VGT_RETRY(session, outcome, vorgushan_s_kill(&session->own, extent, key));
+    VGT_WRITE(session, outcome, vorgushan_s_kill(&session->own, extent, key));
     return outcome;
 }
 
@@ -438,11 +486,20 @@ static inline vg_outcome vgt_next_name(vgt_session *session, const char *start, 
 
 /* ---- Transactions ---- */
 
+/* Whether an act needs the database for itself; a TROLLBACK without a LOCK doesn't. */
+static inline int vgt_is_alone(const vgt_session *session, uint32_t act) {
+    return act == VG_TCOMMIT || act == VG_TRESTART || act >= VG_UNLOCK || (act == VG_TROLLBACK && session->locked);
+}
+
 /* One of the acts, and what it tells. It wakes nobody who waits for names: the calls below do. */
 static inline vg_outcome vgt_act(vgt_session *session, uint32_t act, uint64_t *number) {
     uint64_t told = 0;
     vg_outcome outcome;
-    VGT_RETRY(session, outcome, vorgushan_s_act(&session->own, act, &told));
+    vgt_let_go(session);
+    if (vgt_is_alone(session, act))
+        VGT_RETRY(session, outcome, vorgushan_s_act(&session->own, act, &told));
+    else
+        VGT_TRY(session, outcome, vorgushan_s_act(&session->own, act, &told));
     if (outcome == VG_DONE && (act == VG_TSTART || act == VG_TCOMMIT || act == VG_TROLLBACK))
         session->in_transaction = told > 0;
     if (number)
@@ -646,6 +703,23 @@ static inline vg_outcome vgt_view_begin(vgt_session *session) {
 /* Ends a view. VG_NO_TRANSACTION. */
 static inline vg_outcome vgt_view_end(vgt_session *session) {
     return vgt_trollback(session);
+}
+
+/* Holds the database for the session's next calls: its looks, and in a transaction its data commands. Then they are
+ * quickest where several threads read, and wait for nobody; other sessions read meanwhile, and who would have the
+ * database for himself waits. So hold for a few reads, as those of one transaction, and not while you wait for
+ * something. Each other call of the session ends the hold: it needn't be released before a commit. VG_NO_ENGINE. */
+static inline vg_outcome vgt_hold(vgt_session *session) {
+    vg_outcome outcome;
+    VGT_LOOK(session, outcome, vorgushan_s_hold(&session->own));
+    session->holds = outcome == VG_DONE;
+    return outcome;
+}
+
+/* Ends a hold, where there is one. VG_NO_ENGINE. */
+static inline vg_outcome vgt_release(vgt_session *session) {
+    session->holds = 0;
+    return vorgushan_s_release(&session->own);
 }
 
 /* ---- Upkeep ---- */

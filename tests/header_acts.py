@@ -96,6 +96,8 @@ ACTS = [
 
 THREAD_ACTS = [
     ("busy_told", "vgt_wait_in_line((session)->hub, &vgt_turn);", "break;"),
+    ("queue_never_left", "        pthread_mutex_unlock(&hub->writing);\n", "        ;\n"),
+    ("queue_of_no_hub", "    if (hub)\n        pthread_mutex_lock(&hub->writing);", "    pthread_mutex_lock(&hub->writing);"),
     ("busy_look_told", "vgt_pause(&vgt_turn);", "break;"),
     ("writers_never_in_line", "    if (*turn == VGT_SPINNING_TURNS)\n", "    if (0)\n"),
     ("writers_in_line_at_once", "    if (*turn == VGT_SPINNING_TURNS)\n", "    if (*turn == 0)\n"),
@@ -206,7 +208,18 @@ THREAD_ACTS = [
     ("walk_of_all", "root ? root : &all, place, nodes ? nodes : &nothing,", "&all, place, nodes ? nodes : &nothing,"),
     ("length_of_nodes_untold", "        *nodes_length = length;", "        *nodes_length = 0;"),
     ("second_view_begins", "level > 0 ? (vg_outcome)VG_TRANSACTION_OPEN :", "level > 9 ? (vg_outcome)VG_TRANSACTION_OPEN :"),
-    ("view_not_ended", "return vgt_trollback(session);\n}\n\n/* ---- Upkeep", "return VG_DONE;\n}\n\n/* ---- Upkeep"),
+    ("view_not_ended", "return vgt_trollback(session);\n}\n\n/* Holds", "return VG_DONE;\n}\n\n/* Holds"),
+    ("hold_of_nothing", "VGT_LOOK(session, outcome, vorgushan_s_hold(&session->own));", "outcome = session->own.own ? VG_DONE : VG_NO_ENGINE;"),
+    ("hold_in_line", "VGT_LOOK(session, outcome, vorgushan_s_hold(", "VGT_RETRY(session, outcome, vorgushan_s_hold("),
+    ("hold_forgotten", "    session->holds = outcome == VG_DONE;\n", ""),
+    ("hold_of_no_session", "    session->holds = outcome == VG_DONE;\n", "    session->holds = 1;\n"),
+    ("release_keeps_the_hold", "    return vorgushan_s_release(&session->own);", "    return session->own.own ? VG_DONE : VG_NO_ENGINE;"),
+    ("release_still_told_as_held", "    session->holds = 0;\n    return vorgushan_s_release", "    return vorgushan_s_release"),
+    ("hold_never_ended_by_a_call", "        vgt_let_go(session); ", "        (void)0; "),
+    ("hold_ended_without_a_release", "    session->holds = 0;\n    vorgushan_s_release(&session->own);\n", "    session->holds = 0;\n"),
+    ("who_holds_gives_way", "        if (!(session)->holds) ", "        if (1) "),
+    ("sets_of_a_transaction_end_a_hold", "        if ((session)->holds && (session)->in_transaction) ", "        if (0) "),
+    ("lone_sets_told_as_held", "        if ((session)->holds && (session)->in_transaction) ", "        if ((session)->holds) "),
     ("collect_of_nothing", "vorgushan_s_collect(&session->own, nodes)", "vorgushan_s_collect(&session->own, 0)"),
     ("checkpoint_collects", "vorgushan_s_checkpoint(&session->own)", "vorgushan_s_collect(&session->own, 0)"),
 ]

@@ -87,6 +87,7 @@ BUSY_AT_TIMES(vorgushan_s_look_order,
 BUSY_AT_TIMES(vorgushan_s_look_query, (vg_session * s, uint32_t m, vg_key *k, uint32_t o, uint32_t w), (s, m, k, o, w))
 BUSY_AT_TIMES(vorgushan_s_walk, (vg_session * s, uint32_t m, vg_key *r, vg_key *p, char *v, size_t z, size_t *n),
               (s, m, r, p, v, z, n))
+BUSY_AT_TIMES(vorgushan_s_hold, (vg_session * s), (s))
 BUSY_AT_TIMES(vorgushan_s_collect, (vg_session * s, size_t n), (s, n))
 BUSY_AT_TIMES(vorgushan_s_checkpoint, (vg_session * s), (s))
 
@@ -207,7 +208,7 @@ static void spell(vg_key *key, const char *name, const char *subscript) {
 
 /* Whether a session is as at first. */
 static int is_none(const vgt_session *session) {
-    return !session->own.own && !session->hub && !session->locked && !session->in_transaction;
+    return !session->own.own && !session->hub && !session->locked && !session->in_transaction && !session->holds;
 }
 
 static void begin_all(void) {
@@ -513,6 +514,89 @@ static void use_views(void) {
     vg_key_end(&place);
 }
 
+/* ---- Holds ---- */
+
+/* Whether the session holds, so that another one's SET is busy, or doesn't, so that it is done. */
+static int is_held(void) {
+    return one.holds && vorgushan_s_set(&other.own, &copy, "1", 1) == VG_BUSY;
+}
+
+static int is_free(void) {
+    return !one.holds && vorgushan_s_set(&other.own, &copy, "1", 1) == VG_DONE;
+}
+
+/* A call under a hold, which goes on: it doesn't give way, which it would do for ever. */
+#define CHECK_HELD(call)                                                                                               \
+    do {                                                                                                               \
+        asked = 0;                                                                                                     \
+        standing = vgt_after(0);                                                                                       \
+        clock_stands = 1;                                                                                              \
+        hub.waiting_writers = 1;                                                                                       \
+        CHECK((call) == VG_DONE);                                                                                      \
+        hub.waiting_writers = 0;                                                                                       \
+        clock_stands = 0;                                                                                              \
+        CHECK(asked == 0 && is_held());                                                                                \
+    } while (0)
+
+/* One with which the hold ends. */
+#define CHECK_ENDS_A_HOLD(outcome, call)                                                                               \
+    do {                                                                                                               \
+        CHECK(vgt_hold(&one) == VG_DONE && is_held());                                                                 \
+        CHECK((call) == (outcome) && is_free());                                                                       \
+    } while (0)
+
+static void use_a_hold(void) {
+    vg_key at = VG_KEY_NONE, place = VG_KEY_NONE;
+    spell(&at, "A", "");
+    CHECK(vgt_tstart(&one, NULL) == VG_DONE);
+    CHECK_BUSY(VGT_SPINNING_TURNS + 2, 0, VG_DONE, vgt_hold(&one));
+    CHECK(is_held() && vgt_release(&one) == VG_DONE && is_free());
+    CHECK_GIVES_WAY(vgt_hold(&one));
+    CHECK_HELD(vgt_hold(&one));
+    CHECK_HELD(vgt_get(&one, &first, text, sizeof text, &length));
+    CHECK_HELD(vgt_set(&one, &second, VG_TEXT("5")));
+    CHECK(has(&one, &second, "5") && vgt_look_data(&one, VG_AT_START, &second, NULL) == VG_DONE);
+    CHECK_HELD(vgt_look(&one, VG_AT_START, &first, text, sizeof text, &length));
+    CHECK_HELD(vgt_look_data(&one, VG_PRESENT, &first, NULL));
+    CHECK_HELD(vgt_look_order(&one, VG_AT_START, &root, NULL, 0, VG_FORWARD, text, sizeof text, &length));
+    CHECK_HELD(vgt_look_query(&one, VG_AT_START, &at, VG_AT_KEY, VG_FORWARD));
+    CHECK_HELD(vgt_walk(&one, VG_PRESENT, &root, &place, text, sizeof text, &length));
+    CHECK_HELD(vgt_kill(&one, VG_KILL_ALL, &second));
+    CHECK(vgt_release(&one) == VG_DONE && is_free() && vgt_release(&one) == VG_DONE);
+    vg_key_end(&at);
+    vg_key_end(&place);
+}
+
+static void use_holds(void) {
+    vgt_session third = VGT_SESSION_NONE;
+    CHECK(vgt_hold(&third) == VG_NO_ENGINE && is_none(&third) && vgt_release(&third) == VG_NO_ENGINE);
+    CHECK(vgt_open(&hub, &third, 3) == VG_DONE && vgt_hold(&third) == VG_DONE && vgt_hold(&one) == VG_DONE);
+    CHECK(vgt_release(&one) == VG_DONE && vgt_halt(&third) == VG_DONE && is_none(&third));
+    use_a_hold();
+    CHECK_ENDS_A_HOLD(VG_DONE, vgt_tlevel(&one, NULL));
+    CHECK_ENDS_A_HOLD(VG_DONE, vgt_tcommit(&one, NULL));
+    CHECK_ENDS_A_HOLD(VG_DONE, vgt_get(&one, &first, text, sizeof text, &length));
+    CHECK_ENDS_A_HOLD(VG_DONE, vgt_set(&one, &second, VG_TEXT("5")));
+    CHECK_ENDS_A_HOLD(VG_DONE, vgt_kill(&one, VG_KILL_ALL, &second));
+    CHECK_ENDS_A_HOLD(VG_DONE, vgt_lock(&one, VG_LOCK_ONLY, &first, 0, NULL));
+    CHECK_ENDS_A_HOLD(VG_DONE, vgt_unlock(&one));
+    CHECK_ENDS_A_HOLD(VG_DONE, vgt_checkpoint(&one));
+    CHECK_ENDS_A_HOLD(VG_DONE, vgt_view_begin(&one));
+    CHECK_ENDS_A_HOLD(VG_DONE, vgt_view_end(&one));
+    CHECK(vgt_kill(&other, VG_KILL_ALL, &copy) == VG_DONE);
+}
+
+/* The library's own calls end a hold too, which the header has ended before. */
+static void use_holds_of_the_library(void) {
+    uint64_t number;
+    vg_session *own = &one.own;
+    CHECK(vorgushan_s_act(own, VG_TSTART, &number) == VG_DONE && vorgushan_s_hold(own) == VG_DONE);
+    CHECK(vorgushan_s_set(own, &second, "6", 1) == VG_DONE && vorgushan_s_act(own, VG_TCOMMIT, &number) == VG_DONE);
+    CHECK(is_free() && vorgushan_s_hold(own) == VG_DONE && vorgushan_s_collect(own, 1) == VG_DONE && is_free());
+    CHECK(vorgushan_s_hold(own) == VG_DONE && vorgushan_s_kill(own, VG_KILL_ALL, &second) == VG_DONE && is_free());
+    CHECK(vgt_kill(&other, VG_KILL_ALL, &copy) == VG_DONE);
+}
+
 /* ---- Locks ---- */
 
 static void use_locks(void) {
@@ -793,6 +877,8 @@ int main(void) {
     use_blocks();
     use_looks();
     use_views();
+    use_holds();
+    use_holds_of_the_library();
     use_locks();
     use_all_releases();
     use_nested_blocks();

@@ -1,6 +1,6 @@
 /* The nodes ^Record(NUMBER), ^Account(NUMBER) and ^Own(NUMBER), by the calls for several threads. Reads are commands of
- * a transaction that is rolled back, or, with VIEWS, looks in a view. Nothing is collected, and no checkpoint is made,
- * so the journal grows by all that is committed. */
+ * a transaction that is rolled back, or, with VIEWS, looks in a view; the session holds meanwhile, but with NO_HOLD.
+ * Nothing is collected, and no checkpoint is made, so the journal grows by all that is committed. */
 #include "threads.h"
 #include "vorgushan_threads.h"
 
@@ -38,10 +38,19 @@ void name_node(struct session *session, int place, enum kind kind, uint32_t numb
     must(vg_key_spell(&session->keys[place], name.bytes, name.length, &at, 1) == VG_DONE, "vg_key_spell");
 }
 
+static void hold(struct session *session) {
+#ifdef NO_HOLD
+    (void)session;
+#else
+    must(vgt_hold(&session->own) == VG_DONE, "vgt_hold");
+#endif
+}
+
 #ifdef VIEWS
 void begin_reads(struct session *session) {
     must(vgt_view_begin(&session->own) == VG_DONE, "vgt_view_begin");
     session->has_view = 1;
+    hold(session);
 }
 
 void end_reads(struct session *session) {
@@ -49,7 +58,10 @@ void end_reads(struct session *session) {
     must(vgt_view_end(&session->own) == VG_DONE, "vgt_view_end");
 }
 #else
-void begin_reads(struct session *session) { must(vgt_tstart(&session->own, NULL) == VG_DONE, "vgt_tstart"); }
+void begin_reads(struct session *session) {
+    must(vgt_tstart(&session->own, NULL) == VG_DONE, "vgt_tstart");
+    hold(session);
+}
 
 void end_reads(struct session *session) { must(vgt_trollback(&session->own) == VG_DONE, "vgt_trollback"); }
 #endif

@@ -127,6 +127,8 @@ unsafe extern "C" {
         nodes_size: usize,
         nodes_length: &mut usize,
     ) -> u32;
+    pub(crate) safe fn vorgushan_s_hold(session: &mut RawSession) -> u32;
+    pub(crate) safe fn vorgushan_s_release(session: &mut RawSession) -> u32;
     pub(crate) safe fn vorgushan_s_collect(session: &mut RawSession, nodes: usize) -> u32;
     pub(crate) safe fn vorgushan_s_checkpoint(session: &mut RawSession) -> u32;
 }
@@ -189,18 +191,19 @@ impl Line {
         outcome
     }
 
-    /// The same of one that only looks at the database, and never needs it for itself.
-    pub(crate) fn looked(&self, call: impl FnMut() -> u32) -> u32 {
-        if self.waiting.load(Relaxed) > 0 {
+    /// The same of one that only looks at the database, and never needs it for itself. A session that holds it gives way to
+    /// nobody: they wait for the end of its hold.
+    pub(crate) fn looked(&self, holds: bool, call: impl FnMut() -> u32) -> u32 {
+        if !holds && self.waiting.load(Relaxed) > 0 {
             self.let_one_by();
         }
         tried(call, pause)
     }
 
     /// The same of a command that reads: in a transaction it only looks, and else it is a unit of the journal.
-    pub(crate) fn read(&self, in_transaction: bool, call: impl FnMut() -> u32) -> u32 {
+    pub(crate) fn read(&self, in_transaction: bool, holds: bool, call: impl FnMut() -> u32) -> u32 {
         if in_transaction {
-            self.looked(call)
+            self.looked(holds, call)
         } else {
             self.tried(call)
         }
@@ -341,11 +344,11 @@ mod tests {
     fn those_that_spun_in_vain_wait_in_the_line() {
         let line = Line::new();
         assert_eq!(seen_in(&line, SPINNING_TURNS, |line, call| line.tried(call)), 0);
-        assert_eq!(seen_in(&line, SPINNING_TURNS + 1, |line, call| line.looked(call)), 0);
-        assert_eq!(seen_in(&line, SPINNING_TURNS + 1, |line, call| line.read(true, call)), 0);
+        assert_eq!(seen_in(&line, SPINNING_TURNS + 1, |line, call| line.looked(false, call)), 0);
+        assert_eq!(seen_in(&line, SPINNING_TURNS + 1, |line, call| line.read(true, false, call)), 0);
         assert_eq!(line.served.load(Relaxed), 0);
         assert_eq!(seen_in(&line, SPINNING_TURNS + 1, |line, call| line.tried(call)), 1);
-        assert_eq!(seen_in(&line, SPINNING_TURNS + 1, |line, call| line.read(false, call)), 1);
+        assert_eq!(seen_in(&line, SPINNING_TURNS + 1, |line, call| line.read(false, false, call)), 1);
         assert_eq!(line.served.load(Relaxed), 2);
     }
 
@@ -353,9 +356,12 @@ mod tests {
     fn looks_give_way_for_a_bounded_time() {
         let (line, start) = (Line::new(), Instant::now());
         line.waiting.store(1, Relaxed);
-        assert_eq!(line.looked(|| outcome::DONE), outcome::DONE);
+        assert_eq!(line.looked(true, || outcome::DONE), outcome::DONE);
+        assert_eq!(line.read(true, true, || outcome::DONE), outcome::DONE);
+        assert!(start.elapsed() < MOST_GIVEN_WAY);
+        assert_eq!(line.looked(false, || outcome::DONE), outcome::DONE);
         assert!(start.elapsed() >= MOST_GIVEN_WAY);
-        assert_eq!(line.read(true, || outcome::DONE), outcome::DONE);
+        assert_eq!(line.read(true, false, || outcome::DONE), outcome::DONE);
         assert!(start.elapsed() >= 2 * MOST_GIVEN_WAY);
     }
 }

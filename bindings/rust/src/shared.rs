@@ -109,8 +109,8 @@ impl SharedDatabase {
     /// [`BadJob`](Error::BadJob), [`OutOfMemory`](Error::OutOfMemory).
     pub fn session(&self, job: u64) -> Result<Session, Error> {
         let (raw, shared) = (RawSession::none(), Arc::clone(&self.shared));
-        let (buffer, has_names, in_transaction) = (vec![0; BUFFER], false, false);
-        let mut session = Session { raw, shared, buffer, has_names, in_transaction };
+        let (buffer, has_names, in_transaction, holds) = (vec![0; BUFFER], false, false, false);
+        let mut session = Session { raw, shared, buffer, has_names, in_transaction, holds };
         let mut hub = held(&self.shared.hub);
         done(self.shared.line.tried(|| raw::vorgushan_open(&mut hub, &mut session.raw, job)))?;
         Ok(session)
@@ -145,22 +145,46 @@ pub struct Session {
     buffer: Vec<u8>,
     has_names: bool,
     in_transaction: bool,
+    holds: bool,
 }
 
 impl Session {
-    /// Makes a call until it isn't in the way of others: one that may need the database for itself.
+    /// Makes a call until it isn't in the way of others: one that may need the database for itself. It ends a hold, with
+    /// which the session could be in its own way.
     fn tried(&mut self, mut call: impl FnMut(&mut RawSession) -> u32) -> u32 {
+        self.let_go();
         self.shared.line.tried(|| call(&mut self.raw))
     }
 
     /// The same of a command that reads.
-    fn read(&mut self, mut call: impl FnMut(&mut RawSession) -> u32) -> u32 {
-        self.shared.line.read(self.in_transaction, || call(&mut self.raw))
+    fn read(&mut self, call: impl FnMut(&mut RawSession) -> u32) -> u32 {
+        if self.in_transaction {
+            self.looked(call)
+        } else {
+            self.tried(call)
+        }
     }
 
     /// The same of a look.
     fn looked(&mut self, mut call: impl FnMut(&mut RawSession) -> u32) -> u32 {
-        self.shared.line.looked(|| call(&mut self.raw))
+        self.shared.line.looked(self.holds, || call(&mut self.raw))
+    }
+
+    /// The same of a command that writes: in a transaction of a session that holds it looks at no more than what is held.
+    fn written(&mut self, call: impl FnMut(&mut RawSession) -> u32) -> u32 {
+        if self.holds && self.in_transaction {
+            self.looked(call)
+        } else {
+            self.tried(call)
+        }
+    }
+
+    /// Ends a hold, where there is one.
+    fn let_go(&mut self) {
+        if self.holds {
+            self.holds = false;
+            raw::vorgushan_s_release(&mut self.raw);
+        }
     }
 
     /// A command that reads, and copies bytes into the buffer.
@@ -168,9 +192,12 @@ impl Session {
         &mut self,
         mut call: impl FnMut(&mut RawSession, &mut [u8], &mut usize) -> u32,
     ) -> Result<Option<Vec<u8>>, Error> {
-        let Session { raw, shared, buffer, in_transaction, .. } = self;
+        if !self.in_transaction {
+            self.let_go();
+        }
+        let Session { raw, shared, buffer, in_transaction, holds, .. } = self;
         let mut length = 0;
-        let outcome = shared.line.read(*in_transaction, || call(raw, buffer, &mut length));
+        let outcome = shared.line.read(*in_transaction, *holds, || call(raw, buffer, &mut length));
         self.copied(outcome, length)
     }
 
@@ -179,9 +206,9 @@ impl Session {
         &mut self,
         mut call: impl FnMut(&mut RawSession, &mut [u8], &mut usize) -> u32,
     ) -> Result<Option<Vec<u8>>, Error> {
-        let Session { raw, shared, buffer, .. } = self;
+        let Session { raw, shared, buffer, holds, .. } = self;
         let mut length = 0;
-        let outcome = shared.line.looked(|| call(raw, buffer, &mut length));
+        let outcome = shared.line.looked(*holds, || call(raw, buffer, &mut length));
         self.copied(outcome, length)
     }
 
@@ -209,7 +236,7 @@ impl Session {
 
     /// SET, as [`Job::set`](crate::Job::set).
     pub fn set(&mut self, key: &Key, value: impl AsRef<[u8]>) -> Result<(), Error> {
-        done(key.with(|key| self.tried(|session| raw::set(session, key, value.as_ref()))))
+        done(key.with(|key| self.written(|session| raw::set(session, key, value.as_ref()))))
     }
 
     /// $GET, as [`Job::get`](crate::Job::get).
@@ -224,7 +251,7 @@ impl Session {
     }
 
     fn kill_by(&mut self, extent: u32, key: &Key) -> Result<(), Error> {
-        done(key.with(|key| self.tried(|session| raw::vorgushan_s_kill(session, extent, key))))
+        done(key.with(|key| self.written(|session| raw::vorgushan_s_kill(session, extent, key))))
     }
 
     /// KILL, as [`Job::kill`](crate::Job::kill).
@@ -288,6 +315,14 @@ impl Session {
 
     fn look_at(&mut self, moment: u32, key: &Key) -> Result<Option<Vec<u8>>, Error> {
         key.with(|key| self.looked_copied(|session, value, length| raw::look(session, moment, key, value, length)))
+    }
+
+    /// Calls `body`, and holds the database meanwhile: the session's looks, and in a transaction its data commands, wait
+    /// for nobody then, and are quickest so where several threads read. Others read too, and who would write waits, so
+    /// `body` makes a few reads and waits for nothing. Each other call in it ends the hold.
+    pub fn hold<T>(&mut self, body: impl FnOnce(&mut Session) -> T) -> Result<T, Error> {
+        let holding = Holding::begin(self)?;
+        Ok(body(holding.session))
     }
 
     /// LOCK of the names of several keys at once: whether all of them were granted. Where another session is in the way
@@ -360,6 +395,25 @@ impl Session {
     /// Drops the journal up to the oldest open transaction, as [`Database::checkpoint`](crate::Database::checkpoint).
     pub fn checkpoint(&mut self) -> Result<(), Error> {
         done(self.tried(|session| raw::vorgushan_s_checkpoint(session)))
+    }
+}
+
+/// A hold, which ends when it is dropped.
+struct Holding<'a> {
+    session: &'a mut Session,
+}
+
+impl<'a> Holding<'a> {
+    fn begin(session: &'a mut Session) -> Result<Holding<'a>, Error> {
+        done(session.looked(|session| raw::vorgushan_s_hold(session)))?;
+        session.holds = true;
+        Ok(Holding { session })
+    }
+}
+
+impl Drop for Holding<'_> {
+    fn drop(&mut self) {
+        self.session.let_go();
     }
 }
 
@@ -523,6 +577,16 @@ impl SessionView<'_> {
         done(moved.with(|key| key_bytes(key, bytes, &mut length)))?;
         let found = Reference::of_key(&bytes[..length]).expect("a key's bytes are as the header says");
         Ok(Some(moved.moved_to(found)))
+    }
+
+    /// Calls `body`, and holds the database meanwhile, as [`Session::hold`].
+    pub fn hold<T>(&mut self, body: impl FnOnce(&mut Self) -> T) -> Result<T, Error> {
+        let session = &mut *self.transaction.session;
+        done(session.looked(|session| raw::vorgushan_s_hold(session)))?;
+        session.holds = true;
+        let answer = body(self);
+        self.transaction.session.let_go();
+        Ok(answer)
     }
 
     /// The nodes with a value at and under a key, in order.

@@ -37,7 +37,8 @@ hub_sync =
 
 pub session_send : IsSend HubSession.the_row
 session_send =
-    let c = struct_send (shape SessionInside.the_type) (search (heap.crosses, hub_send, hub_sync, sendable) depth 60 fits 20000, (inner_send, tt)) in
+    let c = struct_send (shape SessionInside.the_type)
+    (search (heap.crosses, hub_send, hub_sync, sendable) depth 60 fits 20000, (inner_send, (search (heap.crosses, inside_send, inside_sync, sendable) depth 60 fits 20000, tt))) in
     record { owned = λ d vs x. (c.owned (SessionInside.the_type.to x.0) vs, tt); leaving = λ k d w. tt }
 
 pub share_send : IsSend HubShare.the_row

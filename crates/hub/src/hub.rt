@@ -81,7 +81,11 @@ impl Hub {
         let done = opened(&hub.board, &mut inside, alloc, job);
         hub.put(inside);
         match done {
-            Ok(inner) => Ok(Ok(HubSession { hub: owner, inner })),
+            Ok(inner) => Ok(Ok(HubSession {
+                hub: owner,
+                inner,
+                kept: None,
+            })),
             Err(Some(refusal)) => Ok(Err(refusal)),
             Err(None) => Err(Busy),
         }

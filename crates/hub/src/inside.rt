@@ -1,16 +1,18 @@
 //! What lies in the gate, and what a call does with it, once it has it.
-ghost use Rattle.std.specs.Prelude.{◌≡◌, ◌⊎◌, ◌≤◌, ◌+◌, ◌∷◌, ◌++◌, ℕ, List, [], true, false, length, take, None, Some, IfOk, IfErr, IfSome, IsErrOf, OnOk, OnErr};
+ghost use Rattle.std.specs.Prelude.{◌≡◌, ◌⊎◌, ◌≤◌, ◌+◌, ◌∷◌, ◌++◌, ℕ, List, [], true, false, length, take, None, Some, IfOk, IfErr, IfSome, IsSome, IsErrOf, OnOk, OnErr};
 ghost use Rattle.refusal.specs.declared.Refusal.{Refusal};
 ghost use Rattle.globals.specs.Answering.{early_refusal};
 ghost use Rattle.journal.specs.Kept.{HasNoNumber};
 ghost use Rattle.journal.specs.declared.unit.Unit.{Unit as JournalUnit};
-ghost use Rattle.job_core.specs.Sessions.{idle, IsOpenOn};
+ghost use Rattle.journal.specs.History.{initial, after};
+ghost use Rattle.job_core.specs.Sessions.{idle, IsAnsweredOrRefused, IsOpenOn};
 ghost use Rattle.validate_commit.specs.Verdicts.{IsCauseAtCommit};
 ghost use Rattle.pin_board.specs.Slips.{IsBeginning};
 ghost use Rattle.shared_engine.specs.Blocks.{IsLone, IsRolledBack, IsRestarted};
 ghost use Rattle.shared_engine.specs.Sessions.{held, knowing, halted, IsJournalOf};
 ghost use Rattle.shared_engine.specs.Engines.{IsLocked, GoesOnBy, HasEnded, IsCauseAtRestart};
 ghost use Rattle.shared_engine.specs.Writes.{AreWrites};
+ghost use Rattle.hub.specs.Holding.{IsHeldBy};
 
 use crate::hub::Busy;
 use collation::Job;
@@ -98,6 +100,43 @@ impl Inside {
         let count = self.locked.look(board, &mut desk, session);
         self.desk.give_back(desk);
         Ok(count)
+    }
+
+    /// As `meet` where a transaction is open, else as `look`: what a session may hold then.
+    pub(crate) fn hold(&self, board: &Board, session: &mut InnerSession) -> Result<(), Busy>
+        requires own { (self.now.desk.table ≡ board.now.table) × (session.old.table ≡ board.now.table) }
+        ensures table { session.new.table ≡ session.old.table }
+        ensures held { OnOk result (IsHeldBy self.now.locked.core session.new.held) }
+        ensures same { OnOk result (session.new.held ≡ knowing session.new.held.seen session.old.held) }
+        ensures journal { OnOk result (IsJournalOf session.new.held.seen session.old.held) }
+        ensures busy { OnErr result (session.new ≡ session.old) }
+    {
+        if session.tlevel() > 0 {
+            return self.meet(board, session);
+        }
+        match self.look(board, session) {
+            Ok(_) => Ok(()),
+            Err(Busy) => Err(Busy),
+        }
+    }
+
+    /// As `Locked::read_met`, for a session that holds this.
+    pub(crate) fn read(
+        &self,
+        session: &mut InnerSession,
+        command: DataCommand,
+    ) -> Result<Answer, Refusal>
+        requires level { 1 ≤ session.old.held.state.level }
+        requires held { IsHeldBy self.now.locked.core session.old.held }
+        ensures table { session.new.table ≡ session.old.table }
+        ensures held { IsHeldBy self.now.locked.core session.new.held }
+        ensures answered { IfSome session.old.held.start (λ base. IsAnsweredOrRefused command result (after base initial).map session.old.held.state session.new.held.state) }
+        ensures open { IsSome session.old.held.start }
+        ensures journal { IsJournalOf session.new.held.seen session.old.held }
+        ensures same { (session.new.held.start ≡ session.old.held.start) × (session.new.held.receipts ≡ session.old.held.receipts) }
+        ensures others { session.new.held.others ≡ session.old.held.others }
+    {
+        self.locked.read_met(session, command)
     }
 }
 

@@ -22,6 +22,7 @@ pub use moments::HubShare;
 pub use session::HubSession;
 
 mod finishing;
+mod holding;
 mod hub;
 mod inside;
 mod locking;

@@ -76,6 +76,7 @@ impl HubSession {
         ensures refused { IfOk result (λ done. IfErr done (λ refusal. WasTried command.now (Err refusal) self.old.held self.new.held)) }
         ensures busy { OnErr result (self.new ≡ self.old) }
     {
+        self.kept = None;
         let Some(mut inside) = self.hub.take() else {
             return Err(Busy);
         };
@@ -94,6 +95,7 @@ impl HubSession {
         ensures refused { IfOk result (λ done. IfErr done (λ refusal. WasTried command.now (Err refusal) self.old.held self.new.held)) }
         ensures busy { OnErr result (self.new ≡ self.old) }
     {
+        self.kept = None;
         let Some(mut inside) = self.hub.take() else {
             return Err(Busy);
         };

@@ -78,6 +78,7 @@ impl HubSession {
         ensures count { IfOk result (λ count. count ≡ length self.new.held.seen) }
         ensures busy { OnErr result (self.new ≡ self.old) }
     {
+        self.kept = None;
         let Some(inside) = self.hub.gate.share() else {
             return Err(Busy);
         };
@@ -94,6 +95,7 @@ impl HubSession {
         ensures same { OnOk result (self.new.held ≡ knowing self.new.held.seen self.old.held) }
         ensures busy { OnErr result (self.new ≡ self.old) }
     {
+        self.kept = None;
         let Some(inside) = self.hub.gate.share() else {
             return Err(Busy);
         };
@@ -116,6 +118,7 @@ impl HubSession {
         ensures same { OnOk result (self.new.held ≡ knowing self.new.held.seen self.old.held) }
         ensures busy { OnErr result (self.new ≡ self.old) }
     {
+        self.kept = None;
         let Some(inside) = self.hub.gate.share() else {
             return Err(Busy);
         };

@@ -22,7 +22,7 @@ ghost use Rattle.shared_engine.specs.Engines.{HasEnded, IsCauseAtRestart};
 ghost use Rattle.shared_engine.specs.Writes.{AreWrites};
 
 use crate::hub::{Busy, Hub};
-use crate::inside::{committed, lone, over, restarted, rolled_back};
+use crate::inside::{Inside, committed, lone, over, restarted, rolled_back};
 use collation::{Job, Text};
 use command::{Answer, DataCommand, Extent};
 use key_codec::Key;
@@ -35,18 +35,23 @@ use std::sync::Arc;
 /// A job at work, which owns its hub together with others. It is given to one call at a time, and may go to another
 /// thread between two. Contracts see it as the table of its hub's board, and what it holds.
 ///
+/// It may hold what all share for several reads (`hold`): then these need nothing that threads change.
+///
 /// It ends by `halt`. One that is dropped instead keeps its job, its seat and its locks for good, and where its
 /// transaction is open no content from that start on is collected. It keeps nobody busy, and its hub can be closed.
 #[derive(Drop)]
 pub struct HubSession {
     pub(crate) hub: Arc<Hub, Global>,
     pub(crate) inner: InnerSession,
+    // What all share, while it is held for reading.
+    pub(crate) kept: Option<Arc<Inside, Global>>,
 }
 
 impl Model for HubSession {
-    ghost use Rattle.std.specs.Prelude.{◌≡◌};
+    ghost use Rattle.std.specs.Prelude.{◌≡◌, IfSome};
     ghost use Rattle.shared_engine.specs.Codes.{session_at_code};
     ghost use Rattle.shared_engine.specs.Named.{SessionAt};
+    ghost use Rattle.hub.specs.Holding.{IsHeldBy};
 
     ghost Value = { SessionAt };
 
@@ -54,7 +59,7 @@ impl Model for HubSession {
 
     ghost view = { λ s. s.inner };
 
-    ghost invariant = { λ s. s.inner.table ≡ s.hub.value.board.table };
+    ghost invariant = { λ s. (s.inner.table ≡ s.hub.value.board.table) × IfSome s.kept (λ a. IsHeldBy a.value.locked.core s.inner.held) };
 }
 
 impl HubSession {
@@ -104,6 +109,7 @@ impl HubSession {
         ensures begun { OnOk result ((base : List JournalUnit) × HasBegun base self.old.held self.new.held) }
         ensures refused { IfErr result (λ refusal. (refusal ≡ Refusal.Again) × (self.new.held ≡ self.old.held)) }
     {
+        self.kept = None;
         self.inner.tstart(&self.hub.board)
     }
 
@@ -191,6 +197,7 @@ impl HubSession {
         ensures early { IfOk result (λ done. (refusal : Refusal) → early_refusal command ≡ Some refusal → IsErrOf done refusal) }
         ensures busy { IfErr result (λ back. (back ≡ command) × (self.new ≡ self.old)) }
     {
+        self.kept = None;
         let Some(mut inside) = self.hub.take() else {
             return Err(command);
         };
@@ -215,6 +222,9 @@ impl HubSession {
         ensures others { OnOk result (self.new.held.others ≡ self.old.held.others) }
         ensures busy { IfErr result (λ back. (back ≡ command) × (self.new ≡ self.old)) }
     {
+        if let Some(inside) = &self.kept {
+            return Ok(inside.read(&mut self.inner, command));
+        }
         let Some(inside) = self.hub.gate.share() else {
             return Err(command);
         };
@@ -238,6 +248,7 @@ impl HubSession {
         ensures cause { IfOk result (λ done. IfErr done (λ refusal. IsCauseAtCommit refusal self.old.held.state.work self.new.held.seen ⊎ IsCauseAtRestart refusal self.old.held.state self.new.held.seen)) }
         ensures busy { OnErr result (self.new ≡ self.old) }
     {
+        self.kept = None;
         let Some(mut inside) = self.hub.take() else {
             return Err(Busy);
         };
@@ -253,6 +264,7 @@ impl HubSession {
         ensures table { self.new.table ≡ self.old.table }
         ensures ended { self.new.held ≡ ended self.old.held }
     {
+        self.kept = None;
         self.inner.rollback_free(&self.hub.board);
     }
 
@@ -268,6 +280,7 @@ impl HubSession {
         ensures busy { OnErr result (self.new ≡ self.old) }
     {
         if self.took_lock() {
+            self.kept = None;
             let Some(mut inside) = self.hub.take() else {
                 return Err(Busy);
             };
@@ -292,6 +305,7 @@ impl HubSession {
         ensures journal { IfOk result (λ done. OnOk done (IsJournalOf self.new.held.seen self.old.held)) }
         ensures busy { OnErr result (self.new ≡ self.old) }
     {
+        self.kept = None;
         let Some(mut inside) = self.hub.take() else {
             return Err(Busy);
         };
@@ -315,16 +329,25 @@ impl HubSession {
         ensures cause { IfOk result (λ done. IfErr done (λ r. HasNoNumber r.1 1 (length r.0.held.seen))) }
         ensures busy { IfErr result (λ back. back ≡ self) }
     {
-        let HubSession { hub, inner } = self;
+        let HubSession { hub, inner, kept } = self;
+        drop(kept);
         let Some(mut inside) = hub.take() else {
-            return Err(HubSession { hub, inner });
+            return Err(HubSession {
+                hub,
+                inner,
+                kept: None,
+            });
         };
         let done = over(&hub.board, &mut inside, inner);
         hub.put(inside);
         match done {
             Ok(pass) => Ok(Ok(pass)),
             Err((inner, why)) => {
-                let back = HubSession { hub, inner };
+                let back = HubSession {
+                    hub,
+                    inner,
+                    kept: None,
+                };
                 match why {
                     Some(refusal) => Ok(Err((back, refusal))),
                     None => Err(back),

@@ -7,6 +7,8 @@ pub use crossing::{hub_is_shared, hub_session_is_sent, hub_share_is_sent};
 mod closing;
 mod crossing;
 #[cfg(test)]
+mod holds;
+#[cfg(test)]
 mod hubs;
 #[cfg(test)]
 mod locks;

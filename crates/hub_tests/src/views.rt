@@ -28,7 +28,7 @@ fn accounts(alloc: Global) -> Option<Vec<Key>> {
 }
 
 // The number that a value is, 0 where there is none.
-fn number_at(found: Option<&Text>) -> u64 {
+pub(crate) fn number_at(found: Option<&Text>) -> u64 {
     match found {
         Some(value) => number_of(value.as_slice()),
         None => 0,

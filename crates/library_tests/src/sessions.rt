@@ -8,8 +8,8 @@ use hub::Busy;
 use lock_name::LockCommand;
 use refusal::Refusal;
 use session_calls::{
-    Seat, checkpoint, collect, data, get, halt, increment, kill, lock_again, look, look_data,
-    look_order, look_query, merge, next_name, order, query, run, run_numbered, set, walk,
+    Seat, checkpoint, collect, data, get, halt, hold, increment, kill, lock_again, look, look_data,
+    look_order, look_query, merge, next_name, order, query, release, run, run_numbered, set, walk,
 };
 use std::alloc::Global;
 use std::test::*;
@@ -232,6 +232,32 @@ fn a_session_is_overtaken_by_another(rt: HostRuntime) -> Result<(), Fail> {
     Ok(())
 }
 
+// Under a hold of a transaction, while another session is busy: the value is read and looked at, and so is one of another
+// session's after the release.
+fn held(alloc: Global, seat: &mut Seat, other: &mut Seat) -> Result<[bool; 7], Refusal> {
+    let written = put(alloc, other, b"7", b"5")?;
+    let begun = is_done(run(seat, Command::Start)) && is_done(hold(seat)) && is_done(hold(seat));
+    let read = reads(alloc, seat, b"7", b"5")? && looked(alloc, seat)? && walked(alloc, seat);
+    let key = child(alloc, b"A", b"7")?;
+    let busy = set(other, alloc, &key, b"2") == Err(Busy);
+    let released = release(seat) == Outcome::Done;
+    let after = put(alloc, other, b"7", b"2")?;
+    let stayed = reads(alloc, seat, b"7", b"5")?;
+    Ok([written, begun, read, busy, released, after, stayed])
+}
+
+fn two_hold(alloc: Global) -> Option<[bool; 7]> {
+    let mut seat = alone(alloc)?;
+    let mut other = beside(alloc, &seat, 2)?;
+    held(alloc, &mut seat, &mut other).ok()
+}
+
+#[test]
+fn a_session_holds_for_several_reads(rt: HostRuntime) -> Result<(), Fail> {
+    assert_eq!(rt; two_hold(rt.alloc()), Some([true; 7]));
+    Ok(())
+}
+
 // What a LOCK of ^A(7) tells.
 fn had(alloc: Global, seat: &mut Seat) -> Result<u64, Refusal> {
     let key = child(alloc, b"A", b"7")?;
@@ -317,8 +343,8 @@ fn kept_small(alloc: Global) -> Option<bool> {
     let mut seat = alone(alloc)?;
     let first = put(alloc, &mut seat, b"7", b"1").ok()?;
     let second = put(alloc, &mut seat, b"7", b"2").ok()?;
-    let dropped = is_done(checkpoint(&seat));
-    let looked = collect(&seat, 10);
+    let dropped = is_done(checkpoint(&mut seat));
+    let looked = collect(&mut seat, 10);
     Some(
         first && second && dropped && (looked == Ok(Outcome::Done) || looked == Ok(Outcome::AtEnd)),
     )

@@ -1,6 +1,7 @@
 -- What looks of a session answer. They are no commands: no unit, no reply, and nothing of an open transaction changes.
--- Read IsLook, then IsOrderLook, IsQueryLook and IsWalk.
+-- Read IsLook, then IsOrderLook, IsQueryLook and IsWalk; then IsHold and IsRelease.
 use Rattle.std.specs.Prelude.{◌≡◌, ◌⊎◌, ℕ, Bool, true, false, List, Option, None, Some, Result, Ok, Err}
+use Rattle.std.specs.Option.{MatchOption}
 use Rattle.refusal.specs.declared.Refusal.TheVariants.{NoTransaction}
 use Rattle.collation.specs.Database.{Database}
 use Rattle.collation.specs.Reference.{Reference}
@@ -11,7 +12,7 @@ use Rattle.typed_calls.specs.Typed.{IsMemory, IsPlaceCause}
 use Rattle.journal.specs.declared.unit.Unit.{Unit as JournalUnit}
 use Rattle.journal.specs.History.{initial, after as left_by}
 use Rattle.embedded.specs.declared.outcome.Outcome.{Outcome}
-use Rattle.embedded.specs.declared.outcome.Outcome.TheVariants.{Refused, NoEngine}
+use Rattle.embedded.specs.declared.outcome.Outcome.TheVariants.{Done, Refused, NoEngine}
 use Rattle.hub.specs.declared.hub.Busy.{Busy}
 use Rattle.shared_engine.specs.Sessions.{Held, knowing, IsJournalOf}
 use Rattle.session_calls.specs.Calls.{HasNone, IsOnSession, IsRefusedBefore}
@@ -73,3 +74,17 @@ IsQueryLook at_start old is_open direction new before after result =
 abbrev pub IsWalk : Bool → Option Reference → Option Reference → Option Reference → Seat → Seat → Result Outcome Busy → List ℕ → List ℕ → ℕ → Type 0
 IsWalk at_start root place now before after result old new wanted =
     IsLook at_start (λ m outcome. IsWalked (nodes_left root place m) place now outcome old new wanted) ((new ≡ old) × ((wanted ≡ 0) × (now ≡ place))) before after result
+
+-- the session has seen the present journal, which it holds for reading
+abbrev pub HasHeld : Held → Held → Type 0
+HasHeld old new = IsJournalOf new.seen old × (new ≡ knowing new.seen old)
+
+-- the seat's session holds what all share; or there is none, or others write: then nothing has changed
+abbrev pub IsHold : Seat → Seat → Result Outcome Busy → Type 0
+IsHold before after (Ok outcome) = (IsOnSession before after HasHeld × (after.last ≡ before.last) × (outcome ≡ Done)) ⊎ HasNone before after outcome
+IsHold before after (Err busy) = after ≡ before
+
+-- a hold was ended, which changes nothing that is seen; where there is no session it is told so
+abbrev pub IsRelease : Seat → Seat → Result Outcome Busy → Type 0
+IsRelease before after (Ok outcome) = (after ≡ before) × MatchOption before.session (outcome ≡ NoEngine) (λ session. outcome ≡ Done)
+IsRelease before after (Err busy) = ⊥

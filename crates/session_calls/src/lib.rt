@@ -16,7 +16,7 @@ pub use ending::halt;
 pub use locks::lock_again;
 pub use looks::{look, look_data, look_order, look_query, walk};
 pub use seat::Seat;
-pub use upkeep::{checkpoint, collect};
+pub use upkeep::{checkpoint, collect, hold, release};
 
 mod calls;
 mod ending;

@@ -1,5 +1,5 @@
 //! Looks at the database of a moment, which are no commands: as it is now, or as it was when the open transaction began.
-ghost use Rattle.std.specs.Prelude.{◌≡◌, IfOk, OnErr};
+ghost use Rattle.std.specs.Prelude.{◌≡◌, Ok, IfOk, IfSome, OnErr};
 ghost use Rattle.std.specs.Option.{option_map};
 ghost use Rattle.collation.specs.Answers.{data_of};
 ghost use Rattle.embedded.specs.Looks.{IsLook as IsValueLook, IsOrder, IsQuery, IsWalked, nodes_left};
@@ -14,6 +14,39 @@ use key_codec::{Key, Place};
 use refusal::Refusal;
 use std::alloc::Global;
 use typed_calls::{place_at, place_below};
+use version_store::Snapshot;
+
+// The database of a moment of a session that holds it already (`hold`). None of any other.
+fn held_moment(session: &HubSession, at_start: bool) -> Option<Snapshot<'_>>
+    ensures { IfSome result (λ view. IsMoment at_start session.now.held session.now.held (Ok view)) }
+{
+    if at_start {
+        if session.tlevel() == 0 {
+            return None;
+        }
+        return match session.held_start() {
+            Some(view) => Some(view),
+            None => None,
+        };
+    }
+    match session.held_present() {
+        Some(view) => Some(view),
+        None => None,
+    }
+}
+
+// The same of a seat's session.
+fn held(seat: &Seat, at_start: bool) -> Option<Snapshot<'_>>
+    ensures { IfSome result (λ view. IsSeen at_start seat.now seat.now (Ok view)) }
+{
+    let Some(session) = &seat.session else {
+        return None;
+    };
+    match held_moment(session, at_start) {
+        Some(view) => Some(view),
+        None => None,
+    }
+}
 
 // The database of a moment of a session, held for as long as it is looked at; or why there is none.
 fn moment(session: &mut HubSession, at_start: bool) -> Result<Result<HubShare, Outcome>, Busy>
@@ -72,6 +105,9 @@ pub fn look(
     ensures { IsLook at_start (λ m outcome. IsValueLook m key.now outcome buffer.old buffer.new wanted.new) ((buffer.new ≡ buffer.old) × (wanted.new ≡ 0)) seat.old seat.new result }
 {
     *wanted = 0;
+    if let Some(view) = held(seat, at_start) {
+        return Ok(copy_value(&view, key, buffer, wanted));
+    }
     match seen(seat, at_start) {
         Ok(Ok(share)) => Ok(copy_in(&share, key, buffer, wanted)),
         Ok(Err(outcome)) => Ok(outcome),
@@ -98,6 +134,10 @@ pub fn look_data(
     ensures { IsLook at_start (λ m outcome. (number.new ≡ data_of key.now m) × (outcome ≡ Outcome.Done)) (number.new ≡ 0) seat.old seat.new result }
 {
     *number = 0;
+    if let Some(view) = held(seat, at_start) {
+        *number = data(&view, key);
+        return Ok(Outcome::Done);
+    }
     match seen(seat, at_start) {
         Ok(Ok(share)) => {
             *number = data_in(&share, key);
@@ -135,6 +175,9 @@ fn look_sibling(
     ensures { IsLook at_start (λ m outcome. IsOrder place.now direction m outcome buffer.old buffer.new wanted.new) ((buffer.new ≡ buffer.old) × (wanted.new ≡ 0)) seat.old seat.new result }
 {
     *wanted = 0;
+    if let Some(view) = held(seat, at_start) {
+        return Ok(copy_sibling(alloc, &view, place, direction, buffer, wanted));
+    }
     match seen(seat, at_start) {
         Ok(Ok(share)) => Ok(sibling_in(&share, alloc, place, direction, buffer, wanted)),
         Ok(Err(outcome)) => Ok(outcome),
@@ -185,6 +228,9 @@ fn look_found(
 ) -> Result<Outcome, Busy>
     ensures { IsLook at_start (λ m outcome. IsQuery place.now direction m key.old key.new outcome) (key.new ≡ key.old) seat.old seat.new result }
 {
+    if let Some(view) = held(seat, at_start) {
+        return Ok(move_to_found(&view, place, direction, key));
+    }
     match seen(seat, at_start) {
         Ok(Ok(share)) => Ok(found_in(&share, place, direction, key)),
         Ok(Err(outcome)) => Ok(outcome),
@@ -210,6 +256,21 @@ pub fn look_query(
     }
 }
 
+// Copies the next nodes of a walk over a database.
+fn walked_in(
+    view: &Snapshot<'_>,
+    alloc: Global,
+    root: &Option<Box<Key>>,
+    place: &mut Option<Box<Key>>,
+    buffer: &mut [u8],
+    wanted: &mut usize,
+) -> Outcome
+    ensures { IsWalked (nodes_left (option_map (λ b. b.value) root.now) (option_map (λ b. b.value) place.old) view.now) (option_map (λ b. b.value) place.old) (option_map (λ b. b.value) place.new) result buffer.old buffer.new wanted.new }
+{
+    let mut text = Vec::new(alloc);
+    copy_walked(alloc, view, root, place, &mut text, buffer, wanted)
+}
+
 // Copies the next nodes of a walk over it.
 fn nodes_in(
     share: &HubShare,
@@ -221,16 +282,7 @@ fn nodes_in(
 ) -> Outcome
     ensures { IsWalked (nodes_left (option_map (λ b. b.value) root.now) (option_map (λ b. b.value) place.old) share.now) (option_map (λ b. b.value) place.old) (option_map (λ b. b.value) place.new) result buffer.old buffer.new wanted.new }
 {
-    let mut text = Vec::new(alloc);
-    copy_walked(
-        alloc,
-        &share.content(),
-        root,
-        place,
-        &mut text,
-        buffer,
-        wanted,
-    )
+    walked_in(&share.content(), alloc, root, place, buffer, wanted)
 }
 
 /// Copies the next nodes of a walk over the database of the moment, as many as the buffer has room for, as
@@ -250,6 +302,9 @@ pub fn walk(
     ensures { IsWalk at_start (option_map (λ b. b.value) root.now) (option_map (λ b. b.value) place.old) (option_map (λ b. b.value) place.new) seat.old seat.new result buffer.old buffer.new wanted.new }
 {
     *wanted = 0;
+    if let Some(view) = held(seat, at_start) {
+        return Ok(walked_in(&view, alloc, root, place, buffer, wanted));
+    }
     match seen(seat, at_start) {
         Ok(Ok(share)) => Ok(nodes_in(&share, alloc, root, place, buffer, wanted)),
         Ok(Err(outcome)) => Ok(outcome),

@@ -1,17 +1,67 @@
-//! What keeps memory small.
-ghost use Rattle.std.specs.Prelude.{IfOk};
+//! What keeps memory small, and what is in its way.
+ghost use Rattle.std.specs.Prelude.{◌≡◌, Ok, IfOk, OnErr, OnOk};
 ghost use Rattle.session_calls.specs.Endings.{IsUpkeep};
+ghost use Rattle.session_calls.specs.Looks.{HasHeld, IsHold, IsRelease};
 
 use crate::seat::Seat;
 use embedded::Outcome;
-use hub::Busy;
+use hub::{Busy, HubSession};
+
+// A session holds what all share.
+fn holds(session: &mut HubSession) -> Result<(), Busy>
+    ensures table { session.new.table ≡ session.old.table }
+    ensures held { OnOk result (HasHeld session.old.held session.new.held) }
+    ensures busy { OnErr result (session.new ≡ session.old) }
+{
+    match session.hold() {
+        Ok(()) => Ok(()),
+        Err(Busy) => Err(Busy),
+    }
+}
+
+/// Holds what all share for the session's next reads: commands that read in a transaction, and looks. They are quick then
+/// and never busy, others read meanwhile, and who would write is busy. So it is held for a few of them, and never while
+/// its owner waits for something. One that is held already stays so. The last reply stays.
+///
+/// It ends by `release`, and by each other call on the session but SET and KILL in a transaction, TSTART and TCOMMIT
+/// within one, $TLEVEL and $TRESTART.
+///
+/// Outcomes: `Done`; `NoEngine` where the seat has no session. `Busy` while others write.
+pub fn hold(seat: &mut Seat) -> Result<Outcome, Busy>
+    ensures { IsHold seat.old seat.new result }
+{
+    let Some(session) = &mut seat.session else {
+        return Ok(Outcome::NoEngine);
+    };
+    match holds(session) {
+        Ok(()) => Ok(Outcome::Done),
+        Err(Busy) => Err(Busy),
+    }
+}
+
+/// Ends a hold, where the session has one. Never busy.
+///
+/// Outcomes: `Done`; `NoEngine` where the seat has no session.
+pub fn release(seat: &mut Seat) -> Outcome
+    ensures { IsRelease seat.old seat.new (Ok result) }
+{
+    match &mut seat.session {
+        Some(session) => {
+            session.release();
+            Outcome::Done
+        }
+        None => Outcome::NoEngine,
+    }
+}
 
 /// Lets the collector look at so many nodes, from where it stopped. No reply depends on it.
 ///
 /// Outcomes: `AtEnd` where it looked at none; `OutOfMemory`.
-pub fn collect(seat: &Seat, limit: usize) -> Result<Outcome, Busy>
-    ensures { IfOk result IsUpkeep }
+pub fn collect(seat: &mut Seat, limit: usize) -> Result<Outcome, Busy>
+    ensures done { IfOk result IsUpkeep }
+    ensures same { seat.new ≡ seat.old }
 {
+    let _ = release(seat);
     match seat.hub.collect(limit) {
         Ok(Ok(progress)) if progress.visited == 0 => Ok(Outcome::AtEnd),
         Ok(Ok(_)) => Ok(Outcome::Done),
@@ -24,9 +74,11 @@ pub fn collect(seat: &Seat, limit: usize) -> Result<Outcome, Busy>
 /// depends on it.
 ///
 /// Outcomes: `Done`; `OutOfMemory`.
-pub fn checkpoint(seat: &Seat) -> Result<Outcome, Busy>
-    ensures { IfOk result IsUpkeep }
+pub fn checkpoint(seat: &mut Seat) -> Result<Outcome, Busy>
+    ensures done { IfOk result IsUpkeep }
+    ensures same { seat.new ≡ seat.old }
 {
+    let _ = release(seat);
     match seat.hub.checkpoint() {
         Ok(Ok(_base)) => Ok(Outcome::Done),
         Ok(Err(refusal)) => Ok(Outcome::Refused(refusal)),

@@ -1,9 +1,9 @@
 //! What C calls to look at the database of a moment, without a command of a session. Each of them is declared in
 //! `include/vorgushan_threads.h`, with its meaning for a C programmer.
-ghost use Rattle.std.specs.Prelude.{◌≡◌};
+ghost use Rattle.std.specs.Prelude.{◌≡◌, ⊤};
 ghost use Rattle.collation.specs.Answers.{data_of};
 ghost use Rattle.embedded.specs.Looks.{IsLook as IsValueLook};
-ghost use Rattle.session_calls.specs.Looks.{IsLook, IsOrderLook, IsQueryLook, IsWalk};
+ghost use Rattle.session_calls.specs.Looks.{IsHold, IsRelease, IsLook, IsOrderLook, IsQueryLook, IsWalk};
 ghost use Rattle.vorgushan_c.specs.Keys as keys;
 ghost use Rattle.vorgushan_c.specs.Keys.{IsMoved};
 ghost use Rattle.vorgushan_c.specs.Sessions.{IsSeatCalled, IsSeatKeyCalled};
@@ -13,8 +13,38 @@ use crate::seat_handle::VgSession;
 use crate::sessions::number_of;
 use crate::typed::direction_of;
 use embedded::Outcome;
-use session_calls::{look, look_data, look_order, look_query, walk};
+use session_calls::{hold, look, look_data, look_order, look_query, release, walk};
 use std::alloc::Global;
+
+/// Holds the database for a session's next reads: commands that read in a transaction, and looks.
+///
+/// Outcomes: as of `session_calls::hold`; `NoEngine`.
+#[unsafe(no_mangle)]
+pub extern "C" fn vorgushan_s_hold(alloc: Global, session: &mut VgSession) -> u32
+    ensures { IsSeatCalled session.old.inside session.new.inside result ⊤ (λ before after answered. IsHold before after answered) }
+{
+    let Some(mut there) = session.take(alloc) else {
+        return Outcome::NoEngine.number();
+    };
+    let answered = hold(&mut there);
+    session.put(there);
+    number_of(answered)
+}
+
+/// Ends a hold, where a session has one. Never busy.
+///
+/// Outcomes: as of `session_calls::release`; `NoEngine`.
+#[unsafe(no_mangle)]
+pub extern "C" fn vorgushan_s_release(alloc: Global, session: &mut VgSession) -> u32
+    ensures { IsSeatCalled session.old.inside session.new.inside result ⊤ (λ before after answered. IsRelease before after answered) }
+{
+    let Some(mut there) = session.take(alloc) else {
+        return Outcome::NoEngine.number();
+    };
+    let outcome = release(&mut there);
+    session.put(there);
+    outcome.number()
+}
 
 /// Copies the value that a key's reference has now, or where `at_start` isn't 0 had when the session's transaction began,
 /// and tells how long it is.

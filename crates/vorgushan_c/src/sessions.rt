@@ -207,10 +207,10 @@ fn act_of(act: u32) -> Command
 pub extern "C" fn vorgushan_s_collect(alloc: Global, session: &mut VgSession, limit: usize) -> u32
     ensures { IsSeatCalled session.old.inside session.new.inside result ⊤ (λ before after answered. (after ≡ before) × IfOk answered IsUpkeep) }
 {
-    let Some(there) = session.take(alloc) else {
+    let Some(mut there) = session.take(alloc) else {
         return Outcome::NoEngine.number();
     };
-    let answered = collect(&there, limit);
+    let answered = collect(&mut there, limit);
     session.put(there);
     number_of(answered)
 }
@@ -222,10 +222,10 @@ pub extern "C" fn vorgushan_s_collect(alloc: Global, session: &mut VgSession, li
 pub extern "C" fn vorgushan_s_checkpoint(alloc: Global, session: &mut VgSession) -> u32
     ensures { IsSeatCalled session.old.inside session.new.inside result ⊤ (λ before after answered. (after ≡ before) × IfOk answered IsUpkeep) }
 {
-    let Some(there) = session.take(alloc) else {
+    let Some(mut there) = session.take(alloc) else {
         return Outcome::NoEngine.number();
     };
-    let answered = checkpoint(&there);
+    let answered = checkpoint(&mut there);
     session.put(there);
     number_of(answered)
 }

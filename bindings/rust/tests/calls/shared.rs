@@ -102,6 +102,37 @@ fn what_a_closure_gives_up_is_dropped() -> Result<(), Error> {
 }
 
 #[test]
+fn who_holds_reads_on() -> Result<(), Error> {
+    let (_database, mut one, mut other) = two();
+    let a = key("^A");
+    other.set(&a, "1")?;
+    let read = one.transaction(|t| {
+        let read = t.hold(|session| Ok::<_, Error>((session.get_text(&a)?, session.look_text(&a)?)))??;
+        if t.restarts() == 0 {
+            other.set(&a, "2")?;
+        }
+        Ok::<_, Error>((read, t.get_text(&a)?, t.restarts()))
+    })?;
+    assert_eq!(read, (("2".into(), Some("2".into())), "2".into(), 1));
+    let mut view = one.view()?;
+    other.set(&a, "3")?;
+    assert_eq!(view.hold(|view| view.look_text(&a))??.as_deref(), Some("2"));
+    drop(view);
+    one.hold(|session| session.set(&a, "4"))??;
+    assert_eq!(other.look_text(&a)?.as_deref(), Some("4"));
+    Ok(())
+}
+
+/// A hold ends where its closure panics too.
+#[test]
+fn a_hold_ends_with_its_closure() -> Result<(), Error> {
+    let (_database, mut one, mut other) = two();
+    let hold = std::panic::AssertUnwindSafe(|| one.hold(|_| panic!("on purpose")));
+    assert!(std::panic::catch_unwind(hold).is_err());
+    other.set(&key("^A"), "1")
+}
+
+#[test]
 fn a_view_stays() -> Result<(), Error> {
     let (_database, mut one, mut other) = two();
     let (a, a1) = (key("^A"), key("^A(1)"));

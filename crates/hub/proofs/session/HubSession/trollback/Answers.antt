@@ -1,4 +1,4 @@
-use Rattle.std.proofs.Common.{sym, ap, ◌∙◌}
+use Rattle.std.proofs.Common.{sym, ◌∙◌}
 use Rattle.shared_engine.specs.laws.Prefixes.{begins_itself}
 use Rattle.shared_engine.specs.laws.Told.{rolled_free}
 use Rattle.hub.proofs.session.HubSession.trollback.Goals as goal
@@ -6,3 +6,6 @@ use Rattle.hub.proofs.session.HubSession.trollback.Goals as goal
 pub returns-clause-done : goal.returns-clause-done
 returns-clause-done c =
     let old = c.args.self.now.held in (old.seen, begins_itself old.seen, rolled_free old c.rollback_free.new.self.held (sym c.took_lock.ensures ∙ c.if-took_lock.false) c.rollback_free.ensures.ended)
+
+pub returns-then-took_lock-clause-done : goal.returns-then-took_lock-clause-done
+returns-then-took_lock-clause-done c = rw (← c.self.view_is) c.rolled_back-done.ensures.done
