@@ -18,12 +18,12 @@ use Rattle.script_run.specs.laws.Lines.{last_line}
 use Rattle.script_run.specs.laws.Cut.{joined_line, has_no_end-append, no_end, end_of}
 use Rattle.script_run.specs.Output.{Answer, halts_of, text_of, noted, ending}
 use Rattle.script_run.specs.laws.Outcomes.{noted-then}
-use Rattle.live_server.specs.Live.{Act, all_left_by, AreInTurn, answers_in, answered_of, lines_with, waiting_in, open_by, left_at_end, Wrote, IsBegun}
+use Rattle.live_server.specs.Live.{Act, all_left_by, AreInTurn, AreLast, IsNext, answers_in, answered_of, lines_with, waiting_in, open_by, left_at_end, Wrote, IsBegun}
 use Rattle.live_server.specs.Desks.{DeskShown, desk_of, queued, first_of, waiting_at}
-use Rattle.live_server.specs.Runs.{Follow, Ran, Broke, RanFront, BrokeFront, halted_after, RanEnd, BrokeEnd, IsNew, HasTaken, HasBrokenOff}
+use Rattle.live_server.specs.Runs.{Follow, RanAt, BrokeAt, Ran, Broke, Settled, Unsettled, none_over, RanFront, BrokeFront, halted_after, RanEnd, BrokeEnd, IsNew, HasTaken, HasBrokenOff}
 use Rattle.live_server.specs.declared.live.Live.{Live}
-use Rattle.live_server.proofs.Acts.{left-append, answers-append, lines-append, text-append, waiting-append, open-append}
-use Rattle.live_server.proofs.Steps.{nothing_begun, Follow-then, Ran-then, Broke-then, Broke-after, Ran-and-none, Broke-and-none, Ran-none, Ran-passed-on}
+use Rattle.live_server.proofs.Acts.{left-append, answers-append, lines-append, text-append, waiting-append, open-append, last-behind, last-none, last-same}
+use Rattle.live_server.proofs.Steps.{nothing_begun, next_more, next_is, Follow-then, Ran-then, Broke-then, Broke-after, Ran-and-none, Broke-and-none, Ran-none, Ran-passed-on, Ran-so-far, Broke-so-far, Settled-then, Unsettled-then}
 
 -- ---- what is gathered is written
 
@@ -148,18 +148,27 @@ ended_follow ls acts s old new none h = record {
   of_lines = λ who. ap (λ (l : List (List ℕ)). answered_of who acts ++ l) (sym (none_queued new none who)) ∙ h.of_lines who;
 }
 
-halted_nodes : (ls : List (List ℕ)) (a b : Live) (m : Database) (p q : Option (List ℕ)) (h : Ran ls a b p q) → m ≡ (after_units (run_of (halts_of b.script.jobs) b.script.core.machine).units initial).map → m ≡ (after_units (halted_after h.acts a).units initial).map
+halted_nodes : (ls : List (List ℕ)) (a b : Live) (m : Database) (p q : Option (List ℕ)) (h : RanAt true ls a b p q) → m ≡ (after_units (run_of (halts_of b.script.jobs) b.script.core.machine).units initial).map → m ≡ (after_units (halted_after h.acts a).units initial).map
 halted_nodes ls a b m p q h e = e ∙ (λ i. (after_units (run_of (halts_of (h.jobs i)) (h.machine i)).units initial).map)
 
-halted_good : (ls : List (List ℕ)) (a b : Live) (p q : Option (List ℕ)) (h : Ran ls a b p q) → IsGood a.script.core.machine → IsGood (halted_after h.acts a)
+halted_good : (ls : List (List ℕ)) (a b : Live) (p q : Option (List ℕ)) (h : RanAt true ls a b p q) → IsGood a.script.core.machine → IsGood (halted_after h.acts a)
 halted_good ls a b p q h l = good_run (halts_of (open_by h.acts a.script.jobs)) (all_left_by h.acts a.script.core.machine) (subst IsGood h.machine (h.good l))
 
+-- each job that was halted has no line left
+ended_last : (desks : List DeskShown) → ((job : ℕ) → (desk_of desks job).lines ≡ []) → (jobs : List ℕ) (acts : List Act) → AreLast (λ who. queued who desks) jobs acts → AreLast (λ who. []) jobs acts
+ended_last desks none jobs acts h = last-same (λ who. []) (λ who. queued who desks) jobs acts (λ job. sym (none job)) h
+
+-- the lines came, and all that waited was done
+pub all_done : (ls : List (List ℕ)) (a b c : Live) (p q r : Option (List ℕ)) → Ran ls a b p q → Settled b c q r → RanAt true ls a c p r
+all_done ls a b c p q r h k = Settled-then ls a b c p q r (Ran-so-far ls a b p q h) k
+
 -- the lines came, nothing waits, and the ending was written
-pub ended : (listed : Bool) (ls : List (List ℕ)) (a b c : Live) (m : Database) (p q r : Option (List ℕ)) → Ran ls a b p q → ((job : ℕ) → (desk_of b.desks job).lines ≡ []) → m ≡ (after_units (run_of (halts_of b.script.jobs) b.script.core.machine).units initial).map
+pub ended : (listed : Bool) (ls : List (List ℕ)) (a b c : Live) (m : Database) (p q r : Option (List ℕ)) → RanAt true ls a b p q → ((job : ℕ) → (desk_of b.desks job).lines ≡ []) → m ≡ (after_units (run_of (halts_of b.script.jobs) b.script.core.machine).units initial).map
     → Appends q r (b.script.out.items ++ ending listed m) → c.script.outcome ≡ b.script.outcome → RanEnd listed ls a c p r
 ended listed ls a b c m p q r h none e w d = record {
   acts = h.acts;
   follow = ended_follow ls h.acts a.script.core.machine a.desks b.desks none h.follow;
+  last = ended_last b.desks none a.script.jobs h.acts h.halts;
   waits = λ who. h.waits who ∙ none_waiting b.desks none who;
   outcome = d ∙ h.outcome;
   good = halted_good ls a b p q h;
@@ -168,28 +177,40 @@ ended listed ls a b c m p q r h none e w d = record {
 }
 
 -- or a beginning of it
-pub broke_ending : (listed : Bool) (ls : List (List ℕ)) (a b : Live) (m : Database) (p q r : Option (List ℕ)) → Ran ls a b p q → ((job : ℕ) → (desk_of b.desks job).lines ≡ []) → m ≡ (after_units (run_of (halts_of b.script.jobs) b.script.core.machine).units initial).map
+pub broke_ending : (listed : Bool) (ls : List (List ℕ)) (a b : Live) (m : Database) (p q r : Option (List ℕ)) → RanAt true ls a b p q → ((job : ℕ) → (desk_of b.desks job).lines ≡ []) → m ≡ (after_units (run_of (halts_of b.script.jobs) b.script.core.machine).units initial).map
     → WritesBeginning q r (b.script.out.items ++ ending listed m) → BrokeEnd listed ls a p r
 broke_ending listed ls a b m p q r h none e w = record {
   acts = h.acts;
   left = λ who. [];
   behind = ending listed (after_units (halted_after h.acts a).units initial).map;
   follow = ended_follow ls h.acts a.script.core.machine a.desks b.desks none h.follow;
+  last = ended_last b.desks none a.script.jobs h.acts h.halts;
+  waits = λ who. inl (h.waits who ∙ none_waiting b.desks none who);
   front = inr ((λ who. refl), refl);
   begun = subst (λ (d : Database). WritesBeginning p r ((a.script.out.items ++ text_of (answers_in h.acts)) ++ ending listed d)) (halted_nodes ls a b m p q h e)
       (Passes-begun p q r _ _ (Passes-more p q (a.script.out.items ++ text_of (answers_in h.acts)) b.script.out.items (ending listed m) h.passes) w);
 }
 
 -- it broke off before
-abbrev pub broke_before_end : (listed : Bool) (ls : List (List ℕ)) (a : Live) (p r : Option (List ℕ)) → Broke ls a p r → BrokeEnd listed ls a p r
+abbrev pub broke_before_end : (listed : Bool) (ls : List (List ℕ)) (a : Live) (p r : Option (List ℕ)) → BrokeAt true ls a p r → BrokeEnd listed ls a p r
 broke_before_end listed ls a p r h = record {
   acts = h.acts;
   left = h.left;
   behind = [];
   follow = h.follow;
+  last = h.halts;
+  waits = h.waits;
   front = inl refl;
   begun = subst (WritesBeginning p r) (sym (append-nil (a.script.out.items ++ text_of (answers_in h.acts)))) h.begun;
 }
+
+-- as the last line came
+abbrev pub broke_in_line : (listed : Bool) (ls : List (List ℕ)) (a : Live) (p r : Option (List ℕ)) → Broke ls a p r → BrokeEnd listed ls a p r
+broke_in_line listed ls a p r h = broke_before_end listed ls a p r (Broke-so-far ls a p r h)
+
+-- or after it
+pub broke_in_wait : (listed : Bool) (ls : List (List ℕ)) (a b : Live) (p q r : Option (List ℕ)) → Ran ls a b p q → Unsettled b q r → BrokeEnd listed ls a p r
+broke_in_wait listed ls a b p q r h k = broke_before_end listed ls a p r (Unsettled-then ls a b p q r (Ran-so-far ls a b p q h) k)
 
 -- ---- the end after all lines
 
@@ -199,10 +220,15 @@ same_end ls a b p q h acts =
     let machine : all_left_by acts b.script.core.machine ≡ all_left_by (h.acts ++ acts) a.script.core.machine = ap (all_left_by acts) h.machine ∙ sym (left-append h.acts acts a.script.core.machine) in
     λ i. run_of (halts_of (jobs i)) (machine i)
 
+-- no job was halted before
+last_end : (left : Option ℕ → List (List ℕ)) (ls : List (List ℕ)) (a b : Live) (p q : Option (List ℕ)) (h : Ran ls a b p q) (acts : List Act) → AreLast left b.script.jobs acts → AreLast left a.script.jobs (h.acts ++ acts)
+last_end left ls a b p q h acts k = last-behind left a.script.jobs h.acts acts h.halts (subst (λ (jobs : List ℕ). AreLast left jobs acts) h.jobs k)
+
 pub RanEnd-then : (listed : Bool) (ls ms : List (List ℕ)) (a b c : Live) (p q r : Option (List ℕ)) → Ran ls a b p q → RanEnd listed ms b c q r → RanEnd listed (ls ++ ms) a c p r
 RanEnd-then listed ls ms a b c p q r h k = record {
   acts = h.acts ++ k.acts;
   follow = Follow-then ls ms h.acts k.acts a.script.core.machine b.script.core.machine a.desks b.desks (λ who. []) h.follow h.waits h.machine k.follow;
+  last = last_end (λ who. []) ls a b p q h k.acts k.last;
   waits = λ who. waiting-append who (waiting_at who a.desks) h.acts k.acts ∙ ap (λ (w : Option (List ℕ)). waiting_in who w k.acts) (h.waits who) ∙ k.waits who;
   outcome = k.outcome ∙ ap (noted (answers_in k.acts)) h.outcome ∙ noted-then (answers_in h.acts) (answers_in k.acts) a.script.outcome ∙ ap (λ (answers : List Answer). noted answers a.script.outcome) (sym (answers-append h.acts k.acts));
   good = λ l. subst IsGood (same_end ls a b p q h k.acts) (k.good (h.good l));
@@ -226,6 +252,9 @@ BrokeEnd-then listed ls ms a b p q r h k = record {
   left = k.left;
   behind = k.behind;
   follow = Follow-then ls ms h.acts k.acts a.script.core.machine b.script.core.machine a.desks b.desks k.left h.follow h.waits h.machine k.follow;
+  last = last_end k.left ls a b p q h k.acts k.last;
+  waits = λ who. next_is (waiting_in who (waiting_at who a.desks) (h.acts ++ k.acts)) (waiting_in who (waiting_at who b.desks) k.acts) (k.left who)
+      (waiting-append who (waiting_at who a.desks) h.acts k.acts ∙ ap (λ (w : Option (List ℕ)). waiting_in who w k.acts) (h.waits who)) (k.waits who);
   front = broke_front listed k.left k.behind (halted_after k.acts b) (halted_after (h.acts ++ k.acts) a) (same_end ls a b p q h k.acts) k.front;
   begun =
       subst (λ (ts : List ℕ). WritesBeginning p r (ts ++ k.behind)) (text-append a.script.out.items h.acts k.acts)
@@ -245,6 +274,9 @@ new_waiting a new who = none_waiting a.desks (λ job. ap (λ (d : DeskShown). d.
 new_turns : (a : Live) (acts : List Act) → IsNew a → (who : Option ℕ) → AreInTurn who (waiting_at who a.desks) acts → AreInTurn who None acts
 new_turns a acts new who h = subst (λ (w : Option (List ℕ)). AreInTurn who w acts) (new_waiting a new who) h
 
+new_last : (a : Live) (left : Option ℕ → List (List ℕ)) (acts : List Act) → IsNew a → AreLast left a.script.jobs acts → AreLast left [] acts
+new_last a left acts new h = subst (λ (jobs : List ℕ). AreLast left jobs acts) new.jobs h
+
 -- all the lines of what was read
 all_lines : (bytes begun : List ℕ) (lines : List (List ℕ)) → ((more : List ℕ) → lines_of (bytes ++ more) ≡ lines ++ lines_of (begun ++ more)) → has_no_end begun ≡ true → lines_of bytes ≡ lines ++ nonempty_line begun
 all_lines bytes begun lines split whole = ap lines_of (sym (append-nil bytes)) ∙ split [] ∙ ap (λ (t : List ℕ). lines ++ lines_of t) (append-nil begun) ∙ ap (λ (l : List (List ℕ)). lines ++ l) (last_line begun whole)
@@ -259,6 +291,7 @@ wrote_all listed bytes ls a c p r new e k =
         acts = k.acts;
         each = k.follow.each;
         in_turn = λ who. new_turns a k.acts new who (k.follow.in_turn who);
+        last = new_last a (λ who. []) k.acts new k.last;
         none_waits = λ who. ap (λ (w : Option (List ℕ)). waiting_in who w k.acts) (sym (new_waiting a new who)) ∙ k.waits who;
         of_lines = λ who. sym (append-nil (answered_of who k.acts)) ∙ k.follow.of_lines who ∙ ap (λ (q : List (List ℕ)). q ++ lines_with who ls) (new_queued a new who) ∙ ap (lines_with who) (sym e);
         legal = (subst IsGood same (k.good new.good)).legal;
@@ -275,8 +308,9 @@ pub wrote : (listed : Bool) (bytes begun : List ℕ) (a b c : Live) (p q r : Opt
 wrote listed bytes begun a b c p q r new h whole k =
     wrote_all listed bytes (h.lines ++ nonempty_line begun) a c p r new (all_lines bytes begun h.lines h.split whole) (RanEnd-then listed h.lines (nonempty_line begun) a b c p q r h.ran k)
 
-begun_of : (listed : Bool) (bytes : List ℕ) (ls unread : List (List ℕ)) (a : Live) (p r : Option (List ℕ)) (k : BrokeEnd listed ls a p r) → IsNew a → lines_of bytes ≡ ls ++ unread → (k.behind ≡ []) ⊎ (unread ≡ []) → IsBegun a.script.core.machine listed bytes p r
-begun_of listed bytes ls unread a p r k new e whole =
+begun_of : (listed : Bool) (bytes : List ℕ) (ls unread : List (List ℕ)) (a : Live) (p r : Option (List ℕ)) (k : BrokeEnd listed ls a p r) → IsNew a → lines_of bytes ≡ ls ++ unread → (k.behind ≡ []) ⊎ (unread ≡ []) → (none_over k.acts ≡ true) ⊎ (unread ≡ [])
+    → IsBegun a.script.core.machine listed bytes p r
+begun_of listed bytes ls unread a p r k new e whole none =
     let s = a.script.core.machine in
     let same : halted_after k.acts a ≡ left_at_end k.acts [] s = ap (λ (jobs : List ℕ). left_at_end k.acts jobs s) new.jobs in
     record {
@@ -285,6 +319,9 @@ begun_of listed bytes ls unread a p r k new e whole =
       behind = k.behind;
       each = k.follow.each;
       in_turn = λ who. new_turns a k.acts new who (k.follow.in_turn who);
+      waits = λ who. next_more (waiting_in who None k.acts) (k.left who) (lines_with who unread) (next_is (waiting_in who None k.acts) (waiting_in who (waiting_at who a.desks) k.acts) (k.left who)
+          (ap (λ (w : Option (List ℕ)). waiting_in who w k.acts) (sym (new_waiting a new who))) (k.waits who));
+      last = new_last a (λ who. k.left who ++ lines_with who unread) k.acts new (last none);
       of_lines = λ who.
           sym (append_assoc (answered_of who k.acts) (k.left who) (lines_with who unread)) ∙ ap (λ (l : List (List ℕ)). l ++ lines_with who unread) (k.follow.of_lines who ∙ ap (λ (q : List (List ℕ)). q ++ lines_with who ls) (new_queued a new who))
           ∙ sym (lines-append who ls unread) ∙ ap (lines_with who) (sym e);
@@ -301,17 +338,22 @@ begun_of listed bytes ls unread a p r k new e whole =
       some.1 ∙ ap (λ (jobs : List ℕ). ending listed (after_units (left_at_end k.acts jobs a.script.core.machine).units initial).map) new.jobs,
     )
 
+    last : (none_over k.acts ≡ true) ⊎ (unread ≡ []) → AreLast (λ who. k.left who ++ lines_with who unread) a.script.jobs k.acts
+    last (inl halts) = last-none (λ who. k.left who ++ lines_with who unread) a.script.jobs k.acts halts
+    last (inr all) = last-same (λ who. k.left who ++ lines_with who unread) k.left a.script.jobs k.acts
+        (λ job. ap (λ (l : List (List ℕ)). k.left (Some job) ++ lines_with (Some job) l) all ∙ append-nil (k.left (Some job))) k.last
+
 -- a beginning of the replies was written
 pub begun_front : (listed : Bool) (bytes : List ℕ) (a : Live) (p r : Option (List ℕ)) → IsNew a → BrokeFront bytes a p r → IsBegun a.script.core.machine listed bytes p r
 begun_front listed bytes a p r new h =
-    begun_of listed bytes h.lines (lines_of h.rest) a p r (broke_before_end listed h.lines a p r h.broke) new
-    (ap lines_of (sym (append-nil bytes)) ∙ h.split [] ∙ ap (λ (t : List ℕ). h.lines ++ lines_of t) (append-nil h.rest)) (inl refl)
+    begun_of listed bytes h.lines (lines_of h.rest) a p r (broke_in_line listed h.lines a p r h.broke) new
+    (ap lines_of (sym (append-nil bytes)) ∙ h.split [] ∙ ap (λ (t : List ℕ). h.lines ++ lines_of t) (append-nil h.rest)) (inl refl) (inl h.broke.halts)
 
 -- or of the whole text
 pub begun_end : (listed : Bool) (bytes begun : List ℕ) (a b : Live) (p q r : Option (List ℕ)) → IsNew a → RanFront bytes begun a b p q → has_no_end begun ≡ true → BrokeEnd listed (nonempty_line begun) b q r → IsBegun a.script.core.machine listed bytes p r
 begun_end listed bytes begun a b p q r new h whole k =
     begun_of listed bytes (h.lines ++ nonempty_line begun) [] a p r (BrokeEnd-then listed h.lines (nonempty_line begun) a b p q r h.ran k) new
-    (all_lines bytes begun h.lines h.split whole ∙ sym (append-nil (h.lines ++ nonempty_line begun))) (inr refl)
+    (all_lines bytes begun h.lines h.split whole ∙ sym (append-nil (h.lines ++ nonempty_line begun))) (inr refl) (inr refl)
 
 -- ---- what comes
 

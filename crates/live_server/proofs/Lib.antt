@@ -5,3 +5,4 @@ pub mod Ends
 pub mod Owned
 pub mod Begins
 pub mod Relays
+pub mod Halts

@@ -13,7 +13,7 @@ use Rattle.listing.specs.Bytes.{WritesBeginning, WritesFront}
 use Rattle.listing.specs.laws.Bytes.{Appends-nothing, WritesBeginning-all, WritesBeginning-longer, Passes-none, Passes-more, Passes-then, Passes-begun}
 use Rattle.script.specs.Line.{reading_of, job_of_line}
 use Rattle.script.specs.Text.{reply_text}
-use Rattle.script_run.specs.OpenJobs.{open_after, without_job}
+use Rattle.script_run.specs.OpenJobs.{is_open, open_after, without_job}
 use Rattle.script_run.specs.Output.{Answer, IsAnswer, accepted_job, ends_session, text_of, noted}
 use Rattle.refusal.specs.declared.Refusal.{Refusal}
 use Rattle.serial.specs.Answers.{told_by}
@@ -22,15 +22,34 @@ use Rattle.script_run.specs.Replies.{IsAnswered, IsGathered, IsLost, IsLostAs}
 use Rattle.script_run.specs.laws.Good.{answered-good}
 use Rattle.script_run.specs.laws.Outcomes.{noted-none, noted-one, noted-then}
 use Rattle.script_run.specs.declared.answers.Script.{Script}
-use Rattle.live_server.specs.Live.{Act, answered, kept_off, over, all_left_by, is_same, lines_with, answers_in, answered_of, waiting_in, AreInTurn, open_by}
+use Rattle.live_server.specs.Live.{Act, answered, kept_off, over, all_left_by, is_same, lines_with, answers_in, answered_of, waiting_in, AreInTurn, open_by, AreLast, IsNext}
 use Rattle.live_server.specs.Desks.{DeskShown, desk_of, HasChangedAt, pushed, passed, tried, queued, first_of, first_tried, waiting_at}
-use Rattle.live_server.specs.Runs.{Follow, Ran, Broke, Lacked, IsIdle, IsFair, IsDone, IsKeptOff, IsKept, HasCome, HasTried, IsLostFairly}
+use Rattle.live_server.specs.Runs.{Follow, HaveHalted, RanAt, BrokeAt, Ran, Broke, Settled, Unsettled, Lacked, IsIdle, IsFair, IsDone, IsKeptOff, IsKept, HasCome, HasTried, IsLostFairly}
 use Rattle.live_server.specs.declared.live.Live.{Live}
-use Rattle.live_server.proofs.Acts.{left-append, acts-append, answers-append, answered-append, lines-append, text-append, waiting-append, turns-append, open-append, same_is}
+use Rattle.live_server.proofs.Acts.{left-append, acts-append, answers-append, answered-append, lines-append, text-append, waiting-append, turns-append, open-append, none_over-append, last-none, last-append, same_is}
 
 -- nothing was written
 pub nothing_begun : (a : Option (List ℕ)) (x : List ℕ) → WritesBeginning a a x
 nothing_begun a x = WritesBeginning-longer a a [] x (WritesBeginning-all a a [] (Appends-nothing a))
+
+-- ---- what waits is the first of what is left
+
+pub next_waits : (who : Option ℕ) (desks : List DeskShown) → IsNext (waiting_at who desks) (queued who desks)
+next_waits None desks = inl refl
+next_waits (Some job) desks = at (desk_of desks job).was_tried (desk_of desks job).lines
+  where
+    at : (b : Bool) (lines : List (List ℕ)) → IsNext (cond b (first_of lines) None) lines
+    at true lines = inr refl
+    at false lines = inl refl
+
+-- also where others are left behind it
+pub next_more : (waiting : Option (List ℕ)) (lines more : List (List ℕ)) → IsNext waiting lines → IsNext waiting (lines ++ more)
+next_more waiting lines more (inl none) = inl none
+next_more waiting [] more (inr first) = inl first
+next_more waiting (line ∷ lines) more (inr first) = inr first
+
+pub next_is : (v w : Option (List ℕ)) (lines : List (List ℕ)) → v ≡ w → IsNext w lines → IsNext v lines
+next_is v w lines e h = subst (λ (x : Option (List ℕ)). IsNext x lines) (sym e) h
 
 -- ---- one after the other
 
@@ -47,10 +66,11 @@ Follow-then ls ms xs ys s t old mid left h waits machine k = record {
       ∙ append_assoc (queued who old) (lines_with who ls) (lines_with who ms) ∙ ap (λ (l : List (List ℕ)). queued who old ++ l) (sym (lines-append who ls ms));
 }
 
-pub Ran-then : (ls ms : List (List ℕ)) (a b c : Live) (p q r : Option (List ℕ)) → Ran ls a b p q → Ran ms b c q r → Ran (ls ++ ms) a c p r
-Ran-then ls ms a b c p q r h k = record {
+ran_then : (first ended : Bool) (ls ms : List (List ℕ)) (a b c : Live) (p q r : Option (List ℕ)) (h : RanAt first ls a b p q) (k : RanAt ended ms b c q r) → HaveHalted ended (λ who. queued who c.desks) a.script.jobs (h.acts ++ k.acts) → RanAt ended (ls ++ ms) a c p r
+ran_then first ended ls ms a b c p q r h k halts = record {
   acts = h.acts ++ k.acts;
   follow = Follow-then ls ms h.acts k.acts a.script.core.machine b.script.core.machine a.desks b.desks (λ who. queued who c.desks) h.follow h.waits h.machine k.follow;
+  halts = halts;
   waits = λ who. waiting-append who (waiting_at who a.desks) h.acts k.acts ∙ ap (λ (w : Option (List ℕ)). waiting_in who w k.acts) (h.waits who) ∙ k.waits who;
   machine = k.machine ∙ ap (all_left_by k.acts) h.machine ∙ sym (left-append h.acts k.acts a.script.core.machine);
   jobs = k.jobs ∙ ap (open_by k.acts) h.jobs ∙ sym (open-append h.acts k.acts a.script.jobs);
@@ -61,16 +81,25 @@ Ran-then ls ms a b c p q r h k = record {
       (Passes-more p q (a.script.out.items ++ text_of (answers_in h.acts)) b.script.out.items (text_of (answers_in k.acts)) h.passes) k.passes);
 }
 
--- lines came, and the run broke off in the next
-pub Broke-then : (ls ms : List (List ℕ)) (a b : Live) (p q r : Option (List ℕ)) → Ran ls a b p q → Broke ms b q r → Broke (ls ++ ms) a p r
-Broke-then ls ms a b p q r h k = record {
+pub Ran-then : (ls ms : List (List ℕ)) (a b c : Live) (p q r : Option (List ℕ)) → Ran ls a b p q → Ran ms b c q r → Ran (ls ++ ms) a c p r
+Ran-then ls ms a b c p q r h k = ran_then false false ls ms a b c p q r h k (none_over-append h.acts k.acts h.halts k.halts)
+
+broke_then : (first ended : Bool) (ls ms : List (List ℕ)) (a b : Live) (p q r : Option (List ℕ)) (h : RanAt first ls a b p q) (k : BrokeAt ended ms b q r) → HaveHalted ended k.left a.script.jobs (h.acts ++ k.acts) → BrokeAt ended (ls ++ ms) a p r
+broke_then first ended ls ms a b p q r h k halts = record {
   acts = h.acts ++ k.acts;
   left = k.left;
   follow = Follow-then ls ms h.acts k.acts a.script.core.machine b.script.core.machine a.desks b.desks k.left h.follow h.waits h.machine k.follow;
+  halts = halts;
+  waits = λ who. next_is (waiting_in who (waiting_at who a.desks) (h.acts ++ k.acts)) (waiting_in who (waiting_at who b.desks) k.acts) (k.left who)
+      (waiting-append who (waiting_at who a.desks) h.acts k.acts ∙ ap (λ (w : Option (List ℕ)). waiting_in who w k.acts) (h.waits who)) (k.waits who);
   begun = subst (WritesBeginning p r) (text-append a.script.out.items h.acts k.acts)
       (Passes-begun p q r ((a.script.out.items ++ text_of (answers_in h.acts)) ++ text_of (answers_in k.acts)) (b.script.out.items ++ text_of (answers_in k.acts))
       (Passes-more p q (a.script.out.items ++ text_of (answers_in h.acts)) b.script.out.items (text_of (answers_in k.acts)) h.passes) k.begun);
 }
+
+-- lines came, and the run broke off in the next
+pub Broke-then : (ls ms : List (List ℕ)) (a b : Live) (p q r : Option (List ℕ)) → Ran ls a b p q → Broke ms b q r → Broke (ls ++ ms) a p r
+Broke-then ls ms a b p q r h k = broke_then false false ls ms a b p q r h k (none_over-append h.acts k.acts h.halts k.halts)
 
 -- lines came, and then the run broke off
 pub Broke-after : (ls : List (List ℕ)) (a b : Live) (p q r : Option (List ℕ)) → Ran ls a b p q → WritesBeginning q r b.script.out.items → Broke ls a p r
@@ -78,6 +107,8 @@ Broke-after ls a b p q r h w = record {
   acts = h.acts;
   left = λ who. queued who b.desks;
   follow = h.follow;
+  halts = h.halts;
+  waits = λ who. next_is (waiting_in who (waiting_at who a.desks) h.acts) (waiting_at who b.desks) (queued who b.desks) (h.waits who) (next_waits who b.desks);
   begun = Passes-begun p q r (a.script.out.items ++ text_of (answers_in h.acts)) b.script.out.items h.passes w;
 }
 
@@ -87,6 +118,8 @@ Broke-at ls a p q w = record {
   acts = [];
   left = λ who. queued who a.desks ++ lines_with who ls;
   follow = record { each = tt; in_turn = λ who. tt; of_lines = λ who. refl };
+  halts = refl;
+  waits = λ who. next_more (waiting_at who a.desks) (queued who a.desks) (lines_with who ls) (next_waits who a.desks);
   begun = WritesBeginning-longer p q a.script.out.items (text_of []) w;
 }
 
@@ -99,6 +132,8 @@ Broke-written ls a b p q h w = let k = h.broke p in record {
   acts = k.acts;
   left = k.left;
   follow = k.follow;
+  halts = k.halts;
+  waits = k.waits;
   begun = WritesBeginning-longer p q a.script.out.items (text_of (answers_in k.acts)) (subst (WritesBeginning p q) h.out w);
 }
 
@@ -112,6 +147,40 @@ Ran-and-none ls a b c p q r h k = subst (λ (l : List (List ℕ)). Ran l a c p r
 pub Broke-and-none : (ls : List (List ℕ)) (a b : Live) (p q r : Option (List ℕ)) → Ran ls a b p q → Broke [] b q r → Broke ls a p r
 Broke-and-none ls a b p q r h k = subst (λ (l : List (List ℕ)). Broke l a p r) (append-nil ls) (Broke-then ls [] a b p q r h k)
 
+-- ---- after all lines
+
+-- no job was halted yet
+pub Ran-so-far : (ls : List (List ℕ)) (a b : Live) (p q : Option (List ℕ)) → Ran ls a b p q → RanAt true ls a b p q
+Ran-so-far ls a b p q h = record {
+  acts = h.acts;
+  follow = h.follow;
+  halts = last-none (λ who. queued who b.desks) a.script.jobs h.acts h.halts;
+  waits = h.waits;
+  machine = h.machine;
+  jobs = h.jobs;
+  outcome = h.outcome;
+  good = h.good;
+  passes = h.passes;
+}
+
+abbrev pub Broke-so-far : (ls : List (List ℕ)) (a : Live) (p q : Option (List ℕ)) → Broke ls a p q → BrokeAt true ls a p q
+Broke-so-far ls a p q h = record { acts = h.acts; left = h.left; follow = h.follow; halts = last-none h.left a.script.jobs h.acts h.halts; waits = h.waits; begun = h.begun }
+
+-- what is answered was left before
+follow_left : (acts : List Act) (s : Machine) (old : List DeskShown) (left : Option ℕ → List (List ℕ)) → Follow [] acts s old left → (job : ℕ) → answered_of (Some job) acts ++ left (Some job) ≡ queued (Some job) old
+follow_left acts s old left h job = h.of_lines (Some job) ∙ append-nil (queued (Some job) old)
+
+last_then : (left : Option ℕ → List (List ℕ)) (ls : List (List ℕ)) (a b : Live) (p q : Option (List ℕ)) (h : RanAt true ls a b p q) (acts : List Act) → Follow [] acts b.script.core.machine b.desks left → AreLast left b.script.jobs acts → AreLast left a.script.jobs (h.acts ++ acts)
+last_then left ls a b p q h acts follow last =
+    last-append left (λ who. queued who b.desks) a.script.jobs h.acts acts (follow_left acts b.script.core.machine b.desks left follow) h.halts (subst (λ (jobs : List ℕ). AreLast left jobs acts) h.jobs last)
+
+pub Settled-then : (ls : List (List ℕ)) (a b c : Live) (p q r : Option (List ℕ)) → RanAt true ls a b p q → Settled b c q r → RanAt true ls a c p r
+Settled-then ls a b c p q r h k =
+    subst (λ (l : List (List ℕ)). RanAt true l a c p r) (append-nil ls) (ran_then true true ls [] a b c p q r h k (last_then (λ who. queued who c.desks) ls a b p q h k.acts k.follow k.halts))
+
+pub Unsettled-then : (ls : List (List ℕ)) (a b : Live) (p q r : Option (List ℕ)) → RanAt true ls a b p q → Unsettled b q r → BrokeAt true ls a p r
+Unsettled-then ls a b p q r h k = subst (λ (l : List (List ℕ)). BrokeAt true l a p r) (append-nil ls) (broke_then true true ls [] a b p q r h k (last_then k.left ls a b p q h k.acts k.follow k.halts))
+
 -- ---- no act
 
 -- nothing came, and of what was gathered a front was written
@@ -119,6 +188,7 @@ pub Ran-passed-on : (a b : Live) (p q : Option (List ℕ)) → b.script.core.mac
 Ran-passed-on a b p q machine jobs outcome desks w = record {
   acts = [];
   follow = record { each = tt; in_turn = λ who. tt; of_lines = λ who. ap (queued who) desks ∙ sym (append-nil (queued who a.desks)) };
+  halts = refl;
   waits = λ who. ap (waiting_at who) (sym desks);
   machine = machine;
   jobs = jobs;
@@ -185,6 +255,7 @@ pub Ran-answered : (line : List ℕ) (a b : Live) (p : Option (List ℕ)) → Is
 Ran-answered line a b p d desks idle = record {
   acts = answered line d.reply ∷ [];
   follow = subst (λ (ds : List DeskShown). Follow (line ∷ []) (answered line d.reply ∷ []) a.script.core.machine a.desks (λ who. queued who ds)) (sym desks) (idle_follow line d.reply a.script.core.machine a.desks d.fair d.gathered.answer idle);
+  halts = refl;
   waits = λ who. idle_waits (is_same who (job_of_line line)) (waiting_at who a.desks) (λ same. idle_wait who (job_of_line line) a.desks idle same) ∙ ap (waiting_at who) (sym desks);
   machine = d.gathered.machine;
   jobs = d.gathered.jobs;
@@ -199,6 +270,9 @@ Broke-answered line a b p l idle = record {
   acts = answered line l.reply ∷ [];
   left = λ who. queued who a.desks;
   follow = idle_follow line l.reply a.script.core.machine a.desks l.fair l.answer idle;
+  halts = refl;
+  waits = λ who. next_is (cond (is_same who (job_of_line line)) None (waiting_at who a.desks)) (waiting_at who a.desks) (queued who a.desks)
+      (idle_waits (is_same who (job_of_line line)) (waiting_at who a.desks) (λ same. idle_wait who (job_of_line line) a.desks idle same)) (next_waits who a.desks);
   begun = nothing_begun p (a.script.out.items ++ text_of ((line, l.reply) ∷ []));
 }
 
@@ -208,7 +282,7 @@ Lacked-answered line a b l idle = record { broke = λ p. Broke-answered line a b
 -- ---- a job's first line
 
 -- a list that begins so
-first_rest : (lines : List (List ℕ)) (line : List ℕ) → first_of lines ≡ Some line → lines ≡ line ∷ drop 1 lines
+pub first_rest : (lines : List (List ℕ)) (line : List ℕ) → first_of lines ≡ Some line → lines ≡ line ∷ drop 1 lines
 first_rest [] line e = absurd cc
 first_rest (l ∷ lines) line e = ap (λ (x : List ℕ). x ∷ lines) (ap (or_else l) e)
   where
@@ -276,6 +350,7 @@ Ran-first line job a b p d change owner first = record {
     in_turn = λ who. (first_follow line d.reply a.script.core.machine job a.desks d.fair d.gathered.answer owner first).in_turn who;
     of_lines = λ who. ap (λ (l : List (List ℕ)). answered_of who (answered line d.reply ∷ []) ++ l) (passed_lines job a.desks b.desks change who) ∙ (first_follow line d.reply a.script.core.machine job a.desks d.fair d.gathered.answer owner first).of_lines who;
   };
+  halts = refl;
   waits = λ who. ap (λ (o : Option ℕ). cond (is_same who o) None (waiting_at who a.desks)) owner ∙ passed_waits job a.desks b.desks change who;
   machine = d.gathered.machine;
   jobs = d.gathered.jobs;
@@ -284,11 +359,22 @@ Ran-first line job a b p d change owner first = record {
   passes = subst (λ (ts : List ℕ). WritesFront p p ts b.script.out.items) (one-text line d.reply a.script.out.items b.script.out.items d.gathered.text) (Passes-none p b.script.out.items);
 }
 
+first_next : (job : ℕ) (desks : List DeskShown) (who : Option ℕ) → IsNext (cond (is_same who (Some job)) None (waiting_at who desks)) (left_after job desks who)
+first_next job desks None = inl refl
+first_next job desks (Some other) = at (eqb other job)
+  where
+    at : (b : Bool) → IsNext (cond b None (waiting_at (Some other) desks)) (cond b (drop 1 (desk_of desks other).lines) (desk_of desks other).lines)
+    at true = inl refl
+    at false = next_waits (Some other) desks
+
 Broke-first : (line : List ℕ) (job : ℕ) (a b : Live) (p : Option (List ℕ)) → IsLostFairly line a.script.core.machine a.script.out.items b.script → job_of_line line ≡ Some job → first_of (desk_of a.desks job).lines ≡ Some line → Broke [] a p p
 Broke-first line job a b p l owner first = record {
   acts = answered line l.reply ∷ [];
   left = left_after job a.desks;
   follow = first_follow line l.reply a.script.core.machine job a.desks l.fair l.answer owner first;
+  halts = refl;
+  waits = λ who. next_is (cond (is_same who (job_of_line line)) None (waiting_at who a.desks)) (cond (is_same who (Some job)) None (waiting_at who a.desks)) (left_after job a.desks who)
+      (ap (λ (o : Option ℕ). cond (is_same who o) None (waiting_at who a.desks)) owner) (first_next job a.desks who);
   begun = nothing_begun p (a.script.out.items ++ text_of ((line, l.reply) ∷ []));
 }
 
@@ -368,6 +454,7 @@ Ran-kept-off line job a b p k change owner first fresh = record {
     in_turn = λ who. ((λ same. not_waiting job a.desks fresh who (subst (λ (o : Option ℕ). is_same who o ≡ true) owner same)), tt);
     of_lines = λ who. same_lines job a.desks b.desks change who ∙ sym (append-nil (queued who a.desks));
   };
+  halts = refl;
   waits = λ who. ap (λ (o : Option ℕ). cond (is_same who o) (Some line) (waiting_at who a.desks)) owner ∙ tried_waits line job a.desks b.desks change first who;
   machine = k.machine;
   jobs = k.jobs;
@@ -376,9 +463,17 @@ Ran-kept-off line job a b p k change owner first fresh = record {
   passes = subst (λ (ts : List ℕ). WritesFront p p ts b.script.out.items) (k.text ∙ sym (append-nil a.script.out.items)) (Passes-none p b.script.out.items);
 }
 
+off_next : (line : List ℕ) (job : ℕ) (desks : List DeskShown) → first_of (desk_of desks job).lines ≡ Some line → (who : Option ℕ) → IsNext (cond (is_same who (Some job)) (Some line) (waiting_at who desks)) (queued who desks)
+off_next line job desks first None = inl refl
+off_next line job desks first (Some other) = at (eqb other job) refl
+  where
+    at : (b : Bool) → eqb other job ≡ b → IsNext (cond b (Some line) (waiting_at (Some other) desks)) (queued (Some other) desks)
+    at true e = let same = same_is (Some other) (Some job) e in inr (sym (subst (λ (o : Option ℕ). first_of (queued o desks) ≡ Some line) (sym same) first))
+    at false e = next_waits (Some other) desks
+
 -- and there was no memory to wait
-Broke-kept-off : (line : List ℕ) (job : ℕ) (a b : Live) (p : Option (List ℕ)) → IsKeptOff line a.script.core.machine a.script.out.items a.script.outcome a.script.jobs b.script → job_of_line line ≡ Some job → (desk_of a.desks job).was_tried ≡ false → Broke [] a p p
-Broke-kept-off line job a b p k owner fresh = record {
+Broke-kept-off : (line : List ℕ) (job : ℕ) (a b : Live) (p : Option (List ℕ)) → IsKeptOff line a.script.core.machine a.script.out.items a.script.outcome a.script.jobs b.script → job_of_line line ≡ Some job → first_of (desk_of a.desks job).lines ≡ Some line → (desk_of a.desks job).was_tried ≡ false → Broke [] a p p
+Broke-kept-off line job a b p k owner first fresh = record {
   acts = kept_off line ∷ [];
   left = λ who. queued who a.desks;
   follow = record {
@@ -386,11 +481,14 @@ Broke-kept-off line job a b p k owner fresh = record {
     in_turn = λ who. ((λ same. not_waiting job a.desks fresh who (subst (λ (o : Option ℕ). is_same who o ≡ true) owner same)), tt);
     of_lines = λ who. sym (append-nil (queued who a.desks));
   };
+  halts = refl;
+  waits = λ who. next_is (cond (is_same who (job_of_line line)) (Some line) (waiting_at who a.desks)) (cond (is_same who (Some job)) (Some line) (waiting_at who a.desks)) (queued who a.desks)
+      (ap (λ (o : Option ℕ). cond (is_same who o) (Some line) (waiting_at who a.desks)) owner) (off_next line job a.desks first who);
   begun = nothing_begun p (a.script.out.items ++ text_of []);
 }
 
-pub Lacked-kept-off : (line : List ℕ) (job : ℕ) (a b : Live) → IsKeptOff line a.script.core.machine a.script.out.items a.script.outcome a.script.jobs b.script → job_of_line line ≡ Some job → (desk_of a.desks job).was_tried ≡ false → Lacked [] a b
-Lacked-kept-off line job a b k owner fresh = record { broke = λ p. Broke-kept-off line job a b p k owner fresh; out = k.text }
+pub Lacked-kept-off : (line : List ℕ) (job : ℕ) (a b : Live) → IsKeptOff line a.script.core.machine a.script.out.items a.script.outcome a.script.jobs b.script → job_of_line line ≡ Some job → first_of (desk_of a.desks job).lines ≡ Some line → (desk_of a.desks job).was_tried ≡ false → Lacked [] a b
+Lacked-kept-off line job a b k owner first fresh = record { broke = λ p. Broke-kept-off line job a b p k owner first fresh; out = k.text }
 
 -- ---- a line comes behind others
 
@@ -426,6 +524,7 @@ Ran-pushed line job a b p change owner machine out jobs outcome = record {
     in_turn = λ who. tt;
     of_lines = λ who. pushed_queue line job a.desks b.desks change who ∙ ap (λ (o : Option ℕ). queued who a.desks ++ cond (is_same who o) (line ∷ []) []) (sym owner);
   };
+  halts = refl;
   waits = λ who. pushed_waits line job a.desks b.desks change who;
   machine = machine;
   jobs = jobs;
@@ -437,14 +536,15 @@ Ran-pushed line job a b p change owner machine out jobs outcome = record {
 -- ---- a job is halted
 
 pub Ran-halted : (job : ℕ) (a b : Live) (p : Option (List ℕ)) → IsReply job Halt Finished a.script.core.machine → b.script.core.machine ≡ told job Halt Finished a.script.core.machine → b.script.out.items ≡ a.script.out.items → b.script.jobs ≡ without_job job a.script.jobs → b.script.outcome ≡ a.script.outcome
-    → b.desks ≡ a.desks → (desk_of a.desks job).lines ≡ [] → Ran [] a b p p
-Ran-halted job a b p is machine out jobs outcome desks idle = record {
+    → b.desks ≡ a.desks → is_open job a.script.jobs ≡ true → (desk_of a.desks job).lines ≡ [] → Settled a b p p
+Ran-halted job a b p is machine out jobs outcome desks among idle = record {
   acts = over job ∷ [];
   follow = record {
     each = (is, tt);
     in_turn = λ who. ((λ same. idle_wait who (Some job) a.desks idle same), tt);
     of_lines = λ who. ap (queued who) desks ∙ sym (append-nil (queued who a.desks));
   };
+  halts = ((among, ap (queued (Some job)) desks ∙ idle), tt);
   waits = λ who. ap (waiting_at who) (sym desks);
   machine = machine;
   jobs = jobs;

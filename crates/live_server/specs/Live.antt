@@ -1,5 +1,5 @@
 -- What a live run writes. Source: docs/PROGRAMS.md, "mjobs --live".
--- Read Act, AreActs, AreInTurn, then IsLive, Wrote and IsBegun; the contract of run_live cites these.
+-- Read Act, AreActs, AreInTurn, AreLast, then IsLive, Wrote and IsBegun; the contract of run_live cites these.
 use Rattle.std.specs.Prelude.{◌≡◌, ◌⊎◌, ⊤, ℕ, ◌==◌, Bool, true, false, List, [], ◌∷◌, ◌++◌, map, Option, None, Some, IsSome, if◌then◌else◌}
 use Rattle.std.specs.List.{filter}
 use Rattle.std.specs.Io.KnownBytes.{Appends}
@@ -13,10 +13,11 @@ use Rattle.serial.specs.Machine.{IsReply, run_of}
 use Rattle.script.specs.Line.{reading_of, job_of_line}
 use Rattle.job_scripts.specs.Timeouts.{timeout_in}
 use Rattle.script_run.specs.Lines.{lines_of}
-use Rattle.script_run.specs.OpenJobs.{open_after, without_job}
+use Rattle.script_run.specs.OpenJobs.{is_open, open_after, without_job}
 use Rattle.script_run.specs.Output.{Answer, IsAnswer, accepted_job, ends_session, halts_of, text_of, outcome_of, ending}
 use Rattle.script_run.specs.declared.outcome.Outcome.{Outcome}
 use Rattle.listing.specs.Bytes.{WritesBeginning}
+use Rattle.live_server.specs.Desks.{first_of}
 
 -- ---- what the machine did, in order
 
@@ -93,14 +94,33 @@ abbrev pub AreInTurn : Option ℕ → Option (List ℕ) → List Act → Type 0
 AreInTurn who waiting [] = ⊤
 AreInTurn who waiting (act ∷ acts) = IsInTurn who waiting act × AreInTurn who (waiting_after who waiting act) acts
 
+-- what waits is none of these lines, or the first
+abbrev pub IsNext : Option (List ℕ) → List (List ℕ) → Type 0
+IsNext waiting lines = (waiting ≡ None) ⊎ (waiting ≡ first_of lines)
+
 -- ---- the end of input
 
--- the jobs that are open after acts, those before them given
+-- the jobs that are open after an act, those before it given
+abbrev pub open_past : Act → List ℕ → List ℕ
+open_past (answered line reply) jobs = open_after (accepted_job (reading_of line) reply) (ends_session line reply) jobs
+open_past (kept_off line) jobs = open_after (accepted_job (reading_of line) (Had false)) (ends_session line (Had false)) jobs
+open_past (over job) jobs = without_job job jobs
+
+-- and after acts
 abbrev pub open_by : List Act → List ℕ → List ℕ
 open_by [] jobs = jobs
-open_by (answered line reply ∷ acts) jobs = open_by acts (open_after (accepted_job (reading_of line) reply) (ends_session line reply) jobs)
-open_by (kept_off line ∷ acts) jobs = open_by acts (open_after (accepted_job (reading_of line) (Had false)) (ends_session line (Had false)) jobs)
-open_by (over job ∷ acts) jobs = open_by acts (without_job job jobs)
+open_by (act ∷ acts) jobs = open_by acts (open_past act jobs)
+
+-- a HALT is of a job that is open then, none of whose lines is answered behind it or left
+abbrev pub IsLast : (Option ℕ → List (List ℕ)) → List ℕ → Act → List Act → Type 0
+IsLast left jobs (answered line reply) behind = ⊤
+IsLast left jobs (kept_off line) behind = ⊤
+IsLast left jobs (over job) behind = (is_open job jobs ≡ true) × (answered_of (Some job) behind ++ left (Some job) ≡ [])
+
+-- each of the acts so; these jobs are open before them, and these lines are left
+abbrev pub AreLast : (Option ℕ → List (List ℕ)) → List ℕ → List Act → Type 0
+AreLast left jobs [] = ⊤
+AreLast left jobs (act ∷ acts) = IsLast left jobs act acts × AreLast left (open_past act jobs) acts
 
 -- what is left at the end: after the last act each job that is still open was halted
 abbrev pub left_at_end : List Act → List ℕ → Machine → Machine
@@ -114,6 +134,7 @@ pub record IsLive (start : Machine) (listed : Bool) (bytes text : List ℕ) (out
   pub each : AreActs start acts
   pub in_turn : (who : Option ℕ) → AreInTurn who None acts
   pub none_waits : (who : Option ℕ) → waiting_in who None acts ≡ None
+  pub last : AreLast (λ who. []) [] acts
   pub of_lines : (who : Option ℕ) → answered_of who acts ≡ lines_with who (lines_of bytes)
   pub legal : IsLegal (left_at_end acts [] start).units initial
   pub written : text ≡ text_of (answers_in acts) ++ ending listed (after (left_at_end acts [] start).units initial).map
@@ -132,6 +153,20 @@ pub record IsBegun (start : Machine) (listed : Bool) (bytes : List ℕ) (old new
   pub behind : List ℕ
   pub each : AreActs start acts
   pub in_turn : (who : Option ℕ) → AreInTurn who None acts
+  pub waits : (who : Option ℕ) → IsNext (waiting_in who None acts) (left who)
+  pub last : AreLast left [] acts
   pub of_lines : (who : Option ℕ) → answered_of who acts ++ left who ≡ lines_with who (lines_of bytes)
   pub front : (behind ≡ []) ⊎ (((who : Option ℕ) → left who ≡ []) × (behind ≡ ending listed (after (left_at_end acts [] start).units initial).map))
   pub written : WritesBeginning old new (text_of (answers_in acts) ++ behind)
+
+-- ---- what follows from this
+
+-- a job that is halted at the end of input is open then, and none of its lines is answered behind its HALT
+abbrev pub HaltsAreLast : Type 0
+HaltsAreLast = (start : Machine) (listed : Bool) (bytes text : List ℕ) (outcome : Outcome) (live : IsLive start listed bytes text outcome) (before behind : List Act) (job : ℕ) → live.acts ≡ before ++ over job ∷ behind
+    → (is_open job (open_by before []) ≡ true) × (answered_of (Some job) behind ≡ [])
+
+-- a LOCK that waits after a fault is the first of its job's lines that wasn't answered
+abbrev pub WaitingIsNext : Type 0
+WaitingIsNext = (start : Machine) (listed : Bool) (bytes : List ℕ) (old new : Option (List ℕ)) (begun : IsBegun start listed bytes old new) (who : Option ℕ) (line : List ℕ) → waiting_in who None begun.acts ≡ Some line
+    → (rest : List (List ℕ)) × (answered_of who begun.acts ++ line ∷ rest ≡ lines_with who (lines_of bytes))

@@ -1,5 +1,5 @@
 -- What the private functions of a live run do to its state and to the writer.
-use Rattle.std.specs.Prelude.{◌≡◌, ◌⊎◌, ⊤, ℕ, Bool, true, false, List, [], ◌++◌, Option, None, Some, IsSome, Ok}
+use Rattle.std.specs.Prelude.{◌≡◌, ◌⊎◌, ⊤, ℕ, Bool, true, false, List, [], ◌∷◌, ◌++◌, Option, None, Some, IsSome, Ok}
 use Rattle.std.specs.Io.KnownBytes.{Appends}
 use Rattle.journal.specs.History.{initial, after}
 use Rattle.journal.specs.Story.{Machine}
@@ -7,7 +7,7 @@ use Rattle.serial.specs.Soundness.{IsGood}
 use Rattle.listing.specs.Bytes.{WritesBeginning, WritesFront}
 use Rattle.script_run.specs.Lines.{lines_of, has_no_end}
 use Rattle.script_run.specs.Output.{IsAnswer, accepted_job, ends_session, text_of, noted, outcome_of, ending}
-use Rattle.live_server.specs.Live.{Act, AreActs, AreInTurn, all_left_by, answered_of, answers_in, lines_with, open_by, waiting_in, left_at_end}
+use Rattle.live_server.specs.Live.{Act, answered, kept_off, over, AreActs, AreInTurn, AreLast, IsNext, all_left_by, answered_of, answers_in, lines_with, open_by, waiting_in, left_at_end}
 use Rattle.live_server.specs.Desks.{DeskShown, no_lines, desk_of, queued, waiting_at}
 use Rattle.live_server.specs.declared.live.Live.{Live}
 use Rattle.script_run.specs.declared.outcome.Outcome.{Outcome}
@@ -29,10 +29,23 @@ pub record Follow (lines : List (List ℕ)) (acts : List Act) (start : Machine) 
   pub in_turn : (who : Option ℕ) → AreInTurn who (waiting_at who old) acts
   pub of_lines : (who : Option ℕ) → answered_of who acts ++ left who ≡ queued who old ++ lines_with who lines
 
--- the lines came, and each was done or waits; the replies are written or gathered
-pub record Ran (lines : List (List ℕ)) (old new : Live) (before now : Option (List ℕ)) : Type 0 where
+-- none of the acts is a HALT at the end
+abbrev pub none_over : List Act → Bool
+none_over [] = true
+none_over (answered line reply ∷ acts) = none_over acts
+none_over (kept_off line ∷ acts) = none_over acts
+none_over (over job ∷ acts) = false
+
+-- jobs were halted so: none as long as lines may come, and then each behind its last
+abbrev pub HaveHalted : Bool → (Option ℕ → List (List ℕ)) → List ℕ → List Act → Type 0
+HaveHalted false left jobs acts = none_over acts ≡ true
+HaveHalted true left jobs acts = AreLast left jobs acts
+
+-- before the end of input or at it, the lines came, and each was done or waits; the replies are written or gathered
+pub record RanAt (ended : Bool) (lines : List (List ℕ)) (old new : Live) (before now : Option (List ℕ)) : Type 0 where
   pub acts : List Act
   pub follow : Follow lines acts old.script.core.machine old.desks (λ who. queued who new.desks)
+  pub halts : HaveHalted ended (λ who. queued who new.desks) old.script.jobs acts
   pub waits : (who : Option ℕ) → waiting_in who (waiting_at who old.desks) acts ≡ waiting_at who new.desks
   pub machine : new.script.core.machine ≡ all_left_by acts old.script.core.machine
   pub jobs : new.script.jobs ≡ open_by acts old.script.jobs
@@ -41,11 +54,29 @@ pub record Ran (lines : List (List ℕ)) (old new : Live) (before now : Option (
   pub passes : WritesFront before now (old.script.out.items ++ text_of (answers_in acts)) new.script.out.items
 
 -- the run broke off: a beginning of the replies was written
-pub record Broke (lines : List (List ℕ)) (old : Live) (before now : Option (List ℕ)) : Type 0 where
+pub record BrokeAt (ended : Bool) (lines : List (List ℕ)) (old : Live) (before now : Option (List ℕ)) : Type 0 where
   pub acts : List Act
   pub left : Option ℕ → List (List ℕ)
   pub follow : Follow lines acts old.script.core.machine old.desks left
+  pub halts : HaveHalted ended left old.script.jobs acts
+  pub waits : (who : Option ℕ) → IsNext (waiting_in who (waiting_at who old.desks) acts) (left who)
   pub begun : WritesBeginning before now (old.script.out.items ++ text_of (answers_in acts))
+
+-- the lines came while others may
+abbrev pub Ran : List (List ℕ) → Live → Live → Option (List ℕ) → Option (List ℕ) → Type 0
+Ran lines old new before now = RanAt false lines old new before now
+
+-- the run broke off then
+abbrev pub Broke : List (List ℕ) → Live → Option (List ℕ) → Option (List ℕ) → Type 0
+Broke lines old before now = BrokeAt false lines old before now
+
+-- all lines have come, and of those that waited some were done; jobs without lines may have been halted
+abbrev pub Settled : Live → Live → Option (List ℕ) → Option (List ℕ) → Type 0
+Settled old new before now = RanAt true [] old new before now
+
+-- the run broke off then
+abbrev pub Unsettled : Live → Option (List ℕ) → Option (List ℕ) → Type 0
+Unsettled old before now = BrokeAt true [] old before now
 
 -- memory was wanting in these lines: the run may break off, and what was gathered before is gathered still
 pub record Lacked (lines : List (List ℕ)) (old new : Live) : Type 0 where
@@ -146,6 +177,7 @@ halted_after acts old = left_at_end acts old.script.jobs old.script.core.machine
 pub record RanEnd (listed : Bool) (lines : List (List ℕ)) (old new : Live) (before now : Option (List ℕ)) : Type 0 where
   pub acts : List Act
   pub follow : Follow lines acts old.script.core.machine old.desks (λ who. [])
+  pub last : AreLast (λ who. []) old.script.jobs acts
   pub waits : (who : Option ℕ) → waiting_in who (waiting_at who old.desks) acts ≡ None
   pub outcome : new.script.outcome ≡ noted (answers_in acts) old.script.outcome
   pub good : IsGood old.script.core.machine → IsGood (halted_after acts old)
@@ -157,6 +189,8 @@ pub record BrokeEnd (listed : Bool) (lines : List (List ℕ)) (old : Live) (befo
   pub left : Option ℕ → List (List ℕ)
   pub behind : List ℕ
   pub follow : Follow lines acts old.script.core.machine old.desks left
+  pub last : AreLast left old.script.jobs acts
+  pub waits : (who : Option ℕ) → IsNext (waiting_in who (waiting_at who old.desks) acts) (left who)
   pub front : (behind ≡ []) ⊎ (((who : Option ℕ) → left who ≡ []) × (behind ≡ ending listed (after (halted_after acts old).units initial).map))
   pub begun : WritesBeginning before now ((old.script.out.items ++ text_of (answers_in acts)) ++ behind)
 

@@ -25,6 +25,7 @@
 pub use arrivals::Arrivals;
 pub use bell::Bell;
 pub use fault::{LiveFault, status_of};
+pub use laws::{halts_are_last, what_waits_is_next};
 pub use live::Live;
 pub use relay::{Lived, Teller, relay_live};
 pub use run::run_live;
@@ -35,6 +36,7 @@ mod bell;
 mod desks;
 mod fault;
 mod hall;
+mod laws;
 mod live;
 mod reading;
 mod relay;

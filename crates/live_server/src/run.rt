@@ -7,9 +7,10 @@ ghost use Rattle.command.specs.declared.request.Reply.TheVariants.{Finished};
 ghost use Rattle.journal.specs.Story.{Machine, told};
 ghost use Rattle.listing.specs.Bytes.{WritesBeginning};
 ghost use Rattle.script_run.specs.Lines.{nonempty_line, has_no_end};
+ghost use Rattle.script_run.specs.OpenJobs.{is_open};
 ghost use Rattle.live_server.specs.Desks.{desk_of};
 ghost use Rattle.live_server.specs.Live.{Wrote, IsBegun};
-ghost use Rattle.live_server.specs.Runs.{Ran, Broke, RanFront, BrokeFront, RanEnd, BrokeEnd, IsNew, HasTaken, HasBrokenOff};
+ghost use Rattle.live_server.specs.Runs.{Ran, Broke, Settled, Unsettled, RanFront, BrokeFront, RanEnd, BrokeEnd, IsNew, HasTaken, HasBrokenOff};
 
 use crate::desks::{Desks, Waiting};
 use crate::live::{Live, do_first, take_line, try_again};
@@ -303,7 +304,8 @@ fn take_piece<W: Write>(
 
 // The first of these jobs without lines that wait.
 fn idle_in(desks: &Desks, jobs: &[Job]) -> Option<Job>
-    ensures { IfSome result (λ job. (desk_of desks.now job).lines ≡ []) }
+    ensures among { IfSome result (λ job. is_open job jobs.now ≡ true) }
+    ensures idle { IfSome result (λ job. (desk_of desks.now job).lines ≡ []) }
 {
     'jobs: for job in jobs {
         if !desks.has_lines(*job) {
@@ -332,7 +334,7 @@ fn is_finished(reply: &Reply) -> bool
 
 // Halts an open job without lines that wait. Answers whether there was one whose HALT was done.
 fn halt_one(live: &mut Live) -> bool
-    ensures { (text : Option (List ℕ)) → Ran [] live.old live.new text text }
+    ensures { (text : Option (List ℕ)) → Settled live.old live.new text text }
 {
     let Some(job) = idle_in(&live.desks, live.script.jobs.as_slice()) else {
         return false;
@@ -347,7 +349,7 @@ fn halt_one(live: &mut Live) -> bool
 
 // So each, up to one whose HALT is refused. Answers whether one was done.
 fn halt_idle(live: &mut Live) -> bool
-    ensures { (text : Option (List ℕ)) → Ran [] live.old live.new text text }
+    ensures { (text : Option (List ℕ)) → Settled live.old live.new text text }
 {
     let mut some = false;
     'jobs: for _ in 0..u64::MAX {
@@ -366,8 +368,8 @@ fn go_on<W: Write>(
     writer: &mut Counted<W>,
     bell: &impl Bell,
 ) -> Result<(), LiveFault>
-    ensures ran { OnOk result (Ran [] live.old live.new (W.contents writer.old.inner) (W.contents writer.new.inner)) }
-    ensures err { OnErr result (Broke [] live.old (W.contents writer.old.inner) (W.contents writer.new.inner)) }
+    ensures ran { OnOk result (Settled live.old live.new (W.contents writer.old.inner) (W.contents writer.new.inner)) }
+    ensures err { OnErr result (Unsettled live.old (W.contents writer.old.inner) (W.contents writer.new.inner)) }
 {
     if halt_idle(live) {
         return Ok(());
@@ -395,8 +397,8 @@ fn settle<W: Write>(
     log: &mut impl RunLog,
 ) -> Result<(), LiveFault>
     ensures empty { OnOk result ((job : ℕ) → (desk_of live.new.desks job).lines ≡ []) }
-    ensures ran { OnOk result (Ran [] live.old live.new (W.contents writer.old.inner) (W.contents writer.new.inner)) }
-    ensures err { OnErr result (Broke [] live.old (W.contents writer.old.inner) (W.contents writer.new.inner)) }
+    ensures ran { OnOk result (Settled live.old live.new (W.contents writer.old.inner) (W.contents writer.new.inner)) }
+    ensures err { OnErr result (Unsettled live.old (W.contents writer.old.inner) (W.contents writer.new.inner)) }
 {
     'rounds: for _ in 0..u64::MAX {
         if live.desks.are_empty() {

@@ -18,4 +18,4 @@ pub returns-clause-ran : goal.returns-clause-ran
 returns-clause-ran g c = let owner = subst (λ (l : List ℕ). job_of_line l ≡ Some c.args.job) (sym c.text-text.ensures) c.in-Some.ensures.1 in let first = c.in-Some.ensures.0 ∙ ap (λ (l : List ℕ). Some l) (sym c.text-text.ensures) in λ text. Ran-kept-off _ _ _ _ text (came_off _ _ _ _ _ _ _ c.if-is_done.false c.in_ok-is_done.ensures.done) c.in_ok-wait.ensures owner first c.in-Some.ensures.2
 
 pub returns-in_err-wait-clause-err : goal.returns-in_err-wait-clause-err
-returns-in_err-wait-clause-err g c = let owner = subst (λ (l : List ℕ). job_of_line l ≡ Some c.args.job) (sym c.text-text.ensures) c.in-Some.ensures.1 in on_err _ _ (Lacked-kept-off _ _ _ _ (came_off _ _ _ _ _ _ _ c.if-is_done.false c.in_ok-is_done.ensures.done) owner c.in-Some.ensures.2)
+returns-in_err-wait-clause-err g c = let owner = subst (λ (l : List ℕ). job_of_line l ≡ Some c.args.job) (sym c.text-text.ensures) c.in-Some.ensures.1 in let first = c.in-Some.ensures.0 ∙ ap (λ (l : List ℕ). Some l) (sym c.text-text.ensures) in on_err _ _ (Lacked-kept-off _ _ _ _ (came_off _ _ _ _ _ _ _ c.if-is_done.false c.in_ok-is_done.ensures.done) owner first c.in-Some.ensures.2)

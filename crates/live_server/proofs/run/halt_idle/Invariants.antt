@@ -1,6 +1,6 @@
-use Rattle.std.proofs.Common.{ℕ, List, [], Option}
-use Rattle.live_server.specs.Runs.{Ran}
+use Rattle.std.proofs.Common.{ℕ, List, Option}
+use Rattle.live_server.specs.Runs.{Settled}
 use Rattle.live_server.proofs.run.halt_idle.Given as goal
 
 abbrev pub invariant-jobs : goal.invariant-jobs
-invariant-jobs l = (text : Option (List ℕ)) → Ran [] l.fn.live l.live text text
+invariant-jobs l = (text : Option (List ℕ)) → Settled l.fn.live l.live text text
