@@ -15,6 +15,9 @@ rolled new turn
 committed new turn
  for turn=1:1:count tstart ():serial do reads tcommit
  quit
+written new turn
+ for turn=1:1:count tstart ():serial do reads set ^D(job,$random(1000))=$random(1000) tcommit
+ quit
 tenth new turn
  for turn=0:1:count-1 do one(turn#10=0)
  quit
@@ -25,4 +28,7 @@ one(writes) tstart ():serial
  quit
 lone new turn
  for turn=1:1:count*10 set ^D(job,$random(1000))=$random(1000)
+ quit
+looks new turn
+ for turn=1:1:count do reads
  quit
